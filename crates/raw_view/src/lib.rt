@@ -7,7 +7,9 @@ mod element_type;
 mod error;
 mod front;
 mod iter;
+mod number;
 mod payload;
+mod text;
 
 pub use document::RawDocument;
 pub use element::RawElement;
