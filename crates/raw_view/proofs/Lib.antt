@@ -1,6 +1,7 @@
 pub mod Numbers
 pub mod Payloads
 pub mod Texts
+pub mod Shapes
 pub mod Cuts
 pub mod Frames
 pub mod Iteration

@@ -50,6 +50,14 @@ impl<'a> RawDocument<'a> {
         Ok(RawDocument { bytes })
     }
 
+    /// The document of bytes that were framed as one.
+    pub(crate) fn framed(bytes: &'a [u8]) -> RawDocument<'a>
+        requires { IsEnvelope bytes.now }
+        ensures { bytes_of result ≡ bytes.now }
+    {
+        RawDocument { bytes }
+    }
+
     /// All bytes of the document, its header and its final 0 included.
     pub fn as_bytes(self) -> &'a [u8]
         ensures bytes { result.now ≡ bytes_of self.entry }

@@ -1,4 +1,5 @@
 ghost use Rattle.std.specs.Prelude.{◌≡◌, length};
+ghost use Rattle.raw_view.specs.Frame.{HasPayload};
 
 use crate::element_type::ElementType;
 
@@ -8,6 +9,7 @@ pub struct RawElement<'a> {
     pub(crate) key: &'a str,
     pub(crate) kind: ElementType,
     pub(crate) payload: &'a [u8],
+    ghost framed: { ∥ HasPayload kind payload.now ∥₁ },
 }
 
 impl<'a> RawElement<'a> {

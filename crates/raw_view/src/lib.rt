@@ -13,6 +13,7 @@ mod iter;
 mod number;
 mod payload;
 mod text;
+mod value;
 
 pub use array::RawArray;
 pub use bson_ref::{
