@@ -5,4 +5,6 @@ pub mod Shapes
 pub mod Cuts
 pub mod Frames
 pub mod Iteration
+pub mod ItemSteps
+pub mod LookUps
 pub mod CallerLemmas

@@ -1,11 +1,14 @@
 ghost use Rattle.std.specs.Prelude.{◌≡◌, length, take, drop, ℕ, List, IfOk, IfErr, OnErr, Some};
 ghost use Rattle.std.specs.Str.{IsUtf8};
 ghost use Rattle.raw_view.specs.Frame.{HasText, HasPayload, IsBinary, IsDbPointer, IsRegex};
+ghost use Rattle.raw_view.specs.Answers.{TellsItem};
+ghost use Rattle.raw_view.specs.Item.{item_of};
+ghost use Rattle.raw_view.specs.Items.{frame_of};
 ghost use Rattle.bson_model.specs.Leaf.{binary, boolean};
 ghost use Rattle.raw_view.specs.Document.{bytes_of};
 ghost use Rattle.raw_view.specs.Envelope.{IsEnvelope};
 ghost use Rattle.raw_view.specs.Front.{TellsBorrowed};
-ghost use Rattle.raw_view.specs.Meaning.{KeyedFault, SpellsText, SpellsNoText, MeansValue, MeansFault, single, HasInnerLength, OldBinaryFault, IsCodeWithScope, not_text};
+ghost use Rattle.raw_view.specs.Meaning.{KeyedFault, Meaning, Means, SpellsText, SpellsNoText, MeansValue, MeansFault, single, HasInnerLength, OldBinaryFault, IsCodeWithScope, not_text};
 ghost use Rattle.raw_view.specs.Number.{IsUnsigned32};
 ghost use Rattle.raw_view.specs.Value.{namespace_of, id_of};
 ghost use Rattle.raw_view.specs.declared.element_type.ElementType.TheVariants.{RegularExpression, JavaScriptCodeWithScope};
@@ -22,6 +25,7 @@ use crate::number::{array_of, front_i32, i32_of, i64_of, u32_of, u64_of};
 use crate::payload::string_len;
 use crate::text::split_text;
 use bson_model::{BinarySubtype, DateTime, Decimal128, DoubleBits, ObjectId, Timestamp};
+use std::alloc::Global;
 
 /// The text of a string.
 fn text_of(string: &[u8]) -> Result<&str, BorrowedError<'_>>
@@ -197,5 +201,42 @@ impl<'a> RawElement<'a> {
             ElementType::MaxKey => Ok(RawBsonRef::MaxKey),
             ElementType::MinKey => Ok(RawBsonRef::MinKey),
         }
+    }
+}
+
+impl<'a> RawElement<'a> {
+    ghost use Rattle.raw_view.specs.Answers.{TellsMeaning};
+    ghost use Rattle.raw_view.specs.Items.{frame_of};
+    ghost use Rattle.raw_view.specs.Meaning.{Meaning, Means};
+
+    /// The value that the payload means, with its parts borrowed from the document; or its fault, with a
+    /// copy of the key where it carries one. Where that copy finds no memory, the error says so instead.
+    pub fn value(self, alloc: Global) -> crate::error::Result<RawBsonRef<'a>>
+        ensures { (m : Meaning) × Means (frame_of self.entry) m × TellsMeaning result m }
+    {
+        match self.resolve() {
+            Ok(value) => Ok(value),
+            Err(error) => Err(error.into_error(alloc)),
+        }
+    }
+
+    /// The same as `value`.
+    pub fn try_into_ref(self, alloc: Global) -> crate::error::Result<RawBsonRef<'a>>
+        ensures { (m : Meaning) × Means (frame_of self.entry) m × TellsMeaning result m }
+    {
+        self.value(alloc)
+    }
+}
+
+/// The element's key with its value, or the value's fault.
+pub(crate) fn keyed_value<'a>(
+    element: RawElement<'a>,
+    alloc: Global,
+) -> crate::error::Result<(&'a str, RawBsonRef<'a>)>
+    ensures { (m : Meaning) × Means (frame_of element.entry) m × TellsItem result (item_of (frame_of element.entry).key m) }
+{
+    match element.value(alloc) {
+        Ok(value) => Ok((element.key(), value)),
+        Err(error) => Err(error),
     }
 }
