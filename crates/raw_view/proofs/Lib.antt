@@ -7,4 +7,5 @@ pub mod Frames
 pub mod Iteration
 pub mod ItemSteps
 pub mod LookUps
+pub mod Places
 pub mod CallerLemmas

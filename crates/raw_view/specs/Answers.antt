@@ -50,3 +50,25 @@ StepsItem (Some s) None t = (s ≡ 0 ∷ []) × (t ≡ Some s)
 StepsItem (Some s) (Some out) t =
     ((f : Frame) × (r : List ℕ) × (m : Meaning) × IsFrame s f r × Means f m × TellsItem out (item_of f.key m) × (t ≡ Some r))
     ⊎ ((fault : KeyedFault) × IsStop s fault.fault fault.key × TellsItem out (failed fault) × (t ≡ None))
+
+-- a value, or the fault; the key of the frame is left away
+abbrev pub TellsValue : Result RawBsonRef Error → Item → Type 0
+TellsValue (Ok x) (entry key v) = value_of x ≡ v
+TellsValue (Ok x) (failed fault) = ⊥
+TellsValue (Err e) (entry key v) = ⊥
+TellsValue (Err e) (failed fault) = Says e fault
+
+-- the same of each
+abbrev pub TellsValues : List (Result RawBsonRef Error) → List Item → Type 0
+TellsValues [] [] = Unit {0}
+TellsValues [] (item ∷ items) = ⊥
+TellsValues (out ∷ outs) [] = ⊥
+TellsValues (out ∷ outs) (item ∷ items) = TellsValue out item × TellsValues outs items
+
+-- What a call of next on the values of an array gives; the state is as for the items.
+abbrev pub StepsValue : Option (List ℕ) → Option (Result RawBsonRef Error) → Option (List ℕ) → Type 0
+StepsValue None out t = (out ≡ None) × (t ≡ None)
+StepsValue (Some s) None t = (s ≡ 0 ∷ []) × (t ≡ Some s)
+StepsValue (Some s) (Some out) t =
+    ((f : Frame) × (r : List ℕ) × (m : Meaning) × IsFrame s f r × Means f m × TellsValue out (item_of f.key m) × (t ≡ Some r))
+    ⊎ ((fault : KeyedFault) × IsStop s fault.fault fault.key × TellsValue out (failed fault) × (t ≡ None))

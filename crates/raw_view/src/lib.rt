@@ -23,4 +23,4 @@ pub use document::RawDocument;
 pub use element::RawElement;
 pub use element_type::ElementType;
 pub use error::{Error, ErrorKind, Reason, Result};
-pub use iter::{Iter, RawIter};
+pub use iter::{Iter, RawArrayIter, RawIter};
