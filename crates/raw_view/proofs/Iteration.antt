@@ -1,0 +1,78 @@
+-- Steps of the iterator.
+use Rattle.std.proofs.Common.{◌≡◌, ℕ, List, [], ◌∷◌, ◌++◌, ◌-◌, ◌+◌, length, take, drop, ap, sym, ◌∙◌, subst, refl, Option, Some, None, Result, Ok, Err, arith, length-append, append_assoc, inl, inr}
+use Rattle.std.proofs.lemmas.List.{take-append-drop, drop_at}
+use Rattle.raw_view.specs.declared.element.RawElement.{RawElement}
+use Rattle.raw_view.specs.declared.error.Error.{Error}
+use Rattle.raw_view.specs.declared.error.ErrorKind.{ErrorKind}
+use Rattle.raw_view.specs.declared.error.ErrorKind.TheVariants as what
+use Rattle.raw_view.specs.Frame.{Frame, IsFrame, IsStop, Fault, Malformed, Utf8, IsWalk, End, Done, Stopped}
+use Rattle.std.specs.Iterator.{Yields, Drains}
+use Rattle.raw_view.specs.Front.{StopsWith}
+use Rattle.raw_view.specs.Errors.{HasKeyCopy, Tells, TellsFault, key_of}
+use Rattle.raw_view.specs.Items.{StepsElement, frame_of, ListsWalk}
+use Rattle.raw_view.specs.Kind.{tag_of}
+
+-- the bytes behind a front, counted from the end
+pub drop_to : (bs front r : List ℕ) (n : ℕ) → drop n bs ≡ front ++ r → drop (length bs - length r) bs ≡ r
+drop_to bs front r n e =
+    let whole : bs ≡ (take n bs ++ front) ++ r = sym (take-append-drop n bs) ∙ ap (λ x. take n bs ++ x) e ∙ sym (append_assoc (take n bs) front r) in
+    let len : length bs ≡ length (take n bs ++ front) + length r = ap length whole ∙ length-append (take n bs ++ front) r in
+    let size : length bs - length r ≡ length (take n bs ++ front) = omega arith in
+    rw size (ap (drop (length (take n bs ++ front))) whole ∙ drop_at (take n bs ++ front) r (length (take n bs ++ front)) refl)
+
+pub front_and_rest : (s : List ℕ) (f : Frame) (r : List ℕ) → IsFrame s f r → s ≡ (tag_of f.kind ∷ (f.key ++ 0 ∷ f.payload)) ++ r
+front_and_rest s f r b = b.spelled ∙ ap (λ x. tag_of f.kind ∷ x) (sym (append_assoc f.key (0 ∷ f.payload) r))
+
+pub rest_from_end : (bs s : List ℕ) (f : Frame) (r : List ℕ) (n : ℕ) → s ≡ drop n bs → IsFrame s f r → drop (length bs - length r) bs ≡ r
+rest_from_end bs s f r n e b = drop_to bs (tag_of f.kind ∷ (f.key ++ 0 ∷ f.payload)) r n (sym e ∙ front_and_rest s f r b)
+
+pub step_element : (old new : Option (List ℕ)) (s : List ℕ) (e : RawElement) (r : List ℕ) → old ≡ Some s → IsFrame s (frame_of e) r → new ≡ Some r → StepsElement old (Some (Ok e)) new
+step_element old new s e r o b n = subst (λ (x : Option (List ℕ)). StepsElement x (Some (Ok e)) new) (sym o) (r, b, n)
+
+told : (k : ErrorKind) (key : Option (List ℕ)) (s : List ℕ) (e : Error) → StopsWith k key s → HasKeyCopy k key e → (fault : Fault) × (told : Option (List ℕ)) × IsStop s fault told × TellsFault e fault told
+told (what.MalformedValue reason) None s e says is = (Malformed, None, says, subst (λ (x : ErrorKind). Tells x (key_of e) Malformed None) (sym is.0) (refl, is.1))
+told (what.MalformedValue reason) (Some key) s e says is = (
+  Malformed,
+  Some key,
+  says,
+  elim is as (λ _. TellsFault e Malformed (Some key)) [
+    | inl h ↦ subst (λ (x : ErrorKind). Tells x (key_of e) Malformed (Some key)) (sym h.0) (refl, h.1)
+    | inr h ↦ subst (λ (x : ErrorKind). Tells x (key_of e) Malformed (Some key)) (sym h.0) h.1
+  ],
+)
+told (what.Utf8EncodingError u) None s e says is = (Utf8, None, says, subst (λ (x : ErrorKind). Tells x (key_of e) Utf8 None) (sym is.0) (refl, is.1))
+told (what.Utf8EncodingError u) (Some key) s e says is = (
+  Utf8,
+  Some key,
+  says,
+  elim is as (λ _. TellsFault e Utf8 (Some key)) [
+    | inl h ↦ subst (λ (x : ErrorKind). Tells x (key_of e) Utf8 (Some key)) (sym h.0) (refl, h.1)
+    | inr h ↦ subst (λ (x : ErrorKind). Tells x (key_of e) Utf8 (Some key)) (sym h.0) h.1
+  ],
+)
+told what.OutOfMemory key s e says is = absurd says
+
+pub step_stop : (old : Option (List ℕ)) (s : List ℕ) (k : ErrorKind) (key : Option (List ℕ)) (e : Error) → old ≡ Some s → StopsWith k key s → HasKeyCopy k key e → StepsElement old (Some (Err e)) None
+step_stop old s k key e o says is =
+    let t = told k key s e says is in
+    subst (λ (x : Option (List ℕ)). StepsElement x (Some (Err e)) None) (sym o) (t.0, t.1, t.2, t.3, refl)
+
+-- nothing comes after a stop
+none_after : (xs : List (Result RawElement Error)) (t : Option (List ℕ)) → Yields StepsElement None xs t → xs ≡ []
+none_after [] t y = refl
+none_after (x ∷ xs) t y = let bad : Some x ≡ None = y.1.0 in cc
+
+-- what a run of calls gives is a walk
+pub walk_of : (s : List ℕ) (xs : List (Result RawElement Error)) → Drains StepsElement (Some s) xs → (fs : List Frame) × (end : End) × IsWalk s fs end × ListsWalk xs fs end
+walk_of s [] d =
+    let last : StepsElement (Some s) None d.0 = subst (λ (x : Option (List ℕ)). StepsElement x None d.0) (sym d.1.1) d.1.2 in
+    ([], Done, last.0, tt)
+walk_of s (Ok e ∷ xs) d =
+    let step = d.1.1.1 in
+    let rest : Drains StepsElement (Some step.0) xs = (d.0, (d.1.0, subst (λ (x : Option (List ℕ)). Yields StepsElement x xs d.1.0) step.2 d.1.1.2, d.1.2)) in
+    let w = walk_of step.0 xs rest in
+    (frame_of e ∷ w.0, w.1, (step.0, step.1, w.2), (refl, w.3))
+walk_of s (Err e ∷ xs) d =
+    let step = d.1.1.1 in
+    let none : xs ≡ [] = none_after xs d.1.0 (subst (λ (x : Option (List ℕ)). Yields StepsElement x xs d.1.0) step.4 d.1.1.2) in
+    ([], Stopped step.0 step.1, step.2, subst (λ (ys : List (Result RawElement Error)). ListsWalk (Err e ∷ ys) [] (Stopped step.0 step.1)) (sym none) step.3)

@@ -1,0 +1,44 @@
+-- What errors say.
+use Rattle.std.specs.Prelude.{◌≡◌, ◌⊎◌, ℕ, List, Option, None, Some, String}
+use Rattle.std.specs.String.{string_bytes}
+use Rattle.raw_view.specs.declared.error.Reason.{Reason}
+use Rattle.raw_view.specs.declared.error.ErrorKind.{ErrorKind}
+use Rattle.raw_view.specs.declared.error.ErrorKind.TheVariants as kind
+use Rattle.raw_view.specs.declared.error.Error.{Error}
+use Rattle.raw_view.specs.Frame.{Fault, Malformed, Utf8}
+use Rattle.raw_view.specs.Envelope.{Refuses}
+
+abbrev pub text_of : {Z : Type 0} → Option (String Z) → Option (List ℕ)
+text_of None = None
+text_of (Some text) = Some (string_bytes text)
+
+-- the key that an error carries
+abbrev pub key_of : Error → Option (List ℕ)
+key_of e = text_of e.key
+
+-- malformed, for a reason of which this holds
+abbrev pub IsMalformed : ErrorKind → (Reason → Type 0) → Type 0
+IsMalformed (kind.MalformedValue reason) P = P reason
+IsMalformed (kind.Utf8EncodingError _) P = ⊥
+IsMalformed kind.OutOfMemory P = ⊥
+
+-- the error says for which reason, the first one, b has no envelope; it has no key
+pub record TellsRefusal (b : List ℕ) (e : Error) : Type 0 where
+  pub reason : IsMalformed e.kind (Refuses b)
+  pub key : key_of e ≡ None
+
+-- an error of this kind that carries this key says the fault with its key. For a fault that has a key,
+-- it may say instead, without a key, that memory ran out.
+abbrev pub Tells : ErrorKind → Option (List ℕ) → Fault → Option (List ℕ) → Type 0
+Tells (kind.MalformedValue _) carried fault key = (fault ≡ Malformed) × (carried ≡ key)
+Tells (kind.Utf8EncodingError _) carried fault key = (fault ≡ Utf8) × (carried ≡ key)
+Tells kind.OutOfMemory carried fault None = ⊥
+Tells kind.OutOfMemory carried fault (Some _) = carried ≡ None
+
+abbrev pub TellsFault : Error → Fault → Option (List ℕ) → Type 0
+TellsFault e fault key = Tells e.kind (key_of e) fault key
+
+-- the error has this kind and a copy of this key; or memory ran out for the copy
+abbrev pub HasKeyCopy : ErrorKind → Option (List ℕ) → Error → Type 0
+HasKeyCopy what None e = (e.kind ≡ what) × (key_of e ≡ None)
+HasKeyCopy what (Some key) e = ((e.kind ≡ what) × (key_of e ≡ Some key)) ⊎ ((e.kind ≡ kind.OutOfMemory) × (key_of e ≡ None))

@@ -1,0 +1,27 @@
+-- The kinds of element and their tags. BSON 1.1, `element`.
+use Rattle.std.specs.Prelude.{ℕ}
+use Rattle.raw_view.specs.declared.element_type.ElementType.{ElementType}
+use Rattle.raw_view.specs.declared.element_type.ElementType.TheVariants as kind
+
+abbrev pub tag_of : ElementType → ℕ
+tag_of kind.Double = 0x01
+tag_of kind.String = 0x02
+tag_of kind.EmbeddedDocument = 0x03
+tag_of kind.Array = 0x04
+tag_of kind.Binary = 0x05
+tag_of kind.Undefined = 0x06
+tag_of kind.ObjectId = 0x07
+tag_of kind.Boolean = 0x08
+tag_of kind.DateTime = 0x09
+tag_of kind.Null = 0x0A
+tag_of kind.RegularExpression = 0x0B
+tag_of kind.DbPointer = 0x0C
+tag_of kind.JavaScriptCode = 0x0D
+tag_of kind.Symbol = 0x0E
+tag_of kind.JavaScriptCodeWithScope = 0x0F
+tag_of kind.Int32 = 0x10
+tag_of kind.Timestamp = 0x11
+tag_of kind.Int64 = 0x12
+tag_of kind.Decimal128 = 0x13
+tag_of kind.MaxKey = 0x7F
+tag_of kind.MinKey = 0xFF

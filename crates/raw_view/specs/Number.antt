@@ -1,0 +1,16 @@
+-- Numbers as bytes: least first, in two's complement. BSON 1.1, basic types.
+use Rattle.std.specs.Prelude.{◌≡◌, ◌<◌, ℕ, List, ℤ, FitsSigned, slice_index}
+use Rattle.std.specs.Int.{w32, to_le_bytes, cast_unsigned}
+
+-- each is a number from 0 to 255
+abbrev pub IsBytes : List ℕ → Type 0
+IsBytes bytes = (i : ℕ) → slice_index bytes i < 256
+
+-- the four bytes of a number that fits 32 bits with a sign
+abbrev pub le32 : ℤ → List ℕ
+le32 z = to_le_bytes w32 (cast_unsigned w32 z)
+
+-- the number fits 32 bits with a sign, and these are its four bytes
+pub record IsLe32 (bytes : List ℕ) (z : ℤ) : Type 0 where
+  pub fits : FitsSigned w32 z
+  pub bytes_are : bytes ≡ le32 z

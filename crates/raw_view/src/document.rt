@@ -1,0 +1,77 @@
+ghost use Rattle.std.specs.Prelude.{◌≡◌, ◌↔◌, IsOk, IfOk, IfErr, IsTrue, None, Some, drop, length, [], ◌∷◌};
+ghost use Rattle.raw_view.specs.Envelope.{IsEnvelope};
+ghost use Rattle.raw_view.specs.Errors.{IsMalformed, TellsRefusal, key_of};
+
+use crate::error::{Error, ErrorKind, Reason, Result};
+use crate::iter::RawIter;
+use std::alloc::Global;
+
+/// The bytes of one document with a sound envelope: at least five bytes, the first four are the length of
+/// the whole, the last is 0. What stands inside is looked at only where a call needs it.
+/// BSON 1.1, `document`.
+#[derive(Clone, Copy, Debug, PartialEq, Eq)]
+pub struct RawDocument<'a> {
+    bytes: &'a [u8],
+    ghost envelope: { IsEnvelope bytes.now },
+}
+
+fn refusal(reason: Reason) -> Error
+    ensures { IsMalformed result.kind (λ r. r ≡ reason) × (key_of result ≡ None) }
+{
+    Error::new(ErrorKind::MalformedValue { reason })
+}
+
+impl<'a> RawDocument<'a> {
+    ghost use Rattle.std.specs.Prelude.{List, Result};
+    ghost use Rattle.std.specs.Iterator.{Drains};
+    ghost use Rattle.raw_view.specs.Document.{bytes_of};
+    ghost use Rattle.raw_view.specs.Items.{StepsElement, ListsWalk};
+    ghost use Rattle.raw_view.specs.Frame.{Frame, End, IsWalk};
+    ghost use Rattle.raw_view.specs.declared.element.RawElement.{RawElement};
+    ghost use Rattle.raw_view.specs.declared.error.Error.{Error};
+
+    /// A view of the bytes, for a sound envelope; else the first of: too short, wrong length, not
+    /// terminated. The header is compared with the whole length. These errors have no key.
+    pub fn from_bytes(bytes: &'a [u8]) -> Result<RawDocument<'a>>
+        ensures sound { IsOk result ↔ IsEnvelope bytes.now }
+        ensures same { IfOk result (λ d. bytes_of d ≡ bytes.now) }
+        ensures refused { IfErr result (TellsRefusal bytes.now) }
+    {
+        if bytes.len() < 5 {
+            return Err(refusal(Reason::TooShort));
+        }
+        let header = i32::from_le_bytes([bytes[0], bytes[1], bytes[2], bytes[3]]);
+        if header as i64 != bytes.len() as i64 {
+            return Err(refusal(Reason::LengthIncorrect));
+        }
+        if bytes[bytes.len() - 1] != 0 {
+            return Err(refusal(Reason::NotTerminated));
+        }
+        Ok(RawDocument { bytes })
+    }
+
+    /// All bytes of the document, its header and its final 0 included.
+    pub fn as_bytes(self) -> &'a [u8]
+        ensures bytes { result.now ≡ bytes_of self.entry }
+        ensures envelope { IsEnvelope (bytes_of self.entry) }
+    {
+        self.bytes
+    }
+
+    /// Whether iteration yields no item, which is exactly where there are five bytes.
+    pub fn is_empty(self) -> bool
+        ensures five { IsTrue result ↔ (length (bytes_of self.entry) ≡ 5) }
+        ensures no_item { IsTrue result ↔ (drop 4 (bytes_of self.entry) ≡ 0 ∷ []) }
+    {
+        self.bytes.len() == 5
+    }
+
+    /// The elements in order, and then the fault at which they stop, if there is one. No value is looked
+    /// into and nothing is copied but the key of that fault. On n bytes at most (n - 4) / 2 + 1 items.
+    pub fn iter_elements(self, alloc: Global) -> RawIter<'a>
+        ensures begins { result ≡ Some (drop 4 (bytes_of self.entry)) }
+        ensures walk { (items : List (Result RawElement Error)) → Drains StepsElement result items → (frames : List Frame) × (end : End) × IsWalk (drop 4 (bytes_of self.entry)) frames end × ListsWalk items frames end }
+    {
+        RawIter::new(alloc, self)
+    }
+}

@@ -1,0 +1,36 @@
+ghost use Rattle.std.specs.Prelude.{◌≡◌, length};
+
+use crate::element_type::ElementType;
+
+/// One element: its key, its kind and the bytes of its payload, which no call has looked into.
+#[derive(Clone, Copy, Debug)]
+pub struct RawElement<'a> {
+    pub(crate) key: &'a str,
+    pub(crate) kind: ElementType,
+    pub(crate) payload: &'a [u8],
+}
+
+impl<'a> RawElement<'a> {
+    ghost use Rattle.raw_view.specs.Items.{frame_of};
+
+    /// The element's key.
+    pub fn key(self) -> &'a str
+        ensures { result.now ≡ (frame_of self.entry).key }
+    {
+        self.key
+    }
+
+    /// How many bytes the payload has.
+    pub fn len(self) -> usize
+        ensures { result ≡ length (frame_of self.entry).payload }
+    {
+        self.payload.len()
+    }
+
+    /// The kind that the element's tag stands for.
+    pub fn element_type(self) -> ElementType
+        ensures { result ≡ (frame_of self.entry).kind }
+    {
+        self.kind
+    }
+}

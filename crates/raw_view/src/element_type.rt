@@ -1,0 +1,112 @@
+ghost use Rattle.std.specs.Prelude.{◌≡◌, ◌≢◌, ◌↔◌, MatchOption, Some};
+ghost use Rattle.raw_view.specs.Kind.{tag_of};
+ghost use Rattle.raw_view.specs.declared.element_type.ElementType.{ElementType};
+
+/// The kinds of element. BSON 1.1, `element`.
+#[derive(Clone, Copy, Debug, PartialEq, Eq)]
+pub enum ElementType {
+    /// 64-bit floating point, tag 01
+    Double,
+    /// UTF-8 text, tag 02
+    String,
+    /// a nested document, tag 03
+    EmbeddedDocument,
+    /// an array, tag 04
+    Array,
+    /// bytes with a subtype, tag 05
+    Binary,
+    /// undefined (deprecated), tag 06
+    Undefined,
+    /// twelve bytes, tag 07
+    ObjectId,
+    /// false or true, tag 08
+    Boolean,
+    /// milliseconds since the epoch, tag 09
+    DateTime,
+    /// null, tag 0A
+    Null,
+    /// pattern and options, tag 0B
+    RegularExpression,
+    /// namespace and ObjectId (deprecated), tag 0C
+    DbPointer,
+    /// JavaScript code, tag 0D
+    JavaScriptCode,
+    /// a symbol (deprecated), tag 0E
+    Symbol,
+    /// JavaScript code with a scope (deprecated), tag 0F
+    JavaScriptCodeWithScope,
+    /// a signed 32-bit number, tag 10
+    Int32,
+    /// a timestamp of replication, tag 11
+    Timestamp,
+    /// a signed 64-bit number, tag 12
+    Int64,
+    /// 128-bit decimal floating point, tag 13
+    Decimal128,
+    /// greater than every other value, tag 7F
+    MaxKey,
+    /// less than every other value, tag FF
+    MinKey,
+}
+
+impl ElementType {
+    /// The kind that a tag stands for; `None` for a byte that is no tag.
+    pub fn from(tag: u8) -> Option<ElementType>
+        ensures of_its_tag { (kind : ElementType) → (result ≡ Some kind) ↔ (tag ≡ tag_of kind) }
+        ensures cases { MatchOption result ((kind : ElementType) → tag ≢ tag_of kind) (λ kind. tag ≡ tag_of kind) }
+    {
+        match tag {
+            0x01 => Some(ElementType::Double),
+            0x02 => Some(ElementType::String),
+            0x03 => Some(ElementType::EmbeddedDocument),
+            0x04 => Some(ElementType::Array),
+            0x05 => Some(ElementType::Binary),
+            0x06 => Some(ElementType::Undefined),
+            0x07 => Some(ElementType::ObjectId),
+            0x08 => Some(ElementType::Boolean),
+            0x09 => Some(ElementType::DateTime),
+            0x0A => Some(ElementType::Null),
+            0x0B => Some(ElementType::RegularExpression),
+            0x0C => Some(ElementType::DbPointer),
+            0x0D => Some(ElementType::JavaScriptCode),
+            0x0E => Some(ElementType::Symbol),
+            0x0F => Some(ElementType::JavaScriptCodeWithScope),
+            0x10 => Some(ElementType::Int32),
+            0x11 => Some(ElementType::Timestamp),
+            0x12 => Some(ElementType::Int64),
+            0x13 => Some(ElementType::Decimal128),
+            0x7F => Some(ElementType::MaxKey),
+            0xFF => Some(ElementType::MinKey),
+            _ => None,
+        }
+    }
+
+    /// The byte that stands for the kind.
+    pub fn to_tag(self) -> u8
+        ensures { result ≡ tag_of self }
+    {
+        match self {
+            ElementType::Double => 0x01,
+            ElementType::String => 0x02,
+            ElementType::EmbeddedDocument => 0x03,
+            ElementType::Array => 0x04,
+            ElementType::Binary => 0x05,
+            ElementType::Undefined => 0x06,
+            ElementType::ObjectId => 0x07,
+            ElementType::Boolean => 0x08,
+            ElementType::DateTime => 0x09,
+            ElementType::Null => 0x0A,
+            ElementType::RegularExpression => 0x0B,
+            ElementType::DbPointer => 0x0C,
+            ElementType::JavaScriptCode => 0x0D,
+            ElementType::Symbol => 0x0E,
+            ElementType::JavaScriptCodeWithScope => 0x0F,
+            ElementType::Int32 => 0x10,
+            ElementType::Timestamp => 0x11,
+            ElementType::Int64 => 0x12,
+            ElementType::Decimal128 => 0x13,
+            ElementType::MaxKey => 0x7F,
+            ElementType::MinKey => 0xFF,
+        }
+    }
+}

@@ -1,0 +1,141 @@
+ghost use Rattle.std.specs.Prelude.{◌≡◌, None};
+ghost use Rattle.std.specs.Option.{option_copied};
+
+use std::alloc::{AllocError, Global};
+use std::fmt;
+use std::str::Utf8Error;
+
+/// What a call of this crate answers: a value, or an `Error`.
+pub type Result<T> = std::result::Result<T, Error>;
+
+/// Why bytes are malformed. Numbers count bytes.
+#[derive(Clone, Copy, Debug, PartialEq, Eq)]
+pub enum Reason {
+    /// A document has under five bytes.
+    TooShort,
+    /// A document's header isn't its length.
+    LengthIncorrect,
+    /// A document's last byte isn't 0.
+    NotTerminated,
+    /// No byte is left where an element or the final 0 should stand.
+    Overflowed,
+    /// No kind has this tag.
+    InvalidTag(u8),
+    /// A string has only so many bytes left, under four.
+    StringHeadShort(usize),
+    /// A declared length is under 0.
+    NegativeLength,
+    /// A string's declared length is 0.
+    StringTooSmall,
+    /// A string takes so many bytes, and only so many are left.
+    StringPastEnd(usize, usize),
+    /// A string's last byte isn't 0.
+    StringNotTerminated,
+    /// A payload takes so many bytes, and only so many are left.
+    PastEnd(usize, usize),
+}
+
+impl fmt::Display for Reason {
+    fn fmt<W: fmt::Write>(&self, f: &mut fmt::Formatter<W>) -> fmt::Result {
+        match self {
+            Reason::TooShort => write!(f, "document too short"),
+            Reason::LengthIncorrect => write!(f, "document length incorrect"),
+            Reason::NotTerminated => write!(f, "document not null-terminated"),
+            Reason::Overflowed => write!(f, "iteration overflowed document"),
+            Reason::InvalidTag(tag) => write!(f, "invalid tag: {tag}"),
+            Reason::StringHeadShort(left) => write!(
+                f,
+                "expected buffer with string to contain at least 4 bytes, but it only has {left}"
+            ),
+            Reason::NegativeLength => write!(f, "lengths can't be negative"),
+            Reason::StringTooSmall => write!(
+                f,
+                "BSON length encoded string needs to be at least 5 bytes, instead got 4"
+            ),
+            Reason::StringPastEnd(size, left) => write!(
+                f,
+                "expected buffer to contain at least {size} bytes, but it only has {left}"
+            ),
+            Reason::StringNotTerminated => write!(f, "expected string to be null-terminated"),
+            Reason::PastEnd(size, left) => write!(
+                f,
+                "length exceeds remaining length of buffer: {size} vs {left}"
+            ),
+        }
+    }
+}
+
+/// How a call fails.
+#[derive(Debug, PartialEq, Eq, Drop)]
+pub enum ErrorKind {
+    /// The bytes aren't what BSON says.
+    MalformedValue {
+        /// what is wrong with them
+        reason: Reason,
+    },
+    /// A text isn't UTF-8.
+    Utf8EncodingError(Utf8Error),
+    /// No memory was left, for the key that the error should carry or for the answer.
+    OutOfMemory,
+}
+
+/// Why a call failed, and at which key where that is known.
+#[derive(Debug, PartialEq, Eq, Drop)]
+pub struct Error {
+    /// how it failed
+    pub kind: ErrorKind,
+    key: Option<String>,
+}
+
+impl Error {
+    ghost use Rattle.raw_view.specs.Errors.{key_of, HasKeyCopy};
+
+    /// An error of this kind, without a key.
+    pub fn new(kind: ErrorKind) -> Error
+        ensures kind { result.kind ≡ kind }
+        ensures no_key { key_of result ≡ None }
+    {
+        Error { kind, key: None }
+    }
+
+    /// With a copy of the key. Where it finds no memory, the error says that and has no key.
+    pub(crate) fn with_key(alloc: Global, kind: ErrorKind, key: Option<&str>) -> Error
+        ensures { HasKeyCopy kind (option_copied key.entry) result }
+    {
+        let Some(key) = key else {
+            return Error::new(kind);
+        };
+        match String::from_str(alloc, key) {
+            Ok(key) => Error {
+                kind,
+                key: Some(key),
+            },
+            Err(AllocError) => Error::new(ErrorKind::OutOfMemory),
+        }
+    }
+
+    /// The key of the element at which the call failed, if the error carries one.
+    pub fn key(&self) -> Option<&str>
+        ensures { option_copied result ≡ key_of self.now }
+    {
+        match &self.key {
+            None => None,
+            Some(key) => Some(key.as_str()),
+        }
+    }
+}
+
+impl fmt::Display for Error {
+    fn fmt<W: fmt::Write>(&self, f: &mut fmt::Formatter<W>) -> fmt::Result {
+        if let Some(key) = &self.key {
+            write!(f, "error at key \"{key}\": ")?;
+        }
+        match &self.kind {
+            ErrorKind::MalformedValue { reason } => write!(f, "malformed value: \"{reason}\""),
+            ErrorKind::Utf8EncodingError(error) => write!(f, "utf-8 encoding error: {error}"),
+            ErrorKind::OutOfMemory => write!(f, "out of memory"),
+        }
+    }
+}
+
+impl std::error::Error for Error {}
