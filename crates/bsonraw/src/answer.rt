@@ -9,6 +9,9 @@ use crate::printed::{Printed, one_line};
 use crate::status::Status;
 use std::alloc::{AllocError, Global};
 
+#[cfg(test)]
+mod tests;
+
 /// The exit status and the output of a command on the text of a document. Where memory runs out, 4 and nothing.
 pub fn answer(alloc: Global, command: &str, text: &[u8]) -> (u8, Vec<u8>)
     ensures { Prints command.now text.now result.0 result.1.items ⊎ LacksMemory result.0 result.1.items }

@@ -10,12 +10,15 @@ use std::alloc::Global;
 use std::io;
 use std::io::{Read, Write};
 
+#[cfg(test)]
+mod tests;
+
 /// Reads the text to its end, writes the answer to the command and gives its exit status; 5 where reading or writing
 /// failed. An unknown command is answered before anything is read.
 pub fn run<R: Read, W: Write>(alloc: Global, command: &str, reader: &mut R, writer: &mut W) -> u8
     ensures answered { IsCommand command.now → result ≢ 4 → result ≢ 5 → Answers command.now (R.remaining reader.old) (R.remaining reader.new) (W.contents writer.old) (W.contents writer.new) result }
     ensures no_memory { result ≡ 4 → Keeps (W.contents writer.old) (W.contents writer.new) }
-    ensures not_read { IsCommand command.now → Keeps (W.contents writer.old) (W.contents writer.new) ⊎ IsAtEnd (R.remaining reader.new) }
+    ensures read_first { IsCommand command.now → Keeps (W.contents writer.old) (W.contents writer.new) ⊎ IsAtEnd (R.remaining reader.new) }
     ensures unknown { ¬ IsCommand command.now → reader.new ≡ reader.old }
     ensures usage { ¬ IsCommand command.now → result ≢ 5 → (result ≡ 3) × Appends (W.contents writer.old) (W.contents writer.new) usage_line }
 {
