@@ -1,7 +1,6 @@
 -- A key and its 0 are determined by the bytes.
-use Rattle.std.proofs.Common.{◌≡◌, ◌≢◌, ℕ, List, [], ◌∷◌, ◌++◌, ◌<◌, ◌+◌, ◌-◌, length, take, drop, get_or, arith, Some, slice_get, ap, zero, suc}
+use Rattle.std.proofs.Common.{◌≡◌, ◌≢◌, ℕ, List, [], ◌∷◌, ◌++◌, ◌<◌, ◌+◌, length, take, get_or}
 use Rattle.std.proofs.lemmas.List.{take_more}
-use Rattle.std.proofs.lemmas.Option.{get_or_from_slice_get}
 use Rattle.raw_view.specs.Frame.{HasNoNul}
 
 pub cut : (k k' z z' : List ℕ) → HasNoNul k → HasNoNul k' → k ++ 0 ∷ z ≡ k' ++ 0 ∷ z' → (k ≡ k') × (z ≡ z')
@@ -19,16 +18,3 @@ HasNoNul-push (y ∷ xs) x h n = (h.0, HasNoNul-push xs x h.1 n)
 
 pub HasNoNul-more : (xs : List ℕ) (i : ℕ) → i < length xs → HasNoNul (take i xs) → get_or xs i 0 ≢ 0 → HasNoNul (take (i + 1) xs)
 HasNoNul-more xs i l h n = rw (take_more xs i 0 l) (HasNoNul-push (take i xs) (get_or xs i 0) h n)
-
--- a byte that isn't 0 isn't the last
-pub not_last : (xs : List ℕ) (i : ℕ) → slice_get xs (length xs - 1) ≡ Some 0 → i < length xs → get_or xs i 0 ≢ 0 → i + 1 < length xs
-not_last xs i e l n =
-    let z : get_or xs (length xs - 1) 0 ≡ 0 = get_or_from_slice_get xs (length xs - 1) 0 0 e in
-    grind (arith, z)
-
-pub split_at_nul : (xs : List ℕ) (i : ℕ) → i < length xs → get_or xs i 0 ≡ 0 → xs ≡ take i xs ++ 0 ∷ drop (i + 1) xs
-split_at_nul [] i l e = absurd (omega arith)
-split_at_nul (x ∷ xs) zero l e = ap (λ y. y ∷ xs) e
-split_at_nul (x ∷ xs) (suc i) l e =
-    let next : suc i + 1 ≡ suc (i + 1) = omega arith in
-    rw next (ap (λ ys. x ∷ ys) (split_at_nul xs i (omega arith) e))

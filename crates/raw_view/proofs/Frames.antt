@@ -1,9 +1,13 @@
--- A frame is determined by the bytes that it begins.
-use Rattle.std.proofs.Common.{◌≡◌, ◌≢◌, ℕ, List, ◌∷◌, ◌++◌, ap, sym, ◌∙◌, subst, refl, Option, Some, None, ◌==◌, if◌then◌else◌}
+-- A frame is determined by the bytes that it begins; where none begins, the walk stops.
+use Rattle.std.proofs.Common.{◌≡◌, ◌≢◌, ℕ, List, [], ◌∷◌, ◌++◌, ◌-◌, length, ap, sym, ◌∙◌, subst, refl, arith, Option, Some, None, ◌==◌, if◌then◌else◌, slice_get}
+use Rattle.std.specs.Str.{IsUtf8}
 use Rattle.raw_view.specs.declared.element_type.ElementType.{ElementType}
 use Rattle.raw_view.specs.declared.element_type.ElementType.TheVariants as kind
+use Rattle.raw_view.specs.declared.error.ErrorKind.{ErrorKind}
+use Rattle.raw_view.specs.declared.error.ErrorKind.TheVariants as what
 use Rattle.raw_view.specs.Kind.{tag_of}
-use Rattle.raw_view.specs.Frame.{HasShape, HasNoFrame, HasNoNul}
+use Rattle.raw_view.specs.Frame.{HasShape, HasNoFrame, HasNoNul, IsStop, Malformed}
+use Rattle.raw_view.specs.Front.{StopsWith, IsTextFault, IsPayloadFault}
 use Rattle.raw_view.proofs.Cuts.{cut}
 
 abbrev kind_of : ℕ → Option ElementType
@@ -68,3 +72,37 @@ no_frame s tag k z kind e h t none f r b =
     let parts = cut k f.key z (f.payload ++ r) h b.key_nul_free behind in
     let same : f.kind ≡ kind = tag_of-same f.kind kind (sym tags ∙ t) in
     none f.payload r parts.1 (subst (λ (x : ElementType). HasShape x f.payload r) same b.payload_is)
+
+-- where the tag is no kind's, no frame stands at the front
+no_kind : (s : List ℕ) (tag : ℕ) (z : List ℕ) → s ≡ tag ∷ z → ((kind : ElementType) → tag ≢ tag_of kind) → HasNoFrame s
+no_kind s tag z e none f r b =
+    let both : tag ∷ z ≡ tag_of f.kind ∷ (f.key ++ 0 ∷ (f.payload ++ r)) = sym e ∙ b.spelled in
+    let tags : tag ≡ tag_of f.kind = cc in
+    none f.kind tags
+
+-- the bytes behind the tag hold a 0 where the whole ends with one
+no_nul_ends : (tag : ℕ) (z : List ℕ) → HasNoNul z → slice_get (tag ∷ z) (length z) ≡ Some 0 → z ≡ []
+no_nul_ends tag [] h e = refl
+no_nul_ends tag (x ∷ []) h e = absurd (h.0 cc)
+no_nul_ends tag (x ∷ y ∷ z) h e = let none : y ∷ z ≡ [] = no_nul_ends x (y ∷ z) h.1 e in cc
+
+-- where no text up to a 0 stands behind the tag, it is a text that isn't UTF-8
+pub key_stop : (s : List ℕ) (tag : ℕ) (behind : List ℕ) (fault : ErrorKind) → s ≡ tag ∷ behind → behind ≢ [] → slice_get s (length s - 1) ≡ Some 0 → IsTextFault behind fault → StopsWith fault None s
+key_stop s tag behind (what.MalformedValue reason) e some last h =
+    let at : length (tag ∷ behind) - 1 ≡ length behind = omega arith in
+    absurd (some (no_nul_ends tag behind h (rw at at (subst (λ (x : List ℕ). slice_get x (length x - 1) ≡ Some 0) e last))))
+key_stop s tag behind (what.Utf8EncodingError error) e some last h =
+    (h.0, record { tag = tag; behind = h.1; spelled = e ∙ ap (λ x. tag ∷ x) h.2; nul_free = h.3 }, h.4)
+key_stop s tag behind what.OutOfMemory e some last h = h
+
+-- a tag that is no kind's
+pub tag_stop : (s : List ℕ) (tag : ℕ) (key behind : List ℕ) → s ≡ tag ∷ (key ++ 0 ∷ behind) → HasNoNul key → IsUtf8 key → ((kind : ElementType) → tag ≢ tag_of kind) → IsStop s Malformed (Some key)
+tag_stop s tag key behind e h u none = (record { tag = tag; behind = behind; spelled = e; nul_free = h }, u, no_kind s tag _ e none, λ bad. none kind.RegularExpression bad.0)
+
+-- a payload that isn't there
+pub payload_stop : (s : List ℕ) (tag : ℕ) (key behind : List ℕ) (kind : ElementType) (fault : ErrorKind) → s ≡ tag ∷ (key ++ 0 ∷ behind) → HasNoNul key → IsUtf8 key → tag ≡ tag_of kind → ((p r : List ℕ) → behind ≡ p ++ r → HasShape kind p r → ⊥) → IsPayloadFault (tag_of kind) behind fault → StopsWith fault (Some key) s
+payload_stop s tag key behind kind (what.MalformedValue reason) e h u t none fault =
+    (record { tag = tag; behind = behind; spelled = e; nul_free = h }, u, no_frame s tag key behind kind e h t none, λ bad. fault (sym t ∙ bad.0, bad.1))
+payload_stop s tag key behind kind (what.Utf8EncodingError error) e h u t none fault =
+    (record { tag = tag; behind = behind; spelled = e; nul_free = h }, u, no_frame s tag key behind kind e h t none, (t ∙ fault.0, fault.1))
+payload_stop s tag key behind kind what.OutOfMemory e h u t none fault = fault

@@ -1,4 +1,6 @@
-pub mod Strings
+pub mod Numbers
+pub mod Payloads
+pub mod Texts
 pub mod Cuts
 pub mod Frames
 pub mod Iteration

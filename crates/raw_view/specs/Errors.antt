@@ -42,3 +42,8 @@ TellsFault e fault key = Tells e.kind (key_of e) fault key
 abbrev pub HasKeyCopy : ErrorKind → Option (List ℕ) → Error → Type 0
 HasKeyCopy what None e = (e.kind ≡ what) × (key_of e ≡ None)
 HasKeyCopy what (Some key) e = ((e.kind ≡ what) × (key_of e ≡ Some key)) ⊎ ((e.kind ≡ kind.OutOfMemory) × (key_of e ≡ None))
+
+-- no memory was left; the error has no key
+pub record IsOutOfMemory (e : Error) : Type 0 where
+  pub kind_is : e.kind ≡ kind.OutOfMemory
+  pub no_key : key_of e ≡ None

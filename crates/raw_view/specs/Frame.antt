@@ -1,7 +1,8 @@
 -- What stands in a document: frames, and where they end. Relations between whole byte lists.
-use Rattle.std.specs.Prelude.{◌≡◌, ◌≢◌, ℕ, ◌+◌, pos, List, [], ◌∷◌, ◌++◌, length, Option, Some, None}
+use Rattle.std.specs.Prelude.{◌≡◌, ◌≢◌, ◌⊎◌, ℕ, ◌+◌, ◌≤◌, pos, List, [], ◌∷◌, ◌++◌, length, take, Option, Some, None}
 use Rattle.std.specs.Str.{IsUtf8}
 use Rattle.raw_view.specs.Number.{IsLe32}
+use Rattle.raw_view.specs.Envelope.{IsEnvelope}
 use Rattle.raw_view.specs.Kind.{tag_of}
 use Rattle.raw_view.specs.declared.element_type.ElementType.{ElementType}
 use Rattle.raw_view.specs.declared.element_type.ElementType.TheVariants as kind
@@ -22,23 +23,51 @@ pub record IsString (p text : List ℕ) : Type 0 where
 abbrev pub HasText : List ℕ → Type 0
 HasText p = (text : List ℕ) × IsString p text
 
--- p is a payload of this kind where r stands behind it. The kinds without a shape are not framed yet.
+-- p is the length of the bytes, their subtype, and the bytes. BSON 1.1, `binary`.
+pub record IsBinary (p : List ℕ) (subtype : ℕ) (bytes : List ℕ) : Type 0 where
+  pub head : List ℕ
+  pub length_is : IsLe32 head (pos (length bytes))
+  pub spelled : p ≡ head ++ subtype ∷ bytes
+
+-- p is a pattern and options, each a UTF-8 text up to its 0. BSON 1.1, `cstring cstring`.
+pub record IsRegex (p pattern options : List ℕ) : Type 0 where
+  pub spelled : p ≡ pattern ++ 0 ∷ (options ++ 0 ∷ [])
+  pub pattern_nul_free : HasNoNul pattern
+  pub pattern_text : IsUtf8 pattern
+  pub options_nul_free : HasNoNul options
+  pub options_text : IsUtf8 options
+
+-- p is a namespace as a string, and the twelve bytes of an ObjectId. BSON 1.1, `string (byte*12)`.
+pub record IsDbPointer (p namespace id : List ℕ) : Type 0 where
+  pub string : List ℕ
+  pub string_is : IsString string namespace
+  pub id_len : length id ≡ 12
+  pub spelled : p ≡ string ++ id
+
+-- p, with r behind it, has at least four bytes, and they begin with the length of p.
+-- So a code with scope is framed by its length alone, and where that is under four the next element
+-- begins inside its length bytes. BSON 1.1, `code_w_s`.
+pub record HasDeclaredLength (p r : List ℕ) : Type 0 where
+  pub enough : 4 ≤ length (p ++ r)
+  pub header : IsLe32 (take 4 (p ++ r)) (pos (length p))
+
+-- p is a payload of this kind where r stands behind it
 abbrev pub HasShape : ElementType → List ℕ → List ℕ → Type 0
 HasShape kind.Double p r = length p ≡ 8
 HasShape kind.String p r = HasText p
-HasShape kind.EmbeddedDocument p r = ⊥
-HasShape kind.Array p r = ⊥
-HasShape kind.Binary p r = ⊥
+HasShape kind.EmbeddedDocument p r = IsEnvelope p
+HasShape kind.Array p r = IsEnvelope p
+HasShape kind.Binary p r = (subtype : ℕ) × (bytes : List ℕ) × IsBinary p subtype bytes
 HasShape kind.Undefined p r = length p ≡ 0
 HasShape kind.ObjectId p r = length p ≡ 12
 HasShape kind.Boolean p r = length p ≡ 1
 HasShape kind.DateTime p r = length p ≡ 8
 HasShape kind.Null p r = length p ≡ 0
-HasShape kind.RegularExpression p r = ⊥
-HasShape kind.DbPointer p r = ⊥
-HasShape kind.JavaScriptCode p r = ⊥
-HasShape kind.Symbol p r = ⊥
-HasShape kind.JavaScriptCodeWithScope p r = ⊥
+HasShape kind.RegularExpression p r = (pattern options : List ℕ) × IsRegex p pattern options
+HasShape kind.DbPointer p r = (namespace id : List ℕ) × IsDbPointer p namespace id
+HasShape kind.JavaScriptCode p r = HasText p
+HasShape kind.Symbol p r = HasText p
+HasShape kind.JavaScriptCodeWithScope p r = HasDeclaredLength p r
 HasShape kind.Int32 p r = length p ≡ 4
 HasShape kind.Timestamp p r = length p ≡ 8
 HasShape kind.Int64 p r = length p ≡ 8
@@ -74,12 +103,25 @@ pub record HasKey (s : List ℕ) (key : List ℕ) : Type 0 where
   pub spelled : s ≡ tag ∷ (key ++ 0 ∷ behind)
   pub nul_free : HasNoNul key
 
--- where frames end without the final 0: no byte is left; the key isn't UTF-8; or nothing with this key stands there
+-- z begins with bytes up to a 0 that aren't UTF-8
+abbrev pub BeginsWithBadText : List ℕ → Type 0
+BeginsWithBadText z = (x w : List ℕ) × (z ≡ x ++ 0 ∷ w) × HasNoNul x × ¬ IsUtf8 x
+
+-- a pattern that has its 0 isn't UTF-8, or options that have theirs aren't, behind a pattern that is
+abbrev pub HasBadRegexText : List ℕ → Type 0
+HasBadRegexText z = BeginsWithBadText z ⊎ ((x w : List ℕ) × (z ≡ x ++ 0 ∷ w) × HasNoNul x × IsUtf8 x × BeginsWithBadText w)
+
+-- behind a key with this tag stands a regular expression of which a text isn't UTF-8
+abbrev pub HasBadText : ℕ → List ℕ → Type 0
+HasBadText tag behind = (tag ≡ tag_of kind.RegularExpression) × HasBadRegexText behind
+
+-- Where frames end without the final 0: no byte is left; the key isn't UTF-8; or there is a key and no
+-- frame. The last is a fault of text only for the texts of a regular expression.
 abbrev pub IsStop : List ℕ → Fault → Option (List ℕ) → Type 0
 IsStop s Malformed None = s ≡ []
 IsStop s Utf8 None = (key : List ℕ) × HasKey s key × ¬ IsUtf8 key
-IsStop s Malformed (Some key) = HasKey s key × IsUtf8 key × HasNoFrame s
-IsStop s Utf8 (Some key) = ⊥
+IsStop s Malformed (Some key) = (k : HasKey s key) × IsUtf8 key × HasNoFrame s × ¬ HasBadText k.tag k.behind
+IsStop s Utf8 (Some key) = (k : HasKey s key) × IsUtf8 key × HasNoFrame s × HasBadText k.tag k.behind
 
 -- how a walk ends: at the final 0, or at a stop
 pub data End : Type 0 where

@@ -5,7 +5,7 @@ use Rattle.raw_view.specs.declared.front.Front.{Front}
 use Rattle.raw_view.specs.declared.front.Front.TheVariants as front
 use Rattle.raw_view.specs.declared.error.ErrorKind.{ErrorKind}
 use Rattle.raw_view.specs.declared.error.ErrorKind.TheVariants as kind
-use Rattle.raw_view.specs.Frame.{IsFrame, Malformed, Utf8, IsStop}
+use Rattle.raw_view.specs.Frame.{IsFrame, Malformed, Utf8, IsStop, HasNoNul, BeginsWithBadText, HasBadText}
 use Rattle.raw_view.specs.Items.{frame_of}
 
 -- s stops with a fault of this kind
@@ -18,3 +18,16 @@ abbrev pub IsFront : List ℕ → Front → Type 0
 IsFront s front.Final = s ≡ 0 ∷ []
 IsFront s (front.Element e r) = IsFrame s (frame_of e) r.now
 IsFront s (front.Stop kind key) = StopsWith kind (option_copied key) s
+
+-- why no payload with this tag stands at the front of z: a text of a regular expression that isn't UTF-8,
+-- or anything else
+abbrev pub IsPayloadFault : ℕ → List ℕ → ErrorKind → Type 0
+IsPayloadFault tag z (kind.MalformedValue _) = ¬ HasBadText tag z
+IsPayloadFault tag z (kind.Utf8EncodingError _) = HasBadText tag z
+IsPayloadFault tag z kind.OutOfMemory = ⊥
+
+-- why no text up to a 0 stands at the front of z
+abbrev pub IsTextFault : List ℕ → ErrorKind → Type 0
+IsTextFault z (kind.MalformedValue _) = HasNoNul z
+IsTextFault z (kind.Utf8EncodingError _) = BeginsWithBadText z
+IsTextFault z kind.OutOfMemory = ⊥

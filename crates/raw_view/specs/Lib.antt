@@ -2,7 +2,10 @@ pub mod Number
 pub mod Envelope
 pub mod Kind
 pub mod Frame
+pub mod Meaning
 pub mod Errors
 pub mod Document
+pub mod Value
+pub mod Accessors
 pub mod Items
 pub mod Front

@@ -1,6 +1,6 @@
 -- Numbers as bytes: least first, in two's complement. BSON 1.1, basic types.
-use Rattle.std.specs.Prelude.{◌≡◌, ◌<◌, ℕ, List, ℤ, FitsSigned, slice_index}
-use Rattle.std.specs.Int.{w32, to_le_bytes, cast_unsigned}
+use Rattle.std.specs.Prelude.{◌≡◌, ◌<◌, ◌^◌, ℕ, List, ℤ, FitsSigned, slice_index}
+use Rattle.std.specs.Int.{w32, w64, to_le_bytes, cast_unsigned}
 
 -- each is a number from 0 to 255
 abbrev pub IsBytes : List ℕ → Type 0
@@ -14,3 +14,22 @@ le32 z = to_le_bytes w32 (cast_unsigned w32 z)
 pub record IsLe32 (bytes : List ℕ) (z : ℤ) : Type 0 where
   pub fits : FitsSigned w32 z
   pub bytes_are : bytes ≡ le32 z
+
+-- the eight bytes of a number that fits 64 bits with a sign
+abbrev pub le64 : ℤ → List ℕ
+le64 z = to_le_bytes w64 (cast_unsigned w64 z)
+
+-- the number fits 64 bits with a sign, and these are its eight bytes
+pub record IsLe64 (bytes : List ℕ) (z : ℤ) : Type 0 where
+  pub fits : FitsSigned w64 z
+  pub bytes_are : bytes ≡ le64 z
+
+-- the number fits 32 bits without a sign, and these are its four bytes
+pub record IsUnsigned32 (bytes : List ℕ) (n : ℕ) : Type 0 where
+  pub fits : n < 2 ^ 32
+  pub bytes_are : bytes ≡ to_le_bytes w32 n
+
+-- the number fits 64 bits without a sign, and these are its eight bytes
+pub record IsUnsigned64 (bytes : List ℕ) (n : ℕ) : Type 0 where
+  pub fits : n < 2 ^ 64
+  pub bytes_are : bytes ≡ to_le_bytes w64 n

@@ -33,6 +33,14 @@ pub enum Reason {
     StringNotTerminated,
     /// A payload takes so many bytes, and only so many are left.
     PastEnd(usize, usize),
+    /// A nested document's declared length is so small, under 5.
+    DocumentTooSmall(usize),
+    /// A nested document's last byte isn't 0.
+    NestedNotTerminated,
+    /// A declared length has only so many bytes left, under four.
+    LengthHeadShort(usize),
+    /// A pattern or options have no 0 that ends them.
+    NoTerminator,
 }
 
 impl fmt::Display for Reason {
@@ -61,6 +69,12 @@ impl fmt::Display for Reason {
                 f,
                 "length exceeds remaining length of buffer: {size} vs {left}"
             ),
+            Reason::DocumentTooSmall(size) => write!(f, "document too small: {size} bytes"),
+            Reason::NestedNotTerminated => write!(f, "not null terminated"),
+            Reason::LengthHeadShort(left) => {
+                write!(f, "expected 4 bytes to read i32, instead got {left}")
+            }
+            Reason::NoTerminator => write!(f, "expected null terminator"),
         }
     }
 }

@@ -1,5 +1,5 @@
 ghost use Rattle.std.specs.Prelude.{◌≡◌, ◌≢◌, ◌≤◌, ◌<◌, ◌-◌, ◌++◌, ◌∷◌, ℕ, List, length, slice_get, Some, IfOk, OnErr};
-ghost use Rattle.raw_view.specs.Frame.{HasNoNul, HasShape, IsStop, Malformed};
+ghost use Rattle.raw_view.specs.Frame.{IsStop, Malformed};
 ghost use Rattle.raw_view.specs.Front.{IsFront};
 ghost use Rattle.std.specs.Option.{option_copied};
 
@@ -7,6 +7,7 @@ use crate::element::RawElement;
 use crate::element_type::ElementType;
 use crate::error::{ErrorKind, Reason};
 use crate::payload::payload_len;
+use crate::text::split_text;
 
 /// What stands at the front of the bytes that are left.
 pub(crate) enum Front<'a> {
@@ -24,28 +25,6 @@ fn malformed<'a>(reason: Reason, key: Option<&'a str>) -> Front<'a>
     Front::Stop(ErrorKind::MalformedValue { reason }, key)
 }
 
-/// The key, and what is behind its 0.
-fn split_key(bytes: &[u8]) -> (&[u8], &[u8])
-    requires { slice_get bytes.now (length bytes.now - 1) ≡ Some 0 }
-    ensures spelled { bytes.now ≡ result.0.now ++ 0 ∷ result.1.now }
-    ensures nul_free { HasNoNul result.0.now }
-{
-    let mut at = 0;
-    while bytes[at] != 0 {
-        at += 1;
-    }
-    (bytes.split_at(at).0, bytes.split_at(at + 1).1)
-}
-
-/// The payload at the front, and what is behind it.
-fn split_payload(kind: ElementType, bytes: &[u8]) -> Result<(&[u8], &[u8]), Reason>
-    ensures found { IfOk result (λ x. (bytes.now ≡ x.0.now ++ x.1.now) × HasShape kind x.0.now x.1.now) }
-    ensures none { OnErr result ((p r : List ℕ) → bytes.now ≡ p ++ r → ¬ HasShape kind p r) }
-{
-    let len = payload_len(kind, bytes)?;
-    Ok(bytes.split_at(len))
-}
-
 /// What stands at the front of the bytes that are left of a document. Nothing is copied.
 pub(crate) fn front_of<'a>(rest: &'a [u8]) -> Front<'a>
     requires { 0 < length rest.now → slice_get rest.now (length rest.now - 1) ≡ Some 0 }
@@ -57,16 +36,18 @@ pub(crate) fn front_of<'a>(rest: &'a [u8]) -> Front<'a>
     if behind.is_empty() {
         return Front::Final;
     }
-    let (key, payload) = split_key(behind);
-    let key = match std::str::from_utf8(key) {
-        Ok(key) => key,
-        Err(error) => return Front::Stop(ErrorKind::Utf8EncodingError(error), None),
+    let (key, behind) = match split_text(behind) {
+        Ok(parts) => parts,
+        Err(fault) => return Front::Stop(fault, None),
     };
     let Some(kind) = ElementType::from(*tag) else {
         return malformed(Reason::InvalidTag(*tag), Some(key));
     };
-    match split_payload(kind, payload) {
-        Err(reason) => malformed(reason, Some(key)),
-        Ok((payload, rest)) => Front::Element(RawElement { key, kind, payload }, rest),
+    match payload_len(kind, behind) {
+        Err(fault) => Front::Stop(fault, Some(key)),
+        Ok(len) => {
+            let (payload, rest) = behind.split_at(len);
+            Front::Element(RawElement { key, kind, payload }, rest)
+        }
     }
 }

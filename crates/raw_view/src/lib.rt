@@ -1,14 +1,22 @@
 //! Borrowed views of raw BSON documents. Nothing is copied, and damage is met only where it is touched.
 #![tactic(auto)]
 
+mod array;
+mod bson_ref;
 mod document;
 mod element;
 mod element_type;
 mod error;
 mod front;
 mod iter;
+mod number;
 mod payload;
+mod text;
 
+pub use array::RawArray;
+pub use bson_ref::{
+    RawBinaryRef, RawBsonRef, RawDbPointerRef, RawJavaScriptCodeWithScopeRef, RawRegexRef,
+};
 pub use document::RawDocument;
 pub use element::RawElement;
 pub use element_type::ElementType;

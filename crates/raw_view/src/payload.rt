@@ -1,10 +1,17 @@
-ghost use Rattle.std.specs.Prelude.{◌≡◌, ◌≤◌, ◌<◌, ◌++◌, ℕ, List, length, take, drop, IfOk, OnErr};
-ghost use Rattle.raw_view.specs.Frame.{HasShape, HasText};
+ghost use Rattle.std.specs.Prelude.{◌≡◌, ◌≢◌, ◌≤◌, ◌<◌, ◌+◌, ◌++◌, ℕ, List, length, take, drop, pos, IfOk, IfErr, OnErr};
+ghost use Rattle.raw_view.specs.Envelope.{IsEnvelope};
+ghost use Rattle.raw_view.specs.Frame.{HasShape, HasText, HasDeclaredLength};
+ghost use Rattle.raw_view.specs.Front.{IsPayloadFault};
+ghost use Rattle.raw_view.specs.Kind.{tag_of};
+ghost use Rattle.raw_view.specs.Number.{IsLe32};
+ghost use Rattle.raw_view.specs.declared.element_type.ElementType.TheVariants.{Binary, DbPointer, RegularExpression};
 
 use crate::element_type::ElementType;
-use crate::error::Reason;
+use crate::error::{ErrorKind, Reason};
+use crate::number::front_i32;
+use crate::text::split_text;
 
-fn fixed(size: usize, rest: &[u8]) -> Result<usize, Reason>
+fn fixed_len(size: usize, rest: &[u8]) -> Result<usize, Reason>
     ensures found { IfOk result (λ n. (n ≡ size) × (size ≤ length rest.now)) }
     ensures none { OnErr result (length rest.now < size) }
 {
@@ -15,7 +22,20 @@ fn fixed(size: usize, rest: &[u8]) -> Result<usize, Reason>
     }
 }
 
-fn string_len(rest: &[u8]) -> Result<usize, Reason>
+/// The length that the four bytes at the front declare.
+fn declared_len(rest: &[u8]) -> Result<usize, Reason>
+    requires { 4 ≤ length rest.now }
+    ensures found { IfOk result (λ n. IsLe32 (take 4 rest.now) (pos n)) }
+    ensures none { OnErr result ((n : ℕ) → ¬ IsLe32 (take 4 rest.now) (pos n)) }
+{
+    let declared = front_i32(rest);
+    if declared < 0 {
+        return Err(Reason::NegativeLength);
+    }
+    Ok(declared as usize)
+}
+
+pub(crate) fn string_len(rest: &[u8]) -> Result<usize, Reason>
     ensures within { IfOk result (λ n. n ≤ length rest.now) }
     ensures found { IfOk result (λ n. HasText (take n rest.now)) }
     ensures none { OnErr result ((p r : List ℕ) → rest.now ≡ p ++ r → ¬ HasText p) }
@@ -23,14 +43,11 @@ fn string_len(rest: &[u8]) -> Result<usize, Reason>
     if rest.len() < 4 {
         return Err(Reason::StringHeadShort(rest.len()));
     }
-    let declared = i32::from_le_bytes([rest[0], rest[1], rest[2], rest[3]]);
-    if declared < 0 {
-        return Err(Reason::NegativeLength);
-    }
+    let declared = declared_len(rest)?;
     if declared == 0 {
         return Err(Reason::StringTooSmall);
     }
-    let size = declared as usize + 4;
+    let size = declared + 4;
     if rest.len() < size {
         return Err(Reason::StringPastEnd(size, rest.len()));
     }
@@ -40,30 +57,118 @@ fn string_len(rest: &[u8]) -> Result<usize, Reason>
     Ok(size)
 }
 
-/// How many bytes the payload at the front takes; else why none of this kind stands there.
-pub(crate) fn payload_len(kind: ElementType, rest: &[u8]) -> Result<usize, Reason>
+fn document_len(rest: &[u8]) -> Result<usize, Reason>
+    ensures within { IfOk result (λ n. n ≤ length rest.now) }
+    ensures found { IfOk result (λ n. IsEnvelope (take n rest.now)) }
+    ensures none { OnErr result ((p r : List ℕ) → rest.now ≡ p ++ r → ¬ IsEnvelope p) }
+{
+    if rest.len() < 5 {
+        return Err(Reason::PastEnd(5, rest.len()));
+    }
+    let size = declared_len(rest)?;
+    if size < 5 {
+        return Err(Reason::DocumentTooSmall(size));
+    }
+    if rest.len() < size {
+        return Err(Reason::PastEnd(size, rest.len()));
+    }
+    if rest[size - 1] != 0 {
+        return Err(Reason::NestedNotTerminated);
+    }
+    Ok(size)
+}
+
+fn binary_len(rest: &[u8]) -> Result<usize, Reason>
+    ensures within { IfOk result (λ n. n ≤ length rest.now) }
+    ensures found { IfOk result (λ n. HasShape Binary (take n rest.now) (drop n rest.now)) }
+    ensures none { OnErr result ((p r : List ℕ) → rest.now ≡ p ++ r → ¬ HasShape Binary p r) }
+{
+    if rest.len() < 4 {
+        return Err(Reason::LengthHeadShort(rest.len()));
+    }
+    let size = declared_len(rest)? + 5;
+    if rest.len() < size {
+        return Err(Reason::PastEnd(size, rest.len()));
+    }
+    Ok(size)
+}
+
+fn code_with_scope_len(rest: &[u8]) -> Result<usize, Reason>
+    ensures within { IfOk result (λ n. n ≤ length rest.now) }
+    ensures found { IfOk result (λ n. HasDeclaredLength (take n rest.now) (drop n rest.now)) }
+    ensures none { OnErr result ((p r : List ℕ) → rest.now ≡ p ++ r → ¬ HasDeclaredLength p r) }
+{
+    if rest.len() < 4 {
+        return Err(Reason::LengthHeadShort(rest.len()));
+    }
+    let size = declared_len(rest)?;
+    if rest.len() < size {
+        return Err(Reason::PastEnd(size, rest.len()));
+    }
+    Ok(size)
+}
+
+fn db_pointer_len(rest: &[u8]) -> Result<usize, Reason>
+    ensures within { IfOk result (λ n. n ≤ length rest.now) }
+    ensures found { IfOk result (λ n. HasShape DbPointer (take n rest.now) (drop n rest.now)) }
+    ensures none { OnErr result ((p r : List ℕ) → rest.now ≡ p ++ r → ¬ HasShape DbPointer p r) }
+{
+    let size = string_len(rest)? + 12;
+    if rest.len() < size {
+        return Err(Reason::PastEnd(size, rest.len()));
+    }
+    Ok(size)
+}
+
+fn regex_len(rest: &[u8]) -> Result<usize, ErrorKind>
+    ensures within { IfOk result (λ n. n ≤ length rest.now) }
+    ensures found { IfOk result (λ n. HasShape RegularExpression (take n rest.now) (drop n rest.now)) }
+    ensures none { OnErr result ((p r : List ℕ) → rest.now ≡ p ++ r → ¬ HasShape RegularExpression p r) }
+    ensures fault { IfErr result (IsPayloadFault (tag_of RegularExpression) rest.now) }
+{
+    let (_pattern, behind) = split_text(rest)?;
+    let (_options, behind) = split_text(behind)?;
+    Ok(rest.len() - behind.len())
+}
+
+/// How many bytes the payload of a kind without C strings takes; else why none stands at the front.
+fn sized_len(kind: ElementType, rest: &[u8]) -> Result<usize, Reason>
+    requires { kind ≢ RegularExpression }
     ensures within { IfOk result (λ n. n ≤ length rest.now) }
     ensures found { IfOk result (λ n. HasShape kind (take n rest.now) (drop n rest.now)) }
     ensures none { OnErr result ((p r : List ℕ) → rest.now ≡ p ++ r → ¬ HasShape kind p r) }
 {
     match kind {
-        ElementType::String => string_len(rest),
+        ElementType::String | ElementType::JavaScriptCode | ElementType::Symbol => string_len(rest),
+        ElementType::EmbeddedDocument | ElementType::Array => document_len(rest),
+        ElementType::Binary => binary_len(rest),
+        ElementType::DbPointer => db_pointer_len(rest),
+        ElementType::JavaScriptCodeWithScope => code_with_scope_len(rest),
         ElementType::Undefined | ElementType::Null | ElementType::MaxKey | ElementType::MinKey => {
-            fixed(0, rest)
+            fixed_len(0, rest)
         }
-        ElementType::Boolean => fixed(1, rest),
-        ElementType::Int32 => fixed(4, rest),
+        ElementType::Boolean => fixed_len(1, rest),
+        ElementType::Int32 => fixed_len(4, rest),
         ElementType::Double | ElementType::DateTime | ElementType::Timestamp | ElementType::Int64 =>
-            fixed(8, rest),
-        ElementType::ObjectId => fixed(12, rest),
-        ElementType::Decimal128 => fixed(16, rest),
-        ElementType::EmbeddedDocument
-        | ElementType::Array
-        | ElementType::Binary
-        | ElementType::RegularExpression
-        | ElementType::DbPointer
-        | ElementType::JavaScriptCode
-        | ElementType::Symbol
-        | ElementType::JavaScriptCodeWithScope => Err(Reason::InvalidTag(kind.to_tag())),
+            fixed_len(8, rest),
+        ElementType::ObjectId => fixed_len(12, rest),
+        ElementType::Decimal128 => fixed_len(16, rest),
+        ElementType::RegularExpression => unreachable!(),
+    }
+}
+
+/// How many bytes the payload at the front takes; else why none of this kind stands there.
+pub(crate) fn payload_len(kind: ElementType, rest: &[u8]) -> Result<usize, ErrorKind>
+    ensures within { IfOk result (λ n. n ≤ length rest.now) }
+    ensures found { IfOk result (λ n. HasShape kind (take n rest.now) (drop n rest.now)) }
+    ensures none { OnErr result ((p r : List ℕ) → rest.now ≡ p ++ r → ¬ HasShape kind p r) }
+    ensures fault { IfErr result (IsPayloadFault (tag_of kind) rest.now) }
+{
+    match kind {
+        ElementType::RegularExpression => regex_len(rest),
+        _ => match sized_len(kind, rest) {
+            Ok(len) => Ok(len),
+            Err(reason) => Err(ErrorKind::MalformedValue { reason }),
+        },
     }
 }

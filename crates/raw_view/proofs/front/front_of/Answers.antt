@@ -1,13 +1,23 @@
-use Rattle.std.proofs.Common.{rules, ◌∷◌, ◌++◌, ◌≡◌}
+use Rattle.std.proofs.Common.{◌≡◌, ◌≢◌, ◌∷◌, ◌++◌, [], rules, arith}
 use Rattle.std.proofs.lemmas.Grind.{common_steps}
-use Rattle.raw_view.proofs.Frames.{no_frame}
-use Rattle.raw_view.specs.Frame.{HasKey}
-use Rattle.std.specs.Str.{IsUtf8}
+use Rattle.raw_view.proofs.Frames.{key_stop, tag_stop, payload_stop}
 use Rattle.raw_view.proofs.front.front_of.Goals as goal
 
-pub returns-in-Err-split_payload : goal.returns-in-Err-split_payload
-returns-in-Err-split_payload c =
-    let spelled : c.args.rest.now ≡ c.in-Some.tag.now ∷ (c.in-Ok.key.now ++ 0 ∷ c.split_key.result.1.now) = search (rules, common_steps) in
-    let has_key : HasKey c.args.rest.now c.in-Ok.key.now = search (rules, common_steps) in
-    let text : IsUtf8 c.in-Ok.key.now = search rules in
-    c.malformed-in-Err-split_payload.ensures _ (has_key, text, no_frame _ _ _ _ c.in-Some-from.kind spelled has_key.nul_free c.in-Some-from.ensures.cases c.in-Err-split_payload.ensures.none)
+pub returns-in-Err : goal.returns-in-Err
+returns-in-Err c =
+    let spelled : c.args.rest.now ≡ c.in-Some.tag.now ∷ c.in-Some.behind.now = search (rules, common_steps) in
+    let some : c.in-Some.behind.now ≢ [] = grind (arith, common_steps) in
+    key_stop _ _ _ c.in-Err.fault spelled some (c.requires (grind (arith, common_steps))) c.in-Err.ensures.fault
+
+pub returns-in_default-from : goal.returns-in_default-from
+returns-in_default-from c =
+    let text = c.in-Ok.ensures.found in
+    let spelled : c.args.rest.now ≡ c.in-Some.tag.now ∷ (c.in-Ok.parts.0.now ++ 0 ∷ c.in-Ok.parts.1.now) = search (rules, common_steps) in
+    c.malformed-in_default-from.ensures _ (tag_stop _ _ _ _ spelled text.1 text.2 c.in_default-from.ensures.cases)
+
+pub returns-in-Err-payload_len : goal.returns-in-Err-payload_len
+returns-in-Err-payload_len c =
+    let text = c.in-Ok.ensures.found in
+    let spelled : c.args.rest.now ≡ c.in-Some.tag.now ∷ (c.in-Ok.parts.0.now ++ 0 ∷ c.in-Ok.parts.1.now) = search (rules, common_steps) in
+    let fault = c.in-Err-payload_len.ensures in
+    payload_stop _ _ _ _ c.in-Some-from.kind c.in-Err-payload_len.fault spelled text.1 text.2 c.in-Some-from.ensures.cases fault.none fault.fault

@@ -1,0 +1,4 @@
+pub mod Leaf
+pub mod Options
+pub mod Scalars
+pub mod Subtype

@@ -1,0 +1,28 @@
+ghost use Rattle.std.specs.Prelude.{◌≡◌};
+ghost use Rattle.bson_model.specs.Scalars.{bytes_of_decimal128};
+
+/// A double by its 64 bits, so that equality is equality of bits (BSON 1.1, `double`).
+#[derive(Clone, Copy, Debug, PartialEq, Eq)]
+pub struct DoubleBits(pub u64);
+
+/// A decimal number by its sixteen bytes (BSON 1.1, `decimal128`).
+#[derive(Clone, Copy, Debug, PartialEq, Eq)]
+pub struct Decimal128 {
+    bytes: [u8; 16],
+}
+
+impl Decimal128 {
+    /// The number of these sixteen bytes.
+    pub fn from_bytes(bytes: [u8; 16]) -> Decimal128
+        ensures { bytes_of_decimal128 result ≡ bytes }
+    {
+        Decimal128 { bytes }
+    }
+
+    /// Its sixteen bytes, in order.
+    pub fn bytes(self) -> [u8; 16]
+        ensures { result ≡ bytes_of_decimal128 self }
+    {
+        self.bytes
+    }
+}

@@ -1,0 +1,44 @@
+ghost use Rattle.std.specs.Prelude.{◌≡◌, length, IfOk};
+ghost use Rattle.std.specs.String.{string_bytes};
+ghost use Rattle.hex.specs.Hex.{encode_lower};
+ghost use Rattle.bson_model.specs.Scalars.{bytes_of_object_id};
+
+use crate::errors::NoMemory;
+use std::alloc::Global;
+
+/// Twelve bytes that name an object (BSON 1.1, element of type ObjectId).
+#[derive(Clone, Copy, Debug, PartialEq, Eq)]
+pub struct ObjectId {
+    bytes: [u8; 12],
+}
+
+impl ObjectId {
+    /// The identifier of these twelve bytes.
+    pub fn from_bytes(bytes: [u8; 12]) -> ObjectId
+        ensures { bytes_of_object_id result ≡ bytes }
+    {
+        ObjectId { bytes }
+    }
+
+    /// Its twelve bytes, in order.
+    pub fn bytes(self) -> [u8; 12]
+        ensures { result ≡ bytes_of_object_id self }
+    {
+        self.bytes
+    }
+
+    /// Its bytes as 24 lower case hexadecimal digits, or `NoMemory`.
+    pub fn to_hex(self, alloc: Global) -> Result<String, NoMemory>
+        ensures digits { IfOk result (λ text. string_bytes text ≡ encode_lower (bytes_of_object_id self)) }
+        ensures length { IfOk result (λ text. length (string_bytes text) ≡ 24) }
+    {
+        Ok(hex::encode(alloc, &self.bytes[..])?)
+    }
+}
+
+/// A pointer to an object of a database (BSON 1.1, DBPointer, deprecated).
+#[derive(Debug, PartialEq, Eq, Drop)]
+pub struct DbPointer {
+    pub namespace: String,
+    pub id: ObjectId,
+}

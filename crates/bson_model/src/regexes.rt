@@ -1,0 +1,30 @@
+ghost use Rattle.std.specs.Prelude.{◌≡◌, IfOk};
+ghost use Rattle.std.specs.String.{string_bytes};
+ghost use Rattle.bson_model.specs.Options.{sorted_options, OrdersOptions};
+
+use crate::errors::NoMemory;
+use std::alloc::Global;
+
+/// A regular expression: its pattern and its options (BSON 1.1, regular expression).
+#[derive(Debug, PartialEq, Eq, Drop)]
+pub struct Regex {
+    pub pattern: String,
+    pub options: String,
+}
+
+impl Regex {
+    /// The regular expression of a pattern, with the options' characters in ascending order of their
+    /// Unicode scalar values, repeats kept; or `NoMemory`.
+    pub fn new(alloc: Global, pattern: &str, options: &str) -> Result<Regex, NoMemory>
+        ensures kept { IfOk result (λ r. string_bytes r.pattern ≡ pattern.now) }
+        ensures sorted { IfOk result (λ r. string_bytes r.options ≡ sorted_options options.now) }
+        ensures ordered { IfOk result (λ r. OrdersOptions options.now (string_bytes r.options)) }
+    {
+        let mut chars: Vec<char> = options.chars().collect(alloc)?;
+        chars.sort_unstable();
+        Ok(Regex {
+            pattern: String::from_str(alloc, pattern)?,
+            options: chars.into_iter().collect(alloc)?,
+        })
+    }
+}

@@ -1,0 +1,31 @@
+ghost use Rattle.std.specs.Prelude.{◌≡◌};
+ghost use Rattle.bson_model.specs.Scalars.{millis_of_date_time};
+
+/// A time in milliseconds since the start of 1970 in UTC (BSON 1.1, UTC datetime).
+#[derive(Clone, Copy, Debug, PartialEq, Eq)]
+pub struct DateTime {
+    millis: i64,
+}
+
+impl DateTime {
+    /// The time of this many milliseconds.
+    pub fn from_millis(millis: i64) -> DateTime
+        ensures { millis_of_date_time result ≡ millis }
+    {
+        DateTime { millis }
+    }
+
+    /// Its milliseconds.
+    pub fn timestamp_millis(self) -> i64
+        ensures { result ≡ millis_of_date_time self }
+    {
+        self.millis
+    }
+}
+
+/// A time in seconds and a counter within it, for internal use of databases (BSON 1.1, Timestamp).
+#[derive(Clone, Copy, Debug, PartialEq, Eq)]
+pub struct Timestamp {
+    pub time: u32,
+    pub increment: u32,
+}

@@ -1,0 +1,134 @@
+-- What a payload means: a value, or a fault.
+use Rattle.std.specs.Prelude.{◌≡◌, ◌≢◌, ◌⊎◌, ℕ, ◌+◌, ◌<◌, ◌≤◌, ◌+ℤ◌, ◌≤ℤ◌, ◌<ℤ◌, ℤ, pos, negsuc, true, false, List, [], ◌∷◌, ◌++◌, length, take, drop, Option, Some, None}
+use Rattle.std.specs.Str.{IsUtf8}
+use Rattle.bson_model.specs.Leaf.{Leaf, double, string, binary, undefined, object_id, boolean, date_time, null, regular_expression, db_pointer, javascript_code, symbol, int32, timestamp, int64, decimal128, max_key, min_key}
+use Rattle.bson_model.specs.Subtype.{subtype_of}
+use Rattle.bson_model.specs.declared.binaries.BinarySubtype.TheVariants.{BinaryOld}
+use Rattle.raw_view.specs.Number.{IsLe32, IsLe64, IsUnsigned32, IsUnsigned64}
+use Rattle.raw_view.specs.Envelope.{IsEnvelope}
+use Rattle.raw_view.specs.declared.element_type.ElementType.{ElementType}
+use Rattle.raw_view.specs.declared.element_type.ElementType.TheVariants as kind
+use Rattle.raw_view.specs.Frame.{Frame, IsString, HasText, IsBinary, IsRegex, IsDbPointer, Fault, Malformed, Utf8}
+
+-- a value: one that holds no others, or the bytes of a nested document, of an array, of a code's scope
+pub data RawValue : Type 0 where
+  single : Leaf → RawValue
+  document : List ℕ → RawValue
+  array : List ℕ → RawValue
+  -- the code, the scope
+  scoped : List ℕ → List ℕ → RawValue
+
+-- the bytes of an old binary: their length once more, and the bytes themselves.
+-- BSON 1.1, `binary`, subtype 2.
+pub record HasInnerLength (outer bytes : List ℕ) : Type 0 where
+  pub head : List ℕ
+  pub length_is : IsLe32 head (pos (length bytes))
+  pub spelled : outer ≡ head ++ bytes
+
+-- p is its own length, a string of the code, and the scope. BSON 1.1, `code_w_s`.
+pub record IsCodeWithScope (p code scope : List ℕ) : Type 0 where
+  pub head : List ℕ
+  pub string : List ℕ
+  pub length_is : IsLe32 head (pos (length p))
+  pub string_is : IsString string code
+  pub spelled : p ≡ head ++ (string ++ scope)
+
+-- the payload is the string of a UTF-8 text
+abbrev pub SpellsText : List ℕ → List ℕ → Type 0
+SpellsText p text = IsString p text × IsUtf8 text
+
+-- the value of a binary by its subtype's byte
+abbrev pub IsBinaryValue : ℕ → List ℕ → RawValue → Type 0
+IsBinaryValue subtype bytes v =
+    ((subtype ≢ 2) × (v ≡ single (binary (subtype_of subtype) bytes)))
+    ⊎ ((subtype ≡ 2) × (inner : List ℕ) × HasInnerLength bytes inner × (v ≡ single (binary BinaryOld inner)))
+
+-- the payload p of this kind means the value v
+abbrev pub MeansValue : ElementType → List ℕ → RawValue → Type 0
+MeansValue kind.Double p v = (bits : ℕ) × IsUnsigned64 p bits × (v ≡ single (double bits))
+MeansValue kind.String p v = (text : List ℕ) × SpellsText p text × (v ≡ single (string text))
+MeansValue kind.EmbeddedDocument p v = v ≡ document p
+MeansValue kind.Array p v = v ≡ array p
+MeansValue kind.Binary p v = (subtype : ℕ) × (bytes : List ℕ) × IsBinary p subtype bytes × IsBinaryValue subtype bytes v
+MeansValue kind.Undefined p v = v ≡ single undefined
+MeansValue kind.ObjectId p v = v ≡ single (object_id p)
+MeansValue kind.Boolean p v = ((p ≡ 0 ∷ []) × (v ≡ single (boolean false))) ⊎ ((p ≡ 1 ∷ []) × (v ≡ single (boolean true)))
+MeansValue kind.DateTime p v = (millis : ℤ) × IsLe64 p millis × (v ≡ single (date_time millis))
+MeansValue kind.Null p v = v ≡ single null
+MeansValue kind.RegularExpression p v = (pattern options : List ℕ) × IsRegex p pattern options × (v ≡ single (regular_expression pattern options))
+MeansValue kind.DbPointer p v = (namespace id : List ℕ) × IsDbPointer p namespace id × IsUtf8 namespace × (v ≡ single (db_pointer namespace id))
+MeansValue kind.JavaScriptCode p v = (text : List ℕ) × SpellsText p text × (v ≡ single (javascript_code text))
+MeansValue kind.Symbol p v = (text : List ℕ) × SpellsText p text × (v ≡ single (symbol text))
+MeansValue kind.JavaScriptCodeWithScope p v = (code scope : List ℕ) × IsCodeWithScope p code scope × IsUtf8 code × IsEnvelope scope × (v ≡ scoped code scope)
+MeansValue kind.Int32 p v = (z : ℤ) × IsLe32 p z × (v ≡ single (int32 z))
+MeansValue kind.Timestamp p v = (time increment : ℕ) × IsUnsigned32 (take 4 p) increment × IsUnsigned32 (drop 4 p) time × (v ≡ single (timestamp time increment))
+MeansValue kind.Int64 p v = (z : ℤ) × IsLe64 p z × (v ≡ single (int64 z))
+MeansValue kind.Decimal128 p v = v ≡ single (decimal128 p)
+MeansValue kind.MaxKey p v = v ≡ single max_key
+MeansValue kind.MinKey p v = v ≡ single min_key
+
+-- a fault: how reading fails, and the key that it carries
+pub record KeyedFault : Type 0 where
+  pub fault : Fault
+  pub key : Option (List ℕ)
+
+-- malformed, with the element's key
+abbrev pub malformed_at : List ℕ → KeyedFault
+malformed_at key = record { fault = Malformed; key = Some key }
+
+-- malformed, without a key
+abbrev pub malformed : KeyedFault
+malformed = record { fault = Malformed; key = None }
+
+-- a text that isn't UTF-8, without a key
+abbrev pub not_text : KeyedFault
+not_text = record { fault = Utf8; key = None }
+
+-- the payload is the string of a text that isn't UTF-8
+abbrev pub SpellsNoText : List ℕ → Type 0
+SpellsNoText p = (text : List ℕ) × IsString p text × ¬ IsUtf8 text
+
+-- an inner length from -4 to -1
+abbrev pub Overflows : ℤ → Type 0
+Overflows inner = (negsuc 3 ≤ℤ inner) × (inner ≤ℤ negsuc 0)
+
+-- The fault of an old binary's bytes: they are under four; the inner length is from -4 to -1; any other
+-- inner length which plus 4 isn't theirs.
+abbrev pub OldBinaryFault : List ℕ → List ℕ → KeyedFault → Type 0
+OldBinaryFault key outer fault =
+    ((length outer < 4) × (fault ≡ malformed_at key))
+    ⊎ ((inner : ℤ) × (4 ≤ length outer) × IsLe32 (take 4 outer) inner × Overflows inner × (fault ≡ malformed))
+    ⊎ ((inner : ℤ) × (4 ≤ length outer) × IsLe32 (take 4 outer) inner × (¬ Overflows inner) × ((inner +ℤ pos 4) ≢ pos (length outer)) × (fault ≡ malformed_at key))
+
+-- what stands behind the four length bytes of a code with scope doesn't begin with a string
+abbrev pub HasNoCode : List ℕ → Type 0
+HasNoCode p = (string scope : List ℕ) → drop 4 p ≡ string ++ scope → ¬ HasText string
+
+-- The fault of a code with scope: it has under 14 bytes; no string stands behind its length; the string's
+-- text isn't UTF-8; exactly the rest has no envelope.
+abbrev pub ScopeFault : List ℕ → List ℕ → KeyedFault → Type 0
+ScopeFault key p fault =
+    ((length p < 14) × (fault ≡ malformed_at key))
+    ⊎ ((14 ≤ length p) × HasNoCode p × (fault ≡ malformed))
+    ⊎ ((14 ≤ length p) × (code scope : List ℕ) × IsCodeWithScope p code scope × (¬ IsUtf8 code) × (fault ≡ not_text))
+    ⊎ ((14 ≤ length p) × (code scope : List ℕ) × IsCodeWithScope p code scope × IsUtf8 code × (¬ IsEnvelope scope) × (fault ≡ malformed))
+
+-- the payload p of this kind, under this key, means this fault; the kinds that are not here mean none
+abbrev pub MeansFault : ElementType → List ℕ → List ℕ → KeyedFault → Type 0
+MeansFault kind.String key p fault = SpellsNoText p × (fault ≡ not_text)
+MeansFault kind.JavaScriptCode key p fault = SpellsNoText p × (fault ≡ not_text)
+MeansFault kind.Symbol key p fault = SpellsNoText p × (fault ≡ not_text)
+MeansFault kind.DbPointer key p fault = (namespace id : List ℕ) × IsDbPointer p namespace id × (¬ IsUtf8 namespace) × (fault ≡ not_text)
+MeansFault kind.Boolean key p fault = (byte : ℕ) × (p ≡ byte ∷ []) × (1 < byte) × (fault ≡ malformed_at key)
+MeansFault kind.Binary key p fault = (outer : List ℕ) × IsBinary p 2 outer × OldBinaryFault key outer fault
+MeansFault kind.JavaScriptCodeWithScope key p fault = ScopeFault key p fault
+MeansFault _ key p fault = ⊥
+
+-- what a frame means
+pub data Meaning : Type 0 where
+  value : RawValue → Meaning
+  faulty : KeyedFault → Meaning
+
+abbrev pub Means : Frame → Meaning → Type 0
+Means f (value v) = MeansValue f.kind f.payload v
+Means f (faulty fault) = MeansFault f.kind f.key f.payload fault

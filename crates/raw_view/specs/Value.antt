@@ -1,0 +1,71 @@
+-- What borrowed values show.
+use Rattle.std.specs.Prelude.{ℕ, List}
+use Rattle.bson_model.specs.Leaf.{double, string, binary, undefined, object_id, boolean, date_time, null, regular_expression, db_pointer, javascript_code, symbol, int32, timestamp, int64, decimal128, max_key, min_key}
+use Rattle.bson_model.specs.Scalars.{bytes_of_object_id, millis_of_date_time, bytes_of_decimal128}
+use Rattle.raw_view.specs.declared.element_type.ElementType.{ElementType}
+use Rattle.raw_view.specs.declared.element_type.ElementType.TheVariants as kind
+use Rattle.raw_view.specs.declared.bson_ref.RawBsonRef.{RawBsonRef}
+use Rattle.raw_view.specs.declared.bson_ref.RawBsonRef.TheVariants as ref
+use Rattle.raw_view.specs.declared.bson_ref.RawDbPointerRef.{RawDbPointerRef}
+use Rattle.raw_view.specs.declared.array.RawArray.{RawArray}
+use Rattle.raw_view.specs.Document.{bytes_of}
+use Rattle.raw_view.specs.Meaning.{RawValue, single, document, array, scoped}
+
+-- the document whose bytes an array views
+abbrev pub array_bytes_of : RawArray → List ℕ
+array_bytes_of a = bytes_of a.document
+
+-- the namespace and the identifier of a pointer
+abbrev pub namespace_of : RawDbPointerRef → List ℕ
+namespace_of p = p.namespace.now
+
+abbrev pub id_of : RawDbPointerRef → List ℕ
+id_of p = bytes_of_object_id p.id
+
+-- the value that a borrowed value views
+abbrev pub value_of : RawBsonRef → RawValue
+value_of (ref.Double x) = single (double x.0)
+value_of (ref.String text) = single (string text.now)
+value_of (ref.Array a) = array (array_bytes_of a)
+value_of (ref.Document d) = document (bytes_of d)
+value_of (ref.Boolean b) = single (boolean b)
+value_of ref.Null = single null
+value_of (ref.RegularExpression r) = single (regular_expression r.pattern.now r.options.now)
+value_of (ref.JavaScriptCode text) = single (javascript_code text.now)
+value_of (ref.JavaScriptCodeWithScope c) = scoped c.code.now (bytes_of c.scope)
+value_of (ref.Int32 z) = single (int32 z)
+value_of (ref.Int64 z) = single (int64 z)
+value_of (ref.Timestamp t) = single (timestamp t.time t.increment)
+value_of (ref.Binary b) = single (binary b.subtype b.bytes.now)
+value_of (ref.ObjectId id) = single (object_id (bytes_of_object_id id))
+value_of (ref.DateTime t) = single (date_time (millis_of_date_time t))
+value_of (ref.Symbol text) = single (symbol text.now)
+value_of (ref.Decimal128 x) = single (decimal128 (bytes_of_decimal128 x))
+value_of ref.Undefined = single undefined
+value_of ref.MaxKey = single max_key
+value_of ref.MinKey = single min_key
+value_of (ref.DbPointer p) = single (db_pointer (namespace_of p) (id_of p))
+
+-- the kind of a borrowed value
+abbrev pub kind_of_value : RawBsonRef → ElementType
+kind_of_value (ref.Double _) = kind.Double
+kind_of_value (ref.String _) = kind.String
+kind_of_value (ref.Array _) = kind.Array
+kind_of_value (ref.Document _) = kind.EmbeddedDocument
+kind_of_value (ref.Boolean _) = kind.Boolean
+kind_of_value ref.Null = kind.Null
+kind_of_value (ref.RegularExpression _) = kind.RegularExpression
+kind_of_value (ref.JavaScriptCode _) = kind.JavaScriptCode
+kind_of_value (ref.JavaScriptCodeWithScope _) = kind.JavaScriptCodeWithScope
+kind_of_value (ref.Int32 _) = kind.Int32
+kind_of_value (ref.Int64 _) = kind.Int64
+kind_of_value (ref.Timestamp _) = kind.Timestamp
+kind_of_value (ref.Binary _) = kind.Binary
+kind_of_value (ref.ObjectId _) = kind.ObjectId
+kind_of_value (ref.DateTime _) = kind.DateTime
+kind_of_value (ref.Symbol _) = kind.Symbol
+kind_of_value (ref.Decimal128 _) = kind.Decimal128
+kind_of_value ref.Undefined = kind.Undefined
+kind_of_value ref.MaxKey = kind.MaxKey
+kind_of_value ref.MinKey = kind.MinKey
+kind_of_value (ref.DbPointer _) = kind.DbPointer
