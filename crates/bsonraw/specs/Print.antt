@@ -1,6 +1,6 @@
 -- What the program prints, and its exit status: a relation on a command and a text, through the bytes that the text
 -- stands for, their envelope and their walk.
-use Rattle.std.specs.Prelude.{◌≡◌, ◌≢◌, ℕ, ◌==◌, ◌||◌, Bool, not, List, [], ◌∷◌, ◌++◌, ◌⊎◌, length, drop, filter, codes, Option, None, Some, Result, Ok, Err}
+use Rattle.std.specs.Prelude.{◌≡◌, ℕ, ◌==◌, ◌||◌, Bool, not, List, [], ◌∷◌, ◌++◌, ◌⊎◌, length, drop, filter, codes, Option, None, Some, Result, Ok, Err}
 use Rattle.std.specs.Fmt.{decimal}
 use Rattle.hex.specs.Hex.{encode_lower, decode_of}
 use Rattle.hex.specs.declared.error.FromHexError.{FromHexError}
@@ -58,21 +58,21 @@ pub record PrintsWalk (b : List ℕ) (status : ℕ) (output : List ℕ) : Type 0
   pub status_is : status ≡ end_status end
   pub output_is : output ≡ frame_lines frames ++ end_line end
 
--- a document is refused for want of an envelope by these numbers
+-- bytes without an envelope are refused by the number of the reason
 abbrev pub refusal_line : Reason → List ℕ
 refusal_line reason.TooShort = codes "refused 1\n"
 refusal_line reason.LengthIncorrect = codes "refused 2\n"
 refusal_line reason.NotTerminated = codes "refused 3\n"
 refusal_line _ = []
 
--- the reasons for which bytes have no envelope
+-- these are the reasons for which bytes have no envelope
 abbrev pub IsRefusal : Reason → Type 0
 IsRefusal reason.TooShort = Unit {0}
 IsRefusal reason.LengthIncorrect = Unit {0}
 IsRefusal reason.NotTerminated = Unit {0}
 IsRefusal _ = ⊥
 
--- the first reason for which the bytes have no envelope
+-- the refusal of bytes without an envelope, by the first reason that applies
 pub record PrintsRefusal (b : List ℕ) (status : ℕ) (output : List ℕ) : Type 0 where
   pub reason : Reason
   pub refuses : Refuses b reason
@@ -92,9 +92,11 @@ PrintsDecoded (Err e) status output = (status ≡ 2) × (output ≡ codes "bad h
 abbrev pub PrintsList : List ℕ → ℕ → List ℕ → Type 0
 PrintsList text status output = PrintsDecoded (decode_of (digits_of text)) status output
 
+-- how the program is used
 abbrev pub usage_line : List ℕ
 usage_line = codes "usage: bsonraw list|canon|check\n"
 
+-- the commands that the program has
 abbrev pub IsCommand : List ℕ → Type 0
 IsCommand command = command ≡ codes "list"
 

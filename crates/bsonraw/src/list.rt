@@ -35,6 +35,7 @@ fn without_blanks(alloc: Global, text: &[u8]) -> Result<Vec<u8>, AllocError>
         .collect(alloc)
 }
 
+/// The listing of bytes: of the document that they are, or why they are none.
 fn list_bytes(alloc: Global, bytes: &[u8]) -> Result<Printed, AllocError>
     ensures { IfOk result (λ p. PrintsBytes bytes.now (code_of p.status) (string_bytes p.output)) }
 {
@@ -81,6 +82,7 @@ fn list_document(alloc: Global, document: RawDocument<'_>) -> Result<Printed, Al
     Ok(Printed { status, output })
 }
 
+/// The line of an element: tag, key and length.
 fn push_element(
     alloc: Global,
     output: &mut String,
@@ -94,9 +96,10 @@ fn push_element(
     writeln!(output, "{tag} {key} {len}")
 }
 
-/// Where the error is want of memory, so is the answer.
+/// The line of a fault: kind and key. Where no memory was left for the key, none is left for the answer.
 fn push_fault(alloc: Global, output: &mut String, error: &Error) -> Result<(), AllocError>
-    ensures { (fault : Fault) (key : Option (List ℕ)) → TellsFault error.now fault key → OnOk result (string_bytes output.new ≡ string_bytes output.old ++ end_line (Stopped fault key)) }
+    ensures { (fault : Fault) (key : Option (List ℕ)) → TellsFault error.now fault key →
+        OnOk result (string_bytes output.new ≡ string_bytes output.old ++ end_line (Stopped fault key)) }
 {
     let kind = match &error.kind {
         ErrorKind::MalformedValue { .. } => "malformed",

@@ -16,11 +16,19 @@ mod tests;
 /// Reads the text to its end, writes the answer to the command and gives its exit status; 5 where reading or writing
 /// failed. An unknown command is answered before anything is read.
 pub fn run<R: Read, W: Write>(alloc: Global, command: &str, reader: &mut R, writer: &mut W) -> u8
-    ensures answered { IsCommand command.now → result ≢ 4 → result ≢ 5 → Answers command.now (R.remaining reader.old) (R.remaining reader.new) (W.contents writer.old) (W.contents writer.new) result }
+    ensures answered { IsCommand command.now → result ≢ 4 → result ≢ 5 →
+        Answers command.now (R.remaining reader.old) (R.remaining reader.new)
+        (W.contents writer.old) (W.contents writer.new) result }
+
+    // Without memory for the answer nothing is written, nor anything before all was read.
     ensures no_memory { result ≡ 4 → Keeps (W.contents writer.old) (W.contents writer.new) }
-    ensures read_first { IsCommand command.now → Keeps (W.contents writer.old) (W.contents writer.new) ⊎ IsAtEnd (R.remaining reader.new) }
-    ensures unknown { ¬ IsCommand command.now → reader.new ≡ reader.old }
-    ensures usage { ¬ IsCommand command.now → result ≢ 5 → (result ≡ 3) × Appends (W.contents writer.old) (W.contents writer.new) usage_line }
+    ensures read_first { IsCommand command.now →
+        Keeps (W.contents writer.old) (W.contents writer.new) ⊎ IsAtEnd (R.remaining reader.new) }
+
+    // An unknown command is told how the program is used, whatever the reader holds.
+    ensures usage { ¬ IsCommand command.now → result ≢ 5 →
+        (result ≡ 3) × Appends (W.contents writer.old) (W.contents writer.new) usage_line }
+    ensures unread { ¬ IsCommand command.now → reader.new ≡ reader.old }
 {
     if Command::from_name(command).is_none() {
         return written(writer, USAGE.as_bytes(), Status::Usage.code());

@@ -26,6 +26,26 @@ fn lists_documents(rt: HostRuntime) {
         ("07 00 00 00 0A FF 00", 1, "fault utf8 none\n"),
         // a string of which only the key is there
         ("07 00 00 00 02 6B 00", 1, "fault malformed 6b\n"),
+        // negative document length
+        (
+            "0C 00 00 00 03 61 00 FF FF FF FF 00",
+            1,
+            "fault malformed 61\n",
+        ),
+        // pattern that isn't UTF-8
+        ("0A 00 00 00 0B 61 00 FF 00 00", 1, "fault utf8 61\n"),
+        // regex that swallows the terminator
+        (
+            "11 00 00 00 0B 24 64 61 74 65 00 6F 70 65 00 04 00",
+            1,
+            "0b 2464617465 6\nfault malformed none\n",
+        ),
+        // scope with a wrong header
+        (
+            "17 00 00 00 0F 63 00 0F 00 00 00 01 00 00 00 00 05 00 00 00 00 00 00",
+            0,
+            "0f 63 15\nend\n",
+        ),
     ] {
         assert_listing(&rt, rt.alloc(), text, status, output);
     }

@@ -1,4 +1,4 @@
-use Rattle.std.proofs.Common.{◌≡◌, [], ◌∷◌, ◌++◌, Some, Result, Ok, Err, subst, ap, refl, sym, ◌∙◌}
+use Rattle.std.proofs.Common.{[], ◌∷◌, ◌++◌, Some, Result, Ok, Err, subst, ap, refl, sym, ◌∙◌}
 use Rattle.raw_view.specs.Frame.{Done, Stopped}
 use Rattle.raw_view.specs.Items.{StepsElement, frame_of}
 use Rattle.raw_view.specs.declared.element.RawElement.{RawElement}
