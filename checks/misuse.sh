@@ -11,6 +11,7 @@ input=examples/greeting.hex
     printf 'usage: bsonraw list|canon|check\nstatus 3\n'
     cat "$input"
 } > "$work/wanted"
+bin/bsonraw list < "$input" > "$work/output" || exit 1 # built before its standard error is looked at
 failed=0
 
 # refuses NAME ARGS..
