@@ -7,7 +7,9 @@ use Rattle.raw_view.specs.declared.error.ErrorKind.{ErrorKind}
 use Rattle.raw_view.specs.declared.error.ErrorKind.TheVariants as what
 use Rattle.raw_view.specs.Frame.{Frame, IsFrame, IsStop, Fault, Malformed, Utf8, IsWalk, End, Done, Stopped}
 use Rattle.std.specs.Iterator.{Yields, Drains}
-use Rattle.raw_view.specs.Front.{StopsWith}
+use Rattle.std.specs.Option.{option_copied}
+use Rattle.raw_view.specs.declared.error.BorrowedError.{BorrowedError}
+use Rattle.raw_view.specs.Front.{StopsWith, StepsFront}
 use Rattle.raw_view.specs.Errors.{HasKeyCopy, Tells, TellsFault, key_of}
 use Rattle.raw_view.specs.Items.{StepsElement, frame_of, ListsWalk}
 use Rattle.raw_view.specs.Kind.{tag_of}
@@ -26,8 +28,8 @@ front_and_rest s f r b = b.spelled ∙ ap (λ x. tag_of f.kind ∷ x) (sym (appe
 pub rest_from_end : (bs s : List ℕ) (f : Frame) (r : List ℕ) (n : ℕ) → s ≡ drop n bs → IsFrame s f r → drop (length bs - length r) bs ≡ r
 rest_from_end bs s f r n e b = drop_to bs (tag_of f.kind ∷ (f.key ++ 0 ∷ f.payload)) r n (sym e ∙ front_and_rest s f r b)
 
-pub step_element : (old new : Option (List ℕ)) (s : List ℕ) (e : RawElement) (r : List ℕ) → old ≡ Some s → IsFrame s (frame_of e) r → new ≡ Some r → StepsElement old (Some (Ok e)) new
-step_element old new s e r o b n = subst (λ (x : Option (List ℕ)). StepsElement x (Some (Ok e)) new) (sym o) (r, b, n)
+pub step_element : (old new : Option (List ℕ)) (s : List ℕ) (e : RawElement) (r : List ℕ) → old ≡ Some s → IsFrame s (frame_of e) r → new ≡ Some r → StepsFront old (Some (Ok e)) new
+step_element old new s e r o b n = subst (λ (x : Option (List ℕ)). StepsFront x (Some (Ok e)) new) (sym o) (r, b, n)
 
 told : (k : ErrorKind) (key : Option (List ℕ)) (s : List ℕ) (e : Error) → StopsWith k key s → HasKeyCopy k key e → (fault : Fault) × (told : Option (List ℕ)) × IsStop s fault told × TellsFault e fault told
 told (what.MalformedValue reason) None s e says is = (Malformed, None, says, subst (λ (x : ErrorKind). Tells x (key_of e) Malformed None) (sym is.0) (refl, is.1))
@@ -52,10 +54,21 @@ told (what.Utf8EncodingError u) (Some key) s e says is = (
 )
 told what.OutOfMemory key s e says is = absurd says
 
-pub step_stop : (old : Option (List ℕ)) (s : List ℕ) (k : ErrorKind) (key : Option (List ℕ)) (e : Error) → old ≡ Some s → StopsWith k key s → HasKeyCopy k key e → StepsElement old (Some (Err e)) None
-step_stop old s k key e o says is =
-    let t = told k key s e says is in
-    subst (λ (x : Option (List ℕ)). StepsElement x (Some (Err e)) None) (sym o) (t.0, t.1, t.2, t.3, refl)
+-- the end and an element are the same with borrowed and with copied keys
+pub step_none : (old new : Option (List ℕ)) → StepsFront old None new → StepsElement old None new
+step_none None new st = (refl, st.1)
+step_none (Some s) new st = st
+
+pub step_ok : (old new : Option (List ℕ)) (e : RawElement) → StepsFront old (Some (Ok e)) new → StepsElement old (Some (Ok e)) new
+step_ok None new e st = let bad : ◌≡◌ {A = Option (Result RawElement BorrowedError)} (Some (Ok e)) None = st.0 in cc
+step_ok (Some s) new e st = st
+
+-- a stop with a borrowed key is a stop with a copied one
+pub step_stop : (old new : Option (List ℕ)) (b : BorrowedError) (e : Error) → StepsFront old (Some (Err b)) new → HasKeyCopy b.kind (option_copied b.key) e → StepsElement old (Some (Err e)) new
+step_stop None new b e st is = let bad : ◌≡◌ {A = Option (Result RawElement BorrowedError)} (Some (Err b)) None = st.0 in cc
+step_stop (Some s) new b e st is =
+    let t = told b.kind (option_copied b.key) s e st.0 is in
+    (t.0, t.1, t.2, t.3, st.1)
 
 -- nothing comes after a stop
 none_after : (xs : List (Result RawElement Error)) (t : Option (List ℕ)) → Yields StepsElement None xs t → xs ≡ []

@@ -1,5 +1,7 @@
 -- What stands at the front of the bytes that are left, as the core step answers it.
-use Rattle.std.specs.Prelude.{◌≡◌, ℕ, List, [], ◌∷◌, Option}
+use Rattle.std.specs.Prelude.{◌≡◌, ℕ, List, [], ◌∷◌, Option, None, Some, Result, Ok, Err}
+use Rattle.raw_view.specs.declared.element.RawElement.{RawElement}
+use Rattle.raw_view.specs.declared.error.BorrowedError.{BorrowedError}
 use Rattle.std.specs.Option.{option_copied}
 use Rattle.raw_view.specs.declared.front.Front.{Front}
 use Rattle.raw_view.specs.declared.front.Front.TheVariants as front
@@ -17,7 +19,14 @@ StopsWith kind.OutOfMemory key s = ⊥
 abbrev pub IsFront : List ℕ → Front → Type 0
 IsFront s front.Final = s ≡ 0 ∷ []
 IsFront s (front.Element e r) = IsFrame s (frame_of e) r.now
-IsFront s (front.Stop kind key) = StopsWith kind (option_copied key) s
+IsFront s (front.Stop e) = StopsWith e.kind (option_copied e.key) s
+
+-- What a step over the elements gives. The state is what is left to read, and nothing from a stop on.
+abbrev pub StepsFront : Option (List ℕ) → Option (Result RawElement BorrowedError) → Option (List ℕ) → Type 0
+StepsFront None item t = (item ≡ None) × (t ≡ None)
+StepsFront (Some s) None t = (s ≡ 0 ∷ []) × (t ≡ Some s)
+StepsFront (Some s) (Some (Ok e)) t = (r : List ℕ) × IsFrame s (frame_of e) r × (t ≡ Some r)
+StepsFront (Some s) (Some (Err e)) t = StopsWith e.kind (option_copied e.key) s × (t ≡ None)
 
 -- why no payload with this tag stands at the front of z: a text of a regular expression that isn't UTF-8,
 -- or anything else

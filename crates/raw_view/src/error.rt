@@ -102,7 +102,7 @@ pub struct Error {
 }
 
 impl Error {
-    ghost use Rattle.raw_view.specs.Errors.{key_of, HasKeyCopy};
+    ghost use Rattle.raw_view.specs.Errors.{key_of};
 
     /// An error of this kind, without a key.
     pub fn new(kind: ErrorKind) -> Error
@@ -112,22 +112,6 @@ impl Error {
         Error { kind, key: None }
     }
 
-    /// With a copy of the key. Where it finds no memory, the error says that and has no key.
-    pub(crate) fn with_key(alloc: Global, kind: ErrorKind, key: Option<&str>) -> Error
-        ensures { HasKeyCopy kind (option_copied key.entry) result }
-    {
-        let Some(key) = key else {
-            return Error::new(kind);
-        };
-        match String::from_str(alloc, key) {
-            Ok(key) => Error {
-                kind,
-                key: Some(key),
-            },
-            Err(AllocError) => Error::new(ErrorKind::OutOfMemory),
-        }
-    }
-
     /// The key of the element at which the call failed, if the error carries one.
     pub fn key(&self) -> Option<&str>
         ensures { option_copied result ≡ key_of self.now }
@@ -135,6 +119,43 @@ impl Error {
         match &self.key {
             None => None,
             Some(key) => Some(key.as_str()),
+        }
+    }
+}
+
+/// An error that borrows the key: what a step answers that copies nothing.
+#[derive(Drop)]
+pub(crate) struct BorrowedError<'a> {
+    pub(crate) kind: ErrorKind,
+    pub(crate) key: Option<&'a str>,
+}
+
+impl<'a> BorrowedError<'a> {
+    ghost use Rattle.raw_view.specs.Errors.{HasKeyCopy};
+
+    pub(crate) fn malformed(reason: Reason, key: Option<&'a str>) -> BorrowedError<'a>
+        ensures kind { result.kind ≡ ErrorKind.MalformedValue reason }
+        ensures key { result.key ≡ key.entry }
+    {
+        BorrowedError {
+            kind: ErrorKind::MalformedValue { reason },
+            key,
+        }
+    }
+
+    /// The error with a copy of the key. Where the copy finds no memory, it says that and has no key.
+    pub(crate) fn into_error(self, alloc: Global) -> Error
+        ensures { HasKeyCopy self.entry.kind (option_copied self.entry.key) result }
+    {
+        let Some(key) = self.key else {
+            return Error::new(self.kind);
+        };
+        match String::from_str(alloc, key) {
+            Ok(key) => Error {
+                kind: self.kind,
+                key: Some(key),
+            },
+            Err(AllocError) => Error::new(ErrorKind::OutOfMemory),
         }
     }
 }

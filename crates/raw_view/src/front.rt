@@ -1,11 +1,9 @@
-ghost use Rattle.std.specs.Prelude.{◌≡◌, ◌≢◌, ◌≤◌, ◌<◌, ◌-◌, ◌++◌, ◌∷◌, ℕ, List, length, slice_get, Some, IfOk, OnErr};
-ghost use Rattle.raw_view.specs.Frame.{IsStop, Malformed};
+ghost use Rattle.std.specs.Prelude.{◌≡◌, ◌<◌, ◌-◌, length, slice_get, Some};
 ghost use Rattle.raw_view.specs.Front.{IsFront};
-ghost use Rattle.std.specs.Option.{option_copied};
 
 use crate::element::RawElement;
 use crate::element_type::ElementType;
-use crate::error::{ErrorKind, Reason};
+use crate::error::{BorrowedError, Reason};
 use crate::payload::payload_len;
 use crate::text::split_text;
 
@@ -15,14 +13,8 @@ pub(crate) enum Front<'a> {
     Final,
     /// an element, and the bytes behind it
     Element(RawElement<'a>, &'a [u8]),
-    /// no element: a fault, with the key that it carries
-    Stop(ErrorKind, Option<&'a str>),
-}
-
-fn malformed<'a>(reason: Reason, key: Option<&'a str>) -> Front<'a>
-    ensures { (s : List ℕ) → IsStop s Malformed (option_copied key.entry) → IsFront s result }
-{
-    Front::Stop(ErrorKind::MalformedValue { reason }, key)
+    /// no element: the fault
+    Stop(BorrowedError<'a>),
 }
 
 /// What stands at the front of the bytes that are left of a document. Nothing is copied.
@@ -31,20 +23,26 @@ pub(crate) fn front_of<'a>(rest: &'a [u8]) -> Front<'a>
     ensures { IsFront rest.now result }
 {
     let Some((tag, behind)) = rest.split_first() else {
-        return malformed(Reason::Overflowed, None);
+        return Front::Stop(BorrowedError::malformed(Reason::Overflowed, None));
     };
     if behind.is_empty() {
         return Front::Final;
     }
     let (key, behind) = match split_text(behind) {
         Ok(parts) => parts,
-        Err(fault) => return Front::Stop(fault, None),
+        Err(kind) => return Front::Stop(BorrowedError { kind, key: None }),
     };
     let Some(kind) = ElementType::from(*tag) else {
-        return malformed(Reason::InvalidTag(*tag), Some(key));
+        return Front::Stop(BorrowedError::malformed(
+            Reason::InvalidTag(*tag),
+            Some(key),
+        ));
     };
     match payload_len(kind, behind) {
-        Err(fault) => Front::Stop(fault, Some(key)),
+        Err(kind) => Front::Stop(BorrowedError {
+            kind,
+            key: Some(key),
+        }),
         Ok(len) => {
             let (payload, rest) = behind.split_at(len);
             Front::Element(RawElement { key, kind, payload }, rest)

@@ -6,6 +6,7 @@ mod bson_ref;
 mod document;
 mod element;
 mod element_type;
+mod elements;
 mod error;
 mod front;
 mod iter;

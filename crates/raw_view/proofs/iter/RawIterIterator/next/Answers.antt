@@ -1,17 +1,15 @@
-use Rattle.std.proofs.Common.{rules, ◌≡◌, Some, drop, ap, length, ◌-◌}
-use Rattle.raw_view.specs.Items.{frame_of}
-use Rattle.raw_view.proofs.Iteration.{step_element, step_stop, rest_from_end}
+use Rattle.std.proofs.Common.{◌≡◌, subst, Option, List, ℕ, Some, None, Ok, Err}
+use Rattle.raw_view.specs.Items.{StepsElement}
+use Rattle.raw_view.specs.Front.{StepsFront}
+use Rattle.raw_view.proofs.Iteration.{step_none, step_ok, step_stop}
 use Rattle.raw_view.proofs.iter.RawIterIterator.next.Goals as goal
+use Rattle.raw_view.proofs.iter.RawIterIterator.next.Goals.{in-None, in-Some-Ok, in-Some-Err}
 
-pub returns-in-Element-clause-steps : goal.returns-in-Element-clause-steps
-returns-in-Element-clause-steps c =
-    let s = c.split_at.result.1.now in
-    let old : c.args.self.now ≡ Some s = search rules in
-    let back : drop (length c.as_bytes-bytes.result.now - length c.in-Element.rest.now) c.as_bytes-bytes.result.now ≡ c.in-Element.rest.now =
-    rest_from_end _ s (frame_of c.in-Element.element) c.in-Element.rest.now c.self.inside.offset c.split_at.ensures.back c.in-Element.ensures in
-    step_element _ _ s c.in-Element.element c.in-Element.rest.now old c.in-Element.ensures (rw (c.if-self.false, ← c.as_bytes-bytes.ensures.bytes) (ap Some back))
-
-pub returns-in-Stop-clause-steps : goal.returns-in-Stop-clause-steps
-returns-in-Stop-clause-steps c =
-    let old : c.args.self.now ≡ Some c.split_at.result.1.now = search rules in
-    step_stop _ c.split_at.result.1.now c.in-Stop.kind _ c.with_key.result old c.in-Stop.ensures c.with_key.ensures
+pub returns-clause-steps : goal.returns-clause-steps
+returns-clause-steps c =
+    let old = c.self.view_is in
+    elim c.match-next.branch [
+      | in-None w ↦ rw w.result-is (subst (λ (x : Option (List ℕ)). StepsElement x None c.next.new.self) old (step_none _ _ w.in-None.ensures.steps))
+      | in-Some-Ok w ↦ rw w.result-is (subst (λ (x : Option (List ℕ)). StepsElement x (Some (Ok w.in-Some-Ok.element)) c.next.new.self) old (step_ok _ _ _ (rw w.in-Some-Ok.field-0-is at w.in-Some-Ok.ensures.steps)))
+      | in-Some-Err w ↦ rw w.result-is (subst (λ (x : Option (List ℕ)). StepsElement x (Some (Err w.into_error.result)) c.next.new.self) old (step_stop _ _ _ _ (rw w.in-Some-Err.field-0-is at w.in-Some-Err.ensures.steps) w.into_error.ensures))
+    ]
