@@ -3,7 +3,7 @@
 #
 # A misuse is appended to a copy of its crate's root file, which then must not compile, with just the error that the
 # case names. Its twin, the same code without the misuse, must compile: so the misuse fails for the reason it is meant
-# to. The copy has the tracked files and what `rt` built so far; nothing is proved in it but what is not built yet.
+# to. The copy has the tracked files and the libraries that were built so far; only another library is proved there.
 set -u
 list=$(realpath "$1")
 cd "$(dirname "$(realpath "$0")")/.." || exit 1
@@ -13,10 +13,9 @@ trap 'rm -rf "$work"' EXIT
 copy_repository() {
     mkdir "$work/copy" || return 1
     git ls-files -z | xargs -0 cp --parents -t "$work/copy" || return 1
-    for out in crates/*/out; do
-        [ -d "$out" ] && cp -r "$out" "$work/copy/$out"
+    for library in crates/*/out/rlib; do
+        [ ! -d "$library" ] || cp -r --parents "$library" "$work/copy" || return 1
     done
-    return 0
 }
 
 # compile CRATE SNIPPET: leaves what rt said in $work/said, and its status
