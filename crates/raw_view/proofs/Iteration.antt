@@ -9,7 +9,9 @@ use Rattle.raw_view.specs.Frame.{Frame, IsFrame, IsStop, Fault, Malformed, Utf8,
 use Rattle.std.specs.Iterator.{Yields, Drains}
 use Rattle.std.specs.Option.{option_copied}
 use Rattle.raw_view.specs.declared.error.BorrowedError.{BorrowedError}
-use Rattle.raw_view.specs.Front.{StopsWith, StepsFront}
+use Rattle.raw_view.specs.Meaning.{KeyedFault}
+use Rattle.raw_view.specs.Answers.{Says}
+use Rattle.raw_view.specs.Front.{StopsWith, StepsFront, SaysFault, TellsBorrowed}
 use Rattle.raw_view.specs.Errors.{HasKeyCopy, Tells, TellsFault, key_of}
 use Rattle.raw_view.specs.Items.{StepsElement, frame_of, ListsWalk}
 use Rattle.raw_view.specs.Kind.{tag_of}
@@ -31,27 +33,28 @@ rest_from_end bs s f r n e b = drop_to bs (tag_of f.kind ∷ (f.key ++ 0 ∷ f.p
 pub step_element : (old new : Option (List ℕ)) (s : List ℕ) (e : RawElement) (r : List ℕ) → old ≡ Some s → IsFrame s (frame_of e) r → new ≡ Some r → StepsFront old (Some (Ok e)) new
 step_element old new s e r o b n = subst (λ (x : Option (List ℕ)). StepsFront x (Some (Ok e)) new) (sym o) (r, b, n)
 
+-- an error with a copy of its key says the fault
+pub told_kind : (k : ErrorKind) (key : Option (List ℕ)) (fault : Fault) (e : Error) → SaysFault k fault → HasKeyCopy k key e → TellsFault e fault key
+told_kind (what.MalformedValue r) None fault e h is = subst (λ (x : ErrorKind). Tells x (key_of e) fault None) (sym is.0) (h, is.1)
+told_kind (what.MalformedValue r) (Some key) fault e h is =
+    elim is as (λ _. TellsFault e fault (Some key)) [
+      | inl a ↦ subst (λ (x : ErrorKind). Tells x (key_of e) fault (Some key)) (sym a.0) (h, a.1)
+      | inr a ↦ subst (λ (x : ErrorKind). Tells x (key_of e) fault (Some key)) (sym a.0) a.1
+    ]
+told_kind (what.Utf8EncodingError u) None fault e h is = subst (λ (x : ErrorKind). Tells x (key_of e) fault None) (sym is.0) (h, is.1)
+told_kind (what.Utf8EncodingError u) (Some key) fault e h is =
+    elim is as (λ _. TellsFault e fault (Some key)) [
+      | inl a ↦ subst (λ (x : ErrorKind). Tells x (key_of e) fault (Some key)) (sym a.0) (h, a.1)
+      | inr a ↦ subst (λ (x : ErrorKind). Tells x (key_of e) fault (Some key)) (sym a.0) a.1
+    ]
+told_kind what.OutOfMemory key fault e h is = absurd h
+
+pub told_fault : (b : BorrowedError) (fault : KeyedFault) (e : Error) → TellsBorrowed b fault → HasKeyCopy b.kind (option_copied b.key) e → Says e fault
+told_fault b fault e h is = told_kind b.kind fault.key fault.fault e h.says (subst (λ (x : Option (List ℕ)). HasKeyCopy b.kind x e) h.key_is is)
+
 told : (k : ErrorKind) (key : Option (List ℕ)) (s : List ℕ) (e : Error) → StopsWith k key s → HasKeyCopy k key e → (fault : Fault) × (told : Option (List ℕ)) × IsStop s fault told × TellsFault e fault told
-told (what.MalformedValue reason) None s e says is = (Malformed, None, says, subst (λ (x : ErrorKind). Tells x (key_of e) Malformed None) (sym is.0) (refl, is.1))
-told (what.MalformedValue reason) (Some key) s e says is = (
-  Malformed,
-  Some key,
-  says,
-  elim is as (λ _. TellsFault e Malformed (Some key)) [
-    | inl h ↦ subst (λ (x : ErrorKind). Tells x (key_of e) Malformed (Some key)) (sym h.0) (refl, h.1)
-    | inr h ↦ subst (λ (x : ErrorKind). Tells x (key_of e) Malformed (Some key)) (sym h.0) h.1
-  ],
-)
-told (what.Utf8EncodingError u) None s e says is = (Utf8, None, says, subst (λ (x : ErrorKind). Tells x (key_of e) Utf8 None) (sym is.0) (refl, is.1))
-told (what.Utf8EncodingError u) (Some key) s e says is = (
-  Utf8,
-  Some key,
-  says,
-  elim is as (λ _. TellsFault e Utf8 (Some key)) [
-    | inl h ↦ subst (λ (x : ErrorKind). Tells x (key_of e) Utf8 (Some key)) (sym h.0) (refl, h.1)
-    | inr h ↦ subst (λ (x : ErrorKind). Tells x (key_of e) Utf8 (Some key)) (sym h.0) h.1
-  ],
-)
+told (what.MalformedValue r) key s e says is = (Malformed, key, says, told_kind (what.MalformedValue r) key Malformed e refl is)
+told (what.Utf8EncodingError u) key s e says is = (Utf8, key, says, told_kind (what.Utf8EncodingError u) key Utf8 e refl is)
 told what.OutOfMemory key s e says is = absurd says
 
 -- the end and an element are the same with borrowed and with copied keys

@@ -1,7 +1,11 @@
 pub mod Numbers
 pub mod Payloads
 pub mod Texts
+pub mod Shapes
 pub mod Cuts
 pub mod Frames
 pub mod Iteration
+pub mod ItemSteps
+pub mod LookUps
+pub mod Places
 pub mod CallerLemmas

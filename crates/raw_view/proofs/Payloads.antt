@@ -20,7 +20,7 @@ IsBytes-take (suc n) (b ∷ bs) h (suc i) = IsBytes-take n bs (λ j. h (suc j)) 
 
 -- strings
 
-string_found : (bs : List ℕ) (n : ℕ) → IsLe32 (take 4 bs) (pos (n + 1)) → n + 5 ≤ length bs → get_or bs (n + 4) 0 ≡ 0 → HasText (take (n + 5) bs)
+pub string_found : (bs : List ℕ) (n : ℕ) → IsLe32 (take 4 bs) (pos (n + 1)) → n + 5 ≤ length bs → get_or bs (n + 4) 0 ≡ 0 → HasText (take (n + 5) bs)
 string_found bs n h l z =
     let size : n + 5 ≡ n + 4 + 1 = omega arith in
     let four : n + 4 ≡ 4 + n = omega arith in
@@ -127,7 +127,7 @@ same_cut p q r t n a b e = (
   sym (drop_at p r n a) ∙ ap (drop n) e ∙ drop_at q t n b,
 )
 
-string_length : (p text : List ℕ) → IsString p text → length p ≡ length text + 5
+pub string_length : (p text : List ℕ) → IsString p text → length p ≡ length text + 5
 string_length p text s =
     let e = ap length s.spelled in
     omega (arith, e, IsLe32-length s.head _ s.length_is, length-append (s.head ++ text) (0 ∷ []), length-append s.head text)

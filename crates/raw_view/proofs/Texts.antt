@@ -34,7 +34,7 @@ pattern_fault_no_regex bs (what.Utf8EncodingError error) h p r e x = good_text b
 pattern_fault_no_regex bs what.OutOfMemory h p r e x = h
 
 -- the options' part of a regular expression at the front
-options_of : (bs text behind p r : List ℕ) → bs ≡ text ++ 0 ∷ behind → HasNoNul text → bs ≡ p ++ r → (x : (pattern options : List ℕ) × IsRegex p pattern options) → behind ≡ x.1 ++ 0 ∷ r
+pub options_of : (bs text behind p r : List ℕ) → bs ≡ text ++ 0 ∷ behind → HasNoNul text → bs ≡ p ++ r → (x : (pattern options : List ℕ) × IsRegex p pattern options) → behind ≡ x.1 ++ 0 ∷ r
 options_of bs text behind p r spelled nul_free e x = (cut text x.0 behind (x.1 ++ 0 ∷ r) nul_free x.2.pattern_nul_free (sym spelled ∙ regex_front bs p r x.0 x.1 e x.2)).1
 
 pub options_fault_no_regex : (bs text behind : List ℕ) (fault : ErrorKind) → bs ≡ text ++ 0 ∷ behind → HasNoNul text → IsTextFault behind fault → (p r : List ℕ) → bs ≡ p ++ r → (pattern options : List ℕ) × IsRegex p pattern options → ⊥

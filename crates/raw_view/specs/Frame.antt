@@ -75,6 +75,10 @@ HasShape kind.Decimal128 p r = length p ≡ 16
 HasShape kind.MaxKey p r = length p ≡ 0
 HasShape kind.MinKey p r = length p ≡ 0
 
+-- p is a payload of this kind, whatever stands behind it
+abbrev pub HasPayload : ElementType → List ℕ → Type 0
+HasPayload kind p = (r : List ℕ) × HasShape kind p r
+
 -- an element's kind, its key and its payload
 pub record Frame : Type 0 where
   pub kind : ElementType

@@ -7,8 +7,9 @@ use Rattle.raw_view.specs.declared.front.Front.{Front}
 use Rattle.raw_view.specs.declared.front.Front.TheVariants as front
 use Rattle.raw_view.specs.declared.error.ErrorKind.{ErrorKind}
 use Rattle.raw_view.specs.declared.error.ErrorKind.TheVariants as kind
-use Rattle.raw_view.specs.Frame.{IsFrame, Malformed, Utf8, IsStop, HasNoNul, BeginsWithBadText, HasBadText}
+use Rattle.raw_view.specs.Frame.{IsFrame, Fault, Malformed, Utf8, IsStop, HasNoNul, BeginsWithBadText, HasBadText}
 use Rattle.raw_view.specs.Items.{frame_of}
+use Rattle.raw_view.specs.Meaning.{KeyedFault}
 
 -- s stops with a fault of this kind
 abbrev pub StopsWith : ErrorKind → Option (List ℕ) → List ℕ → Type 0
@@ -40,3 +41,14 @@ abbrev pub IsTextFault : List ℕ → ErrorKind → Type 0
 IsTextFault z (kind.MalformedValue _) = HasNoNul z
 IsTextFault z (kind.Utf8EncodingError _) = BeginsWithBadText z
 IsTextFault z kind.OutOfMemory = ⊥
+
+-- the fault that an error of this kind says
+abbrev pub SaysFault : ErrorKind → Fault → Type 0
+SaysFault (kind.MalformedValue _) fault = fault ≡ Malformed
+SaysFault (kind.Utf8EncodingError _) fault = fault ≡ Utf8
+SaysFault kind.OutOfMemory fault = ⊥
+
+-- the error says the fault with its key
+pub record TellsBorrowed (e : BorrowedError) (fault : KeyedFault) : Type 0 where
+  pub says : SaysFault e.kind fault.fault
+  pub key_is : option_copied e.key ≡ fault.key

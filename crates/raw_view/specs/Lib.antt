@@ -7,5 +7,8 @@ pub mod Errors
 pub mod Document
 pub mod Value
 pub mod Accessors
+pub mod Item
+pub mod LookUp
+pub mod Answers
 pub mod Items
 pub mod Front

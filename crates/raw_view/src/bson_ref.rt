@@ -4,9 +4,7 @@ use crate::array::RawArray;
 use crate::document::RawDocument;
 use crate::element_type::ElementType;
 use crate::error::{Error, ErrorKind, Result};
-use bson_model::{
-    Binary, BinarySubtype, DateTime, Decimal128, DoubleBits, ObjectId, Timestamp,
-};
+use bson_model::{Binary, BinarySubtype, DateTime, Decimal128, DoubleBits, ObjectId, Timestamp};
 use std::alloc::Global;
 
 /// A value that borrows its parts from a document's bytes. BSON 1.1, `element`.

@@ -2,8 +2,9 @@ ghost use Rattle.std.specs.Prelude.{◌≡◌, ◌↔◌, IsOk, IfOk, IfErr, IsT
 ghost use Rattle.raw_view.specs.Envelope.{IsEnvelope};
 ghost use Rattle.raw_view.specs.Errors.{IsMalformed, TellsRefusal, key_of};
 
+use crate::bson_ref::RawBsonRef;
 use crate::error::{Error, ErrorKind, Reason, Result};
-use crate::iter::RawIter;
+use crate::iter::{Iter, RawIter};
 use std::alloc::Global;
 
 /// The bytes of one document with a sound envelope: at least five bytes, the first four are the length of
@@ -22,7 +23,13 @@ fn refusal(reason: Reason) -> Error
 }
 
 impl<'a> RawDocument<'a> {
-    ghost use Rattle.std.specs.Prelude.{List, Result};
+    ghost use Rattle.std.specs.Prelude.{ℕ, List, Option, Result};
+    ghost use denote.Ref.{Bor};
+    ghost use Rattle.raw_view.specs.Answers.{StepsItem, TellsItems, TellsFound};
+    ghost use Rattle.raw_view.specs.Item.{Item, AreItems};
+    ghost use Rattle.raw_view.specs.LookUp.{LooksUp};
+    ghost use Rattle.raw_view.specs.Meaning.{Meaning};
+    ghost use Rattle.raw_view.specs.declared.bson_ref.RawBsonRef.{RawBsonRef};
     ghost use Rattle.std.specs.Iterator.{Drains};
     ghost use Rattle.raw_view.specs.Document.{bytes_of};
     ghost use Rattle.raw_view.specs.Items.{StepsElement, ListsWalk};
@@ -50,6 +57,14 @@ impl<'a> RawDocument<'a> {
         Ok(RawDocument { bytes })
     }
 
+    /// The document of bytes that were framed as one.
+    pub(crate) fn framed(bytes: &'a [u8]) -> RawDocument<'a>
+        requires { IsEnvelope bytes.now }
+        ensures { bytes_of result ≡ bytes.now }
+    {
+        RawDocument { bytes }
+    }
+
     /// All bytes of the document, its header and its final 0 included.
     pub fn as_bytes(self) -> &'a [u8]
         ensures bytes { result.now ≡ bytes_of self.entry }
@@ -73,5 +88,33 @@ impl<'a> RawDocument<'a> {
         ensures walk { (items : List (Result RawElement Error)) → Drains StepsElement result items → (frames : List Frame) × (end : End) × IsWalk (drop 4 (bytes_of self.entry)) frames end × ListsWalk items frames end }
     {
         RawIter::new(alloc, self)
+    }
+
+    /// The keys and values in order, each fault in its value's place, and then the fault at which the
+    /// elements stop, if there is one. Nothing is copied but the key that a fault carries. On n bytes at
+    /// most (n - 4) / 2 + 1 items.
+    pub fn iter(self, alloc: Global) -> Iter<'a>
+        ensures begins { result ≡ Some (drop 4 (bytes_of self.entry)) }
+        ensures items { (outs : List (Result (Bor (List ℕ) × RawBsonRef) Error)) → Drains StepsItem result outs → (items : List Item) × AreItems (bytes_of self.entry) items × TellsItems outs items }
+    {
+        Iter::new(alloc, self)
+    }
+
+    /// What the first element with this key means: its value, or its fault. Where no element has the key,
+    /// the fault at which the elements stop, if there is one, else `None`. No value of another key is looked
+    /// into, and nothing behind the element that is found.
+    pub fn get(self, alloc: Global, key: &str) -> Result<Option<RawBsonRef<'a>>>
+        ensures { (found : Option Meaning) × LooksUp (bytes_of self.entry) key.now found × TellsFound result found }
+    {
+        for element in self.iter_elements(alloc) {
+            let element = element?;
+            if element.has_key(key) {
+                return match element.value(alloc) {
+                    Ok(value) => Ok(Some(value)),
+                    Err(error) => Err(error),
+                };
+            }
+        }
+        Ok(None)
     }
 }

@@ -41,6 +41,16 @@ pub enum Reason {
     LengthHeadShort(usize),
     /// A pattern or options have no 0 that ends them.
     NoTerminator,
+    /// A boolean is this byte, neither 0 nor 1.
+    BadBoolean(u8),
+    /// An old binary has under four bytes, so no inner length.
+    OldNoInner,
+    /// An old binary's inner length is from -4 to -1.
+    AddOverflow,
+    /// An old binary's inner length doesn't fit its outer one.
+    OldWrongInner,
+    /// A code with scope has under 14 bytes.
+    CodeTooSmall,
 }
 
 impl fmt::Display for Reason {
@@ -75,6 +85,15 @@ impl fmt::Display for Reason {
                 write!(f, "expected 4 bytes to read i32, instead got {left}")
             }
             Reason::NoTerminator => write!(f, "expected null terminator"),
+            Reason::BadBoolean(byte) => {
+                write!(f, "boolean must be stored as 0 or 1, got {byte}")
+            }
+            Reason::OldNoInner => { write!(f, "old binary subtype has no inner declared length") }
+            Reason::AddOverflow => write!(f, "attempted to add with overflow"),
+            Reason::OldWrongInner => {
+                write!(f, "old binary subtype has wrong inner declared length")
+            }
+            Reason::CodeTooSmall => write!(f, "code with scope length too small"),
         }
     }
 }
@@ -112,6 +131,12 @@ impl Error {
         Error { kind, key: None }
     }
 
+    pub(crate) fn into_kind(self) -> ErrorKind
+        ensures { result ≡ self.kind }
+    {
+        self.kind
+    }
+
     /// The key of the element at which the call failed, if the error carries one.
     pub fn key(&self) -> Option<&str>
         ensures { option_copied result ≡ key_of self.now }
@@ -132,14 +157,30 @@ pub(crate) struct BorrowedError<'a> {
 
 impl<'a> BorrowedError<'a> {
     ghost use Rattle.raw_view.specs.Errors.{HasKeyCopy};
+    ghost use Rattle.raw_view.specs.Front.{TellsBorrowed};
+    ghost use Rattle.raw_view.specs.Meaning.{malformed, malformed_at};
 
-    pub(crate) fn malformed(reason: Reason, key: Option<&'a str>) -> BorrowedError<'a>
+    /// Malformed, without a key.
+    pub(crate) fn malformed(reason: Reason) -> BorrowedError<'a>
         ensures kind { result.kind ≡ ErrorKind.MalformedValue reason }
-        ensures key { result.key ≡ key.entry }
+        ensures key { result.key ≡ None }
+        ensures tells { TellsBorrowed result malformed }
     {
         BorrowedError {
             kind: ErrorKind::MalformedValue { reason },
-            key,
+            key: None,
+        }
+    }
+
+    /// Malformed, at this key.
+    pub(crate) fn malformed_at(reason: Reason, key: &'a str) -> BorrowedError<'a>
+        ensures kind { result.kind ≡ ErrorKind.MalformedValue reason }
+        ensures key { option_copied result.key ≡ Some key.now }
+        ensures tells { TellsBorrowed result (malformed_at key.now) }
+    {
+        BorrowedError {
+            kind: ErrorKind::MalformedValue { reason },
+            key: Some(key),
         }
     }
 

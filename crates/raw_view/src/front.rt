@@ -23,7 +23,7 @@ pub(crate) fn front_of<'a>(rest: &'a [u8]) -> Front<'a>
     ensures { IsFront rest.now result }
 {
     let Some((tag, behind)) = rest.split_first() else {
-        return Front::Stop(BorrowedError::malformed(Reason::Overflowed, None));
+        return Front::Stop(BorrowedError::malformed(Reason::Overflowed));
     };
     if behind.is_empty() {
         return Front::Final;
@@ -33,10 +33,7 @@ pub(crate) fn front_of<'a>(rest: &'a [u8]) -> Front<'a>
         Err(kind) => return Front::Stop(BorrowedError { kind, key: None }),
     };
     let Some(kind) = ElementType::from(*tag) else {
-        return Front::Stop(BorrowedError::malformed(
-            Reason::InvalidTag(*tag),
-            Some(key),
-        ));
+        return Front::Stop(BorrowedError::malformed_at(Reason::InvalidTag(*tag), key));
     };
     match payload_len(kind, behind) {
         Err(kind) => Front::Stop(BorrowedError {

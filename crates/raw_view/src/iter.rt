@@ -1,9 +1,11 @@
 ghost use Rattle.std.specs.Prelude.{◌≡◌, Some, drop};
 
+use crate::bson_ref::RawBsonRef;
 use crate::document::RawDocument;
 use crate::element::RawElement;
 use crate::elements::Elements;
 use crate::error::Result;
+use crate::value::keyed_value;
 use std::alloc::Global;
 use std::marker::Model;
 
@@ -50,6 +52,103 @@ impl<'a> Iterator for RawIter<'a> {
             None => None,
             Some(Ok(element)) => Some(Ok(element)),
             Some(Err(error)) => Some(Err(error.into_error(self.alloc))),
+        }
+    }
+}
+
+/// The keys and values of a document, in order; a value's fault in its place, and at the end the fault at
+/// which the elements stop, if there is one. A clause sees the bytes that are left to read, and `None` from
+/// a stop on.
+#[derive(Drop)]
+pub struct Iter<'a> {
+    elements: RawIter<'a>,
+    alloc: Global,
+}
+
+impl<'a> Model for Iter<'a> {
+    ghost use Rattle.std.specs.Prelude.{ℕ, List, Option};
+
+    ghost Value = { Option (List ℕ) };
+
+    ghost view = { λ a. a.elements };
+}
+
+impl<'a> Iter<'a> {
+    ghost use Rattle.raw_view.specs.Document.{bytes_of};
+
+    pub(crate) fn new(alloc: Global, document: RawDocument<'a>) -> Iter<'a>
+        ensures { result ≡ Some (drop 4 (bytes_of document.entry)) }
+    {
+        Iter {
+            elements: RawIter::new(alloc, document),
+            alloc,
+        }
+    }
+}
+
+impl<'a> Iterator for Iter<'a> {
+    ghost use Rattle.raw_view.specs.Answers.{StepsItem};
+    ghost use Rattle.raw_view.specs.Items.{items_left};
+
+    type Item = Result<(&'a str, RawBsonRef<'a>)>;
+
+    ghost next_gives = { StepsItem };
+
+    ghost remaining = { items_left };
+
+    fn next(&mut self) -> Option<Result<(&'a str, RawBsonRef<'a>)>> {
+        match self.elements.next() {
+            None => None,
+            Some(Ok(element)) => Some(keyed_value(element, self.alloc)),
+            Some(Err(error)) => Some(Err(error)),
+        }
+    }
+}
+
+/// The values of an array, in order; a value's fault in its place, and at the end the fault at which the
+/// elements stop, if there is one. A clause sees the bytes that are left to read, and `None` from a stop on.
+#[derive(Drop)]
+pub struct RawArrayIter<'a> {
+    elements: RawIter<'a>,
+    alloc: Global,
+}
+
+impl<'a> Model for RawArrayIter<'a> {
+    ghost use Rattle.std.specs.Prelude.{ℕ, List, Option};
+
+    ghost Value = { Option (List ℕ) };
+
+    ghost view = { λ a. a.elements };
+}
+
+impl<'a> RawArrayIter<'a> {
+    ghost use Rattle.raw_view.specs.Document.{bytes_of};
+
+    pub(crate) fn new(alloc: Global, document: RawDocument<'a>) -> RawArrayIter<'a>
+        ensures { result ≡ Some (drop 4 (bytes_of document.entry)) }
+    {
+        RawArrayIter {
+            elements: RawIter::new(alloc, document),
+            alloc,
+        }
+    }
+}
+
+impl<'a> Iterator for RawArrayIter<'a> {
+    ghost use Rattle.raw_view.specs.Answers.{StepsValue};
+    ghost use Rattle.raw_view.specs.Items.{items_left};
+
+    type Item = Result<RawBsonRef<'a>>;
+
+    ghost next_gives = { StepsValue };
+
+    ghost remaining = { items_left };
+
+    fn next(&mut self) -> Option<Result<RawBsonRef<'a>>> {
+        match self.elements.next() {
+            None => None,
+            Some(Ok(element)) => Some(element.value(self.alloc)),
+            Some(Err(error)) => Some(Err(error)),
         }
     }
 }

@@ -13,6 +13,7 @@ mod iter;
 mod number;
 mod payload;
 mod text;
+mod value;
 
 pub use array::RawArray;
 pub use bson_ref::{
@@ -22,4 +23,4 @@ pub use document::RawDocument;
 pub use element::RawElement;
 pub use element_type::ElementType;
 pub use error::{Error, ErrorKind, Reason, Result};
-pub use iter::RawIter;
+pub use iter::{Iter, RawArrayIter, RawIter};

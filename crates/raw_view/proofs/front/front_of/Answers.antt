@@ -13,7 +13,7 @@ pub returns-in_default-from : goal.returns-in_default-from
 returns-in_default-from c =
     let text = c.in-Ok.ensures.found in
     let spelled : c.args.rest.now ≡ c.in-Some.tag.now ∷ (c.in-Ok.parts.0.now ++ 0 ∷ c.in-Ok.parts.1.now) = search (rules, common_steps) in
-    rw (c.malformed-in_default-from.ensures.kind, c.malformed-in_default-from.ensures.key) (tag_stop _ _ _ _ spelled text.1 text.2 c.in_default-from.ensures.cases)
+    rw (c.malformed_at.ensures.kind, c.malformed_at.ensures.key) (tag_stop _ _ _ _ spelled text.1 text.2 c.in_default-from.ensures.cases)
 
 pub returns-in-Err-payload_len : goal.returns-in-Err-payload_len
 returns-in-Err-payload_len c =

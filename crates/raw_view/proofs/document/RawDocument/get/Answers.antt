@@ -1,0 +1,47 @@
+use Rattle.std.proofs.Common.{◌≡◌, ◌≢◌, ◌++◌, ◌∷◌, [], Some, None, Result, Ok, Err, refl, subst, sym, ap, ◌∙◌}
+use Rattle.std.proofs.lemmas.Result.{err_from_is_err_and}
+use Rattle.raw_view.specs.declared.element.RawElement.{RawElement}
+use Rattle.raw_view.specs.declared.error.Error.{Error}
+use Rattle.raw_view.specs.Items.{StepsElement, frame_of}
+use Rattle.raw_view.proofs.CallerLemmas.{HasRead-more}
+use Rattle.raw_view.proofs.LookUps.{HasNoKey-more, found_frame, found_stop, found_none, found_value, found_fault}
+use Rattle.raw_view.proofs.document.RawDocument.get.Goals as goal
+
+pub returns-in_err-element : goal.returns-in_err-element
+returns-in_err-element c =
+    let p = err_from_is_err_and c.from_residual.result c.from_residual.ensures.1 in
+    let inv = c.loop-element.invariant in
+    let step : StepsElement c.loop-element.element-iterator (Some (Err p.0)) c.next.new.self = subst (λ (x : Result RawElement Error). StepsElement c.loop-element.element-iterator (Some x) c.next.new.self) (c.in_err-element.was ∙ ap Err (sym p.2)) c.in-Some.ensures.steps in
+    let t = found_stop _ c.args.key.now inv.0 c.loop-element.element-iterator c.next.new.self p.0 inv.1 inv.2 step in
+    rw p.1 (t.0, t.1, t.2)
+
+pub returns-in-Ok : goal.returns-in-Ok
+returns-in-Ok c =
+    let inv = c.loop-element.invariant in
+    let e = c.in_ok-element.element in
+    let step : StepsElement c.loop-element.element-iterator (Some (Ok e)) c.next.new.self = subst (λ (x : Result RawElement Error). StepsElement c.loop-element.element-iterator (Some x) c.next.new.self) c.in_ok-element.was c.in-Some.ensures.steps in
+    let same : (frame_of e).key ≡ c.args.key.now = c.has_key.ensures.0 c.if-has_key.true in
+    let m = c.in-Ok.ensures in
+    (Some m.0, found_frame _ c.args.key.now inv.0 c.loop-element.element-iterator c.next.new.self e inv.1 inv.2 step same m.0 m.1, found_value c.in-Ok.value m.0 m.2)
+
+pub returns-in-Err : goal.returns-in-Err
+returns-in-Err c =
+    let inv = c.loop-element.invariant in
+    let e = c.in_ok-element.element in
+    let step : StepsElement c.loop-element.element-iterator (Some (Ok e)) c.next.new.self = subst (λ (x : Result RawElement Error). StepsElement c.loop-element.element-iterator (Some x) c.next.new.self) c.in_ok-element.was c.in-Some.ensures.steps in
+    let same : (frame_of e).key ≡ c.args.key.now = c.has_key.ensures.0 c.if-has_key.true in
+    let m = c.in-Err.ensures in
+    (Some m.0, found_frame _ c.args.key.now inv.0 c.loop-element.element-iterator c.next.new.self e inv.1 inv.2 step same m.0 m.1, found_fault c.in-Err.error m.0 m.2)
+
+pub loop-element-preserved : goal.loop-element-preserved
+loop-element-preserved c =
+    let inv = c.loop-element.invariant in
+    let e = c.in_ok-element.element in
+    let step : StepsElement c.loop-element.element-iterator (Some (Ok e)) c.next.new.self = subst (λ (x : Result RawElement Error). StepsElement c.loop-element.element-iterator (Some x) c.next.new.self) c.in_ok-element.was c.in-Some.ensures.steps in
+    let other : (frame_of e).key ≢ c.args.key.now = λ k. let yes = c.has_key.ensures.1 k in let no = c.if-has_key.false in cc in
+    (inv.0 ++ frame_of e ∷ [], HasRead-more _ inv.0 c.loop-element.element-iterator c.next.new.self e inv.1 step, HasNoKey-more _ inv.0 (frame_of e) inv.2 other)
+
+pub returns : goal.returns
+returns c =
+    let inv = c.loop-element.invariant in
+    (None, found_none _ c.args.key.now inv.0 c.loop-element.element-iterator c.next.new.self inv.1 inv.2 c.in-None.ensures.steps, refl)

@@ -1,0 +1,74 @@
+-- What calls answer, against what the definitions say.
+use Rattle.std.specs.Prelude.{◌≡◌, ◌⊎◌, ℕ, List, [], ◌∷◌, Option, None, Some, Result, Ok, Err}
+use denote.Ref.{Bor}
+use Rattle.raw_view.specs.declared.bson_ref.RawBsonRef.{RawBsonRef}
+use Rattle.raw_view.specs.declared.error.Error.{Error}
+use Rattle.raw_view.specs.Frame.{Frame, IsFrame, IsStop}
+use Rattle.raw_view.specs.Errors.{TellsFault}
+use Rattle.raw_view.specs.Meaning.{KeyedFault, Meaning, value, faulty, Means}
+use Rattle.raw_view.specs.Item.{Item, entry, failed, item_of}
+use Rattle.raw_view.specs.Value.{value_of}
+
+-- the error says the fault with its key; for a fault that has a key, it may say that memory ran out
+abbrev pub Says : Error → KeyedFault → Type 0
+Says e fault = TellsFault e fault.fault fault.key
+
+-- the value that is meant, or the fault
+abbrev pub TellsMeaning : Result RawBsonRef Error → Meaning → Type 0
+TellsMeaning (Ok v) (value w) = value_of v ≡ w
+TellsMeaning (Ok v) (faulty fault) = ⊥
+TellsMeaning (Err e) (value w) = ⊥
+TellsMeaning (Err e) (faulty fault) = Says e fault
+
+-- what a look-up finds: a value, a fault, or nothing
+abbrev pub TellsFound : Result (Option RawBsonRef) Error → Option Meaning → Type 0
+TellsFound (Ok None) found = found ≡ None
+TellsFound (Ok (Some v)) found = found ≡ Some (value (value_of v))
+TellsFound (Err e) None = ⊥
+TellsFound (Err e) (Some (value w)) = ⊥
+TellsFound (Err e) (Some (faulty fault)) = Says e fault
+
+-- a key and its value, or the fault
+abbrev pub TellsItem : Result (Bor (List ℕ) × RawBsonRef) Error → Item → Type 0
+TellsItem (Ok p) (entry key v) = (p.0.now ≡ key) × (value_of p.1 ≡ v)
+TellsItem (Ok p) (failed fault) = ⊥
+TellsItem (Err e) (entry key v) = ⊥
+TellsItem (Err e) (failed fault) = Says e fault
+
+-- the same of each
+abbrev pub TellsItems : List (Result (Bor (List ℕ) × RawBsonRef) Error) → List Item → Type 0
+TellsItems [] [] = Unit {0}
+TellsItems [] (item ∷ items) = ⊥
+TellsItems (out ∷ outs) [] = ⊥
+TellsItems (out ∷ outs) (item ∷ items) = TellsItem out item × TellsItems outs items
+
+-- What a call of next on the items gives. The state is what is left to read, and nothing from a stop on;
+-- a value fault leaves what stands behind its frame.
+abbrev pub StepsItem : Option (List ℕ) → Option (Result (Bor (List ℕ) × RawBsonRef) Error) → Option (List ℕ) → Type 0
+StepsItem None out t = (out ≡ None) × (t ≡ None)
+StepsItem (Some s) None t = (s ≡ 0 ∷ []) × (t ≡ Some s)
+StepsItem (Some s) (Some out) t =
+    ((f : Frame) × (r : List ℕ) × (m : Meaning) × IsFrame s f r × Means f m × TellsItem out (item_of f.key m) × (t ≡ Some r))
+    ⊎ ((fault : KeyedFault) × IsStop s fault.fault fault.key × TellsItem out (failed fault) × (t ≡ None))
+
+-- a value, or the fault; the key of the frame is left away
+abbrev pub TellsValue : Result RawBsonRef Error → Item → Type 0
+TellsValue (Ok x) (entry key v) = value_of x ≡ v
+TellsValue (Ok x) (failed fault) = ⊥
+TellsValue (Err e) (entry key v) = ⊥
+TellsValue (Err e) (failed fault) = Says e fault
+
+-- the same of each
+abbrev pub TellsValues : List (Result RawBsonRef Error) → List Item → Type 0
+TellsValues [] [] = Unit {0}
+TellsValues [] (item ∷ items) = ⊥
+TellsValues (out ∷ outs) [] = ⊥
+TellsValues (out ∷ outs) (item ∷ items) = TellsValue out item × TellsValues outs items
+
+-- What a call of next on the values of an array gives; the state is as for the items.
+abbrev pub StepsValue : Option (List ℕ) → Option (Result RawBsonRef Error) → Option (List ℕ) → Type 0
+StepsValue None out t = (out ≡ None) × (t ≡ None)
+StepsValue (Some s) None t = (s ≡ 0 ∷ []) × (t ≡ Some s)
+StepsValue (Some s) (Some out) t =
+    ((f : Frame) × (r : List ℕ) × (m : Meaning) × IsFrame s f r × Means f m × TellsValue out (item_of f.key m) × (t ≡ Some r))
+    ⊎ ((fault : KeyedFault) × IsStop s fault.fault fault.key × TellsValue out (failed fault) × (t ≡ None))
