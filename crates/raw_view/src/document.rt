@@ -6,14 +6,16 @@ use crate::access::{Typed, ValueAccessResult, typed_at_key};
 use crate::array::RawArray;
 use crate::bson_ref::{RawBinaryRef, RawBsonRef, RawRegexRef};
 use crate::error::{Error, ErrorKind, Reason, Result};
+use crate::hex_digits::HexDigits;
 use crate::iter::{Iter, RawIter};
 use bson_model::{DateTime, DoubleBits, ObjectId, Timestamp};
 use std::alloc::Global;
+use std::fmt;
 
 /// The bytes of one document with a sound envelope: at least five bytes, the first four are the length of
 /// the whole, the last is 0. What stands inside is looked at only where a call needs it.
 /// BSON 1.1, `document`.
-#[derive(Clone, Copy, Debug, PartialEq, Eq)]
+#[derive(Clone, Copy, PartialEq, Eq)]
 pub struct RawDocument<'a> {
     bytes: &'a [u8],
     ghost envelope: { IsEnvelope bytes.now },
@@ -213,5 +215,12 @@ impl<'a> RawDocument<'a> {
         ensures { (found : Option Meaning) × LooksUp (bytes_of self.entry) key.now found × Gets typed.i64_value variants.Int64 key.now found result }
     {
         self.get_typed(alloc, key)
+    }
+}
+
+impl fmt::Debug for RawDocument<'_> {
+    fn fmt<W: fmt::Write>(&self, f: &mut fmt::Formatter<W>) -> fmt::Result {
+        let data = HexDigits(self.bytes);
+        write!(f, "RawDocument {{ data: \"{data}\" }}")
     }
 }

@@ -10,6 +10,7 @@ mod element_type;
 mod elements;
 mod error;
 mod front;
+mod hex_digits;
 mod iter;
 mod number;
 mod payload;
