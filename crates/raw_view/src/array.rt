@@ -59,7 +59,7 @@ impl<'a> RawArray<'a> {
     /// Whether iteration yields no item, which is exactly where there are five bytes.
     pub fn is_empty(self) -> bool
         ensures five { IsTrue result ↔ (length (array_bytes_of self.entry) ≡ 5) }
-        ensures no_item { IsTrue result ↔ (drop 4 (array_bytes_of self.entry) ≡ 0 ∷ []) }
+        ensures no_item { IsTrue result ↔ AreItems (array_bytes_of self.entry) [] }
     {
         self.document.is_empty()
     }

@@ -40,7 +40,7 @@ impl<'a> RawDocument<'a> {
     ghost use Rattle.raw_view.specs.declared.bson_ref.RawBsonRef.{RawBsonRef};
     ghost use Rattle.std.specs.Iterator.{Drains};
     ghost use Rattle.raw_view.specs.Document.{bytes_of};
-    ghost use Rattle.raw_view.specs.Items.{StepsElement, ListsWalk};
+    ghost use Rattle.raw_view.specs.ElementSteps.{StepsElement, ListsWalk};
     ghost use Rattle.raw_view.specs.Frame.{Frame, End, IsWalk};
     ghost use Rattle.raw_view.specs.declared.element.RawElement.{RawElement};
     ghost use Rattle.raw_view.specs.declared.error.Error.{Error};
@@ -84,13 +84,13 @@ impl<'a> RawDocument<'a> {
     /// Whether iteration yields no item, which is exactly where there are five bytes.
     pub fn is_empty(self) -> bool
         ensures five { IsTrue result ↔ (length (bytes_of self.entry) ≡ 5) }
-        ensures no_item { IsTrue result ↔ (drop 4 (bytes_of self.entry) ≡ 0 ∷ []) }
+        ensures no_item { IsTrue result ↔ AreItems (bytes_of self.entry) [] }
     {
         self.bytes.len() == 5
     }
 
-    /// The elements in order, and then the fault at which they stop, if there is one. No value is looked
-    /// into and nothing is copied but the key of that fault. On n bytes at most (n - 4) / 2 + 1 items.
+    /// The elements in order, and then the fault at which they stop, if there is one. No value is
+    /// resolved and nothing is copied but the key of that fault. On n bytes at most (n - 4) / 2 + 1 items.
     pub fn iter_elements(self, alloc: Global) -> RawIter<'a>
         ensures begins { result ≡ Some (drop 4 (bytes_of self.entry)) }
         ensures walk { (items : List (Result RawElement Error)) → Drains StepsElement result items → (frames : List Frame) × (end : End) × IsWalk (drop 4 (bytes_of self.entry)) frames end × ListsWalk items frames end }

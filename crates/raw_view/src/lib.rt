@@ -1,4 +1,5 @@
-//! Borrowed views of raw BSON documents. Nothing is copied, and damage is met only where it is touched.
+//! Borrowed views of raw BSON documents. Values borrow from the document, and damage is met only where it is
+//! touched.
 #![tactic(auto)]
 
 mod access;
