@@ -1,2 +1,10 @@
 pub mod Ascending
+pub mod Equality
+pub mod Keep
+pub mod Kept
 pub mod OptionOrder
+pub mod Trees
+pub mod Measures
+pub mod Variants
+pub mod WellFormed
+pub mod Zips
