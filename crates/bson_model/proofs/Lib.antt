@@ -3,6 +3,8 @@ pub mod Equality
 pub mod Keep
 pub mod Kept
 pub mod OptionOrder
+pub mod Steps
+pub mod Subtypes
 pub mod Trees
 pub mod Measures
 pub mod Variants

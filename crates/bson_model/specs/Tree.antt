@@ -33,6 +33,16 @@ abbrev pub entries : List (List ℕ × Tree) → Entries
 entries [] = no_entry
 entries (e ∷ es) = entry_then e.0 e.1 (entries es)
 
+-- the members of a list of trees
+abbrev pub items_in : Trees → List Tree
+items_in no_tree = []
+items_in (tree_then t ts) = t ∷ items_in ts
+
+-- the pairs of a document or a scope
+abbrev pub pairs_in : Entries → List (List ℕ × Tree)
+pairs_in no_entry = []
+pairs_in (entry_then k t es) = (k, t) ∷ pairs_in es
+
 -- the keys beside the trees
 abbrev pub entries_beside : List (List ℕ × Unit {0}) → Trees → Entries
 entries_beside [] ts = no_entry

@@ -1,4 +1,5 @@
-ghost use Rattle.std.specs.Prelude.{◌≡◌, ◌↔◌, [], length, option_copied, option_map, slice_get, IfOk, OnOk, OnErr, IsSome, IsOk, IsTrue, All};
+ghost use Rattle.std.specs.Prelude.{◌≡◌, ◌↔◌, [], length, All, IsTrue, IsSome, IsOk, IfOk, OnOk};
+ghost use Rattle.std.specs.Prelude.{OnErr, option_copied, option_map, slice_get};
 ghost use Rattle.std.specs.Str.{IsUtf8};
 ghost use Rattle.std.specs.String.{string_bytes};
 ghost use Rattle.bson_model.specs.Pairs.{keys_of, value_at, with_pair, HasDistinctKeys};
@@ -99,7 +100,8 @@ impl Document {
     /// for a key that is not there, and then changes nothing and drops the pair.
     pub fn insert(&mut self, key: String, value: Bson) -> Result<Option<Bson>, NoMemory>
         ensures inserted { OnOk result (pairs_of self.new ≡ with_pair (string_bytes key) value (pairs_of self.old)) }
-        ensures trees { OnOk result (with_trees (pairs_of self.new) ≡ with_pair (string_bytes key) (tree_of value) (with_trees (pairs_of self.old))) }
+        ensures trees { OnOk result (with_trees (pairs_of self.new) ≡
+            with_pair (string_bytes key) (tree_of value) (with_trees (pairs_of self.old))) }
         ensures old { IfOk result (λ old. old ≡ value_at (string_bytes key) (pairs_of self.old)) }
         ensures present { IsSome (value_at (string_bytes key) (pairs_of self.old)) → IsOk result }
         ensures err { OnErr result (self.new ≡ self.old) }

@@ -22,7 +22,9 @@ pub fn is_same_document(left: &Document, right: &Document) -> bool
     left == right
 }
 
-/// The tree of a value is well formed. It reads the whole value, changes nothing and takes no memory.
+/// The tree of a value is well formed: numbers are in the ranges of their types, bytes are bytes, an
+/// ObjectId has twelve and a Decimal128 sixteen, texts and keys are UTF-8, and no key stands twice in a
+/// document. It reads the whole value, changes nothing and takes no memory.
 #[cycle(attest)]
 pub fn attest_value(value: &Bson)
     ensures { IsWellFormed (tree_of value.now) }

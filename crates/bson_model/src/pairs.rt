@@ -1,4 +1,5 @@
-ghost use Rattle.std.specs.Prelude.{◌≡◌, [], length, IfOk, OnOk, OnErr, IsSome, IsOk, nat_eq, ◌&&◌, slice_get, option_map, option_copied, All};
+ghost use Rattle.std.specs.Prelude.{◌≡◌, ◌&&◌, [], length, nat_eq, All, IsSome, IsOk, IfOk, OnOk};
+ghost use Rattle.std.specs.Prelude.{OnErr, option_copied, option_map, slice_get};
 ghost use Rattle.std.specs.Cmp.Lexicographic.{pointwise, lists_per, lists_equiv};
 ghost use Rattle.std.specs.Cmp.{on_per, and_per, on_equiv, and_equiv, nat_eq_equiv, partial_equiv_from_equiv};
 ghost use Rattle.std.specs.String.{string_bytes};
@@ -101,7 +102,9 @@ impl<T: fmt::Debug> fmt::Debug for Pairs<T> {
 impl<T: PartialEq> PartialEq for Pairs<T> {
     ghost eq = { pointwise (λ p q. pointwise nat_eq p.0 q.0 && T.eq p.1 q.1) };
 
-    ghost laws = { lists_per (and_per (on_per (λ p. p.0) (lists_per (partial_equiv_from_equiv nat_eq_equiv))) (on_per (λ p. p.1) T.laws)) };
+    ghost laws = { lists_per (and_per
+        (on_per (λ p. p.0) (lists_per (partial_equiv_from_equiv nat_eq_equiv)))
+        (on_per (λ p. p.1) T.laws)) };
 
     fn eq(&self, other: &Pairs<T>) -> bool {
         self.keys.as_slice() == other.keys.as_slice()
@@ -110,5 +113,7 @@ impl<T: PartialEq> PartialEq for Pairs<T> {
 }
 
 impl<T: Eq> Eq for Pairs<T> {
-    ghost laws = { lists_equiv (and_equiv (on_equiv (λ p. p.0) (lists_equiv nat_eq_equiv)) (on_equiv (λ p. p.1) T.Eq.laws)) };
+    ghost laws = { lists_equiv (and_equiv
+        (on_equiv (λ p. p.0) (lists_equiv nat_eq_equiv))
+        (on_equiv (λ p. p.1) T.Eq.laws)) };
 }
