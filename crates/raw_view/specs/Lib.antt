@@ -10,5 +10,6 @@ pub mod Accessors
 pub mod Item
 pub mod LookUp
 pub mod Answers
+pub mod Access
 pub mod Items
 pub mod Front

@@ -1,6 +1,7 @@
 //! Borrowed views of raw BSON documents. Nothing is copied, and damage is met only where it is touched.
 #![tactic(auto)]
 
+mod access;
 mod array;
 mod bson_ref;
 mod document;
@@ -15,6 +16,7 @@ mod payload;
 mod text;
 mod value;
 
+pub use access::{ValueAccessError, ValueAccessErrorKind, ValueAccessResult};
 pub use array::RawArray;
 pub use bson_ref::{
     RawBinaryRef, RawBsonRef, RawDbPointerRef, RawJavaScriptCodeWithScopeRef, RawRegexRef,

@@ -1,0 +1,94 @@
+-- Typed access: what a getter answers for what a look-up finds.
+use Rattle.std.specs.Prelude.{◌≡◌, ◌≢◌, ◌⊎◌, ℕ, List, [], Option, None, Some, Result, Ok, Err}
+use Rattle.std.specs.String.{string_bytes}
+use Rattle.bson_model.specs.Leaf.{Leaf, double, string, binary, undefined, object_id, boolean, date_time, null, regular_expression, db_pointer, javascript_code, symbol, int32, timestamp, int64, decimal128, max_key, min_key}
+use Rattle.raw_view.specs.declared.element_type.ElementType.{ElementType}
+use Rattle.raw_view.specs.declared.element_type.ElementType.TheVariants as kind
+use Rattle.raw_view.specs.declared.error.Error.{Error}
+use Rattle.raw_view.specs.declared.error.ErrorKind.{ErrorKind}
+use Rattle.raw_view.specs.declared.error.ErrorKind.TheVariants as what
+use Rattle.raw_view.specs.declared.access.ValueAccessError.{ValueAccessError}
+use Rattle.raw_view.specs.declared.access.ValueAccessErrorKind.{ValueAccessErrorKind}
+use Rattle.raw_view.specs.declared.access.ValueAccessErrorKind.TheVariants as access
+use Rattle.raw_view.specs.Meaning.{RawValue, single, document, array, scoped, KeyedFault, Meaning, value, faulty}
+use Rattle.raw_view.specs.Answers.{Says}
+use Rattle.raw_view.specs.Value.{kind_of_value}
+use Rattle.raw_view.specs.declared.bson_ref.RawBsonRef.{RawBsonRef}
+
+-- the key that an access error carries: the one asked for, or nothing where memory ran out
+abbrev pub key_asked : ValueAccessError → List ℕ
+key_asked e = string_bytes e.key
+
+abbrev pub kind_of_leaf : Leaf → ElementType
+kind_of_leaf (double _) = kind.Double
+kind_of_leaf (string _) = kind.String
+kind_of_leaf (binary _ _) = kind.Binary
+kind_of_leaf undefined = kind.Undefined
+kind_of_leaf (object_id _) = kind.ObjectId
+kind_of_leaf (boolean _) = kind.Boolean
+kind_of_leaf (date_time _) = kind.DateTime
+kind_of_leaf null = kind.Null
+kind_of_leaf (regular_expression _ _) = kind.RegularExpression
+kind_of_leaf (db_pointer _ _) = kind.DbPointer
+kind_of_leaf (javascript_code _) = kind.JavaScriptCode
+kind_of_leaf (symbol _) = kind.Symbol
+kind_of_leaf (int32 _) = kind.Int32
+kind_of_leaf (timestamp _ _) = kind.Timestamp
+kind_of_leaf (int64 _) = kind.Int64
+kind_of_leaf (decimal128 _) = kind.Decimal128
+kind_of_leaf max_key = kind.MaxKey
+kind_of_leaf min_key = kind.MinKey
+
+-- the kind of a value
+abbrev pub kind_of_raw : RawValue → ElementType
+kind_of_raw (single leaf) = kind_of_leaf leaf
+kind_of_raw (document _) = kind.EmbeddedDocument
+kind_of_raw (array _) = kind.Array
+kind_of_raw (scoped _ _) = kind.JavaScriptCodeWithScope
+
+-- the error says a fault, and not that memory ran out
+abbrev pub SaysInner : Error → KeyedFault → Type 0
+SaysInner inner fault = Says inner fault × (inner.kind ≢ what.OutOfMemory)
+
+-- what was found is no value of the kind
+abbrev pub IsNoValueOf : ElementType → Option Meaning → Type 0
+IsNoValueOf kind None = Unit {0}
+IsNoValueOf kind (Some (value v)) = kind_of_raw v ≢ kind
+IsNoValueOf kind (Some (faulty fault)) = Unit {0}
+
+-- Why a getter for this kind has no value for what was found: nothing was; another kind was; a fault was.
+abbrev pub IsAccessFault : ElementType → Option Meaning → ValueAccessErrorKind → Type 0
+IsAccessFault expected found access.NotPresent = found ≡ None
+IsAccessFault expected found (access.UnexpectedType wanted actual) = (v : RawValue) × (found ≡ Some (value v)) × (wanted ≡ expected) × (actual ≡ kind_of_raw v) × (actual ≢ expected)
+IsAccessFault expected found (access.InvalidBson inner) = (fault : KeyedFault) × (found ≡ Some (faulty fault)) × SaysInner inner fault
+IsAccessFault expected found access.OutOfMemory = IsNoValueOf expected found
+
+-- the error has this kind, and the key asked for; where memory ran out, the empty key
+abbrev pub HasKeyAsked : ValueAccessErrorKind → List ℕ → List ℕ → Type 0
+HasKeyAsked access.OutOfMemory key carried = carried ≡ []
+HasKeyAsked _ key carried = carried ≡ key
+
+-- What a getter answers that was asked for a key: the value if one of its kind was found, else why not.
+-- T is the getter's type, and value_as the value that one of it views.
+module _ {T : Type 0} where
+  abbrev pub Gets : (T → RawValue) → ElementType → List ℕ → Option Meaning → Result T ValueAccessError → Type 0
+  Gets value_as expected key found (Ok x) = found ≡ Some (value (value_as x))
+  Gets value_as expected key found (Err e) = IsAccessFault expected found e.kind × HasKeyAsked e.kind key (key_asked e)
+
+-- How an accessor gives a value for what a look-up answers, as a getter for this kind uses it: P v r says
+-- that the accessor may answer r for v.
+module _ {T : Type 0} where
+  abbrev pub IsTypedFault : (RawBsonRef → Option T → Type 0) → ElementType → Result (Option RawBsonRef) Error → ValueAccessErrorKind → Type 0
+  IsTypedFault P expected answer access.NotPresent = answer ≡ Ok None
+  IsTypedFault P expected answer (access.UnexpectedType wanted actual) = (v : RawBsonRef) × (answer ≡ Ok (Some v)) × P v None × (wanted ≡ expected) × (actual ≡ kind_of_value v)
+  IsTypedFault P expected answer (access.InvalidBson inner) = (answer ≡ Err inner) × (inner.kind ≢ what.OutOfMemory)
+  IsTypedFault P expected answer access.OutOfMemory = (e : Error) × (answer ≡ Err e) × (e.kind ≡ what.OutOfMemory)
+
+  abbrev pub Types : (RawBsonRef → Option T → Type 0) → ElementType → Result (Option RawBsonRef) Error → Result T ValueAccessErrorKind → Type 0
+  Types P expected answer (Ok x) = (v : RawBsonRef) × (answer ≡ Ok (Some v)) × P v (Some x)
+  Types P expected answer (Err kind) = IsTypedFault P expected answer kind
+
+  -- the same with the key, or want of memory for it
+  abbrev pub Accesses : (RawBsonRef → Option T → Type 0) → ElementType → List ℕ → Result (Option RawBsonRef) Error → Result T ValueAccessError → Type 0
+  Accesses P expected key answer (Ok x) = Types P expected answer (Ok x)
+  Accesses P expected key answer (Err e) = (kind : ValueAccessErrorKind) × IsTypedFault P expected answer kind × ((e.kind ≡ kind) ⊎ (e.kind ≡ access.OutOfMemory)) × HasKeyAsked e.kind key (key_asked e)
