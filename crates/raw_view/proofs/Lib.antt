@@ -8,4 +8,5 @@ pub mod Iteration
 pub mod ItemSteps
 pub mod LookUps
 pub mod Places
+pub mod Accessed
 pub mod CallerLemmas

@@ -5,14 +5,13 @@ use Rattle.bson_model.specs.Leaf.{Leaf, double, string, binary, undefined, objec
 use Rattle.raw_view.specs.declared.element_type.ElementType.{ElementType}
 use Rattle.raw_view.specs.declared.element_type.ElementType.TheVariants as kind
 use Rattle.raw_view.specs.declared.error.Error.{Error}
-use Rattle.raw_view.specs.declared.error.ErrorKind.{ErrorKind}
 use Rattle.raw_view.specs.declared.error.ErrorKind.TheVariants as what
 use Rattle.raw_view.specs.declared.access.ValueAccessError.{ValueAccessError}
 use Rattle.raw_view.specs.declared.access.ValueAccessErrorKind.{ValueAccessErrorKind}
 use Rattle.raw_view.specs.declared.access.ValueAccessErrorKind.TheVariants as access
 use Rattle.raw_view.specs.Meaning.{RawValue, single, document, array, scoped, KeyedFault, Meaning, value, faulty}
 use Rattle.raw_view.specs.Answers.{Says}
-use Rattle.raw_view.specs.Value.{kind_of_value}
+use Rattle.raw_view.specs.Value.{value_of, kind_of_value}
 use Rattle.raw_view.specs.declared.bson_ref.RawBsonRef.{RawBsonRef}
 
 -- the key that an access error carries: the one asked for, or nothing where memory ran out
@@ -75,20 +74,20 @@ module _ {T : Type 0} where
   Gets value_as expected key found (Ok x) = found ≡ Some (value (value_as x))
   Gets value_as expected key found (Err e) = IsAccessFault expected found e.kind × HasKeyAsked e.kind key (key_asked e)
 
--- How an accessor gives a value for what a look-up answers, as a getter for this kind uses it: P v r says
--- that the accessor may answer r for v.
-module _ {T : Type 0} where
-  abbrev pub IsTypedFault : (RawBsonRef → Option T → Type 0) → ElementType → Result (Option RawBsonRef) Error → ValueAccessErrorKind → Type 0
-  IsTypedFault P expected answer access.NotPresent = answer ≡ Ok None
-  IsTypedFault P expected answer (access.UnexpectedType wanted actual) = (v : RawBsonRef) × (answer ≡ Ok (Some v)) × P v None × (wanted ≡ expected) × (actual ≡ kind_of_value v)
-  IsTypedFault P expected answer (access.InvalidBson inner) = (answer ≡ Err inner) × (inner.kind ≢ what.OutOfMemory)
-  IsTypedFault P expected answer access.OutOfMemory = (e : Error) × (answer ≡ Err e) × (e.kind ≡ what.OutOfMemory)
+-- why a getter for this kind has no value for what a look-up answers
+abbrev pub IsTypedFault : ElementType → Result (Option RawBsonRef) Error → ValueAccessErrorKind → Type 0
+IsTypedFault expected answer access.NotPresent = answer ≡ Ok None
+IsTypedFault expected answer (access.UnexpectedType wanted actual) = (v : RawBsonRef) × (answer ≡ Ok (Some v)) × (kind_of_value v ≢ expected) × (wanted ≡ expected) × (actual ≡ kind_of_value v)
+IsTypedFault expected answer (access.InvalidBson inner) = (answer ≡ Err inner) × (inner.kind ≢ what.OutOfMemory)
+IsTypedFault expected answer access.OutOfMemory = (e : Error) × (answer ≡ Err e) × (e.kind ≡ what.OutOfMemory)
 
-  abbrev pub Types : (RawBsonRef → Option T → Type 0) → ElementType → Result (Option RawBsonRef) Error → Result T ValueAccessErrorKind → Type 0
-  Types P expected answer (Ok x) = (v : RawBsonRef) × (answer ≡ Ok (Some v)) × P v (Some x)
-  Types P expected answer (Err kind) = IsTypedFault P expected answer kind
+-- what a getter for this kind has for what a look-up answers
+module _ {T : Type 0} where
+  abbrev pub Types : (T → RawValue) → ElementType → Result (Option RawBsonRef) Error → Result T ValueAccessErrorKind → Type 0
+  Types value_as expected answer (Ok x) = (v : RawBsonRef) × (answer ≡ Ok (Some v)) × (value_of v ≡ value_as x)
+  Types value_as expected answer (Err kind) = IsTypedFault expected answer kind
 
   -- the same with the key, or want of memory for it
-  abbrev pub Accesses : (RawBsonRef → Option T → Type 0) → ElementType → List ℕ → Result (Option RawBsonRef) Error → Result T ValueAccessError → Type 0
-  Accesses P expected key answer (Ok x) = Types P expected answer (Ok x)
-  Accesses P expected key answer (Err e) = (kind : ValueAccessErrorKind) × IsTypedFault P expected answer kind × ((e.kind ≡ kind) ⊎ (e.kind ≡ access.OutOfMemory)) × HasKeyAsked e.kind key (key_asked e)
+  abbrev pub Accesses : (T → RawValue) → ElementType → List ℕ → Result (Option RawBsonRef) Error → Result T ValueAccessError → Type 0
+  Accesses value_as expected key answer (Ok x) = (v : RawBsonRef) × (answer ≡ Ok (Some v)) × (value_of v ≡ value_as x)
+  Accesses value_as expected key answer (Err e) = (kind : ValueAccessErrorKind) × IsTypedFault expected answer kind × ((e.kind ≡ kind) ⊎ (e.kind ≡ access.OutOfMemory)) × HasKeyAsked e.kind key (key_asked e)

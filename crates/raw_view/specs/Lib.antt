@@ -11,5 +11,6 @@ pub mod Item
 pub mod LookUp
 pub mod Answers
 pub mod Access
+pub mod Typed
 pub mod Items
 pub mod Front

@@ -1,10 +1,12 @@
 ghost use Rattle.std.specs.Prelude.{◌≡◌, ◌↔◌, IsTrue, Some, length, drop, [], ◌∷◌};
 
-use crate::bson_ref::RawBsonRef;
+use crate::access::{Typed, ValueAccessResult, typed_at_index};
+use crate::bson_ref::{RawBinaryRef, RawBsonRef, RawRegexRef};
 use crate::document::RawDocument;
 use crate::elements::Elements;
 use crate::error::Result;
 use crate::iter::RawArrayIter;
+use bson_model::{DateTime, DoubleBits, ObjectId, Timestamp};
 use std::alloc::Global;
 
 /// An array: a document whose keys are ignored. BSON 1.1, `array`.
@@ -16,6 +18,10 @@ pub struct RawArray<'a> {
 impl<'a> RawArray<'a> {
     ghost use Rattle.std.specs.Prelude.{List, Option, Result};
     ghost use Rattle.std.specs.Iterator.{Drains};
+    ghost use Rattle.std.specs.Fmt.{decimal};
+    ghost use Rattle.raw_view.specs.Access.{Gets};
+    ghost use Rattle.raw_view.specs.Typed as typed;
+    ghost use Rattle.raw_view.specs.declared.element_type.ElementType.TheVariants as variants;
     ghost use Rattle.raw_view.specs.Answers.{StepsValue, TellsValues, TellsFound};
     ghost use Rattle.raw_view.specs.Document.{bytes_of};
     ghost use Rattle.raw_view.specs.Envelope.{IsEnvelope};
@@ -79,5 +85,96 @@ impl<'a> RawArray<'a> {
                 Err(error) => Err(error),
             },
         }
+    }
+
+    /// What a typed getter answers.
+    fn get_typed<T: Typed<'a>>(self, alloc: Global, index: usize) -> ValueAccessResult<T>
+        ensures { (found : Option Meaning) × IsAt (array_bytes_of self.entry) index found × Gets T.value_as T.kind (decimal index) found result }
+    {
+        typed_at_index(alloc, self.get(alloc, index), index)
+    }
+
+    /// The 64 bits of a double of this number, counted from 0; else why there is none, with the number in decimal.
+    pub fn get_f64(self, alloc: Global, index: usize) -> ValueAccessResult<DoubleBits>
+        ensures { (found : Option Meaning) × IsAt (array_bytes_of self.entry) index found × Gets typed.f64_value variants.Double (decimal index) found result }
+    {
+        self.get_typed(alloc, index)
+    }
+
+    /// The text of a string of this number, counted from 0; else why there is none, with the number in decimal.
+    pub fn get_str(self, alloc: Global, index: usize) -> ValueAccessResult<&'a str>
+        ensures { (found : Option Meaning) × IsAt (array_bytes_of self.entry) index found × Gets typed.str_value variants.String (decimal index) found result }
+    {
+        self.get_typed(alloc, index)
+    }
+
+    /// A nested document of this number, counted from 0; else why there is none, with the number in decimal.
+    pub fn get_document(self, alloc: Global, index: usize) -> ValueAccessResult<RawDocument<'a>>
+        ensures { (found : Option Meaning) × IsAt (array_bytes_of self.entry) index found × Gets typed.document_value variants.EmbeddedDocument (decimal index) found result }
+    {
+        self.get_typed(alloc, index)
+    }
+
+    /// An array of this number, counted from 0; else why there is none, with the number in decimal.
+    pub fn get_array(self, alloc: Global, index: usize) -> ValueAccessResult<RawArray<'a>>
+        ensures { (found : Option Meaning) × IsAt (array_bytes_of self.entry) index found × Gets typed.array_value variants.Array (decimal index) found result }
+    {
+        self.get_typed(alloc, index)
+    }
+
+    /// Bytes and their subtype of this number, counted from 0; else why there is none, with the number in decimal.
+    pub fn get_binary(self, alloc: Global, index: usize) -> ValueAccessResult<RawBinaryRef<'a>>
+        ensures { (found : Option Meaning) × IsAt (array_bytes_of self.entry) index found × Gets typed.binary_value variants.Binary (decimal index) found result }
+    {
+        self.get_typed(alloc, index)
+    }
+
+    /// An ObjectId of this number, counted from 0; else why there is none, with the number in decimal.
+    pub fn get_object_id(self, alloc: Global, index: usize) -> ValueAccessResult<ObjectId>
+        ensures { (found : Option Meaning) × IsAt (array_bytes_of self.entry) index found × Gets typed.object_id_value variants.ObjectId (decimal index) found result }
+    {
+        self.get_typed(alloc, index)
+    }
+
+    /// A boolean of this number, counted from 0; else why there is none, with the number in decimal.
+    pub fn get_bool(self, alloc: Global, index: usize) -> ValueAccessResult<bool>
+        ensures { (found : Option Meaning) × IsAt (array_bytes_of self.entry) index found × Gets typed.bool_value variants.Boolean (decimal index) found result }
+    {
+        self.get_typed(alloc, index)
+    }
+
+    /// A time of this number, counted from 0; else why there is none, with the number in decimal.
+    pub fn get_datetime(self, alloc: Global, index: usize) -> ValueAccessResult<DateTime>
+        ensures { (found : Option Meaning) × IsAt (array_bytes_of self.entry) index found × Gets typed.datetime_value variants.DateTime (decimal index) found result }
+    {
+        self.get_typed(alloc, index)
+    }
+
+    /// A regular expression of this number, counted from 0; else why there is none, with the number in decimal.
+    pub fn get_regex(self, alloc: Global, index: usize) -> ValueAccessResult<RawRegexRef<'a>>
+        ensures { (found : Option Meaning) × IsAt (array_bytes_of self.entry) index found × Gets typed.regex_value variants.RegularExpression (decimal index) found result }
+    {
+        self.get_typed(alloc, index)
+    }
+
+    /// A timestamp of this number, counted from 0; else why there is none, with the number in decimal.
+    pub fn get_timestamp(self, alloc: Global, index: usize) -> ValueAccessResult<Timestamp>
+        ensures { (found : Option Meaning) × IsAt (array_bytes_of self.entry) index found × Gets typed.timestamp_value variants.Timestamp (decimal index) found result }
+    {
+        self.get_typed(alloc, index)
+    }
+
+    /// A signed 32-bit number of this number, counted from 0; else why there is none, with the number in decimal.
+    pub fn get_i32(self, alloc: Global, index: usize) -> ValueAccessResult<i32>
+        ensures { (found : Option Meaning) × IsAt (array_bytes_of self.entry) index found × Gets typed.i32_value variants.Int32 (decimal index) found result }
+    {
+        self.get_typed(alloc, index)
+    }
+
+    /// A signed 64-bit number of this number, counted from 0; else why there is none, with the number in decimal.
+    pub fn get_i64(self, alloc: Global, index: usize) -> ValueAccessResult<i64>
+        ensures { (found : Option Meaning) × IsAt (array_bytes_of self.entry) index found × Gets typed.i64_value variants.Int64 (decimal index) found result }
+    {
+        self.get_typed(alloc, index)
     }
 }

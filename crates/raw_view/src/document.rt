@@ -2,9 +2,12 @@ ghost use Rattle.std.specs.Prelude.{◌≡◌, ◌↔◌, IsOk, IfOk, IfErr, IsT
 ghost use Rattle.raw_view.specs.Envelope.{IsEnvelope};
 ghost use Rattle.raw_view.specs.Errors.{IsMalformed, TellsRefusal, key_of};
 
-use crate::bson_ref::RawBsonRef;
+use crate::access::{Typed, ValueAccessResult, typed_at_key};
+use crate::array::RawArray;
+use crate::bson_ref::{RawBinaryRef, RawBsonRef, RawRegexRef};
 use crate::error::{Error, ErrorKind, Reason, Result};
 use crate::iter::{Iter, RawIter};
+use bson_model::{DateTime, DoubleBits, ObjectId, Timestamp};
 use std::alloc::Global;
 
 /// The bytes of one document with a sound envelope: at least five bytes, the first four are the length of
@@ -25,7 +28,10 @@ fn refusal(reason: Reason) -> Error
 impl<'a> RawDocument<'a> {
     ghost use Rattle.std.specs.Prelude.{ℕ, List, Option, Result};
     ghost use denote.Ref.{Bor};
+    ghost use Rattle.raw_view.specs.Access.{Gets};
     ghost use Rattle.raw_view.specs.Answers.{StepsItem, TellsItems, TellsFound};
+    ghost use Rattle.raw_view.specs.Typed as typed;
+    ghost use Rattle.raw_view.specs.declared.element_type.ElementType.TheVariants as variants;
     ghost use Rattle.raw_view.specs.Item.{Item, AreItems};
     ghost use Rattle.raw_view.specs.LookUp.{LooksUp};
     ghost use Rattle.raw_view.specs.Meaning.{Meaning};
@@ -116,5 +122,96 @@ impl<'a> RawDocument<'a> {
             }
         }
         Ok(None)
+    }
+
+    /// What a typed getter answers.
+    fn get_typed<T: Typed<'a>>(self, alloc: Global, key: &str) -> ValueAccessResult<T>
+        ensures { (found : Option Meaning) × LooksUp (bytes_of self.entry) key.now found × Gets T.value_as T.kind key.now found result }
+    {
+        typed_at_key(alloc, self.get(alloc, key), key)
+    }
+
+    /// The 64 bits of a double under this key; else why there is none, with the key.
+    pub fn get_f64(self, alloc: Global, key: &str) -> ValueAccessResult<DoubleBits>
+        ensures { (found : Option Meaning) × LooksUp (bytes_of self.entry) key.now found × Gets typed.f64_value variants.Double key.now found result }
+    {
+        self.get_typed(alloc, key)
+    }
+
+    /// The text of a string under this key; else why there is none, with the key.
+    pub fn get_str(self, alloc: Global, key: &str) -> ValueAccessResult<&'a str>
+        ensures { (found : Option Meaning) × LooksUp (bytes_of self.entry) key.now found × Gets typed.str_value variants.String key.now found result }
+    {
+        self.get_typed(alloc, key)
+    }
+
+    /// A nested document under this key; else why there is none, with the key.
+    pub fn get_document(self, alloc: Global, key: &str) -> ValueAccessResult<RawDocument<'a>>
+        ensures { (found : Option Meaning) × LooksUp (bytes_of self.entry) key.now found × Gets typed.document_value variants.EmbeddedDocument key.now found result }
+    {
+        self.get_typed(alloc, key)
+    }
+
+    /// An array under this key; else why there is none, with the key.
+    pub fn get_array(self, alloc: Global, key: &str) -> ValueAccessResult<RawArray<'a>>
+        ensures { (found : Option Meaning) × LooksUp (bytes_of self.entry) key.now found × Gets typed.array_value variants.Array key.now found result }
+    {
+        self.get_typed(alloc, key)
+    }
+
+    /// Bytes and their subtype under this key; else why there is none, with the key.
+    pub fn get_binary(self, alloc: Global, key: &str) -> ValueAccessResult<RawBinaryRef<'a>>
+        ensures { (found : Option Meaning) × LooksUp (bytes_of self.entry) key.now found × Gets typed.binary_value variants.Binary key.now found result }
+    {
+        self.get_typed(alloc, key)
+    }
+
+    /// An ObjectId under this key; else why there is none, with the key.
+    pub fn get_object_id(self, alloc: Global, key: &str) -> ValueAccessResult<ObjectId>
+        ensures { (found : Option Meaning) × LooksUp (bytes_of self.entry) key.now found × Gets typed.object_id_value variants.ObjectId key.now found result }
+    {
+        self.get_typed(alloc, key)
+    }
+
+    /// A boolean under this key; else why there is none, with the key.
+    pub fn get_bool(self, alloc: Global, key: &str) -> ValueAccessResult<bool>
+        ensures { (found : Option Meaning) × LooksUp (bytes_of self.entry) key.now found × Gets typed.bool_value variants.Boolean key.now found result }
+    {
+        self.get_typed(alloc, key)
+    }
+
+    /// A time under this key; else why there is none, with the key.
+    pub fn get_datetime(self, alloc: Global, key: &str) -> ValueAccessResult<DateTime>
+        ensures { (found : Option Meaning) × LooksUp (bytes_of self.entry) key.now found × Gets typed.datetime_value variants.DateTime key.now found result }
+    {
+        self.get_typed(alloc, key)
+    }
+
+    /// A regular expression under this key; else why there is none, with the key.
+    pub fn get_regex(self, alloc: Global, key: &str) -> ValueAccessResult<RawRegexRef<'a>>
+        ensures { (found : Option Meaning) × LooksUp (bytes_of self.entry) key.now found × Gets typed.regex_value variants.RegularExpression key.now found result }
+    {
+        self.get_typed(alloc, key)
+    }
+
+    /// A timestamp under this key; else why there is none, with the key.
+    pub fn get_timestamp(self, alloc: Global, key: &str) -> ValueAccessResult<Timestamp>
+        ensures { (found : Option Meaning) × LooksUp (bytes_of self.entry) key.now found × Gets typed.timestamp_value variants.Timestamp key.now found result }
+    {
+        self.get_typed(alloc, key)
+    }
+
+    /// A signed 32-bit number under this key; else why there is none, with the key.
+    pub fn get_i32(self, alloc: Global, key: &str) -> ValueAccessResult<i32>
+        ensures { (found : Option Meaning) × LooksUp (bytes_of self.entry) key.now found × Gets typed.i32_value variants.Int32 key.now found result }
+    {
+        self.get_typed(alloc, key)
+    }
+
+    /// A signed 64-bit number under this key; else why there is none, with the key.
+    pub fn get_i64(self, alloc: Global, key: &str) -> ValueAccessResult<i64>
+        ensures { (found : Option Meaning) × LooksUp (bytes_of self.entry) key.now found × Gets typed.i64_value variants.Int64 key.now found result }
+    {
+        self.get_typed(alloc, key)
     }
 }

@@ -1,0 +1,3 @@
+pub mod Print
+pub mod Status
+pub mod Run

@@ -1,0 +1,59 @@
+ghost use Rattle.std.specs.Prelude.{◌≡◌, ◌≢◌, ◌⊎◌, OnOk};
+ghost use Rattle.std.specs.Io.KnownBytes.{Appends, Keeps, IsAtEnd};
+ghost use Rattle.bsonraw.specs.Print.{IsCommand, usage_line};
+ghost use Rattle.bsonraw.specs.Run.{Answers};
+
+use crate::answer::answer;
+use crate::command::{Command, USAGE};
+use crate::status::Status;
+use std::alloc::Global;
+use std::io;
+use std::io::{Read, Write};
+
+#[cfg(test)]
+mod tests;
+
+/// Reads the text to its end, writes the answer to the command and gives its exit status; 5 where reading or writing
+/// failed. An unknown command is answered before anything is read.
+pub fn run<R: Read, W: Write>(alloc: Global, command: &str, reader: &mut R, writer: &mut W) -> u8
+    ensures answered { IsCommand command.now → result ≢ 4 → result ≢ 5 →
+        Answers command.now (R.remaining reader.old) (R.remaining reader.new)
+        (W.contents writer.old) (W.contents writer.new) result }
+
+    // Without memory for the answer nothing is written, nor anything before all was read.
+    ensures no_memory { result ≡ 4 → Keeps (W.contents writer.old) (W.contents writer.new) }
+    ensures read_first { IsCommand command.now →
+        Keeps (W.contents writer.old) (W.contents writer.new) ⊎ IsAtEnd (R.remaining reader.new) }
+
+    // An unknown command is told how the program is used, whatever the reader holds.
+    ensures usage { ¬ IsCommand command.now → result ≢ 5 →
+        (result ≡ 3) × Appends (W.contents writer.old) (W.contents writer.new) usage_line }
+    ensures unread { ¬ IsCommand command.now → reader.new ≡ reader.old }
+{
+    if Command::from_name(command).is_none() {
+        return written(writer, USAGE.as_bytes(), Status::Usage.code());
+    }
+    let mut text = Vec::new(alloc);
+    if reader.read_to_end(&mut text).is_err() {
+        return Status::Io.code();
+    }
+    let (status, output) = answer(alloc, command, &text);
+    written(writer, &output, status)
+}
+
+/// Writes the output. The status is the output's own, or 5 where writing failed.
+fn written<W: Write>(writer: &mut W, output: &[u8], status: u8) -> u8
+    ensures { result ≢ 5 → (result ≡ status) × Appends (W.contents writer.old) (W.contents writer.new) output.now }
+{
+    match put(writer, output) {
+        Ok(()) => status,
+        Err(_) => Status::Io.code(),
+    }
+}
+
+fn put<W: Write>(writer: &mut W, output: &[u8]) -> io::Result<()>
+    ensures { OnOk result (Appends (W.contents writer.old) (W.contents writer.new) output.now) }
+{
+    writer.write_all(output)?;
+    writer.flush()
+}

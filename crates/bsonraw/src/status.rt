@@ -1,0 +1,35 @@
+/// How a run ended.
+#[derive(Clone, Copy)]
+pub enum Status {
+    /// the walk came to its end
+    Done,
+    /// the bytes are no document, or its walk stops
+    Fault,
+    /// the text isn't hex
+    BadHex,
+    /// the arguments are no command
+    Usage,
+    /// no memory was left for the answer
+    NoMemory,
+    /// reading or writing failed
+    Io,
+}
+
+impl Status {
+    ghost use Rattle.std.specs.Prelude.{◌≡◌};
+    ghost use Rattle.bsonraw.specs.Status.{code_of};
+
+    /// The exit status.
+    pub fn code(self) -> u8
+        ensures { result ≡ code_of self }
+    {
+        match self {
+            Status::Done => 0,
+            Status::Fault => 1,
+            Status::BadHex => 2,
+            Status::Usage => 3,
+            Status::NoMemory => 4,
+            Status::Io => 5,
+        }
+    }
+}

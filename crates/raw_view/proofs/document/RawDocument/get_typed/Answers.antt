@@ -1,0 +1,7 @@
+use Rattle.raw_view.proofs.Accessed.{gets}
+use Rattle.raw_view.proofs.document.RawDocument.get_typed.Goals as goal
+
+pub returns : goal.returns
+returns g c =
+    let h = c.get.ensures in
+    (h.0, h.1, gets g.T.Typed.value_as g.T.Typed.kind _ c.get.result h.0 c.typed_at_key.result h.2 c.typed_at_key.ensures)
