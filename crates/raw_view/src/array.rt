@@ -24,7 +24,7 @@ impl<'a> RawArray<'a> {
     ghost use Rattle.raw_view.specs.Access.{Gets};
     ghost use Rattle.raw_view.specs.Typed as typed;
     ghost use Rattle.raw_view.specs.declared.element_type.ElementType.TheVariants as variants;
-    ghost use Rattle.raw_view.specs.Answers.{StepsValue, TellsValues, TellsFound};
+    ghost use Rattle.raw_view.specs.Answers.{StepsItems, TellsEach, TellsFound, TellsValue};
     ghost use Rattle.raw_view.specs.Document.{bytes_of};
     ghost use Rattle.raw_view.specs.Envelope.{IsEnvelope};
     ghost use Rattle.raw_view.specs.Item.{Item, AreItems};
@@ -70,7 +70,7 @@ impl<'a> RawArray<'a> {
     /// (n - 4) / 2 + 1 items.
     pub fn iter(self, alloc: Global) -> RawArrayIter<'a>
         ensures begins { result ≡ Some (drop 4 (array_bytes_of self.entry)) }
-        ensures items { (outs : List (Result RawBsonRef Error)) → Drains StepsValue result outs → (items : List Item) × AreItems (array_bytes_of self.entry) items × TellsValues outs items }
+        ensures items { (outs : List (Result RawBsonRef Error)) → Drains (StepsItems TellsValue) result outs → (items : List Item) × AreItems (array_bytes_of self.entry) items × TellsEach TellsValue outs items }
     {
         RawArrayIter::new(alloc, self.document)
     }

@@ -40,7 +40,7 @@ impl<'a> RawDocument<'a> {
     ghost use Rattle.std.specs.Prelude.{ℕ, List, Option, Result};
     ghost use denote.Ref.{Bor};
     ghost use Rattle.raw_view.specs.Access.{Gets};
-    ghost use Rattle.raw_view.specs.Answers.{StepsItem, TellsItems, TellsFound};
+    ghost use Rattle.raw_view.specs.Answers.{StepsItems, TellsEach, TellsFound, TellsItem};
     ghost use Rattle.raw_view.specs.Typed as typed;
     ghost use Rattle.raw_view.specs.declared.element_type.ElementType.TheVariants as variants;
     ghost use Rattle.raw_view.specs.Item.{Item, AreItems};
@@ -112,7 +112,7 @@ impl<'a> RawDocument<'a> {
     /// most (n - 4) / 2 + 1 items.
     pub fn iter(self, alloc: Global) -> Iter<'a>
         ensures begins { result ≡ Some (drop 4 (bytes_of self.entry)) }
-        ensures items { (outs : List (Result (Bor (List ℕ) × RawBsonRef) Error)) → Drains StepsItem result outs → (items : List Item) × AreItems (bytes_of self.entry) items × TellsItems outs items }
+        ensures items { (outs : List (Result (Bor (List ℕ) × RawBsonRef) Error)) → Drains (StepsItems TellsItem) result outs → (items : List Item) × AreItems (bytes_of self.entry) items × TellsEach TellsItem outs items }
     {
         Iter::<'a>::new(alloc, self)
     }
