@@ -77,8 +77,11 @@ impl ValueAccessError {
         ensures kind { (result.kind ≡ kind) ⊎ (result.kind ≡ access.OutOfMemory) }
         ensures key { HasKeyAsked result.kind (decimal index) (key_asked result) }
     {
+        if matches!(kind, ValueAccessErrorKind::OutOfMemory) {
+            return ValueAccessError::out_of_memory(alloc);
+        }
         match index.to_string(alloc) {
-            Ok(key) => ValueAccessError::new(alloc, kind, key.as_str()),
+            Ok(key) => ValueAccessError { kind, key },
             Err(AllocError) => ValueAccessError::out_of_memory(alloc),
         }
     }
