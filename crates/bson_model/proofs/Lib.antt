@@ -1,2 +1,12 @@
 pub mod Ascending
+pub mod Equality
+pub mod Keep
+pub mod Kept
 pub mod OptionOrder
+pub mod Steps
+pub mod Subtypes
+pub mod Trees
+pub mod Measures
+pub mod Variants
+pub mod WellFormed
+pub mod Zips

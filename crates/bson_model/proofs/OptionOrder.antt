@@ -1,10 +1,15 @@
 -- What putting the options of a regular expression in order gives.
-use Rattle.std.proofs.Common.{◌≡◌, ℕ, Bool, true, false, cond, ◌&&◌, List, [], ◌∷◌, refl, ap, sym, ◌∙◌}
+use Rattle.std.proofs.Common.{◌≡◌, ◌≢◌, ℕ, Bool, true, false, cond, ◌&&◌, List, [], ◌∷◌, ◌++◌, length, All, refl, ap, sym, ◌∙◌, lit<, length-append}
 use Rattle.std.proofs.Math.Dec.{leb}
-use Rattle.std.proofs.Math.Utf8.{scalars, scalar}
+use Rattle.std.proofs.Math.Utf8.{scalars, scalar, encode, encodes}
+use Rattle.std.specs.List.{sum_by}
 use Rattle.std.specs.Prelude.{encode_utf8_all}
 use Rattle.std.specs.Str.{chars, IsUtf8}
-use Rattle.std.proofs.lemmas.Str.{chars-encodes, encodes-chars, scalars-chars}
+use Rattle.std.proofs.lemmas.Str.{chars-encodes, encodes-chars, scalars-chars, encode_ascii, inside_one}
+use Rattle.std.proofs.lemmas.List.Elements.{All-nil, All-cons, All-head, All-tail, All-append, All-from_get_or}
+use Rattle.std.proofs.lemmas.List.Recursion.{is_sum_by}
+use Rattle.std.proofs.lemmas.List.Sorted.{All-permutation, sum_by-IsPermutation}
+use Rattle.bson_model.specs.Bytes.{NulFree}
 use Rattle.bson_model.specs.Options.{put_in_order, ascending, sorted_options, OptionsAscend, OrdersOptions}
 use Rattle.bson_model.proofs.Ascending.{IsPermutation-ascending, IsNonDecreasing-ascending, ascending_unique, ascending_same}
 
@@ -64,3 +69,43 @@ OptionsAscend-from_same options text same = rw same at (OptionsAscend-sorted_opt
 -- a second time changes nothing
 pub sorted_options-twice : (options : List ℕ) → IsUtf8 options → sorted_options (sorted_options options) ≡ sorted_options options
 sorted_options-twice options text = sorted_options-same (sorted_options options) (IsUtf8-sorted_options options text) (OptionsAscend-sorted_options options text)
+
+after_front : (xs ys : List ℕ) → NulFree (xs ++ ys) → NulFree ys
+after_front [] ys h = h
+after_front (x ∷ xs) ys h = after_front xs ys (All-tail (λ b. b ≢ 0) x (xs ++ ys) h)
+
+no_nul_chars : (cs : List ℕ) → NulFree (encodes cs) → All (λ c. c ≢ 0) cs
+no_nul_chars [] h = All-nil (λ c. c ≢ 0)
+no_nul_chars (c ∷ cs) h =
+    All-cons (λ c. c ≢ 0) c cs
+    (λ z. let nul : encode c ≡ 0 ∷ [] = ap encode z ∙ encode_ascii 0 (lit< tt) in All-head (λ b. b ≢ 0) 0 (encodes cs) (rw nul at h) refl)
+    (no_nul_chars cs (after_front (encode c) (encodes cs) h))
+
+append_nil : (xs : List ℕ) → xs ++ [] ≡ xs
+append_nil [] = refl
+append_nil (x ∷ xs) = ap (λ l. x ∷ l) (append_nil xs)
+
+NulFree-encode : (c : ℕ) → c ≢ 0 → NulFree (encode c)
+NulFree-encode c other =
+    All-from_get_or (λ b. b ≢ 0) (encode c) 0
+    (λ k within z. other (inside_one c [] (encode c) k (sym (append_nil (encode c))) within (rw z (lit< tt)) ∙ z))
+
+NulFree-encodes : (cs : List ℕ) → All (λ c. c ≢ 0) cs → NulFree (encodes cs)
+NulFree-encodes [] h = All-nil (λ b. b ≢ 0)
+NulFree-encodes (c ∷ cs) h =
+    All-append (λ b. b ≢ 0) (encode c) (encodes cs) (NulFree-encode c (All-head (λ c. c ≢ 0) c cs h)) (NulFree-encodes cs (All-tail (λ c. c ≢ 0) c cs h))
+
+-- it holds no 0 where the options hold none
+pub NulFree-sorted_options : (options : List ℕ) → IsUtf8 options → NulFree options → NulFree (sorted_options options)
+NulFree-sorted_options options text h =
+    let cs = chars options in
+    NulFree-encodes (ascending cs) (All-permutation (λ c. c ≢ 0) cs (ascending cs) (IsPermutation-ascending cs) (no_nul_chars cs (rw (encodes-chars options text) h)))
+
+length-encodes : (cs : List ℕ) → length (encodes cs) ≡ sum_by (λ c. length (encode c)) cs
+length-encodes cs = is_sum_by (λ ds. length (encodes ds)) (λ c. length (encode c)) refl (λ c ds. length-append (encode c) (encodes ds)) cs
+
+-- it is as long as the options
+pub length-sorted_options : (options : List ℕ) → IsUtf8 options → length (sorted_options options) ≡ length options
+length-sorted_options options text =
+    let cs = chars options in
+    length-encodes (ascending cs) ∙ sum_by-IsPermutation (λ c. length (encode c)) cs (ascending cs) (IsPermutation-ascending cs) ∙ sym (length-encodes cs) ∙ ap length (encodes-chars options text)

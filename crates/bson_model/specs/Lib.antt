@@ -1,4 +1,9 @@
+pub mod Bytes
 pub mod Leaf
 pub mod Options
+pub mod Pairs
+pub mod Proper
 pub mod Scalars
 pub mod Subtype
+pub mod Tree
+pub mod formers

@@ -60,7 +60,8 @@ impl BinarySubtype {
     }
 }
 
-/// Bytes with a subtype (BSON 1.1, `binary`). Of the old binary subtype these are the bytes without the inner length.
+/// Bytes with a subtype (BSON 1.1, `binary`). Of the old binary subtype these are the bytes without the
+/// inner length.
 #[derive(Debug, PartialEq, Eq, Drop)]
 pub struct Binary {
     pub subtype: BinarySubtype,

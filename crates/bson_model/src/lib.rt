@@ -1,15 +1,21 @@
 //! The values of BSON, and the trees that documents stand for.
-#![tactic(auto)]
+#![tactic(auto, using(crate::proofs::Trees::tree_laws))]
 
 mod binaries;
+mod bson;
 mod errors;
+mod laws;
 mod numbers;
 mod object_id;
+mod pairs;
+mod ranges;
 mod regexes;
 mod times;
 
 pub use binaries::{Binary, BinarySubtype};
+pub use bson::{Bson, Document, JavaScriptCodeWithScope};
 pub use errors::NoMemory;
+pub use laws::{attest_document, attest_list, attest_value, is_same_document, is_same_tree};
 pub use numbers::{Decimal128, DoubleBits};
 pub use object_id::{DbPointer, ObjectId};
 pub use regexes::Regex;

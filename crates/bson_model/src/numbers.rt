@@ -1,5 +1,8 @@
 ghost use Rattle.std.specs.Prelude.{◌≡◌};
+ghost use Rattle.bson_model.specs.Bytes.{AreBytesOf};
 ghost use Rattle.bson_model.specs.Scalars.{bytes_of_decimal128};
+
+use crate::ranges::attest_bytes;
 
 /// A double by its 64 bits, so that equality is equality of bits (BSON 1.1, `double`).
 #[derive(Clone, Copy, Debug, PartialEq, Eq)]
@@ -21,8 +24,10 @@ impl Decimal128 {
 
     /// Its sixteen bytes, in order.
     pub fn bytes(self) -> [u8; 16]
-        ensures { result ≡ bytes_of_decimal128 self }
+        ensures bytes { result ≡ bytes_of_decimal128 self }
+        ensures in_range { AreBytesOf 16 result }
     {
+        attest_bytes(&self.bytes[..]);
         self.bytes
     }
 }

@@ -1,9 +1,11 @@
 ghost use Rattle.std.specs.Prelude.{◌≡◌, length, IfOk};
 ghost use Rattle.std.specs.String.{string_bytes};
 ghost use Rattle.hex.specs.Hex.{encode_lower};
+ghost use Rattle.bson_model.specs.Bytes.{AreBytesOf};
 ghost use Rattle.bson_model.specs.Scalars.{bytes_of_object_id};
 
 use crate::errors::NoMemory;
+use crate::ranges::attest_bytes;
 use std::alloc::Global;
 
 /// Twelve bytes that name an object (BSON 1.1, element of type ObjectId).
@@ -22,8 +24,10 @@ impl ObjectId {
 
     /// Its twelve bytes, in order.
     pub fn bytes(self) -> [u8; 12]
-        ensures { result ≡ bytes_of_object_id self }
+        ensures bytes { result ≡ bytes_of_object_id self }
+        ensures in_range { AreBytesOf 12 result }
     {
+        attest_bytes(&self.bytes[..]);
         self.bytes
     }
 
@@ -32,7 +36,7 @@ impl ObjectId {
         ensures digits { IfOk result (λ text. string_bytes text ≡ encode_lower (bytes_of_object_id self)) }
         ensures length { IfOk result (λ text. length (string_bytes text) ≡ 24) }
     {
-        Ok(hex::encode(alloc, &self.bytes[..])?)
+        Ok(hex::encode(alloc, &self.bytes()[..])?)
     }
 }
 

@@ -1,7 +1,9 @@
 use crate::{
-    Binary, BinarySubtype, DateTime, DbPointer, Decimal128, DoubleBits, NoMemory, ObjectId, Regex,
-    Timestamp,
+    Binary, BinarySubtype, Bson, DateTime, DbPointer, Decimal128, Document, DoubleBits,
+    JavaScriptCodeWithScope, NoMemory, ObjectId, Regex, Timestamp, attest_document, attest_list,
+    attest_value, is_same_document, is_same_tree,
 };
+use std::alloc::{AllocError, Global};
 use std::test::Fail;
 
 #[test]
@@ -115,5 +117,163 @@ fn the_rest_is_printed(rt: HostRuntime) -> Result<(), Fail> {
         format!(in rt.alloc(); "{NoMemory:?}")?.as_str(),
         "NoMemory"
     );
+    Ok(())
+}
+
+fn text(alloc: Global, content: &str) -> Result<String, AllocError> {
+    String::from_str(alloc, content)
+}
+
+// The pairs b: 3 and a: 2, where b was 1 first.
+fn two_pairs(alloc: Global) -> Result<Document, Fail> {
+    let mut document = Document::new(alloc);
+    for (key, number) in [("b", 1), ("a", 2), ("b", 3)] {
+        document.insert(text(alloc, key)?, Bson::Int32(number))?;
+    }
+    Ok(document)
+}
+
+#[test]
+fn a_document_is_its_pairs_in_order(rt: HostRuntime) -> Result<(), Fail> {
+    let document = two_pairs(rt.alloc())?;
+    assert!(rt; !document.is_empty());
+    assert_eq!(rt; document.len(), 2);
+    assert!(rt; document.pair_at(0) == Some(("b", &Bson::Int32(3))));
+    assert!(rt; document.pair_at(1) == Some(("a", &Bson::Int32(2))));
+    assert!(rt; document.pair_at(2).is_none());
+    assert!(rt; document.get("a") == Some(&Bson::Int32(2)));
+    assert!(rt; document.get("c").is_none());
+    Ok(())
+}
+
+#[test]
+fn insert_answers_the_old_value(rt: HostRuntime) -> Result<(), Fail> {
+    let mut document = Document::new(rt.alloc());
+    assert!(rt; document.is_empty());
+    let new = document.insert(text(rt.alloc(), "b")?, Bson::Int32(1))?;
+    assert!(rt; new.is_none());
+    let old = document.insert(text(rt.alloc(), "b")?, Bson::Int32(2))?;
+    assert!(rt; old == Some(Bson::Int32(1)));
+    Ok(())
+}
+
+#[test]
+fn the_order_of_keys_counts(rt: HostRuntime) -> Result<(), Fail> {
+    let document = two_pairs(rt.alloc())?;
+    let mut other = Document::new(rt.alloc());
+    for (key, number) in [("a", 2), ("b", 3)] {
+        other.insert(text(rt.alloc(), key)?, Bson::Int32(number))?;
+    }
+    assert!(rt; !is_same_document(&document, &other));
+    Ok(())
+}
+
+// A value of each variant, by its place.
+fn value_of(alloc: Global, variant: u8) -> Result<Bson, Fail> {
+    match variant {
+        0 => Ok(Bson::Double(DoubleBits(0))),
+        1 => Ok(Bson::String(text(alloc, "s")?)),
+        2 => Ok(Bson::Document(holding(alloc, Bson::Null)?)),
+        3 => Ok(Bson::Array(vec![in alloc; Bson::MinKey]?)),
+        4 => Ok(Bson::Binary(Binary {
+            subtype: BinarySubtype::BinaryOld,
+            bytes: Vec::new(alloc),
+        })),
+        5 => Ok(Bson::Undefined),
+        6 => Ok(Bson::ObjectId(ObjectId::from_bytes([0; 12]))),
+        7 => Ok(Bson::Boolean(true)),
+        8 => Ok(Bson::DateTime(DateTime::from_millis(0))),
+        9 => Ok(Bson::Null),
+        10 => Ok(Bson::RegularExpression(Regex::new(alloc, "p", "o")?)),
+        _ => rarer_value_of(alloc, variant),
+    }
+}
+
+fn rarer_value_of(alloc: Global, variant: u8) -> Result<Bson, Fail> {
+    match variant {
+        11 => Ok(Bson::DbPointer(DbPointer {
+            namespace: text(alloc, "n")?,
+            id: ObjectId::from_bytes([0; 12]),
+        })),
+        12 => Ok(Bson::JavaScriptCode(text(alloc, "c")?)),
+        13 => Ok(Bson::Symbol(text(alloc, "t")?)),
+        14 => Ok(Bson::JavaScriptCodeWithScope(JavaScriptCodeWithScope {
+            code: text(alloc, "d")?,
+            scope: Document::new(alloc),
+        })),
+        15 => Ok(Bson::Int32(5)),
+        16 => Ok(Bson::Timestamp(Timestamp {
+            time: 6,
+            increment: 7,
+        })),
+        17 => Ok(Bson::Int64(8)),
+        18 => Ok(Bson::Decimal128(Decimal128::from_bytes([0; 16]))),
+        19 => Ok(Bson::MaxKey),
+        _ => Ok(Bson::MinKey),
+    }
+}
+
+#[test]
+fn values_are_equal_only_to_their_like(rt: HostRuntime) -> Result<(), Fail> {
+    for i in 0..21 {
+        let value = value_of(rt.alloc(), i)?;
+        attest_value(&value);
+        if let Bson::Array(members) = &value {
+            attest_list(members);
+        }
+        for j in 0..21 {
+            let other = value_of(rt.alloc(), j)?;
+            assert_eq!(rt; value == other, i == j, "at {i} and {j}");
+            assert_eq!(rt; is_same_tree(&value, &other), i == j, "at {i} and {j}");
+        }
+    }
+    Ok(())
+}
+
+#[test]
+fn a_document_is_printed_in_order(rt: HostRuntime) -> Result<(), Fail> {
+    let pairs = two_pairs(rt.alloc())?;
+    assert_eq!(rt;
+        format!(in rt.alloc(); "{pairs:?}")?.as_str(),
+        "Document { pairs: {\"b\": Int32(3), \"a\": Int32(2)} }"
+    );
+    let document = holding(rt.alloc(), Bson::Document(pairs))?;
+    assert_eq!(rt;
+        format!(in rt.alloc(); "{document:?}")?.as_str(),
+        "Document { pairs: {\"key\": Document(Document { pairs: {\"b\": Int32(3), \"a\": Int32(2)} })} }"
+    );
+    Ok(())
+}
+
+// Documents, lists and codes with scope in turn, 500 levels deep, round a number.
+fn nested(alloc: Global, innermost: i32) -> Result<Document, Fail> {
+    let mut value = Bson::Int32(innermost);
+    for level in 0..500 {
+        value = match level % 3 {
+            0 => Bson::Document(holding(alloc, value)?),
+            1 => Bson::Array(vec![in alloc; value]?),
+            _ => Bson::JavaScriptCodeWithScope(JavaScriptCodeWithScope {
+                code: text(alloc, "code")?,
+                scope: holding(alloc, value)?,
+            }),
+        };
+    }
+    holding(alloc, value)
+}
+
+fn holding(alloc: Global, value: Bson) -> Result<Document, Fail> {
+    let mut document = Document::new(alloc);
+    document.insert(text(alloc, "key")?, value)?;
+    Ok(document)
+}
+
+#[test]
+fn five_hundred_levels_are_compared_and_dropped(rt: HostRuntime) -> Result<(), Fail> {
+    let document = nested(rt.alloc(), 1)?;
+    let same = nested(rt.alloc(), 1)?;
+    let other = nested(rt.alloc(), 2)?;
+    attest_document(&document);
+    assert!(rt; document == same);
+    assert!(rt; document != other);
     Ok(())
 }

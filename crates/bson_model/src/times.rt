@@ -26,6 +26,8 @@ impl DateTime {
 /// A time in seconds and a counter within it, for internal use of databases (BSON 1.1, Timestamp).
 #[derive(Clone, Copy, Debug, PartialEq, Eq)]
 pub struct Timestamp {
+    /// Seconds since the start of 1970.
     pub time: u32,
+    /// The place among the operations of that second.
     pub increment: u32,
 }

@@ -3,7 +3,7 @@ ghost use Rattle.std.specs.String.{string_bytes};
 ghost use Rattle.raw_view.specs.Document.{bytes_of};
 ghost use Rattle.raw_view.specs.Errors.{TellsFault};
 ghost use Rattle.raw_view.specs.Frame.{Fault, Stopped};
-ghost use Rattle.raw_view.specs.Items.{frame_of};
+ghost use Rattle.raw_view.specs.ElementSteps.{frame_of};
 ghost use Rattle.bsonraw.specs.Print.{PrintsBytes, PrintsList, PrintsWalk, IsRefusal, digits_of, end_line, frame_line, key_text, refusal_line};
 ghost use Rattle.bsonraw.specs.Status.{code_of};
 

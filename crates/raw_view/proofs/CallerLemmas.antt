@@ -3,7 +3,7 @@ use Rattle.std.proofs.Common.{ℕ, List, [], ◌∷◌, ◌++◌, ◌+◌, ◌*�
 use Rattle.raw_view.specs.declared.element.RawElement.{RawElement}
 use Rattle.raw_view.specs.declared.error.Error.{Error}
 use Rattle.raw_view.specs.Frame.{Frame, IsFrame, Fault, IsWalk, End, Done, Stopped, LeadsTo, EndsIn}
-use Rattle.raw_view.specs.Items.{StepsElement, frame_of, HasRead}
+use Rattle.raw_view.specs.ElementSteps.{StepsElement, frame_of, HasRead}
 use Rattle.raw_view.specs.Errors.{TellsFault}
 
 pub LeadsTo-walk : (s : List ℕ) (fs : List Frame) (r : List ℕ) (end : End) → LeadsTo s fs r → EndsIn r end → IsWalk s fs end

@@ -1,21 +1,24 @@
 -- Steps over the items.
-use Rattle.std.proofs.Common.{◌≡◌, ℕ, List, [], ◌∷◌, sym, subst, refl, Option, Some, None, Result, Ok, Err, inl, inr}
+use Rattle.std.proofs.Common.{◌≡◌, ℕ, List, [], ◌∷◌, sym, subst, refl, Option, Some, None, Result, Ok, Err, inl, inr, drop, length, ◌-◌, get_or, arith, ap, ◌∙◌}
 use denote.Ref.{Bor}
+use Rattle.std.proofs.lemmas.List.{drop_more, drop_all, length-drop}
+use Rattle.std.proofs.lemmas.Option.{get_or_from_slice_get}
+use Rattle.raw_view.specs.Envelope.{IsEnvelope}
 use Rattle.std.specs.Iterator.{Yields, Drains}
 use Rattle.raw_view.specs.declared.element.RawElement.{RawElement}
 use Rattle.raw_view.specs.declared.bson_ref.RawBsonRef.{RawBsonRef}
 use Rattle.raw_view.specs.declared.error.Error.{Error}
 use Rattle.raw_view.specs.Frame.{Frame, IsWalk, End, Done, Stopped}
-use Rattle.raw_view.specs.Meaning.{Meaning, value, faulty, Means}
-use Rattle.raw_view.specs.Item.{Item, failed, item_of, ItemsOf}
-use Rattle.raw_view.specs.Items.{StepsElement, frame_of}
-use Rattle.raw_view.specs.Answers.{StepsItem, TellsItem, TellsItems, StepsValue, TellsValue, TellsValues, TellsMeaning}
+use Rattle.raw_view.specs.Meaning.{Meaning, Means}
+use Rattle.raw_view.specs.Item.{Item, entry, stopped, ItemsOf, AreItems}
+use Rattle.raw_view.specs.ElementSteps.{StepsElement, frame_of}
+use Rattle.raw_view.specs.Answers.{StepsItem, TellsItem, TellsItems, StepsValue, TellsValues, TellsMeaning}
 
 pub item_none : (old new : Option (List ℕ)) → StepsElement old None new → StepsItem old None new
 item_none None new st = (refl, st.1)
 item_none (Some s) new st = st
 
-pub item_ok : (old new : Option (List ℕ)) (e : RawElement) (out : Result (Bor (List ℕ) × RawBsonRef) Error) → StepsElement old (Some (Ok e)) new → (m : Meaning) × Means (frame_of e) m × TellsItem out (item_of (frame_of e).key m) → StepsItem old (Some out) new
+pub item_ok : (old new : Option (List ℕ)) (e : RawElement) (out : Result (Bor (List ℕ) × RawBsonRef) Error) → StepsElement old (Some (Ok e)) new → (m : Meaning) × Means (frame_of e) m × TellsItem out (entry (frame_of e).key m) → StepsItem old (Some out) new
 item_ok None new e out st h = let bad : ◌≡◌ {A = Option (Result RawElement Error)} (Some (Ok e)) None = st.0 in cc
 item_ok (Some s) new e out st h = inl (frame_of e, st.0, h.0, st.1, h.1, h.2, st.2)
 
@@ -42,10 +45,10 @@ items_of s (x ∷ xs) d =
           let f = a.0 in
           let rest : Drains StepsItem (Some a.1) xs = (d.0, (d.1.0, subst (λ (x : Option (List ℕ)). Yields StepsItem x xs d.1.0) a.6 d.1.1.2, d.1.2)) in
           let w = items_of a.1 xs rest in
-          (f ∷ w.0, w.1, item_of f.key a.2 ∷ w.2, (a.1, a.3, w.3), (a.2, w.2, a.4, refl, w.4), (a.5, w.5))
+          (f ∷ w.0, w.1, entry f.key a.2 ∷ w.2, (a.1, a.3, w.3), (a.2, w.2, a.4, refl, w.4), (a.5, w.5))
       | inr b ↦
           let none : xs ≡ [] = none_after xs d.1.0 (subst (λ (x : Option (List ℕ)). Yields StepsItem x xs d.1.0) b.3 d.1.1.2) in
-          ([], Stopped b.0.fault b.0.key, failed b.0 ∷ [], b.1, refl, subst (λ (ys : List (Result (Bor (List ℕ) × RawBsonRef) Error)). TellsItems (x ∷ ys) (failed b.0 ∷ [])) (sym none) (b.2, tt))
+          ([], Stopped b.0.fault b.0.key, stopped b.0 ∷ [], b.1, refl, subst (λ (ys : List (Result (Bor (List ℕ) × RawBsonRef) Error)). TellsItems (x ∷ ys) (stopped b.0 ∷ [])) (sym none) (b.2, tt))
     ]
 
 -- the same over the values of an array
@@ -53,19 +56,13 @@ items_of s (x ∷ xs) d =
 abbrev ToldValues : List ℕ → List (Result RawBsonRef Error) → Type 0
 ToldValues s xs = (frames : List Frame) × (end : End) × (items : List Item) × IsWalk s frames end × ItemsOf frames end items × TellsValues xs items
 
-value_told : (out : Result RawBsonRef Error) (key : List ℕ) (m : Meaning) → TellsMeaning out m → TellsValue out (item_of key m)
-value_told (Ok x) key (value v) h = h
-value_told (Ok x) key (faulty fault) h = h
-value_told (Err e) key (value v) h = h
-value_told (Err e) key (faulty fault) h = h
-
 pub value_none : (old new : Option (List ℕ)) → StepsElement old None new → StepsValue old None new
 value_none None new st = (refl, st.1)
 value_none (Some s) new st = st
 
 pub value_ok : (old new : Option (List ℕ)) (e : RawElement) (out : Result RawBsonRef Error) → StepsElement old (Some (Ok e)) new → (m : Meaning) × Means (frame_of e) m × TellsMeaning out m → StepsValue old (Some out) new
 value_ok None new e out st h = let bad : ◌≡◌ {A = Option (Result RawElement Error)} (Some (Ok e)) None = st.0 in cc
-value_ok (Some s) new e out st h = inl (frame_of e, st.0, h.0, st.1, h.1, value_told out (frame_of e).key h.0 h.2, st.2)
+value_ok (Some s) new e out st h = inl (frame_of e, st.0, h.0, st.1, h.1, h.2, st.2)
 
 pub value_stop : (old new : Option (List ℕ)) (e : Error) → StepsElement old (Some (Err e)) new → StepsValue old (Some (Err e)) new
 value_stop None new e st = let bad : ◌≡◌ {A = Option (Result RawElement Error)} (Some (Err e)) None = st.0 in cc
@@ -86,8 +83,33 @@ values_of s (x ∷ xs) d =
           let f = a.0 in
           let rest : Drains StepsValue (Some a.1) xs = (d.0, (d.1.0, subst (λ (x : Option (List ℕ)). Yields StepsValue x xs d.1.0) a.6 d.1.1.2, d.1.2)) in
           let w = values_of a.1 xs rest in
-          (f ∷ w.0, w.1, item_of f.key a.2 ∷ w.2, (a.1, a.3, w.3), (a.2, w.2, a.4, refl, w.4), (a.5, w.5))
+          (f ∷ w.0, w.1, entry f.key a.2 ∷ w.2, (a.1, a.3, w.3), (a.2, w.2, a.4, refl, w.4), (a.5, w.5))
       | inr b ↦
           let none : xs ≡ [] = no_value_after xs d.1.0 (subst (λ (x : Option (List ℕ)). Yields StepsValue x xs d.1.0) b.3 d.1.1.2) in
-          ([], Stopped b.0.fault b.0.key, failed b.0 ∷ [], b.1, refl, subst (λ (ys : List (Result RawBsonRef Error)). TellsValues (x ∷ ys) (failed b.0 ∷ [])) (sym none) (b.2, tt))
+          ([], Stopped b.0.fault b.0.key, stopped b.0 ∷ [], b.1, refl, subst (λ (ys : List (Result RawBsonRef Error)). TellsValues (x ∷ ys) (stopped b.0 ∷ [])) (sym none) (b.2, tt))
     ]
+
+-- there is no item exactly where the final 0 stands behind the header
+pub no_items : (b : List ℕ) → drop 4 b ≡ 0 ∷ [] → AreItems b []
+no_items b e = ([], Done, e, refl)
+
+ends : (b : List ℕ) (frames : List Frame) (end : End) → IsWalk (drop 4 b) frames end → ItemsOf frames end [] → drop 4 b ≡ 0 ∷ []
+ends b [] Done w i = w
+ends b [] (Stopped fault key) w i = let bad : ◌≡◌ {A = List Item} [] (stopped (record { fault = fault; key = key }) ∷ []) = i in cc
+ends b (f ∷ fs) end w i = let bad : ◌≡◌ {A = List Item} [] (entry f.key i.0 ∷ i.1) = i.3 in cc
+
+pub no_items_end : (b : List ℕ) → AreItems b [] → drop 4 b ≡ 0 ∷ []
+no_items_end b a = ends b a.0 a.1 a.2 a.3
+
+-- so there is none exactly at five bytes
+pub five_is_empty : (b : List ℕ) → IsEnvelope b → length b ≡ 5 → AreItems b []
+five_is_empty b env five =
+    let at : length b - 1 ≡ 4 = omega arith in
+    let last : get_or b 4 0 ≡ 0 = get_or_from_slice_get b 4 0 0 (rw at at env.ended) in
+    let none : drop 5 b ≡ [] = drop_all 5 b (omega arith) in
+    no_items b (drop_more b 4 0 (omega arith) ∙ ap (λ x. x ∷ drop 5 b) last ∙ ap (λ (x : List ℕ). 0 ∷ x) none)
+
+pub empty_is_five : (b : List ℕ) → IsEnvelope b → AreItems b [] → length b ≡ 5
+empty_is_five b env a =
+    let one = ap length (no_items_end b a) in
+    omega (arith, one, length-drop 4 b, env.enough)

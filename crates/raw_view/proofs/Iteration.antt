@@ -13,7 +13,7 @@ use Rattle.raw_view.specs.Meaning.{KeyedFault}
 use Rattle.raw_view.specs.Answers.{Says}
 use Rattle.raw_view.specs.Front.{StopsWith, StepsFront, SaysFault, TellsBorrowed}
 use Rattle.raw_view.specs.Errors.{HasKeyCopy, Tells, TellsFault, key_of}
-use Rattle.raw_view.specs.Items.{StepsElement, frame_of, ListsWalk}
+use Rattle.raw_view.specs.ElementSteps.{StepsElement, frame_of, ListsWalk}
 use Rattle.raw_view.specs.Kind.{tag_of}
 
 -- the bytes behind a front, counted from the end

@@ -5,7 +5,7 @@ use Rattle.raw_view.specs.declared.bson_ref.RawBsonRef.{RawBsonRef}
 use Rattle.raw_view.specs.declared.error.Error.{Error}
 use Rattle.raw_view.specs.Frame.{Frame, Done, Stopped, LeadsTo}
 use Rattle.raw_view.specs.Meaning.{Meaning, value, faulty, Means}
-use Rattle.raw_view.specs.Items.{StepsElement, HasRead, frame_of}
+use Rattle.raw_view.specs.ElementSteps.{StepsElement, HasRead, frame_of}
 use Rattle.raw_view.specs.LookUp.{HasNoKey, FindsFrame, FindsEnd}
 use Rattle.raw_view.specs.Answers.{TellsMeaning, TellsFound}
 

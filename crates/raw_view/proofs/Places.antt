@@ -8,7 +8,7 @@ use Rattle.raw_view.specs.declared.error.ErrorKind.TheVariants as what
 use Rattle.raw_view.specs.declared.error.BorrowedError.{BorrowedError}
 use Rattle.raw_view.specs.Frame.{Frame, IsFrame, LeadsTo, Fault, IsStop, EndsIn, End, Done, Stopped, Malformed, Utf8}
 use Rattle.raw_view.specs.Meaning.{Meaning, Means, faulty, KeyedFault}
-use Rattle.raw_view.specs.Items.{frame_of}
+use Rattle.raw_view.specs.ElementSteps.{frame_of}
 use Rattle.raw_view.specs.Front.{StepsFront, StopsWith, SaysFault, TellsBorrowed}
 use Rattle.raw_view.specs.LookUp.{MeansAt, EndsAt}
 

@@ -11,6 +11,7 @@ use Rattle.raw_view.specs.declared.access.ValueAccessErrorKind.{ValueAccessError
 use Rattle.raw_view.specs.declared.access.ValueAccessErrorKind.TheVariants as access
 use Rattle.raw_view.specs.Meaning.{RawValue, single, document, array, scoped, KeyedFault, Meaning, value, faulty}
 use Rattle.raw_view.specs.Answers.{Says}
+use Rattle.raw_view.specs.Errors.{key_of}
 use Rattle.raw_view.specs.Value.{value_of, kind_of_value}
 use Rattle.raw_view.specs.declared.bson_ref.RawBsonRef.{RawBsonRef}
 
@@ -37,6 +38,15 @@ kind_of_leaf (int64 _) = kind.Int64
 kind_of_leaf (decimal128 _) = kind.Decimal128
 kind_of_leaf max_key = kind.MaxKey
 kind_of_leaf min_key = kind.MinKey
+
+-- two errors of one kind with one key
+abbrev pub IsSameError : Error → Error → Type 0
+IsSameError s t = (t.kind ≡ s.kind) × (key_of t ≡ key_of s)
+
+-- two reasons for no value that are the same
+abbrev pub IsSameAccess : ValueAccessErrorKind → ValueAccessErrorKind → Type 0
+IsSameAccess (access.InvalidBson s) (access.InvalidBson t) = IsSameError s t
+IsSameAccess s t = t ≡ s
 
 -- the kind of a value
 abbrev pub kind_of_raw : RawValue → ElementType

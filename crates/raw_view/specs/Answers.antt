@@ -6,7 +6,7 @@ use Rattle.raw_view.specs.declared.error.Error.{Error}
 use Rattle.raw_view.specs.Frame.{Frame, IsFrame, IsStop}
 use Rattle.raw_view.specs.Errors.{TellsFault}
 use Rattle.raw_view.specs.Meaning.{KeyedFault, Meaning, value, faulty, Means}
-use Rattle.raw_view.specs.Item.{Item, entry, failed, item_of}
+use Rattle.raw_view.specs.Item.{Item, entry, stopped}
 use Rattle.raw_view.specs.Value.{value_of}
 
 -- the error says the fault with its key; for a fault that has a key, it may say that memory ran out
@@ -30,10 +30,12 @@ TellsFound (Err e) (Some (faulty fault)) = Says e fault
 
 -- a key and its value, or the fault
 abbrev pub TellsItem : Result (Bor (List ℕ) × RawBsonRef) Error → Item → Type 0
-TellsItem (Ok p) (entry key v) = (p.0.now ≡ key) × (value_of p.1 ≡ v)
-TellsItem (Ok p) (failed fault) = ⊥
-TellsItem (Err e) (entry key v) = ⊥
-TellsItem (Err e) (failed fault) = Says e fault
+TellsItem (Ok p) (entry key (value v)) = (p.0.now ≡ key) × (value_of p.1 ≡ v)
+TellsItem (Ok p) (entry key (faulty fault)) = ⊥
+TellsItem (Ok p) (stopped fault) = ⊥
+TellsItem (Err e) (entry key (value v)) = ⊥
+TellsItem (Err e) (entry key (faulty fault)) = Says e fault
+TellsItem (Err e) (stopped fault) = Says e fault
 
 -- the same of each
 abbrev pub TellsItems : List (Result (Bor (List ℕ) × RawBsonRef) Error) → List Item → Type 0
@@ -48,15 +50,14 @@ abbrev pub StepsItem : Option (List ℕ) → Option (Result (Bor (List ℕ) × R
 StepsItem None out t = (out ≡ None) × (t ≡ None)
 StepsItem (Some s) None t = (s ≡ 0 ∷ []) × (t ≡ Some s)
 StepsItem (Some s) (Some out) t =
-    ((f : Frame) × (r : List ℕ) × (m : Meaning) × IsFrame s f r × Means f m × TellsItem out (item_of f.key m) × (t ≡ Some r))
-    ⊎ ((fault : KeyedFault) × IsStop s fault.fault fault.key × TellsItem out (failed fault) × (t ≡ None))
+    ((f : Frame) × (r : List ℕ) × (m : Meaning) × IsFrame s f r × Means f m × TellsItem out (entry f.key m) × (t ≡ Some r))
+    ⊎ ((fault : KeyedFault) × IsStop s fault.fault fault.key × TellsItem out (stopped fault) × (t ≡ None))
 
 -- a value, or the fault; the key of the frame is left away
 abbrev pub TellsValue : Result RawBsonRef Error → Item → Type 0
-TellsValue (Ok x) (entry key v) = value_of x ≡ v
-TellsValue (Ok x) (failed fault) = ⊥
-TellsValue (Err e) (entry key v) = ⊥
-TellsValue (Err e) (failed fault) = Says e fault
+TellsValue out (entry key m) = TellsMeaning out m
+TellsValue (Ok x) (stopped fault) = ⊥
+TellsValue (Err e) (stopped fault) = Says e fault
 
 -- the same of each
 abbrev pub TellsValues : List (Result RawBsonRef Error) → List Item → Type 0
@@ -70,5 +71,5 @@ abbrev pub StepsValue : Option (List ℕ) → Option (Result RawBsonRef Error) �
 StepsValue None out t = (out ≡ None) × (t ≡ None)
 StepsValue (Some s) None t = (s ≡ 0 ∷ []) × (t ≡ Some s)
 StepsValue (Some s) (Some out) t =
-    ((f : Frame) × (r : List ℕ) × (m : Meaning) × IsFrame s f r × Means f m × TellsValue out (item_of f.key m) × (t ≡ Some r))
-    ⊎ ((fault : KeyedFault) × IsStop s fault.fault fault.key × TellsValue out (failed fault) × (t ≡ None))
+    ((f : Frame) × (r : List ℕ) × (m : Meaning) × IsFrame s f r × Means f m × TellsValue out (entry f.key m) × (t ≡ Some r))
+    ⊎ ((fault : KeyedFault) × IsStop s fault.fault fault.key × TellsValue out (stopped fault) × (t ≡ None))

@@ -4,7 +4,7 @@ use Rattle.raw_view.specs.Number.{IsBytes, IsLe32}
 use Rattle.raw_view.specs.declared.error.Reason.{Reason}
 use Rattle.raw_view.specs.declared.error.Reason.TheVariants as reason
 
--- at least five bytes; the first four are the length of the whole; the last is 0
+-- each is a byte; at least five; the first four are the length of the whole; the last is 0
 pub record IsEnvelope (b : List ℕ) : Type 0 where
   pub bytes : IsBytes b
   pub enough : 5 ≤ length b

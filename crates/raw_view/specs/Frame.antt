@@ -1,4 +1,6 @@
--- What stands in a document: frames, and where they end. Relations between whole byte lists.
+-- What stands in a document: frames, and where they end. Relations between whole byte lists: s is what is
+-- left of a document, p a payload, r what stands behind it, each a list of bytes; that they are bytes is what
+-- the envelope of the document says.
 use Rattle.std.specs.Prelude.{◌≡◌, ◌≢◌, ◌⊎◌, ℕ, ◌+◌, ◌≤◌, pos, List, [], ◌∷◌, ◌++◌, length, take, Option, Some, None}
 use Rattle.std.specs.Str.{IsUtf8}
 use Rattle.raw_view.specs.Number.{IsLe32}
@@ -75,7 +77,7 @@ HasShape kind.Decimal128 p r = length p ≡ 16
 HasShape kind.MaxKey p r = length p ≡ 0
 HasShape kind.MinKey p r = length p ≡ 0
 
--- p is a payload of this kind, whatever stands behind it
+-- p is a payload of this kind where some bytes stand behind it
 abbrev pub HasPayload : ElementType → List ℕ → Type 0
 HasPayload kind p = (r : List ℕ) × HasShape kind p r
 

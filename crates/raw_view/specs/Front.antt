@@ -8,7 +8,7 @@ use Rattle.raw_view.specs.declared.front.Front.TheVariants as front
 use Rattle.raw_view.specs.declared.error.ErrorKind.{ErrorKind}
 use Rattle.raw_view.specs.declared.error.ErrorKind.TheVariants as kind
 use Rattle.raw_view.specs.Frame.{IsFrame, Fault, Malformed, Utf8, IsStop, HasNoNul, BeginsWithBadText, HasBadText}
-use Rattle.raw_view.specs.Items.{frame_of}
+use Rattle.raw_view.specs.ElementSteps.{frame_of}
 use Rattle.raw_view.specs.Meaning.{KeyedFault}
 
 -- s stops with a fault of this kind

@@ -12,5 +12,5 @@ pub mod LookUp
 pub mod Answers
 pub mod Access
 pub mod Typed
-pub mod Items
+pub mod ElementSteps
 pub mod Front

@@ -11,7 +11,7 @@ use Rattle.raw_view.specs.declared.array.RawArray.{RawArray}
 use Rattle.raw_view.specs.Document.{bytes_of}
 use Rattle.raw_view.specs.Meaning.{RawValue, single, document, array, scoped}
 
--- the document whose bytes an array views
+-- the bytes that an array views
 abbrev pub array_bytes_of : RawArray → List ℕ
 array_bytes_of a = bytes_of a.document
 

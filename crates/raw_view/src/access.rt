@@ -93,6 +93,59 @@ impl ValueAccessError {
     }
 }
 
+impl fmt::Display for ValueAccessError {
+    fn fmt<W: fmt::Write>(&self, f: &mut fmt::Formatter<W>) -> fmt::Result {
+        let key = self.key.as_str();
+        write!(f, "error at key: \"{key}\": ")?;
+        match &self.kind {
+            ValueAccessErrorKind::NotPresent => write!(f, "value not present"),
+            ValueAccessErrorKind::UnexpectedType { expected, actual } => write!(
+                f,
+                " unexpected element type: {actual:?}, expected: {expected:?}"
+            ),
+            ValueAccessErrorKind::InvalidBson(error) => write!(f, ": {error}"),
+            ValueAccessErrorKind::OutOfMemory => write!(f, "out of memory"),
+        }
+    }
+}
+
+impl std::error::Error for ValueAccessError {}
+
+impl Clone for ValueAccessErrorKind {
+    ghost use Rattle.raw_view.specs.Access.{IsSameAccess};
+
+    ghost is_clone = { IsSameAccess };
+
+    fn clone(&self) -> std::result::Result<ValueAccessErrorKind, AllocError> {
+        match self {
+            ValueAccessErrorKind::NotPresent => Ok(ValueAccessErrorKind::NotPresent),
+            ValueAccessErrorKind::UnexpectedType { expected, actual } => {
+                Ok(ValueAccessErrorKind::UnexpectedType {
+                    expected: *expected,
+                    actual: *actual,
+                })
+            }
+            ValueAccessErrorKind::InvalidBson(error) => {
+                Ok(ValueAccessErrorKind::InvalidBson(error.clone()?))
+            }
+            ValueAccessErrorKind::OutOfMemory => Ok(ValueAccessErrorKind::OutOfMemory),
+        }
+    }
+}
+
+impl Clone for ValueAccessError {
+    ghost use Rattle.std.specs.Prelude.{◌≡◌};
+    ghost use Rattle.raw_view.specs.Access.{IsSameAccess, key_asked};
+
+    ghost is_clone = { λ s t. IsSameAccess s.kind t.kind × (key_asked t ≡ key_asked s) };
+
+    fn clone(&self) -> std::result::Result<ValueAccessError, AllocError> {
+        let kind = self.kind.clone()?;
+        let key = self.key.clone()?;
+        Ok(ValueAccessError { kind, key })
+    }
+}
+
 /// A type whose values a typed getter answers.
 pub(crate) trait Typed<'a>: Sized + Drop {
     ghost use Rattle.raw_view.specs.declared.element_type.ElementType.{ElementType};

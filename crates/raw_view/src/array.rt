@@ -5,12 +5,14 @@ use crate::bson_ref::{RawBinaryRef, RawBsonRef, RawRegexRef};
 use crate::document::RawDocument;
 use crate::elements::Elements;
 use crate::error::Result;
+use crate::hex_digits::HexDigits;
 use crate::iter::RawArrayIter;
 use bson_model::{DateTime, DoubleBits, ObjectId, Timestamp};
 use std::alloc::Global;
+use std::fmt;
 
 /// An array: a document whose keys are ignored. BSON 1.1, `array`.
-#[derive(Clone, Copy, Debug, PartialEq, Eq)]
+#[derive(Clone, Copy, PartialEq, Eq)]
 pub struct RawArray<'a> {
     document: RawDocument<'a>,
 }
@@ -57,7 +59,7 @@ impl<'a> RawArray<'a> {
     /// Whether iteration yields no item, which is exactly where there are five bytes.
     pub fn is_empty(self) -> bool
         ensures five { IsTrue result ↔ (length (array_bytes_of self.entry) ≡ 5) }
-        ensures no_item { IsTrue result ↔ (drop 4 (array_bytes_of self.entry) ≡ 0 ∷ []) }
+        ensures no_item { IsTrue result ↔ AreItems (array_bytes_of self.entry) [] }
     {
         self.document.is_empty()
     }
@@ -176,5 +178,12 @@ impl<'a> RawArray<'a> {
         ensures { (found : Option Meaning) × IsAt (array_bytes_of self.entry) index found × Gets typed.i64_value variants.Int64 (decimal index) found result }
     {
         self.get_typed(alloc, index)
+    }
+}
+
+impl fmt::Debug for RawArray<'_> {
+    fn fmt<W: fmt::Write>(&self, f: &mut fmt::Formatter<W>) -> fmt::Result {
+        let data = HexDigits(self.as_bytes());
+        write!(f, "RawArray {{ data: \"{data}\" }}")
     }
 }

@@ -6,14 +6,16 @@ use crate::access::{Typed, ValueAccessResult, typed_at_key};
 use crate::array::RawArray;
 use crate::bson_ref::{RawBinaryRef, RawBsonRef, RawRegexRef};
 use crate::error::{Error, ErrorKind, Reason, Result};
+use crate::hex_digits::HexDigits;
 use crate::iter::{Iter, RawIter};
 use bson_model::{DateTime, DoubleBits, ObjectId, Timestamp};
 use std::alloc::Global;
+use std::fmt;
 
 /// The bytes of one document with a sound envelope: at least five bytes, the first four are the length of
 /// the whole, the last is 0. What stands inside is looked at only where a call needs it.
 /// BSON 1.1, `document`.
-#[derive(Clone, Copy, Debug, PartialEq, Eq)]
+#[derive(Clone, Copy, PartialEq, Eq)]
 pub struct RawDocument<'a> {
     bytes: &'a [u8],
     ghost envelope: { IsEnvelope bytes.now },
@@ -38,7 +40,7 @@ impl<'a> RawDocument<'a> {
     ghost use Rattle.raw_view.specs.declared.bson_ref.RawBsonRef.{RawBsonRef};
     ghost use Rattle.std.specs.Iterator.{Drains};
     ghost use Rattle.raw_view.specs.Document.{bytes_of};
-    ghost use Rattle.raw_view.specs.Items.{StepsElement, ListsWalk};
+    ghost use Rattle.raw_view.specs.ElementSteps.{StepsElement, ListsWalk};
     ghost use Rattle.raw_view.specs.Frame.{Frame, End, IsWalk};
     ghost use Rattle.raw_view.specs.declared.element.RawElement.{RawElement};
     ghost use Rattle.raw_view.specs.declared.error.Error.{Error};
@@ -82,13 +84,13 @@ impl<'a> RawDocument<'a> {
     /// Whether iteration yields no item, which is exactly where there are five bytes.
     pub fn is_empty(self) -> bool
         ensures five { IsTrue result ↔ (length (bytes_of self.entry) ≡ 5) }
-        ensures no_item { IsTrue result ↔ (drop 4 (bytes_of self.entry) ≡ 0 ∷ []) }
+        ensures no_item { IsTrue result ↔ AreItems (bytes_of self.entry) [] }
     {
         self.bytes.len() == 5
     }
 
-    /// The elements in order, and then the fault at which they stop, if there is one. No value is looked
-    /// into and nothing is copied but the key of that fault. On n bytes at most (n - 4) / 2 + 1 items.
+    /// The elements in order, and then the fault at which they stop, if there is one. No value is
+    /// resolved and nothing is copied but the key of that fault. On n bytes at most (n - 4) / 2 + 1 items.
     pub fn iter_elements(self, alloc: Global) -> RawIter<'a>
         ensures begins { result ≡ Some (drop 4 (bytes_of self.entry)) }
         ensures walk { (items : List (Result RawElement Error)) → Drains StepsElement result items → (frames : List Frame) × (end : End) × IsWalk (drop 4 (bytes_of self.entry)) frames end × ListsWalk items frames end }
@@ -213,5 +215,12 @@ impl<'a> RawDocument<'a> {
         ensures { (found : Option Meaning) × LooksUp (bytes_of self.entry) key.now found × Gets typed.i64_value variants.Int64 key.now found result }
     {
         self.get_typed(alloc, key)
+    }
+}
+
+impl fmt::Debug for RawDocument<'_> {
+    fn fmt<W: fmt::Write>(&self, f: &mut fmt::Formatter<W>) -> fmt::Result {
+        let data = HexDigits(self.bytes);
+        write!(f, "RawDocument {{ data: \"{data}\" }}")
     }
 }

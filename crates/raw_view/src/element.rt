@@ -3,7 +3,7 @@ ghost use Rattle.raw_view.specs.Frame.{HasPayload};
 
 use crate::element_type::ElementType;
 
-/// One element: its key, its kind and the bytes of its payload, which no call has looked into.
+/// One element: its key, its kind and the bytes of its payload, whose value isn't resolved.
 #[derive(Clone, Copy, Debug)]
 pub struct RawElement<'a> {
     pub(crate) key: &'a str,
@@ -13,7 +13,7 @@ pub struct RawElement<'a> {
 }
 
 impl<'a> RawElement<'a> {
-    ghost use Rattle.raw_view.specs.Items.{frame_of};
+    ghost use Rattle.raw_view.specs.ElementSteps.{frame_of};
 
     /// The element's key.
     pub fn key(self) -> &'a str

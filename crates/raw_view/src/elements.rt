@@ -41,7 +41,7 @@ impl<'a> Elements<'a> {
 
 impl<'a> Iterator for Elements<'a> {
     ghost use Rattle.raw_view.specs.Front.{StepsFront};
-    ghost use Rattle.raw_view.specs.Items.{items_left};
+    ghost use Rattle.raw_view.specs.ElementSteps.{items_left};
 
     type Item = std::result::Result<RawElement<'a>, BorrowedError<'a>>;
 

@@ -148,6 +148,40 @@ impl Error {
     }
 }
 
+impl Clone for ErrorKind {
+    ghost use Rattle.std.specs.Prelude.{◌≡◌};
+
+    ghost is_clone = { λ s t. t ≡ s };
+
+    fn clone(&self) -> std::result::Result<ErrorKind, AllocError> {
+        match self {
+            ErrorKind::MalformedValue { reason } => Ok(ErrorKind::MalformedValue {
+                reason: *reason,
+            }),
+            ErrorKind::Utf8EncodingError(error) => Ok(ErrorKind::Utf8EncodingError(*error)),
+            ErrorKind::OutOfMemory => Ok(ErrorKind::OutOfMemory),
+        }
+    }
+}
+
+impl Clone for Error {
+    ghost use Rattle.std.specs.Prelude.{◌≡◌};
+    ghost use Rattle.raw_view.specs.Errors.{key_of};
+
+    ghost is_clone = { λ s t. (t.kind ≡ s.kind) × (key_of t ≡ key_of s) };
+
+    fn clone(&self) -> std::result::Result<Error, AllocError> {
+        let kind = self.kind.clone()?;
+        match &self.key {
+            None => Ok(Error { kind, key: None }),
+            Some(key) => Ok(Error {
+                kind,
+                key: Some(key.clone()?),
+            }),
+        }
+    }
+}
+
 /// An error that borrows the key: what a step answers that copies nothing.
 #[derive(Drop)]
 pub(crate) struct BorrowedError<'a> {

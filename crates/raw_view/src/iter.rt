@@ -39,7 +39,7 @@ impl<'a> RawIter<'a> {
 }
 
 impl<'a> Iterator for RawIter<'a> {
-    ghost use Rattle.raw_view.specs.Items.{StepsElement, items_left};
+    ghost use Rattle.raw_view.specs.ElementSteps.{StepsElement, items_left};
 
     type Item = Result<RawElement<'a>>;
 
@@ -88,7 +88,7 @@ impl<'a> Iter<'a> {
 
 impl<'a> Iterator for Iter<'a> {
     ghost use Rattle.raw_view.specs.Answers.{StepsItem};
-    ghost use Rattle.raw_view.specs.Items.{items_left};
+    ghost use Rattle.raw_view.specs.ElementSteps.{items_left};
 
     type Item = Result<(&'a str, RawBsonRef<'a>)>;
 
@@ -136,7 +136,7 @@ impl<'a> RawArrayIter<'a> {
 
 impl<'a> Iterator for RawArrayIter<'a> {
     ghost use Rattle.raw_view.specs.Answers.{StepsValue};
-    ghost use Rattle.raw_view.specs.Items.{items_left};
+    ghost use Rattle.raw_view.specs.ElementSteps.{items_left};
 
     type Item = Result<RawBsonRef<'a>>;
 

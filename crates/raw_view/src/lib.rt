@@ -1,4 +1,5 @@
-//! Borrowed views of raw BSON documents. Nothing is copied, and damage is met only where it is touched.
+//! Borrowed views of raw BSON documents. Values borrow from the document, and damage is met only where it is
+//! touched.
 #![tactic(auto)]
 
 mod access;
@@ -10,6 +11,7 @@ mod element_type;
 mod elements;
 mod error;
 mod front;
+mod hex_digits;
 mod iter;
 mod number;
 mod payload;

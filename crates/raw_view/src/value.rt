@@ -2,8 +2,8 @@ ghost use Rattle.std.specs.Prelude.{◌≡◌, length, take, drop, ℕ, List, If
 ghost use Rattle.std.specs.Str.{IsUtf8};
 ghost use Rattle.raw_view.specs.Frame.{HasText, HasPayload, IsBinary, IsDbPointer, IsRegex};
 ghost use Rattle.raw_view.specs.Answers.{TellsItem};
-ghost use Rattle.raw_view.specs.Item.{item_of};
-ghost use Rattle.raw_view.specs.Items.{frame_of};
+ghost use Rattle.raw_view.specs.Item.{entry};
+ghost use Rattle.raw_view.specs.ElementSteps.{frame_of};
 ghost use Rattle.bson_model.specs.Leaf.{binary, boolean};
 ghost use Rattle.raw_view.specs.Document.{bytes_of};
 ghost use Rattle.raw_view.specs.Envelope.{IsEnvelope};
@@ -156,7 +156,7 @@ fn code_with_scope_of<'a>(
 
 impl<'a> RawElement<'a> {
     ghost use Rattle.raw_view.specs.Errors.{TellsFault};
-    ghost use Rattle.raw_view.specs.Items.{frame_of};
+    ghost use Rattle.raw_view.specs.ElementSteps.{frame_of};
     ghost use Rattle.raw_view.specs.Meaning.{Means, MeansFault, value};
     ghost use Rattle.raw_view.specs.Value.{value_of};
 
@@ -206,7 +206,7 @@ impl<'a> RawElement<'a> {
 
 impl<'a> RawElement<'a> {
     ghost use Rattle.raw_view.specs.Answers.{TellsMeaning};
-    ghost use Rattle.raw_view.specs.Items.{frame_of};
+    ghost use Rattle.raw_view.specs.ElementSteps.{frame_of};
     ghost use Rattle.raw_view.specs.Meaning.{Meaning, Means};
 
     /// The value that the payload means, with its parts borrowed from the document; or its fault, with a
@@ -233,7 +233,7 @@ pub(crate) fn keyed_value<'a>(
     element: RawElement<'a>,
     alloc: Global,
 ) -> crate::error::Result<(&'a str, RawBsonRef<'a>)>
-    ensures { (m : Meaning) × Means (frame_of element.entry) m × TellsItem result (item_of (frame_of element.entry).key m) }
+    ensures { (m : Meaning) × Means (frame_of element.entry) m × TellsItem result (entry (frame_of element.entry).key m) }
 {
     match element.value(alloc) {
         Ok(value) => Ok((element.key(), value)),

@@ -1,6 +1,6 @@
 use Rattle.std.proofs.Common.{[], ◌∷◌, ◌++◌, Some, Result, Ok, Err, subst, ap, refl, sym, ◌∙◌}
 use Rattle.raw_view.specs.Frame.{Done, Stopped}
-use Rattle.raw_view.specs.Items.{StepsElement, frame_of}
+use Rattle.raw_view.specs.ElementSteps.{StepsElement, frame_of}
 use Rattle.raw_view.specs.declared.element.RawElement.{RawElement}
 use Rattle.raw_view.specs.declared.error.Error.{Error}
 use Rattle.raw_view.proofs.CallerLemmas.{HasRead-more, HasRead-end, HasRead-stop}

@@ -5,4 +5,4 @@ use Rattle.bson_model.proofs.object_id.ObjectId.to_hex.Goals as goal
 
 pub returns-clause-length : goal.returns-clause-length
 returns-clause-length c =
-    ap length c.in_ok-encode.ensures ∙ (length-encode_with lower_digits c.args.self.bytes ∙ ap (λ n. 2 * n) c.well_formed.0.1.1.0.1.0.1)
+    ap length c.in_ok-encode.ensures ∙ (length-encode_with lower_digits c.bytes.result ∙ ap (λ n. 2 * n) c.bytes.ensures.in_range.0)

@@ -2,7 +2,7 @@ use Rattle.std.proofs.Common.{◌≡◌, ◌≢◌, ◌++◌, ◌∷◌, [], Som
 use Rattle.std.proofs.lemmas.Result.{err_from_is_err_and}
 use Rattle.raw_view.specs.declared.element.RawElement.{RawElement}
 use Rattle.raw_view.specs.declared.error.Error.{Error}
-use Rattle.raw_view.specs.Items.{StepsElement, frame_of}
+use Rattle.raw_view.specs.ElementSteps.{StepsElement, frame_of}
 use Rattle.raw_view.proofs.CallerLemmas.{HasRead-more}
 use Rattle.raw_view.proofs.LookUps.{HasNoKey-more, found_frame, found_stop, found_none, found_value, found_fault}
 use Rattle.raw_view.proofs.document.RawDocument.get.Goals as goal

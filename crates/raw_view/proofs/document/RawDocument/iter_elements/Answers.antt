@@ -1,6 +1,6 @@
 use Rattle.std.proofs.Common.{Option, List, ℕ, subst}
 use Rattle.std.specs.Iterator.{Drains}
-use Rattle.raw_view.specs.Items.{StepsElement}
+use Rattle.raw_view.specs.ElementSteps.{StepsElement}
 use Rattle.raw_view.proofs.Iteration.{walk_of}
 use Rattle.raw_view.proofs.document.RawDocument.iter_elements.Goals as goal
 

@@ -1,5 +1,5 @@
 use Rattle.std.proofs.Common.{rules, ◌≡◌, Some, drop, ap, length, ◌-◌}
-use Rattle.raw_view.specs.Items.{frame_of}
+use Rattle.raw_view.specs.ElementSteps.{frame_of}
 use Rattle.raw_view.proofs.Iteration.{step_element, rest_from_end}
 use Rattle.raw_view.proofs.elements.ElementsIterator.next.Goals as goal
 

@@ -1,4 +1,4 @@
--- The items of iteration, against the walk.
+-- What iteration over elements gives, against the walk.
 use Rattle.std.specs.Prelude.{◌≡◌, ℕ, ◌+◌, ◌/◌, List, [], ◌∷◌, length, Option, None, Some, Result, Ok, Err}
 use Rattle.std.specs.Iterator.{Count, at_most}
 use Rattle.raw_view.specs.declared.element.RawElement.{RawElement}

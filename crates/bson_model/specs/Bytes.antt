@@ -1,0 +1,14 @@
+-- Lists of bytes.
+use Rattle.std.specs.Prelude.{◌≡◌, ◌≢◌, ℕ, ◌<◌, List, length, All}
+
+-- numbers below 256
+abbrev pub AreBytes : List ℕ → Type 0
+AreBytes bytes = All (λ b. b < 256) bytes
+
+-- so many bytes
+abbrev pub AreBytesOf : ℕ → List ℕ → Type 0
+AreBytesOf n bytes = (length bytes ≡ n) × AreBytes bytes
+
+-- no 0 is among the bytes
+abbrev pub NulFree : List ℕ → Type 0
+NulFree bytes = All (λ b. b ≢ 0) bytes

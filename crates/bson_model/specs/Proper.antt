@@ -1,0 +1,97 @@
+-- What holds of every part of a tree, and the trees that come back after they are written and read.
+use Rattle.std.specs.Prelude.{ℕ, ◌<◌, ◌^◌, List, [], ◌∷◌, FitsSigned}
+use Rattle.std.specs.Int.{w32, w64}
+use Rattle.std.specs.List.{IsDistinct}
+use Rattle.std.specs.Str.{IsUtf8, bytes_eq}
+use Rattle.bson_model.specs.Bytes.{AreBytes, AreBytesOf, NulFree}
+use Rattle.bson_model.specs.Leaf.{Leaf, double, string, binary, undefined, object_id, boolean, date_time, null, regular_expression, db_pointer, javascript_code, symbol, int32, timestamp, int64, decimal128, max_key, min_key}
+use Rattle.bson_model.specs.Options.{OptionsAscend}
+use Rattle.bson_model.specs.Subtype.{subtype_byte, IsProperSubtype}
+use Rattle.bson_model.specs.Tree.{Tree, Trees, Entries, leaf, array, document, code_with_scope, no_tree, tree_then, no_entry, entry_then}
+
+-- the keys, in order
+abbrev pub keys_in : Entries → List (List ℕ)
+keys_in no_entry = []
+keys_in (entry_then key t es) = key ∷ keys_in es
+
+-- each leaf meets the first fact, each text of a code the second, each key the third, and the keys of
+-- each document and scope the fourth
+module _ (OfLeaf : Leaf → Type 0) (OfCode OfKey : List ℕ → Type 0) (OfKeys : List (List ℕ) → Type 0) where
+  abbrev mutual
+    pub Everywhere : Tree → Type 0
+    Everywhere (leaf l) = OfLeaf l
+    Everywhere (array ts) = InTrees ts
+    Everywhere (document es) = OfKeys (keys_in es) × InEntries es
+    Everywhere (code_with_scope code es) = OfCode code × OfKeys (keys_in es) × InEntries es
+
+    pub InTrees : Trees → Type 0
+    InTrees no_tree = Unit {0}
+    InTrees (tree_then t ts) = Everywhere t × InTrees ts
+
+    pub InEntries : Entries → Type 0
+    InEntries no_entry = Unit {0}
+    InEntries (entry_then key t es) = OfKey key × Everywhere t × InEntries es
+
+-- what holds of every text or list of keys
+abbrev pub Whatever : {X : Type 0} → X → Type 0
+Whatever x = Unit {0}
+
+-- the numbers are in the ranges of their types, bytes are bytes, and texts are UTF-8
+abbrev pub IsLeafInRange : Leaf → Type 0
+IsLeafInRange (double bits) = bits < 2 ^ 64
+IsLeafInRange (string text) = IsUtf8 text
+IsLeafInRange (binary subtype bytes) = (subtype_byte subtype < 256) × AreBytes bytes
+IsLeafInRange undefined = Unit {0}
+IsLeafInRange (object_id bytes) = AreBytesOf 12 bytes
+IsLeafInRange (boolean b) = Unit {0}
+IsLeafInRange (date_time millis) = FitsSigned w64 millis
+IsLeafInRange null = Unit {0}
+IsLeafInRange (regular_expression pattern options) = IsUtf8 pattern × IsUtf8 options
+IsLeafInRange (db_pointer namespace id) = IsUtf8 namespace × AreBytesOf 12 id
+IsLeafInRange (javascript_code code) = IsUtf8 code
+IsLeafInRange (symbol text) = IsUtf8 text
+IsLeafInRange (int32 z) = FitsSigned w32 z
+IsLeafInRange (timestamp time increment) = (time < 2 ^ 32) × (increment < 2 ^ 32)
+IsLeafInRange (int64 z) = FitsSigned w64 z
+IsLeafInRange (decimal128 bytes) = AreBytesOf 16 bytes
+IsLeafInRange max_key = Unit {0}
+IsLeafInRange min_key = Unit {0}
+
+-- each leaf is in range, each code and key is UTF-8, and no key stands twice in a document or a scope:
+-- so is the tree of every value, document and list
+abbrev pub IsWellFormed : Tree → Type 0
+IsWellFormed = Everywhere IsLeafInRange IsUtf8 IsUtf8 (IsDistinct bytes_eq)
+
+-- no 0 is in the pattern and the options of a regular expression
+abbrev pub IsLeafNulFree : Leaf → Type 0
+IsLeafNulFree (regular_expression pattern options) = NulFree pattern × NulFree options
+IsLeafNulFree _ = Unit {0}
+
+-- no key, pattern or options holds a 0
+abbrev pub IsNulFree : Tree → Type 0
+IsNulFree = Everywhere IsLeafNulFree Whatever NulFree Whatever
+
+-- the options of a regular expression never descend
+abbrev pub DoLeafOptionsAscend : Leaf → Type 0
+DoLeafOptionsAscend (regular_expression pattern options) = OptionsAscend options
+DoLeafOptionsAscend _ = Unit {0}
+
+-- no options descend
+abbrev pub DoOptionsAscend : Tree → Type 0
+DoOptionsAscend = Everywhere DoLeafOptionsAscend Whatever Whatever Whatever
+
+-- the subtype of a binary value is the one that its byte stands for
+abbrev pub IsLeafSubtypeProper : Leaf → Type 0
+IsLeafSubtypeProper (binary subtype bytes) = IsProperSubtype subtype
+IsLeafSubtypeProper _ = Unit {0}
+
+-- each subtype is the one that its byte stands for
+abbrev pub AreSubtypesProper : Tree → Type 0
+AreSubtypesProper = Everywhere IsLeafSubtypeProper Whatever Whatever Whatever
+
+-- a tree that comes back as it is after it is written and read
+pub record IsProper (t : Tree) : Type 0 where
+  pub well_formed : IsWellFormed t
+  pub nul_free : IsNulFree t
+  pub options_ascend : DoOptionsAscend t
+  pub subtypes_proper : AreSubtypesProper t

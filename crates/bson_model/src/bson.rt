@@ -1,0 +1,111 @@
+ghost use Rattle.std.specs.Prelude.{◌≡◌, ◌↔◌, [], length, All, IsTrue, IsSome, IsOk, IfOk, OnOk};
+ghost use Rattle.std.specs.Prelude.{OnErr, option_copied, option_map, slice_get};
+ghost use Rattle.std.specs.Str.{IsUtf8};
+ghost use Rattle.std.specs.String.{string_bytes};
+ghost use Rattle.bson_model.specs.Pairs.{keys_of, value_at, with_pair, HasDistinctKeys};
+ghost use Rattle.bson_model.specs.Tree.{tree_of, pairs_of, with_trees};
+
+use crate::binaries::Binary;
+use crate::errors::NoMemory;
+use crate::numbers::{Decimal128, DoubleBits};
+use crate::object_id::{DbPointer, ObjectId};
+use crate::pairs::Pairs;
+use crate::regexes::Regex;
+use crate::times::{DateTime, Timestamp};
+use std::alloc::Global;
+
+/// A value of BSON (BSON 1.1, element).
+#[derive(Debug, PartialEq, Eq, Drop)]
+#[cycle(tree)]
+pub enum Bson {
+    Double(DoubleBits),
+    String(String),
+    Document(Document),
+    Array(Vec<Bson>),
+    Binary(Binary),
+    Undefined,
+    ObjectId(ObjectId),
+    Boolean(bool),
+    DateTime(DateTime),
+    Null,
+    RegularExpression(Regex),
+    DbPointer(DbPointer),
+    JavaScriptCode(String),
+    Symbol(String),
+    JavaScriptCodeWithScope(JavaScriptCodeWithScope),
+    Int32(i32),
+    Timestamp(Timestamp),
+    Int64(i64),
+    Decimal128(Decimal128),
+    MaxKey,
+    MinKey,
+}
+
+/// Pairs of a key and a value, in order, no key twice (BSON 1.1, document).
+#[derive(Debug, PartialEq, Eq, Drop)]
+#[cycle(tree)]
+pub struct Document {
+    pairs: Pairs<Bson>,
+}
+
+/// Code with the values of its variables (BSON 1.1, JavaScript code with scope, deprecated).
+#[derive(Debug, PartialEq, Eq, Drop)]
+#[cycle(tree)]
+pub struct JavaScriptCodeWithScope {
+    pub code: String,
+    pub scope: Document,
+}
+
+impl Document {
+    /// A document with no pairs, which keeps `alloc`. It takes no memory.
+    pub fn new(alloc: Global) -> Document
+        ensures { pairs_of result ≡ [] }
+    {
+        Document {
+            pairs: Pairs::new(alloc),
+        }
+    }
+
+    /// How many pairs there are.
+    pub fn len(&self) -> usize
+        ensures len { result ≡ length (pairs_of self.now) }
+        ensures distinct { HasDistinctKeys (pairs_of self.now) }
+        ensures texts { All IsUtf8 (keys_of (pairs_of self.now)) }
+    {
+        self.pairs.len()
+    }
+
+    /// Whether there are no pairs.
+    pub fn is_empty(&self) -> bool
+        ensures { IsTrue result ↔ (pairs_of self.now ≡ []) }
+    {
+        self.len() == 0
+    }
+
+    /// The value of a key.
+    pub fn get(&self, key: &str) -> Option<&Bson>
+        ensures { option_copied result ≡ value_at key.now (pairs_of self.now) }
+    {
+        self.pairs.get(key)
+    }
+
+    /// The pair at a place, counted from 0.
+    pub fn pair_at(&self, index: usize) -> Option<(&str, &Bson)>
+        ensures { option_map (λ p. (p.0.now, p.1.now)) result ≡ slice_get (pairs_of self.now) index }
+    {
+        self.pairs.pair_at(index)
+    }
+
+    /// Puts a pair last, or where its key stands, and answers the value that stood there. It fails only
+    /// for a key that is not there, and then changes nothing and drops the pair.
+    pub fn insert(&mut self, key: String, value: Bson) -> Result<Option<Bson>, NoMemory>
+        ensures inserted { OnOk result (pairs_of self.new ≡ with_pair (string_bytes key) value (pairs_of self.old)) }
+        ensures trees { OnOk result (with_trees (pairs_of self.new) ≡
+            with_pair (string_bytes key) (tree_of value) (with_trees (pairs_of self.old))) }
+        ensures old { IfOk result (λ old. old ≡ value_at (string_bytes key) (pairs_of self.old)) }
+        ensures present { IsSome (value_at (string_bytes key) (pairs_of self.old)) → IsOk result }
+        ensures err { OnErr result (self.new ≡ self.old) }
+    {
+        self.pairs.insert(key, value)
+    }
+}

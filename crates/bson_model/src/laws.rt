@@ -1,0 +1,92 @@
+//! What holds of all values and documents, as calls whose contracts say it.
+
+ghost use Rattle.std.specs.Prelude.{◌≡◌, ◌↔◌, IsTrue};
+ghost use Rattle.bson_model.specs.Tree.{tree_of, tree_of_document, tree_of_list};
+ghost use Rattle.bson_model.specs.Proper.{IsWellFormed};
+
+use crate::bson::{Bson, Document};
+use crate::ranges::{attest_bytes, attest_u32, attest_u64};
+
+/// Whether two values stand for one tree, which is what `==` answers.
+pub fn is_same_tree(a: &Bson, b: &Bson) -> bool
+    ensures { IsTrue result ↔ (tree_of a.now ≡ tree_of b.now) }
+{
+    a == b
+}
+
+/// Whether two documents stand for one tree, which is what `==` answers: the same keys with the same
+/// trees in the same order.
+pub fn is_same_document(left: &Document, right: &Document) -> bool
+    ensures { IsTrue result ↔ (tree_of_document left.now ≡ tree_of_document right.now) }
+{
+    left == right
+}
+
+/// The tree of a value is well formed: numbers are in the ranges of their types, bytes are bytes, an
+/// ObjectId has twelve and a Decimal128 sixteen, texts and keys are UTF-8, and no key stands twice in a
+/// document. It reads the whole value, changes nothing and takes no memory.
+#[cycle(attest)]
+pub fn attest_value(value: &Bson)
+    ensures { IsWellFormed (tree_of value.now) }
+{
+    match value {
+        Bson::Double(bits) => attest_u64(bits.0),
+        Bson::Document(document) => attest_document(document),
+        Bson::Array(values) => attest_list(values),
+        Bson::Binary(binary) => {
+            let _byte = binary.subtype.to_u8();
+            attest_bytes(&binary.bytes);
+        }
+        Bson::ObjectId(id) => {
+            let _bytes = id.bytes();
+        }
+        Bson::DateTime(time) => {
+            let _millis = time.timestamp_millis();
+        }
+        Bson::DbPointer(pointer) => {
+            let _bytes = pointer.id.bytes();
+        }
+        Bson::JavaScriptCodeWithScope(code) => attest_document(&code.scope),
+        Bson::Int32(number) => {
+            let _number = *number;
+        }
+        Bson::Timestamp(timestamp) => {
+            attest_u32(timestamp.time);
+            attest_u32(timestamp.increment);
+        }
+        Bson::Int64(number) => {
+            let _number = *number;
+        }
+        Bson::Decimal128(number) => {
+            let _bytes = number.bytes();
+        }
+        Bson::String(_text) => {}
+        Bson::JavaScriptCode(_text) => {}
+        Bson::Symbol(_text) => {}
+        Bson::RegularExpression(_regex) => {}
+        Bson::Undefined | Bson::Boolean(_) | Bson::Null | Bson::MaxKey | Bson::MinKey => {}
+    }
+}
+
+/// The trees of a list are well formed. It reads the whole list, changes nothing and takes no memory.
+#[cycle(attest)]
+pub fn attest_list(values: &[Bson])
+    ensures { IsWellFormed (tree_of_list values.now) }
+{
+    for member in values {
+        attest_value(member);
+    }
+}
+
+/// The tree of a document is well formed. It reads the whole document, changes nothing and takes no
+/// memory.
+#[cycle(attest)]
+pub fn attest_document(document: &Document)
+    ensures { IsWellFormed (tree_of_document document.now) }
+{
+    for index in 0..document.len() {
+        if let Some((_key, value)) = document.pair_at(index) {
+            attest_value(value);
+        }
+    }
+}
