@@ -1,7 +1,13 @@
-use raw_view::{ElementType, Error, ErrorKind, RawBsonRef, RawDocument, Reason, Result};
+use raw_view::{
+    ElementType, Error, ErrorKind, RawArray, RawBsonRef, RawDocument, Reason, Result,
+    ValueAccessErrorKind, ValueAccessResult,
+};
 use std::alloc::Global;
 use std::process::Abort;
 use std::test::Fail;
+
+// Where memory isn't `ample`, a request for it may be refused: then want of memory may stand in the place of a fault
+// with a key, and in no other place, and nothing is printed.
 
 /// An error that is wanted: its reason, or `None` where a text isn't UTF-8; its key; its text.
 #[derive(Clone, Copy)]
@@ -19,20 +25,33 @@ pub(crate) enum Want<'a> {
     Fault(Fault<'a>),
 }
 
-/// The error has this kind, this key and this text.
+/// Why a typed getter is wanted to have no value.
+#[derive(Clone, Copy)]
+pub(crate) enum NoValue<'a> {
+    NotPresent,
+    Unexpected(ElementType, ElementType),
+    Invalid(Fault<'a>),
+}
+
+/// The error has this kind, this key and, where memory is ample, this text.
 pub(crate) fn assert_fault(
     rt: &impl Abort,
     alloc: Global,
+    ample: bool,
     error: &Error,
     want: Fault<'_>,
 ) -> std::result::Result<(), Fail> {
-    let text = format!(in alloc; "{error}")?;
-    assert_eq!(rt; text.as_str(), want.2);
-    assert_eq!(rt; error.key(), want.1, "{text}");
+    let Fault(reason, key, text) = want;
     match &error.kind {
-        ErrorKind::MalformedValue { reason } => assert_eq!(rt; Some(*reason), want.0, "{text}"),
-        ErrorKind::Utf8EncodingError(_) => assert_eq!(rt; None, want.0, "{text}"),
+        ErrorKind::MalformedValue { reason: found } => {
+            assert_eq!(rt; Some(*found), reason, "{text}")
+        }
+        ErrorKind::Utf8EncodingError(_) => assert_eq!(rt; None, reason, "{text}"),
         ErrorKind::OutOfMemory => assert!(rt; false, "{text}"),
+    }
+    assert_eq!(rt; error.key(), key, "{text}");
+    if ample {
+        assert_eq!(rt; format!(in alloc; "{error}")?.as_str(), text);
     }
     Ok(())
 }
@@ -41,6 +60,7 @@ pub(crate) fn assert_fault(
 pub(crate) fn assert_answer(
     rt: &impl Abort,
     alloc: Global,
+    ample: bool,
     answer: Result<Option<RawBsonRef<'_>>>,
     want: Want<'_>,
     bytes: &[u8],
@@ -48,20 +68,31 @@ pub(crate) fn assert_answer(
     match (answer, want) {
         (Ok(Some(value)), Want::Value(want)) => assert_eq!(rt; value, want, "{bytes:?}"),
         (Ok(None), Want::Nothing) => {}
-        (Err(error), Want::Fault(want)) => assert_fault(rt, alloc, &error, want)?,
+        (Err(error), Want::Fault(want)) => {
+            if !ample && error.kind == ErrorKind::OutOfMemory {
+                assert_eq!(rt; error.key(), None, "{bytes:?}");
+                assert!(rt; want.1.is_some(), "{bytes:?}");
+            } else {
+                assert_fault(rt, alloc, ample, &error, want)?;
+            }
+        }
         _ => assert!(rt; false, "{bytes:?}"),
     }
     Ok(())
 }
 
-/// Iteration over the document of these bytes yields just these keys and answers.
+/// Iteration over the document of these bytes yields just these keys and answers, and iteration over its array just
+/// these answers.
 pub(crate) fn assert_items(
     rt: &impl Abort,
     alloc: Global,
+    ample: bool,
     bytes: &[u8],
     items: &[(&str, Want<'_>)],
 ) -> std::result::Result<(), Fail> {
-    let mut iter = RawDocument::from_bytes(bytes)?.iter(alloc);
+    let document = RawDocument::from_bytes(bytes)?;
+    let mut iter = document.iter(alloc);
+    let mut values = RawArray::from_doc(document).iter(alloc);
     for (key, want) in items {
         let answer = match iter.next() {
             Some(Ok((found, value))) => {
@@ -71,10 +102,18 @@ pub(crate) fn assert_items(
             Some(Err(error)) => Err(error),
             None => Ok(None),
         };
-        assert_answer(rt, alloc, answer, *want, bytes)?;
+        assert_answer(rt, alloc, ample, answer, *want, bytes)?;
+        let answer = match values.next() {
+            Some(Ok(value)) => Ok(Some(value)),
+            Some(Err(error)) => Err(error),
+            None => Ok(None),
+        };
+        assert_answer(rt, alloc, ample, answer, *want, bytes)?;
     }
     assert!(rt; iter.next().is_none(), "{bytes:?}");
     assert!(rt; iter.next().is_none(), "{bytes:?}");
+    assert!(rt; values.next().is_none(), "{bytes:?}");
+    assert!(rt; values.next().is_none(), "{bytes:?}");
     Ok(())
 }
 
@@ -82,9 +121,10 @@ pub(crate) fn assert_items(
 pub(crate) fn assert_elements(
     rt: &impl Abort,
     alloc: Global,
+    ample: bool,
     bytes: &[u8],
     elements: &[(ElementType, &str, usize)],
-    stop: Option<Fault<'_>>,
+    stop: Want<'_>,
 ) -> std::result::Result<(), Fail> {
     let mut iter = RawDocument::from_bytes(bytes)?.iter_elements(alloc);
     for (kind, key, len) in elements {
@@ -97,11 +137,49 @@ pub(crate) fn assert_elements(
             _ => assert!(rt; false, "{bytes:?}"),
         }
     }
-    match (iter.next(), stop) {
-        (None, None) => {}
-        (Some(Err(error)), Some(want)) => assert_fault(rt, alloc, &error, want)?,
-        _ => assert!(rt; false, "{bytes:?}"),
-    }
+    let end = match iter.next() {
+        Some(Ok(_)) => Ok(Some(RawBsonRef::Undefined)),
+        Some(Err(error)) => Err(error),
+        None => Ok(None),
+    };
+    assert_answer(rt, alloc, ample, end, stop, bytes)?;
     assert!(rt; iter.next().is_none(), "{bytes:?}");
+    Ok(())
+}
+
+/// A typed getter has no value, for this cause and with this key; or it wants memory, and has the empty key.
+pub(crate) fn assert_no_value<T: Drop>(
+    rt: &impl Abort,
+    alloc: Global,
+    ample: bool,
+    answer: ValueAccessResult<T>,
+    want: NoValue<'_>,
+    key: &str,
+) -> std::result::Result<(), Fail> {
+    match answer {
+        Ok(_) => assert!(rt; false, "{key}"),
+        Err(error) => {
+            let mut wanted_key = key;
+            match (&error.kind, want) {
+                (ValueAccessErrorKind::OutOfMemory, _) => {
+                    assert!(rt; !ample, "{key}");
+                    wanted_key = "";
+                }
+                (ValueAccessErrorKind::NotPresent, NoValue::NotPresent) => {}
+                (
+                    ValueAccessErrorKind::UnexpectedType { expected, actual },
+                    NoValue::Unexpected(wanted, there),
+                ) => {
+                    assert_eq!(rt; *expected, wanted, "{key}");
+                    assert_eq!(rt; *actual, there, "{key}");
+                }
+                (ValueAccessErrorKind::InvalidBson(inner), NoValue::Invalid(fault)) => {
+                    assert_fault(rt, alloc, ample, inner, fault)?
+                }
+                _ => assert!(rt; false, "{key}"),
+            }
+            assert_eq!(rt; error.key(), wanted_key);
+        }
+    }
     Ok(())
 }

@@ -2,8 +2,20 @@
 #![tactic(auto)]
 
 #[cfg(test)]
+mod arrays;
+#[cfg(test)]
 mod asserts;
+#[cfg(test)]
+mod calls;
 #[cfg(test)]
 mod documents;
 #[cfg(test)]
+mod getters;
+#[cfg(test)]
+mod memory;
+#[cfg(test)]
+mod reasons;
+#[cfg(test)]
 mod rows;
+#[cfg(test)]
+mod texts;
