@@ -1,5 +1,5 @@
 -- Lists of trees as data and as lists, and one more member or pair of a walk.
-use Rattle.std.proofs.Common.{◌≡◌, ℕ, zero, suc, ◌+◌, List, [], ◌∷◌, ◌++◌, map, take, Some, slice_get, refl, ap, sym, ◌∙◌, add-one}
+use Rattle.std.proofs.Common.{◌≡◌, ℕ, zero, suc, ◌+◌, List, [], ◌∷◌, ◌++◌, map, take, Some, slice_get, refl, ap, ◌∙◌, add-one}
 use Rattle.bson_model.specs.Tree.{Tree, Trees, Entries, no_tree, tree_then, no_entry, entry_then, trees, entries, items_in, pairs_in, tree_of, with_trees}
 use Rattle.bson_model.specs.declared.bson.Bson.{Bson}
 

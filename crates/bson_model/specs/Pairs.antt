@@ -9,6 +9,7 @@ first_keys [] = []
 first_keys (key ∷ keys) = key ∷ filter (λ other. not (bytes_eq key other)) (first_keys keys)
 
 module _ {T : Type 0} where
+  -- the keys in order, repeats kept
   abbrev pub keys_of : List (List ℕ × T) → List (List ℕ)
   keys_of pairs = map (λ p. p.0) pairs
 

@@ -25,10 +25,12 @@ mutual
     no_entry : Entries
     entry_then : List ℕ → Tree → Entries → Entries
 
+-- a list of trees as data
 abbrev pub trees : List Tree → Trees
 trees [] = no_tree
 trees (t ∷ ts) = tree_then t (trees ts)
 
+-- pairs of a key and a tree as data
 abbrev pub entries : List (List ℕ × Tree) → Entries
 entries [] = no_entry
 entries (e ∷ es) = entry_then e.0 e.1 (entries es)

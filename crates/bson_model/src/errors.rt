@@ -1,4 +1,4 @@
-ghost use Rattle.std.specs.Prelude.{◌≡◌};
+ghost use Rattle.std.specs.Prelude.{◌≡◌, Some, codes};
 
 use std::alloc::{AllocError, AllocFailed};
 use std::error::Error;
@@ -9,6 +9,8 @@ use std::fmt;
 pub struct NoMemory;
 
 impl fmt::Display for NoMemory {
+    ghost output = { λ _. Some (codes "out of memory") };
+
     fn fmt<W: fmt::Write>(&self, f: &mut fmt::Formatter<W>) -> fmt::Result {
         f.write_str("out of memory")
     }

@@ -11,13 +11,9 @@ pub fn attest_bytes(bytes: &[u8])
 // A number of 32 bits is below 2 ^ 32.
 pub fn attest_u32(number: u32)
     ensures { number < 2 ^ 32 }
-{
-    let _number = number;
-}
+{}
 
 // A number of 64 bits is below 2 ^ 64.
 pub fn attest_u64(number: u64)
     ensures { number < 2 ^ 64 }
-{
-    let _number = number;
-}
+{}

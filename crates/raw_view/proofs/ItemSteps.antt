@@ -1,93 +1,57 @@
 -- Steps over the items.
-use Rattle.std.proofs.Common.{◌≡◌, ℕ, List, [], ◌∷◌, sym, subst, refl, Option, Some, None, Result, Ok, Err, inl, inr, drop, length, ◌-◌, get_or, arith, ap, ◌∙◌}
-use denote.Ref.{Bor}
+use Rattle.std.proofs.Common.{◌≡◌, ℕ, List, [], ◌∷◌, ap, sym, ◌∙◌, subst, refl, Option, Some, None, Result, Ok, Err, inl, inr, drop, length, ◌-◌, get_or, arith}
 use Rattle.std.proofs.lemmas.List.{drop_more, drop_all, length-drop}
 use Rattle.std.proofs.lemmas.Option.{get_or_from_slice_get}
-use Rattle.raw_view.specs.Envelope.{IsEnvelope}
 use Rattle.std.specs.Iterator.{Yields, Drains}
 use Rattle.raw_view.specs.declared.element.RawElement.{RawElement}
-use Rattle.raw_view.specs.declared.bson_ref.RawBsonRef.{RawBsonRef}
 use Rattle.raw_view.specs.declared.error.Error.{Error}
+use Rattle.raw_view.specs.Envelope.{IsEnvelope}
 use Rattle.raw_view.specs.Frame.{Frame, IsWalk, End, Done, Stopped}
-use Rattle.raw_view.specs.Meaning.{Meaning, Means}
+use Rattle.raw_view.specs.Meaning.{KeyedFault, Meaning, Means}
 use Rattle.raw_view.specs.Item.{Item, entry, stopped, ItemsOf, AreItems}
 use Rattle.raw_view.specs.ElementSteps.{StepsElement, frame_of}
-use Rattle.raw_view.specs.Answers.{StepsItem, TellsItem, TellsItems, StepsValue, TellsValues, TellsMeaning}
+use Rattle.raw_view.specs.Answers.{Says, StepsItems, TellsEach}
 
-pub item_none : (old new : Option (List ℕ)) → StepsElement old None new → StepsItem old None new
-item_none None new st = (refl, st.1)
-item_none (Some s) new st = st
+-- for what one answer says of an item, where an error that says the stop is such an answer
+module _ {X : Type 0} (Tells : Result X Error → Item → Type 0) where
+  pub item_none : (old new : Option (List ℕ)) → StepsElement old None new → StepsItems Tells old None new
+  item_none None new st = (refl, st.1)
+  item_none (Some s) new st = st
 
-pub item_ok : (old new : Option (List ℕ)) (e : RawElement) (out : Result (Bor (List ℕ) × RawBsonRef) Error) → StepsElement old (Some (Ok e)) new → (m : Meaning) × Means (frame_of e) m × TellsItem out (entry (frame_of e).key m) → StepsItem old (Some out) new
-item_ok None new e out st h = let bad : ◌≡◌ {A = Option (Result RawElement Error)} (Some (Ok e)) None = st.0 in cc
-item_ok (Some s) new e out st h = inl (frame_of e, st.0, h.0, st.1, h.1, h.2, st.2)
+  pub item_ok : (old new : Option (List ℕ)) (e : RawElement) (out : Result X Error) → StepsElement old (Some (Ok e)) new → (m : Meaning) × Means (frame_of e) m × Tells out (entry (frame_of e).key m) → StepsItems Tells old (Some out) new
+  item_ok None new e out st h = let bad : ◌≡◌ {A = Option (Result RawElement Error)} (Some (Ok e)) None = st.0 in cc
+  item_ok (Some s) new e out st h = inl (frame_of e, st.0, h.0, st.1, h.1, h.2, st.2)
 
-pub item_stop : (old new : Option (List ℕ)) (e : Error) → StepsElement old (Some (Err e)) new → StepsItem old (Some (Err e)) new
-item_stop None new e st = let bad : ◌≡◌ {A = Option (Result RawElement Error)} (Some (Err e)) None = st.0 in cc
-item_stop (Some s) new e st = inr (record { fault = st.0; key = st.1 }, st.2, st.3, st.4)
+  pub item_stop : ((e : Error) (fault : KeyedFault) → Says e fault → Tells (Err e) (stopped fault)) → (old new : Option (List ℕ)) (e : Error) → StepsElement old (Some (Err e)) new → StepsItems Tells old (Some (Err e)) new
+  item_stop says None new e st = let bad : ◌≡◌ {A = Option (Result RawElement Error)} (Some (Err e)) None = st.0 in cc
+  item_stop says (Some s) new e st =
+      let fault : KeyedFault = record { fault = st.0; key = st.1 } in
+      inr (fault, st.2, says e fault st.3, st.4)
 
--- nothing comes after a stop
-none_after : (xs : List (Result (Bor (List ℕ) × RawBsonRef) Error)) (t : Option (List ℕ)) → Yields StepsItem None xs t → xs ≡ []
-none_after [] t y = refl
-none_after (x ∷ xs) t y = let bad : Some x ≡ None = y.1.0 in cc
+  -- nothing comes after a stop
+  none_after : (xs : List (Result X Error)) (t : Option (List ℕ)) → Yields (StepsItems Tells) None xs t → xs ≡ []
+  none_after [] t y = refl
+  none_after (x ∷ xs) t y = let bad : Some x ≡ None = y.1.0 in cc
 
-abbrev Told : List ℕ → List (Result (Bor (List ℕ) × RawBsonRef) Error) → Type 0
-Told s xs = (frames : List Frame) × (end : End) × (items : List Item) × IsWalk s frames end × ItemsOf frames end items × TellsItems xs items
+  abbrev Told : List ℕ → List (Result X Error) → Type 0
+  Told s xs = (frames : List Frame) × (end : End) × (items : List Item) × IsWalk s frames end × ItemsOf frames end items × TellsEach Tells xs items
 
--- what a run of calls gives are the items
-pub items_of : (s : List ℕ) (xs : List (Result (Bor (List ℕ) × RawBsonRef) Error)) → Drains StepsItem (Some s) xs → Told s xs
-items_of s [] d =
-    let last : StepsItem (Some s) None d.0 = subst (λ (x : Option (List ℕ)). StepsItem x None d.0) (sym d.1.1) d.1.2 in
-    ([], Done, [], last.0, refl, tt)
-items_of s (x ∷ xs) d =
-    elim d.1.1.1 as (λ _. Told s (x ∷ xs)) [
-      | inl a ↦
-          let f = a.0 in
-          let rest : Drains StepsItem (Some a.1) xs = (d.0, (d.1.0, subst (λ (x : Option (List ℕ)). Yields StepsItem x xs d.1.0) a.6 d.1.1.2, d.1.2)) in
-          let w = items_of a.1 xs rest in
-          (f ∷ w.0, w.1, entry f.key a.2 ∷ w.2, (a.1, a.3, w.3), (a.2, w.2, a.4, refl, w.4), (a.5, w.5))
-      | inr b ↦
-          let none : xs ≡ [] = none_after xs d.1.0 (subst (λ (x : Option (List ℕ)). Yields StepsItem x xs d.1.0) b.3 d.1.1.2) in
-          ([], Stopped b.0.fault b.0.key, stopped b.0 ∷ [], b.1, refl, subst (λ (ys : List (Result (Bor (List ℕ) × RawBsonRef) Error)). TellsItems (x ∷ ys) (stopped b.0 ∷ [])) (sym none) (b.2, tt))
-    ]
-
--- the same over the values of an array
-
-abbrev ToldValues : List ℕ → List (Result RawBsonRef Error) → Type 0
-ToldValues s xs = (frames : List Frame) × (end : End) × (items : List Item) × IsWalk s frames end × ItemsOf frames end items × TellsValues xs items
-
-pub value_none : (old new : Option (List ℕ)) → StepsElement old None new → StepsValue old None new
-value_none None new st = (refl, st.1)
-value_none (Some s) new st = st
-
-pub value_ok : (old new : Option (List ℕ)) (e : RawElement) (out : Result RawBsonRef Error) → StepsElement old (Some (Ok e)) new → (m : Meaning) × Means (frame_of e) m × TellsMeaning out m → StepsValue old (Some out) new
-value_ok None new e out st h = let bad : ◌≡◌ {A = Option (Result RawElement Error)} (Some (Ok e)) None = st.0 in cc
-value_ok (Some s) new e out st h = inl (frame_of e, st.0, h.0, st.1, h.1, h.2, st.2)
-
-pub value_stop : (old new : Option (List ℕ)) (e : Error) → StepsElement old (Some (Err e)) new → StepsValue old (Some (Err e)) new
-value_stop None new e st = let bad : ◌≡◌ {A = Option (Result RawElement Error)} (Some (Err e)) None = st.0 in cc
-value_stop (Some s) new e st = inr (record { fault = st.0; key = st.1 }, st.2, st.3, st.4)
-
-no_value_after : (xs : List (Result RawBsonRef Error)) (t : Option (List ℕ)) → Yields StepsValue None xs t → xs ≡ []
-no_value_after [] t y = refl
-no_value_after (x ∷ xs) t y = let bad : Some x ≡ None = y.1.0 in cc
-
--- what a run of calls gives are the items without their keys
-pub values_of : (s : List ℕ) (xs : List (Result RawBsonRef Error)) → Drains StepsValue (Some s) xs → ToldValues s xs
-values_of s [] d =
-    let last : StepsValue (Some s) None d.0 = subst (λ (x : Option (List ℕ)). StepsValue x None d.0) (sym d.1.1) d.1.2 in
-    ([], Done, [], last.0, refl, tt)
-values_of s (x ∷ xs) d =
-    elim d.1.1.1 as (λ _. ToldValues s (x ∷ xs)) [
-      | inl a ↦
-          let f = a.0 in
-          let rest : Drains StepsValue (Some a.1) xs = (d.0, (d.1.0, subst (λ (x : Option (List ℕ)). Yields StepsValue x xs d.1.0) a.6 d.1.1.2, d.1.2)) in
-          let w = values_of a.1 xs rest in
-          (f ∷ w.0, w.1, entry f.key a.2 ∷ w.2, (a.1, a.3, w.3), (a.2, w.2, a.4, refl, w.4), (a.5, w.5))
-      | inr b ↦
-          let none : xs ≡ [] = no_value_after xs d.1.0 (subst (λ (x : Option (List ℕ)). Yields StepsValue x xs d.1.0) b.3 d.1.1.2) in
-          ([], Stopped b.0.fault b.0.key, stopped b.0 ∷ [], b.1, refl, subst (λ (ys : List (Result RawBsonRef Error)). TellsValues (x ∷ ys) (stopped b.0 ∷ [])) (sym none) (b.2, tt))
-    ]
+  -- what a run of calls gives are the items
+  pub items_of : (s : List ℕ) (xs : List (Result X Error)) → Drains (StepsItems Tells) (Some s) xs → Told s xs
+  items_of s [] d =
+      let last : StepsItems Tells (Some s) None d.0 = subst (λ (x : Option (List ℕ)). StepsItems Tells x None d.0) (sym d.1.1) d.1.2 in
+      ([], Done, [], last.0, refl, tt)
+  items_of s (x ∷ xs) d =
+      elim d.1.1.1 as (λ _. Told s (x ∷ xs)) [
+        | inl a ↦
+            let f = a.0 in
+            let rest : Drains (StepsItems Tells) (Some a.1) xs = (d.0, (d.1.0, subst (λ (x : Option (List ℕ)). Yields (StepsItems Tells) x xs d.1.0) a.6 d.1.1.2, d.1.2)) in
+            let w = items_of a.1 xs rest in
+            (f ∷ w.0, w.1, entry f.key a.2 ∷ w.2, (a.1, a.3, w.3), (a.2, w.2, a.4, refl, w.4), (a.5, w.5))
+        | inr b ↦
+            let none : xs ≡ [] = none_after xs d.1.0 (subst (λ (x : Option (List ℕ)). Yields (StepsItems Tells) x xs d.1.0) b.3 d.1.1.2) in
+            ([], Stopped b.0.fault b.0.key, stopped b.0 ∷ [], b.1, refl, subst (λ (ys : List (Result X Error)). TellsEach Tells (x ∷ ys) (stopped b.0 ∷ [])) (sym none) (b.2, tt))
+      ]
 
 -- there is no item exactly where the final 0 stands behind the header
 pub no_items : (b : List ℕ) → drop 4 b ≡ 0 ∷ [] → AreItems b []

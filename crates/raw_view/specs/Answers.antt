@@ -37,39 +37,25 @@ TellsItem (Err e) (entry key (value v)) = ⊥
 TellsItem (Err e) (entry key (faulty fault)) = Says e fault
 TellsItem (Err e) (stopped fault) = Says e fault
 
--- the same of each
-abbrev pub TellsItems : List (Result (Bor (List ℕ) × RawBsonRef) Error) → List Item → Type 0
-TellsItems [] [] = Unit {0}
-TellsItems [] (item ∷ items) = ⊥
-TellsItems (out ∷ outs) [] = ⊥
-TellsItems (out ∷ outs) (item ∷ items) = TellsItem out item × TellsItems outs items
-
--- What a call of next on the items gives. The state is what is left to read, and nothing from a stop on;
--- a value fault leaves what stands behind its frame.
-abbrev pub StepsItem : Option (List ℕ) → Option (Result (Bor (List ℕ) × RawBsonRef) Error) → Option (List ℕ) → Type 0
-StepsItem None out t = (out ≡ None) × (t ≡ None)
-StepsItem (Some s) None t = (s ≡ 0 ∷ []) × (t ≡ Some s)
-StepsItem (Some s) (Some out) t =
-    ((f : Frame) × (r : List ℕ) × (m : Meaning) × IsFrame s f r × Means f m × TellsItem out (entry f.key m) × (t ≡ Some r))
-    ⊎ ((fault : KeyedFault) × IsStop s fault.fault fault.key × TellsItem out (stopped fault) × (t ≡ None))
-
 -- a value, or the fault; the key of the frame is left away
 abbrev pub TellsValue : Result RawBsonRef Error → Item → Type 0
 TellsValue out (entry key m) = TellsMeaning out m
 TellsValue (Ok x) (stopped fault) = ⊥
 TellsValue (Err e) (stopped fault) = Says e fault
 
--- the same of each
-abbrev pub TellsValues : List (Result RawBsonRef Error) → List Item → Type 0
-TellsValues [] [] = Unit {0}
-TellsValues [] (item ∷ items) = ⊥
-TellsValues (out ∷ outs) [] = ⊥
-TellsValues (out ∷ outs) (item ∷ items) = TellsValue out item × TellsValues outs items
+-- the same of each, and of the steps that give them, for what one answer says of an item
+module _ {X : Type 0} (Tells : Result X Error → Item → Type 0) where
+  abbrev pub TellsEach : List (Result X Error) → List Item → Type 0
+  TellsEach [] [] = Unit {0}
+  TellsEach [] (item ∷ items) = ⊥
+  TellsEach (out ∷ outs) [] = ⊥
+  TellsEach (out ∷ outs) (item ∷ items) = Tells out item × TellsEach outs items
 
--- What a call of next on the values of an array gives; the state is as for the items.
-abbrev pub StepsValue : Option (List ℕ) → Option (Result RawBsonRef Error) → Option (List ℕ) → Type 0
-StepsValue None out t = (out ≡ None) × (t ≡ None)
-StepsValue (Some s) None t = (s ≡ 0 ∷ []) × (t ≡ Some s)
-StepsValue (Some s) (Some out) t =
-    ((f : Frame) × (r : List ℕ) × (m : Meaning) × IsFrame s f r × Means f m × TellsValue out (entry f.key m) × (t ≡ Some r))
-    ⊎ ((fault : KeyedFault) × IsStop s fault.fault fault.key × TellsValue out (stopped fault) × (t ≡ None))
+  -- What a call of next gives. The state is what is left to read, and nothing from a stop on; a value fault
+  -- leaves what stands behind its frame.
+  abbrev pub StepsItems : Option (List ℕ) → Option (Result X Error) → Option (List ℕ) → Type 0
+  StepsItems None out t = (out ≡ None) × (t ≡ None)
+  StepsItems (Some s) None t = (s ≡ 0 ∷ []) × (t ≡ Some s)
+  StepsItems (Some s) (Some out) t =
+      ((f : Frame) × (r : List ℕ) × (m : Meaning) × IsFrame s f r × Means f m × Tells out (entry f.key m) × (t ≡ Some r))
+      ⊎ ((fault : KeyedFault) × IsStop s fault.fault fault.key × Tells out (stopped fault) × (t ≡ None))

@@ -95,7 +95,7 @@ impl ValueAccessError {
 
 impl fmt::Display for ValueAccessError {
     fn fmt<W: fmt::Write>(&self, f: &mut fmt::Formatter<W>) -> fmt::Result {
-        let key = self.key.as_str();
+        let key = self.key();
         write!(f, "error at key: \"{key}\": ")?;
         match &self.kind {
             ValueAccessErrorKind::NotPresent => write!(f, "value not present"),

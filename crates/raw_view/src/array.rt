@@ -24,7 +24,7 @@ impl<'a> RawArray<'a> {
     ghost use Rattle.raw_view.specs.Access.{Gets};
     ghost use Rattle.raw_view.specs.Typed as typed;
     ghost use Rattle.raw_view.specs.declared.element_type.ElementType.TheVariants as variants;
-    ghost use Rattle.raw_view.specs.Answers.{StepsValue, TellsValues, TellsFound};
+    ghost use Rattle.raw_view.specs.Answers.{StepsItems, TellsEach, TellsFound, TellsValue};
     ghost use Rattle.raw_view.specs.Document.{bytes_of};
     ghost use Rattle.raw_view.specs.Envelope.{IsEnvelope};
     ghost use Rattle.raw_view.specs.Item.{Item, AreItems};
@@ -38,14 +38,15 @@ impl<'a> RawArray<'a> {
     pub fn from_doc(document: RawDocument<'a>) -> RawArray<'a>
         ensures { array_bytes_of result ≡ bytes_of document.entry }
     {
-        RawArray { document }
+        Self { document }
     }
 
     /// The document whose values are the array's.
     pub fn as_doc(self) -> RawDocument<'a>
         ensures { bytes_of result ≡ array_bytes_of self.entry }
     {
-        self.document
+        let RawArray { document } = self;
+        document
     }
 
     /// All bytes of the array, its header and its final 0 included.
@@ -69,7 +70,7 @@ impl<'a> RawArray<'a> {
     /// (n - 4) / 2 + 1 items.
     pub fn iter(self, alloc: Global) -> RawArrayIter<'a>
         ensures begins { result ≡ Some (drop 4 (array_bytes_of self.entry)) }
-        ensures items { (outs : List (Result RawBsonRef Error)) → Drains StepsValue result outs → (items : List Item) × AreItems (array_bytes_of self.entry) items × TellsValues outs items }
+        ensures items { (outs : List (Result RawBsonRef Error)) → Drains (StepsItems TellsValue) result outs → (items : List Item) × AreItems (array_bytes_of self.entry) items × TellsEach TellsValue outs items }
     {
         RawArrayIter::new(alloc, self.document)
     }
@@ -100,84 +101,84 @@ impl<'a> RawArray<'a> {
     pub fn get_f64(self, alloc: Global, index: usize) -> ValueAccessResult<DoubleBits>
         ensures { (found : Option Meaning) × IsAt (array_bytes_of self.entry) index found × Gets typed.f64_value variants.Double (decimal index) found result }
     {
-        self.get_typed(alloc, index)
+        self.get_typed::<DoubleBits>(alloc, index)
     }
 
     /// The text of a string of this number, counted from 0; else why there is none, with the number in decimal.
     pub fn get_str(self, alloc: Global, index: usize) -> ValueAccessResult<&'a str>
         ensures { (found : Option Meaning) × IsAt (array_bytes_of self.entry) index found × Gets typed.str_value variants.String (decimal index) found result }
     {
-        self.get_typed(alloc, index)
+        self.get_typed::<&'a str>(alloc, index)
     }
 
     /// A nested document of this number, counted from 0; else why there is none, with the number in decimal.
     pub fn get_document(self, alloc: Global, index: usize) -> ValueAccessResult<RawDocument<'a>>
         ensures { (found : Option Meaning) × IsAt (array_bytes_of self.entry) index found × Gets typed.document_value variants.EmbeddedDocument (decimal index) found result }
     {
-        self.get_typed(alloc, index)
+        self.get_typed::<RawDocument<'a>>(alloc, index)
     }
 
     /// An array of this number, counted from 0; else why there is none, with the number in decimal.
     pub fn get_array(self, alloc: Global, index: usize) -> ValueAccessResult<RawArray<'a>>
         ensures { (found : Option Meaning) × IsAt (array_bytes_of self.entry) index found × Gets typed.array_value variants.Array (decimal index) found result }
     {
-        self.get_typed(alloc, index)
+        self.get_typed::<RawArray<'a>>(alloc, index)
     }
 
     /// Bytes and their subtype of this number, counted from 0; else why there is none, with the number in decimal.
     pub fn get_binary(self, alloc: Global, index: usize) -> ValueAccessResult<RawBinaryRef<'a>>
         ensures { (found : Option Meaning) × IsAt (array_bytes_of self.entry) index found × Gets typed.binary_value variants.Binary (decimal index) found result }
     {
-        self.get_typed(alloc, index)
+        self.get_typed::<RawBinaryRef<'a>>(alloc, index)
     }
 
     /// An ObjectId of this number, counted from 0; else why there is none, with the number in decimal.
     pub fn get_object_id(self, alloc: Global, index: usize) -> ValueAccessResult<ObjectId>
         ensures { (found : Option Meaning) × IsAt (array_bytes_of self.entry) index found × Gets typed.object_id_value variants.ObjectId (decimal index) found result }
     {
-        self.get_typed(alloc, index)
+        self.get_typed::<ObjectId>(alloc, index)
     }
 
     /// A boolean of this number, counted from 0; else why there is none, with the number in decimal.
     pub fn get_bool(self, alloc: Global, index: usize) -> ValueAccessResult<bool>
         ensures { (found : Option Meaning) × IsAt (array_bytes_of self.entry) index found × Gets typed.bool_value variants.Boolean (decimal index) found result }
     {
-        self.get_typed(alloc, index)
+        self.get_typed::<bool>(alloc, index)
     }
 
     /// A time of this number, counted from 0; else why there is none, with the number in decimal.
     pub fn get_datetime(self, alloc: Global, index: usize) -> ValueAccessResult<DateTime>
         ensures { (found : Option Meaning) × IsAt (array_bytes_of self.entry) index found × Gets typed.datetime_value variants.DateTime (decimal index) found result }
     {
-        self.get_typed(alloc, index)
+        self.get_typed::<DateTime>(alloc, index)
     }
 
     /// A regular expression of this number, counted from 0; else why there is none, with the number in decimal.
     pub fn get_regex(self, alloc: Global, index: usize) -> ValueAccessResult<RawRegexRef<'a>>
         ensures { (found : Option Meaning) × IsAt (array_bytes_of self.entry) index found × Gets typed.regex_value variants.RegularExpression (decimal index) found result }
     {
-        self.get_typed(alloc, index)
+        self.get_typed::<RawRegexRef<'a>>(alloc, index)
     }
 
     /// A timestamp of this number, counted from 0; else why there is none, with the number in decimal.
     pub fn get_timestamp(self, alloc: Global, index: usize) -> ValueAccessResult<Timestamp>
         ensures { (found : Option Meaning) × IsAt (array_bytes_of self.entry) index found × Gets typed.timestamp_value variants.Timestamp (decimal index) found result }
     {
-        self.get_typed(alloc, index)
+        self.get_typed::<Timestamp>(alloc, index)
     }
 
     /// A signed 32-bit number of this number, counted from 0; else why there is none, with the number in decimal.
     pub fn get_i32(self, alloc: Global, index: usize) -> ValueAccessResult<i32>
         ensures { (found : Option Meaning) × IsAt (array_bytes_of self.entry) index found × Gets typed.i32_value variants.Int32 (decimal index) found result }
     {
-        self.get_typed(alloc, index)
+        self.get_typed::<i32>(alloc, index)
     }
 
     /// A signed 64-bit number of this number, counted from 0; else why there is none, with the number in decimal.
     pub fn get_i64(self, alloc: Global, index: usize) -> ValueAccessResult<i64>
         ensures { (found : Option Meaning) × IsAt (array_bytes_of self.entry) index found × Gets typed.i64_value variants.Int64 (decimal index) found result }
     {
-        self.get_typed(alloc, index)
+        self.get_typed::<i64>(alloc, index)
     }
 }
 

@@ -1,10 +1,12 @@
 ghost use Rattle.std.specs.Prelude.{◌≡◌, ◌↔◌, IsOk, IfOk, IfErr, IsTrue, None, Some, drop, length, [], ◌∷◌};
+ghost use Rattle.raw_view.specs.ElementSteps.{frame_of};
 ghost use Rattle.raw_view.specs.Envelope.{IsEnvelope};
 ghost use Rattle.raw_view.specs.Errors.{IsMalformed, TellsRefusal, key_of};
 
 use crate::access::{Typed, ValueAccessResult, typed_at_key};
 use crate::array::RawArray;
 use crate::bson_ref::{RawBinaryRef, RawBsonRef, RawRegexRef};
+use crate::element::RawElement;
 use crate::error::{Error, ErrorKind, Reason, Result};
 use crate::hex_digits::HexDigits;
 use crate::iter::{Iter, RawIter};
@@ -21,6 +23,13 @@ pub struct RawDocument<'a> {
     ghost envelope: { IsEnvelope bytes.now },
 }
 
+/// Whether this is the element's key.
+fn has_key(element: RawElement<'_>, key: &str) -> bool
+    ensures { IsTrue result ↔ ((frame_of element.entry).key ≡ key.now) }
+{
+    element.key() == key
+}
+
 fn refusal(reason: Reason) -> Error
     ensures { IsMalformed result.kind (λ r. r ≡ reason) × (key_of result ≡ None) }
 {
@@ -31,7 +40,7 @@ impl<'a> RawDocument<'a> {
     ghost use Rattle.std.specs.Prelude.{ℕ, List, Option, Result};
     ghost use denote.Ref.{Bor};
     ghost use Rattle.raw_view.specs.Access.{Gets};
-    ghost use Rattle.raw_view.specs.Answers.{StepsItem, TellsItems, TellsFound};
+    ghost use Rattle.raw_view.specs.Answers.{StepsItems, TellsEach, TellsFound, TellsItem};
     ghost use Rattle.raw_view.specs.Typed as typed;
     ghost use Rattle.raw_view.specs.declared.element_type.ElementType.TheVariants as variants;
     ghost use Rattle.raw_view.specs.Item.{Item, AreItems};
@@ -86,7 +95,7 @@ impl<'a> RawDocument<'a> {
         ensures five { IsTrue result ↔ (length (bytes_of self.entry) ≡ 5) }
         ensures no_item { IsTrue result ↔ AreItems (bytes_of self.entry) [] }
     {
-        self.bytes.len() == 5
+        self.as_bytes().len() == 5
     }
 
     /// The elements in order, and then the fault at which they stop, if there is one. No value is
@@ -103,9 +112,9 @@ impl<'a> RawDocument<'a> {
     /// most (n - 4) / 2 + 1 items.
     pub fn iter(self, alloc: Global) -> Iter<'a>
         ensures begins { result ≡ Some (drop 4 (bytes_of self.entry)) }
-        ensures items { (outs : List (Result (Bor (List ℕ) × RawBsonRef) Error)) → Drains StepsItem result outs → (items : List Item) × AreItems (bytes_of self.entry) items × TellsItems outs items }
+        ensures items { (outs : List (Result (Bor (List ℕ) × RawBsonRef) Error)) → Drains (StepsItems TellsItem) result outs → (items : List Item) × AreItems (bytes_of self.entry) items × TellsEach TellsItem outs items }
     {
-        Iter::new(alloc, self)
+        Iter::<'a>::new(alloc, self)
     }
 
     /// What the first element with this key means: its value, or its fault. Where no element has the key,
@@ -116,7 +125,7 @@ impl<'a> RawDocument<'a> {
     {
         for element in self.iter_elements(alloc) {
             let element = element?;
-            if element.has_key(key) {
+            if has_key(element, key) {
                 return match element.value(alloc) {
                     Ok(value) => Ok(Some(value)),
                     Err(error) => Err(error),
@@ -137,90 +146,90 @@ impl<'a> RawDocument<'a> {
     pub fn get_f64(self, alloc: Global, key: &str) -> ValueAccessResult<DoubleBits>
         ensures { (found : Option Meaning) × LooksUp (bytes_of self.entry) key.now found × Gets typed.f64_value variants.Double key.now found result }
     {
-        self.get_typed(alloc, key)
+        self.get_typed::<DoubleBits>(alloc, key)
     }
 
     /// The text of a string under this key; else why there is none, with the key.
     pub fn get_str(self, alloc: Global, key: &str) -> ValueAccessResult<&'a str>
         ensures { (found : Option Meaning) × LooksUp (bytes_of self.entry) key.now found × Gets typed.str_value variants.String key.now found result }
     {
-        self.get_typed(alloc, key)
+        self.get_typed::<&'a str>(alloc, key)
     }
 
     /// A nested document under this key; else why there is none, with the key.
     pub fn get_document(self, alloc: Global, key: &str) -> ValueAccessResult<RawDocument<'a>>
         ensures { (found : Option Meaning) × LooksUp (bytes_of self.entry) key.now found × Gets typed.document_value variants.EmbeddedDocument key.now found result }
     {
-        self.get_typed(alloc, key)
+        self.get_typed::<RawDocument<'a>>(alloc, key)
     }
 
     /// An array under this key; else why there is none, with the key.
     pub fn get_array(self, alloc: Global, key: &str) -> ValueAccessResult<RawArray<'a>>
         ensures { (found : Option Meaning) × LooksUp (bytes_of self.entry) key.now found × Gets typed.array_value variants.Array key.now found result }
     {
-        self.get_typed(alloc, key)
+        self.get_typed::<RawArray<'a>>(alloc, key)
     }
 
     /// Bytes and their subtype under this key; else why there is none, with the key.
     pub fn get_binary(self, alloc: Global, key: &str) -> ValueAccessResult<RawBinaryRef<'a>>
         ensures { (found : Option Meaning) × LooksUp (bytes_of self.entry) key.now found × Gets typed.binary_value variants.Binary key.now found result }
     {
-        self.get_typed(alloc, key)
+        self.get_typed::<RawBinaryRef<'a>>(alloc, key)
     }
 
     /// An ObjectId under this key; else why there is none, with the key.
     pub fn get_object_id(self, alloc: Global, key: &str) -> ValueAccessResult<ObjectId>
         ensures { (found : Option Meaning) × LooksUp (bytes_of self.entry) key.now found × Gets typed.object_id_value variants.ObjectId key.now found result }
     {
-        self.get_typed(alloc, key)
+        self.get_typed::<ObjectId>(alloc, key)
     }
 
     /// A boolean under this key; else why there is none, with the key.
     pub fn get_bool(self, alloc: Global, key: &str) -> ValueAccessResult<bool>
         ensures { (found : Option Meaning) × LooksUp (bytes_of self.entry) key.now found × Gets typed.bool_value variants.Boolean key.now found result }
     {
-        self.get_typed(alloc, key)
+        self.get_typed::<bool>(alloc, key)
     }
 
     /// A time under this key; else why there is none, with the key.
     pub fn get_datetime(self, alloc: Global, key: &str) -> ValueAccessResult<DateTime>
         ensures { (found : Option Meaning) × LooksUp (bytes_of self.entry) key.now found × Gets typed.datetime_value variants.DateTime key.now found result }
     {
-        self.get_typed(alloc, key)
+        self.get_typed::<DateTime>(alloc, key)
     }
 
     /// A regular expression under this key; else why there is none, with the key.
     pub fn get_regex(self, alloc: Global, key: &str) -> ValueAccessResult<RawRegexRef<'a>>
         ensures { (found : Option Meaning) × LooksUp (bytes_of self.entry) key.now found × Gets typed.regex_value variants.RegularExpression key.now found result }
     {
-        self.get_typed(alloc, key)
+        self.get_typed::<RawRegexRef<'a>>(alloc, key)
     }
 
     /// A timestamp under this key; else why there is none, with the key.
     pub fn get_timestamp(self, alloc: Global, key: &str) -> ValueAccessResult<Timestamp>
         ensures { (found : Option Meaning) × LooksUp (bytes_of self.entry) key.now found × Gets typed.timestamp_value variants.Timestamp key.now found result }
     {
-        self.get_typed(alloc, key)
+        self.get_typed::<Timestamp>(alloc, key)
     }
 
     /// A signed 32-bit number under this key; else why there is none, with the key.
     pub fn get_i32(self, alloc: Global, key: &str) -> ValueAccessResult<i32>
         ensures { (found : Option Meaning) × LooksUp (bytes_of self.entry) key.now found × Gets typed.i32_value variants.Int32 key.now found result }
     {
-        self.get_typed(alloc, key)
+        self.get_typed::<i32>(alloc, key)
     }
 
     /// A signed 64-bit number under this key; else why there is none, with the key.
     pub fn get_i64(self, alloc: Global, key: &str) -> ValueAccessResult<i64>
         ensures { (found : Option Meaning) × LooksUp (bytes_of self.entry) key.now found × Gets typed.i64_value variants.Int64 key.now found result }
     {
-        self.get_typed(alloc, key)
+        self.get_typed::<i64>(alloc, key)
     }
 }
 
 impl fmt::Debug for RawDocument<'_> {
     fn fmt<W: fmt::Write>(&self, f: &mut fmt::Formatter<W>) -> fmt::Result {
-        let data = HexDigits(self.bytes);
+        let data = HexDigits(self.as_bytes());
         write!(f, "RawDocument {{ data: \"{data}\" }}")
     }
 }

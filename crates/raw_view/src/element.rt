@@ -1,4 +1,4 @@
-ghost use Rattle.std.specs.Prelude.{◌≡◌, ◌↔◌, IsTrue, length};
+ghost use Rattle.std.specs.Prelude.{◌≡◌, length};
 ghost use Rattle.raw_view.specs.Frame.{HasPayload};
 
 use crate::element_type::ElementType;
@@ -20,13 +20,6 @@ impl<'a> RawElement<'a> {
         ensures { result.now ≡ (frame_of self.entry).key }
     {
         self.key
-    }
-
-    /// Whether this is the element's key.
-    pub(crate) fn has_key(self, key: &str) -> bool
-        ensures { IsTrue result ↔ ((frame_of self.entry).key ≡ key.now) }
-    {
-        self.key == key
     }
 
     /// How many bytes the payload has.

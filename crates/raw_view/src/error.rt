@@ -172,13 +172,11 @@ impl Clone for Error {
 
     fn clone(&self) -> std::result::Result<Error, AllocError> {
         let kind = self.kind.clone()?;
-        match &self.key {
-            None => Ok(Error { kind, key: None }),
-            Some(key) => Ok(Error {
-                kind,
-                key: Some(key.clone()?),
-            }),
-        }
+        let key = match &self.key {
+            None => None,
+            Some(key) => Some(key.clone()?),
+        };
+        Ok(Error { kind, key })
     }
 }
 

@@ -87,12 +87,12 @@ impl<'a> Iter<'a> {
 }
 
 impl<'a> Iterator for Iter<'a> {
-    ghost use Rattle.raw_view.specs.Answers.{StepsItem};
+    ghost use Rattle.raw_view.specs.Answers.{StepsItems, TellsItem};
     ghost use Rattle.raw_view.specs.ElementSteps.{items_left};
 
     type Item = Result<(&'a str, RawBsonRef<'a>)>;
 
-    ghost next_gives = { StepsItem };
+    ghost next_gives = { StepsItems TellsItem };
 
     ghost remaining = { items_left };
 
@@ -135,12 +135,12 @@ impl<'a> RawArrayIter<'a> {
 }
 
 impl<'a> Iterator for RawArrayIter<'a> {
-    ghost use Rattle.raw_view.specs.Answers.{StepsValue};
+    ghost use Rattle.raw_view.specs.Answers.{StepsItems, TellsValue};
     ghost use Rattle.raw_view.specs.ElementSteps.{items_left};
 
     type Item = Result<RawBsonRef<'a>>;
 
-    ghost next_gives = { StepsValue };
+    ghost next_gives = { StepsItems TellsValue };
 
     ghost remaining = { items_left };
 

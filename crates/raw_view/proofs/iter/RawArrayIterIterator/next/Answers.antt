@@ -1,6 +1,6 @@
 use Rattle.std.proofs.Common.{subst, Option, List, ℕ, Some, None, Err}
-use Rattle.raw_view.specs.Answers.{StepsValue}
-use Rattle.raw_view.proofs.ItemSteps.{value_none, value_ok, value_stop}
+use Rattle.raw_view.specs.Answers.{StepsItems, TellsValue}
+use Rattle.raw_view.proofs.ItemSteps.{item_none, item_ok, item_stop}
 use Rattle.raw_view.proofs.iter.RawArrayIterIterator.next.Goals as goal
 use Rattle.raw_view.proofs.iter.RawArrayIterIterator.next.Goals.{in-None, in-Some-Ok, in-Some-Err}
 
@@ -8,7 +8,7 @@ pub returns-clause-steps : goal.returns-clause-steps
 returns-clause-steps c =
     let old = c.self.view_is in
     elim c.match-next.branch [
-      | in-None w ↦ rw w.result-is (subst (λ (x : Option (List ℕ)). StepsValue x None c.next.new.self) old (value_none _ _ w.in-None.ensures.steps))
-      | in-Some-Ok w ↦ rw w.result-is (subst (λ (x : Option (List ℕ)). StepsValue x (Some w.value.result) c.next.new.self) old (value_ok _ _ _ _ (rw w.in-Some-Ok.field-0-is at w.in-Some-Ok.ensures.steps) w.value.ensures))
-      | in-Some-Err w ↦ rw w.result-is (subst (λ (x : Option (List ℕ)). StepsValue x (Some (Err w.in-Some-Err.error)) c.next.new.self) old (value_stop _ _ _ (rw w.in-Some-Err.field-0-is at w.in-Some-Err.ensures.steps)))
+      | in-None w ↦ rw w.result-is (subst (λ (x : Option (List ℕ)). StepsItems TellsValue x None c.next.new.self) old (item_none TellsValue _ _ w.in-None.ensures.steps))
+      | in-Some-Ok w ↦ rw w.result-is (subst (λ (x : Option (List ℕ)). StepsItems TellsValue x (Some w.value.result) c.next.new.self) old (item_ok TellsValue _ _ _ _ (rw w.in-Some-Ok.field-0-is at w.in-Some-Ok.ensures.steps) w.value.ensures))
+      | in-Some-Err w ↦ rw w.result-is (subst (λ (x : Option (List ℕ)). StepsItems TellsValue x (Some (Err w.in-Some-Err.error)) c.next.new.self) old (item_stop TellsValue (λ e fault says. says) _ _ _ (rw w.in-Some-Err.field-0-is at w.in-Some-Err.ensures.steps)))
     ]
