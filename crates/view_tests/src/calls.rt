@@ -1,0 +1,294 @@
+use crate::asserts::{Want, assert_answer};
+use crate::documents::{ALL_KINDS, BOOLEAN_TWO, EMPTY, GREETING};
+use bson_model::{Binary, BinarySubtype, DateTime, Decimal128, DoubleBits, ObjectId, Timestamp};
+use raw_view::{
+    ElementType, Error, ErrorKind, RawArray, RawBinaryRef, RawBsonRef, RawDbPointerRef,
+    RawDocument, RawJavaScriptCodeWithScopeRef, RawRegexRef, Reason, ValueAccessErrorKind,
+};
+use std::alloc::Global;
+use std::process::Abort;
+use std::test::Fail;
+
+/// The kinds in the order of their tags, as in the document of all kinds.
+const KINDS: [(u8, ElementType); 21] = [
+    (0x01, ElementType::Double),
+    (0x02, ElementType::String),
+    (0x03, ElementType::EmbeddedDocument),
+    (0x04, ElementType::Array),
+    (0x05, ElementType::Binary),
+    (0x06, ElementType::Undefined),
+    (0x07, ElementType::ObjectId),
+    (0x08, ElementType::Boolean),
+    (0x09, ElementType::DateTime),
+    (0x0A, ElementType::Null),
+    (0x0B, ElementType::RegularExpression),
+    (0x0C, ElementType::DbPointer),
+    (0x0D, ElementType::JavaScriptCode),
+    (0x0E, ElementType::Symbol),
+    (0x0F, ElementType::JavaScriptCodeWithScope),
+    (0x10, ElementType::Int32),
+    (0x11, ElementType::Timestamp),
+    (0x12, ElementType::Int64),
+    (0x13, ElementType::Decimal128),
+    (0x7F, ElementType::MaxKey),
+    (0xFF, ElementType::MinKey),
+];
+
+#[test]
+fn bytes_and_kinds_go_with_each_other(rt: HostRuntime) {
+    for tag in 0..=255_u8 {
+        let mut wanted = None;
+        for (of, kind) in KINDS {
+            if of == tag {
+                assert_eq!(rt; kind.to_tag(), tag);
+                wanted = Some(kind);
+            }
+        }
+        assert_eq!(rt; ElementType::from(tag), wanted, "{tag}");
+    }
+}
+
+/// What the accessor for this kind answers; a kind without an accessor has the answer `None`.
+fn accessed<'a>(value: RawBsonRef<'a>, kind: ElementType) -> Option<RawBsonRef<'a>> {
+    Some(match kind {
+        ElementType::Double => RawBsonRef::Double(value.as_f64()?),
+        ElementType::String => RawBsonRef::String(value.as_str()?),
+        ElementType::EmbeddedDocument => RawBsonRef::Document(value.as_document()?),
+        ElementType::Array => RawBsonRef::Array(value.as_array()?),
+        ElementType::Binary => RawBsonRef::Binary(value.as_binary()?),
+        ElementType::ObjectId => RawBsonRef::ObjectId(value.as_object_id()?),
+        ElementType::Boolean => RawBsonRef::Boolean(value.as_bool()?),
+        ElementType::DateTime => RawBsonRef::DateTime(value.as_datetime()?),
+        ElementType::RegularExpression => RawBsonRef::RegularExpression(value.as_regex()?),
+        ElementType::DbPointer => RawBsonRef::DbPointer(value.as_db_pointer()?),
+        ElementType::JavaScriptCode => RawBsonRef::JavaScriptCode(value.as_javascript()?),
+        ElementType::Symbol => RawBsonRef::Symbol(value.as_symbol()?),
+        ElementType::JavaScriptCodeWithScope => RawBsonRef::JavaScriptCodeWithScope(
+            value.as_javascript_with_scope()?,
+        ),
+        ElementType::Int32 => RawBsonRef::Int32(value.as_i32()?),
+        ElementType::Timestamp => RawBsonRef::Timestamp(value.as_timestamp()?),
+        ElementType::Int64 => RawBsonRef::Int64(value.as_i64()?),
+        ElementType::Null => {
+            value.as_null()?;
+            RawBsonRef::Null
+        }
+        _ => return None,
+    })
+}
+
+/// The item is this value of this kind under this key; the accessor for its kind answers it, and no other does.
+fn assert_kind(
+    rt: &impl Abort,
+    alloc: Global,
+    item: Option<raw_view::Result<(&str, RawBsonRef<'_>)>>,
+    key: &str,
+    want: RawBsonRef<'_>,
+    kind: ElementType,
+) -> Result<(), Fail> {
+    let Some(Ok((found, value))) = item else {
+        assert!(rt; false, "{key}");
+        return Ok(());
+    };
+    assert_eq!(rt; found, key);
+    assert_eq!(rt; value.element_type(), kind, "{key}");
+    assert_answer(
+        rt,
+        alloc,
+        true,
+        Ok(Some(value)),
+        Want::Value(want),
+        ALL_KINDS,
+    )?;
+    for (_, asked) in KINDS {
+        let wanted = match kind {
+            ElementType::Undefined
+            | ElementType::Decimal128
+            | ElementType::MaxKey
+            | ElementType::MinKey => Want::Nothing,
+            _ => if asked == kind {
+                Want::Value(want)
+            } else {
+                Want::Nothing
+            },
+        };
+        assert_answer(
+            rt,
+            alloc,
+            true,
+            Ok(accessed(value, asked)),
+            wanted,
+            ALL_KINDS,
+        )?;
+    }
+    Ok(())
+}
+
+#[test]
+fn each_kind_has_its_value_and_its_accessor(rt: HostRuntime) -> Result<(), Fail> {
+    let id = ObjectId::from_bytes([1, 2, 3, 4, 5, 6, 7, 8, 9, 10, 11, 12]);
+    let pointed = ObjectId::from_bytes([12, 11, 10, 9, 8, 7, 6, 5, 4, 3, 2, 1]);
+    let nested = RawDocument::from_bytes(b"\x07\0\0\0\x0A\0\0")?;
+    let array = RawArray::from_doc(RawDocument::from_bytes(b"\x08\0\0\0\x0A0\0\0")?);
+    let double = DoubleBits(0x3FF8_0000_0000_0000);
+    let time = DateTime::from_millis(-1);
+    let decimal = Decimal128::from_bytes([0, 1, 2, 3, 4, 5, 6, 7, 8, 9, 10, 11, 12, 13, 14, 15]);
+    let timestamp = Timestamp {
+        time: 649876543,
+        increment: 9,
+    };
+    let binary = RawBinaryRef {
+        subtype: BinarySubtype::UserDefined(128),
+        bytes: b"\x01\x02",
+    };
+    let regex = RawRegexRef {
+        pattern: "a",
+        options: "i",
+    };
+    let code = RawJavaScriptCodeWithScopeRef {
+        code: "g",
+        scope: RawDocument::from_bytes(EMPTY)?,
+    };
+    let pointer = RawDbPointerRef::new("db.c", pointed);
+    let mut iter = RawDocument::from_bytes(ALL_KINDS)?.iter(rt.alloc());
+    for ((key, want), (_, kind)) in [
+        ("a", RawBsonRef::from(double)),
+        ("b", RawBsonRef::from("s")),
+        ("c", RawBsonRef::from(nested)),
+        ("d", RawBsonRef::from(array)),
+        ("e", RawBsonRef::from(binary)),
+        ("f", RawBsonRef::Undefined),
+        ("g", RawBsonRef::from(id)),
+        ("h", RawBsonRef::from(true)),
+        ("i", RawBsonRef::from(time)),
+        ("j", RawBsonRef::Null),
+        ("k", RawBsonRef::from(regex)),
+        ("l", RawBsonRef::DbPointer(pointer)),
+        ("m", RawBsonRef::JavaScriptCode("f")),
+        ("n", RawBsonRef::Symbol("y")),
+        ("o", RawBsonRef::from(code)),
+        ("p", RawBsonRef::from(7_i32)),
+        ("q", RawBsonRef::from(timestamp)),
+        ("r", RawBsonRef::from(-2_i64)),
+        ("s", RawBsonRef::from(decimal)),
+        ("t", RawBsonRef::MaxKey),
+        ("u", RawBsonRef::MinKey),
+    ]
+    .into_iter()
+    .zip(KINDS)
+    {
+        assert_kind(&rt, rt.alloc(), iter.next(), key, want, kind)?;
+    }
+    assert!(rt; iter.next().is_none());
+    Ok(())
+}
+
+#[test]
+fn views_keep_their_bytes(rt: HostRuntime) -> Result<(), Fail> {
+    let greeting = RawDocument::from_bytes(GREETING)?;
+    let empty = RawDocument::from_bytes(EMPTY)?;
+    let array = RawArray::from_doc(greeting);
+    let empty_array = RawArray::from_doc(empty);
+    // equal bytes at another place
+    let same = RawDocument::from_bytes(b"\x13\0\0\0\x02hi\0\x06\0\0\0y'all\0\0")?;
+    let same_array = RawArray::from_doc(same);
+    let id = ObjectId::from_bytes([1, 2, 3, 4, 5, 6, 7, 8, 9, 10, 11, 12]);
+    let other_id = ObjectId::from_bytes([0; 12]);
+    let pointer = RawDbPointerRef::new("db.c", id);
+    for (number, (found, wanted)) in [
+        (greeting.as_bytes() == GREETING, true),
+        (greeting.is_empty(), false),
+        (empty.is_empty(), true),
+        (array.as_doc() == greeting, true),
+        (array.as_bytes() == GREETING, true),
+        (array.is_empty(), false),
+        (empty_array.is_empty(), true),
+        (greeting == same, true),
+        (greeting == empty, false),
+        (array == same_array, true),
+        (array == empty_array, false),
+        (
+            RawBsonRef::Document(greeting) == RawBsonRef::Document(same),
+            true,
+        ),
+        (
+            RawBsonRef::Document(greeting) == RawBsonRef::Array(array),
+            false,
+        ),
+        (RawBsonRef::String("a") == RawBsonRef::Symbol("a"), false),
+        (RawBsonRef::Int32(1) == RawBsonRef::Int64(1), false),
+        (RawBsonRef::Int32(1) == RawBsonRef::Int32(2), false),
+        (pointer.namespace() == "db.c", true),
+        (pointer.id() == id, true),
+        (pointer == RawDbPointerRef::new("db.c", id), true),
+        (pointer == RawDbPointerRef::new("db.d", id), false),
+        (pointer == RawDbPointerRef::new("db.c", other_id), false),
+    ]
+    .into_iter()
+    .enumerate()
+    {
+        assert_eq!(rt; found, wanted, "at {number}");
+    }
+    Ok(())
+}
+
+#[test]
+fn a_binary_goes_and_comes_back(rt: HostRuntime) -> Result<(), Fail> {
+    // an old binary of two bytes, and its inner length
+    let old = RawDocument::from_bytes(b"\x13\0\0\0\x05k\0\x06\0\0\0\x02\x02\0\0\0\x07\x08\0")?;
+    let Ok(value) = old.get_binary(rt.alloc(), "k") else {
+        assert!(rt; false);
+        return Ok(());
+    };
+    assert_eq!(rt; value.subtype, BinarySubtype::BinaryOld);
+    assert_eq!(rt; value.bytes, b"\x07\x08".as_slice());
+    let copy = value.to_binary(rt.alloc())?;
+    let wanted = Binary {
+        subtype: BinarySubtype::BinaryOld,
+        bytes: vec![in rt.alloc(); 7, 8]?,
+    };
+    assert!(rt; copy == wanted);
+    assert_eq!(rt; RawBsonRef::from(&copy), RawBsonRef::Binary(value));
+    Ok(())
+}
+
+#[test]
+fn errors_have_equal_copies(rt: HostRuntime) -> Result<(), Fail> {
+    let two = ErrorKind::MalformedValue {
+        reason: Reason::BadBoolean(2),
+    };
+    assert!(rt; two.clone()? == two);
+    assert!(rt; ErrorKind::OutOfMemory.clone()? == ErrorKind::OutOfMemory);
+    let plain = Error::new(two);
+    assert_eq!(rt; plain.key(), None);
+    assert!(rt; plain.clone()? == plain);
+    let damaged = RawDocument::from_bytes(BOOLEAN_TWO)?;
+    match damaged.get(rt.alloc(), "a") {
+        Ok(_) => assert!(rt; false),
+        Err(error) => {
+            let copy = error.clone()?;
+            assert_eq!(rt; copy.key(), Some("a"));
+            assert!(rt; copy == error);
+            assert!(rt; copy.kind == plain.kind);
+            assert!(rt; copy != plain);
+        }
+    }
+    for key in ["a", "b"] {
+        match damaged.get_i32(rt.alloc(), key) {
+            Ok(_) => assert!(rt; false),
+            Err(error) => {
+                assert!(rt; error.kind.clone()? == error.kind);
+                let copy = error.clone()?;
+                assert_eq!(rt; copy.key(), key);
+                assert!(rt; copy == error);
+            }
+        }
+    }
+    let unexpected = ValueAccessErrorKind::UnexpectedType {
+        expected: ElementType::Int32,
+        actual: ElementType::Boolean,
+    };
+    assert!(rt; unexpected.clone()? == unexpected);
+    assert!(rt; unexpected != ValueAccessErrorKind::NotPresent);
+    Ok(())
+}

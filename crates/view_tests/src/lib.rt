@@ -1,0 +1,21 @@
+//! Tests of `raw_view` through its public calls. They stand apart, so that `raw_view` isn't proved twice.
+#![tactic(auto)]
+
+#[cfg(test)]
+mod arrays;
+#[cfg(test)]
+mod asserts;
+#[cfg(test)]
+mod calls;
+#[cfg(test)]
+mod documents;
+#[cfg(test)]
+mod getters;
+#[cfg(test)]
+mod memory;
+#[cfg(test)]
+mod reasons;
+#[cfg(test)]
+mod rows;
+#[cfg(test)]
+mod texts;

@@ -1,0 +1,279 @@
+use crate::asserts::{Want, assert_answer, assert_elements, assert_items};
+use crate::documents::*;
+use raw_view::{ElementType, RawBsonRef, RawDocument, RawRegexRef};
+use std::alloc::Global;
+use std::process::Abort;
+use std::test::Fail;
+
+const DATE: RawRegexRef<'static> = RawRegexRef {
+    pattern: "ope",
+    options: "\x04",
+};
+
+fn assert_iteration(rt: &impl Abort, alloc: Global, ample: bool) -> Result<(), Fail> {
+    let null = Want::Value(RawBsonRef::Null);
+    for (bytes, items) in [
+        (EMPTY, [].as_slice()),
+        (
+            GREETING,
+            [("hi", Want::Value(RawBsonRef::String("y'all")))].as_slice(),
+        ),
+        (
+            SWALLOWED_TERMINATOR,
+            [("", null), ("", Want::Fault(OVERFLOWED))].as_slice(),
+        ),
+        (TAG_ZERO, [("", Want::Fault(ZERO_IS_NO_TAG))].as_slice()),
+        (
+            REGEX_SWALLOWS_THE_TERMINATOR,
+            [
+                ("$date", Want::Value(RawBsonRef::RegularExpression(DATE))),
+                ("", Want::Fault(OVERFLOWED)),
+            ]
+            .as_slice(),
+        ),
+        (
+            DECLARED_LENGTH_THREE,
+            [("", Want::Fault(CODE_TOO_SMALL_AT_A))].as_slice(),
+        ),
+        (
+            DECLARED_LENGTH_THREE_APPENDED,
+            [("", Want::Fault(PAST_END_AT_A))].as_slice(),
+        ),
+        (
+            NEGATIVE_DOCUMENT_LENGTH,
+            [("", Want::Fault(NEGATIVE_AT_A))].as_slice(),
+        ),
+        (BOOLEAN_TWO, [("", Want::Fault(TWO_AT_A))].as_slice()),
+        (
+            INNER_LENGTH_OVERFLOWS,
+            [("", Want::Fault(ADD_OVERFLOW))].as_slice(),
+        ),
+        (
+            SCOPE_WITH_A_WRONG_HEADER,
+            [("", Want::Fault(SCOPE_LENGTH))].as_slice(),
+        ),
+        (
+            FAULT_UNDER_A_LATER_GOOD_KEY,
+            [
+                ("", Want::Fault(TWO_AT_A)),
+                ("a", Want::Value(RawBsonRef::Boolean(true))),
+            ]
+            .as_slice(),
+        ),
+        (KEY_NOT_UTF8, [("", Want::Fault(NOT_UTF8))].as_slice()),
+        (
+            PATTERN_NOT_UTF8,
+            [("", Want::Fault(NOT_UTF8_AT_A))].as_slice(),
+        ),
+        (
+            ARRAY_WITH_TEXT_NOT_UTF8,
+            [
+                ("", Want::Fault(NOT_UTF8)),
+                ("1", Want::Value(RawBsonRef::Int32(7))),
+            ]
+            .as_slice(),
+        ),
+        (
+            TRUNCATED_STRING,
+            [("", Want::Fault(STRING_PAST_END_AT_A))].as_slice(),
+        ),
+    ] {
+        assert_items(rt, alloc, ample, bytes, items)?;
+    }
+    Ok(())
+}
+
+fn assert_framing(rt: &impl Abort, alloc: Global, ample: bool) -> Result<(), Fail> {
+    let two = (ElementType::Boolean, "a", 1);
+    for (bytes, elements, stop) in [
+        (EMPTY, [].as_slice(), Want::Nothing),
+        (
+            GREETING,
+            [(ElementType::String, "hi", 10)].as_slice(),
+            Want::Nothing,
+        ),
+        (
+            SWALLOWED_TERMINATOR,
+            [(ElementType::Null, "", 0)].as_slice(),
+            Want::Fault(OVERFLOWED),
+        ),
+        (TAG_ZERO, [].as_slice(), Want::Fault(ZERO_IS_NO_TAG)),
+        (
+            REGEX_SWALLOWS_THE_TERMINATOR,
+            [(ElementType::RegularExpression, "$date", 6)].as_slice(),
+            Want::Fault(OVERFLOWED),
+        ),
+        (
+            DECLARED_LENGTH_THREE,
+            [(ElementType::JavaScriptCodeWithScope, "a", 3)].as_slice(),
+            Want::Nothing,
+        ),
+        (
+            DECLARED_LENGTH_THREE_APPENDED,
+            [].as_slice(),
+            Want::Fault(PAST_END_AT_A),
+        ),
+        (
+            NEGATIVE_DOCUMENT_LENGTH,
+            [].as_slice(),
+            Want::Fault(NEGATIVE_AT_A),
+        ),
+        (BOOLEAN_TWO, [two].as_slice(), Want::Nothing),
+        (
+            INNER_LENGTH_OVERFLOWS,
+            [(ElementType::Binary, "b", 9)].as_slice(),
+            Want::Nothing,
+        ),
+        (
+            SCOPE_WITH_A_WRONG_HEADER,
+            [(ElementType::JavaScriptCodeWithScope, "c", 15)].as_slice(),
+            Want::Nothing,
+        ),
+        (
+            FAULT_UNDER_A_LATER_GOOD_KEY,
+            [two, two].as_slice(),
+            Want::Nothing,
+        ),
+        (KEY_NOT_UTF8, [].as_slice(), Want::Fault(NOT_UTF8)),
+        (PATTERN_NOT_UTF8, [].as_slice(), Want::Fault(NOT_UTF8_AT_A)),
+        (
+            TRUNCATED_STRING,
+            [].as_slice(),
+            Want::Fault(STRING_PAST_END_AT_A),
+        ),
+    ] {
+        assert_elements(rt, alloc, ample, bytes, elements, stop)?;
+    }
+    Ok(())
+}
+
+fn assert_look_ups(rt: &impl Abort, alloc: Global, ample: bool) -> Result<(), Fail> {
+    let date = Want::Value(RawBsonRef::RegularExpression(DATE));
+    for (bytes, key, want) in [
+        (EMPTY, "", Want::Nothing),
+        (GREETING, "hi", Want::Value(RawBsonRef::String("y'all"))),
+        (GREETING, "h", Want::Nothing),
+        (GREETING, "hi\0", Want::Nothing),
+        (SWALLOWED_TERMINATOR, "", Want::Value(RawBsonRef::Null)),
+        (SWALLOWED_TERMINATOR, "x", Want::Fault(OVERFLOWED)),
+        (TAG_ZERO, "", Want::Fault(ZERO_IS_NO_TAG)),
+        (TAG_ZERO, "x", Want::Fault(ZERO_IS_NO_TAG)),
+        (REGEX_SWALLOWS_THE_TERMINATOR, "$date", date),
+        (REGEX_SWALLOWS_THE_TERMINATOR, "x", Want::Fault(OVERFLOWED)),
+        (DECLARED_LENGTH_THREE, "a", Want::Fault(CODE_TOO_SMALL_AT_A)),
+        (DECLARED_LENGTH_THREE, "b", Want::Nothing),
+        (
+            DECLARED_LENGTH_THREE_APPENDED,
+            "b",
+            Want::Fault(PAST_END_AT_A),
+        ),
+        (NEGATIVE_DOCUMENT_LENGTH, "b", Want::Fault(NEGATIVE_AT_A)),
+        (BOOLEAN_TWO, "a", Want::Fault(TWO_AT_A)),
+        (BOOLEAN_TWO, "b", Want::Nothing),
+        (INNER_LENGTH_OVERFLOWS, "b", Want::Fault(ADD_OVERFLOW)),
+        (SCOPE_WITH_A_WRONG_HEADER, "c", Want::Fault(SCOPE_LENGTH)),
+        (SCOPE_WITH_A_WRONG_HEADER, "d", Want::Nothing),
+        (FAULT_UNDER_A_LATER_GOOD_KEY, "a", Want::Fault(TWO_AT_A)),
+        (KEY_NOT_UTF8, "x", Want::Fault(NOT_UTF8)),
+        (PATTERN_NOT_UTF8, "a", Want::Fault(NOT_UTF8_AT_A)),
+        (TRUNCATED_STRING, "a", Want::Fault(STRING_PAST_END_AT_A)),
+        (ARRAY_WITH_TEXT_NOT_UTF8, "0", Want::Fault(NOT_UTF8)),
+        // past a fault, and before one
+        (FAULT_BEFORE_A_NUMBER, "0", Want::Fault(TWO_AT_0)),
+        (
+            FAULT_BEFORE_A_NUMBER,
+            "1",
+            Want::Value(RawBsonRef::Int32(7)),
+        ),
+        (
+            BOOL_AND_INT32,
+            "bool",
+            Want::Value(RawBsonRef::Boolean(true)),
+        ),
+        (
+            BOOL_AND_INT32,
+            "i32",
+            Want::Value(RawBsonRef::Int32(1000000)),
+        ),
+    ] {
+        let answer = RawDocument::from_bytes(bytes)?.get(alloc, key);
+        assert_answer(rt, alloc, ample, answer, want, bytes)?;
+    }
+    Ok(())
+}
+
+fn assert_values(rt: &impl Abort, alloc: Global, ample: bool) -> Result<(), Fail> {
+    for (bytes, want) in [
+        (GREETING, Want::Value(RawBsonRef::String("y'all"))),
+        (SWALLOWED_TERMINATOR, Want::Value(RawBsonRef::Null)),
+        (
+            REGEX_SWALLOWS_THE_TERMINATOR,
+            Want::Value(RawBsonRef::RegularExpression(DATE)),
+        ),
+        (DECLARED_LENGTH_THREE, Want::Fault(CODE_TOO_SMALL_AT_A)),
+        (BOOLEAN_TWO, Want::Fault(TWO_AT_A)),
+        (INNER_LENGTH_OVERFLOWS, Want::Fault(ADD_OVERFLOW)),
+        (SCOPE_WITH_A_WRONG_HEADER, Want::Fault(SCOPE_LENGTH)),
+        (ARRAY_WITH_TEXT_NOT_UTF8, Want::Fault(NOT_UTF8)),
+    ] {
+        let document = RawDocument::from_bytes(bytes)?;
+        let Some(Ok(element)) = document.iter_elements(alloc).next() else {
+            assert!(rt; false, "{bytes:?}");
+            return Ok(());
+        };
+        let value = element.value(alloc).map(|value| Some(value));
+        assert_answer(rt, alloc, ample, value, want, bytes)?;
+        let value = element.try_into_ref(alloc).map(|value| Some(value));
+        assert_answer(rt, alloc, ample, value, want, bytes)?;
+    }
+    Ok(())
+}
+
+#[test]
+fn iteration_yields_keys_values_and_faults(rt: HostRuntime) -> Result<(), Fail> {
+    assert_iteration(&rt, rt.alloc(), true)
+}
+
+#[test]
+fn elements_are_framed_and_not_looked_into(rt: HostRuntime) -> Result<(), Fail> {
+    assert_framing(&rt, rt.alloc(), true)
+}
+
+#[test]
+fn look_ups_answer_the_first_element_of_a_key(rt: HostRuntime) -> Result<(), Fail> {
+    assert_look_ups(&rt, rt.alloc(), true)
+}
+
+#[test]
+fn an_element_has_its_value_or_its_fault(rt: HostRuntime) -> Result<(), Fail> {
+    assert_values(&rt, rt.alloc(), true)
+}
+
+// `bin/test` runs those below with each request for memory refused in turn.
+
+#[test]
+fn iteration_or_want_of_memory(rt: HostRuntime) -> Result<(), Fail> {
+    assert_iteration(&rt, rt.alloc(), false)
+}
+
+#[test]
+fn elements_or_want_of_memory(rt: HostRuntime) -> Result<(), Fail> {
+    assert_framing(&rt, rt.alloc(), false)
+}
+
+#[test]
+fn look_ups_or_want_of_memory(rt: HostRuntime) -> Result<(), Fail> {
+    assert_look_ups(&rt, rt.alloc(), false)
+}
+
+#[test]
+fn values_or_want_of_memory(rt: HostRuntime) -> Result<(), Fail> {
+    assert_values(&rt, rt.alloc(), false)
+}
+
+/// Of the boolean of the byte 2 the fault or want of memory, and then nothing.
+#[test]
+fn boolean_two_or_want_of_memory(rt: HostRuntime) -> Result<(), Fail> {
+    let items = [("", Want::Fault(TWO_AT_A))];
+    assert_items(&rt, rt.alloc(), false, BOOLEAN_TWO, items.as_slice())
+}
