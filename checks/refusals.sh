@@ -40,8 +40,8 @@ test_answered() {
     [ "$status" = 0 ]
 }
 
-# each_refused ANSWERED PROGRAM ARGS..: with request 1, 2, 3, .. refused, until a run meets no refusal. ANSWERED says
-# whether the run went as it has to.
+# each_refused ANSWERED PROGRAM ARGS..: refuses the first request for memory, then the second alone, and so on, until
+# a run meets no refusal. ANSWERED says whether the run went as it has to.
 each_refused() {
     answered=$1
     shift
