@@ -9,7 +9,8 @@ use Rattle.bson_model.specs.declared.bson.Bson.TheViews.{sized-Array, sized-Docu
 use Rattle.bson_model.specs.declared.bson.Document.{Document, size-Document, size_is-Document}
 use Rattle.bson_model.specs.declared.bson.JavaScriptCodeWithScope.{JavaScriptCodeWithScope, size-JavaScriptCodeWithScope, size_is-JavaScriptCodeWithScope}
 
-at_most_member : (vs : List Bson) (i : ℕ) (v : Bson) → slice_get vs i ≡ Some v → size-Bson v ≤ most size-Bson vs
+-- a member is at most the greatest
+pub at_most_member : (vs : List Bson) (i : ℕ) (v : Bson) → slice_get vs i ≡ Some v → size-Bson v ≤ most size-Bson vs
 at_most_member [] i v e = cc
 at_most_member (w ∷ vs) zero v e = let h : ◌≡◌ {A = Bson} w v = cc in let s = ap size-Bson h in omega arith
 at_most_member (w ∷ vs) (suc i) v e = let h = at_most_member vs i v e in omega arith

@@ -22,4 +22,6 @@ pub use regexes::Regex;
 pub use times::{DateTime, Timestamp};
 
 #[cfg(test)]
+mod memory;
+#[cfg(test)]
 mod tests;

@@ -14,7 +14,7 @@ pub LeadsTo-more : (s : List ℕ) (fs : List Frame) (r : List ℕ) (f : Frame) (
 LeadsTo-more s [] r f t l b = (t, subst (λ (x : List ℕ). IsFrame x f t) (sym l) b, refl)
 LeadsTo-more s (g ∷ fs) r f t l b = (l.0, l.1, LeadsTo-more l.0 fs r f t l.2 b)
 
-IsFrame-shorter : (s : List ℕ) (f : Frame) (r : List ℕ) → IsFrame s f r → length r + 2 ≤ length s
+pub IsFrame-shorter : (s : List ℕ) (f : Frame) (r : List ℕ) → IsFrame s f r → length r + 2 ≤ length s
 IsFrame-shorter s f r b =
     let e = ap length b.spelled in
     omega (arith, e, length-append f.key (0 ∷ (f.payload ++ r)), length-append f.payload r)

@@ -10,7 +10,7 @@ use Rattle.raw_view.specs.Frame.{HasShape, HasNoFrame, HasNoNul, IsStop, Malform
 use Rattle.raw_view.specs.Front.{StopsWith, IsTextFault, IsPayloadFault}
 use Rattle.raw_view.proofs.Cuts.{cut}
 
-abbrev kind_of : ℕ → Option ElementType
+abbrev pub kind_of : ℕ → Option ElementType
 kind_of t =
     if t == 0x01 then Some kind.Double else
     if t == 0x02 then Some kind.String else
@@ -34,7 +34,7 @@ kind_of t =
     if t == 0x7F then Some kind.MaxKey else
     if t == 0xFF then Some kind.MinKey else None
 
-kind_of-tag_of : (k : ElementType) → kind_of (tag_of k) ≡ Some k
+pub kind_of-tag_of : (k : ElementType) → kind_of (tag_of k) ≡ Some k
 kind_of-tag_of kind.Double = refl
 kind_of-tag_of kind.String = refl
 kind_of-tag_of kind.EmbeddedDocument = refl
@@ -81,7 +81,7 @@ no_kind s tag z e none f r b =
     none f.kind tags
 
 -- the bytes behind the tag hold a 0 where the whole ends with one
-no_nul_ends : (tag : ℕ) (z : List ℕ) → HasNoNul z → slice_get (tag ∷ z) (length z) ≡ Some 0 → z ≡ []
+pub no_nul_ends : (tag : ℕ) (z : List ℕ) → HasNoNul z → slice_get (tag ∷ z) (length z) ≡ Some 0 → z ≡ []
 no_nul_ends tag [] h e = refl
 no_nul_ends tag (x ∷ []) h e = absurd (h.0 cc)
 no_nul_ends tag (x ∷ y ∷ z) h e = let none : y ∷ z ≡ [] = no_nul_ends x (y ∷ z) h.1 e in cc

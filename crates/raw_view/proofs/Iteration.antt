@@ -4,6 +4,7 @@ use Rattle.std.proofs.lemmas.List.{take-append-drop, drop_at}
 use Rattle.raw_view.specs.declared.element.RawElement.{RawElement}
 use Rattle.raw_view.specs.declared.error.Error.{Error}
 use Rattle.raw_view.specs.declared.error.ErrorKind.{ErrorKind}
+use Rattle.raw_view.specs.declared.error.Reason.{Reason}
 use Rattle.raw_view.specs.declared.error.ErrorKind.TheVariants as what
 use Rattle.raw_view.specs.Frame.{Frame, IsFrame, IsStop, Fault, Malformed, Utf8, IsWalk, End, Done, Stopped}
 use Rattle.std.specs.Iterator.{Yields, Drains}
@@ -12,7 +13,7 @@ use Rattle.raw_view.specs.declared.error.BorrowedError.{BorrowedError}
 use Rattle.raw_view.specs.Meaning.{KeyedFault}
 use Rattle.raw_view.specs.Answers.{Says}
 use Rattle.raw_view.specs.Front.{StopsWith, StepsFront, SaysFault, TellsBorrowed}
-use Rattle.raw_view.specs.Errors.{HasKeyCopy, Tells, TellsFault, key_of}
+use Rattle.raw_view.specs.Errors.{HasKeyCopy, IsReadingKind, IsReadingReason, Tells, TellsFault, key_of}
 use Rattle.raw_view.specs.ElementSteps.{StepsElement, frame_of, ListsWalk}
 use Rattle.raw_view.specs.Kind.{tag_of}
 
@@ -33,29 +34,32 @@ rest_from_end bs s f r n e b = drop_to bs (tag_of f.kind ∷ (f.key ++ 0 ∷ f.p
 pub step_element : (old new : Option (List ℕ)) (s : List ℕ) (e : RawElement) (r : List ℕ) → old ≡ Some s → IsFrame s (frame_of e) r → new ≡ Some r → StepsFront old (Some (Ok e)) new
 step_element old new s e r o b n = subst (λ (x : Option (List ℕ)). StepsFront x (Some (Ok e)) new) (sym o) (r, b, n)
 
+reading_reason : (r : Reason) → IsReadingKind (what.MalformedValue r) → IsReadingReason r
+reading_reason r h = (λ e. h.0 (ap what.MalformedValue e), λ e. h.1 (ap what.MalformedValue e))
+
 -- an error with a copy of its key says the fault
-pub told_kind : (k : ErrorKind) (key : Option (List ℕ)) (fault : Fault) (e : Error) → SaysFault k fault → HasKeyCopy k key e → TellsFault e fault key
-told_kind (what.MalformedValue r) None fault e h is = subst (λ (x : ErrorKind). Tells x (key_of e) fault None) (sym is.0) (h, is.1)
-told_kind (what.MalformedValue r) (Some key) fault e h is =
+pub told_kind : (k : ErrorKind) (key : Option (List ℕ)) (fault : Fault) (e : Error) → IsReadingKind k → SaysFault k fault → HasKeyCopy k key e → TellsFault e fault key
+told_kind (what.MalformedValue r) None fault e reading h is = subst (λ (x : ErrorKind). Tells x (key_of e) fault None) (sym is.0) (h, is.1, reading_reason r reading)
+told_kind (what.MalformedValue r) (Some key) fault e reading h is =
+    elim is as (λ _. TellsFault e fault (Some key)) [
+      | inl a ↦ subst (λ (x : ErrorKind). Tells x (key_of e) fault (Some key)) (sym a.0) (h, a.1, reading_reason r reading)
+      | inr a ↦ subst (λ (x : ErrorKind). Tells x (key_of e) fault (Some key)) (sym a.0) a.1
+    ]
+told_kind (what.Utf8EncodingError u) None fault e reading h is = subst (λ (x : ErrorKind). Tells x (key_of e) fault None) (sym is.0) (h, is.1)
+told_kind (what.Utf8EncodingError u) (Some key) fault e reading h is =
     elim is as (λ _. TellsFault e fault (Some key)) [
       | inl a ↦ subst (λ (x : ErrorKind). Tells x (key_of e) fault (Some key)) (sym a.0) (h, a.1)
       | inr a ↦ subst (λ (x : ErrorKind). Tells x (key_of e) fault (Some key)) (sym a.0) a.1
     ]
-told_kind (what.Utf8EncodingError u) None fault e h is = subst (λ (x : ErrorKind). Tells x (key_of e) fault None) (sym is.0) (h, is.1)
-told_kind (what.Utf8EncodingError u) (Some key) fault e h is =
-    elim is as (λ _. TellsFault e fault (Some key)) [
-      | inl a ↦ subst (λ (x : ErrorKind). Tells x (key_of e) fault (Some key)) (sym a.0) (h, a.1)
-      | inr a ↦ subst (λ (x : ErrorKind). Tells x (key_of e) fault (Some key)) (sym a.0) a.1
-    ]
-told_kind what.OutOfMemory key fault e h is = absurd h
+told_kind what.OutOfMemory key fault e reading h is = absurd h
 
 pub told_fault : (b : BorrowedError) (fault : KeyedFault) (e : Error) → TellsBorrowed b fault → HasKeyCopy b.kind (option_copied b.key) e → Says e fault
-told_fault b fault e h is = told_kind b.kind fault.key fault.fault e h.says (subst (λ (x : Option (List ℕ)). HasKeyCopy b.kind x e) h.key_is is)
+told_fault b fault e h is = told_kind b.kind fault.key fault.fault e b.reading h.says (subst (λ (x : Option (List ℕ)). HasKeyCopy b.kind x e) h.key_is is)
 
-told : (k : ErrorKind) (key : Option (List ℕ)) (s : List ℕ) (e : Error) → StopsWith k key s → HasKeyCopy k key e → (fault : Fault) × (told : Option (List ℕ)) × IsStop s fault told × TellsFault e fault told
-told (what.MalformedValue r) key s e says is = (Malformed, key, says, told_kind (what.MalformedValue r) key Malformed e refl is)
-told (what.Utf8EncodingError u) key s e says is = (Utf8, key, says, told_kind (what.Utf8EncodingError u) key Utf8 e refl is)
-told what.OutOfMemory key s e says is = absurd says
+told : (k : ErrorKind) (key : Option (List ℕ)) (s : List ℕ) (e : Error) → IsReadingKind k → StopsWith k key s → HasKeyCopy k key e → (fault : Fault) × (told : Option (List ℕ)) × IsStop s fault told × TellsFault e fault told
+told (what.MalformedValue r) key s e reading says is = (Malformed, key, says, told_kind (what.MalformedValue r) key Malformed e reading refl is)
+told (what.Utf8EncodingError u) key s e reading says is = (Utf8, key, says, told_kind (what.Utf8EncodingError u) key Utf8 e reading refl is)
+told what.OutOfMemory key s e reading says is = absurd says
 
 -- the end and an element are the same with borrowed and with copied keys
 pub step_none : (old new : Option (List ℕ)) → StepsFront old None new → StepsElement old None new
@@ -70,7 +74,7 @@ step_ok (Some s) new e st = st
 pub step_stop : (old new : Option (List ℕ)) (b : BorrowedError) (e : Error) → StepsFront old (Some (Err b)) new → HasKeyCopy b.kind (option_copied b.key) e → StepsElement old (Some (Err e)) new
 step_stop None new b e st is = let bad : ◌≡◌ {A = Option (Result RawElement BorrowedError)} (Some (Err b)) None = st.0 in cc
 step_stop (Some s) new b e st is =
-    let t = told b.kind (option_copied b.key) s e st.0 is in
+    let t = told b.kind (option_copied b.key) s e b.reading st.0 is in
     (t.0, t.1, t.2, t.3, st.1)
 
 -- nothing comes after a stop

@@ -10,3 +10,11 @@ pub mod LookUps
 pub mod Places
 pub mod Accessed
 pub mod CallerLemmas
+pub mod DecidedTexts
+pub mod Decided
+pub mod Walks
+pub mod Meanings
+pub mod UniquePayloads
+pub mod Unique
+pub mod UniqueMeanings
+pub mod UniqueItems

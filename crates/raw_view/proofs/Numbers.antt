@@ -1,21 +1,37 @@
--- Signed numbers at the front of bytes.
-use Rattle.std.proofs.Common.{◌≡◌, ◌≤◌, ◌<◌, ◌^◌, ◌++◌, ◌∷◌, [], ℕ, ℤ, zero, suc, List, length, take, get_or, w32, of_z, to_z, arith, ap, sym, refl, ◌∙◌}
+-- Numbers at the front of bytes.
+use Rattle.std.proofs.Common.{◌≡◌, ◌≤◌, ◌<◌, ◌^◌, ◌++◌, ◌∷◌, [], ℕ, ℤ, zero, suc, List, length, take, get_or, w32, w64, of_z, to_z, arith, ap, sym, refl, ◌∙◌}
 use Rattle.std.proofs.Math.Facts.{Fits-of_z, sfits_to_z}
-use Rattle.std.specs.Int.{from_le_bytes, cast_unsigned}
+use Rattle.std.specs.Int.{from_le_bytes, to_le_bytes}
 use Rattle.std.proofs.lemmas.Int.{to_z-of_z, of_z-to_z}
-use Rattle.std.proofs.lemmas.Nat.{le_bytes_4, from_le_bytes-to_le_bytes_4}
+use Rattle.std.proofs.lemmas.Nat.{le_bytes_4, le_bytes_8, from_le_bytes-to_le_bytes_4, from_le_bytes-to_le_bytes_8}
 use Rattle.std.proofs.lemmas.List.{take_at}
-use Rattle.raw_view.specs.Number.{IsBytes, IsLe32}
+use Rattle.raw_view.specs.Number.{IsBytes, IsLe32, IsLe64, IsUnsigned32, IsUnsigned64}
 
--- four bytes spell the number that is read from them
-read_le32 : (four : List ℕ) → length four ≡ 4 → IsBytes four → IsLe32 four (to_z w32 (from_le_bytes w32 four))
-read_le32 four l bytes =
-    let below : from_le_bytes w32 four < 2 ^ 32 = omega (arith, bytes 0, bytes 1, bytes 2, bytes 3) in
-    let same : cast_unsigned w32 (to_z w32 (from_le_bytes w32 four)) ≡ from_le_bytes w32 four = of_z-to_z w32 (from_le_bytes w32 four) below in
-    record {
-      fits = sfits_to_z (record { fits = below });
-      bytes_are = sym (le_bytes_4 four _ l bytes same);
-    }
+-- bytes spell the number that is read from them
+pub unsigned32 : (four : List ℕ) → length four ≡ 4 → IsBytes four → IsUnsigned32 four (from_le_bytes w32 four)
+unsigned32 four l bytes = record {
+  fits = omega (arith, bytes 0, bytes 1, bytes 2, bytes 3);
+  bytes_are = sym (le_bytes_4 four _ l bytes refl);
+}
+
+pub unsigned64 : (eight : List ℕ) → length eight ≡ 8 → IsBytes eight → IsUnsigned64 eight (from_le_bytes w64 eight)
+unsigned64 eight l bytes = record {
+  fits = omega (arith, bytes 0, bytes 1, bytes 2, bytes 3, bytes 4, bytes 5, bytes 6, bytes 7);
+  bytes_are = sym (le_bytes_8 eight _ l bytes refl);
+}
+
+-- and with a sign, in two's complement
+pub signed32 : (four : List ℕ) (n : ℕ) → IsUnsigned32 four n → IsLe32 four (to_z w32 n)
+signed32 four n u = record {
+  fits = sfits_to_z (record { fits = u.fits });
+  bytes_are = u.bytes_are ∙ ap (to_le_bytes w32) (sym (of_z-to_z w32 n u.fits));
+}
+
+pub signed64 : (eight : List ℕ) (n : ℕ) → IsUnsigned64 eight n → IsLe64 eight (to_z w64 n)
+signed64 eight n u = record {
+  fits = sfits_to_z (record { fits = u.fits });
+  bytes_are = u.bytes_are ∙ ap (to_le_bytes w64) (sym (of_z-to_z w64 n u.fits));
+}
 
 four_bytes : (a b c d : ℕ) (t : List ℕ) → IsBytes (a ∷ b ∷ c ∷ d ∷ t) → IsBytes (a ∷ b ∷ c ∷ d ∷ [])
 four_bytes a b c d t h zero = h 0
@@ -30,15 +46,28 @@ read_front [] z bytes l e = absurd (omega arith)
 read_front (a ∷ []) z bytes l e = absurd (omega arith)
 read_front (a ∷ b ∷ []) z bytes l e = absurd (omega arith)
 read_front (a ∷ b ∷ c ∷ []) z bytes l e = absurd (omega arith)
-read_front (a ∷ b ∷ c ∷ d ∷ t) z bytes l e = rw e (read_le32 (a ∷ b ∷ c ∷ d ∷ []) refl (four_bytes a b c d t bytes))
+read_front (a ∷ b ∷ c ∷ d ∷ t) z bytes l e = rw e (signed32 (a ∷ b ∷ c ∷ d ∷ []) _ (unsigned32 (a ∷ b ∷ c ∷ d ∷ []) refl (four_bytes a b c d t bytes)))
 
 -- bytes are those of one number
+pub IsUnsigned32-same : (bs : List ℕ) (m n : ℕ) → IsUnsigned32 bs m → IsUnsigned32 bs n → m ≡ n
+IsUnsigned32-same bs m n a b = sym (from_le_bytes-to_le_bytes_4 m a.fits) ∙ ap (from_le_bytes w32) (sym a.bytes_are ∙ b.bytes_are) ∙ from_le_bytes-to_le_bytes_4 n b.fits
+
+pub IsUnsigned64-same : (bs : List ℕ) (m n : ℕ) → IsUnsigned64 bs m → IsUnsigned64 bs n → m ≡ n
+IsUnsigned64-same bs m n a b = sym (from_le_bytes-to_le_bytes_8 m a.fits) ∙ ap (from_le_bytes w64) (sym a.bytes_are ∙ b.bytes_are) ∙ from_le_bytes-to_le_bytes_8 n b.fits
+
 pub IsLe32-same : (bs : List ℕ) (z w : ℤ) → IsLe32 bs z → IsLe32 bs w → z ≡ w
 IsLe32-same bs z w a b =
     let below : of_z w32 z < 2 ^ 32 = (Fits-of_z a.fits).fits in
     let under : of_z w32 w < 2 ^ 32 = (Fits-of_z b.fits).fits in
     let same : of_z w32 z ≡ of_z w32 w = sym (from_le_bytes-to_le_bytes_4 (of_z w32 z) below) ∙ ap (from_le_bytes w32) (sym a.bytes_are ∙ b.bytes_are) ∙ from_le_bytes-to_le_bytes_4 (of_z w32 w) under in
     sym (to_z-of_z w32 z a.fits) ∙ ap (to_z w32) same ∙ to_z-of_z w32 w b.fits
+
+pub IsLe64-same : (bs : List ℕ) (z w : ℤ) → IsLe64 bs z → IsLe64 bs w → z ≡ w
+IsLe64-same bs z w a b =
+    let below : of_z w64 z < 2 ^ 64 = (Fits-of_z a.fits).fits in
+    let under : of_z w64 w < 2 ^ 64 = (Fits-of_z b.fits).fits in
+    let same : of_z w64 z ≡ of_z w64 w = sym (from_le_bytes-to_le_bytes_8 (of_z w64 z) below) ∙ ap (from_le_bytes w64) (sym a.bytes_are ∙ b.bytes_are) ∙ from_le_bytes-to_le_bytes_8 (of_z w64 w) under in
+    sym (to_z-of_z w64 z a.fits) ∙ ap (to_z w64) same ∙ to_z-of_z w64 w b.fits
 
 pub IsLe32-length : (bs : List ℕ) (z : ℤ) → IsLe32 bs z → length bs ≡ 4
 IsLe32-length bs z a = ap length a.bytes_are

@@ -1,5 +1,5 @@
 -- What stands at the front of bytes, by the length that they declare.
-use Rattle.std.proofs.Common.{◌≡◌, ◌≢◌, ◌≤◌, ◌<◌, ◌+◌, ◌-◌, ◌++◌, ◌∷◌, [], ℕ, pos, zero, suc, List, length, take, drop, get_or, arith, ap, sym, refl, ◌∙◌, append_assoc, length-append, length-drop, Some}
+use Rattle.std.proofs.Common.{◌≡◌, ◌≢◌, ◌≤◌, ◌<◌, ◌+◌, ◌-◌, ◌++◌, ◌∷◌, [], ℕ, pos, zero, suc, List, length, take, drop, get_or, arith, ap, sym, refl, subst, ◌∙◌, append_assoc, length-append, length-drop, Some}
 use Rattle.std.proofs.lemmas.List.{take_at, drop_at, take-take, take-append-drop, drop-take, take_more, drop_more, length-take-le, get_or-take, take-append-le, get_or_at, get_or_append_left}
 use Rattle.std.proofs.lemmas.Option.{slice_get-get_or, get_or_from_slice_get}
 use Rattle.raw_view.specs.Number.{IsBytes, IsLe32}
@@ -12,11 +12,23 @@ take_split a b bs =
     let le : a ≤ a + b = omega arith in
     sym (take-append-drop a (take (a + b) bs)) ∙ ap (λ x. x ++ drop a (take (a + b) bs)) (take-take a (a + b) bs le) ∙ ap (λ x. take a bs ++ x) (drop-take a b bs)
 
+-- parts of bytes are bytes
+
 pub IsBytes-take : (n : ℕ) (bs : List ℕ) → IsBytes bs → IsBytes (take n bs)
 IsBytes-take zero bs h i = omega arith
 IsBytes-take (suc n) [] h i = omega arith
 IsBytes-take (suc n) (b ∷ bs) h zero = h 0
 IsBytes-take (suc n) (b ∷ bs) h (suc i) = IsBytes-take n bs (λ j. h (suc j)) i
+
+pub IsBytes-front : (front back : List ℕ) → IsBytes (front ++ back) → IsBytes front
+IsBytes-front front back h = subst IsBytes (take_at front back (length front) refl) (IsBytes-take (length front) (front ++ back) h)
+
+pub IsBytes-back : (front back : List ℕ) → IsBytes (front ++ back) → IsBytes back
+IsBytes-back [] back h = h
+IsBytes-back (x ∷ front) back h = IsBytes-back front back (λ i. h (suc i))
+
+pub IsBytes-drop : (n : ℕ) (bs : List ℕ) → IsBytes bs → IsBytes (drop n bs)
+IsBytes-drop n bs h = IsBytes-back (take n bs) (drop n bs) (rw take-append-drop h)
 
 -- strings
 

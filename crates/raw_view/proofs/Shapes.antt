@@ -44,7 +44,7 @@ text_had p h =
     let all : take (length p - 5 + 5) p ≡ p = take_whole p _ (omega arith) in
     subst HasText all (string_found p (length p - 5) header (omega arith) (rw at last))
 
-binary_header : (p : List ℕ) (subtype : ℕ) (bytes : List ℕ) → IsBinary p subtype bytes → (5 ≤ length p) × IsLe32 (take 4 p) (pos (length p - 5))
+pub binary_header : (p : List ℕ) (subtype : ℕ) (bytes : List ℕ) → IsBinary p subtype bytes → (5 ≤ length p) × IsLe32 (take 4 p) (pos (length p - 5))
 binary_header p subtype bytes b =
     let four : length b.head ≡ 4 = IsLe32-length b.head _ b.length_is in
     let size : length p ≡ length bytes + 5 = omega (arith, ap length b.spelled, length-append b.head (subtype ∷ bytes)) in

@@ -43,7 +43,7 @@ options_fault_no_regex bs text behind (what.Utf8EncodingError error) spelled nul
 options_fault_no_regex bs text behind what.OutOfMemory spelled nul_free h p r e x = h
 
 -- the kind of the fault
-no_bad_regex : (bs : List ℕ) → HasNoNul bs → HasBadRegexText bs → ⊥
+pub no_bad_regex : (bs : List ℕ) → HasNoNul bs → HasBadRegexText bs → ⊥
 no_bad_regex bs h bad = elim bad [ inl b ↦ no_nul_in bs b.0 b.1 b.2 h | inr b ↦ no_nul_in bs b.0 b.1 b.2 h ]
 
 pub pattern_fault : (bs : List ℕ) (fault : ErrorKind) → IsTextFault bs fault → IsPayloadFault (tag_of kind.RegularExpression) bs fault

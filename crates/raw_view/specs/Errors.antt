@@ -1,7 +1,8 @@
 -- What errors say.
-use Rattle.std.specs.Prelude.{◌≡◌, ◌⊎◌, ℕ, List, Option, None, Some, String}
+use Rattle.std.specs.Prelude.{◌≡◌, ◌≢◌, ◌⊎◌, ℕ, List, Option, None, Some, String}
 use Rattle.std.specs.String.{string_bytes}
 use Rattle.raw_view.specs.declared.error.Reason.{Reason}
+use Rattle.raw_view.specs.declared.error.Reason.TheVariants as reason
 use Rattle.raw_view.specs.declared.error.ErrorKind.{ErrorKind}
 use Rattle.raw_view.specs.declared.error.ErrorKind.TheVariants as kind
 use Rattle.raw_view.specs.declared.error.Error.{Error}
@@ -27,10 +28,18 @@ pub record TellsRefusal (b : List ℕ) (e : Error) : Type 0 where
   pub reason : IsMalformed e.kind (Refuses b)
   pub key : key_of e ≡ None
 
+-- a reason that reading has, and none of the two of writing
+abbrev pub IsReadingReason : Reason → Type 0
+IsReadingReason r = (r ≢ reason.InteriorNul) × (r ≢ reason.TooLong)
+
+-- a kind of error without a reason of writing
+abbrev pub IsReadingKind : ErrorKind → Type 0
+IsReadingKind k = (k ≢ kind.MalformedValue reason.InteriorNul) × (k ≢ kind.MalformedValue reason.TooLong)
+
 -- an error of this kind that carries this key says the fault with its key. For a fault that has a key,
--- it may say instead, without a key, that memory ran out.
+-- it may say instead, without a key, that memory ran out. No reading fault has a reason of writing.
 abbrev pub Tells : ErrorKind → Option (List ℕ) → Fault → Option (List ℕ) → Type 0
-Tells (kind.MalformedValue _) carried fault key = (fault ≡ Malformed) × (carried ≡ key)
+Tells (kind.MalformedValue r) carried fault key = (fault ≡ Malformed) × (carried ≡ key) × IsReadingReason r
 Tells (kind.Utf8EncodingError _) carried fault key = (fault ≡ Utf8) × (carried ≡ key)
 Tells kind.OutOfMemory carried fault None = ⊥
 Tells kind.OutOfMemory carried fault (Some _) = carried ≡ None

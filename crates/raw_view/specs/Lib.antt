@@ -14,3 +14,4 @@ pub mod Access
 pub mod Typed
 pub mod ElementSteps
 pub mod Front
+pub mod OneReading

@@ -30,6 +30,7 @@ impl<'a> RawArray<'a> {
     ghost use Rattle.raw_view.specs.Item.{Item, AreItems};
     ghost use Rattle.raw_view.specs.LookUp.{IsAt};
     ghost use Rattle.raw_view.specs.Meaning.{Meaning};
+    ghost use Rattle.raw_view.specs.OneReading.{IsTheAnswerAt};
     ghost use Rattle.raw_view.specs.Value.{array_bytes_of};
     ghost use Rattle.raw_view.specs.declared.bson_ref.RawBsonRef.{RawBsonRef};
     ghost use Rattle.raw_view.specs.declared.error.Error.{Error};
@@ -77,8 +78,10 @@ impl<'a> RawArray<'a> {
 
     /// The item of this number, counted from 0, faults and the stop counted too: a value, or its fault. Past
     /// the last item, so past a stop, `None`. Nothing is looked into or copied of the items before it.
+    /// The bytes and the number alone determine what is found.
     pub fn get(self, alloc: Global, index: usize) -> Result<Option<RawBsonRef<'a>>>
-        ensures { (found : Option Meaning) × IsAt (array_bytes_of self.entry) index found × TellsFound result found }
+        ensures found { (found : Option Meaning) × IsAt (array_bytes_of self.entry) index found × TellsFound result found }
+        ensures one_answer { (found : Option Meaning) × IsTheAnswerAt (array_bytes_of self.entry) index found }
     {
         match Elements::new(self.document).nth(index) {
             None => Ok(None),

@@ -50,7 +50,8 @@ impl<'a> RawDocument<'a> {
     ghost use Rattle.std.specs.Iterator.{Drains};
     ghost use Rattle.raw_view.specs.Document.{bytes_of};
     ghost use Rattle.raw_view.specs.ElementSteps.{StepsElement, ListsWalk};
-    ghost use Rattle.raw_view.specs.Frame.{Frame, End, IsWalk};
+    ghost use Rattle.raw_view.specs.Frame.{Frame, End};
+    ghost use Rattle.raw_view.specs.OneReading.{OneFirstFrame, IsTheWalk, AreTheItems, IsTheAnswer};
     ghost use Rattle.raw_view.specs.declared.element.RawElement.{RawElement};
     ghost use Rattle.raw_view.specs.declared.error.Error.{Error};
 
@@ -100,28 +101,35 @@ impl<'a> RawDocument<'a> {
 
     /// The elements in order, and then the fault at which they stop, if there is one. No value is
     /// resolved and nothing is copied but the key of that fault. On n bytes at most (n - 4) / 2 + 1 items.
+    /// The bytes alone determine the elements and the fault: a document has one walk, since at most one
+    /// element stands at the front of any bytes.
     pub fn iter_elements(self, alloc: Global) -> RawIter<'a>
         ensures begins { result ≡ Some (drop 4 (bytes_of self.entry)) }
-        ensures walk { (items : List (Result RawElement Error)) → Drains StepsElement result items → (frames : List Frame) × (end : End) × IsWalk (drop 4 (bytes_of self.entry)) frames end × ListsWalk items frames end }
+        ensures walk { (items : List (Result RawElement Error)) → Drains StepsElement result items → (frames : List Frame) × (end : End) × IsTheWalk (drop 4 (bytes_of self.entry)) frames end × ListsWalk items frames end }
+        ensures one_walk { (frames : List Frame) × (end : End) × IsTheWalk (drop 4 (bytes_of self.entry)) frames end }
+        ensures one_frame { OneFirstFrame }
     {
         RawIter::new(alloc, self)
     }
 
     /// The keys and values in order, each fault in its value's place, and then the fault at which the
     /// elements stop, if there is one. Nothing is copied but the key that a fault carries. On n bytes at
-    /// most (n - 4) / 2 + 1 items.
+    /// most (n - 4) / 2 + 1 items. The bytes alone determine what the items are.
     pub fn iter(self, alloc: Global) -> Iter<'a>
         ensures begins { result ≡ Some (drop 4 (bytes_of self.entry)) }
         ensures items { (outs : List (Result (Bor (List ℕ) × RawBsonRef) Error)) → Drains (StepsItems TellsItem) result outs → (items : List Item) × AreItems (bytes_of self.entry) items × TellsEach TellsItem outs items }
+        ensures one_list { (items : List Item) × AreTheItems (bytes_of self.entry) items }
     {
         Iter::<'a>::new(alloc, self)
     }
 
     /// What the first element with this key means: its value, or its fault. Where no element has the key,
     /// the fault at which the elements stop, if there is one, else `None`. No value of another key is looked
-    /// into, and nothing behind the element that is found.
+    /// into, and nothing behind the element that is found. The bytes and the key alone determine what is
+    /// found.
     pub fn get(self, alloc: Global, key: &str) -> Result<Option<RawBsonRef<'a>>>
-        ensures { (found : Option Meaning) × LooksUp (bytes_of self.entry) key.now found × TellsFound result found }
+        ensures found { (found : Option Meaning) × LooksUp (bytes_of self.entry) key.now found × TellsFound result found }
+        ensures one_answer { (found : Option Meaning) × IsTheAnswer (bytes_of self.entry) key.now found }
     {
         for element in self.iter_elements(alloc) {
             let element = element?;

@@ -1,5 +1,6 @@
 ghost use Rattle.std.specs.Prelude.{◌≡◌, None};
 ghost use Rattle.std.specs.Option.{option_copied};
+ghost use Rattle.raw_view.specs.Errors.{IsReadingKind, IsReadingReason};
 
 use std::alloc::{AllocError, Global};
 use std::fmt;
@@ -51,6 +52,10 @@ pub enum Reason {
     OldWrongInner,
     /// A code with scope has under 14 bytes.
     CodeTooSmall,
+    /// A key, a pattern or options that are to be written hold a 0.
+    InteriorNul,
+    /// A document that is to be written would have over 2147483647 bytes.
+    TooLong,
 }
 
 impl fmt::Display for Reason {
@@ -94,6 +99,8 @@ impl fmt::Display for Reason {
                 write!(f, "old binary subtype has wrong inner declared length")
             }
             Reason::CodeTooSmall => write!(f, "code with scope length too small"),
+            Reason::InteriorNul => write!(f, "interior NUL"),
+            Reason::TooLong => write!(f, "document too long"),
         }
     }
 }
@@ -185,6 +192,7 @@ impl Clone for Error {
 pub(crate) struct BorrowedError<'a> {
     pub(crate) kind: ErrorKind,
     pub(crate) key: Option<&'a str>,
+    ghost reading: { IsReadingKind kind },
 }
 
 impl<'a> BorrowedError<'a> {
@@ -194,6 +202,7 @@ impl<'a> BorrowedError<'a> {
 
     /// Malformed, without a key.
     pub(crate) fn malformed(reason: Reason) -> BorrowedError<'a>
+        requires { IsReadingReason reason }
         ensures kind { result.kind ≡ ErrorKind.MalformedValue reason }
         ensures key { result.key ≡ None }
         ensures tells { TellsBorrowed result malformed }
@@ -206,6 +215,7 @@ impl<'a> BorrowedError<'a> {
 
     /// Malformed, at this key.
     pub(crate) fn malformed_at(reason: Reason, key: &'a str) -> BorrowedError<'a>
+        requires { IsReadingReason reason }
         ensures kind { result.kind ≡ ErrorKind.MalformedValue reason }
         ensures key { option_copied result.key ≡ Some key.now }
         ensures tells { TellsBorrowed result (malformed_at key.now) }

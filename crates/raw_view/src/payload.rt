@@ -1,5 +1,6 @@
 ghost use Rattle.std.specs.Prelude.{◌≡◌, ◌≢◌, ◌≤◌, ◌<◌, ◌+◌, ◌++◌, ℕ, List, length, take, drop, pos, IfOk, IfErr, OnErr};
 ghost use Rattle.raw_view.specs.Envelope.{IsEnvelope};
+ghost use Rattle.raw_view.specs.Errors.{IsReadingKind, IsReadingReason};
 ghost use Rattle.raw_view.specs.Frame.{HasShape, HasText, HasDeclaredLength};
 ghost use Rattle.raw_view.specs.Front.{IsPayloadFault};
 ghost use Rattle.raw_view.specs.Kind.{tag_of};
@@ -14,6 +15,7 @@ use crate::text::split_text;
 fn fixed_len(size: usize, rest: &[u8]) -> Result<usize, Reason>
     ensures found { IfOk result (λ n. (n ≡ size) × (size ≤ length rest.now)) }
     ensures none { OnErr result (length rest.now < size) }
+    ensures reading { IfErr result IsReadingReason }
 {
     if rest.len() < size {
         Err(Reason::PastEnd(size, rest.len()))
@@ -27,6 +29,7 @@ fn declared_len(rest: &[u8]) -> Result<usize, Reason>
     requires { 4 ≤ length rest.now }
     ensures found { IfOk result (λ n. IsLe32 (take 4 rest.now) (pos n)) }
     ensures none { OnErr result ((n : ℕ) → ¬ IsLe32 (take 4 rest.now) (pos n)) }
+    ensures reading { IfErr result IsReadingReason }
 {
     let declared = front_i32(rest);
     if declared < 0 {
@@ -39,6 +42,7 @@ pub(crate) fn string_len(rest: &[u8]) -> Result<usize, Reason>
     ensures within { IfOk result (λ n. n ≤ length rest.now) }
     ensures found { IfOk result (λ n. HasText (take n rest.now)) }
     ensures none { OnErr result ((p r : List ℕ) → rest.now ≡ p ++ r → ¬ HasText p) }
+    ensures reading { IfErr result IsReadingReason }
 {
     if rest.len() < 4 {
         return Err(Reason::StringHeadShort(rest.len()));
@@ -61,6 +65,7 @@ fn document_len(rest: &[u8]) -> Result<usize, Reason>
     ensures within { IfOk result (λ n. n ≤ length rest.now) }
     ensures found { IfOk result (λ n. IsEnvelope (take n rest.now)) }
     ensures none { OnErr result ((p r : List ℕ) → rest.now ≡ p ++ r → ¬ IsEnvelope p) }
+    ensures reading { IfErr result IsReadingReason }
 {
     if rest.len() < 5 {
         return Err(Reason::PastEnd(5, rest.len()));
@@ -82,6 +87,7 @@ fn binary_len(rest: &[u8]) -> Result<usize, Reason>
     ensures within { IfOk result (λ n. n ≤ length rest.now) }
     ensures found { IfOk result (λ n. HasShape Binary (take n rest.now) (drop n rest.now)) }
     ensures none { OnErr result ((p r : List ℕ) → rest.now ≡ p ++ r → ¬ HasShape Binary p r) }
+    ensures reading { IfErr result IsReadingReason }
 {
     if rest.len() < 4 {
         return Err(Reason::LengthHeadShort(rest.len()));
@@ -97,6 +103,7 @@ fn code_with_scope_len(rest: &[u8]) -> Result<usize, Reason>
     ensures within { IfOk result (λ n. n ≤ length rest.now) }
     ensures found { IfOk result (λ n. HasDeclaredLength (take n rest.now) (drop n rest.now)) }
     ensures none { OnErr result ((p r : List ℕ) → rest.now ≡ p ++ r → ¬ HasDeclaredLength p r) }
+    ensures reading { IfErr result IsReadingReason }
 {
     if rest.len() < 4 {
         return Err(Reason::LengthHeadShort(rest.len()));
@@ -112,6 +119,7 @@ fn db_pointer_len(rest: &[u8]) -> Result<usize, Reason>
     ensures within { IfOk result (λ n. n ≤ length rest.now) }
     ensures found { IfOk result (λ n. HasShape DbPointer (take n rest.now) (drop n rest.now)) }
     ensures none { OnErr result ((p r : List ℕ) → rest.now ≡ p ++ r → ¬ HasShape DbPointer p r) }
+    ensures reading { IfErr result IsReadingReason }
 {
     let size = string_len(rest)? + 12;
     if rest.len() < size {
@@ -125,6 +133,7 @@ fn regex_len(rest: &[u8]) -> Result<usize, ErrorKind>
     ensures found { IfOk result (λ n. HasShape RegularExpression (take n rest.now) (drop n rest.now)) }
     ensures none { OnErr result ((p r : List ℕ) → rest.now ≡ p ++ r → ¬ HasShape RegularExpression p r) }
     ensures fault { IfErr result (IsPayloadFault (tag_of RegularExpression) rest.now) }
+    ensures reading { IfErr result IsReadingKind }
 {
     let (_pattern, behind) = split_text(rest)?;
     let (_options, behind) = split_text(behind)?;
@@ -137,6 +146,7 @@ fn sized_len(kind: ElementType, rest: &[u8]) -> Result<usize, Reason>
     ensures within { IfOk result (λ n. n ≤ length rest.now) }
     ensures found { IfOk result (λ n. HasShape kind (take n rest.now) (drop n rest.now)) }
     ensures none { OnErr result ((p r : List ℕ) → rest.now ≡ p ++ r → ¬ HasShape kind p r) }
+    ensures reading { IfErr result IsReadingReason }
 {
     match kind {
         ElementType::String | ElementType::JavaScriptCode | ElementType::Symbol => string_len(rest),
@@ -163,6 +173,7 @@ pub(crate) fn payload_len(kind: ElementType, rest: &[u8]) -> Result<usize, Error
     ensures found { IfOk result (λ n. HasShape kind (take n rest.now) (drop n rest.now)) }
     ensures none { OnErr result ((p r : List ℕ) → rest.now ≡ p ++ r → ¬ HasShape kind p r) }
     ensures fault { IfErr result (IsPayloadFault (tag_of kind) rest.now) }
+    ensures reading { IfErr result IsReadingKind }
 {
     match kind {
         ElementType::RegularExpression => regex_len(rest),

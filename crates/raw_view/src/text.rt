@@ -1,5 +1,6 @@
 ghost use Rattle.std.specs.Prelude.{◌≡◌, ◌++◌, ◌∷◌, IfSome, IfNone, IfOk, IfErr};
 ghost use Rattle.std.specs.Str.{IsUtf8};
+ghost use Rattle.raw_view.specs.Errors.{IsReadingKind};
 ghost use Rattle.raw_view.specs.Frame.{HasNoNul};
 ghost use Rattle.raw_view.specs.Front.{IsTextFault};
 
@@ -22,6 +23,7 @@ pub(crate) fn split_at_nul(bytes: &[u8]) -> Option<(&[u8], &[u8])>
 pub(crate) fn split_text(bytes: &[u8]) -> Result<(&str, &[u8]), ErrorKind>
     ensures found { IfOk result (λ x. (bytes.now ≡ x.0.now ++ 0 ∷ x.1.now) × HasNoNul x.0.now × IsUtf8 x.0.now) }
     ensures fault { IfErr result (IsTextFault bytes.now) }
+    ensures reading { IfErr result IsReadingKind }
 {
     let Some((text, behind)) = split_at_nul(bytes) else {
         return Err(ErrorKind::MalformedValue {

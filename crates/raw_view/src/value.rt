@@ -208,11 +208,14 @@ impl<'a> RawElement<'a> {
     ghost use Rattle.raw_view.specs.Answers.{TellsMeaning};
     ghost use Rattle.raw_view.specs.ElementSteps.{frame_of};
     ghost use Rattle.raw_view.specs.Meaning.{Meaning, Means};
+    ghost use Rattle.raw_view.specs.OneReading.{IsTheMeaning};
 
     /// The value that the payload means, with its parts borrowed from the document; or its fault, with a
     /// copy of the key where it carries one. Where that copy finds no memory, the error says so instead.
+    /// The kind, the key and the payload alone determine what is meant.
     pub fn value(self, alloc: Global) -> crate::error::Result<RawBsonRef<'a>>
-        ensures { (m : Meaning) × Means (frame_of self.entry) m × TellsMeaning result m }
+        ensures meaning { (m : Meaning) × Means (frame_of self.entry) m × TellsMeaning result m }
+        ensures one_meaning { (m : Meaning) × IsTheMeaning (frame_of self.entry) m }
     {
         match self.resolve() {
             Ok(value) => Ok(value),

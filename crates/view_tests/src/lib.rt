@@ -19,3 +19,5 @@ mod reasons;
 mod rows;
 #[cfg(test)]
 mod texts;
+#[cfg(test)]
+mod trees;

@@ -2,33 +2,47 @@ use Rattle.std.proofs.Common.{refl, Option, List, ℕ, Some, None, Ok, Err, subs
 use Rattle.std.specs.Iterator.{SkipsThenYields}
 use Rattle.raw_view.specs.Front.{StepsFront}
 use Rattle.raw_view.specs.Meaning.{faulty}
+use Rattle.raw_view.specs.Value.{array_bytes_of}
 use Rattle.raw_view.proofs.Iteration.{told_fault}
 use Rattle.raw_view.proofs.LookUps.{found_value, found_fault}
 use Rattle.raw_view.proofs.Places.{nth_none, nth_element, nth_stop}
+use Rattle.raw_view.proofs.UniqueItems.{the_answer_at}
 use Rattle.raw_view.proofs.array.RawArray.get.Goals as goal
 
-pub returns-in-None : goal.returns-in-None
-returns-in-None c =
+pub returns-in-None-clause-found : goal.returns-in-None-clause-found
+returns-in-None-clause-found c =
     let ran = subst (λ (x : Option (List ℕ)). SkipsThenYields StepsFront x c.args.index None c.nth.new.self) c.new.ensures c.in-None.ensures.ran in
     (None, nth_none _ _ _ ran, refl)
 
-pub returns-in-Some-Err : goal.returns-in-Some-Err
-returns-in-Some-Err c =
+pub returns-in-Some-Err-clause-found : goal.returns-in-Some-Err-clause-found
+returns-in-Some-Err-clause-found c =
     let at = rw c.in-Some-Err.field-0-is at c.in-Some-Err.ensures.ran in
     let ran = subst (λ (x : Option (List ℕ)). SkipsThenYields StepsFront x c.args.index (Some (Err c.in-Some-Err.error)) c.nth.new.self) c.new.ensures at in
     let t = nth_stop _ _ _ _ ran in
     (Some (faulty t.0), t.2, told_fault c.in-Some-Err.error t.0 c.into_error.result t.1 c.into_error.ensures)
 
-pub returns-in-Ok : goal.returns-in-Ok
-returns-in-Ok c =
+pub returns-in-Ok-clause-found : goal.returns-in-Ok-clause-found
+returns-in-Ok-clause-found c =
     let at = rw c.in-Some-Ok.field-0-is at c.in-Some-Ok.ensures.ran in
     let ran = subst (λ (x : Option (List ℕ)). SkipsThenYields StepsFront x c.args.index (Some (Ok c.in-Some-Ok.element)) c.nth.new.self) c.new.ensures at in
-    let m = c.in-Ok.ensures in
+    let m = c.in-Ok.ensures.meaning in
     (Some m.0, nth_element _ _ _ _ ran m.0 m.1, found_value c.in-Ok.value m.0 m.2)
 
-pub returns-in-Err : goal.returns-in-Err
-returns-in-Err c =
+pub returns-in-Err-clause-found : goal.returns-in-Err-clause-found
+returns-in-Err-clause-found c =
     let at = rw c.in-Some-Ok.field-0-is at c.in-Some-Ok.ensures.ran in
     let ran = subst (λ (x : Option (List ℕ)). SkipsThenYields StepsFront x c.args.index (Some (Ok c.in-Some-Ok.element)) c.nth.new.self) c.new.ensures at in
-    let m = c.in-Err.ensures in
+    let m = c.in-Err.ensures.meaning in
     (Some m.0, nth_element _ _ _ _ ran m.0 m.1, found_fault c.in-Err.error m.0 m.2)
+
+pub returns-in-None-clause-one_answer : goal.returns-in-None-clause-one_answer
+returns-in-None-clause-one_answer c = let t = returns-in-None-clause-found c in (t.0, the_answer_at (array_bytes_of c.args.self) c.args.index t.0 t.1)
+
+pub returns-in-Some-Err-clause-one_answer : goal.returns-in-Some-Err-clause-one_answer
+returns-in-Some-Err-clause-one_answer c = let t = returns-in-Some-Err-clause-found c in (t.0, the_answer_at (array_bytes_of c.args.self) c.args.index t.0 t.1)
+
+pub returns-in-Ok-clause-one_answer : goal.returns-in-Ok-clause-one_answer
+returns-in-Ok-clause-one_answer c = let t = returns-in-Ok-clause-found c in (t.0, the_answer_at (array_bytes_of c.args.self) c.args.index t.0 t.1)
+
+pub returns-in-Err-clause-one_answer : goal.returns-in-Err-clause-one_answer
+returns-in-Err-clause-one_answer c = let t = returns-in-Err-clause-found c in (t.0, the_answer_at (array_bytes_of c.args.self) c.args.index t.0 t.1)

@@ -1,0 +1,79 @@
+use crate::asserts::{answered, assert_refused};
+use raw_bson::{Binary, BinarySubtype, Bson, Document, Reason, Result, encode, encode_list};
+use std::alloc::Global;
+use std::process::Abort;
+use std::test::Fail;
+
+/// The document of one pair.
+fn one_pair(alloc: Global, key: &str, value: Bson) -> std::result::Result<Document, Fail> {
+    let mut document = Document::new(alloc);
+    let _ = document.insert(String::from_str(alloc, key)?, value)?;
+    Ok(document)
+}
+
+/// The answer is these bytes.
+fn assert_written(rt: &impl Abort, answer: Result<Vec<u8>>, bytes: &[u8]) {
+    match answer {
+        Ok(written) => assert_eq!(rt; written.as_slice(), bytes),
+        Err(error) => assert!(rt; false, "{error}"),
+    }
+}
+
+#[test]
+fn hello_world_written(rt: HostRuntime) -> std::result::Result<(), Fail> {
+    let alloc = rt.alloc();
+    let document = one_pair(
+        alloc,
+        "hello",
+        Bson::String(String::from_str(alloc, "world")?),
+    )?;
+    let bytes = b"\x16\0\0\0\x02hello\0\x06\0\0\0world\0\0";
+    assert_written(&rt, encode(alloc, &document), bytes);
+    Ok(())
+}
+
+#[test]
+fn a_list_is_written_under_decimals(rt: HostRuntime) -> std::result::Result<(), Fail> {
+    let alloc = rt.alloc();
+    let mut values = Vec::new(alloc);
+    values.push(Bson::Null)?;
+    assert_written(&rt, encode_list(alloc, &values), b"\x08\0\0\0\x0A0\0\0");
+    assert_written(&rt, encode_list(alloc, &[]), b"\x05\0\0\0\0");
+    values.push(Bson::Array(Vec::new(alloc)))?;
+    let bytes = b"\x10\0\0\0\x0A0\0\x041\0\x05\0\0\0\0\0";
+    assert_written(&rt, encode_list(alloc, &values), bytes);
+    Ok(())
+}
+
+#[test]
+fn user_defined_subtype_two_has_no_inner_length(rt: HostRuntime) -> std::result::Result<(), Fail> {
+    let alloc = rt.alloc();
+    let binary = Binary {
+        subtype: BinarySubtype::UserDefined(2),
+        bytes: Vec::from_slice(alloc, &[1, 2, 3, 4])?,
+    };
+    let document = one_pair(alloc, "b", Bson::Binary(binary))?;
+    let bytes = b"\x11\0\0\0\x05b\0\x04\0\0\0\x02\x01\x02\x03\x04\0";
+    assert_written(&rt, encode(alloc, &document), bytes);
+    Ok(())
+}
+
+#[test]
+fn nul_in_a_nested_key(rt: HostRuntime) -> std::result::Result<(), Fail> {
+    let alloc = rt.alloc();
+    let inner = one_pair(alloc, "x\0", Bson::Null)?;
+    let document = one_pair(alloc, "a", Bson::Document(inner))?;
+    assert_refused(&rt, encode(alloc, &document), Reason::InteriorNul);
+    Ok(())
+}
+
+#[test]
+fn encode_or_want_of_memory(rt: HostRuntime) {
+    let alloc = rt.alloc();
+    if let Some(bytes) = answered(&rt, encode(alloc, &Document::new(alloc))) {
+        assert_eq!(rt; bytes.as_slice(), b"\x05\0\0\0\0".as_slice());
+    }
+    if let Some(bytes) = answered(&rt, encode_list(alloc, &[Bson::Boolean(true)])) {
+        assert_eq!(rt; bytes.as_slice(), b"\x09\0\0\0\x080\0\x01\0".as_slice());
+    }
+}

@@ -1,0 +1,27 @@
+use raw_bson::{RawArrayBuf, RawBson, RawDocumentBuf, Result};
+use std::alloc::Global;
+use std::process::Abort;
+use std::test::Fail;
+
+/// Writes the document of an author, and reads the year of birth back.
+pub fn year_of_birth(alloc: Global) -> Result<Option<i32>> {
+    let mut languages = RawArrayBuf::new(alloc)?;
+    languages.push(RawBson::from_str(alloc, "English")?)?;
+    languages.push(RawBson::from_str(alloc, "French")?)?;
+
+    let mut author = RawDocumentBuf::new(alloc)?;
+    author.append("name", RawBson::from_str(alloc, "Ada Lovelace")?)?;
+    author.append("born", RawBson::from(1815))?;
+    author.append("languages", RawBson::from(languages))?;
+
+    match author.get("born")? {
+        Some(year) => Ok(year.as_i32()),
+        None => Ok(None),
+    }
+}
+
+#[test]
+fn the_year_of_birth_is_read_back(rt: HostRuntime) -> std::result::Result<(), Fail> {
+    assert_eq!(rt; year_of_birth(rt.alloc())?, Some(1815));
+    Ok(())
+}

@@ -1,0 +1,269 @@
+-- An append gives a document again, and what was read before it is read before the new element.
+use Rattle.std.proofs.Common.{◌≡◌, ◌≢◌, inl, inr, ◌<◌, ◌≤◌, ◌+◌, ◌-◌, ◌++◌, ◌∷◌, [], ℕ, pos, zero, suc, List, length, take, drop, get_or, arith, ap, sym, refl, ◌∙◌, subst, append_assoc, length-append, length-drop, Some, false, true, w32}
+use Rattle.std.specs.Str.{IsUtf8}
+use Rattle.std.specs.Prelude.{FitsSigned}
+use Rattle.std.proofs.lemmas.Int.{fits_signed_from_abs}
+use Rattle.std.proofs.lemmas.List.{take_all, take_more, take-append-le, get_or_at, get_or-take, get_or-drop, same_from_push, length-take-le}
+use Rattle.std.proofs.lemmas.List.Elements.{All-head, All-tail}
+use Rattle.std.proofs.lemmas.Bool.{cases_lt}
+use Rattle.std.proofs.lemmas.Option.{slice_get-get_or, get_or_from_slice_get}
+use Rattle.bson_model.specs.Bytes.{NulFree}
+use Rattle.bson_model.specs.Leaf.{Leaf, double, string, binary, undefined, object_id, boolean, date_time, null, regular_expression, db_pointer, javascript_code, symbol, int32, timestamp, int64, decimal128, max_key, min_key}
+use Rattle.bson_model.specs.Proper.{IsLeafInRange, IsLeafNulFree}
+use Rattle.bson_model.specs.declared.binaries.BinarySubtype.{BinarySubtype}
+use Rattle.bson_model.specs.declared.binaries.BinarySubtype.TheVariants.{BinaryOld}
+use Rattle.bson_model.specs.Subtype.{subtype_byte}
+use Rattle.raw_view.specs.Access.{kind_of_raw, kind_of_leaf}
+use Rattle.raw_view.specs.Envelope.{IsEnvelope}
+use Rattle.raw_view.specs.Frame.{HasNoNul, IsString, IsBinary, HasDeclaredLength, HasShape, Frame, IsFrame, IsWalk, Done}
+use Rattle.raw_view.specs.Kind.{tag_of}
+use Rattle.raw_view.specs.Meaning.{RawValue, single, document, array, scoped}
+use Rattle.raw_view.specs.Number.{IsBytes, IsLe32, le32}
+use Rattle.raw_view.specs.declared.element_type.ElementType.{ElementType}
+use Rattle.raw_view.specs.declared.element_type.ElementType.TheVariants as kind
+use Rattle.raw_tree.specs.Payload.{string_payload, plain_binary_payload, binary_payload, leaf_payload, payload_of, element_bytes, framed, IsValueNulFree}
+use Rattle.raw_bson.specs.Append.{inside_of, appended_bytes, IsNulFreeElement, HasRoom, value_frame, EndsInShortScope, KeepsWalk, IsRawInRange}
+
+-- lengths
+
+-- the length and the final 0 are five bytes
+length-framed : (inside : List ℕ) → length (framed inside) ≡ length inside + 5
+length-framed inside = omega (arith, length-append inside (0 ∷ []))
+
+-- the tag and the key's 0 are two
+pub length-element_bytes : (key : List ℕ) (v : RawValue) → length (element_bytes key v) ≡ length key + (2 + length (payload_of v))
+length-element_bytes key v = omega (arith, length-append key (0 ∷ payload_of v))
+
+-- all but five
+length-inside : (b : List ℕ) → 5 ≤ length b → length (inside_of b) ≡ length b - 5
+length-inside b five = length-take-le (length b - 5) (drop 4 b) (omega (arith, length-drop 4 b))
+
+-- the new element is added
+pub length-appended_bytes : (b key : List ℕ) (v : RawValue) → 5 ≤ length b → length (appended_bytes b key v) ≡ length b + (length key + (2 + length (payload_of v)))
+length-appended_bytes b key v five =
+    omega (arith, length-framed (inside_of b ++ element_bytes key v), length-append (inside_of b) (element_bytes key v), length-inside b five, length-element_bytes key v)
+
+-- a length of at most 2147483647 fits
+fits_length : (n : ℕ) → n ≤ 2147483647 → FitsSigned w32 (pos n)
+fits_length n l = fits_signed_from_abs w32 (pos n) (omega arith)
+
+-- the envelope
+
+-- bytes between their length and a final 0 have their envelope
+framed_is_envelope : (inside : List ℕ) → IsBytes (framed inside) → length (framed inside) ≤ 2147483647 → IsEnvelope (framed inside)
+framed_is_envelope inside bytes l =
+    let front : List ℕ = le32 (pos (4 + length (inside ++ 0 ∷ []))) ++ inside in
+    let size : length (framed inside) ≡ 4 + length (inside ++ 0 ∷ []) = omega arith in
+    let at : length front ≡ length (framed inside) - 1 = omega (arith, length-append inside (0 ∷ [])) in
+    record {
+      bytes = bytes;
+      enough = omega (arith, length-framed inside);
+      header = record { fits = fits_length _ l; bytes_are = ap (λ (n : ℕ). le32 (pos n)) (sym size) };
+      ended = slice_get-get_or (framed inside) (length (framed inside) - 1) 0 (omega arith) ∙ ap Some (get_or_at front 0 [] 0 _ at);
+    }
+
+-- so has a document with one element more
+pub appended_is_envelope : (b key : List ℕ) (v : RawValue) → IsEnvelope b → IsBytes (appended_bytes b key v) → HasRoom b key v → IsEnvelope (appended_bytes b key v)
+appended_is_envelope b key v _ bytes room = framed_is_envelope (inside_of b ++ element_bytes key v) bytes room
+
+-- shapes of written payloads
+
+-- no 0 at any place is no 0 down the list
+HasNoNul-from : (bytes : List ℕ) → NulFree bytes → HasNoNul bytes
+HasNoNul-from [] h = tt
+HasNoNul-from (b ∷ bytes) h = (All-head (λ x. x ≢ 0) b bytes h, HasNoNul-from bytes (All-tail (λ x. x ≢ 0) b bytes h))
+
+-- a written string
+string_shape : (text : List ℕ) → length (string_payload text) ≤ 2147483647 → IsString (string_payload text) text
+string_shape text l = record {
+  head = le32 (pos (length text + 1));
+  length_is = record { fits = fits_length _ (omega (arith, length-append text (0 ∷ []))); bytes_are = refl };
+  spelled = refl;
+}
+
+-- the bytes of a binary, which may be those of an old one with their length before them
+plain_shape : (subtype : ℕ) (bytes : List ℕ) → length (plain_binary_payload subtype bytes) ≤ 2147483647 → IsBinary (plain_binary_payload subtype bytes) subtype bytes
+plain_shape subtype bytes l = record {
+  head = le32 (pos (length bytes));
+  length_is = record { fits = fits_length _ (omega arith); bytes_are = refl };
+  spelled = refl;
+}
+
+-- a written binary
+binary_shape : (subtype : BinarySubtype) (bytes : List ℕ) → length (binary_payload subtype bytes) ≤ 2147483647 → (byte : ℕ) × (inner : List ℕ) × IsBinary (binary_payload subtype bytes) byte inner
+binary_shape BinaryOld bytes l = (2, le32 (pos (length bytes)) ++ bytes, plain_shape 2 (le32 (pos (length bytes)) ++ bytes) l)
+binary_shape subtype bytes l = (subtype_byte subtype, bytes, plain_shape (subtype_byte subtype) bytes l)
+
+-- a written value that holds no others
+leaf_shape : (leaf : Leaf) (r : List ℕ) → IsLeafInRange leaf → IsLeafNulFree leaf → length (leaf_payload leaf) ≤ 2147483647 → HasShape (kind_of_leaf leaf) (leaf_payload leaf) r
+leaf_shape (double bits) r h n l = refl
+leaf_shape (string text) r h n l = (text, string_shape text l)
+leaf_shape (binary subtype bytes) r h n l = binary_shape subtype bytes l
+leaf_shape undefined r h n l = refl
+leaf_shape (object_id bytes) r h n l = h.0
+leaf_shape (boolean false) r h n l = refl
+leaf_shape (boolean true) r h n l = refl
+leaf_shape (date_time millis) r h n l = refl
+leaf_shape null r h n l = refl
+leaf_shape (regular_expression pattern options) r h n l = (
+  pattern,
+  options,
+  record {
+    spelled = refl;
+    pattern_nul_free = HasNoNul-from pattern n.0;
+    pattern_text = h.0;
+    options_nul_free = HasNoNul-from options n.1;
+    options_text = h.1;
+  },
+)
+leaf_shape (db_pointer namespace id) r h n l = (
+  namespace,
+  id,
+  record {
+    string = string_payload namespace;
+    string_is = string_shape namespace (omega (arith, length-append (string_payload namespace) id));
+    id_len = h.1.0;
+    spelled = refl;
+  },
+)
+leaf_shape (javascript_code code) r h n l = (code, string_shape code l)
+leaf_shape (symbol text) r h n l = (text, string_shape text l)
+leaf_shape (int32 z) r h n l = refl
+leaf_shape (timestamp time increment) r h n l = refl
+leaf_shape (int64 z) r h n l = refl
+leaf_shape (decimal128 bytes) r h n l = h.0
+leaf_shape max_key r h n l = refl
+leaf_shape min_key r h n l = refl
+
+-- a payload that begins with its length has it declared, whatever stands behind it
+declared_shape : (t r : List ℕ) → 4 + length t ≤ 2147483647 → HasDeclaredLength (le32 (pos (4 + length t)) ++ t) r
+declared_shape t r l =
+    let size : length (le32 (pos (4 + length t)) ++ t) ≡ 4 + length t = omega arith in
+    record { enough = omega arith; header = rw size (record { fits = fits_length _ l; bytes_are = refl }) }
+
+-- a written value
+pub value_has_shape : (v : RawValue) (r : List ℕ) → IsRawInRange v → IsValueNulFree v → length (payload_of v) ≤ 2147483647 → HasShape (kind_of_raw v) (payload_of v) r
+value_has_shape (single leaf) r h n l = leaf_shape leaf r h n l
+value_has_shape (document bytes) r h n l = h
+value_has_shape (array bytes) r h n l = h
+value_has_shape (scoped code scope) r h n l = declared_shape (string_payload code ++ scope) r (omega arith)
+
+-- walks and their last byte
+
+-- bytes behind a frame and what is left behind it
+frame-append : (tag : ℕ) (key p r e : List ℕ) → (tag ∷ (key ++ 0 ∷ (p ++ r))) ++ e ≡ tag ∷ (key ++ 0 ∷ (p ++ (r ++ e)))
+frame-append tag key p r e = simp append_assoc
+
+-- bytes whose walk ends at a final 0 end in 0
+last_of_walk : (s : List ℕ) (frames : List Frame) → IsWalk s frames Done → (t : List ℕ) × (s ≡ t ++ 0 ∷ [])
+last_of_walk s [] w = ([], w)
+last_of_walk s (f ∷ frames) w =
+    let rest = last_of_walk w.0 frames w.2 in
+    let spelled : s ≡ tag_of f.kind ∷ (f.key ++ 0 ∷ (f.payload ++ (rest.0 ++ 0 ∷ []))) = w.1.spelled ∙ ap (λ x. tag_of f.kind ∷ (f.key ++ 0 ∷ (f.payload ++ x))) rest.1 in
+    (tag_of f.kind ∷ (f.key ++ 0 ∷ (f.payload ++ rest.0)), spelled ∙ sym (frame-append (tag_of f.kind) f.key f.payload rest.0 (0 ∷ [])))
+
+-- codes with scope, whose shape speaks of what stands behind them
+
+-- no kind has tag 0, as is seen kind by kind
+tag_of-above : (k : ElementType) → 0 < tag_of k
+tag_of-above kind.Double = omega arith
+tag_of-above _ = omega arith
+
+-- the byte of a number at its own place is 0
+le32-at_itself : (n : ℕ) → n ≤ 3 → get_or (le32 (pos n)) n 0 ≡ 0
+le32-at_itself zero l = refl
+le32-at_itself (suc zero) l = refl
+le32-at_itself (suc (suc zero)) l = refl
+le32-at_itself (suc (suc (suc zero))) l = refl
+le32-at_itself (suc (suc (suc (suc n)))) l = absurd (omega arith)
+
+-- Behind a payload that ends inside its length bytes stands no frame: the frame's tag would be one of these
+-- bytes, and that byte is 0.
+no_frame_in_length : (p s r : List ℕ) (f : Frame) → length p ≤ 3 → IsFrame s f r → HasDeclaredLength p s → ⊥
+no_frame_in_length p s r f short b d =
+    let tag : get_or (p ++ s) (length p) 0 ≡ tag_of f.kind = ap (λ (x : List ℕ). get_or (p ++ x) (length p) 0) b.spelled ∙ get_or_at p (tag_of f.kind) _ 0 (length p) refl in
+    let front : get_or (take 4 (p ++ s)) (length p) 0 ≡ get_or (p ++ s) (length p) 0 = get_or-take 4 (p ++ s) (length p) 0 (omega arith) in
+    let byte : get_or (take 4 (p ++ s)) (length p) 0 ≡ 0 = ap (λ (x : List ℕ). get_or x (length p) 0) d.header.bytes_are ∙ le32-at_itself (length p) short in
+    omega (arith, tag_of-above f.kind)
+
+-- the length bytes stand before the final 0, unless the payload is the last and has three bytes
+length_before_end : (p m : List ℕ) (frames : List Frame) → IsWalk (m ++ 0 ∷ []) frames Done → (frames ≡ [] → length p ≢ 3) → HasDeclaredLength p (m ++ 0 ∷ []) → 4 ≤ length (p ++ m)
+length_before_end p m [] w other d =
+    let long : length p ≢ 3 = other refl in
+    omega (arith, d.enough, ap length w, length-append p (m ++ 0 ∷ []), length-append m (0 ∷ []), length-append p m)
+length_before_end p m (f ∷ frames) w other d =
+    elim (cases_lt 3 (length p)) [
+      | inl long ↦ omega (arith, length-append p m)
+      | inr short ↦ absurd (no_frame_in_length p (m ++ 0 ∷ []) w.0 f short w.1 d)
+    ]
+
+-- the declared length stays where bytes change that stand behind the length bytes
+declared_on : (p m x y : List ℕ) → 4 ≤ length (p ++ m) → HasDeclaredLength p (m ++ x) → HasDeclaredLength p (m ++ y)
+declared_on p m x y four d =
+    let before : take 4 (p ++ (m ++ x)) ≡ take 4 (p ++ m) = ap (take 4) (sym (append_assoc p m x)) ∙ take-append-le 4 (p ++ m) x four in
+    let after : take 4 (p ++ (m ++ y)) ≡ take 4 (p ++ m) = ap (take 4) (sym (append_assoc p m y)) ∙ take-append-le 4 (p ++ m) y four in
+    record {
+      enough = omega (arith, ap length (append_assoc p m y), length-append (p ++ m) y);
+      header = subst (λ (z : List ℕ). IsLe32 z (pos (length p))) (before ∙ sym after) d.header;
+    }
+
+-- every shape but that of a code with scope is the same before other bytes
+shape_on : (k : ElementType) (p r t : List ℕ) → (k ≡ kind.JavaScriptCodeWithScope → HasDeclaredLength p r → HasDeclaredLength p t) → HasShape k p r → HasShape k p t
+shape_on kind.JavaScriptCodeWithScope p r t on h = on refl h
+shape_on _ p r t on h = h
+
+-- bytes in place of the final 0
+
+-- a frame stays, and they are left behind it
+frame_on : (m t e : List ℕ) (f : Frame) (frames : List Frame) → IsFrame (m ++ 0 ∷ []) f (t ++ 0 ∷ []) → IsWalk (t ++ 0 ∷ []) frames Done → ¬ EndsInShortScope (f ∷ frames) → IsFrame (m ++ e) f (t ++ e)
+frame_on m t e f frames b w none =
+    let front : m ≡ tag_of f.kind ∷ (f.key ++ 0 ∷ (f.payload ++ t)) = (same_from_push m _ 0 0 (b.spelled ∙ sym (frame-append (tag_of f.kind) f.key f.payload t (0 ∷ [])))).0 in
+    let other : f.kind ≡ kind.JavaScriptCodeWithScope → frames ≡ [] → length f.payload ≢ 3 = λ scoped last three. none ([], f, ap (λ x. f ∷ x) last, scoped, three) in
+    let declared : f.kind ≡ kind.JavaScriptCodeWithScope → HasDeclaredLength f.payload (t ++ 0 ∷ []) → HasDeclaredLength f.payload (t ++ e) = λ scoped d. declared_on f.payload t (0 ∷ []) e (length_before_end f.payload t frames w (other scoped) d) d in
+    record {
+      spelled = ap (λ x. x ++ e) front ∙ frame-append (tag_of f.kind) f.key f.payload t e;
+      key_nul_free = b.key_nul_free;
+      key_text = b.key_text;
+      payload_is = shape_on f.kind f.payload (t ++ 0 ∷ []) (t ++ e) declared b.payload_is;
+    }
+
+-- a walk goes on with the frame that they begin with, and a new final 0
+walk_on : (m e : List ℕ) (frames : List Frame) (f : Frame) → IsFrame e f (0 ∷ []) → IsWalk (m ++ 0 ∷ []) frames Done → ¬ EndsInShortScope frames → IsWalk (m ++ e) (frames ++ f ∷ []) Done
+walk_on m e [] f b w none =
+    let empty : m ≡ [] = (same_from_push m [] 0 0 w).0 in
+    (0 ∷ [], subst (λ (x : List ℕ). IsFrame (x ++ e) f (0 ∷ [])) (sym empty) b, refl)
+walk_on m e (g ∷ frames) f b w none =
+    let rest = last_of_walk w.0 frames w.2 in
+    let here : IsFrame (m ++ 0 ∷ []) g (rest.0 ++ 0 ∷ []) = subst (λ (x : List ℕ). IsFrame (m ++ 0 ∷ []) g x) rest.1 w.1 in
+    let behind : IsWalk (rest.0 ++ 0 ∷ []) frames Done = subst (λ (x : List ℕ). IsWalk x frames Done) rest.1 w.2 in
+    let others : ¬ EndsInShortScope frames = λ short. none (g ∷ short.0, short.1, ap (λ x. g ∷ x) short.2, short.3, short.4) in
+    (rest.0 ++ e, frame_on m rest.0 e g frames here behind none, walk_on rest.0 e frames f b behind others)
+
+-- the append
+
+-- behind its length a document is what is inside, and a 0
+inside_and_end : (b : List ℕ) → IsEnvelope b → drop 4 b ≡ inside_of b ++ 0 ∷ []
+inside_and_end b envelope =
+    let enough : 5 ≤ length b = envelope.enough in
+    let size : length (drop 4 b) ≡ length b - 4 = length-drop 4 b in
+    let place : 4 + (length b - 5) ≡ length b - 1 = omega arith in
+    let last : get_or (drop 4 b) (length b - 5) 0 ≡ 0 = get_or-drop 4 b (length b - 5) 0 ∙ ap (λ (i : ℕ). get_or b i 0) place ∙ get_or_from_slice_get b (length b - 1) 0 0 envelope.ended in
+    sym (take_all (length b - 5 + 1) (drop 4 b) (omega arith)) ∙ take_more (drop 4 b) (length b - 5) 0 (omega arith) ∙ ap (λ x. inside_of b ++ x ∷ []) last
+
+-- the new element is a frame, whatever stands behind it
+element_is_frame : (key : List ℕ) (v : RawValue) (r : List ℕ) → IsUtf8 key → IsNulFreeElement key v → IsRawInRange v → length (payload_of v) ≤ 2147483647 → IsFrame (element_bytes key v ++ r) (value_frame key v) r
+element_is_frame key v r text nul_free in_range l = record {
+  spelled = ap (λ x. tag_of (kind_of_raw v) ∷ x) (append_assoc key (0 ∷ payload_of v) r);
+  key_nul_free = HasNoNul-from key nul_free.0;
+  key_text = text;
+  payload_is = value_has_shape v r in_range nul_free.1 l;
+}
+
+-- a walk of the old content goes on with the new element
+pub keeps_walk : (b key : List ℕ) (v : RawValue) → IsEnvelope b → IsUtf8 key → IsNulFreeElement key v → IsRawInRange v → HasRoom b key v → KeepsWalk b key v (appended_bytes b key v)
+keeps_walk b key v envelope text nul_free in_range room frames w none =
+    let size : length (payload_of v) ≤ 2147483647 = omega (arith, length-appended_bytes b key v envelope.enough) in
+    let new : IsFrame (element_bytes key v ++ 0 ∷ []) (value_frame key v) (0 ∷ []) = element_is_frame key v (0 ∷ []) text nul_free in_range size in
+    let old : IsWalk (inside_of b ++ 0 ∷ []) frames Done = subst (λ (x : List ℕ). IsWalk x frames Done) (inside_and_end b envelope) w in
+    let after : inside_of b ++ (element_bytes key v ++ 0 ∷ []) ≡ drop 4 (appended_bytes b key v) = sym (append_assoc (inside_of b) (element_bytes key v) (0 ∷ [])) in
+    subst (λ (x : List ℕ). IsWalk x (frames ++ value_frame key v ∷ []) Done) after (walk_on (inside_of b) (element_bytes key v ++ 0 ∷ []) frames (value_frame key v) new old none)

@@ -1,0 +1,5 @@
+pub mod Counts
+pub mod Filling
+pub mod KeptWalks
+pub mod SameValues
+pub mod Written

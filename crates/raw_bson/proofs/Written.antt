@@ -1,0 +1,37 @@
+-- The bytes that an append writes.
+use Rattle.std.proofs.Common.{◌≡◌, ◌≤◌, ◌<◌, ◌+◌, ◌-◌, ◌∷◌, ◌++◌, [], ℕ, zero, suc, List, slice_index_or, pos, length, take, drop, ap, sym, ◌∙◌, arith, append_assoc, length-append}
+use Rattle.std.proofs.lemmas.List.{drop-take, drop-append-le, length-take, length-drop}
+use Rattle.raw_view.specs.Meaning.{RawValue}
+use Rattle.raw_view.specs.Number.{le32}
+use Rattle.raw_tree.specs.Payload.{payload_of, element_bytes}
+use Rattle.raw_view.specs.Number.{IsBytes}
+use Rattle.raw_bson.specs.Append.{inside_of, appended_bytes}
+use Rattle.raw_bson.proofs.KeptWalks.{length-element_bytes}
+
+inside_len : (b : List ℕ) → 5 ≤ length b → length (inside_of b) + 5 ≡ length b
+inside_len b h = omega (arith, length-take (length b - 5) (drop 4 b), length-drop 4 b)
+
+-- what a vector of bytes holds
+pub all_bytes : (bytes : List ℕ) → ((i d : ℕ) → i < length bytes → slice_index_or bytes i d < 256) → IsBytes bytes
+all_bytes [] h i = omega arith
+all_bytes (b ∷ bytes) h zero = h 0 0 (omega arith)
+all_bytes (b ∷ bytes) h (suc i) = all_bytes bytes (λ j d l. h (suc j) d (omega (arith, l))) i
+
+-- all of a document but its header and its final 0
+front_dropped : (b : List ℕ) → 5 ≤ length b → drop 4 (take (length b - 1) b) ≡ inside_of b
+front_dropped b h =
+    let n : length b - 1 ≡ 4 + (length b - 5) = omega arith in
+    rw n (drop-take 4 (length b - 5) b)
+
+behind_header : (b more : List ℕ) → 5 ≤ length b → drop 4 (take (length b - 1) b ++ more) ≡ inside_of b ++ more
+behind_header b more h =
+    let enough : 4 ≤ length (take (length b - 1) b) = omega (arith, length-take (length b - 1) b) in
+    drop-append-le 4 (take (length b - 1) b) more enough ∙ ap (λ (x : List ℕ). x ++ more) (front_dropped b h)
+
+-- an element in place of the final 0, a 0 behind it, and then the header
+pub written_is_appended : (b key : List ℕ) (v : RawValue) (total : ℕ) → 5 ≤ length b → total ≡ length b + (length key + (2 + length (payload_of v))) → le32 (pos total) ++ drop 4 (take (length b - 1) b ++ (element_bytes key v ++ 0 ∷ [])) ≡ appended_bytes b key v
+written_is_appended b key v total h t =
+    let inside = inside_of b ++ element_bytes key v in
+    let n : total ≡ 4 + length (inside ++ 0 ∷ []) = omega (arith, inside_len b h, length-element_bytes key v, length-append (inside_of b) (element_bytes key v), length-append inside (0 ∷ [])) in
+    let back : drop 4 (take (length b - 1) b ++ (element_bytes key v ++ 0 ∷ [])) ≡ inside ++ 0 ∷ [] = behind_header b (element_bytes key v ++ 0 ∷ []) h ∙ sym (append_assoc (inside_of b) (element_bytes key v) (0 ∷ [])) in
+    ap (λ (x : ℕ). le32 (pos x) ++ drop 4 (take (length b - 1) b ++ (element_bytes key v ++ 0 ∷ []))) n ∙ ap (λ (x : List ℕ). le32 (pos (4 + length (inside ++ 0 ∷ []))) ++ x) back

@@ -1,0 +1,56 @@
+use Rattle.std.proofs.Common.{◌≡◌, arith, refl, rules, subst, sym}
+use Rattle.raw_view.specs.Envelope.{IsEnvelope}
+use Rattle.raw_view.specs.Number.{IsBytes}
+use Rattle.raw_view.specs.Value.{value_of}
+use Rattle.raw_bson.specs.Append.{appended_bytes, HasRoom}
+use Rattle.raw_bson.proofs.KeptWalks.{length-appended_bytes, appended_is_envelope, keeps_walk}
+use Rattle.raw_bson.proofs.Written.{all_bytes, written_is_appended}
+use Rattle.raw_bson.proofs.appending.append_element.Goals as goal
+
+pub returns-in_default-clause-appends : goal.returns-in_default-clause-appends
+returns-in_default-clause-appends c =
+    let len = length-appended_bytes c.args.bytes.now.items c.args.key.now (value_of c.args.value) c.requires.enough in
+    let none = c.in_default.ensures.none in
+    let p = c.payload_len.ensures in
+    let s = c.saturating_add-added.ensures in
+    let l = c.len.ensures in
+    rw c.refusal-in_default.ensures.kind ((search rules, λ room. omega (arith, len, none, p, s, l, room)), c.refusal-in_default.ensures.key, refl)
+
+pub returns-then-is_err-clause-appends : goal.returns-then-is_err-clause-appends
+returns-then-is_err-clause-appends c =
+    let len = length-appended_bytes c.args.bytes.now.items c.args.key.now (value_of c.args.value) c.requires.enough in
+    let some = c.in-Some.ensures.some in
+    let p = c.payload_len.ensures in
+    let s = c.saturating_add-added.ensures in
+    let l = c.len.ensures in
+    rw c.new.ensures.kind ((search rules, omega (arith, len, some.0, some.1, p, s, l)), c.new.ensures.no_key, c.reserve.ensures.items)
+
+has_room : (c : goal.After-set_header) → HasRoom c.args.bytes.now.items c.args.key.now (value_of c.args.value)
+has_room c =
+    let len = length-appended_bytes c.args.bytes.now.items c.args.key.now (value_of c.args.value) c.requires.enough in
+    let some = c.in-Some.ensures.some in
+    let p = c.payload_len.ensures in
+    let s = c.saturating_add-added.ensures in
+    let l = c.len.ensures in
+    omega (arith, len, some.0, some.1, p, s, l)
+
+written : (c : goal.After-set_header) → c.set_header.new.bytes.items ≡ appended_bytes c.args.bytes.now.items c.args.key.now (value_of c.args.value)
+written c =
+    let len = length-appended_bytes c.args.bytes.now.items c.args.key.now (value_of c.args.value) c.requires.enough in
+    let some = c.in-Some.ensures.some in
+    let p = c.payload_len.ensures in
+    let s = c.saturating_add-added.ensures in
+    let l = c.len.ensures in
+    rw (c.set_header.ensures, c.put_element.ensures.items, c.reserve.ensures.items) (written_is_appended c.args.bytes.now.items c.args.key.now (value_of c.args.value) c.in-Some.total c.requires.enough (omega (arith, len, some.0, some.1, p, s, l)))
+
+pub returns-clause-appends : goal.returns-clause-appends
+returns-clause-appends c = (search rules, has_room c, written c)
+
+pub returns-clause-walk : goal.returns-clause-walk
+returns-clause-walk c =
+    rw (written c) (keeps_walk c.args.bytes.now.items c.args.key.now (value_of c.args.value) c.requires c.utf8.key (search rules) c.attest_value.ensures (has_room c))
+
+pub returns-clause-envelope : goal.returns-clause-envelope
+returns-clause-envelope c =
+    let bytes = subst IsBytes (written c) (all_bytes c.set_header.new.bytes.items c.type_inv.bytes) in
+    subst IsEnvelope (sym (written c)) (appended_is_envelope c.args.bytes.now.items c.args.key.now (value_of c.args.value) c.requires bytes (has_room c))

@@ -1,0 +1,66 @@
+-- What an append to a document gives, and what it leaves.
+use Rattle.std.specs.Prelude.{◌≡◌, ◌≤◌, ◌-◌, ℕ, List, [], ◌∷◌, ◌++◌, length, take, drop, None, Result, Ok, Err}
+use Rattle.std.specs.Str.{IsUtf8}
+use Rattle.bson_model.specs.Bytes.{NulFree}
+use Rattle.bson_model.specs.Proper.{IsLeafInRange}
+use Rattle.raw_view.specs.Access.{kind_of_raw}
+use Rattle.raw_view.specs.Envelope.{IsEnvelope}
+use Rattle.raw_view.specs.Errors.{key_of}
+use Rattle.raw_view.specs.Frame.{Frame, IsWalk, Done}
+use Rattle.raw_view.specs.Meaning.{RawValue, single, document, array, scoped}
+use Rattle.raw_view.specs.declared.element_type.ElementType.TheVariants.{JavaScriptCodeWithScope}
+use Rattle.raw_view.specs.declared.error.Error.{Error}
+use Rattle.raw_view.specs.declared.error.ErrorKind.{ErrorKind}
+use Rattle.raw_view.specs.declared.error.ErrorKind.TheVariants as kind
+use Rattle.raw_view.specs.declared.error.Reason.TheVariants as reason
+use Rattle.raw_tree.specs.Payload.{payload_of, element_bytes, framed, IsValueNulFree}
+
+-- a document without its first four bytes and its last
+abbrev pub inside_of : List ℕ → List ℕ
+inside_of b = take (length b - 5) (drop 4 b)
+
+-- the document b with one element more, in place of the final 0; the old content isn't looked into
+abbrev pub appended_bytes : List ℕ → List ℕ → RawValue → List ℕ
+appended_bytes b key v = framed (inside_of b ++ element_bytes key v)
+
+-- neither the key nor a pattern nor options hold a 0
+abbrev pub IsNulFreeElement : List ℕ → RawValue → Type 0
+IsNulFreeElement key v = NulFree key × IsValueNulFree v
+
+-- the document with one element more has at most 2147483647 bytes
+abbrev pub HasRoom : List ℕ → List ℕ → RawValue → Type 0
+HasRoom b key v = length (appended_bytes b key v) ≤ 2147483647
+
+-- Why an append is refused: first a 0, then the length, then want of memory.
+abbrev pub RefusesAppend : List ℕ → List ℕ → RawValue → ErrorKind → Type 0
+RefusesAppend b key v (kind.MalformedValue reason.InteriorNul) = ¬ IsNulFreeElement key v
+RefusesAppend b key v (kind.MalformedValue reason.TooLong) = IsNulFreeElement key v × ¬ HasRoom b key v
+RefusesAppend b key v kind.OutOfMemory = IsNulFreeElement key v × HasRoom b key v
+RefusesAppend b key v _ = ⊥
+
+-- What an append to the document b answers and leaves: one element more; or a refusal without a key, and b
+-- as it was.
+abbrev pub Appends : List ℕ → List ℕ → RawValue → Result (Unit {0}) Error → List ℕ → Type 0
+Appends b key v (Ok _) left = IsNulFreeElement key v × HasRoom b key v × (left ≡ appended_bytes b key v)
+Appends b key v (Err e) left = RefusesAppend b key v e.kind × (key_of e ≡ None) × (left ≡ b)
+
+-- the frame of a value under a key
+abbrev pub value_frame : List ℕ → RawValue → Frame
+value_frame key v = record { kind = kind_of_raw v; key = key; payload = payload_of v }
+
+-- the last frame is a code with scope of declared length 3, whose length takes in the final 0
+abbrev pub EndsInShortScope : List Frame → Type 0
+EndsInShortScope frames = (before : List Frame) × (last : Frame) × (frames ≡ before ++ last ∷ []) × (last.kind ≡ JavaScriptCodeWithScope) × (length last.payload ≡ 3)
+
+-- What is read after an append: where a walk of the old content ends at its final 0, and its last frame isn't
+-- such a code with scope, it goes on with the new frame and ends at the final 0.
+abbrev pub KeepsWalk : List ℕ → List ℕ → RawValue → List ℕ → Type 0
+KeepsWalk b key v left = (frames : List Frame) → IsWalk (drop 4 b) frames Done → ¬ EndsInShortScope frames → IsWalk (drop 4 left) (frames ++ value_frame key v ∷ []) Done
+
+-- what holds of every value that is handed to an append: numbers and bytes in range, texts UTF-8, nested
+-- documents, arrays and scopes with their envelopes
+abbrev pub IsRawInRange : RawValue → Type 0
+IsRawInRange (single leaf) = IsLeafInRange leaf
+IsRawInRange (document bytes) = IsEnvelope bytes
+IsRawInRange (array bytes) = IsEnvelope bytes
+IsRawInRange (scoped code scope) = IsUtf8 code × IsEnvelope scope

@@ -1,0 +1,38 @@
+-- Copies that own their bytes.
+use Rattle.std.specs.Prelude.{◌≡◌, ℕ, List, length, Result, Ok, Err}
+use Rattle.bson_model.specs.Leaf.{regular_expression}
+use Rattle.bson_model.specs.Options.{sorted_options}
+use Rattle.raw_view.specs.Item.{Item, AreItems}
+use Rattle.raw_view.specs.Answers.{Says}
+use Rattle.raw_view.specs.Errors.{IsOutOfMemory}
+use Rattle.raw_view.specs.Meaning.{RawValue, single, Meaning, value, faulty}
+use Rattle.raw_view.specs.declared.error.Error.{Error}
+use Rattle.raw_bson.specs.Owned.{owned_value}
+use Rattle.raw_bson.specs.declared.bson.RawBson.{RawBson}
+use Rattle.raw_bson.specs.declared.bson.RawBson.TheVariants as own
+
+-- so many items has the array of these bytes, faults and the stop counted too
+abbrev pub CountsItems : List ℕ → ℕ → Type 0
+CountsItems b count = (items : List Item) × AreItems b items × (count ≡ length items)
+
+-- the same value, of a regular expression the one with its options' characters in ascending order
+abbrev pub with_options_in_order : RawValue → RawValue
+with_options_in_order (single (regular_expression pattern options)) = single (regular_expression pattern (sorted_options options))
+with_options_in_order v = v
+
+-- the count of an array is the number of its items
+abbrev pub HasItemCount : RawBson → Type 0
+HasItemCount (own.Array a) = CountsItems a.bytes a.count
+HasItemCount _ = Unit {0}
+
+-- the owned value is a copy of the borrowed one
+pub record IsCopy (v : RawValue) (copy : RawBson) : Type 0 where
+  pub value_is : owned_value copy ≡ with_options_in_order v
+  pub count_is : HasItemCount copy
+
+-- what copying answers for what an element means: a copy of the value, or want of memory; or the fault
+abbrev pub CopiesMeaning : Meaning → Result RawBson Error → Type 0
+CopiesMeaning (value v) (Ok copy) = IsCopy v copy
+CopiesMeaning (value v) (Err e) = IsOutOfMemory e
+CopiesMeaning (faulty fault) (Ok copy) = ⊥
+CopiesMeaning (faulty fault) (Err e) = Says e fault

@@ -1,0 +1,42 @@
+-- Buffers that are filled from iterators, one append or push an item.
+use Rattle.std.specs.Prelude.{◌≡◌, ◌⊎◌, ℕ, List, [], ◌∷◌, ◌++◌, Option, Result, Ok, Err}
+use Rattle.std.specs.Iterator.{Yields, Drains}
+use denote.Ref.{Bor}
+use Rattle.raw_view.specs.Errors.{IsOutOfMemory}
+use Rattle.raw_view.specs.declared.error.Error.{Error}
+use Rattle.raw_bson.specs.Append.{Appends}
+use Rattle.raw_bson.specs.Count.{ArrayBytes, Pushes}
+use Rattle.raw_bson.specs.Owned.{owned_value}
+use Rattle.raw_bson.specs.declared.bson.RawBson.{RawBson}
+
+-- the bytes of the document without elements
+abbrev pub empty_document : List ℕ
+empty_document = 5 ∷ 0 ∷ 0 ∷ 0 ∷ 0 ∷ []
+
+-- the array without values
+abbrev pub empty_array : ArrayBytes
+empty_array = record { bytes = empty_document; count = 0 }
+
+-- Takes says what one item answers and leaves; X is what a buffer is seen as, A an item.
+module _ {X A : Type 0} (Takes : X → A → Result (Unit {0}) Error → X → Type 0) where
+  -- each item in order is taken, and leaves the buffer for the next
+  abbrev pub TakesEach : X → List A → X → Type 0
+  TakesEach b [] left = left ≡ b
+  TakesEach b (x ∷ xs) left = (mid : X) × Takes b x (Ok tt) mid × TakesEach mid xs left
+
+  -- What filling the buffer `empty` from an iterator answers, where next_gives says what its calls give: all
+  -- items taken in order; or the refusal of the first one that is refused, or want of memory for the empty
+  -- buffer.
+  abbrev pub Fills : {S : Type 0} → X → (S → Option A → S → Type 0) → S → Result X Error → Type 0
+  Fills empty next_gives s (Ok full) = (xs : List A) × Drains next_gives s xs × TakesEach empty xs full
+  Fills {S = S} empty next_gives s (Err e) =
+      IsOutOfMemory e
+      ⊎ ((xs : List A) × (x : A) × (t : S) × (mid : X) × Yields next_gives s (xs ++ x ∷ []) t × TakesEach empty xs mid × Takes mid x (Err e) mid)
+
+-- an append of a key and a value
+abbrev pub TakesPair : List ℕ → Bor (List ℕ) × RawBson → Result (Unit {0}) Error → List ℕ → Type 0
+TakesPair b pair result left = Appends b pair.0.now (owned_value pair.1) result left
+
+-- a push of a value
+abbrev pub TakesValue : ArrayBytes → RawBson → Result (Unit {0}) Error → ArrayBytes → Type 0
+TakesValue a v result left = Pushes a (owned_value v) result left

@@ -1,0 +1,286 @@
+ghost use Rattle.std.specs.Prelude.{◌≡◌, ◌≤◌, ◌+◌, ◌-◌, ◌/◌, ◌↔◌, ◌∷◌, [], IfOk, IfErr, IsTrue, length};
+ghost use Rattle.raw_bson.specs.Count.{Pushes};
+ghost use Rattle.std.specs.Iterator.{IsFinite};
+ghost use Rattle.raw_bson.specs.Fills.{Fills, TakesValue, empty_array};
+ghost use Rattle.raw_bson.specs.Owned.{owned_value};
+ghost use Rattle.raw_view.specs.Envelope.{IsEnvelope};
+ghost use Rattle.raw_view.specs.Errors.{IsOutOfMemory};
+ghost use Rattle.raw_view.specs.Value.{array_bytes_of};
+
+use crate::bson::RawBson;
+use crate::document_buf::RawDocumentBuf;
+use crate::hex_digits::HexDigits;
+use bson_model::{DateTime, DoubleBits, ObjectId, Timestamp};
+use itoa::Buffer;
+use raw_view::{
+    RawArray, RawArrayIter, RawBinaryRef, RawBsonRef, RawDocument, RawRegexRef, Result,
+    ValueAccessResult,
+};
+use std::alloc::{AllocError, Global};
+use std::fmt;
+use std::marker::Model;
+
+/// The bytes of an array, owned, and the count under which the next value is pushed. A clause sees both.
+/// BSON 1.1, `array`.
+#[derive(Drop)]
+pub struct RawArrayBuf {
+    document: RawDocumentBuf,
+    len: usize,
+}
+
+impl Model for RawArrayBuf {
+    ghost use Rattle.std.specs.Prelude.{◌≤◌, ◌+◌, ◌-◌, ◌/◌, length};
+    ghost use Rattle.raw_bson.specs.Count.{ArrayBytes};
+
+    ghost Value = { ArrayBytes };
+
+    ghost view = { λ a. record { bytes = a.document; count = a.len } };
+
+    ghost invariant = { λ a. a.len ≤ (length a.document - 4) / 2 + 1 };
+}
+
+impl RawArrayBuf {
+    /// The array without values, of count 0; or want of memory.
+    pub fn new(alloc: Global) -> Result<RawArrayBuf>
+        ensures empty { IfOk result (λ a. (a.bytes ≡ 5 ∷ 0 ∷ 0 ∷ 0 ∷ 0 ∷ []) × (a.count ≡ 0)) }
+        ensures err { IfErr result IsOutOfMemory }
+    {
+        Ok(RawArrayBuf {
+            document: RawDocumentBuf::new(alloc)?,
+            len: 0,
+        })
+    }
+
+    /// The array of these values, pushed in order; or the first refusal. The iterator has to end.
+    pub fn from_iter<I: Iterator<Item = RawBson> + Drop>(
+        alloc: Global,
+        values: I,
+    ) -> Result<RawArrayBuf>
+        requires can { I.can_next values }
+        requires ends { IsFinite (I.remaining values) }
+        ensures { Fills TakesValue empty_array I.next_gives values result }
+    {
+        let mut array = RawArrayBuf::new(alloc)?;
+        for value in values {
+            array.push(value)?;
+        }
+        Ok(array)
+    }
+
+    /// An array of a document's values, and this count.
+    pub(crate) fn counted(document: RawDocumentBuf, len: usize) -> RawArrayBuf
+        requires { len ≤ (length document - 4) / 2 + 1 }
+        ensures bytes { result.bytes ≡ document }
+        ensures count { result.count ≡ len }
+    {
+        RawArrayBuf { document, len }
+    }
+
+    /// A view of the array.
+    pub fn as_ref(&self) -> RawArray<'_>
+        ensures { array_bytes_of result ≡ self.now.bytes }
+    {
+        RawArray::from_doc(self.document.as_ref())
+    }
+
+    /// Appends a value under the decimal of the count, and adds one to the count. It refuses what an append
+    /// refuses, and then the bytes and the count are as they were. The value is dropped.
+    pub fn push(&mut self, value: RawBson) -> Result<()>
+        ensures { Pushes self.old (owned_value value) result self.new }
+    {
+        let mut key = Buffer::new();
+        self.document.append(key.format(self.len), value)?;
+        self.len += 1;
+        Ok(())
+    }
+}
+
+impl RawArrayBuf {
+    ghost use Rattle.std.specs.Prelude.{List, Option, Result, Some, decimal, drop};
+    ghost use Rattle.std.specs.Iterator.{Drains};
+    ghost use Rattle.raw_view.specs.Access.{Gets};
+    ghost use Rattle.raw_view.specs.Answers.{StepsItems, TellsEach, TellsFound, TellsValue};
+    ghost use Rattle.raw_view.specs.Item.{Item, AreItems};
+    ghost use Rattle.raw_view.specs.LookUp.{IsAt};
+    ghost use Rattle.raw_view.specs.Meaning.{Meaning};
+    ghost use Rattle.raw_view.specs.Typed as typed;
+    ghost use Rattle.raw_view.specs.declared.bson_ref.RawBsonRef.{RawBsonRef};
+    ghost use Rattle.raw_view.specs.declared.element_type.ElementType.TheVariants as variants;
+    ghost use Rattle.raw_view.specs.declared.error.Error.{Error};
+
+    /// All bytes of the array, its header and its final 0 included.
+    pub fn as_bytes(&self) -> &[u8]
+        ensures bytes { result.now ≡ self.now.bytes }
+        ensures envelope { IsEnvelope self.now.bytes }
+    {
+        self.document.as_bytes()
+    }
+
+    /// Whether iteration yields no item, which is exactly where there are five bytes.
+    pub fn is_empty(&self) -> bool
+        ensures five { IsTrue result ↔ (length self.now.bytes ≡ 5) }
+        ensures no_item { IsTrue result ↔ AreItems self.now.bytes [] }
+    {
+        self.document.is_empty()
+    }
+
+    /// The values in order, each fault in its value's place, and then the fault at which the elements stop,
+    /// if there is one. Nothing is copied but the key that a fault carries. On n bytes at most
+    /// (n - 4) / 2 + 1 items.
+    pub fn iter(&self) -> RawArrayIter<'_>
+        ensures begins { result ≡ Some (drop 4 self.now.bytes) }
+        ensures items { (outs : List (Result RawBsonRef Error)) → Drains (StepsItems TellsValue) result outs → (items : List Item) × AreItems self.now.bytes items × TellsEach TellsValue outs items }
+    {
+        self.as_ref().iter(self.document.alloc())
+    }
+
+    /// The item of this number, counted from 0, faults counted too: its value, or its fault. The fault at
+    /// which the elements stop is the last item; past it `None`. Nothing of another item is answered.
+    pub fn get(&self, index: usize) -> Result<Option<RawBsonRef<'_>>>
+        ensures { (found : Option Meaning) × IsAt self.now.bytes index found × TellsFound result found }
+    {
+        self.as_ref().get(self.document.alloc(), index)
+    }
+
+    /// The 64 bits of a double at this place, counted from 0; else why there is none, with the index in decimal.
+    pub fn get_f64(&self, index: usize) -> ValueAccessResult<DoubleBits>
+        ensures { (found : Option Meaning) × IsAt self.now.bytes index found × Gets typed.f64_value variants.Double (decimal index) found result }
+    {
+        self.as_ref().get_f64(self.document.alloc(), index)
+    }
+
+    /// The text of a string at this place, counted from 0; else why there is none, with the index in decimal.
+    pub fn get_str(&self, index: usize) -> ValueAccessResult<&str>
+        ensures { (found : Option Meaning) × IsAt self.now.bytes index found × Gets typed.str_value variants.String (decimal index) found result }
+    {
+        self.as_ref().get_str(self.document.alloc(), index)
+    }
+
+    /// A nested document at this place, counted from 0; else why there is none, with the index in decimal.
+    pub fn get_document(&self, index: usize) -> ValueAccessResult<RawDocument<'_>>
+        ensures { (found : Option Meaning) × IsAt self.now.bytes index found × Gets typed.document_value variants.EmbeddedDocument (decimal index) found result }
+    {
+        self.as_ref().get_document(self.document.alloc(), index)
+    }
+
+    /// An array at this place, counted from 0; else why there is none, with the index in decimal.
+    pub fn get_array(&self, index: usize) -> ValueAccessResult<RawArray<'_>>
+        ensures { (found : Option Meaning) × IsAt self.now.bytes index found × Gets typed.array_value variants.Array (decimal index) found result }
+    {
+        self.as_ref().get_array(self.document.alloc(), index)
+    }
+
+    /// Bytes and their subtype at this place, counted from 0; else why there is none, with the index in decimal.
+    pub fn get_binary(&self, index: usize) -> ValueAccessResult<RawBinaryRef<'_>>
+        ensures { (found : Option Meaning) × IsAt self.now.bytes index found × Gets typed.binary_value variants.Binary (decimal index) found result }
+    {
+        self.as_ref().get_binary(self.document.alloc(), index)
+    }
+
+    /// An ObjectId at this place, counted from 0; else why there is none, with the index in decimal.
+    pub fn get_object_id(&self, index: usize) -> ValueAccessResult<ObjectId>
+        ensures { (found : Option Meaning) × IsAt self.now.bytes index found × Gets typed.object_id_value variants.ObjectId (decimal index) found result }
+    {
+        self.as_ref().get_object_id(self.document.alloc(), index)
+    }
+
+    /// A boolean at this place, counted from 0; else why there is none, with the index in decimal.
+    pub fn get_bool(&self, index: usize) -> ValueAccessResult<bool>
+        ensures { (found : Option Meaning) × IsAt self.now.bytes index found × Gets typed.bool_value variants.Boolean (decimal index) found result }
+    {
+        self.as_ref().get_bool(self.document.alloc(), index)
+    }
+
+    /// A time at this place, counted from 0; else why there is none, with the index in decimal.
+    pub fn get_datetime(&self, index: usize) -> ValueAccessResult<DateTime>
+        ensures { (found : Option Meaning) × IsAt self.now.bytes index found × Gets typed.datetime_value variants.DateTime (decimal index) found result }
+    {
+        self.as_ref().get_datetime(self.document.alloc(), index)
+    }
+
+    /// A regular expression at this place, counted from 0; else why there is none, with the index in decimal.
+    pub fn get_regex(&self, index: usize) -> ValueAccessResult<RawRegexRef<'_>>
+        ensures { (found : Option Meaning) × IsAt self.now.bytes index found × Gets typed.regex_value variants.RegularExpression (decimal index) found result }
+    {
+        self.as_ref().get_regex(self.document.alloc(), index)
+    }
+
+    /// A timestamp at this place, counted from 0; else why there is none, with the index in decimal.
+    pub fn get_timestamp(&self, index: usize) -> ValueAccessResult<Timestamp>
+        ensures { (found : Option Meaning) × IsAt self.now.bytes index found × Gets typed.timestamp_value variants.Timestamp (decimal index) found result }
+    {
+        self.as_ref().get_timestamp(self.document.alloc(), index)
+    }
+
+    /// A signed 32-bit number at this place, counted from 0; else why there is none, with the index in decimal.
+    pub fn get_i32(&self, index: usize) -> ValueAccessResult<i32>
+        ensures { (found : Option Meaning) × IsAt self.now.bytes index found × Gets typed.i32_value variants.Int32 (decimal index) found result }
+    {
+        self.as_ref().get_i32(self.document.alloc(), index)
+    }
+
+    /// A signed 64-bit number at this place, counted from 0; else why there is none, with the index in decimal.
+    pub fn get_i64(&self, index: usize) -> ValueAccessResult<i64>
+        ensures { (found : Option Meaning) × IsAt self.now.bytes index found × Gets typed.i64_value variants.Int64 (decimal index) found result }
+    {
+        self.as_ref().get_i64(self.document.alloc(), index)
+    }
+}
+
+impl PartialEq for RawArrayBuf {
+    ghost use Rattle.std.specs.Prelude.{nat_eq, ◌&&◌};
+    ghost use Rattle.std.specs.Cmp.Lexicographic.{pointwise, lists_per};
+    ghost use Rattle.std.specs.Cmp.{and_per, nat_eq_equiv, on_per, partial_equiv_from_equiv};
+
+    ghost eq = { λ a b. pointwise nat_eq a.bytes b.bytes && nat_eq a.count b.count };
+
+    ghost laws = { and_per
+        (on_per (λ a. a.bytes) (lists_per (partial_equiv_from_equiv nat_eq_equiv)))
+        (on_per (λ a. a.count) (partial_equiv_from_equiv nat_eq_equiv)) };
+
+    fn eq(&self, other: &RawArrayBuf) -> bool {
+        self.document == other.document && self.len == other.len
+    }
+}
+
+impl Eq for RawArrayBuf {
+    ghost use Rattle.std.specs.Cmp.Lexicographic.{lists_equiv};
+    ghost use Rattle.std.specs.Cmp.{and_equiv, nat_eq_equiv, on_equiv};
+
+    ghost laws = { and_equiv
+        (on_equiv (λ a. a.bytes) (lists_equiv nat_eq_equiv))
+        (on_equiv (λ a. a.count) nat_eq_equiv) };
+}
+
+impl fmt::Debug for RawArrayBuf {
+    fn fmt<W: fmt::Write>(&self, f: &mut fmt::Formatter<W>) -> fmt::Result {
+        let data = HexDigits(self.document.as_bytes());
+        let len = self.len;
+        write!(f, "RawArrayBuf {{ data: \"{data}\", len: {len} }}")
+    }
+}
+
+impl Clone for RawArrayBuf {
+    ghost use Rattle.std.specs.Prelude.{◌≡◌};
+
+    ghost is_clone = { λ s t. t ≡ s };
+
+    fn clone(&self) -> std::result::Result<RawArrayBuf, AllocError> {
+        Ok(RawArrayBuf {
+            document: self.document.clone()?,
+            len: self.len,
+        })
+    }
+}
+
+impl<'a> From<&'a RawArrayBuf> for RawBsonRef<'a> {
+    ghost use Rattle.std.specs.Prelude.{◌≡◌};
+    ghost use Rattle.raw_view.specs.Meaning.{array};
+    ghost use Rattle.raw_view.specs.Value.{value_of};
+
+    ghost from_gives = { λ x r. value_of r ≡ array x.now.bytes };
+
+    fn from(value: &'a RawArrayBuf) -> RawBsonRef<'a> {
+        RawBsonRef::Array(value.as_ref())
+    }
+}

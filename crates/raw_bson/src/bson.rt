@@ -1,0 +1,621 @@
+ghost use Rattle.std.specs.Prelude.{◌≡◌, ℕ, ◌≤◌, option_copied, option_map, IfOk, IfErr};
+ghost use Rattle.std.specs.String.{string_bytes};
+ghost use Rattle.raw_bson.specs.OwnedAccessors as accessors;
+ghost use Rattle.raw_bson.specs.OwnedAccessors.{binary_parts, regex_parts, pointer_parts, scope_parts};
+ghost use Rattle.std.specs.Borrow.{sem};
+ghost use Rattle.raw_bson.specs.Lending.{HoldsArray, HoldsDocument, LendsArray, LendsDocument};
+ghost use Rattle.raw_view.specs.Meaning.{single};
+ghost use Rattle.bson_model.specs.Leaf.{string};
+ghost use Rattle.raw_view.specs.Document.{bytes_of};
+ghost use Rattle.raw_view.specs.Errors.{IsOutOfMemory};
+ghost use Rattle.raw_view.specs.Value.{value_of, array_bytes_of};
+ghost use Rattle.bson_model.specs.Scalars.{bytes_of_object_id};
+
+use crate::array_buf::RawArrayBuf;
+use crate::document_buf::RawDocumentBuf;
+use bson_model::{Binary, DateTime, DbPointer, Decimal128, DoubleBits, ObjectId, Regex, Timestamp};
+use raw_view::{
+    ElementType, Error, ErrorKind, RawArray, RawBinaryRef, RawBsonRef, RawDbPointerRef,
+    RawDocument, RawJavaScriptCodeWithScopeRef, RawRegexRef, Result,
+};
+use std::alloc::{AllocError, Global};
+
+/// A value that owns its parts. BSON 1.1, `element`.
+#[derive(Debug, PartialEq, Eq, Drop)]
+pub enum RawBson {
+    /// 64 bits of a floating point number
+    Double(DoubleBits),
+    /// UTF-8 text
+    String(String),
+    /// an array
+    Array(RawArrayBuf),
+    /// a nested document
+    Document(RawDocumentBuf),
+    /// false or true
+    Boolean(bool),
+    /// null
+    Null,
+    /// a regular expression
+    RegularExpression(Regex),
+    /// JavaScript code
+    JavaScriptCode(String),
+    /// JavaScript code with a scope (deprecated)
+    JavaScriptCodeWithScope(RawJavaScriptCodeWithScope),
+    /// a signed 32-bit number
+    Int32(i32),
+    /// a signed 64-bit number
+    Int64(i64),
+    /// a timestamp of replication
+    Timestamp(Timestamp),
+    /// bytes with a subtype
+    Binary(Binary),
+    /// twelve bytes that name an object
+    ObjectId(ObjectId),
+    /// milliseconds since the epoch
+    DateTime(DateTime),
+    /// a symbol (deprecated)
+    Symbol(String),
+    /// 128-bit decimal floating point
+    Decimal128(Decimal128),
+    /// undefined (deprecated)
+    Undefined,
+    /// greater than every other value
+    MaxKey,
+    /// less than every other value
+    MinKey,
+    /// a pointer to an object of a database (deprecated)
+    DbPointer(DbPointer),
+}
+
+/// JavaScript code with a scope, owned. BSON 1.1, `code_w_s`.
+#[derive(Debug, PartialEq, Eq, Drop)]
+pub struct RawJavaScriptCodeWithScope {
+    /// the code
+    pub code: String,
+    /// the variables that the code sees
+    pub scope: RawDocumentBuf,
+}
+
+impl RawJavaScriptCodeWithScope {
+    /// A view of the code and its scope.
+    pub(crate) fn as_ref(&self) -> RawJavaScriptCodeWithScopeRef<'_>
+        ensures { scope_parts result ≡ (string_bytes self.now.code, self.now.scope) }
+    {
+        RawJavaScriptCodeWithScopeRef {
+            code: self.code.as_str(),
+            scope: self.scope.as_ref(),
+        }
+    }
+}
+
+impl Clone for RawJavaScriptCodeWithScope {
+    ghost use Rattle.std.specs.Prelude.{◌≡◌};
+    ghost use Rattle.std.specs.String.{string_bytes};
+
+    ghost is_clone = { λ s t. (string_bytes t.code ≡ string_bytes s.code) × (t.scope ≡ s.scope) };
+
+    fn clone(&self) -> std::result::Result<RawJavaScriptCodeWithScope, AllocError> {
+        Ok(RawJavaScriptCodeWithScope {
+            code: self.code.clone()?,
+            scope: self.scope.clone()?,
+        })
+    }
+}
+
+fn clone_binary(binary: &Binary) -> std::result::Result<Binary, AllocError>
+    ensures { IfOk result (λ b. (b.subtype ≡ binary.now.subtype) × (b.bytes.items ≡ binary.now.bytes.items)) }
+{
+    Ok(Binary {
+        subtype: binary.subtype,
+        bytes: Vec::from_slice(*binary.bytes.allocator(), &binary.bytes)?,
+    })
+}
+
+fn clone_regex(regex: &Regex) -> std::result::Result<Regex, AllocError>
+    ensures { IfOk result (λ r. (string_bytes r.pattern ≡ string_bytes regex.now.pattern) × (string_bytes r.options ≡ string_bytes regex.now.options)) }
+{
+    Ok(Regex {
+        pattern: regex.pattern.clone()?,
+        options: regex.options.clone()?,
+    })
+}
+
+fn clone_pointer(pointer: &DbPointer) -> std::result::Result<DbPointer, AllocError>
+    ensures { IfOk result (λ p. (string_bytes p.namespace ≡ string_bytes pointer.now.namespace) × (p.id ≡ pointer.now.id)) }
+{
+    Ok(DbPointer {
+        namespace: pointer.namespace.clone()?,
+        id: pointer.id,
+    })
+}
+
+impl Clone for RawBson {
+    ghost use Rattle.raw_bson.specs.Owned.{IsSameOwned};
+
+    ghost is_clone = { IsSameOwned };
+
+    fn clone(&self) -> std::result::Result<RawBson, AllocError> {
+        match self {
+            RawBson::Double(x) => Ok(RawBson::Double(*x)),
+            RawBson::String(x) => Ok(RawBson::String(x.clone()?)),
+            RawBson::Array(x) => Ok(RawBson::Array(x.clone()?)),
+            RawBson::Document(x) => Ok(RawBson::Document(x.clone()?)),
+            RawBson::Boolean(x) => Ok(RawBson::Boolean(*x)),
+            RawBson::Null => Ok(RawBson::Null),
+            RawBson::RegularExpression(x) => Ok(RawBson::RegularExpression(clone_regex(x)?)),
+            RawBson::JavaScriptCode(x) => Ok(RawBson::JavaScriptCode(x.clone()?)),
+            RawBson::JavaScriptCodeWithScope(x) => {
+                Ok(RawBson::JavaScriptCodeWithScope(x.clone()?))
+            }
+            RawBson::Int32(x) => Ok(RawBson::Int32(*x)),
+            RawBson::Int64(x) => Ok(RawBson::Int64(*x)),
+            RawBson::Timestamp(x) => Ok(RawBson::Timestamp(*x)),
+            RawBson::Binary(x) => Ok(RawBson::Binary(clone_binary(x)?)),
+            RawBson::ObjectId(x) => Ok(RawBson::ObjectId(*x)),
+            RawBson::DateTime(x) => Ok(RawBson::DateTime(*x)),
+            RawBson::Symbol(x) => Ok(RawBson::Symbol(x.clone()?)),
+            RawBson::Decimal128(x) => Ok(RawBson::Decimal128(*x)),
+            RawBson::Undefined => Ok(RawBson::Undefined),
+            RawBson::MaxKey => Ok(RawBson::MaxKey),
+            RawBson::MinKey => Ok(RawBson::MinKey),
+            RawBson::DbPointer(x) => Ok(RawBson::DbPointer(clone_pointer(x)?)),
+        }
+    }
+}
+
+fn binary_ref(binary: &Binary) -> RawBinaryRef<'_>
+    ensures { binary_parts result ≡ (binary.now.subtype, binary.now.bytes.items) }
+{
+    RawBinaryRef {
+        subtype: binary.subtype,
+        bytes: &binary.bytes,
+    }
+}
+
+fn regex_ref(regex: &Regex) -> RawRegexRef<'_>
+    ensures { regex_parts result ≡ (string_bytes regex.now.pattern, string_bytes regex.now.options) }
+{
+    RawRegexRef {
+        pattern: regex.pattern.as_str(),
+        options: regex.options.as_str(),
+    }
+}
+
+fn pointer_ref(pointer: &DbPointer) -> RawDbPointerRef<'_>
+    ensures { pointer_parts result ≡ (string_bytes pointer.now.namespace, bytes_of_object_id pointer.now.id) }
+{
+    RawDbPointerRef::new(pointer.namespace.as_str(), pointer.id)
+}
+
+impl RawBson {
+    ghost use Rattle.raw_bson.specs.Owned.{owned_value, owned_kind};
+    ghost use Rattle.raw_bson.specs.declared.bson.RawBson.TheVariants as own;
+
+    /// A view of the value. Nothing is copied.
+    pub fn as_raw_bson_ref(&self) -> RawBsonRef<'_>
+        ensures { value_of result ≡ owned_value self.now }
+    {
+        match self {
+            RawBson::Double(x) => RawBsonRef::Double(*x),
+            RawBson::String(x) => RawBsonRef::String(x.as_str()),
+            RawBson::Array(x) => RawBsonRef::Array(x.as_ref()),
+            RawBson::Document(x) => RawBsonRef::Document(x.as_ref()),
+            RawBson::Boolean(x) => RawBsonRef::Boolean(*x),
+            RawBson::Null => RawBsonRef::Null,
+            RawBson::RegularExpression(x) => RawBsonRef::RegularExpression(regex_ref(x)),
+            RawBson::JavaScriptCode(x) => RawBsonRef::JavaScriptCode(x.as_str()),
+            RawBson::JavaScriptCodeWithScope(x) => {
+                RawBsonRef::JavaScriptCodeWithScope(x.as_ref())
+            }
+            RawBson::Int32(x) => RawBsonRef::Int32(*x),
+            RawBson::Int64(x) => RawBsonRef::Int64(*x),
+            RawBson::Timestamp(x) => RawBsonRef::Timestamp(*x),
+            RawBson::Binary(x) => RawBsonRef::Binary(binary_ref(x)),
+            RawBson::ObjectId(x) => RawBsonRef::ObjectId(*x),
+            RawBson::DateTime(x) => RawBsonRef::DateTime(*x),
+            RawBson::Symbol(x) => RawBsonRef::Symbol(x.as_str()),
+            RawBson::Decimal128(x) => RawBsonRef::Decimal128(*x),
+            RawBson::Undefined => RawBsonRef::Undefined,
+            RawBson::MaxKey => RawBsonRef::MaxKey,
+            RawBson::MinKey => RawBsonRef::MinKey,
+            RawBson::DbPointer(x) => RawBsonRef::DbPointer(pointer_ref(x)),
+        }
+    }
+
+    /// The kind of the value.
+    pub fn element_type(&self) -> ElementType
+        ensures { result ≡ owned_kind self.now }
+    {
+        match self {
+            RawBson::Double(_) => ElementType::Double,
+            RawBson::String(_) => ElementType::String,
+            RawBson::Array(_) => ElementType::Array,
+            RawBson::Document(_) => ElementType::EmbeddedDocument,
+            RawBson::Boolean(_) => ElementType::Boolean,
+            RawBson::Null => ElementType::Null,
+            RawBson::RegularExpression(_) => ElementType::RegularExpression,
+            RawBson::JavaScriptCode(_) => ElementType::JavaScriptCode,
+            RawBson::JavaScriptCodeWithScope(_) => ElementType::JavaScriptCodeWithScope,
+            RawBson::Int32(_) => ElementType::Int32,
+            RawBson::Int64(_) => ElementType::Int64,
+            RawBson::Timestamp(_) => ElementType::Timestamp,
+            RawBson::Binary(_) => ElementType::Binary,
+            RawBson::ObjectId(_) => ElementType::ObjectId,
+            RawBson::DateTime(_) => ElementType::DateTime,
+            RawBson::Symbol(_) => ElementType::Symbol,
+            RawBson::Decimal128(_) => ElementType::Decimal128,
+            RawBson::Undefined => ElementType::Undefined,
+            RawBson::MaxKey => ElementType::MaxKey,
+            RawBson::MinKey => ElementType::MinKey,
+            RawBson::DbPointer(_) => ElementType::DbPointer,
+        }
+    }
+
+    /// A string with a copy of this text; the only error is want of memory.
+    pub fn from_str(alloc: Global, text: &str) -> Result<RawBson>
+        ensures copied { IfOk result (λ v. owned_value v ≡ single (string text.now)) }
+        ensures err { IfErr result IsOutOfMemory }
+    {
+        match String::from_str(alloc, text) {
+            Ok(text) => Ok(RawBson::String(text)),
+            Err(AllocError) => Err(Error::new(ErrorKind::OutOfMemory)),
+        }
+    }
+
+    /// The array, to change it; `None` for every other kind. The value stays an array.
+    pub fn as_array_mut(&mut self) -> Option<&mut RawArrayBuf>
+        ensures* writes_back { sem 𝓛 (LendsArray self.entry result) }
+        ensures value { HoldsArray self.old result }
+    {
+        match self {
+            RawBson::Array(x) => Some(x),
+            _ => None,
+        }
+    }
+
+    /// The nested document, to change it; `None` for every other kind. The value stays a document.
+    pub fn as_document_mut(&mut self) -> Option<&mut RawDocumentBuf>
+        ensures* writes_back { sem 𝓛 (LendsDocument self.entry result) }
+        ensures value { HoldsDocument self.old result }
+    {
+        match self {
+            RawBson::Document(x) => Some(x),
+            _ => None,
+        }
+    }
+
+    /// The value of this kind: the double; `None` for every other kind.
+    pub fn as_f64(&self) -> Option<DoubleBits>
+        ensures { result ≡ accessors.as_f64 self.now }
+    {
+        match self {
+            RawBson::Double(x) => Some(*x),
+            _ => None,
+        }
+    }
+
+    /// The value of this kind: the text; `None` for every other kind.
+    pub fn as_str(&self) -> Option<&str>
+        ensures { option_copied result ≡ accessors.as_str self.now }
+    {
+        match self {
+            RawBson::String(x) => Some(x.as_str()),
+            _ => None,
+        }
+    }
+
+    /// The value of this kind: the array; `None` for every other kind.
+    pub fn as_array(&self) -> Option<RawArray<'_>>
+        ensures { option_map array_bytes_of result ≡ accessors.as_array self.now }
+    {
+        match self {
+            RawBson::Array(x) => Some(x.as_ref()),
+            _ => None,
+        }
+    }
+
+    /// The value of this kind: the nested document; `None` for every other kind.
+    pub fn as_document(&self) -> Option<RawDocument<'_>>
+        ensures { option_map bytes_of result ≡ accessors.as_document self.now }
+    {
+        match self {
+            RawBson::Document(x) => Some(x.as_ref()),
+            _ => None,
+        }
+    }
+
+    /// The value of this kind: the boolean; `None` for every other kind.
+    pub fn as_bool(&self) -> Option<bool>
+        ensures { result ≡ accessors.as_bool self.now }
+    {
+        match self {
+            RawBson::Boolean(x) => Some(*x),
+            _ => None,
+        }
+    }
+
+    /// The value of this kind: the number; `None` for every other kind.
+    pub fn as_i32(&self) -> Option<i32>
+        ensures { result ≡ accessors.as_i32 self.now }
+    {
+        match self {
+            RawBson::Int32(x) => Some(*x),
+            _ => None,
+        }
+    }
+
+    /// The value of this kind: the number; `None` for every other kind.
+    pub fn as_i64(&self) -> Option<i64>
+        ensures { result ≡ accessors.as_i64 self.now }
+    {
+        match self {
+            RawBson::Int64(x) => Some(*x),
+            _ => None,
+        }
+    }
+
+    /// The value of this kind: the identifier; `None` for every other kind.
+    pub fn as_object_id(&self) -> Option<ObjectId>
+        ensures { result ≡ accessors.as_object_id self.now }
+    {
+        match self {
+            RawBson::ObjectId(x) => Some(*x),
+            _ => None,
+        }
+    }
+
+    /// The value of this kind: the bytes and their subtype; `None` for every other kind.
+    pub fn as_binary(&self) -> Option<RawBinaryRef<'_>>
+        ensures { option_map binary_parts result ≡ accessors.as_binary self.now }
+    {
+        match self {
+            RawBson::Binary(x) => Some(binary_ref(x)),
+            _ => None,
+        }
+    }
+
+    /// The value of this kind: the pattern and the options; `None` for every other kind.
+    pub fn as_regex(&self) -> Option<RawRegexRef<'_>>
+        ensures { option_map regex_parts result ≡ accessors.as_regex self.now }
+    {
+        match self {
+            RawBson::RegularExpression(x) => Some(regex_ref(x)),
+            _ => None,
+        }
+    }
+
+    /// The value of this kind: the time; `None` for every other kind.
+    pub fn as_datetime(&self) -> Option<DateTime>
+        ensures { result ≡ accessors.as_datetime self.now }
+    {
+        match self {
+            RawBson::DateTime(x) => Some(*x),
+            _ => None,
+        }
+    }
+
+    /// The value of this kind: the symbol's text; `None` for every other kind.
+    pub fn as_symbol(&self) -> Option<&str>
+        ensures { option_copied result ≡ accessors.as_symbol self.now }
+    {
+        match self {
+            RawBson::Symbol(x) => Some(x.as_str()),
+            _ => None,
+        }
+    }
+
+    /// The value of this kind: the timestamp; `None` for every other kind.
+    pub fn as_timestamp(&self) -> Option<Timestamp>
+        ensures { result ≡ accessors.as_timestamp self.now }
+    {
+        match self {
+            RawBson::Timestamp(x) => Some(*x),
+            _ => None,
+        }
+    }
+
+    /// `Some` exactly for null.
+    pub fn as_null(&self) -> Option<()>
+        ensures { result ≡ accessors.as_null self.now }
+    {
+        match self {
+            RawBson::Null => Some(()),
+            _ => None,
+        }
+    }
+
+    /// The value of this kind: the pointer; `None` for every other kind.
+    pub fn as_db_pointer(&self) -> Option<RawDbPointerRef<'_>>
+        ensures { option_map pointer_parts result ≡ accessors.as_db_pointer self.now }
+    {
+        match self {
+            RawBson::DbPointer(x) => Some(pointer_ref(x)),
+            _ => None,
+        }
+    }
+
+    /// The value of this kind: the code; `None` for every other kind.
+    pub fn as_javascript(&self) -> Option<&str>
+        ensures { option_copied result ≡ accessors.as_javascript self.now }
+    {
+        match self {
+            RawBson::JavaScriptCode(x) => Some(x.as_str()),
+            _ => None,
+        }
+    }
+
+    /// The value of this kind: the code and its scope; `None` for every other kind.
+    pub fn as_javascript_with_scope(&self) -> Option<RawJavaScriptCodeWithScopeRef<'_>>
+        ensures { option_map scope_parts result ≡ accessors.as_javascript_with_scope self.now }
+    {
+        match self {
+            RawBson::JavaScriptCodeWithScope(x) => Some(x.as_ref()),
+            _ => None,
+        }
+    }
+}
+
+impl From<i32> for RawBson {
+    ghost use Rattle.std.specs.Prelude.{◌≡◌};
+    ghost use Rattle.raw_bson.specs.declared.bson.RawBson.TheVariants as own;
+
+    ghost from_gives = { λ x r. r ≡ own.Int32 x };
+
+    fn from(value: i32) -> RawBson {
+        RawBson::Int32(value)
+    }
+}
+
+impl From<i64> for RawBson {
+    ghost use Rattle.std.specs.Prelude.{◌≡◌};
+    ghost use Rattle.raw_bson.specs.declared.bson.RawBson.TheVariants as own;
+
+    ghost from_gives = { λ x r. r ≡ own.Int64 x };
+
+    fn from(value: i64) -> RawBson {
+        RawBson::Int64(value)
+    }
+}
+
+impl From<String> for RawBson {
+    ghost use Rattle.std.specs.Prelude.{◌≡◌};
+    ghost use Rattle.raw_bson.specs.declared.bson.RawBson.TheVariants as own;
+
+    ghost from_gives = { λ x r. r ≡ own.String x };
+
+    fn from(value: String) -> RawBson {
+        RawBson::String(value)
+    }
+}
+
+impl From<DoubleBits> for RawBson {
+    ghost use Rattle.std.specs.Prelude.{◌≡◌};
+    ghost use Rattle.raw_bson.specs.declared.bson.RawBson.TheVariants as own;
+
+    ghost from_gives = { λ x r. r ≡ own.Double x };
+
+    fn from(value: DoubleBits) -> RawBson {
+        RawBson::Double(value)
+    }
+}
+
+impl From<bool> for RawBson {
+    ghost use Rattle.std.specs.Prelude.{◌≡◌};
+    ghost use Rattle.raw_bson.specs.declared.bson.RawBson.TheVariants as own;
+
+    ghost from_gives = { λ x r. r ≡ own.Boolean x };
+
+    fn from(value: bool) -> RawBson {
+        RawBson::Boolean(value)
+    }
+}
+
+impl From<RawDocumentBuf> for RawBson {
+    ghost use Rattle.std.specs.Prelude.{◌≡◌};
+    ghost use Rattle.raw_bson.specs.declared.bson.RawBson.TheVariants as own;
+
+    ghost from_gives = { λ x r. r ≡ own.Document x };
+
+    fn from(value: RawDocumentBuf) -> RawBson {
+        RawBson::Document(value)
+    }
+}
+
+impl From<RawArrayBuf> for RawBson {
+    ghost use Rattle.std.specs.Prelude.{◌≡◌};
+    ghost use Rattle.raw_bson.specs.declared.bson.RawBson.TheVariants as own;
+
+    ghost from_gives = { λ x r. r ≡ own.Array x };
+
+    fn from(value: RawArrayBuf) -> RawBson {
+        RawBson::Array(value)
+    }
+}
+
+impl From<DateTime> for RawBson {
+    ghost use Rattle.std.specs.Prelude.{◌≡◌};
+    ghost use Rattle.raw_bson.specs.declared.bson.RawBson.TheVariants as own;
+
+    ghost from_gives = { λ x r. r ≡ own.DateTime x };
+
+    fn from(value: DateTime) -> RawBson {
+        RawBson::DateTime(value)
+    }
+}
+
+impl From<Timestamp> for RawBson {
+    ghost use Rattle.std.specs.Prelude.{◌≡◌};
+    ghost use Rattle.raw_bson.specs.declared.bson.RawBson.TheVariants as own;
+
+    ghost from_gives = { λ x r. r ≡ own.Timestamp x };
+
+    fn from(value: Timestamp) -> RawBson {
+        RawBson::Timestamp(value)
+    }
+}
+
+impl From<ObjectId> for RawBson {
+    ghost use Rattle.std.specs.Prelude.{◌≡◌};
+    ghost use Rattle.raw_bson.specs.declared.bson.RawBson.TheVariants as own;
+
+    ghost from_gives = { λ x r. r ≡ own.ObjectId x };
+
+    fn from(value: ObjectId) -> RawBson {
+        RawBson::ObjectId(value)
+    }
+}
+
+impl From<Decimal128> for RawBson {
+    ghost use Rattle.std.specs.Prelude.{◌≡◌};
+    ghost use Rattle.raw_bson.specs.declared.bson.RawBson.TheVariants as own;
+
+    ghost from_gives = { λ x r. r ≡ own.Decimal128 x };
+
+    fn from(value: Decimal128) -> RawBson {
+        RawBson::Decimal128(value)
+    }
+}
+
+impl From<RawJavaScriptCodeWithScope> for RawBson {
+    ghost use Rattle.std.specs.Prelude.{◌≡◌};
+    ghost use Rattle.raw_bson.specs.declared.bson.RawBson.TheVariants as own;
+
+    ghost from_gives = { λ x r. r ≡ own.JavaScriptCodeWithScope x };
+
+    fn from(value: RawJavaScriptCodeWithScope) -> RawBson {
+        RawBson::JavaScriptCodeWithScope(value)
+    }
+}
+
+impl From<Binary> for RawBson {
+    ghost use Rattle.std.specs.Prelude.{◌≡◌};
+    ghost use Rattle.raw_bson.specs.declared.bson.RawBson.TheVariants as own;
+
+    ghost from_gives = { λ x r. r ≡ own.Binary x };
+
+    fn from(value: Binary) -> RawBson {
+        RawBson::Binary(value)
+    }
+}
+
+impl From<Regex> for RawBson {
+    ghost use Rattle.std.specs.Prelude.{◌≡◌};
+    ghost use Rattle.raw_bson.specs.declared.bson.RawBson.TheVariants as own;
+
+    ghost from_gives = { λ x r. r ≡ own.RegularExpression x };
+
+    fn from(value: Regex) -> RawBson {
+        RawBson::RegularExpression(value)
+    }
+}
+
+impl From<DbPointer> for RawBson {
+    ghost use Rattle.std.specs.Prelude.{◌≡◌};
+    ghost use Rattle.raw_bson.specs.declared.bson.RawBson.TheVariants as own;
+
+    ghost from_gives = { λ x r. r ≡ own.DbPointer x };
+
+    fn from(value: DbPointer) -> RawBson {
+        RawBson::DbPointer(value)
+    }
+}

@@ -1,0 +1,158 @@
+ghost use Rattle.std.specs.Prelude.{◌≡◌, ◌≤◌, ◌+◌, ◌-◌, ◌/◌, length, IfOk, IfErr};
+ghost use Rattle.std.specs.String.{string_bytes};
+ghost use Rattle.raw_bson.specs.Copies.{CountsItems, CopiesMeaning, IsCopy};
+ghost use Rattle.raw_view.specs.Document.{bytes_of};
+ghost use Rattle.raw_view.specs.ElementSteps.{frame_of};
+ghost use Rattle.raw_view.specs.Errors.{IsOutOfMemory};
+ghost use Rattle.raw_view.specs.Meaning.{Meaning, Means};
+ghost use Rattle.raw_view.specs.declared.bson_ref.RawBsonRef.TheVariants as ref;
+ghost use Rattle.raw_view.specs.Value.{value_of, array_bytes_of};
+
+use crate::array_buf::RawArrayBuf;
+use crate::bson::{RawBson, RawJavaScriptCodeWithScope};
+use crate::document_buf::RawDocumentBuf;
+use bson_model::{DbPointer, Regex};
+use raw_view::{
+    Error, ErrorKind, RawArray, RawBsonRef, RawDbPointerRef, RawDocument, RawElement,
+    RawJavaScriptCodeWithScopeRef, RawRegexRef, Result,
+};
+use std::alloc::{AllocError, Global};
+
+/// A copy of a view of a document.
+pub trait ToRawDocumentBuf {
+    /// A buffer of the same bytes; the only error is want of memory.
+    fn to_raw_document_buf(self, alloc: Global) -> Result<RawDocumentBuf>;
+}
+
+/// A copy of a view of an array.
+pub trait ToRawArrayBuf {
+    /// A buffer of the same bytes, whose count is the number of its items, faults and the stop counted too;
+    /// the only error is want of memory.
+    fn to_raw_array_buf(self, alloc: Global) -> Result<RawArrayBuf>;
+}
+
+/// A copy of a borrowed value.
+pub trait ToRawBson {
+    /// The value with parts of its own. The options of a regular expression are put in order. The errors are
+    /// want of memory and, for an element, the fault that its payload means.
+    fn to_raw_bson(self, alloc: Global) -> Result<RawBson>;
+}
+
+fn out_of_memory() -> Error
+    ensures { IsOutOfMemory result }
+{
+    Error::new(ErrorKind::OutOfMemory)
+}
+
+fn copy_text(alloc: Global, text: &str) -> Result<String>
+    ensures copied { IfOk result (λ copy. string_bytes copy ≡ text.now) }
+    ensures err { IfErr result IsOutOfMemory }
+{
+    match String::from_str(alloc, text) {
+        Ok(copy) => Ok(copy),
+        Err(AllocError) => Err(out_of_memory()),
+    }
+}
+
+impl ToRawDocumentBuf for RawDocument<'_> {
+    fn to_raw_document_buf(self, alloc: Global) -> Result<RawDocumentBuf>
+        ensures copied { IfOk result (λ copy. copy ≡ bytes_of self.entry) }
+        ensures err { IfErr result IsOutOfMemory }
+    {
+        match Vec::from_slice(alloc, self.as_bytes()) {
+            Ok(bytes) => RawDocumentBuf::from_bytes(bytes),
+            Err(AllocError) => Err(out_of_memory()),
+        }
+    }
+}
+
+/// How many items the array has, faults and the stop counted too. No value is resolved.
+fn item_count(alloc: Global, array: RawArray<'_>) -> usize
+    ensures bound { result ≤ (length (array_bytes_of array.entry) - 4) / 2 + 1 }
+    ensures items { CountsItems (array_bytes_of array.entry) result }
+{
+    array.as_doc().iter_elements(alloc).count()
+}
+
+impl ToRawArrayBuf for RawArray<'_> {
+    fn to_raw_array_buf(self, alloc: Global) -> Result<RawArrayBuf>
+        ensures copied { IfOk result (λ copy. copy.bytes ≡ array_bytes_of self.entry) }
+        ensures counted { IfOk result (λ copy. CountsItems (array_bytes_of self.entry) copy.count) }
+        ensures err { IfErr result IsOutOfMemory }
+    {
+        let document = self.as_doc().to_raw_document_buf(alloc)?;
+        Ok(RawArrayBuf::counted(document, item_count(alloc, self)))
+    }
+}
+
+fn copy_regex(alloc: Global, regex: RawRegexRef<'_>) -> Result<RawBson>
+    ensures copied { IfOk result (IsCopy (value_of (ref.RegularExpression regex.entry))) }
+    ensures err { IfErr result IsOutOfMemory }
+{
+    match Regex::new(alloc, regex.pattern, regex.options) {
+        Ok(regex) => Ok(RawBson::RegularExpression(regex)),
+        Err(_) => Err(out_of_memory()),
+    }
+}
+
+fn copy_pointer(alloc: Global, pointer: RawDbPointerRef<'_>) -> Result<RawBson>
+    ensures copied { IfOk result (IsCopy (value_of (ref.DbPointer pointer.entry))) }
+    ensures err { IfErr result IsOutOfMemory }
+{
+    Ok(RawBson::DbPointer(DbPointer {
+        namespace: copy_text(alloc, pointer.namespace())?,
+        id: pointer.id(),
+    }))
+}
+
+fn copy_code(alloc: Global, code: RawJavaScriptCodeWithScopeRef<'_>) -> Result<RawBson>
+    ensures copied { IfOk result (IsCopy (value_of (ref.JavaScriptCodeWithScope code.entry))) }
+    ensures err { IfErr result IsOutOfMemory }
+{
+    Ok(RawBson::JavaScriptCodeWithScope(RawJavaScriptCodeWithScope {
+        code: copy_text(alloc, code.code)?,
+        scope: code.scope.to_raw_document_buf(alloc)?,
+    }))
+}
+
+impl ToRawBson for RawBsonRef<'_> {
+    fn to_raw_bson(self, alloc: Global) -> Result<RawBson>
+        ensures copied { IfOk result (IsCopy (value_of self.entry)) }
+        ensures err { IfErr result IsOutOfMemory }
+    {
+        match self {
+            RawBsonRef::Double(x) => Ok(RawBson::Double(x)),
+            RawBsonRef::String(x) => Ok(RawBson::String(copy_text(alloc, x)?)),
+            RawBsonRef::Array(x) => Ok(RawBson::Array(x.to_raw_array_buf(alloc)?)),
+            RawBsonRef::Document(x) => Ok(RawBson::Document(x.to_raw_document_buf(alloc)?)),
+            RawBsonRef::Boolean(x) => Ok(RawBson::Boolean(x)),
+            RawBsonRef::Null => Ok(RawBson::Null),
+            RawBsonRef::RegularExpression(x) => copy_regex(alloc, x),
+            RawBsonRef::JavaScriptCode(x) => Ok(RawBson::JavaScriptCode(copy_text(alloc, x)?)),
+            RawBsonRef::JavaScriptCodeWithScope(x) => copy_code(alloc, x),
+            RawBsonRef::Int32(x) => Ok(RawBson::Int32(x)),
+            RawBsonRef::Int64(x) => Ok(RawBson::Int64(x)),
+            RawBsonRef::Timestamp(x) => Ok(RawBson::Timestamp(x)),
+            RawBsonRef::Binary(x) => Ok(RawBson::Binary(x.to_binary(alloc)?)),
+            RawBsonRef::ObjectId(x) => Ok(RawBson::ObjectId(x)),
+            RawBsonRef::DateTime(x) => Ok(RawBson::DateTime(x)),
+            RawBsonRef::Symbol(x) => Ok(RawBson::Symbol(copy_text(alloc, x)?)),
+            RawBsonRef::Decimal128(x) => Ok(RawBson::Decimal128(x)),
+            RawBsonRef::Undefined => Ok(RawBson::Undefined),
+            RawBsonRef::MaxKey => Ok(RawBson::MaxKey),
+            RawBsonRef::MinKey => Ok(RawBson::MinKey),
+            RawBsonRef::DbPointer(x) => copy_pointer(alloc, x),
+        }
+    }
+}
+
+impl ToRawBson for RawElement<'_> {
+    fn to_raw_bson(self, alloc: Global) -> Result<RawBson>
+        ensures { (m : Meaning) × Means (frame_of self.entry) m × CopiesMeaning m result }
+    {
+        match self.value(alloc) {
+            Ok(value) => value.to_raw_bson(alloc),
+            Err(error) => Err(error),
+        }
+    }
+}

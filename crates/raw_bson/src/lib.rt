@@ -1,0 +1,32 @@
+//! BSON: documents and values that own their bytes, views of them, and the trees that they stand for. The
+//! crate that a user names: it passes on the public items of the crates below.
+#![tactic(auto)]
+
+mod appending;
+mod array_buf;
+mod attest;
+mod bson;
+mod copies;
+mod cow;
+mod document_buf;
+mod hex_digits;
+mod laws;
+
+pub use array_buf::RawArrayBuf;
+pub use bson::{RawBson, RawJavaScriptCodeWithScope};
+pub use bson_model::{
+    Binary, BinarySubtype, Bson, DateTime, DbPointer, Decimal128, Document, DoubleBits,
+    JavaScriptCodeWithScope, NoMemory, ObjectId, Regex, Timestamp, attest_document, attest_list,
+    attest_value, is_same_document, is_same_tree,
+};
+pub use copies::{ToRawArrayBuf, ToRawBson, ToRawDocumentBuf};
+pub use cow::{CowRawArray, CowRawDocument};
+pub use document_buf::RawDocumentBuf;
+pub use laws::{is_same_array_buf, is_same_code, is_same_document_buf, is_same_value};
+pub use raw_tree::{encode, encode_list, total_len};
+pub use raw_view::{
+    ElementType, Error, ErrorKind, Iter, RawArray, RawArrayIter, RawBinaryRef, RawBsonRef,
+    RawDbPointerRef, RawDocument, RawElement, RawIter, RawJavaScriptCodeWithScopeRef, RawRegexRef,
+    Reason, Result, ValueAccessError, ValueAccessErrorKind, ValueAccessResult,
+    is_same_array as is_same_array_view, is_same_document as is_same_view,
+};

@@ -1,0 +1,84 @@
+use Rattle.std.proofs.Common.{[], ◌∷◌, length, length-append, ap, sym, ◌∙◌, arith}
+use Rattle.bson_model.specs.Tree.{tree_of, pairs_of}
+use Rattle.bson_model.proofs.Measures.{at_most_member, value_smaller, document_smaller, code_smaller, scope_smaller}
+use Rattle.bson_model.proofs.Trees.{tree_of-Array, tree_of-Document, tree_of-JavaScriptCodeWithScope}
+use Rattle.bson_model.specs.declared.bson.Bson.{size-Bson}
+use Rattle.bson_model.specs.declared.bson.Bson.TheViews.{sized-Array}
+use Rattle.raw_tree.specs.Encoding.{encoded_len}
+use Rattle.raw_tree.proofs.Encodings.{member_at, pair_fits, member_fits, entries_len-step, items_len-step, entries_bytes-step, items_bytes-step, behind}
+use Rattle.raw_tree.proofs.writing.+write.Goals as goal
+
+pub put_document-put_head-requires : goal.put_document-put_head-requires
+put_document-put_head-requires t c =
+    let fits = pair_fits (pairs_of c.args.document.now) c.loop-index.index c.in-Some.key.now c.in-Some.value.now (sym c.in-Some.ensures) in
+    omega arith
+
+pub put_document-put_value-requires : goal.put_document-put_value-requires
+put_document-put_value-requires t c =
+    let below = value_smaller c.args.document.now c.loop-index.index c.in-Some.key.now c.in-Some.value.now (sym c.in-Some.ensures) in
+    let fits = pair_fits (pairs_of c.args.document.now) c.loop-index.index c.in-Some.key.now c.in-Some.value.now (sym c.in-Some.ensures) in
+    (omega arith, (omega arith, omega arith))
+
+pub put_document-loop-index-preserved : goal.put_document-loop-index-preserved
+put_document-loop-index-preserved t c =
+    let ps = pairs_of c.args.document.now in
+    let i = c.loop-index.index in
+    let longer = entries_len-step ps i c.in-Some.key.now c.in-Some.value.now (sym c.in-Some.ensures) in
+    record {
+      whole = c.loop-index.invariant.whole;
+      items = rw (c.put_value.ensures.items, c.put_head.ensures.items, c.tag.ensures, c.loop-index.invariant.items, entries_bytes-step ps i c.in-Some.key.now c.in-Some.value.now (sym c.in-Some.ensures)) (behind _ _ _ _ _);
+      len = omega arith;
+      capacity = omega arith;
+    }
+
+pub put_list-put_decimal_head-requires : goal.put_list-put_decimal_head-requires
+put_list-put_decimal_head-requires t c =
+    let at = member_at c.args.values.now c.loop-index.index c.index-values-index.result c.loop-index-test.true c.index-values-index.is in
+    let fits = member_fits c.args.values.now c.loop-index.index c.index-values-index.result at in
+    omega arith
+
+pub put_list-put_value-requires : goal.put_list-put_value-requires
+put_list-put_value-requires t c =
+    let at = member_at c.args.values.now c.loop-index.index c.index-values-index.result c.loop-index-test.true c.index-values-index.is in
+    let fits = member_fits c.args.values.now c.loop-index.index c.index-values-index.result at in
+    let here = c.decreases in
+    let below = at_most_member c.args.values.now c.loop-index.index c.index-values-index.result at in
+    (omega arith, (omega arith, omega arith))
+
+pub put_list-loop-index-preserved : goal.put_list-loop-index-preserved
+put_list-loop-index-preserved t c =
+    let at = member_at c.args.values.now c.loop-index.index c.index-values-index.result c.loop-index-test.true c.index-values-index.is in
+    let longer = items_len-step c.args.values.now c.loop-index.index c.index-values-index.result at in
+    record {
+      items = rw (c.put_value.ensures.items, c.put_decimal_head.ensures.items, c.tag.ensures, c.loop-index.invariant.items, items_bytes-step c.args.values.now c.loop-index.index c.index-values-index.result at) (behind _ _ _ _ _);
+      len = omega arith;
+      capacity = omega arith;
+    }
+
+pub put_value-put_list-requires : goal.put_value-put_list-requires
+put_value-put_list-requires t c =
+    let whole = ap encoded_len (ap (λ v. tree_of v) c.in-Array.is ∙ tree_of-Array c.in-Array.values) in
+    let here = c.decreases in
+    let same = ap size-Bson c.in-Array.is in
+    let below = sized-Array c.in-Array.values in
+    (rw c.deref.ensures.value (omega arith), (rw c.deref.ensures.value (omega arith), rw c.deref.ensures.value (omega arith)))
+
+pub put_value-put_document-requires : goal.put_value-put_document-requires
+put_value-put_document-requires t c =
+    let whole = ap encoded_len (ap (λ v. tree_of v) c.in-Document.is ∙ tree_of-Document c.in-Document.document) in
+    let here = c.decreases in
+    let same = ap size-Bson c.in-Document.is in
+    let below = document_smaller c.in-Document.document in
+    (omega arith, (omega arith, omega arith))
+
+pub put_value-put_document-requires-in-JavaScriptCodeWithScope :
+    goal.put_value-put_document-requires-in-JavaScriptCodeWithScope
+put_value-put_document-requires-in-JavaScriptCodeWithScope t c =
+    let whole = ap encoded_len (ap (λ v. tree_of v) c.in-JavaScriptCodeWithScope.is ∙ tree_of-JavaScriptCodeWithScope c.in-JavaScriptCodeWithScope.code) in
+    let here = c.decreases in
+    let below = code_smaller c.in-JavaScriptCodeWithScope.code in
+    let scope = scope_smaller c.in-JavaScriptCodeWithScope.code in
+    let same = ap size-Bson c.in-JavaScriptCodeWithScope.is in
+    let text = ap length c.deref-in-JavaScriptCodeWithScope.ensures in
+    let ended = length-append c.deref-in-JavaScriptCodeWithScope.result.now (0 ∷ []) in
+    (omega arith, (omega arith, omega arith))

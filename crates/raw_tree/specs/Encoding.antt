@@ -1,0 +1,80 @@
+-- The bytes that trees are written as. BSON 1.1, `document`.
+use Rattle.std.specs.Prelude.{◌≡◌, ◌<◌, ◌≤◌, None, ℕ, ◌+◌, List, [], ◌∷◌, ◌++◌, length, decimal}
+use Rattle.bson_model.specs.Proper.{IsNulFree}
+use Rattle.bson_model.specs.Tree.{Tree, Trees, Entries, leaf, array, document, code_with_scope, no_tree, tree_then, no_entry, entry_then}
+use Rattle.raw_view.specs.Access.{kind_of_leaf}
+use Rattle.raw_view.specs.Errors.{key_of}
+use Rattle.raw_view.specs.Kind.{tag_of}
+use Rattle.raw_view.specs.declared.element_type.ElementType.{ElementType}
+use Rattle.raw_view.specs.declared.element_type.ElementType.TheVariants as kind
+use Rattle.raw_view.specs.declared.error.Error.{Error}
+use Rattle.raw_view.specs.declared.error.ErrorKind.{ErrorKind}
+use Rattle.raw_view.specs.declared.error.ErrorKind.TheVariants as what
+use Rattle.raw_view.specs.declared.error.Reason.TheVariants as reason
+use Rattle.raw_tree.specs.Payload.{leaf_payload, scoped_payload, framed}
+
+-- the kind of a tree
+abbrev pub kind_of_tree : Tree → ElementType
+kind_of_tree (leaf l) = kind_of_leaf l
+kind_of_tree (array ts) = kind.Array
+kind_of_tree (document es) = kind.EmbeddedDocument
+kind_of_tree (code_with_scope code es) = kind.JavaScriptCodeWithScope
+
+-- tag, key, 0, and the payload of the tree
+abbrev pub element_of : ElementType → List ℕ → List ℕ → List ℕ
+element_of kind key payload = tag_of kind ∷ (key ++ 0 ∷ payload)
+
+abbrev mutual
+  -- the payload of a tree: of a leaf that of its value; of a list, a document and a scope their elements in
+  -- a frame, the keys of a list being the decimals from 0
+  pub tree_payload : Tree → List ℕ
+  tree_payload (leaf l) = leaf_payload l
+  tree_payload (array ts) = framed (items_bytes 0 ts)
+  tree_payload (document es) = framed (entries_bytes es)
+  tree_payload (code_with_scope code es) = scoped_payload code (framed (entries_bytes es))
+
+  -- the elements of a list, under the decimals from this number
+  pub items_bytes : ℕ → Trees → List ℕ
+  items_bytes n no_tree = []
+  items_bytes n (tree_then t ts) = element_of (kind_of_tree t) (decimal n) (tree_payload t) ++ items_bytes (n + 1) ts
+
+  -- the elements of a document
+  pub entries_bytes : Entries → List ℕ
+  entries_bytes no_entry = []
+  entries_bytes (entry_then key t es) = element_of (kind_of_tree t) key (tree_payload t) ++ entries_bytes es
+
+-- the bytes of a document or a list: its payload
+abbrev pub encoding : Tree → List ℕ
+encoding t = tree_payload t
+
+abbrev mutual
+  -- how many bytes the payload of a tree takes, as a plain sum
+  pub encoded_len : Tree → ℕ
+  encoded_len (leaf l) = length (leaf_payload l)
+  encoded_len (array ts) = 5 + items_len 0 ts
+  encoded_len (document es) = 5 + entries_len es
+  encoded_len (code_with_scope code es) = 4 + (5 + length code) + (5 + entries_len es)
+
+  pub items_len : ℕ → Trees → ℕ
+  items_len n no_tree = 0
+  items_len n (tree_then t ts) = (2 + length (decimal n) + encoded_len t) + items_len (n + 1) ts
+
+  pub entries_len : Entries → ℕ
+  entries_len no_entry = 0
+  entries_len (entry_then key t es) = (2 + length key + encoded_len t) + entries_len es
+
+-- why a tree isn't written: first a 0, then the length, then want of memory
+abbrev pub RefusesTree : Tree → ErrorKind → Type 0
+RefusesTree t (what.MalformedValue reason.InteriorNul) = ¬ IsNulFree t
+RefusesTree t (what.MalformedValue reason.TooLong) = IsNulFree t × (2147483647 < encoded_len t)
+RefusesTree t what.OutOfMemory = IsNulFree t × (encoded_len t ≤ 2147483647)
+RefusesTree t _ = ⊥
+
+-- what a call answers that writes a tree: its encoding, of a tree without a 0 where it may not be and of at
+-- most 2147483647 bytes
+abbrev pub IsEncoded : Tree → List ℕ → Type 0
+IsEncoded t bytes = IsNulFree t × (encoded_len t ≤ 2147483647) × (bytes ≡ encoding t)
+
+-- or why there is none, without a key
+abbrev pub IsRefused : Tree → Error → Type 0
+IsRefused t e = RefusesTree t e.kind × (key_of e ≡ None)

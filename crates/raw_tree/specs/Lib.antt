@@ -1,0 +1,4 @@
+pub mod Encoding
+pub mod Judging
+pub mod Payload
+pub mod Reading

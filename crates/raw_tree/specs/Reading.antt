@@ -1,0 +1,90 @@
+-- The tree that bytes stand for, and the first fault of bytes that stand for none.
+use Rattle.std.specs.Prelude.{◌≡◌, ◌⊎◌, ℕ, suc, zero, List, [], ◌∷◌, drop, map}
+use Rattle.bson_model.specs.Leaf.{Leaf, regular_expression}
+use Rattle.bson_model.specs.Options.{sorted_options}
+use Rattle.bson_model.specs.Pairs.{keep}
+use Rattle.bson_model.specs.Tree.{Tree, Entries, leaf, array, document, code_with_scope, trees, entries}
+use Rattle.raw_view.specs.Answers.{Says}
+use Rattle.raw_view.specs.Errors.{IsOutOfMemory}
+use Rattle.raw_view.specs.Frame.{Frame, IsFrame, IsStop, IsWalk, Done, LeadsTo}
+use Rattle.raw_view.specs.Meaning.{RawValue, KeyedFault, Means, value, faulty}
+use Rattle.raw_view.specs.Meaning as raw
+use Rattle.raw_view.specs.declared.error.Error.{Error}
+
+-- bytes are read as a document, or as an array, whose keys are left away
+pub data Sort : Type 0 where
+  as_document : Sort
+  as_array : Sort
+
+-- the tree of pairs of a key and a tree: of a document the keys in the order in which each stands first,
+-- each with the tree that it has last; of an array the trees
+abbrev pub tree_of_pairs : Sort → List (List ℕ × Tree) → Tree
+tree_of_pairs as_document pairs = document (entries (keep pairs))
+tree_of_pairs as_array pairs = array (trees (map (λ p. p.1) pairs))
+
+-- a leaf as it is read: the options of a regular expression in ascending order
+abbrev pub leaf_in_order : Leaf → Leaf
+leaf_in_order (regular_expression pattern options) = regular_expression pattern (sorted_options options)
+leaf_in_order l = l
+
+-- the value stands for the tree, where Nested says which trees nested bytes are read as
+module _ (Nested : Sort → List ℕ → Tree → Type 0) where
+  abbrev pub StandsFor : RawValue → Tree → Type 0
+  StandsFor (raw.single l) t = t ≡ leaf (leaf_in_order l)
+  StandsFor (raw.document d) t = Nested as_document d t
+  StandsFor (raw.array d) t = Nested as_array d t
+  StandsFor (raw.scoped code d) t = (es : Entries) × Nested as_document d (document es) × (t ≡ code_with_scope code es)
+
+  -- each frame means a value, which stands for the tree under the frame's key
+  abbrev pub StandForEach : List Frame → List (List ℕ × Tree) → Type 0
+  StandForEach [] pairs = pairs ≡ []
+  StandForEach (f ∷ fs) pairs = (v : RawValue) × (t : Tree) × (rest : List (List ℕ × Tree)) × Means f (value v) × StandsFor v t × (pairs ≡ (f.key, t) ∷ rest) × StandForEach fs rest
+
+-- these bytes, with at most so many levels, are read as this tree: a walk of them ends at the final 0, and
+-- each frame means a value that stands for a tree
+abbrev pub ReadsWithin : ℕ → Sort → List ℕ → Tree → Type 0
+ReadsWithin zero sort b t = ⊥
+ReadsWithin (suc n) sort b t = (frames : List Frame) × (pairs : List (List ℕ × Tree)) × IsWalk (drop 4 b) frames Done × StandForEach (ReadsWithin n) frames pairs × (t ≡ tree_of_pairs sort pairs)
+
+-- these bytes are read as this tree
+abbrev pub ReadsAs : Sort → List ℕ → Tree → Type 0
+ReadsAs sort b t = (levels : ℕ) × ReadsWithin levels sort b t
+
+-- the document b is read as this tree
+abbrev pub Reads : List ℕ → Tree → Type 0
+Reads b t = ReadsAs as_document b t
+
+-- the value holds these nested bytes
+abbrev pub Holds : RawValue → List ℕ → Type 0
+Holds (raw.single l) d = ⊥
+Holds (raw.document e) d = d ≡ e
+Holds (raw.array e) d = d ≡ e
+Holds (raw.scoped code e) d = d ≡ e
+
+-- The first fault, depth first in byte order, with at most so many levels: the frames before it stand for
+-- trees; then the walk stops, or a frame means a fault, or a frame's value holds nested bytes that have it.
+abbrev pub FirstFaultWithin : ℕ → List ℕ → KeyedFault → Type 0
+FirstFaultWithin zero b fault = ⊥
+FirstFaultWithin (suc n) b fault =
+    (passed : List Frame) × (pairs : List (List ℕ × Tree)) × (s : List ℕ) × LeadsTo (drop 4 b) passed s × StandForEach ReadsAs passed pairs
+    × (IsStop s fault.fault fault.key
+    ⊎ ((f : Frame) × (r : List ℕ) × IsFrame s f r × (Means f (faulty fault) ⊎ ((v : RawValue) × (d : List ℕ) × Means f (value v) × Holds v d × FirstFaultWithin n d fault))))
+
+-- the first fault of these bytes
+abbrev pub FirstFault : List ℕ → KeyedFault → Type 0
+FirstFault b fault = (levels : ℕ) × FirstFaultWithin levels b fault
+
+-- the bytes are read as a tree, or have a first fault
+abbrev pub IsDecided : Sort → List ℕ → Type 0
+IsDecided sort b = ((t : Tree) × ReadsAs sort b t) ⊎ ((fault : KeyedFault) × FirstFault b fault)
+
+-- the first fault of a value: that of the nested bytes that it holds
+abbrev pub FirstFaultOfValue : RawValue → KeyedFault → Type 0
+FirstFaultOfValue v fault = (d : List ℕ) × Holds v d × FirstFault d fault
+
+-- an error of reading these bytes: their first fault with its own key, or want of memory
+abbrev pub TellsFirstFault : List ℕ → Error → Type 0
+TellsFirstFault b e = IsOutOfMemory e ⊎ ((fault : KeyedFault) × FirstFault b fault × Says e fault)
+
+abbrev pub TellsFirstFaultOfValue : RawValue → Error → Type 0
+TellsFirstFaultOfValue v e = IsOutOfMemory e ⊎ ((fault : KeyedFault) × FirstFaultOfValue v fault × Says e fault)

@@ -1,0 +1,10 @@
+//! The bytes that BSON values are written as.
+#![tactic(auto)]
+
+mod payload;
+mod total;
+mod writing;
+
+pub use payload::{append_payload, is_nul_free, is_value_nul_free, payload_len};
+pub use total::total_len;
+pub use writing::{encode, encode_list};

@@ -1,0 +1,131 @@
+-- Payloads are determined: one of a kind is cut off in one way, and its parts are its only ones.
+use Rattle.std.proofs.Common.{◌≡◌, ℕ, ℤ, pos, List, [], ◌∷◌, ◌++◌, ◌-◌, ◌≤◌, length, take, sym, ◌∙◌, subst, refl, arith}
+use Rattle.std.proofs.lemmas.List.{take-append-le, append_cancel_right}
+use Rattle.raw_view.specs.declared.element_type.ElementType.{ElementType}
+use Rattle.raw_view.specs.declared.element_type.ElementType.TheVariants as kind
+use Rattle.raw_view.specs.Number.{IsLe32}
+use Rattle.raw_view.specs.Envelope.{IsEnvelope}
+use Rattle.raw_view.specs.Frame.{HasShape, IsString, IsBinary, IsRegex, IsDbPointer}
+use Rattle.raw_view.specs.Meaning.{HasInnerLength, IsCodeWithScope}
+use Rattle.raw_view.proofs.Cuts.{cut}
+use Rattle.raw_view.proofs.Decided.{one_length}
+use Rattle.raw_view.proofs.Numbers.{IsLe32-length}
+use Rattle.raw_view.proofs.Payloads.{same_cut, string_same, pointer_string}
+use Rattle.raw_view.proofs.Shapes.{binary_header}
+use Rattle.raw_view.proofs.Texts.{regex_front}
+
+-- where a payload ends
+
+-- payloads at the front of the same bytes, whose sizes follow from the length that stands first, are one
+cut_by_length : (p q r t : List ℕ) (m n : ℕ) → IsLe32 (take 4 (p ++ r)) (pos m) → IsLe32 (take 4 (q ++ t)) (pos n) → (m ≡ n → length q ≡ length p) → p ++ r ≡ q ++ t → (p ≡ q) × (r ≡ t)
+cut_by_length p q r t m n a b size e =
+    let same : m ≡ n = one_length (take 4 (q ++ t)) n m b (subst (λ (x : List ℕ). IsLe32 (take 4 x) (pos m)) e a) in
+    same_cut p q r t (length p) refl (size same) e
+
+-- the length that stands first stays first with more bytes behind
+header_in_front : (p r : List ℕ) (n : ℕ) → 4 ≤ length p → IsLe32 (take 4 p) (pos n) → IsLe32 (take 4 (p ++ r)) (pos n)
+header_in_front p r n l h = rw (take-append-le 4 p r l) h
+
+-- a nested document is cut off in one way
+document_same : (p q r t : List ℕ) → IsEnvelope p → IsEnvelope q → p ++ r ≡ q ++ t → (p ≡ q) × (r ≡ t)
+document_same p q r t a b e =
+    let front = header_in_front p r (length p) (omega (arith, a.enough)) a.header in
+    let other = header_in_front q t (length q) (omega (arith, b.enough)) b.header in
+    cut_by_length p q r t (length p) (length q) front other (λ n. sym n) e
+
+-- a binary likewise
+binary_same : (p q r t : List ℕ) → HasShape kind.Binary p r → HasShape kind.Binary q t → p ++ r ≡ q ++ t → (p ≡ q) × (r ≡ t)
+binary_same p q r t a b e =
+    let x = binary_header p a.0 a.1 a.2 in
+    let y = binary_header q b.0 b.1 b.2 in
+    let front = header_in_front p r (length p - 5) (omega (arith, x.0)) x.1 in
+    let other = header_in_front q t (length q - 5) (omega (arith, y.0)) y.1 in
+    cut_by_length p q r t (length p - 5) (length q - 5) front other (λ n. omega (arith, x.0, y.0, n)) e
+
+-- a regular expression: two texts, each up to the next 0
+regex_same : (p q r t : List ℕ) → HasShape kind.RegularExpression p r → HasShape kind.RegularExpression q t → p ++ r ≡ q ++ t → (p ≡ q) × (r ≡ t)
+regex_same p q r t a b e =
+    let x = regex_front (p ++ r) p r a.0 a.1 refl a.2 in
+    let y = regex_front (p ++ r) q t b.0 b.1 e b.2 in
+    let patterns = cut a.0 b.0 (a.1 ++ 0 ∷ r) (b.1 ++ 0 ∷ t) a.2.pattern_nul_free b.2.pattern_nul_free (sym x ∙ y) in
+    let options = cut a.1 b.1 r t a.2.options_nul_free b.2.options_nul_free patterns.1 in
+    let spelled : a.0 ++ 0 ∷ (a.1 ++ 0 ∷ []) ≡ b.0 ++ 0 ∷ (b.1 ++ 0 ∷ []) = rw (patterns.0, options.0) in
+    (a.2.spelled ∙ spelled ∙ sym b.2.spelled, options.1)
+
+-- a pointer: a string and twelve bytes
+pointer_same : (p q r t : List ℕ) → HasShape kind.DbPointer p r → HasShape kind.DbPointer q t → p ++ r ≡ q ++ t → (p ≡ q) × (r ≡ t)
+pointer_same p q r t a b e =
+    let x = pointer_string (p ++ r) p r a.0 a.1 refl a.2 in
+    let y = pointer_string (p ++ r) q t b.0 b.1 e b.2 in
+    let strings = string_same a.2.string b.2.string (a.1 ++ r) (b.1 ++ t) a.0 b.0 a.2.string_is b.2.string_is (sym x ∙ y) in
+    let ids = same_cut a.1 b.1 r t 12 a.2.id_len b.2.id_len strings.1 in
+    let spelled : a.2.string ++ a.1 ≡ b.2.string ++ b.1 = rw (strings.0, ids.0) in
+    (a.2.spelled ∙ spelled ∙ sym b.2.spelled, ids.1)
+
+-- a payload of a kind is cut off in one way
+pub payload_same : (k : ElementType) (p q r t : List ℕ) → HasShape k p r → HasShape k q t → p ++ r ≡ q ++ t → (p ≡ q) × (r ≡ t)
+payload_same kind.Double p q r t a b e = same_cut p q r t 8 a b e
+payload_same kind.String p q r t a b e = string_same p q r t a.0 b.0 a.1 b.1 e
+payload_same kind.EmbeddedDocument p q r t a b e = document_same p q r t a b e
+payload_same kind.Array p q r t a b e = document_same p q r t a b e
+payload_same kind.Binary p q r t a b e = binary_same p q r t a b e
+payload_same kind.Undefined p q r t a b e = same_cut p q r t 0 a b e
+payload_same kind.ObjectId p q r t a b e = same_cut p q r t 12 a b e
+payload_same kind.Boolean p q r t a b e = same_cut p q r t 1 a b e
+payload_same kind.DateTime p q r t a b e = same_cut p q r t 8 a b e
+payload_same kind.Null p q r t a b e = same_cut p q r t 0 a b e
+payload_same kind.RegularExpression p q r t a b e = regex_same p q r t a b e
+payload_same kind.DbPointer p q r t a b e = pointer_same p q r t a b e
+payload_same kind.JavaScriptCode p q r t a b e = string_same p q r t a.0 b.0 a.1 b.1 e
+payload_same kind.Symbol p q r t a b e = string_same p q r t a.0 b.0 a.1 b.1 e
+payload_same kind.JavaScriptCodeWithScope p q r t a b e = cut_by_length p q r t (length p) (length q) a.header b.header (λ n. sym n) e
+payload_same kind.Int32 p q r t a b e = same_cut p q r t 4 a b e
+payload_same kind.Timestamp p q r t a b e = same_cut p q r t 8 a b e
+payload_same kind.Int64 p q r t a b e = same_cut p q r t 8 a b e
+payload_same kind.Decimal128 p q r t a b e = same_cut p q r t 16 a b e
+payload_same kind.MaxKey p q r t a b e = same_cut p q r t 0 a b e
+payload_same kind.MinKey p q r t a b e = same_cut p q r t 0 a b e
+
+-- the parts of a payload
+
+-- two lists behind heads of four bytes
+behind_heads : (head other x y : List ℕ) (z w : ℤ) → IsLe32 head z → IsLe32 other w → head ++ x ≡ other ++ y → x ≡ y
+behind_heads head other x y z w a b e = (same_cut head other x y 4 (IsLe32-length head z a) (IsLe32-length other w b) e).1
+
+-- a string has one text
+pub one_text : (p x y : List ℕ) → IsString p x → IsString p y → x ≡ y
+one_text p x y a b =
+    let e : a.head ++ x ≡ b.head ++ y = append_cancel_right (a.head ++ x) (b.head ++ y) (0 ∷ []) (sym a.spelled ∙ b.spelled) in
+    behind_heads a.head b.head x y _ _ a.length_is b.length_is e
+
+-- a text and what stands behind its string
+text_and_rest : (p q r t x y : List ℕ) → IsString p x → IsString q y → p ++ r ≡ q ++ t → (x ≡ y) × (r ≡ t)
+text_and_rest p q r t x y a b e =
+    let same = string_same p q r t x y a b e in
+    (one_text p x y a (subst (λ (z : List ℕ). IsString z y) (sym same.0) b), same.1)
+
+-- a binary has one subtype and its bytes
+pub one_binary : (p x y : List ℕ) (m n : ℕ) → IsBinary p m x → IsBinary p n y → (m ≡ n) × (x ≡ y)
+one_binary p x y m n a b =
+    let e : m ∷ x ≡ n ∷ y = behind_heads a.head b.head (m ∷ x) (n ∷ y) _ _ a.length_is b.length_is (sym a.spelled ∙ b.spelled) in
+    (cc, cc)
+
+-- an old binary has its bytes
+pub one_inner : (outer x y : List ℕ) → HasInnerLength outer x → HasInnerLength outer y → x ≡ y
+one_inner outer x y a b = behind_heads a.head b.head x y _ _ a.length_is b.length_is (sym a.spelled ∙ b.spelled)
+
+-- a regular expression has one pattern and its options
+pub one_regex : (p x y v w : List ℕ) → IsRegex p x v → IsRegex p y w → (x ≡ y) × (v ≡ w)
+one_regex p x y v w a b =
+    let patterns = cut x y (v ++ 0 ∷ []) (w ++ 0 ∷ []) a.pattern_nul_free b.pattern_nul_free (sym a.spelled ∙ b.spelled) in
+    (patterns.0, (cut v w [] [] a.options_nul_free b.options_nul_free patterns.1).0)
+
+-- a pointer has one namespace and its identifier
+pub one_pointer : (p x y v w : List ℕ) → IsDbPointer p x v → IsDbPointer p y w → (x ≡ y) × (v ≡ w)
+one_pointer p x y v w a b = text_and_rest a.string b.string v w x y a.string_is b.string_is (sym a.spelled ∙ b.spelled)
+
+-- a code with scope has one code and its scope
+pub one_code : (p x y v w : List ℕ) → IsCodeWithScope p x v → IsCodeWithScope p y w → (x ≡ y) × (v ≡ w)
+one_code p x y v w a b =
+    let e = behind_heads a.head b.head (a.string ++ v) (b.string ++ w) _ _ a.length_is b.length_is (sym a.spelled ∙ b.spelled) in
+    text_and_rest a.string b.string v w x y a.string_is b.string_is e

@@ -1,0 +1,30 @@
+-- Reading is determined: what stands in bytes, and what it means, is the only one of its sort.
+use Rattle.std.specs.Prelude.{◌≡◌, ℕ, List, Option}
+use Rattle.raw_view.specs.Frame.{Frame, IsFrame, End, IsWalk}
+use Rattle.raw_view.specs.Meaning.{Meaning, Means}
+use Rattle.raw_view.specs.Item.{Item, AreItems}
+use Rattle.raw_view.specs.LookUp.{LooksUp, IsAt}
+
+-- at most one first frame stands at the front of any byte list
+abbrev pub OneFirstFrame : Type 0
+OneFirstFrame = (s : List ℕ) (f g : Frame) (r q : List ℕ) → IsFrame s f r → IsFrame s g q → (f ≡ g) × (r ≡ q)
+
+-- these frames and this end are those of every walk of s
+abbrev pub IsTheWalk : List ℕ → List Frame → End → Type 0
+IsTheWalk s frames end = IsWalk s frames end × ((other : List Frame) (last : End) → IsWalk s other last → (other ≡ frames) × (last ≡ end))
+
+-- the frame means this, and nothing else
+abbrev pub IsTheMeaning : Frame → Meaning → Type 0
+IsTheMeaning f m = Means f m × ((other : Meaning) → Means f other → other ≡ m)
+
+-- these are the items of the document b, and no others are
+abbrev pub AreTheItems : List ℕ → List Item → Type 0
+AreTheItems b items = AreItems b items × ((other : List Item) → AreItems b other → other ≡ items)
+
+-- a look-up of the key in the document b finds this, and nothing else
+abbrev pub IsTheAnswer : List ℕ → List ℕ → Option Meaning → Type 0
+IsTheAnswer b key found = LooksUp b key found × ((other : Option Meaning) → LooksUp b key other → other ≡ found)
+
+-- a look-up of the position in the document b finds this, and nothing else
+abbrev pub IsTheAnswerAt : List ℕ → ℕ → Option Meaning → Type 0
+IsTheAnswerAt b index found = IsAt b index found × ((other : Option Meaning) → IsAt b index other → other ≡ found)
