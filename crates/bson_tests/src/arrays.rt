@@ -96,6 +96,7 @@ fn pattern_that_holds_a_nul_pushed(rt: HostRuntime) -> Result<(), Fail> {
     assert!(rt; array.is_empty());
     array.push(RawBson::Null)?;
     assert_eq!(rt; array.as_bytes(), NULL_ARRAY);
+    assert!(rt; !array.is_empty());
     Ok(())
 }
 
