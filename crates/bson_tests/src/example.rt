@@ -4,7 +4,7 @@ use std::process::Abort;
 use std::test::Fail;
 
 /// Writes the document of an author, and reads the year of birth back.
-pub fn year_of_birth(alloc: Global) -> Result<Option<i32>> {
+fn year_of_birth(alloc: Global) -> Result<Option<i32>> {
     let mut languages = RawArrayBuf::new(alloc)?;
     languages.push(RawBson::from_str(alloc, "English")?)?;
     languages.push(RawBson::from_str(alloc, "French")?)?;

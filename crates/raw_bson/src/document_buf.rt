@@ -114,7 +114,8 @@ impl RawDocumentBuf {
         self.append_ref(key, value.as_raw_bson_ref())
     }
 
-    /// Appends a value that borrows its parts, with the old content unexamined.
+    /// Appends a value that borrows its parts, with the old content unexamined. It copies no part of it on the
+    /// way, and refuses what `append` does, in the same order.
     pub fn append_ref(&mut self, key: &str, value: RawBsonRef<'_>) -> Result<()>
         ensures appends { Appends self.old key.now (value_of value.entry) result self.new }
         ensures walk { OnOk result (KeepsWalk self.old key.now (value_of value.entry) self.new) }

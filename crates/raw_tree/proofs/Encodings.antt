@@ -1,14 +1,15 @@
 -- The lengths of encodings, and one more member or pair of a walk.
 use Rattle.std.proofs.Common.{◌≡◌, ◌≤◌, ◌<◌, ◌-◌, ◌^◌, ℕ, zero, suc, ◌+◌, List, [], ◌∷◌, ◌++◌, length, map, take, decimal, min, Some, slice_get, get_or, refl, ap, sym, ◌∙◌, append_assoc, length-append, arith}
+use Rattle.std.proofs.lemmas.List.{append-nil}
 use Rattle.std.proofs.lemmas.Option.{slice_get-get_or}
 use Rattle.bson_model.specs.Bytes.{NulFree}
 use Rattle.bson_model.specs.Proper.{IsNulFree, IsLeafNulFree, InTrees, InEntries, Whatever}
 use Rattle.bson_model.specs.Tree.{Tree, Trees, Entries, leaf, array, document, code_with_scope, no_tree, tree_then, no_entry, entry_then, trees, entries, tree_of, with_trees, tree_of_list}
 use Rattle.bson_model.specs.declared.bson.Bson.{Bson}
 use Rattle.bson_model.proofs.Steps.{trees-more, with_trees-more}
+use Rattle.raw_view.specs.declared.element_type.ElementType.{ElementType}
 use Rattle.raw_tree.specs.Encoding.{element_of, kind_of_tree, tree_payload, items_bytes, entries_bytes, encoded_len, items_len, entries_len}
 use Rattle.raw_tree.specs.Judging.{Judges}
-use Rattle.raw_view.specs.declared.element_type.ElementType.{ElementType}
 use Rattle.raw_tree.specs.Payload.{scoped_payload, framed}
 
 -- the members of a list are free of 0s, and so are the pairs of a document
@@ -118,10 +119,6 @@ refused_value ps i key v e n h = n (nul_free_pair ps i key v e h.1).1
 
 pub refused_key : (ps : List (List ℕ × Bson)) (i : ℕ) (key : List ℕ) (v : Bson) → slice_get ps i ≡ Some (key, v) → ¬ NulFree key → ¬ IsNulFree (document (entries (with_trees ps)))
 refused_key ps i key v e n h = n (nul_free_pair ps i key v e h.1).0
-
-append-nil : (xs : List ℕ) → xs ++ [] ≡ xs
-append-nil [] = refl
-append-nil (x ∷ xs) = ap (λ (l : List ℕ). x ∷ l) (append-nil xs)
 
 -- the elements of one more member of a list
 items_bytes-more : (n : ℕ) (ts : List Tree) (t : Tree) → items_bytes n (trees (ts ++ t ∷ [])) ≡ items_bytes n (trees ts) ++ element_of (kind_of_tree t) (decimal (n + length ts)) (tree_payload t)

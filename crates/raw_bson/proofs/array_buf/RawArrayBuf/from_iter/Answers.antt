@@ -1,9 +1,7 @@
-use Rattle.std.proofs.Common.{◌++◌, ◌∷◌, [], inr, refl, subst}
-use Rattle.std.specs.Iterator.{Yields}
-use Rattle.std.proofs.iter.Next.{Yields-more}
+use Rattle.std.proofs.Common.{refl}
 use Rattle.std.proofs.lemmas.Result.{err_from_is_err_and}
-use Rattle.raw_bson.specs.Fills.{TakesValue}
-use Rattle.raw_bson.proofs.Filling.{takes_more}
+use Rattle.raw_bson.specs.Fills.{TakesValue, empty_array}
+use Rattle.raw_bson.proofs.Filling.{takes_more, filled, refused}
 use Rattle.raw_bson.proofs.array_buf.RawArrayBuf.from_iter.Goals as goal
 
 pub loop-value-preserved : goal.loop-value-preserved
@@ -12,12 +10,8 @@ loop-value-preserved g c = takes_more TakesValue _ c.loop-value.yielded c.loop-v
 pub returns-in_err-push : goal.returns-in_err-push
 returns-in_err-push g c =
     let e = err_from_is_err_and c.from_residual-in_err-push.result c.from_residual-in_err-push.ensures.1 in
-    let more = Yields-more g.I.Iterator.next_gives c.into_iter-value-iterator.result c.loop-value.yielded c.loop-value.value-iterator c.in-Some.value c.next.new.self c.loop-value.yielded_by c.in-Some.ensures.steps in
-    let from = subst (λ s. Yields g.I.Iterator.next_gives s (c.loop-value.yielded ++ c.in-Some.value ∷ []) c.next.new.self) c.into_iter-value-iterator.ensures.into_iter_gives more in
     let h = c.in_err-push.ensures in
-    rw e.1 (inr (c.loop-value.yielded, c.in-Some.value, c.next.new.self, c.loop-value.array, from, c.loop-value.invariant, ((rw e.2 h.0.0, rw e.2 h.0.1, refl), refl)))
+    rw e.1 (refused TakesValue empty_array c.loop-value.array g.I.Iterator.next_gives c.args.values c.into_iter-value-iterator.result c.loop-value.value-iterator c.next.new.self c.loop-value.yielded c.in-Some.value e.0 c.into_iter-value-iterator.ensures.into_iter_gives c.loop-value.yielded_by c.in-Some.ensures.steps c.loop-value.invariant ((rw e.2 h.0.0, rw e.2 h.0.1, refl), refl))
 
 pub returns : goal.returns
-returns g c =
-    let from = subst (λ s. Yields g.I.Iterator.next_gives s c.loop-value.yielded c.loop-value.value-iterator) c.into_iter-value-iterator.ensures.into_iter_gives c.loop-value.yielded_by in
-    (c.loop-value.yielded, (c.next.new.self, (c.loop-value.value-iterator, from, c.in-None.ensures.steps)), c.loop-value.invariant)
+returns g c = filled TakesValue empty_array c.loop-value.array g.I.Iterator.next_gives c.args.values c.into_iter-value-iterator.result c.loop-value.value-iterator c.next.new.self c.loop-value.yielded c.into_iter-value-iterator.ensures.into_iter_gives c.loop-value.yielded_by c.in-None.ensures.steps c.loop-value.invariant
