@@ -14,13 +14,20 @@ use Rattle.raw_view.proofs.CallerLemmas.{LeadsTo-walk, LeadsTo-more, IsFrame-sho
 use Rattle.raw_view.proofs.Meanings.{has_meaning}
 use Rattle.raw_view.proofs.Payloads.{IsBytes-drop}
 use Rattle.raw_view.proofs.Walks.{IsBytes-rest, document_has_walk}
-use Rattle.raw_tree.specs.Reading.{Sort, as_document, as_array, tree_of_pairs, leaf_in_order, StandsFor, StandForEach, ReadsWithin, ReadsAs, Holds, FirstFault, IsDecided, FirstFaultOfValue}
+use Rattle.raw_tree.specs.Reading.{Sort, as_document, as_array, tree_of_pairs, leaf_in_order, StandsFor, StandForEach, ReadsWithin, ReadsAs, Holds, FirstFault, FirstFaultOfValue}
 
 -- nested bytes
 
 -- a value that holds no others holds no nested bytes
 single_holds_none : (v : RawValue) (l : Leaf) (d : List ℕ) → v ≡ raw.single l → Holds v d → ⊥
 single_holds_none v l d e h = subst (λ (x : RawValue). Holds x d) e h
+
+-- how many bytes are nested in a value
+abbrev pub nested_length : RawValue → ℕ
+nested_length (raw.single l) = 0
+nested_length (raw.document d) = length d
+nested_length (raw.array d) = length d
+nested_length (raw.scoped code d) = length d
 
 -- the scope is a part of the payload
 scope_within : (p code scope : List ℕ) → IsCodeWithScope p code scope → length scope ≤ length p
@@ -151,9 +158,13 @@ fault_inside b passed pairs s f r v fault l h at m inside =
 
 -- decisions
 
+-- bytes are read as a tree, or have a first fault
+abbrev pub AreReadOrFaulty : Sort → List ℕ → Type 0
+AreReadOrFaulty sort b = ((t : Tree) × ReadsAs sort b t) ⊎ ((fault : KeyedFault) × FirstFault b fault)
+
 -- a value stands for a tree, or has a first fault
-abbrev pub IsValueDecided : RawValue → Type 0
-IsValueDecided v = ((t : Tree) × StandsFor ReadsAs v t) ⊎ ((fault : KeyedFault) × FirstFaultOfValue v fault)
+abbrev pub StandsOrIsFaulty : RawValue → Type 0
+StandsOrIsFaulty v = ((t : Tree) × StandsFor ReadsAs v t) ⊎ ((fault : KeyedFault) × FirstFaultOfValue v fault)
 
 -- a tree as which bytes are read as a document is the tree of entries
 document_read : (b : List ℕ) (t : Tree) → ReadsAs as_document b t → (es : Entries) × ReadsAs as_document b (document es)
@@ -161,7 +172,7 @@ document_read b t (zero, h) = absurd h
 document_read b t (suc n, h) = (entries (keep h.1), (suc n, (h.0, h.1, h.2, h.3, refl)))
 
 -- a value is decided where its nested bytes are
-value_by_nested : (v : RawValue) → ((sort : Sort) (d : List ℕ) → Holds v d → IsDecided sort d) → IsValueDecided v
+pub value_by_nested : (v : RawValue) → ((sort : Sort) (d : List ℕ) → Holds v d → AreReadOrFaulty sort d) → StandsOrIsFaulty v
 value_by_nested (raw.single l) nested = inl (leaf (leaf_in_order l), refl)
 value_by_nested (raw.document d) nested =
     elim (nested as_document d refl) [
@@ -183,10 +194,10 @@ value_by_nested (raw.scoped code d) nested =
 
 -- bytes with an envelope and at most this length are decided
 abbrev AreDecidedWithin : ℕ → Type 0
-AreDecidedWithin n = (sort : Sort) (d : List ℕ) → length d ≤ n → IsEnvelope d → IsDecided sort d
+AreDecidedWithin n = (sort : Sort) (d : List ℕ) → length d ≤ n → IsEnvelope d → AreReadOrFaulty sort d
 
 -- the value of a frame is decided where shorter bytes are
-value_within : (n : ℕ) → AreDecidedWithin n → (s : List ℕ) (f : Frame) (r : List ℕ) (v : RawValue) → length s ≤ n + 1 → IsFrame s f r → Means f (value v) → IsValueDecided v
+value_within : (n : ℕ) → AreDecidedWithin n → (s : List ℕ) (f : Frame) (r : List ℕ) (v : RawValue) → length s ≤ n + 1 → IsFrame s f r → Means f (value v) → StandsOrIsFaulty v
 value_within n shorter s f r v l b m =
     value_by_nested v (λ sort d h. shorter sort d (omega (arith, nested_shorter s f r v d b m h)) (nested_envelope s f r v d b m h))
 
@@ -197,7 +208,7 @@ value_or_fault f (faulty fault) m = inr (fault, m)
 
 -- Along a walk, behind frames that are read: at the end the bytes are read, and a stop, a fault of a frame
 -- or one of its value is the first fault.
-along : (n : ℕ) → AreDecidedWithin n → (sort : Sort) (b : List ℕ) (passed : List Frame) (pairs : List (List ℕ × Tree)) (s : List ℕ) (frames : List Frame) (end : End) → LeadsTo (drop 4 b) passed s → StandForEach ReadsAs passed pairs → IsBytes s → length s ≤ n + 1 → IsWalk s frames end → IsDecided sort b
+along : (n : ℕ) → AreDecidedWithin n → (sort : Sort) (b : List ℕ) (passed : List Frame) (pairs : List (List ℕ × Tree)) (s : List ℕ) (frames : List Frame) (end : End) → LeadsTo (drop 4 b) passed s → StandForEach ReadsAs passed pairs → IsBytes s → length s ≤ n + 1 → IsWalk s frames end → AreReadOrFaulty sort b
 along n shorter sort b passed pairs s [] Done lead h bytes l w = inl (tree_of_pairs sort pairs, reads_of sort b passed pairs (LeadsTo-walk (drop 4 b) passed s Done lead w) h)
 along n shorter sort b passed pairs s [] (Stopped fault key) lead h bytes l w =
     let bad : KeyedFault = record { fault = fault; key = key } in
@@ -224,9 +235,9 @@ decided_within (suc n) sort b l env =
     along n (decided_within n) sort b [] [] (drop 4 b) w.0 w.1 refl refl (IsBytes-drop 4 b env.bytes) size w.2
 
 -- bytes with an envelope are read as a tree, or have a first fault
-pub decided : (sort : Sort) (b : List ℕ) → IsEnvelope b → IsDecided sort b
+pub decided : (sort : Sort) (b : List ℕ) → IsEnvelope b → AreReadOrFaulty sort b
 decided sort b env = decided_within (length b) sort b (omega arith) env
 
 -- a frame's value stands for a tree, or has a first fault
-pub value_decided : (s : List ℕ) (f : Frame) (r : List ℕ) (v : RawValue) → IsFrame s f r → Means f (value v) → IsValueDecided v
+pub value_decided : (s : List ℕ) (f : Frame) (r : List ℕ) (v : RawValue) → IsFrame s f r → Means f (value v) → StandsOrIsFaulty v
 value_decided s f r v b m = value_by_nested v (λ sort d h. decided sort d (nested_envelope s f r v d b m h))

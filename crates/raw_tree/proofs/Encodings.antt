@@ -1,5 +1,5 @@
 -- The lengths of encodings, and one more member or pair of a walk.
-use Rattle.std.proofs.Common.{◌≡◌, ◌≤◌, ◌<◌, ◌-◌, ◌^◌, ℕ, zero, suc, ◌+◌, List, [], ◌∷◌, ◌++◌, length, map, take, decimal, min, Some, slice_get, get_or, refl, ap, sym, ◌∙◌, append_assoc, length-append, arith}
+use Rattle.std.proofs.Common.{◌≡◌, ◌≤◌, ◌<◌, ◌-◌, ◌^◌, ℕ, zero, suc, ◌+◌, List, [], ◌∷◌, ◌++◌, length, map, take, decimal, min, Some, slice_get, slice_index_or, get_or, refl, ap, sym, ◌∙◌, append_assoc, length-append, arith}
 use Rattle.std.proofs.lemmas.List.{append-nil}
 use Rattle.std.proofs.lemmas.Option.{slice_get-get_or}
 use Rattle.bson_model.specs.Bytes.{NulFree}
@@ -7,6 +7,7 @@ use Rattle.bson_model.specs.Proper.{IsNulFree, IsLeafNulFree, InTrees, InEntries
 use Rattle.bson_model.specs.Tree.{Tree, Trees, Entries, leaf, array, document, code_with_scope, no_tree, tree_then, no_entry, entry_then, trees, entries, tree_of, with_trees, tree_of_list}
 use Rattle.bson_model.specs.declared.bson.Bson.{Bson}
 use Rattle.bson_model.proofs.Steps.{trees-more, with_trees-more}
+use Rattle.raw_view.specs.Number.{IsBytes}
 use Rattle.raw_view.specs.declared.element_type.ElementType.{ElementType}
 use Rattle.raw_tree.specs.Encoding.{element_of, kind_of_tree, tree_payload, items_bytes, entries_bytes, encoded_len, items_len, entries_len}
 use Rattle.raw_tree.specs.Judging.{Judges}
@@ -166,3 +167,9 @@ pair_fits ps i key v e = let s = entries_len-step ps i key v e in let h = entrie
 -- an element that is put behind others in two parts
 pub behind : (before others key payload : List ℕ) (tag : ℕ) → ((before ++ others) ++ tag ∷ (key ++ 0 ∷ [])) ++ payload ≡ before ++ (others ++ tag ∷ (key ++ 0 ∷ payload))
 behind before others key payload tag = simp append_assoc
+
+-- what a vector of bytes holds
+pub all_bytes : (bytes : List ℕ) → ((i d : ℕ) → i < length bytes → slice_index_or bytes i d < 256) → IsBytes bytes
+all_bytes [] h i = omega arith
+all_bytes (b ∷ bytes) h zero = h 0 0 (omega arith)
+all_bytes (b ∷ bytes) h (suc i) = all_bytes bytes (λ j d l. h (suc j) d (omega (arith, l))) i

@@ -1,2 +1,9 @@
 pub mod Decides
+pub mod Passed
 pub mod Encodings
+pub mod OneTree
+pub mod OneWay
+pub mod ReadTrees
+pub mod Spelled
+pub mod Returns
+pub mod Forms

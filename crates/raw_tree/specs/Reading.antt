@@ -74,13 +74,37 @@ FirstFaultWithin (suc n) b fault =
 abbrev pub FirstFault : List ℕ → KeyedFault → Type 0
 FirstFault b fault = (levels : ℕ) × FirstFaultWithin levels b fault
 
--- the bytes are read as a tree, or have a first fault
-abbrev pub IsDecided : Sort → List ℕ → Type 0
-IsDecided sort b = ((t : Tree) × ReadsAs sort b t) ⊎ ((fault : KeyedFault) × FirstFault b fault)
-
 -- the first fault of a value: that of the nested bytes that it holds
 abbrev pub FirstFaultOfValue : RawValue → KeyedFault → Type 0
 FirstFaultOfValue v fault = (d : List ℕ) × Holds v d × FirstFault d fault
+
+-- the frame means a value that stands for this tree
+abbrev pub FrameStandsFor : Frame → Tree → Type 0
+FrameStandsFor f t = (v : RawValue) × Means f (value v) × StandsFor ReadsAs v t
+
+-- the first fault of a frame: the one that it means, or that of the value that it means
+abbrev pub FirstFaultOfFrame : Frame → KeyedFault → Type 0
+FirstFaultOfFrame f fault = Means f (faulty fault) ⊎ ((v : RawValue) × Means f (value v) × FirstFaultOfValue v fault)
+
+-- There is exactly one of a tree, of which the first holds, and a first fault, of which the second does,
+-- and only one such tree or fault.
+pub record HasOneReading (IsTree : Tree → Type 0) (IsFirst : KeyedFault → Type 0) : Type 0 where
+  pub either : ((t : Tree) × IsTree t) ⊎ ((fault : KeyedFault) × IsFirst fault)
+  pub not_both : (t : Tree) (fault : KeyedFault) → IsTree t → ¬ IsFirst fault
+  pub one_tree : (t other : Tree) → IsTree t → IsTree other → other ≡ t
+  pub one_fault : (fault other : KeyedFault) → IsFirst fault → IsFirst other → other ≡ fault
+
+-- bytes are read as one tree, or have one first fault
+abbrev pub AreReadOneWay : Sort → List ℕ → Type 0
+AreReadOneWay sort b = HasOneReading (ReadsAs sort b) (FirstFault b)
+
+-- a value stands for one tree, or has one first fault
+abbrev pub IsValueReadOneWay : RawValue → Type 0
+IsValueReadOneWay v = HasOneReading (StandsFor ReadsAs v) (FirstFaultOfValue v)
+
+-- a frame stands for one tree, or has one first fault
+abbrev pub IsFrameReadOneWay : Frame → Type 0
+IsFrameReadOneWay f = HasOneReading (FrameStandsFor f) (FirstFaultOfFrame f)
 
 -- an error of reading these bytes: their first fault with its own key, or want of memory
 abbrev pub TellsFirstFault : List ℕ → Error → Type 0
@@ -88,3 +112,6 @@ TellsFirstFault b e = IsOutOfMemory e ⊎ ((fault : KeyedFault) × FirstFault b 
 
 abbrev pub TellsFirstFaultOfValue : RawValue → Error → Type 0
 TellsFirstFaultOfValue v e = IsOutOfMemory e ⊎ ((fault : KeyedFault) × FirstFaultOfValue v fault × Says e fault)
+
+abbrev pub TellsFirstFaultOfFrame : Frame → Error → Type 0
+TellsFirstFaultOfFrame f e = IsOutOfMemory e ⊎ ((fault : KeyedFault) × FirstFaultOfFrame f fault × Says e fault)

@@ -2,9 +2,11 @@
 #![tactic(auto)]
 
 mod payload;
+mod reading;
 mod total;
 mod writing;
 
 pub use payload::{append_payload, is_nul_free, is_value_nul_free, payload_len};
+pub use reading::{bson_from_element, bson_from_raw, document_from_raw, list_from_raw};
 pub use total::total_len;
 pub use writing::{encode, encode_list};

@@ -5,7 +5,7 @@ use Rattle.bson_model.proofs.Trees.{tree_of-Array, tree_of-Document, tree_of-Jav
 use Rattle.bson_model.specs.declared.bson.Bson.{size-Bson}
 use Rattle.bson_model.specs.declared.bson.Bson.TheViews.{sized-Array}
 use Rattle.raw_tree.specs.Encoding.{encoded_len}
-use Rattle.raw_tree.proofs.Encodings.{member_at, pair_fits, member_fits, entries_len-step, items_len-step, entries_bytes-step, items_bytes-step, behind}
+use Rattle.raw_tree.proofs.Encodings.{all_bytes, member_at, pair_fits, member_fits, entries_len-step, items_len-step, entries_bytes-step, items_bytes-step, behind}
 use Rattle.raw_tree.proofs.writing.+write.Goals as goal
 
 pub put_document-put_head-requires : goal.put_document-put_head-requires
@@ -82,3 +82,9 @@ put_value-put_document-requires-in-JavaScriptCodeWithScope t c =
     let text = ap length c.deref-in-JavaScriptCodeWithScope.ensures in
     let ended = length-append c.deref-in-JavaScriptCodeWithScope.result.now (0 ∷ []) in
     (omega arith, (omega arith, omega arith))
+
+pub put_document-returns-clause-bytes : goal.put_document-returns-clause-bytes
+put_document-returns-clause-bytes t c = all_bytes _ c.type_inv.out
+
+pub put_list-returns-clause-bytes : goal.put_list-returns-clause-bytes
+put_list-returns-clause-bytes t c = all_bytes _ c.type_inv.out

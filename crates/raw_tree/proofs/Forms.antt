@@ -1,0 +1,77 @@
+-- The encoding of a tree that is read, and the canonical form of a document.
+use Rattle.std.proofs.Common.{◌≡◌, ◌≤◌, List, ℕ, zero, suc, map, length, arith, ap, sym, subst, ◌∙◌}
+use Rattle.bson_model.specs.Pairs.{keep}
+use Rattle.bson_model.specs.Proper.{IsProper}
+use Rattle.bson_model.specs.Tree.{Tree, Trees, Entries, array, document, trees, entries}
+use Rattle.raw_view.specs.Envelope.{IsEnvelope}
+use Rattle.raw_view.specs.Number.{IsBytes}
+use Rattle.raw_tree.specs.Canonical.{IsCanonicalAs}
+use Rattle.raw_tree.specs.CanonicalForm.{ComesBack, IsSpelling, IsSpelledOneWay, IsCanonicalForm}
+use Rattle.raw_tree.specs.Encoding.{IsEncoded, encoding, encoded_len, entries_bytes, items_bytes}
+use Rattle.raw_tree.specs.Reading.{Sort, as_document, as_array, Reads, ReadsAs}
+use Rattle.raw_tree.proofs.Encodings.{length-entries_bytes, length-items_bytes, length-tree_payload}
+use Rattle.raw_tree.proofs.OneTree.{one_tree}
+use Rattle.raw_tree.proofs.ReadTrees.{read_is_proper}
+use Rattle.raw_tree.proofs.Returns.{Returns, document_returns, array_returns, framed_is_envelope}
+use Rattle.raw_tree.proofs.Spelled.{canonical_is_spelled}
+
+-- the encoding of a proper tree that some bytes are read as comes back
+read_returns : (sort : Sort) (b : List ℕ) (t : Tree) → ReadsAs sort b t → IsProper t → encoded_len t ≤ 2147483647 → Returns sort (encoding t) t
+read_returns sort b t (zero, r) p l = absurd r
+read_returns as_document b t (suc n, r) p l =
+    rw r.4 (document_returns (entries (keep r.1)) (subst IsProper r.4 p) (subst (λ (u : Tree). encoded_len u ≤ 2147483647) r.4 l))
+read_returns as_array b t (suc n, r) p l =
+    rw r.4 (array_returns (trees (map (λ q. q.1) r.1)) (subst IsProper r.4 p) (subst (λ (u : Tree). encoded_len u ≤ 2147483647) r.4 l))
+
+-- a canonical document is the encoding of its tree, which is of a size in range
+canonical_spelling : (sort : Sort) (b : List ℕ) (t : Tree) → IsEnvelope b → ReadsAs sort b t → IsCanonicalAs sort b → IsSpelling t b
+canonical_spelling sort b t env r c =
+    let same : encoding t ≡ b = canonical_is_spelled sort b t env r c in
+    (omega (arith, length-tree_payload t, ap length same, env.header.fits), same)
+
+-- and what is the encoding of its tree is canonical
+spelling_canonical : (sort : Sort) (b : List ℕ) (t : Tree) → IsEnvelope b → ReadsAs sort b t → IsSpelling t b → IsCanonicalAs sort b
+spelling_canonical sort b t env r s =
+    subst (IsCanonicalAs sort) s.1 (read_returns sort b t r (read_is_proper sort b t env r) s.0).2
+
+pub bytes_spelled_one_way : (sort : Sort) (b : List ℕ) → IsEnvelope b → IsSpelledOneWay sort b
+bytes_spelled_one_way sort b env = record {
+  proper = λ t r. read_is_proper sort b t env r;
+  unchanged = λ t r. (spelling_canonical sort b t env r, canonical_spelling sort b t env r);
+}
+
+-- the spelling of the tree of a document is its canonical form
+pub canonical_form : (b a : List ℕ) (t : Tree) → IsEnvelope b → Reads b t → IsSpelling t a → IsCanonicalForm b a
+canonical_form b a t env r s =
+    let back : Returns as_document a t = subst (λ (x : List ℕ). Returns as_document x t) s.1 (read_returns as_document b t r (read_is_proper as_document b t env r) s.0) in
+    record {
+      tree = t;
+      read = r;
+      spelled = s;
+      same_tree = λ c u envelope reads size. (
+        (λ e. one_tree as_document a u t (subst (λ (x : List ℕ). Reads x u) e (read_returns as_document c u reads (read_is_proper as_document c u envelope reads) size).1) back.1),
+        (λ e. ap encoding e ∙ s.1),
+      );
+      unchanged = (
+        (λ e. spelling_canonical as_document b t env r (s.0, s.1 ∙ e)),
+        (λ c. sym s.1 ∙ (canonical_spelling as_document b t env r c).1),
+      );
+      canonical = back.2;
+      reads_back = back.1;
+    }
+
+-- what is written of a proper tree comes back
+pub document_comes_back : (es : Entries) (b : List ℕ) → IsEncoded (document es) b → ComesBack as_document (document es) b
+document_comes_back es b e = λ p. let back = document_returns es p e.1 in rw e.2 (back.1, back.2)
+
+pub list_comes_back : (ts : Trees) (b : List ℕ) → IsEncoded (array ts) b → ComesBack as_array (array ts) b
+list_comes_back ts b e = λ p. let back = array_returns ts p e.1 in rw e.2 (back.1, back.2)
+
+-- what is written has an envelope
+pub document_enveloped : (es : Entries) (b : List ℕ) → IsBytes b → IsEncoded (document es) b → IsEnvelope b
+document_enveloped es b bytes e =
+    rw e.2 (framed_is_envelope (entries_bytes es) (subst IsBytes e.2 bytes) (omega (arith, length-entries_bytes es, e.1)))
+
+pub list_enveloped : (ts : Trees) (b : List ℕ) → IsBytes b → IsEncoded (array ts) b → IsEnvelope b
+list_enveloped ts b bytes e =
+    rw e.2 (framed_is_envelope (items_bytes 0 ts) (subst IsBytes e.2 bytes) (omega (arith, length-items_bytes 0 ts, e.1)))
