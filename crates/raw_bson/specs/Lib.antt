@@ -1,4 +1,5 @@
 pub mod Append
+pub mod Conversion
 pub mod Copies
 pub mod Count
 pub mod Cows
@@ -15,8 +16,11 @@ pub use Rattle.bson_model.specs.Proper
 pub use Rattle.bson_model.specs.Scalars
 pub use Rattle.bson_model.specs.Subtype
 pub use Rattle.bson_model.specs.Tree
+pub use Rattle.raw_tree.specs.Canonical
+pub use Rattle.raw_tree.specs.CanonicalForm
 pub use Rattle.raw_tree.specs.Encoding
 pub use Rattle.raw_tree.specs.Payload
+pub use Rattle.raw_tree.specs.Reading
 pub use Rattle.raw_view.specs.Access
 pub use Rattle.raw_view.specs.Accessors
 pub use Rattle.raw_view.specs.Answers

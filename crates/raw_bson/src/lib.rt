@@ -6,6 +6,8 @@ mod appending;
 mod array_buf;
 mod attest;
 mod bson;
+mod canonical;
+mod conversions;
 mod copies;
 mod cow;
 mod document_buf;
@@ -19,11 +21,15 @@ pub use bson_model::{
     JavaScriptCodeWithScope, NoMemory, ObjectId, Regex, Timestamp, attest_document, attest_list,
     attest_value, is_same_document, is_same_tree,
 };
+pub use canonical::canonical_bytes;
 pub use copies::{ToRawArrayBuf, ToRawBson, ToRawDocumentBuf};
 pub use cow::{CowRawArray, CowRawDocument};
 pub use document_buf::RawDocumentBuf;
 pub use laws::{is_same_array_buf, is_same_code, is_same_document_buf, is_same_value};
-pub use raw_tree::{encode, encode_list, total_len};
+pub use raw_tree::{
+    bson_from_element, bson_from_raw, document_from_raw, encode, encode_list, list_from_raw,
+    total_len,
+};
 pub use raw_view::{
     ElementType, Error, ErrorKind, Iter, RawArray, RawArrayIter, RawBinaryRef, RawBsonRef,
     RawDbPointerRef, RawDocument, RawElement, RawIter, RawJavaScriptCodeWithScopeRef, RawRegexRef,

@@ -1,14 +1,17 @@
 -- The encoding of a tree that is read, and the canonical form of a document.
-use Rattle.std.proofs.Common.{◌≡◌, ◌≤◌, List, ℕ, zero, suc, map, length, arith, ap, sym, subst, ◌∙◌}
+use Rattle.std.proofs.Common.{◌≡◌, ◌≤◌, ◌∷◌, [], List, ℕ, zero, suc, map, length, arith, ap, refl, sym, subst, ◌∙◌}
 use Rattle.bson_model.specs.Pairs.{keep}
 use Rattle.bson_model.specs.Proper.{IsProper}
-use Rattle.bson_model.specs.Tree.{Tree, Trees, Entries, array, document, trees, entries}
+use Rattle.bson_model.specs.Tree.{Tree, Trees, Entries, leaf, array, document, code_with_scope, trees, entries}
 use Rattle.raw_view.specs.Envelope.{IsEnvelope}
+use Rattle.raw_view.specs.Frame.{Frame}
+use Rattle.raw_view.specs.Meaning.{RawValue}
+use Rattle.raw_view.specs.Meaning as raw
 use Rattle.raw_view.specs.Number.{IsBytes}
-use Rattle.raw_tree.specs.Canonical.{IsCanonicalAs}
-use Rattle.raw_tree.specs.CanonicalForm.{ComesBack, IsSpelling, IsSpelledOneWay, IsCanonicalForm}
+use Rattle.raw_tree.specs.Canonical.{IsValueCanonical, AreFramesCanonical, IsCanonicalWithin, IsCanonicalAs}
+use Rattle.raw_tree.specs.CanonicalForm.{IsSpelling, IsSpelledOneWay, IsCanonicalForm}
 use Rattle.raw_tree.specs.Encoding.{IsEncoded, encoding, encoded_len, entries_bytes, items_bytes}
-use Rattle.raw_tree.specs.Reading.{Sort, as_document, as_array, Reads, ReadsAs}
+use Rattle.raw_tree.specs.Reading.{Sort, as_document, as_array, tree_of_pairs, leaf_in_order, StandsFor, StandForEach, Reads, ReadsWithin, ReadsAs}
 use Rattle.raw_tree.proofs.Encodings.{length-entries_bytes, length-items_bytes, length-tree_payload}
 use Rattle.raw_tree.proofs.OneTree.{one_tree}
 use Rattle.raw_tree.proofs.ReadTrees.{read_is_proper}
@@ -22,6 +25,38 @@ read_returns as_document b t (suc n, r) p l =
     rw r.4 (document_returns (entries (keep r.1)) (subst IsProper r.4 p) (subst (λ (u : Tree). encoded_len u ≤ 2147483647) r.4 l))
 read_returns as_array b t (suc n, r) p l =
     rw r.4 (array_returns (trees (map (λ q. q.1) r.1)) (subst IsProper r.4 p) (subst (λ (u : Tree). encoded_len u ≤ 2147483647) r.4 l))
+
+-- what is canonical is read, where nested bytes that are canonical are
+value_reads : (N : Sort → List ℕ → Type 0) (M : Sort → List ℕ → Tree → Type 0) → ((d : List ℕ) → N as_document d → (es : Entries) × M as_document d (document es)) → ((d : List ℕ) → N as_array d → (t : Tree) × M as_array d t) → (v : RawValue) → IsValueCanonical N v → (t : Tree) × StandsFor M v t
+value_reads N M documents arrays (raw.single l) h = (leaf (leaf_in_order l), refl)
+value_reads N M documents arrays (raw.document d) h = let read = documents d h in (document read.0, read.1)
+value_reads N M documents arrays (raw.array d) h = arrays d h
+value_reads N M documents arrays (raw.scoped code d) h = let read = documents d h in (code_with_scope code read.0, (read.0, read.1, refl))
+
+frames_read : (N : Sort → List ℕ → Type 0) (M : Sort → List ℕ → Tree → Type 0) → ((d : List ℕ) → N as_document d → (es : Entries) × M as_document d (document es)) → ((d : List ℕ) → N as_array d → (t : Tree) × M as_array d t) → (fs : List Frame) → AreFramesCanonical N fs → (pairs : List (List ℕ × Tree)) × StandForEach M fs pairs
+frames_read N M documents arrays [] h = ([], refl)
+frames_read N M documents arrays (f ∷ fs) h =
+    let first = value_reads N M documents arrays h.0 h.2 in
+    let others = frames_read N M documents arrays fs h.3 in
+    ((f.key, first.0) ∷ others.0, (h.0, first.0, others.0, h.1, first.1, refl, others.1))
+
+-- of a document and of an array
+mutual
+  document_reads : (n : ℕ) (b : List ℕ) → IsCanonicalWithin n as_document b → (es : Entries) × ReadsWithin n as_document b (document es)
+  document_reads zero b c = absurd c
+  document_reads (suc n) b c =
+      let each = frames_read (IsCanonicalWithin n) (ReadsWithin n) (document_reads n) (array_reads n) c.0 c.3 in
+      (entries (keep each.0), (c.0, each.0, c.1, each.1, refl))
+
+  array_reads : (n : ℕ) (b : List ℕ) → IsCanonicalWithin n as_array b → (t : Tree) × ReadsWithin n as_array b t
+  array_reads zero b c = absurd c
+  array_reads (suc n) b c =
+      let each = frames_read (IsCanonicalWithin n) (ReadsWithin n) (document_reads n) (array_reads n) c.0 c.3 in
+      (tree_of_pairs as_array each.0, (c.0, each.0, c.1, each.1, refl))
+
+canonical_reads : (sort : Sort) (b : List ℕ) → IsCanonicalAs sort b → (t : Tree) × ReadsAs sort b t
+canonical_reads as_document b (n, c) = let read = document_reads n b c in (document read.0, (n, read.1))
+canonical_reads as_array b (n, c) = let read = array_reads n b c in (read.0, (n, read.1))
 
 -- a canonical document is the encoding of its tree, which is of a size in range
 canonical_spelling : (sort : Sort) (b : List ℕ) (t : Tree) → IsEnvelope b → ReadsAs sort b t → IsCanonicalAs sort b → IsSpelling t b
@@ -38,6 +73,7 @@ pub bytes_spelled_one_way : (sort : Sort) (b : List ℕ) → IsEnvelope b → Is
 bytes_spelled_one_way sort b env = record {
   proper = λ t r. read_is_proper sort b t env r;
   unchanged = λ t r. (spelling_canonical sort b t env r, canonical_spelling sort b t env r);
+  canonical_reads = λ c. canonical_reads sort b c;
 }
 
 -- the spelling of the tree of a document is its canonical form
@@ -45,6 +81,7 @@ pub canonical_form : (b a : List ℕ) (t : Tree) → IsEnvelope b → Reads b t 
 canonical_form b a t env r s =
     let back : Returns as_document a t = subst (λ (x : List ℕ). Returns as_document x t) s.1 (read_returns as_document b t r (read_is_proper as_document b t env r) s.0) in
     record {
+      envelope = env;
       tree = t;
       read = r;
       spelled = s;
@@ -56,16 +93,10 @@ canonical_form b a t env r s =
         (λ e. spelling_canonical as_document b t env r (s.0, s.1 ∙ e)),
         (λ c. sym s.1 ∙ (canonical_spelling as_document b t env r c).1),
       );
+      form_envelope = back.0;
       canonical = back.2;
       reads_back = back.1;
     }
-
--- what is written of a proper tree comes back
-pub document_comes_back : (es : Entries) (b : List ℕ) → IsEncoded (document es) b → ComesBack as_document (document es) b
-document_comes_back es b e = λ p. let back = document_returns es p e.1 in rw e.2 (back.1, back.2)
-
-pub list_comes_back : (ts : Trees) (b : List ℕ) → IsEncoded (array ts) b → ComesBack as_array (array ts) b
-list_comes_back ts b e = λ p. let back = array_returns ts p e.1 in rw e.2 (back.1, back.2)
 
 -- what is written has an envelope
 pub document_enveloped : (es : Entries) (b : List ℕ) → IsBytes b → IsEncoded (document es) b → IsEnvelope b

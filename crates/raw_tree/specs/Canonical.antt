@@ -1,4 +1,5 @@
--- The documents and arrays that come back as they are after they are read and written.
+-- The documents and arrays that come back as they are after they are read and written. The bytes b of a
+-- document, or of an array, have an envelope.
 use Rattle.std.specs.Prelude.{◌≡◌, ◌+◌, ℕ, suc, zero, List, [], ◌∷◌, drop, map, decimal}
 use Rattle.std.specs.List.{IsDistinct}
 use Rattle.std.specs.Str.{bytes_eq}

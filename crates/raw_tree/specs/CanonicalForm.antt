@@ -1,4 +1,5 @@
--- What is claimed of bytes that are written from a tree, and of trees that are read from bytes.
+-- What is claimed of bytes that are written from a tree, and of trees that are read from bytes. Where bytes b
+-- are read here, they have an envelope.
 use Rattle.std.specs.Prelude.{◌≡◌, ◌≤◌, ◌↔◌, ℕ, List}
 use Rattle.bson_model.specs.Proper.{IsProper}
 use Rattle.bson_model.specs.Tree.{Tree}
@@ -7,29 +8,35 @@ use Rattle.raw_tree.specs.Canonical.{IsCanonical, IsCanonicalAs}
 use Rattle.raw_tree.specs.Encoding.{encoding, encoded_len}
 use Rattle.raw_tree.specs.Reading.{Sort, Reads, ReadsAs}
 
--- the bytes are the encoding of the tree, which is of a size in range
+-- the bytes are the encoding of the tree, and the tree is of a size in range
 abbrev pub IsSpelling : Tree → List ℕ → Type 0
 IsSpelling t b = (encoded_len t ≤ 2147483647) × (encoding t ≡ b)
 
--- these bytes, written from a proper tree, are read as that very tree, and are canonical
-abbrev pub ComesBack : Sort → Tree → List ℕ → Type 0
-ComesBack sort t b = IsProper t → ReadsAs sort b t × IsCanonicalAs sort b
+-- Where this tree of a document, or of an array, is proper and of a size in range, its encoding has an
+-- envelope, is read as that very tree, and is canonical.
+abbrev pub ComesBack : Sort → Tree → Type 0
+ComesBack sort t = IsProper t → encoded_len t ≤ 2147483647 → IsEnvelope (encoding t) × ReadsAs sort (encoding t) t × IsCanonicalAs sort (encoding t)
 
--- a tree that these bytes are read as is proper, and its encoding is these bytes exactly where they are
--- canonical
+-- A tree that these bytes are read as is proper; it is of a size in range and its encoding is these bytes
+-- exactly where they are canonical. Canonical bytes are read as a tree.
 pub record IsSpelledOneWay (sort : Sort) (b : List ℕ) : Type 0 where
   pub proper : (t : Tree) → ReadsAs sort b t → IsProper t
-  pub unchanged : (t : Tree) → ReadsAs sort b t → IsSpelling t b ↔ IsCanonicalAs sort b
+  pub unchanged : (t : Tree) → ReadsAs sort b t → (IsSpelling t b ↔ IsCanonicalAs sort b)
+  pub canonical_reads : IsCanonicalAs sort b → (t : Tree) × ReadsAs sort b t
 
--- The canonical form theorem: a is the canonical form of the document b. It is the encoding of the tree of b.
--- Of any document c with a tree of a size in range, the encoding of that tree is a exactly where the tree is
--- that of b. It is b exactly where b is canonical. It is canonical and reads that tree, so that its own
--- canonical form is a again.
+-- The canonical form theorem: a is the canonical form of the document b.
 pub record IsCanonicalForm (b a : List ℕ) : Type 0 where
+  pub envelope : IsEnvelope b
+  -- the tree of b, and a as its encoding
   pub tree : Tree
   pub read : Reads b tree
   pub spelled : IsSpelling tree a
-  pub same_tree : (c : List ℕ) (t : Tree) → IsEnvelope c → Reads c t → encoded_len t ≤ 2147483647 → (encoding t ≡ a) ↔ (t ≡ tree)
+  -- of every document c with a tree of a size in range, the encoding of that tree is a exactly where the tree
+  -- is that of b
+  pub same_tree : (c : List ℕ) (t : Tree) → IsEnvelope c → Reads c t → encoded_len t ≤ 2147483647 → ((encoding t ≡ a) ↔ (t ≡ tree))
+  -- a is b exactly where b is canonical
   pub unchanged : (a ≡ b) ↔ IsCanonical b
+  -- a is a canonical document with the same tree, so that its own canonical form is a again
+  pub form_envelope : IsEnvelope a
   pub canonical : IsCanonical a
   pub reads_back : Reads a tree

@@ -1,4 +1,5 @@
--- The tree that bytes stand for, and the first fault of bytes that stand for none.
+-- The tree that bytes stand for, and the first fault of bytes that stand for none. The bytes b of a document,
+-- or of an array, have an envelope.
 use Rattle.std.specs.Prelude.{◌≡◌, ◌⊎◌, ℕ, suc, zero, List, [], ◌∷◌, drop, map}
 use Rattle.bson_model.specs.Leaf.{Leaf, regular_expression}
 use Rattle.bson_model.specs.Options.{sorted_options}

@@ -308,7 +308,7 @@ fn room_for(alloc: Global, judged: Option<usize>) -> Result<Vec<u8>>
 pub fn encode(alloc: Global, document: &Document) -> Result<Vec<u8>>
     ensures ok { IfOk result (λ bytes. IsEncoded (tree_of_document document.now) bytes.items) }
     ensures envelope { IfOk result (λ bytes. IsEnvelope bytes.items) }
-    ensures comes_back { IfOk result (λ bytes. ComesBack as_document (tree_of_document document.now) bytes.items) }
+    ensures comes_back { ComesBack as_document (tree_of_document document.now) }
     ensures err { IfErr result (IsRefused (tree_of_document document.now)) }
 {
     let mut out = room_for(alloc, judged_document(document))?;
@@ -321,7 +321,7 @@ pub fn encode(alloc: Global, document: &Document) -> Result<Vec<u8>>
 pub fn encode_list(alloc: Global, values: &[Bson]) -> Result<Vec<u8>>
     ensures ok { IfOk result (λ bytes. IsEncoded (tree_of_list values.now) bytes.items) }
     ensures envelope { IfOk result (λ bytes. IsEnvelope bytes.items) }
-    ensures comes_back { IfOk result (λ bytes. ComesBack as_array (tree_of_list values.now) bytes.items) }
+    ensures comes_back { ComesBack as_array (tree_of_list values.now) }
     ensures err { IfErr result (IsRefused (tree_of_list values.now)) }
 {
     let mut out = room_for(alloc, judged_list(values))?;

@@ -1,0 +1,44 @@
+-- What conversions between owned values, documents and trees answer.
+use Rattle.std.specs.Prelude.{◌≡◌, ◌⊎◌, ◌<◌, ℕ, List, length, None, Some, Result, Ok, Err}
+use Rattle.bson_model.specs.Tree.{Tree, leaf, array, document, code_with_scope, items_in, tree_of}
+use Rattle.bson_model.specs.declared.bson.Bson.{Bson}
+use Rattle.raw_view.specs.Envelope.{IsEnvelope}
+use Rattle.raw_view.specs.Errors.{TellsRefusal, key_of}
+use Rattle.raw_view.specs.Meaning.{RawValue}
+use Rattle.raw_view.specs.Meaning as raw
+use Rattle.raw_view.specs.declared.error.Error.{Error}
+use Rattle.raw_view.specs.declared.error.ErrorKind.TheVariants.{MalformedValue}
+use Rattle.raw_view.specs.declared.error.Reason.TheVariants.{TooLong}
+use Rattle.raw_tree.specs.Encoding.{IsEncoded, IsRefused, encoded_len}
+use Rattle.raw_tree.specs.Reading.{Reads, ReadsAs, StandsFor, TellsFirstFault, TellsFirstFaultOfValue}
+use Rattle.raw_bson.specs.Owned.{owned_value, count_in}
+use Rattle.raw_bson.specs.declared.bson.RawBson.{RawBson}
+
+-- What an owned value becomes: one that holds no others is moved as it is, always; the nested bytes of every
+-- other one are read, or have a first fault.
+abbrev pub BecomesBson : RawValue → Result Bson Error → Type 0
+BecomesBson (raw.single l) (Ok t) = tree_of t ≡ leaf l
+BecomesBson (raw.single l) (Err e) = ⊥
+BecomesBson v (Ok t) = StandsFor ReadsAs v (tree_of t)
+BecomesBson v (Err e) = TellsFirstFaultOfValue v e
+
+-- What a tree becomes: a leaf is moved as it is, always; a document, a list and a scope are written, or
+-- refused. The count of an array is the length of the list.
+abbrev pub BecomesRawBson : Tree → Result RawBson Error → Type 0
+BecomesRawBson (leaf l) (Ok v) = owned_value v ≡ raw.single l
+BecomesRawBson (leaf l) (Err e) = ⊥
+BecomesRawBson (array ts) (Ok v) = (b : List ℕ) × IsEncoded (array ts) b × (owned_value v ≡ raw.array b) × (count_in v ≡ Some (length (items_in ts)))
+BecomesRawBson (array ts) (Err e) = IsRefused (array ts) e
+BecomesRawBson (document es) (Ok v) = (b : List ℕ) × IsEncoded (document es) b × (owned_value v ≡ raw.document b)
+BecomesRawBson (document es) (Err e) = IsRefused (document es) e
+BecomesRawBson (code_with_scope code es) (Ok v) = (b : List ℕ) × IsEncoded (document es) b × (owned_value v ≡ raw.scoped code b)
+BecomesRawBson (code_with_scope code es) (Err e) = IsRefused (document es) e
+
+-- the encoding of the tree would be too long; the error has no key
+abbrev pub TellsTooLong : Tree → Error → Type 0
+TellsTooLong t e = (2147483647 < encoded_len t) × (e.kind ≡ MalformedValue TooLong) × (key_of e ≡ None)
+
+-- Why no canonical form of these bytes is answered: the first reason for which they have no envelope; else
+-- their first fault, or want of memory; else that the encoding of their tree would be too long.
+abbrev pub RefusesForm : List ℕ → Error → Type 0
+RefusesForm b e = TellsRefusal b e ⊎ (IsEnvelope b × (TellsFirstFault b e ⊎ ((t : Tree) × Reads b t × TellsTooLong t e)))

@@ -1,0 +1,23 @@
+ghost use Rattle.std.specs.Prelude.{◌≢◌, IfOk, IfErr};
+ghost use Rattle.raw_bson.specs.Conversion.{RefusesForm};
+ghost use Rattle.raw_tree.specs.CanonicalForm.{IsCanonicalForm};
+
+use crate::document_buf::RawDocumentBuf;
+use raw_tree::document_from_raw;
+use raw_view::{ErrorKind, RawDocument, Reason, Result};
+use std::alloc::Global;
+
+/// The canonical form of a document: the bytes that its tree is written as. Documents with equal trees, and
+/// no others, have equal canonical forms; one that is canonical is its own. It answers the first refusal of:
+/// no sound envelope; the first fault at any level, with that fault's key; over 2147483647 bytes; want of
+/// memory. BSON 1.1, `document`.
+pub fn canonical_bytes(alloc: Global, bytes: &[u8]) -> Result<Vec<u8>>
+    ensures form { IfOk result (λ form. IsCanonicalForm bytes.now form.items) }
+    ensures refused { IfErr result (RefusesForm bytes.now) }
+    ensures no_nul { IfErr result (λ e. e.kind ≢ ErrorKind.MalformedValue Reason.InteriorNul) }
+{
+    let document = RawDocument::from_bytes(bytes)?;
+    let tree = document_from_raw(alloc, document)?;
+    let form = RawDocumentBuf::from_document(alloc, &tree)?;
+    Ok(form.into_bytes())
+}

@@ -1,0 +1,145 @@
+//! Owned values as trees, and trees as owned values.
+#![tactic(auto, using(std::proofs::lemmas::Grind::common_steps, bson_model::proofs::Trees::tree_laws))]
+
+ghost use Rattle.std.specs.Prelude.{◌≡◌, length, IfOk, IfErr};
+ghost use Rattle.bson_model.specs.Tree.{tree_of, tree_of_document, tree_of_list};
+ghost use Rattle.raw_tree.specs.CanonicalForm.{ComesBack, IsSpelledOneWay};
+ghost use Rattle.raw_tree.specs.Encoding.{IsEncoded, IsRefused};
+ghost use Rattle.raw_tree.specs.Reading.{AreReadOneWay, Reads, TellsFirstFault, as_document};
+ghost use Rattle.raw_bson.specs.Conversion.{BecomesBson, BecomesRawBson};
+ghost use Rattle.raw_bson.specs.Owned.{owned_value};
+
+use crate::array_buf::RawArrayBuf;
+use crate::bson::{RawBson, RawJavaScriptCodeWithScope};
+use crate::document_buf::RawDocumentBuf;
+use bson_model::{Bson, Document, JavaScriptCodeWithScope};
+use raw_tree::{document_from_raw, encode, encode_list, list_from_raw};
+use raw_view::Result;
+use std::alloc::Global;
+
+impl RawDocumentBuf {
+    /// The bytes of a document. It refuses, without a key, first where a key, a pattern or options at any
+    /// depth hold a 0, then where the bytes would be over 2147483647, and then where memory runs out.
+    /// BSON 1.1, `document`.
+    pub fn from_document(alloc: Global, document: &Document) -> Result<RawDocumentBuf>
+        ensures ok { IfOk result (λ d. IsEncoded (tree_of_document document.now) d) }
+        ensures comes_back { ComesBack as_document (tree_of_document document.now) }
+        ensures err { IfErr result (IsRefused (tree_of_document document.now)) }
+    {
+        RawDocumentBuf::from_bytes(encode(alloc, document)?)
+    }
+
+    /// The same as `from_document`.
+    pub fn try_from_document(alloc: Global, document: &Document) -> Result<RawDocumentBuf>
+        ensures ok { IfOk result (λ d. IsEncoded (tree_of_document document.now) d) }
+        ensures comes_back { ComesBack as_document (tree_of_document document.now) }
+        ensures err { IfErr result (IsRefused (tree_of_document document.now)) }
+    {
+        RawDocumentBuf::from_document(alloc, document)
+    }
+
+    /// The tree of the document, as `document_from_raw` gives it.
+    pub fn to_document(&self) -> Result<Document>
+        ensures tree { IfOk result (λ d. Reads self.now (tree_of_document d)) }
+        ensures fault { IfErr result (TellsFirstFault self.now) }
+        ensures one_reading { AreReadOneWay as_document self.now }
+        ensures one_spelling { IsSpelledOneWay as_document self.now }
+    {
+        document_from_raw(self.alloc(), self.as_ref())
+    }
+
+    /// The tree of the document, as `document_from_raw` gives it. The buffer is dropped.
+    pub fn into_document(self) -> Result<Document>
+        ensures tree { IfOk result (λ d. Reads self (tree_of_document d)) }
+        ensures fault { IfErr result (TellsFirstFault self) }
+        ensures one_reading { AreReadOneWay as_document self }
+        ensures one_spelling { IsSpelledOneWay as_document self }
+    {
+        self.to_document()
+    }
+}
+
+/// The array of a list, its keys the decimals from 0, and the list's length as its count.
+fn array_of(alloc: Global, values: &[Bson]) -> Result<RawArrayBuf>
+    ensures ok { IfOk result (λ a. IsEncoded (tree_of_list values.now) a.bytes) }
+    ensures count { IfOk result (λ a. a.count ≡ length values.now) }
+    ensures err { IfErr result (IsRefused (tree_of_list values.now)) }
+{
+    let bytes = encode_list(alloc, values)?;
+    let document = RawDocumentBuf::from_bytes(bytes)?;
+    Ok(RawArrayBuf::counted(document, values.len()))
+}
+
+impl RawBson {
+    /// The value as a tree. A nested document, an array and a scope are read, as `document_from_raw` and
+    /// `list_from_raw` do it; on their first fault, and where memory runs out for them, the value is dropped.
+    /// Every other value is moved as it is, also the options of a regular expression, and takes no memory.
+    pub fn into_bson(self, alloc: Global) -> Result<Bson>
+        ensures { BecomesBson (owned_value self) result }
+    {
+        match self {
+            RawBson::Double(x) => Ok(Bson::Double(x)),
+            RawBson::String(x) => Ok(Bson::String(x)),
+            RawBson::Array(x) => Ok(Bson::Array(list_from_raw(alloc, x.as_ref())?)),
+            RawBson::Document(x) => Ok(Bson::Document(x.into_document()?)),
+            RawBson::Boolean(x) => Ok(Bson::Boolean(x)),
+            RawBson::Null => Ok(Bson::Null),
+            RawBson::RegularExpression(x) => Ok(Bson::RegularExpression(x)),
+            RawBson::JavaScriptCode(x) => Ok(Bson::JavaScriptCode(x)),
+            RawBson::JavaScriptCodeWithScope(x) => {
+                let scope = x.scope.into_document()?;
+                let code = x.code;
+                Ok(Bson::JavaScriptCodeWithScope(JavaScriptCodeWithScope { code, scope }))
+            }
+            RawBson::Int32(x) => Ok(Bson::Int32(x)),
+            RawBson::Int64(x) => Ok(Bson::Int64(x)),
+            RawBson::Timestamp(x) => Ok(Bson::Timestamp(x)),
+            RawBson::Binary(x) => Ok(Bson::Binary(x)),
+            RawBson::ObjectId(x) => Ok(Bson::ObjectId(x)),
+            RawBson::DateTime(x) => Ok(Bson::DateTime(x)),
+            RawBson::Symbol(x) => Ok(Bson::Symbol(x)),
+            RawBson::Decimal128(x) => Ok(Bson::Decimal128(x)),
+            RawBson::Undefined => Ok(Bson::Undefined),
+            RawBson::MaxKey => Ok(Bson::MaxKey),
+            RawBson::MinKey => Ok(Bson::MinKey),
+            RawBson::DbPointer(x) => Ok(Bson::DbPointer(x)),
+        }
+    }
+
+    /// A tree as a value that owns its bytes. A document, a list and a scope are written, and refused as by
+    /// `encode`; the value is then dropped. The count of an array is the length of the list. Every other
+    /// value is moved as it is and takes no memory.
+    pub fn try_from_bson(alloc: Global, value: Bson) -> Result<RawBson>
+        ensures { BecomesRawBson (tree_of value) result }
+    {
+        match value {
+            Bson::Double(x) => Ok(RawBson::Double(x)),
+            Bson::String(x) => Ok(RawBson::String(x)),
+            Bson::Array(x) => Ok(RawBson::Array(array_of(alloc, &x)?)),
+            Bson::Document(x) => {
+                Ok(RawBson::Document(RawDocumentBuf::from_document(alloc, &x)?))
+            }
+            Bson::Boolean(x) => Ok(RawBson::Boolean(x)),
+            Bson::Null => Ok(RawBson::Null),
+            Bson::RegularExpression(x) => Ok(RawBson::RegularExpression(x)),
+            Bson::JavaScriptCode(x) => Ok(RawBson::JavaScriptCode(x)),
+            Bson::JavaScriptCodeWithScope(x) => {
+                let scope = RawDocumentBuf::from_document(alloc, &x.scope)?;
+                let code = x.code;
+                Ok(RawBson::JavaScriptCodeWithScope(RawJavaScriptCodeWithScope { code, scope }))
+            }
+            Bson::Int32(x) => Ok(RawBson::Int32(x)),
+            Bson::Int64(x) => Ok(RawBson::Int64(x)),
+            Bson::Timestamp(x) => Ok(RawBson::Timestamp(x)),
+            Bson::Binary(x) => Ok(RawBson::Binary(x)),
+            Bson::ObjectId(x) => Ok(RawBson::ObjectId(x)),
+            Bson::DateTime(x) => Ok(RawBson::DateTime(x)),
+            Bson::Symbol(x) => Ok(RawBson::Symbol(x)),
+            Bson::Decimal128(x) => Ok(RawBson::Decimal128(x)),
+            Bson::Undefined => Ok(RawBson::Undefined),
+            Bson::MaxKey => Ok(RawBson::MaxKey),
+            Bson::MinKey => Ok(RawBson::MinKey),
+            Bson::DbPointer(x) => Ok(RawBson::DbPointer(x)),
+        }
+    }
+}
