@@ -1,6 +1,6 @@
 -- The lines of frames, one after the other.
 use Rattle.std.proofs.Common.{◌≡◌, List, [], ◌∷◌, ◌++◌, ap, sym, ◌∙◌, append_assoc, append-nil}
-use Rattle.raw_view.specs.Frame.{Frame}
+use Rattle.raw_bson.specs.Frame.{Frame}
 use Rattle.bsonraw.specs.Print.{frame_line, frame_lines}
 
 -- one more frame is one more line

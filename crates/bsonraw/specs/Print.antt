@@ -1,14 +1,20 @@
 -- What the program prints, and its exit status: a relation on a command and a text, through the bytes that the text
--- stands for, their envelope and their walk.
-use Rattle.std.specs.Prelude.{◌≡◌, ℕ, ◌==◌, ◌||◌, Bool, not, List, [], ◌∷◌, ◌++◌, ◌⊎◌, length, drop, filter, codes, Option, None, Some, Result, Ok, Err}
+-- stands for, their envelope, their walk, and the tree that they are read as or their first fault.
+use Rattle.std.specs.Prelude.{◌≡◌, ◌<◌, ◌≤◌, ℕ, ◌==◌, ◌||◌, Bool, not, List, [], ◌∷◌, ◌++◌, ◌⊎◌, length, drop, filter, codes, Option, None, Some, Result, Ok, Err}
 use Rattle.std.specs.Fmt.{decimal}
 use Rattle.hex.specs.Hex.{encode_lower, decode_of}
 use Rattle.hex.specs.declared.error.FromHexError.{FromHexError}
-use Rattle.raw_view.specs.Envelope.{IsEnvelope, Refuses}
-use Rattle.raw_view.specs.Frame.{Frame, Fault, Malformed, Utf8, End, Done, Stopped, IsWalk}
-use Rattle.raw_view.specs.Kind.{tag_of}
-use Rattle.raw_view.specs.declared.error.Reason.{Reason}
-use Rattle.raw_view.specs.declared.error.Reason.TheVariants as reason
+use Rattle.raw_bson.specs.Encoding.{encoding, encoded_len}
+use Rattle.raw_bson.specs.Envelope.{IsEnvelope, Refuses}
+use Rattle.raw_bson.specs.Frame.{Frame, Fault, Malformed, Utf8, End, Done, Stopped, IsWalk}
+use Rattle.raw_bson.specs.Kind.{tag_of}
+use Rattle.raw_bson.specs.Meaning.{KeyedFault}
+use Rattle.raw_bson.specs.Reading.{FirstFault, Reads}
+use Rattle.raw_bson.specs.Tree.{Tree}
+use Rattle.bsonraw.specs.declared.command.Command.{Command}
+use Rattle.bsonraw.specs.declared.command.Command.TheVariants as command
+use Rattle.raw_bson.specs.Reason.{Reason}
+use Rattle.raw_bson.specs.Reason.TheVariants as reason
 
 -- a blank and the two line ends don't count in the text of a document
 abbrev pub is_blank : ℕ → Bool
@@ -79,30 +85,48 @@ pub record PrintsRefusal (b : List ℕ) (status : ℕ) (output : List ℕ) : Typ
   pub status_is : status ≡ 1
   pub output_is : output ≡ refusal_line reason
 
--- the listing of bytes: of a document, or why they are none
-abbrev pub PrintsBytes : List ℕ → ℕ → List ℕ → Type 0
-PrintsBytes b status output = (IsEnvelope b × PrintsWalk b status output) ⊎ PrintsRefusal b status output
+-- The canonical form of a document: the encoding of its tree in hex, or that this would be too long; or, where it has
+-- no tree, its first fault.
+abbrev pub PrintsForm : List ℕ → ℕ → List ℕ → Type 0
+PrintsForm b status output =
+    ((t : Tree) × Reads b t × (encoded_len t ≤ 2147483647) × (status ≡ 0) × (output ≡ encode_lower (encoding t) ++ codes "\n"))
+    ⊎ ((t : Tree) × Reads b t × (2147483647 < encoded_len t) × (status ≡ 1) × (output ≡ codes "refused 5\n"))
+    ⊎ ((fault : KeyedFault) × FirstFault b fault × (status ≡ 1) × (output ≡ end_line (Stopped fault.fault fault.key)))
 
--- the listing of decoded hex text
-abbrev pub PrintsDecoded : Result (List ℕ) FromHexError → ℕ → List ℕ → Type 0
-PrintsDecoded (Ok b) status output = PrintsBytes b status output
-PrintsDecoded (Err e) status output = (status ≡ 2) × (output ≡ codes "bad hex\n")
+-- what a command prints of a document
+abbrev pub PrintsDocument : Command → List ℕ → ℕ → List ℕ → Type 0
+PrintsDocument command.List b status output = PrintsWalk b status output
+PrintsDocument command.Canon b status output = PrintsForm b status output
 
--- the listing of a text
-abbrev pub PrintsList : List ℕ → ℕ → List ℕ → Type 0
-PrintsList text status output = PrintsDecoded (decode_of (digits_of text)) status output
+-- of bytes: of a document, or why they are none
+abbrev pub PrintsBytes : Command → List ℕ → ℕ → List ℕ → Type 0
+PrintsBytes c b status output = (IsEnvelope b × PrintsDocument c b status output) ⊎ PrintsRefusal b status output
+
+-- of decoded hex text
+abbrev pub PrintsDecoded : Command → Result (List ℕ) FromHexError → ℕ → List ℕ → Type 0
+PrintsDecoded c (Ok b) status output = PrintsBytes c b status output
+PrintsDecoded c (Err e) status output = (status ≡ 2) × (output ≡ codes "bad hex\n")
+
+-- of a text
+abbrev pub PrintsText : Command → List ℕ → ℕ → List ℕ → Type 0
+PrintsText c text status output = PrintsDecoded c (decode_of (digits_of text)) status output
 
 -- how the program is used
 abbrev pub usage_line : List ℕ
 usage_line = codes "usage: bsonraw list|canon|check\n"
 
--- the commands that the program has
-abbrev pub IsCommand : List ℕ → Type 0
-IsCommand command = command ≡ codes "list"
+-- the name of a command
+abbrev pub name_of : Command → List ℕ
+name_of command.List = codes "list"
+name_of command.Canon = codes "canon"
 
--- the answer to a command on a text: the listing for `list`, and else the usage line
+-- the program has a command of this name
+abbrev pub IsCommand : List ℕ → Type 0
+IsCommand name = (c : Command) × (name ≡ name_of c)
+
+-- the answer to a name and a text: what the command of that name prints, and else the usage line
 abbrev pub Prints : List ℕ → List ℕ → ℕ → List ℕ → Type 0
-Prints command text status output = ((command ≡ codes "list") × PrintsList text status output) ⊎ ((¬ IsCommand command) × (status ≡ 3) × (output ≡ usage_line))
+Prints name text status output = ((c : Command) × (name ≡ name_of c) × PrintsText c text status output) ⊎ ((¬ IsCommand name) × (status ≡ 3) × (output ≡ usage_line))
 
 -- nothing is printed, for want of memory
 abbrev pub LacksMemory : ℕ → List ℕ → Type 0

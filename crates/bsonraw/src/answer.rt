@@ -4,9 +4,9 @@ ghost use Rattle.bsonraw.specs.Print.{Prints, LacksMemory};
 ghost use Rattle.bsonraw.specs.Status.{code_of};
 
 use crate::command::{Command, USAGE};
-use crate::list::list;
 use crate::printed::{Printed, one_line};
 use crate::status::Status;
+use crate::text::of_text;
 use std::alloc::{AllocError, Global};
 
 #[cfg(test)]
@@ -27,7 +27,7 @@ fn printed(alloc: Global, command: &str, text: &[u8]) -> Result<Printed, AllocEr
     ensures { IfOk result (λ p. Prints command.now text.now (code_of p.status) (string_bytes p.output)) }
 {
     match Command::from_name(command) {
-        Some(Command::List) => list(alloc, text),
+        Some(command) => of_text(alloc, command, text),
         None => one_line(alloc, Status::Usage, USAGE),
     }
 }

@@ -1,5 +1,5 @@
-ghost use Rattle.std.specs.Prelude.{◌≡◌, ◌↔◌, IsSome};
-ghost use Rattle.bsonraw.specs.Print.{IsCommand};
+ghost use Rattle.std.specs.Prelude.{◌≡◌, IfSome, IfNone};
+ghost use Rattle.bsonraw.specs.Print.{IsCommand, name_of};
 
 /// What is printed where the arguments are no command.
 pub const USAGE: &str = "usage: bsonraw list|canon|check\n";
@@ -9,15 +9,19 @@ pub const USAGE: &str = "usage: bsonraw list|canon|check\n";
 pub enum Command {
     /// the elements of a document
     List,
+    /// the canonical form of a document
+    Canon,
 }
 
 impl Command {
     /// The command of this name.
     pub fn from_name(name: &str) -> Option<Command>
-        ensures { IsSome result ↔ IsCommand name.now }
+        ensures known { IfSome result (λ c. name.now ≡ name_of c) }
+        ensures unknown { IfNone result (¬ IsCommand name.now) }
     {
         match name {
             "list" => Some(Command::List),
+            "canon" => Some(Command::Canon),
             _ => None,
         }
     }

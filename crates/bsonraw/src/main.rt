@@ -1,12 +1,16 @@
-//! Lists the elements of one raw BSON document, given as hex text on standard input.
+//! Lists the elements of one raw BSON document, or writes it in its canonical form. The document is given as hex text
+//! on standard input.
 #![tactic(auto)]
 
 mod answer;
+mod canon;
 mod command;
+mod fault;
 mod list;
 mod printed;
 mod run;
 mod status;
+mod text;
 
 use run::run;
 use status::Status;

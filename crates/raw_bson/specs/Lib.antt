@@ -37,3 +37,9 @@ pub use Rattle.raw_view.specs.Number
 pub use Rattle.raw_view.specs.OneReading
 pub use Rattle.raw_view.specs.Typed
 pub use Rattle.raw_view.specs.Value
+-- types of the crates below that clauses speak of
+pub use Rattle.raw_view.specs.declared.element.RawElement
+pub use Rattle.raw_view.specs.declared.element_type.ElementType
+pub use Rattle.raw_view.specs.declared.error.Error
+pub use Rattle.raw_view.specs.declared.error.ErrorKind
+pub use Rattle.raw_view.specs.declared.error.Reason

@@ -3,6 +3,8 @@ use std::io::ErrorKind;
 
 const GREETING: &[u8] = b"13000000 02686900 06000000 792761 6C6C00 00";
 
+const FORM: &[u8] = b"1300000002686900060000007927616c6c0000\n";
+
 const LISTING: &[u8] = b"02 6869 10\nend\n";
 
 const USAGE_LINE: &[u8] = b"usage: bsonraw list|canon|check\n";
@@ -76,6 +78,15 @@ fn lists_what_it_reads(rt: HostRuntime) {
     let mut writer: Vec<u8> = Vec::new(rt.alloc());
     assert_eq!(rt; run(rt.alloc(), "list", &mut reader, &mut writer), 0);
     assert_eq!(rt; writer.as_slice(), LISTING);
+    assert_eq!(rt; reader.len(), 0);
+}
+
+#[test]
+fn writes_the_canonical_form_of_what_it_reads(rt: HostRuntime) {
+    let mut reader: &[u8] = GREETING;
+    let mut writer: Vec<u8> = Vec::new(rt.alloc());
+    assert_eq!(rt; run(rt.alloc(), "canon", &mut reader, &mut writer), 0);
+    assert_eq!(rt; writer.as_slice(), FORM);
     assert_eq!(rt; reader.len(), 0);
 }
 

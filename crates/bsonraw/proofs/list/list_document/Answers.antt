@@ -1,9 +1,9 @@
 use Rattle.std.proofs.Common.{[], ◌∷◌, ◌++◌, Some, Result, Ok, Err, subst, ap, refl, sym, ◌∙◌}
-use Rattle.raw_view.specs.Frame.{Done, Stopped}
-use Rattle.raw_view.specs.ElementSteps.{StepsElement, frame_of}
-use Rattle.raw_view.specs.declared.element.RawElement.{RawElement}
-use Rattle.raw_view.specs.declared.error.Error.{Error}
-use Rattle.raw_view.proofs.CallerLemmas.{HasRead-more, HasRead-end, HasRead-stop}
+use Rattle.raw_bson.specs.Frame.{Done, Stopped}
+use Rattle.raw_bson.specs.ElementSteps.{StepsElement, frame_of}
+use Rattle.raw_bson.specs.RawElement.{RawElement}
+use Rattle.raw_bson.specs.Error.{Error}
+use Rattle.raw_bson.proofs.CallerLemmas.{HasRead-more, HasRead-end, HasRead-stop}
 use Rattle.bsonraw.specs.Print.{end_line, frame_line}
 use Rattle.bsonraw.proofs.Lines.{frame_lines-more}
 use Rattle.bsonraw.proofs.list.list_document.Goals as goal
@@ -29,7 +29,7 @@ returns-in-Err c =
       end = Stopped stop.0 stop.1;
       walk = stop.2;
       status_is = refl;
-      output_is = c.in_ok-push_fault-in-Err.ensures stop.0 stop.1 stop.3 ∙ ap (λ lines. lines ++ end_line (Stopped stop.0 stop.1)) c.loop-item.invariant.2;
+      output_is = c.in_ok-push_fault-in-Err.ensures.line stop.0 stop.1 stop.3 ∙ ap (λ lines. lines ++ end_line (Stopped stop.0 stop.1)) c.loop-item.invariant.2;
     }
 
 pub returns : goal.returns

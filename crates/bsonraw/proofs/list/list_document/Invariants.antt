@@ -1,8 +1,8 @@
 use Rattle.std.proofs.Common.{◌≡◌, List, drop}
 use Rattle.std.specs.String.{string_bytes}
-use Rattle.raw_view.specs.Frame.{Frame}
-use Rattle.raw_view.specs.ElementSteps.{HasRead}
-use Rattle.raw_view.specs.Document.{bytes_of}
+use Rattle.raw_bson.specs.Frame.{Frame}
+use Rattle.raw_bson.specs.ElementSteps.{HasRead}
+use Rattle.raw_bson.specs.Document.{bytes_of}
 use Rattle.bsonraw.specs.Print.{frame_lines}
 use Rattle.bsonraw.proofs.list.list_document.Given as goal
 
