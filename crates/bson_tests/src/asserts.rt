@@ -59,14 +59,3 @@ pub(crate) fn assert_array_text(
     assert_eq!(rt; format!(in alloc; "{array:?}")?.as_str(), text);
     Ok(())
 }
-
-/// The value that was answered; without one, the answer is want of memory, without a key.
-pub(crate) fn answered<T: Drop>(rt: &impl Abort, answer: Result<T>) -> Option<T> {
-    match answer {
-        Ok(value) => Some(value),
-        Err(error) => {
-            assert!(rt; error == Error::new(ErrorKind::OutOfMemory), "{error:?}");
-            None
-        }
-    }
-}

@@ -30,10 +30,7 @@ pub(crate) const TIMESTAMP: &[u8] = b"\x11\0\0\0\x11ts\0\x09\0\0\0\x3F\x54\xBC\x
 /// The number -1 under the key `a`.
 pub(crate) const ONE_INT32: &[u8] = b"\x0C\0\0\0\x10a\0\xFF\xFF\xFF\xFF\0";
 
-/// And the number 123 under the key `b`.
-pub(crate) const TWO_INT32: &[u8] = b"\x13\0\0\0\x10a\0\xFF\xFF\xFF\xFF\x10b\0\x7B\0\0\0\0";
-
-/// And the number 0 under the key `c`.
+/// And the numbers 123 and 0 under the keys `b` and `c`.
 pub(crate) const THREE_INT32: &[u8] =
     b"\x1A\0\0\0\x10a\0\xFF\xFF\xFF\xFF\x10b\0\x7B\0\0\0\x10c\0\0\0\0\0\0";
 

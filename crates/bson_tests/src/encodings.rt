@@ -1,4 +1,4 @@
-use crate::asserts::{answered, assert_refused};
+use crate::asserts::assert_refused;
 use raw_bson::{Binary, BinarySubtype, Bson, Document, Reason, Result, encode, encode_list};
 use std::alloc::Global;
 use std::process::Abort;
@@ -65,15 +65,4 @@ fn nul_in_a_nested_key(rt: HostRuntime) -> std::result::Result<(), Fail> {
     let document = one_pair(alloc, "a", Bson::Document(inner))?;
     assert_refused(&rt, encode(alloc, &document), Reason::InteriorNul);
     Ok(())
-}
-
-#[test]
-fn encode_or_want_of_memory(rt: HostRuntime) {
-    let alloc = rt.alloc();
-    if let Some(bytes) = answered(&rt, encode(alloc, &Document::new(alloc))) {
-        assert_eq!(rt; bytes.as_slice(), b"\x05\0\0\0\0".as_slice());
-    }
-    if let Some(bytes) = answered(&rt, encode_list(alloc, &[Bson::Boolean(true)])) {
-        assert_eq!(rt; bytes.as_slice(), b"\x09\0\0\0\x080\0\x01\0".as_slice());
-    }
 }

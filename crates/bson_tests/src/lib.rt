@@ -1,5 +1,5 @@
 //! Tests of `raw_bson` through its public calls. They stand apart, so that `raw_bson` isn't proved twice, and list
-//! `raw_bson` alone, as a user does.
+//! `raw_bson` alone, as a user does. Those with requests for memory refused stand in `memory_tests`.
 #![tactic(auto)]
 
 #[cfg(test)]
@@ -20,10 +20,6 @@ mod encodings;
 mod example;
 #[cfg(test)]
 mod fixtures;
-#[cfg(test)]
-mod memory;
-#[cfg(test)]
-mod memory_of_copies;
 #[cfg(test)]
 mod texts;
 #[cfg(test)]

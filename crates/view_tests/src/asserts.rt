@@ -6,9 +6,6 @@ use std::alloc::Global;
 use std::process::Abort;
 use std::test::Fail;
 
-// Where memory isn't `ample`, a request for it may be refused: then want of memory may stand in the place of a fault
-// with a key, and in no other place, and nothing is printed.
-
 /// An error that is wanted: its reason, or `None` where a text isn't UTF-8; its key; its text.
 #[derive(Clone, Copy)]
 pub(crate) struct Fault<'a>(
@@ -33,11 +30,10 @@ pub(crate) enum NoValue<'a> {
     Invalid(Fault<'a>),
 }
 
-/// The error has this kind, this key and, where memory is ample, this text.
+/// The error has this kind, this key and this text.
 pub(crate) fn assert_fault(
     rt: &impl Abort,
     alloc: Global,
-    ample: bool,
     error: &Error,
     want: Fault<'_>,
 ) -> std::result::Result<(), Fail> {
@@ -50,9 +46,7 @@ pub(crate) fn assert_fault(
         ErrorKind::OutOfMemory => assert!(rt; false, "{text}"),
     }
     assert_eq!(rt; error.key(), key, "{text}");
-    if ample {
-        assert_eq!(rt; format!(in alloc; "{error}")?.as_str(), text);
-    }
+    assert_eq!(rt; format!(in alloc; "{error}")?.as_str(), text);
     Ok(())
 }
 
@@ -60,7 +54,6 @@ pub(crate) fn assert_fault(
 pub(crate) fn assert_answer(
     rt: &impl Abort,
     alloc: Global,
-    ample: bool,
     answer: Result<Option<RawBsonRef<'_>>>,
     want: Want<'_>,
     bytes: &[u8],
@@ -68,14 +61,7 @@ pub(crate) fn assert_answer(
     match (answer, want) {
         (Ok(Some(value)), Want::Value(want)) => assert_eq!(rt; value, want, "{bytes:?}"),
         (Ok(None), Want::Nothing) => {}
-        (Err(error), Want::Fault(want)) => {
-            if !ample && error.kind == ErrorKind::OutOfMemory {
-                assert_eq!(rt; error.key(), None, "{bytes:?}");
-                assert!(rt; want.1.is_some(), "{bytes:?}");
-            } else {
-                assert_fault(rt, alloc, ample, &error, want)?;
-            }
-        }
+        (Err(error), Want::Fault(want)) => assert_fault(rt, alloc, &error, want)?,
         _ => assert!(rt; false, "{bytes:?}"),
     }
     Ok(())
@@ -86,7 +72,6 @@ pub(crate) fn assert_answer(
 pub(crate) fn assert_items(
     rt: &impl Abort,
     alloc: Global,
-    ample: bool,
     bytes: &[u8],
     items: &[(&str, Want<'_>)],
 ) -> std::result::Result<(), Fail> {
@@ -102,13 +87,13 @@ pub(crate) fn assert_items(
             Some(Err(error)) => Err(error),
             None => Ok(None),
         };
-        assert_answer(rt, alloc, ample, answer, *want, bytes)?;
+        assert_answer(rt, alloc, answer, *want, bytes)?;
         let answer = match values.next() {
             Some(Ok(value)) => Ok(Some(value)),
             Some(Err(error)) => Err(error),
             None => Ok(None),
         };
-        assert_answer(rt, alloc, ample, answer, *want, bytes)?;
+        assert_answer(rt, alloc, answer, *want, bytes)?;
     }
     assert!(rt; iter.next().is_none(), "{bytes:?}");
     assert!(rt; iter.next().is_none(), "{bytes:?}");
@@ -121,7 +106,6 @@ pub(crate) fn assert_items(
 pub(crate) fn assert_elements(
     rt: &impl Abort,
     alloc: Global,
-    ample: bool,
     bytes: &[u8],
     elements: &[(ElementType, &str, usize)],
     stop: Want<'_>,
@@ -142,16 +126,15 @@ pub(crate) fn assert_elements(
         Some(Err(error)) => Err(error),
         None => Ok(None),
     };
-    assert_answer(rt, alloc, ample, end, stop, bytes)?;
+    assert_answer(rt, alloc, end, stop, bytes)?;
     assert!(rt; iter.next().is_none(), "{bytes:?}");
     Ok(())
 }
 
-/// A typed getter has no value, for this cause and with this key; or it wants memory, and has the empty key.
+/// A typed getter has no value, for this cause and with this key.
 pub(crate) fn assert_no_value<T: Drop>(
     rt: &impl Abort,
     alloc: Global,
-    ample: bool,
     answer: ValueAccessResult<T>,
     want: NoValue<'_>,
     key: &str,
@@ -159,12 +142,7 @@ pub(crate) fn assert_no_value<T: Drop>(
     match answer {
         Ok(_) => assert!(rt; false, "{key}"),
         Err(error) => {
-            let mut wanted_key = key;
             match (&error.kind, want) {
-                (ValueAccessErrorKind::OutOfMemory, _) => {
-                    assert!(rt; !ample, "{key}");
-                    wanted_key = "";
-                }
                 (ValueAccessErrorKind::NotPresent, NoValue::NotPresent) => {}
                 (
                     ValueAccessErrorKind::UnexpectedType { expected, actual },
@@ -174,11 +152,11 @@ pub(crate) fn assert_no_value<T: Drop>(
                     assert_eq!(rt; *actual, there, "{key}");
                 }
                 (ValueAccessErrorKind::InvalidBson(inner), NoValue::Invalid(fault)) => {
-                    assert_fault(rt, alloc, ample, inner, fault)?
+                    assert_fault(rt, alloc, inner, fault)?
                 }
                 _ => assert!(rt; false, "{key}"),
             }
-            assert_eq!(rt; error.key(), wanted_key);
+            assert_eq!(rt; error.key(), key);
         }
     }
     Ok(())

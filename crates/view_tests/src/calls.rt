@@ -92,14 +92,7 @@ fn assert_kind(
     };
     assert_eq!(rt; found, key);
     assert_eq!(rt; value.element_type(), kind, "{key}");
-    assert_answer(
-        rt,
-        alloc,
-        true,
-        Ok(Some(value)),
-        Want::Value(want),
-        ALL_KINDS,
-    )?;
+    assert_answer(rt, alloc, Ok(Some(value)), Want::Value(want), ALL_KINDS)?;
     for (_, asked) in KINDS {
         let wanted = match kind {
             ElementType::Undefined
@@ -112,14 +105,7 @@ fn assert_kind(
                 Want::Nothing
             },
         };
-        assert_answer(
-            rt,
-            alloc,
-            true,
-            Ok(accessed(value, asked)),
-            wanted,
-            ALL_KINDS,
-        )?;
+        assert_answer(rt, alloc, Ok(accessed(value, asked)), wanted, ALL_KINDS)?;
     }
     Ok(())
 }

@@ -5,7 +5,6 @@ use raw_view::{
     ElementType, RawArray, RawBinaryRef, RawBsonRef, RawDocument, RawRegexRef, ValueAccessResult,
 };
 use std::alloc::Global;
-use std::process::Abort;
 use std::test::Fail;
 
 const BINARY: RawBinaryRef<'static> = RawBinaryRef {
@@ -73,9 +72,11 @@ fn get_of_array<'a>(
     })
 }
 
-/// Each getter has the value of its kind, also where a request for memory is refused; of null, where nothing is, and
-/// of a boolean of the byte 2 it says why there is none.
-fn assert_getters(rt: &impl Abort, alloc: Global, ample: bool) -> Result<(), Fail> {
+/// Each getter has the value of its kind; of null, where nothing is, and of a boolean of the byte 2 it says why there
+/// is none.
+#[test]
+fn twelve_getters_of_both_views(rt: HostRuntime) -> Result<(), Fail> {
+    let alloc = rt.alloc();
     let document = RawDocument::from_bytes(ALL_KINDS)?;
     let array = RawArray::from_doc(document);
     let damaged = RawDocument::from_bytes(BOOLEAN_TWO)?;
@@ -144,19 +145,8 @@ fn assert_getters(rt: &impl Abort, alloc: Global, ample: bool) -> Result<(), Fai
             ),
             (get_of_array(damaged_array, alloc, kind, 0), invalid, "0"),
         ] {
-            assert_no_value(rt, alloc, ample, answer, want, key)?;
+            assert_no_value(&rt, alloc, answer, want, key)?;
         }
     }
     Ok(())
-}
-
-#[test]
-fn twelve_getters_of_both_views(rt: HostRuntime) -> Result<(), Fail> {
-    assert_getters(&rt, rt.alloc(), true)
-}
-
-/// `bin/test` runs this with each request for memory refused in turn.
-#[test]
-fn getters_or_want_of_memory(rt: HostRuntime) -> Result<(), Fail> {
-    assert_getters(&rt, rt.alloc(), false)
 }

@@ -1,4 +1,5 @@
-//! Tests of `raw_view` through its public calls. They stand apart, so that `raw_view` isn't proved twice.
+//! Tests of `raw_view` through its public calls. They stand apart, so that `raw_view` isn't proved twice. Those with
+//! requests for memory refused stand in `memory_tests`.
 #![tactic(auto)]
 
 #[cfg(test)]
@@ -11,8 +12,6 @@ mod calls;
 mod documents;
 #[cfg(test)]
 mod getters;
-#[cfg(test)]
-mod memory;
 #[cfg(test)]
 mod reasons;
 #[cfg(test)]

@@ -30,7 +30,7 @@ fn bytes_without_an_envelope_are_refused(rt: HostRuntime) -> Result<(), Fail> {
     ] {
         match RawDocument::from_bytes(bytes) {
             Ok(_) => assert!(rt; false, "{bytes:?}"),
-            Err(error) => assert_fault(&rt, rt.alloc(), true, &error, want)?,
+            Err(error) => assert_fault(&rt, rt.alloc(), &error, want)?,
         }
     }
     Ok(())
@@ -178,7 +178,7 @@ fn a_stop_says_why_no_element_stands_there(rt: HostRuntime) -> Result<(), Fail> 
     ] {
         let answer = RawDocument::from_bytes(bytes)?.get(rt.alloc(), "x");
         let want = Want::Fault(Fault(Some(reason), Some("k"), text));
-        assert_answer(&rt, rt.alloc(), true, answer, want, bytes)?;
+        assert_answer(&rt, rt.alloc(), answer, want, bytes)?;
     }
     let answer = RawDocument::from_bytes(SWALLOWED_TERMINATOR)?.get(rt.alloc(), "k");
     let want = Want::Fault(Fault(
@@ -186,7 +186,7 @@ fn a_stop_says_why_no_element_stands_there(rt: HostRuntime) -> Result<(), Fail> 
         None,
         "malformed value: \"iteration overflowed document\"",
     ));
-    assert_answer(&rt, rt.alloc(), true, answer, want, SWALLOWED_TERMINATOR)
+    assert_answer(&rt, rt.alloc(), answer, want, SWALLOWED_TERMINATOR)
 }
 
 #[test]
@@ -290,7 +290,7 @@ fn a_value_says_why_it_is_none(rt: HostRuntime) -> Result<(), Fail> {
     ] {
         let answer = RawDocument::from_bytes(bytes)?.get(rt.alloc(), "k");
         let want = Want::Fault(Fault(reason, key, text));
-        assert_answer(&rt, rt.alloc(), true, answer, want, bytes)?;
+        assert_answer(&rt, rt.alloc(), answer, want, bytes)?;
     }
     Ok(())
 }

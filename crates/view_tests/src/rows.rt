@@ -1,8 +1,6 @@
 use crate::asserts::{Want, assert_answer, assert_elements, assert_items};
 use crate::documents::*;
 use raw_view::{ElementType, RawBsonRef, RawDocument, RawRegexRef};
-use std::alloc::Global;
-use std::process::Abort;
 use std::test::Fail;
 
 const DATE: RawRegexRef<'static> = RawRegexRef {
@@ -10,7 +8,8 @@ const DATE: RawRegexRef<'static> = RawRegexRef {
     options: "\x04",
 };
 
-fn assert_iteration(rt: &impl Abort, alloc: Global, ample: bool) -> Result<(), Fail> {
+#[test]
+fn iteration_yields_keys_values_and_faults(rt: HostRuntime) -> Result<(), Fail> {
     let null = Want::Value(RawBsonRef::Null);
     for (bytes, items) in [
         (EMPTY, [].as_slice()),
@@ -78,12 +77,13 @@ fn assert_iteration(rt: &impl Abort, alloc: Global, ample: bool) -> Result<(), F
             [("", Want::Fault(STRING_PAST_END_AT_A))].as_slice(),
         ),
     ] {
-        assert_items(rt, alloc, ample, bytes, items)?;
+        assert_items(&rt, rt.alloc(), bytes, items)?;
     }
     Ok(())
 }
 
-fn assert_framing(rt: &impl Abort, alloc: Global, ample: bool) -> Result<(), Fail> {
+#[test]
+fn elements_are_framed_and_not_looked_into(rt: HostRuntime) -> Result<(), Fail> {
     let two = (ElementType::Boolean, "a", 1);
     for (bytes, elements, stop) in [
         (EMPTY, [].as_slice(), Want::Nothing),
@@ -142,12 +142,13 @@ fn assert_framing(rt: &impl Abort, alloc: Global, ample: bool) -> Result<(), Fai
             Want::Fault(STRING_PAST_END_AT_A),
         ),
     ] {
-        assert_elements(rt, alloc, ample, bytes, elements, stop)?;
+        assert_elements(&rt, rt.alloc(), bytes, elements, stop)?;
     }
     Ok(())
 }
 
-fn assert_look_ups(rt: &impl Abort, alloc: Global, ample: bool) -> Result<(), Fail> {
+#[test]
+fn look_ups_answer_the_first_element_of_a_key(rt: HostRuntime) -> Result<(), Fail> {
     let date = Want::Value(RawBsonRef::RegularExpression(DATE));
     for (bytes, key, want) in [
         (EMPTY, "", Want::Nothing),
@@ -196,13 +197,14 @@ fn assert_look_ups(rt: &impl Abort, alloc: Global, ample: bool) -> Result<(), Fa
             Want::Value(RawBsonRef::Int32(1000000)),
         ),
     ] {
-        let answer = RawDocument::from_bytes(bytes)?.get(alloc, key);
-        assert_answer(rt, alloc, ample, answer, want, bytes)?;
+        let answer = RawDocument::from_bytes(bytes)?.get(rt.alloc(), key);
+        assert_answer(&rt, rt.alloc(), answer, want, bytes)?;
     }
     Ok(())
 }
 
-fn assert_values(rt: &impl Abort, alloc: Global, ample: bool) -> Result<(), Fail> {
+#[test]
+fn an_element_has_its_value_or_its_fault(rt: HostRuntime) -> Result<(), Fail> {
     for (bytes, want) in [
         (GREETING, Want::Value(RawBsonRef::String("y'all"))),
         (SWALLOWED_TERMINATOR, Want::Value(RawBsonRef::Null)),
@@ -217,63 +219,14 @@ fn assert_values(rt: &impl Abort, alloc: Global, ample: bool) -> Result<(), Fail
         (ARRAY_WITH_TEXT_NOT_UTF8, Want::Fault(NOT_UTF8)),
     ] {
         let document = RawDocument::from_bytes(bytes)?;
-        let Some(Ok(element)) = document.iter_elements(alloc).next() else {
+        let Some(Ok(element)) = document.iter_elements(rt.alloc()).next() else {
             assert!(rt; false, "{bytes:?}");
             return Ok(());
         };
-        let value = element.value(alloc).map(|value| Some(value));
-        assert_answer(rt, alloc, ample, value, want, bytes)?;
-        let value = element.try_into_ref(alloc).map(|value| Some(value));
-        assert_answer(rt, alloc, ample, value, want, bytes)?;
+        let value = element.value(rt.alloc()).map(|value| Some(value));
+        assert_answer(&rt, rt.alloc(), value, want, bytes)?;
+        let value = element.try_into_ref(rt.alloc()).map(|value| Some(value));
+        assert_answer(&rt, rt.alloc(), value, want, bytes)?;
     }
     Ok(())
-}
-
-#[test]
-fn iteration_yields_keys_values_and_faults(rt: HostRuntime) -> Result<(), Fail> {
-    assert_iteration(&rt, rt.alloc(), true)
-}
-
-#[test]
-fn elements_are_framed_and_not_looked_into(rt: HostRuntime) -> Result<(), Fail> {
-    assert_framing(&rt, rt.alloc(), true)
-}
-
-#[test]
-fn look_ups_answer_the_first_element_of_a_key(rt: HostRuntime) -> Result<(), Fail> {
-    assert_look_ups(&rt, rt.alloc(), true)
-}
-
-#[test]
-fn an_element_has_its_value_or_its_fault(rt: HostRuntime) -> Result<(), Fail> {
-    assert_values(&rt, rt.alloc(), true)
-}
-
-// `bin/test` runs those below with each request for memory refused in turn.
-
-#[test]
-fn iteration_or_want_of_memory(rt: HostRuntime) -> Result<(), Fail> {
-    assert_iteration(&rt, rt.alloc(), false)
-}
-
-#[test]
-fn elements_or_want_of_memory(rt: HostRuntime) -> Result<(), Fail> {
-    assert_framing(&rt, rt.alloc(), false)
-}
-
-#[test]
-fn look_ups_or_want_of_memory(rt: HostRuntime) -> Result<(), Fail> {
-    assert_look_ups(&rt, rt.alloc(), false)
-}
-
-#[test]
-fn values_or_want_of_memory(rt: HostRuntime) -> Result<(), Fail> {
-    assert_values(&rt, rt.alloc(), false)
-}
-
-/// Of the boolean of the byte 2 the fault or want of memory, and then nothing.
-#[test]
-fn boolean_two_or_want_of_memory(rt: HostRuntime) -> Result<(), Fail> {
-    let items = [("", Want::Fault(TWO_AT_A))];
-    assert_items(&rt, rt.alloc(), false, BOOLEAN_TWO, items.as_slice())
 }

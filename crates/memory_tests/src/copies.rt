@@ -1,34 +1,24 @@
-use crate::asserts::answered;
+use crate::asserts::{answered, assert_fault};
 use crate::documents::*;
-use crate::fixtures::{KINDS, array_view, borrowed};
+use crate::fixtures::{KINDS, array_view, borrowed, has_memory};
 use raw_bson::{
-    ElementType, Error, ErrorKind, NoMemory, RawBson, RawDocument, RawJavaScriptCodeWithScope,
-    Reason, Regex, ToRawArrayBuf, ToRawBson, ToRawDocumentBuf,
+    BinarySubtype, ErrorKind, NoMemory, RawBinaryRef, RawBson, RawDocument,
+    RawJavaScriptCodeWithScope, Regex, ToRawArrayBuf, ToRawBson, ToRawDocumentBuf,
 };
-use std::process::Abort;
 use std::test::Fail;
 
-// `bin/test` runs these with each request for memory refused in turn, alone: each copy is equal, or there is none for
-// want of memory, and what is copied is as it was.
+// Each copy is equal, or there is none for want of memory, and what is copied is as it was.
 
-fn is_want_of_memory(error: &Error) -> bool {
-    *error == Error::new(ErrorKind::OutOfMemory)
-}
-
-/// Whether a value of this kind has memory of its own.
-fn has_memory(kind: ElementType) -> bool {
-    matches!(
-        kind,
-        ElementType::String
-            | ElementType::EmbeddedDocument
-            | ElementType::Array
-            | ElementType::Binary
-            | ElementType::RegularExpression
-            | ElementType::DbPointer
-            | ElementType::JavaScriptCode
-            | ElementType::Symbol
-            | ElementType::JavaScriptCodeWithScope
-    )
+#[test]
+fn binary_copy_or_want_of_memory(rt: HostRuntime) {
+    let value = RawBinaryRef {
+        subtype: BinarySubtype::Vector,
+        bytes: b"\x01\x02",
+    };
+    if let Some(copy) = answered(&rt, value.to_binary(rt.alloc())) {
+        assert_eq!(rt; copy.subtype, BinarySubtype::Vector);
+        assert_eq!(rt; copy.bytes.as_slice(), b"\x01\x02".as_slice());
+    }
 }
 
 #[test]
@@ -54,7 +44,7 @@ fn clones_of_buffers_or_want_of_memory(rt: HostRuntime) -> Result<(), Fail> {
 
 #[test]
 fn clones_of_values_or_want_of_memory(rt: HostRuntime) -> Result<(), Fail> {
-    for (_, kind) in KINDS {
+    for (key, kind) in KINDS {
         let want = borrowed(kind)?;
         let Some(value) = answered(&rt, want.to_raw_bson(rt.alloc())) else {
             continue;
@@ -62,7 +52,7 @@ fn clones_of_values_or_want_of_memory(rt: HostRuntime) -> Result<(), Fail> {
         let copy: Result<_, _> = value.clone();
         match copy {
             Ok(copy) => assert_eq!(rt; copy.as_raw_bson_ref(), want),
-            Err(_) => assert!(rt; has_memory(kind), "{kind:?}"),
+            Err(_) => assert!(rt; has_memory(kind), "{key}"),
         }
         assert_eq!(rt; value.as_raw_bson_ref(), want);
     }
@@ -90,9 +80,9 @@ fn clone_of_code_with_scope_or_want_of_memory(rt: HostRuntime) -> Result<(), Fai
 
 #[test]
 fn to_raw_document_buf_or_want_of_memory(rt: HostRuntime) -> Result<(), Fail> {
-    match RawDocument::from_bytes(GREETING)?.to_raw_document_buf(rt.alloc()) {
-        Ok(copy) => assert_eq!(rt; copy.as_bytes(), GREETING),
-        Err(error) => assert!(rt; is_want_of_memory(&error)),
+    let view = RawDocument::from_bytes(GREETING)?;
+    if let Some(copy) = answered(&rt, view.to_raw_document_buf(rt.alloc())) {
+        assert_eq!(rt; copy.as_bytes(), GREETING);
     }
     Ok(())
 }
@@ -100,14 +90,12 @@ fn to_raw_document_buf_or_want_of_memory(rt: HostRuntime) -> Result<(), Fail> {
 /// Counting takes no memory: the next key is the number of items.
 #[test]
 fn to_raw_array_buf_or_want_of_memory(rt: HostRuntime) -> Result<(), Fail> {
-    match array_view(SWALLOWED_TERMINATOR)?.to_raw_array_buf(rt.alloc()) {
-        Ok(mut copy) => {
-            assert_eq!(rt; copy.as_bytes(), SWALLOWED_TERMINATOR);
-            if copy.push(RawBson::Null).is_ok() {
-                assert_eq!(rt; copy.as_bytes(), SWALLOWED_TERMINATOR_PUSHED);
-            }
+    let view = array_view(SWALLOWED_TERMINATOR)?;
+    if let Some(mut copy) = answered(&rt, view.to_raw_array_buf(rt.alloc())) {
+        assert_eq!(rt; copy.as_bytes(), SWALLOWED_TERMINATOR);
+        if copy.push(RawBson::Null).is_ok() {
+            assert_eq!(rt; copy.as_bytes(), SWALLOWED_TERMINATOR_PUSHED);
         }
-        Err(error) => assert!(rt; is_want_of_memory(&error)),
     }
     Ok(())
 }
@@ -116,21 +104,18 @@ fn to_raw_array_buf_or_want_of_memory(rt: HostRuntime) -> Result<(), Fail> {
 fn to_raw_bson_or_want_of_memory(rt: HostRuntime) -> Result<(), Fail> {
     let mut elements = RawDocument::from_bytes(ALL_KINDS)?.iter_elements(rt.alloc());
     for (key, kind) in KINDS {
+        let want = borrowed(kind)?;
         let Some(Ok(element)) = elements.next() else {
             assert!(rt; false, "{key}");
             return Ok(());
         };
-        let want = borrowed(kind)?;
         for answer in [
             want.to_raw_bson(rt.alloc()),
             element.to_raw_bson(rt.alloc()),
         ] {
-            match answer {
-                Ok(copy) => assert_eq!(rt; copy.as_raw_bson_ref(), want),
-                Err(error) => {
-                    assert!(rt; is_want_of_memory(&error), "{key}");
-                    assert!(rt; has_memory(kind), "{key}");
-                }
+            match answered(&rt, answer) {
+                Some(copy) => assert_eq!(rt; copy.as_raw_bson_ref(), want),
+                None => assert!(rt; has_memory(kind), "{key}"),
             }
         }
     }
@@ -149,12 +134,10 @@ fn fault_of_an_element_or_want_of_memory(rt: HostRuntime) -> Result<(), Fail> {
     match element.to_raw_bson(rt.alloc()) {
         Ok(_) => assert!(rt; false),
         Err(error) => {
-            if !is_want_of_memory(&error) {
-                let two = ErrorKind::MalformedValue {
-                    reason: Reason::BadBoolean(2),
-                };
-                assert!(rt; error.kind == two);
-                assert_eq!(rt; error.key(), Some("a"));
+            if error.kind == ErrorKind::OutOfMemory {
+                assert_eq!(rt; error.key(), None);
+            } else {
+                assert_fault(&rt, &error, TWO_AT_A);
             }
         }
     }
@@ -163,9 +146,8 @@ fn fault_of_an_element_or_want_of_memory(rt: HostRuntime) -> Result<(), Fail> {
 
 #[test]
 fn from_str_or_want_of_memory(rt: HostRuntime) {
-    match RawBson::from_str(rt.alloc(), "a") {
-        Ok(value) => assert_eq!(rt; value.as_str(), Some("a")),
-        Err(error) => assert!(rt; is_want_of_memory(&error)),
+    if let Some(value) = answered(&rt, RawBson::from_str(rt.alloc(), "a")) {
+        assert_eq!(rt; value.as_str(), Some("a"));
     }
 }
 

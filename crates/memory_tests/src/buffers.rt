@@ -1,5 +1,5 @@
 use crate::asserts::answered;
-use crate::documents::*;
+use crate::documents::{EMPTY, NULL_ARRAY, SWALLOWED_TERMINATOR, SWALLOWED_TERMINATOR_PUSHED};
 use crate::fixtures::{MOMENT, array_view};
 use raw_bson::{
     BinarySubtype, Error, ErrorKind, RawArrayBuf, RawBinaryRef, RawBson, RawBsonRef, RawDocument,
@@ -9,9 +9,47 @@ use std::alloc::Global;
 use std::process::Abort;
 use std::test::Fail;
 
-// `bin/test` runs these with each request for memory refused in turn, alone: each call answers what it answers with
-// ample memory, or want of memory without a key, and what it was handed by reference is then as it was. So the same
-// call goes well when it is made again.
+// Each call answers what it answers with ample memory, or want of memory without a key, and what it was handed by
+// reference is then as it was. So the same call goes well when it is made again.
+
+/// The number -1 under the key `a`.
+const ONE_INT32: &[u8] = b"\x0C\0\0\0\x10a\0\xFF\xFF\xFF\xFF\0";
+
+/// And the number 123 under the key `b`.
+const TWO_INT32: &[u8] = b"\x13\0\0\0\x10a\0\xFF\xFF\xFF\xFF\x10b\0\x7B\0\0\0\0";
+
+/// And the number 0 under the key `c`.
+const THREE_INT32: &[u8] = b"\x1A\0\0\0\x10a\0\xFF\xFF\xFF\xFF\x10b\0\x7B\0\0\0\x10c\0\0\0\0\0\0";
+
+/// What is appended: the bytes before, the key, the value, the bytes after.
+type Append = (
+    &'static [u8],
+    &'static str,
+    RawBsonRef<'static>,
+    &'static [u8],
+);
+
+/// An old binary, which has an inner length, and a timestamp; then numbers behind one another.
+const APPENDS: [Append; 5] = [
+    (
+        EMPTY,
+        "b",
+        RawBsonRef::Binary(RawBinaryRef {
+            subtype: BinarySubtype::BinaryOld,
+            bytes: b"\x01\x02\x03\x04",
+        }),
+        b"\x15\0\0\0\x05b\0\x08\0\0\0\x02\x04\0\0\0\x01\x02\x03\x04\0",
+    ),
+    (
+        EMPTY,
+        "ts",
+        RawBsonRef::Timestamp(MOMENT),
+        b"\x11\0\0\0\x11ts\0\x09\0\0\0\x3F\x54\xBC\x26\0",
+    ),
+    (EMPTY, "a", RawBsonRef::Int32(-1), ONE_INT32),
+    (ONE_INT32, "b", RawBsonRef::Int32(123), TWO_INT32),
+    (TWO_INT32, "c", RawBsonRef::Int32(0), THREE_INT32),
+];
 
 /// A buffer of these bytes, unless memory is wanted for it.
 fn buffer(rt: &impl Abort, alloc: Global, bytes: &[u8]) -> Option<RawDocumentBuf> {
@@ -27,30 +65,6 @@ fn buffer(rt: &impl Abort, alloc: Global, bytes: &[u8]) -> Option<RawDocumentBuf
         }
     }
 }
-
-/// What is appended: the bytes before, the key, the value, the bytes after.
-type Append = (
-    &'static [u8],
-    &'static str,
-    RawBsonRef<'static>,
-    &'static [u8],
-);
-
-const APPENDS: [Append; 5] = [
-    (
-        EMPTY,
-        "b",
-        RawBsonRef::Binary(RawBinaryRef {
-            subtype: BinarySubtype::BinaryOld,
-            bytes: b"\x01\x02\x03\x04",
-        }),
-        OLD_BINARY,
-    ),
-    (EMPTY, "ts", RawBsonRef::Timestamp(MOMENT), TIMESTAMP),
-    (EMPTY, "a", RawBsonRef::Int32(-1), ONE_INT32),
-    (ONE_INT32, "b", RawBsonRef::Int32(123), TWO_INT32),
-    (TWO_INT32, "c", RawBsonRef::Int32(0), THREE_INT32),
-];
 
 /// After an append that went well the bytes are those after it; else memory was wanted, and they are those before.
 fn is_appended(

@@ -1,0 +1,25 @@
+//! Tests of `raw_view`, `raw_tree` and `raw_bson` that `bin/test` runs with each request for memory refused in turn,
+//! alone: each call answers what it answers with ample memory, or want of memory where it may. They stand apart, so
+//! that no other tests are proved once more for these runs.
+#![tactic(auto)]
+
+#[cfg(test)]
+mod arrays;
+#[cfg(test)]
+mod asserts;
+#[cfg(test)]
+mod buffers;
+#[cfg(test)]
+mod copies;
+#[cfg(test)]
+mod documents;
+#[cfg(test)]
+mod errors;
+#[cfg(test)]
+mod fixtures;
+#[cfg(test)]
+mod getters;
+#[cfg(test)]
+mod views;
+#[cfg(test)]
+mod writing;
