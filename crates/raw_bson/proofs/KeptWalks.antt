@@ -21,6 +21,7 @@ use Rattle.raw_view.specs.Meaning.{RawValue, single, document, array, scoped}
 use Rattle.raw_view.specs.Number.{IsBytes, IsLe32, le32}
 use Rattle.raw_view.specs.declared.element_type.ElementType.{ElementType}
 use Rattle.raw_view.specs.declared.element_type.ElementType.TheVariants as kind
+use Rattle.raw_view.proofs.Unique.{the_walk}
 use Rattle.raw_tree.specs.Payload.{string_payload, plain_binary_payload, binary_payload, leaf_payload, payload_of, element_bytes, framed, IsValueNulFree}
 use Rattle.raw_bson.specs.Append.{inside_of, appended_bytes, IsNulFreeElement, HasRoom, value_frame, EndsInShortScope, KeepsWalk, IsRawInRange}
 
@@ -259,11 +260,12 @@ element_is_frame key v r text nul_free in_range l = record {
   payload_is = value_has_shape v r in_range nul_free.1 l;
 }
 
--- a walk of the old content goes on with the new element
+-- the walk of the old content goes on with the new element
 pub keeps_walk : (b key : List ℕ) (v : RawValue) → IsEnvelope b → IsUtf8 key → IsNulFreeElement key v → IsRawInRange v → HasRoom b key v → KeepsWalk b key v (appended_bytes b key v)
 keeps_walk b key v envelope text nul_free in_range room frames w none =
     let size : length (payload_of v) ≤ 2147483647 = omega (arith, length-appended_bytes b key v envelope.enough) in
     let new : IsFrame (element_bytes key v ++ 0 ∷ []) (value_frame key v) (0 ∷ []) = element_is_frame key v (0 ∷ []) text nul_free in_range size in
     let old : IsWalk (inside_of b ++ 0 ∷ []) frames Done = subst (λ (x : List ℕ). IsWalk x frames Done) (inside_and_end b envelope) w in
     let after : inside_of b ++ (element_bytes key v ++ 0 ∷ []) ≡ drop 4 (appended_bytes b key v) = sym (append_assoc (inside_of b) (element_bytes key v) (0 ∷ [])) in
-    subst (λ (x : List ℕ). IsWalk x (frames ++ value_frame key v ∷ []) Done) after (walk_on (inside_of b) (element_bytes key v ++ 0 ∷ []) frames (value_frame key v) new old none)
+    let on : IsWalk (drop 4 (appended_bytes b key v)) (frames ++ value_frame key v ∷ []) Done = subst (λ (x : List ℕ). IsWalk x (frames ++ value_frame key v ∷ []) Done) after (walk_on (inside_of b) (element_bytes key v ++ 0 ∷ []) frames (value_frame key v) new old none) in
+    the_walk (drop 4 (appended_bytes b key v)) (frames ++ value_frame key v ∷ []) Done on

@@ -8,6 +8,7 @@ use Rattle.raw_view.specs.Envelope.{IsEnvelope}
 use Rattle.raw_view.specs.Errors.{key_of}
 use Rattle.raw_view.specs.Frame.{Frame, IsWalk, Done}
 use Rattle.raw_view.specs.Meaning.{RawValue, single, document, array, scoped}
+use Rattle.raw_view.specs.OneReading.{IsTheWalk}
 use Rattle.raw_view.specs.declared.element_type.ElementType.TheVariants.{JavaScriptCodeWithScope}
 use Rattle.raw_view.specs.declared.error.Error.{Error}
 use Rattle.raw_view.specs.declared.error.ErrorKind.{ErrorKind}
@@ -52,10 +53,10 @@ value_frame key v = record { kind = kind_of_raw v; key = key; payload = payload_
 abbrev pub EndsInShortScope : List Frame → Type 0
 EndsInShortScope frames = (before : List Frame) × (last : Frame) × (frames ≡ before ++ last ∷ []) × (last.kind ≡ JavaScriptCodeWithScope) × (length last.payload ≡ 3)
 
--- What is read after an append: where a walk of the old content ends at its final 0, and its last frame isn't
+-- What is read after an append: where the walk of the old content ends at its final 0, and its last frame isn't
 -- such a code with scope, it goes on with the new frame and ends at the final 0.
 abbrev pub KeepsWalk : List ℕ → List ℕ → RawValue → List ℕ → Type 0
-KeepsWalk b key v left = (frames : List Frame) → IsWalk (drop 4 b) frames Done → ¬ EndsInShortScope frames → IsWalk (drop 4 left) (frames ++ value_frame key v ∷ []) Done
+KeepsWalk b key v left = (frames : List Frame) → IsWalk (drop 4 b) frames Done → ¬ EndsInShortScope frames → IsTheWalk (drop 4 left) (frames ++ value_frame key v ∷ []) Done
 
 -- what holds of every value that is handed to an append: numbers and bytes in range, texts UTF-8, nested
 -- documents, arrays and scopes with their envelopes

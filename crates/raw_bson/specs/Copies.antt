@@ -2,7 +2,8 @@
 use Rattle.std.specs.Prelude.{◌≡◌, ℕ, List, length, Result, Ok, Err}
 use Rattle.bson_model.specs.Leaf.{regular_expression}
 use Rattle.bson_model.specs.Options.{sorted_options}
-use Rattle.raw_view.specs.Item.{Item, AreItems}
+use Rattle.raw_view.specs.Item.{Item}
+use Rattle.raw_view.specs.OneReading.{AreTheItems}
 use Rattle.raw_view.specs.Answers.{Says}
 use Rattle.raw_view.specs.Errors.{IsOutOfMemory}
 use Rattle.raw_view.specs.Meaning.{RawValue, single, Meaning, value, faulty}
@@ -13,7 +14,7 @@ use Rattle.raw_bson.specs.declared.bson.RawBson.TheVariants as own
 
 -- so many items has the array of these bytes, faults and the stop counted too
 abbrev pub CountsItems : List ℕ → ℕ → Type 0
-CountsItems b count = (items : List Item) × AreItems b items × (count ≡ length items)
+CountsItems b count = (items : List Item) × AreTheItems b items × (count ≡ length items)
 
 -- the same value, of a regular expression the one with its options' characters in ascending order
 abbrev pub with_options_in_order : RawValue → RawValue

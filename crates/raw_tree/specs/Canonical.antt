@@ -33,7 +33,7 @@ module _ (Nested : Sort → List ℕ → Type 0) where
   AreFramesCanonical [] = Unit {0}
   AreFramesCanonical (f ∷ fs) = (v : RawValue) × Means f (value v) × IsValueCanonical v × AreFramesCanonical fs
 
--- a walk of these bytes, with at most so many levels, ends at the final 0, its keys are canonical, and so
+-- the walk of these bytes, with at most so many levels, ends at the final 0, its keys are canonical, and so
 -- is the value of each frame
 abbrev pub IsCanonicalWithin : ℕ → Sort → List ℕ → Type 0
 IsCanonicalWithin zero sort b = ⊥

@@ -41,7 +41,7 @@ module _ (Nested : Sort → List ℕ → Tree → Type 0) where
   StandForEach [] pairs = pairs ≡ []
   StandForEach (f ∷ fs) pairs = (v : RawValue) × (t : Tree) × (rest : List (List ℕ × Tree)) × Means f (value v) × StandsFor v t × (pairs ≡ (f.key, t) ∷ rest) × StandForEach fs rest
 
--- these bytes, with at most so many levels, are read as this tree: a walk of them ends at the final 0, and
+-- these bytes, with at most so many levels, are read as this tree: the walk of them ends at the final 0, and
 -- each frame means a value that stands for a tree
 abbrev pub ReadsWithin : ℕ → Sort → List ℕ → Tree → Type 0
 ReadsWithin zero sort b t = ⊥

@@ -1,4 +1,4 @@
--- Items: what the frames of a walk mean, in order, and then the stop.
+-- Items: what the frames of the walk mean, in order, and then the stop.
 use Rattle.std.specs.Prelude.{◌≡◌, ℕ, List, [], ◌∷◌, drop}
 use Rattle.raw_view.specs.Frame.{Frame, End, Done, Stopped, IsWalk}
 use Rattle.raw_view.specs.Meaning.{KeyedFault, Meaning, Means}

@@ -8,7 +8,7 @@ abbrev pub HasNoKey : List ℕ → List Frame → Type 0
 HasNoKey key [] = Unit {0}
 HasNoKey key (f ∷ fs) = (f.key ≢ key) × HasNoKey key fs
 
--- where a walk ends, a look-up finds the stop, or nothing
+-- where the walk ends, a look-up finds the stop, or nothing
 abbrev pub found_at_end : End → Option Meaning
 found_at_end Done = None
 found_at_end (Stopped fault key) = Some (faulty (record { fault = fault; key = key }))
