@@ -36,6 +36,6 @@ refuses "a command and an argument that isn't UTF-8" list "$(printf '\377')"
 refuses "a command in upper case" LIST
 refuses "the empty argument" ""
 refuses "an unknown command" show
-refuses "canon" canon
+refuses "another two arguments" canon list
 refuses "check" check
 exit "$failed"

@@ -1,4 +1,4 @@
-//! The bytes that BSON values are written as.
+//! Trees of BSON values from bytes, and the bytes that values and trees are written as.
 #![tactic(auto)]
 
 mod payload;
