@@ -23,4 +23,8 @@ mod fixtures;
 #[cfg(test)]
 mod texts;
 #[cfg(test)]
+mod trees;
+#[cfg(test)]
+mod trees_fixtures;
+#[cfg(test)]
 mod values;

@@ -20,6 +20,8 @@ mod fixtures;
 #[cfg(test)]
 mod getters;
 #[cfg(test)]
+mod trees;
+#[cfg(test)]
 mod views;
 #[cfg(test)]
 mod writing;
