@@ -1,21 +1,14 @@
 -- The bytes that an append writes.
-use Rattle.std.proofs.Common.{◌≡◌, ◌≤◌, ◌<◌, ◌+◌, ◌-◌, ◌∷◌, ◌++◌, [], ℕ, zero, suc, List, slice_index_or, pos, length, take, drop, ap, sym, ◌∙◌, arith, append_assoc, length-append}
+use Rattle.std.proofs.Common.{◌≡◌, ◌≤◌, ◌+◌, ◌-◌, ◌∷◌, ◌++◌, [], ℕ, List, pos, length, take, drop, ap, sym, ◌∙◌, arith, append_assoc, length-append}
 use Rattle.std.proofs.lemmas.List.{drop-take, drop-append-le, length-take, length-drop}
 use Rattle.raw_view.specs.Meaning.{RawValue}
 use Rattle.raw_view.specs.Number.{le32}
 use Rattle.raw_tree.specs.Payload.{payload_of, element_bytes}
-use Rattle.raw_view.specs.Number.{IsBytes}
 use Rattle.raw_bson.specs.Append.{inside_of, appended_bytes}
 use Rattle.raw_bson.proofs.KeptWalks.{length-element_bytes}
 
 inside_len : (b : List ℕ) → 5 ≤ length b → length (inside_of b) + 5 ≡ length b
 inside_len b h = omega (arith, length-take (length b - 5) (drop 4 b), length-drop 4 b)
-
--- what a vector of bytes holds
-pub all_bytes : (bytes : List ℕ) → ((i d : ℕ) → i < length bytes → slice_index_or bytes i d < 256) → IsBytes bytes
-all_bytes [] h i = omega arith
-all_bytes (b ∷ bytes) h zero = h 0 0 (omega arith)
-all_bytes (b ∷ bytes) h (suc i) = all_bytes bytes (λ j d l. h (suc j) d (omega (arith, l))) i
 
 -- all of a document but its header and its final 0
 front_dropped : (b : List ℕ) → 5 ≤ length b → drop 4 (take (length b - 1) b) ≡ inside_of b

@@ -4,7 +4,8 @@ use Rattle.raw_view.specs.Number.{IsBytes}
 use Rattle.raw_view.specs.Value.{value_of}
 use Rattle.raw_bson.specs.Append.{appended_bytes, HasRoom}
 use Rattle.raw_bson.proofs.KeptWalks.{length-appended_bytes, appended_is_envelope, keeps_walk}
-use Rattle.raw_bson.proofs.Written.{all_bytes, written_is_appended}
+use Rattle.raw_tree.proofs.Encodings.{all_bytes}
+use Rattle.raw_bson.proofs.Written.{written_is_appended}
 use Rattle.raw_bson.proofs.appending.append_element.Goals as goal
 
 pub returns-in_default-clause-appends : goal.returns-in_default-clause-appends
