@@ -1,12 +1,12 @@
 -- An append gives a document again, and what was read before it is read before the new element.
-use Rattle.std.proofs.Common.{◌≡◌, ◌≢◌, inl, inr, ◌<◌, ◌≤◌, ◌+◌, ◌-◌, ◌++◌, ◌∷◌, [], ℕ, pos, zero, suc, List, length, take, drop, get_or, arith, ap, sym, refl, ◌∙◌, subst, append_assoc, length-append, length-drop, Some, false, true, w32}
+use Rattle.std.proofs.Common.{◌≡◌, ◌≢◌, inl, inr, ◌<◌, ◌≤◌, ◌+◌, ◌-◌, ◌++◌, ◌∷◌, [], ℕ, pos, zero, suc, List, length, take, drop, get_or, arith, ap, sym, refl, ◌∙◌, subst, append_assoc, length-append, length-drop, false, true, w32}
 use Rattle.std.specs.Str.{IsUtf8}
 use Rattle.std.specs.Prelude.{FitsSigned}
 use Rattle.std.proofs.lemmas.Int.{fits_signed_from_abs}
 use Rattle.std.proofs.lemmas.List.{take_all, take_more, take-append-le, get_or_at, get_or-take, get_or-drop, same_from_push, length-take-le}
 use Rattle.std.proofs.lemmas.List.Elements.{All-head, All-tail}
 use Rattle.std.proofs.lemmas.Bool.{cases_lt}
-use Rattle.std.proofs.lemmas.Option.{slice_get-get_or, get_or_from_slice_get}
+use Rattle.std.proofs.lemmas.Option.{get_or_from_slice_get}
 use Rattle.bson_model.specs.Bytes.{NulFree}
 use Rattle.bson_model.specs.Leaf.{Leaf, double, string, binary, undefined, object_id, boolean, date_time, null, regular_expression, db_pointer, javascript_code, symbol, int32, timestamp, int64, decimal128, max_key, min_key}
 use Rattle.bson_model.specs.Proper.{IsLeafInRange, IsLeafNulFree}
@@ -23,6 +23,7 @@ use Rattle.raw_view.specs.declared.element_type.ElementType.{ElementType}
 use Rattle.raw_view.specs.declared.element_type.ElementType.TheVariants as kind
 use Rattle.raw_view.proofs.Unique.{the_walk}
 use Rattle.raw_tree.specs.Payload.{string_payload, plain_binary_payload, binary_payload, leaf_payload, payload_of, element_bytes, framed, IsValueNulFree}
+use Rattle.raw_tree.proofs.Returns.{framed_is_envelope}
 use Rattle.raw_bson.specs.Append.{inside_of, appended_bytes, IsNulFreeElement, HasRoom, value_frame, EndsInShortScope, KeepsWalk, IsRawInRange}
 
 -- lengths
@@ -50,22 +51,9 @@ fits_length n l = fits_signed_from_abs w32 (pos n) (omega arith)
 
 -- the envelope
 
--- bytes between their length and a final 0 have their envelope
-framed_is_envelope : (inside : List ℕ) → IsBytes (framed inside) → length (framed inside) ≤ 2147483647 → IsEnvelope (framed inside)
-framed_is_envelope inside bytes l =
-    let front : List ℕ = le32 (pos (4 + length (inside ++ 0 ∷ []))) ++ inside in
-    let size : length (framed inside) ≡ 4 + length (inside ++ 0 ∷ []) = omega arith in
-    let at : length front ≡ length (framed inside) - 1 = omega (arith, length-append inside (0 ∷ [])) in
-    record {
-      bytes = bytes;
-      enough = omega (arith, length-framed inside);
-      header = record { fits = fits_length _ l; bytes_are = ap (λ (n : ℕ). le32 (pos n)) (sym size) };
-      ended = slice_get-get_or (framed inside) (length (framed inside) - 1) 0 (omega arith) ∙ ap Some (get_or_at front 0 [] 0 _ at);
-    }
-
--- so has a document with one element more
+-- a document with one element more has its envelope
 pub appended_is_envelope : (b key : List ℕ) (v : RawValue) → IsEnvelope b → IsBytes (appended_bytes b key v) → HasRoom b key v → IsEnvelope (appended_bytes b key v)
-appended_is_envelope b key v _ bytes room = framed_is_envelope (inside_of b ++ element_bytes key v) bytes room
+appended_is_envelope b key v _ bytes room = framed_is_envelope (inside_of b ++ element_bytes key v) bytes (omega (arith, length-framed (inside_of b ++ element_bytes key v), room))
 
 -- shapes of written payloads
 
