@@ -1,30 +1,82 @@
 #!/bin/sh
 # What bsonraw prints of each document in examples/, by `list` and by `canon`, and its exit status, are those that lie
-# beside it, as is what it prints of the greeting given on standard input with blanks between the bytes.
+# beside it, as is what it prints of the greeting given with blanks between the bytes.
+#
+# examples.sh             runs the proved program
+# examples.sh --unproved  compiles the program once, without a proof, and runs it on each document; then the same for
+#                         one document by `bin/bsonraw --unproved`
 set -u
 cd "$(dirname "$(realpath "$0")")/.." || exit 1
 work=$(mktemp -d) || exit 1
 trap 'rm -rf "$work"' EXIT
+failed=0
 
-# printed COMMAND FILE: the output of the command and, in a last line, the status
-printed() {
-    bin/bsonraw "$1" < "$2"
-    echo "status $?"
+# The runs, a name each: NAME the input, NAME.args the command, NAME.stdout and NAME.status what has to come.
+cases=$work/cases
+mkdir "$cases"
+
+# add NAME COMMAND INPUT WANTED: WANTED has the output and, as its last line, the status.
+add() {
+    cp "$3" "$cases/$1"
+    echo "$2" >"$cases/$1.args"
+    sed '$d' "$4" >"$cases/$1.stdout"
+    sed -n '$s/^status //p' "$4" >"$work/$1.status"
 }
 
-failed=0
 for document in examples/*.hex; do
+    name=$(basename "$document" .hex)
     for command in list canon; do
-        wanted=${document%.hex}.$command
-        printed "$command" "$document" > "$work/printed"
-        if ! diff "$wanted" "$work/printed"; then
-            echo "$document: $command doesn't print $wanted" >&2
+        add "$name-$command" "$command" "$document" "examples/$name.$command"
+    done
+done
+printf '13000000 02686900 06000000 792761 6C6C00 00' >"$work/hex"
+add greeting-with-blanks list "$work/hex" examples/greeting.list
+
+# One compilation for all runs; rt compares the output, and says each status in a line of its own.
+run_unproved() {
+    (cd crates/bsonraw && rt try --cases "$cases") >"$work/output" 2>"$work/said"
+    if ! grep -q '^cases=' "$work/said"; then
+        cat "$work/output" "$work/said" >&2
+        return 1
+    fi
+    for wanted in "$work"/*.status; do
+        name=$(basename "$wanted" .status)
+        line="case=$name run=ended status=$(cat "$wanted") .*output=expected"
+        grep -q "^$line" "$work/said" && continue
+        echo "examples: $name goes wrong without a proof:" >&2
+        grep "^case=$name " "$work/said" >&2
+        failed=1
+    done
+}
+
+# A run of bin/bsonraw without a proof gives output and status, and says on standard error that nothing was proved.
+run_one_unproved() {
+    {
+        bin/bsonraw --unproved canon <examples/tag-zero.hex 2>"$work/said"
+        echo "status $?"
+    } >"$work/output"
+    diff examples/tag-zero.canon "$work/output" && grep -q 'nothing is proved' "$work/said" && return
+    cat "$work/said" >&2
+    echo "examples: bin/bsonraw --unproved goes wrong" >&2
+    failed=1
+}
+
+run_proved() {
+    for wanted in "$work"/*.status; do
+        name=$(basename "$wanted" .status)
+        bin/bsonraw "$(cat "$cases/$name.args")" <"$cases/$name" >"$work/output"
+        status=$?
+        if ! diff "$cases/$name.stdout" "$work/output" || [ "$status" != "$(cat "$wanted")" ]; then
+            echo "examples: $name goes wrong, with status $status" >&2
             failed=1
         fi
     done
-done
+}
 
-printf '13000000 02686900 06000000 792761 6C6C00 00' > "$work/hex"
-printed list "$work/hex" > "$work/printed"
-printf '02 6869 10\nend\nstatus 0\n' | diff - "$work/printed" || failed=1
+if [ "${1-}" = --unproved ]; then
+    run_unproved || failed=1
+    run_one_unproved
+else
+    run_proved
+fi
 exit "$failed"

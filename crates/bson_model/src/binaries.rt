@@ -4,17 +4,29 @@ ghost use Rattle.bson_model.specs.Subtype.{subtype_of, subtype_byte};
 /// What the bytes of a binary value are (BSON 1.1, binary subtypes).
 #[derive(Clone, Copy, Debug, PartialEq, Eq)]
 pub enum BinarySubtype {
+    /// Bytes of no stated meaning (byte 0).
     Generic,
+    /// A function (byte 1).
     Function,
+    /// Bytes that are written with their length once more before them, deprecated (byte 2).
     BinaryOld,
+    /// A UUID as older drivers wrote it, deprecated (byte 3).
     UuidOld,
+    /// A UUID (byte 4).
     Uuid,
+    /// An MD5 hash (byte 5).
     Md5,
+    /// An encrypted value (byte 6).
     Encrypted,
+    /// Compressed columns of a time series (byte 7).
     Column,
+    /// Sensitive bytes, which are not to be logged (byte 8).
     Sensitive,
+    /// A vector of numbers of one type (byte 9).
     Vector,
+    /// A byte that has no meaning yet: 10 to 127 where bytes are read. It holds any byte.
     Reserved(u8),
+    /// A byte whose meaning is the user's: 128 to 255 where bytes are read. It holds any byte.
     UserDefined(u8),
 }
 
@@ -64,6 +76,8 @@ impl BinarySubtype {
 /// inner length.
 #[derive(Debug, PartialEq, Eq, Drop)]
 pub struct Binary {
+    /// What the bytes are.
     pub subtype: BinarySubtype,
+    /// The bytes, at most 2147483647 where they are written.
     pub bytes: Vec<u8>,
 }

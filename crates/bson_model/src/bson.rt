@@ -18,26 +18,47 @@ use std::alloc::Global;
 #[derive(Debug, PartialEq, Eq, Drop)]
 #[cycle(tree)]
 pub enum Bson {
+    /// A 64-bit binary floating point number, by its bits (tag 01).
     Double(DoubleBits),
+    /// A text, which may hold a 0 (tag 02).
     String(String),
+    /// A document inside a document (tag 03).
     Document(Document),
+    /// Values in order (tag 04).
     Array(Vec<Bson>),
+    /// Bytes with a subtype (tag 05).
     Binary(Binary),
+    /// The undefined value, deprecated (tag 06).
     Undefined,
+    /// Twelve bytes that name an object (tag 07).
     ObjectId(ObjectId),
+    /// True or false (tag 08).
     Boolean(bool),
+    /// Milliseconds since the start of 1970 in UTC (tag 09).
     DateTime(DateTime),
+    /// The null value (tag 0A).
     Null,
+    /// A pattern and options (tag 0B).
     RegularExpression(Regex),
+    /// A pointer to an object of a database, deprecated (tag 0C).
     DbPointer(DbPointer),
+    /// Code, without a scope (tag 0D).
     JavaScriptCode(String),
+    /// A symbol, deprecated (tag 0E).
     Symbol(String),
+    /// Code with the values of its variables, deprecated (tag 0F).
     JavaScriptCodeWithScope(JavaScriptCodeWithScope),
+    /// A signed 32-bit number (tag 10).
     Int32(i32),
+    /// Seconds and a counter, for internal use of databases (tag 11).
     Timestamp(Timestamp),
+    /// A signed 64-bit number (tag 12).
     Int64(i64),
+    /// A decimal floating point number of 128 bits, by its bytes (tag 13).
     Decimal128(Decimal128),
+    /// The value that is above all others (tag 7F).
     MaxKey,
+    /// The value that is below all others (tag FF).
     MinKey,
 }
 
@@ -52,7 +73,9 @@ pub struct Document {
 #[derive(Debug, PartialEq, Eq, Drop)]
 #[cycle(tree)]
 pub struct JavaScriptCodeWithScope {
+    /// The code, UTF-8; it may hold a 0.
     pub code: String,
+    /// The variables and their values.
     pub scope: Document,
 }
 

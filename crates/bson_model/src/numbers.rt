@@ -6,7 +6,10 @@ use crate::ranges::attest_bytes;
 
 /// A double by its 64 bits, so that equality is equality of bits (BSON 1.1, `double`).
 #[derive(Clone, Copy, Debug, PartialEq, Eq)]
-pub struct DoubleBits(pub u64);
+pub struct DoubleBits(
+    /// The sign, the exponent and the fraction, as IEEE 754 orders the bits of binary64.
+    pub u64,
+);
 
 /// A decimal number by its sixteen bytes (BSON 1.1, `decimal128`).
 #[derive(Clone, Copy, Debug, PartialEq, Eq)]

@@ -43,6 +43,8 @@ impl ObjectId {
 /// A pointer to an object of a database (BSON 1.1, DBPointer, deprecated).
 #[derive(Debug, PartialEq, Eq, Drop)]
 pub struct DbPointer {
+    /// The name of the database and of the collection, UTF-8.
     pub namespace: String,
+    /// The object's identifier.
     pub id: ObjectId,
 }

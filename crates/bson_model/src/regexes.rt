@@ -8,7 +8,9 @@ use std::alloc::Global;
 /// A regular expression: its pattern and its options (BSON 1.1, regular expression).
 #[derive(Debug, PartialEq, Eq, Drop)]
 pub struct Regex {
+    /// The pattern. It is written only without a 0.
     pub pattern: String,
+    /// The options, one character each. They are written as they stand, and only without a 0.
     pub options: String,
 }
 

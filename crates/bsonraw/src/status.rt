@@ -1,9 +1,9 @@
 /// How a run ended.
 #[derive(Clone, Copy)]
 pub enum Status {
-    /// the walk came to its end
+    /// `list`: the walk came to its end; `canon`: the canonical form was printed
     Done,
-    /// the bytes are no document, or its walk stops
+    /// the bytes have no envelope; `list`: the walk stops; `canon`: some level has a fault, or the form is too long
     Fault,
     /// the text isn't hex
     BadHex,
