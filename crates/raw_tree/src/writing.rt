@@ -19,6 +19,7 @@ ghost use Rattle.raw_view.specs.Value.{value_of};
 use crate::payload::{
     append_payload, is_nul_free, is_value_nul_free, payload_len, put, put_c_string, put_string,
 };
+use crate::total::total_len;
 use bson_model::{Bson, Document};
 use itoa::Buffer;
 use raw_view::{
@@ -292,7 +293,7 @@ fn room_for(alloc: Global, judged: Option<usize>) -> Result<Vec<u8>>
     let Some(len) = judged else {
         return Err(refusal(Reason::InteriorNul));
     };
-    if len > i32::MAX as usize {
+    if total_len(0, len).is_none() {
         return Err(refusal(Reason::TooLong));
     }
     let Ok(out) = Vec::with_capacity(alloc, len) else {
