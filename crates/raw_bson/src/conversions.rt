@@ -6,10 +6,11 @@ ghost use Rattle.bson_model.specs.Tree.{tree_of, tree_of_document, tree_of_list}
 ghost use Rattle.raw_tree.specs.CanonicalForm.{AllAreSpelledOneWay, DocumentsComeBack};
 ghost use Rattle.raw_tree.specs.Encoding.{IsEncoded, IsRefused};
 ghost use Rattle.raw_tree.specs.Reading.{AllAreReadOneWay, Reads, TellsFirstFault, as_document};
-ghost use Rattle.raw_bson.specs.Conversion.{BecomesBson, BecomesRawBson};
+ghost use Rattle.raw_bson.specs.Conversion.{BecomesBson, BecomesOneTree, BecomesRawBson};
 ghost use Rattle.raw_bson.specs.Owned.{owned_value};
 
 use crate::array_buf::RawArrayBuf;
+use crate::attest::attest_one_tree;
 use crate::bson::{RawBson, RawJavaScriptCodeWithScope};
 use crate::document_buf::RawDocumentBuf;
 use bson_model::{Bson, Document, JavaScriptCodeWithScope};
@@ -74,9 +75,12 @@ impl RawBson {
     /// The value as a tree. A nested document, an array and a scope are read, as `document_from_raw` and
     /// `list_from_raw` do it; on their first fault, and where memory runs out for them, the value is dropped.
     /// Every other value is moved as it is, also the options of a regular expression, and takes no memory.
+    /// The value has no more than one such tree, and either that or a first fault.
     pub fn into_bson(self, alloc: Global) -> Result<Bson>
-        ensures { BecomesBson (owned_value self) result }
+        ensures becomes { BecomesBson (owned_value self) result }
+        ensures one_reading { BecomesOneTree (owned_value self) }
     {
+        attest_one_tree(&self);
         match self {
             RawBson::Double(x) => Ok(Bson::Double(x)),
             RawBson::String(x) => Ok(Bson::String(x)),
