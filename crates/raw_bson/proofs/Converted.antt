@@ -1,9 +1,11 @@
 -- What is known of values that were written, and why bytes have no canonical form.
-use Rattle.std.proofs.Common.{◌≡◌, ◌≢◌, inl, inr, ◌≤◌, ◌+◌, ◌-◌, ◌*◌, ◌/◌, ◌∷◌, [], ℕ, List, length, arith, ap, refl, subst}
+use Rattle.std.proofs.Common.{◌≡◌, ◌≢◌, inl, inr, ◌≤◌, ◌+◌, ◌-◌, ◌*◌, ◌/◌, ◌∷◌, [], ℕ, List, length, arith, ap, refl, sym, subst, ◌∙◌}
 use Rattle.bson_model.specs.Proper.{IsProper, IsNulFree}
-use Rattle.bson_model.specs.Tree.{Tree, array, trees, items_in}
+use Rattle.bson_model.specs.Leaf.{Leaf}
+use Rattle.bson_model.specs.Tree.{Tree, leaf, array, trees, items_in}
 use Rattle.raw_view.specs.Envelope.{IsEnvelope}
 use Rattle.raw_view.specs.Meaning.{RawValue}
+use Rattle.raw_view.specs.Meaning as raw
 use Rattle.raw_view.specs.declared.error.Error.{Error}
 use Rattle.raw_view.specs.declared.error.ErrorKind.{ErrorKind}
 use Rattle.raw_view.specs.declared.error.ErrorKind.TheVariants as kind
@@ -11,7 +13,9 @@ use Rattle.raw_view.specs.declared.error.Reason.TheVariants as reason
 use Rattle.raw_tree.specs.Encoding.{IsEncoded, IsRefused, RefusesTree, items_len}
 use Rattle.raw_tree.specs.Reading.{Holds, Reads, TellsFirstFault, TellsFirstFaultOfValue}
 use Rattle.raw_tree.proofs.Encodings.{length-tree_payload}
-use Rattle.raw_bson.specs.Conversion.{RefusesForm}
+use Rattle.raw_tree.proofs.OneWay.{enveloped_one_way}
+use Rattle.raw_bson.specs.Append.{IsRawInRange}
+use Rattle.raw_bson.specs.Conversion.{BecomesOneTree, RefusesForm}
 
 -- each member of a list takes two bytes and more
 items_long : (n : ℕ) (us : List Tree) → 2 * length us ≤ items_len n (trees us)
@@ -26,6 +30,22 @@ count_fits us b e = omega (arith, ap length e.2, length-tree_payload (array (tre
 pub items_in-trees : (us : List Tree) → items_in (trees us) ≡ us
 items_in-trees [] = refl
 items_in-trees (u ∷ us) = ap (λ ts. u ∷ ts) (items_in-trees us)
+
+-- a value that holds no others becomes its leaf alone
+single_one_tree : (l : Leaf) → BecomesOneTree (raw.single l)
+single_one_tree l = record {
+  either = inl (leaf l, refl);
+  not_both = λ t fault t_is first. first.1;
+  one_tree = λ t other t_is other_is. other_is ∙ sym t_is;
+  one_fault = λ fault other first first_other. absurd first.1;
+}
+
+-- every value in range becomes one tree alone, or has one first fault
+pub in_range_one_tree : (v : RawValue) → IsRawInRange v → BecomesOneTree v
+in_range_one_tree (raw.single l) h = single_one_tree l
+in_range_one_tree (raw.document d) h = enveloped_one_way (raw.document d) (λ e same. rw same h)
+in_range_one_tree (raw.array d) h = enveloped_one_way (raw.array d) (λ e same. rw same h)
+in_range_one_tree (raw.scoped code d) h = enveloped_one_way (raw.scoped code d) (λ e same. rw same h.1)
 
 -- a fault of the bytes that a value holds is the value's
 pub told_of_value : (v : RawValue) (d : List ℕ) (e : Error) → Holds v d → TellsFirstFault d e → TellsFirstFaultOfValue v e

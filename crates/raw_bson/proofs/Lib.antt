@@ -1,3 +1,4 @@
+pub mod CanonicalForms
 pub mod Converted
 pub mod Counts
 pub mod Filling

@@ -10,16 +10,25 @@ use Rattle.raw_view.specs.declared.error.Error.{Error}
 use Rattle.raw_view.specs.declared.error.ErrorKind.TheVariants.{MalformedValue}
 use Rattle.raw_view.specs.declared.error.Reason.TheVariants.{TooLong}
 use Rattle.raw_tree.specs.Encoding.{IsEncoded, IsRefused, encoded_len}
-use Rattle.raw_tree.specs.Reading.{Reads, ReadsAs, StandsFor, TellsFirstFault, TellsFirstFaultOfValue}
+use Rattle.raw_tree.specs.Reading.{FirstFaultOfValue, HasOneReading, Reads, ReadsAs, StandsFor, TellsFirstFault, TellsFirstFaultOfValue}
 use Rattle.raw_bson.specs.Owned.{owned_value, count_in}
 use Rattle.raw_bson.specs.declared.bson.RawBson.{RawBson}
 
--- What an owned value becomes: one that holds no others is moved as it is, always; the nested bytes of every
--- other one are read, or have a first fault.
+-- What an owned value becomes: one that holds no others is moved as it is; the nested bytes of every other one
+-- are read.
+abbrev pub BecomesTree : RawValue → Tree → Type 0
+BecomesTree (raw.single l) t = t ≡ leaf l
+BecomesTree v t = StandsFor ReadsAs v t
+
+-- a value becomes one tree, or has one first fault
+abbrev pub BecomesOneTree : RawValue → Type 0
+BecomesOneTree v = HasOneReading (BecomesTree v) (FirstFaultOfValue v)
+
+-- What is answered for it: the tree, always where it holds no others; else the tree, its first fault or want
+-- of memory.
 abbrev pub BecomesBson : RawValue → Result Bson Error → Type 0
-BecomesBson (raw.single l) (Ok t) = tree_of t ≡ leaf l
+BecomesBson v (Ok t) = BecomesTree v (tree_of t)
 BecomesBson (raw.single l) (Err e) = ⊥
-BecomesBson v (Ok t) = StandsFor ReadsAs v (tree_of t)
 BecomesBson v (Err e) = TellsFirstFaultOfValue v e
 
 -- What a tree becomes: a leaf is moved as it is, always; a document, a list and a scope are written, or

@@ -1,6 +1,6 @@
 //! One element more in a document's bytes.
 
-ghost use Rattle.std.specs.Prelude.{◌≡◌, ◌≤◌, ◌<◌, ◌+◌, ◌-◌, ◌++◌, ◌∷◌, [], pos, length, take, drop, vec_len, vec_capacity, OnOk, None};
+ghost use Rattle.std.specs.Prelude.{◌≡◌, ◌≤◌, ◌<◌, ◌+◌, ◌-◌, ◌++◌, ◌∷◌, [], length, take, drop, vec_len, vec_capacity, OnOk, None};
 ghost use Rattle.raw_bson.specs.Append.{Appends, KeepsWalk};
 ghost use Rattle.raw_tree.specs.Payload.{element_bytes};
 ghost use Rattle.raw_view.specs.Envelope.{IsEnvelope};
@@ -49,13 +49,11 @@ fn put_element(bytes: &mut Vec<u8>, key: &str, value: RawBsonRef<'_>)
 }
 
 /// Sets the header to the length of the whole.
-fn set_header(bytes: &mut Vec<u8>, total: usize)
-    requires enough { 4 ≤ vec_len bytes.old }
-    requires fits { total ≤ 2147483647 }
-    ensures { bytes.new.items ≡ le32 (pos total) ++ drop 4 bytes.old.items }
+fn set_header(bytes: &mut Vec<u8>, total: i32)
+    requires { 4 ≤ vec_len bytes.old }
+    ensures { bytes.new.items ≡ le32 total ++ drop 4 bytes.old.items }
 {
-    let header = (total as i32).to_le_bytes();
-    bytes[0..4].copy_from_slice(&header[..]);
+    bytes[0..4].copy_from_slice(&total.to_le_bytes()[..]);
 }
 
 /// Appends an element to a document's bytes, with the old content unexamined. It judges the 0s, then the new

@@ -1,4 +1,5 @@
-ghost use Rattle.std.specs.Prelude.{◌≡◌, ◌≤◌, ◌+◌, ◌-◌, ◌/◌, ◌↔◌, ◌∷◌, [], IfOk, IfErr, IsTrue, length};
+ghost use Rattle.std.specs.Prelude.{◌≡◌, ◌≤◌, ◌+◌, ◌-◌, ◌/◌, ◌↔◌, ◌∷◌, [], decimal, IfOk, IfErr, OnOk, IsTrue, length};
+ghost use Rattle.raw_bson.specs.Append.{KeepsWalk};
 ghost use Rattle.raw_bson.specs.Count.{Pushes};
 ghost use Rattle.std.specs.Iterator.{IsFinite};
 ghost use Rattle.raw_bson.specs.Fills.{Fills, TakesValue, empty_array};
@@ -86,7 +87,9 @@ impl RawArrayBuf {
     /// Appends a value under the decimal of the count, and adds one to the count. It refuses what an append
     /// refuses, and then the bytes and the count are as they were. The value is dropped.
     pub fn push(&mut self, value: RawBson) -> Result<()>
-        ensures { Pushes self.old (owned_value value) result self.new }
+        ensures pushes { Pushes self.old (owned_value value) result self.new }
+        ensures walk { OnOk result
+            (KeepsWalk self.old.bytes (decimal self.old.count) (owned_value value) self.new.bytes) }
     {
         let mut key = Buffer::new();
         self.document.append(key.format(self.len), value)?;

@@ -1,9 +1,12 @@
-//! That what a borrowed value views is in range, as a fact that a proof can cite. Nothing is written.
+//! What holds of values by their types, as facts that a proof can cite. Nothing is written.
 
 ghost use Rattle.bson_model.specs.Bytes.{AreBytes};
 ghost use Rattle.raw_bson.specs.Append.{IsRawInRange};
+ghost use Rattle.raw_bson.specs.Conversion.{BecomesOneTree};
+ghost use Rattle.raw_bson.specs.Owned.{owned_value};
 ghost use Rattle.raw_view.specs.Value.{value_of};
 
+use crate::bson::RawBson;
 use bson_model::BinarySubtype;
 use raw_view::RawBsonRef;
 
@@ -49,4 +52,11 @@ pub(crate) fn attest_value(value: RawBsonRef<'_>)
             let _ = code.scope.as_bytes();
         }
     }
+}
+
+/// An owned value becomes one tree alone, or has one first fault.
+pub(crate) fn attest_one_tree(value: &RawBson)
+    ensures { BecomesOneTree (owned_value value.now) }
+{
+    attest_value(value.as_raw_bson_ref());
 }

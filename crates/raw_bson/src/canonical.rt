@@ -1,6 +1,8 @@
 ghost use Rattle.std.specs.Prelude.{◌≢◌, IfOk, IfErr};
 ghost use Rattle.raw_bson.specs.Conversion.{RefusesForm};
 ghost use Rattle.raw_tree.specs.CanonicalForm.{IsCanonicalForm};
+ghost use Rattle.raw_tree.specs.Reading.{AreReadOneWay, as_document};
+ghost use Rattle.raw_view.specs.Envelope.{IsEnvelope};
 
 use crate::document_buf::RawDocumentBuf;
 use raw_tree::document_from_raw;
@@ -10,9 +12,10 @@ use std::alloc::Global;
 /// The canonical form of a document: the bytes that its tree is written as. Documents with equal trees, and
 /// no others, have equal canonical forms; one that is canonical is its own. It answers the first refusal of:
 /// no sound envelope; the first fault at any level, with that fault's key; over 2147483647 bytes; want of
-/// memory. BSON 1.1, `document`.
+/// memory. A document has no more than one tree, and either that or a first fault. BSON 1.1, `document`.
 pub fn canonical_bytes(alloc: Global, bytes: &[u8]) -> Result<Vec<u8>>
     ensures form { IfOk result (λ form. IsCanonicalForm bytes.now form.items) }
+    ensures one_reading { IsEnvelope bytes.now → AreReadOneWay as_document bytes.now }
     ensures refused { IfErr result (RefusesForm bytes.now) }
     ensures no_nul { IfErr result (λ e. e.kind ≢ ErrorKind.MalformedValue Reason.InteriorNul) }
 {

@@ -3,13 +3,14 @@
 
 ghost use Rattle.std.specs.Prelude.{◌≡◌, length, IfOk, IfErr};
 ghost use Rattle.bson_model.specs.Tree.{tree_of, tree_of_document, tree_of_list};
-ghost use Rattle.raw_tree.specs.CanonicalForm.{ComesBack, IsSpelledOneWay};
+ghost use Rattle.raw_tree.specs.CanonicalForm.{AllAreSpelledOneWay, DocumentsComeBack};
 ghost use Rattle.raw_tree.specs.Encoding.{IsEncoded, IsRefused};
-ghost use Rattle.raw_tree.specs.Reading.{AreReadOneWay, Reads, TellsFirstFault, as_document};
-ghost use Rattle.raw_bson.specs.Conversion.{BecomesBson, BecomesRawBson};
+ghost use Rattle.raw_tree.specs.Reading.{AllAreReadOneWay, Reads, TellsFirstFault, as_document};
+ghost use Rattle.raw_bson.specs.Conversion.{BecomesBson, BecomesOneTree, BecomesRawBson};
 ghost use Rattle.raw_bson.specs.Owned.{owned_value};
 
 use crate::array_buf::RawArrayBuf;
+use crate::attest::attest_one_tree;
 use crate::bson::{RawBson, RawJavaScriptCodeWithScope};
 use crate::document_buf::RawDocumentBuf;
 use bson_model::{Bson, Document, JavaScriptCodeWithScope};
@@ -19,11 +20,11 @@ use std::alloc::Global;
 
 impl RawDocumentBuf {
     /// The bytes of a document. It refuses, without a key, first where a key, a pattern or options at any
-    /// depth hold a 0, then where the bytes would be over 2147483647, and then where memory runs out.
-    /// BSON 1.1, `document`.
+    /// depth hold a 0, then where the bytes would be over 2147483647, and then where memory runs out. Every
+    /// document's tree comes back as `encode` says it. BSON 1.1, `document`.
     pub fn from_document(alloc: Global, document: &Document) -> Result<RawDocumentBuf>
         ensures ok { IfOk result (λ d. IsEncoded (tree_of_document document.now) d) }
-        ensures comes_back { ComesBack as_document (tree_of_document document.now) }
+        ensures comes_back { DocumentsComeBack }
         ensures err { IfErr result (IsRefused (tree_of_document document.now)) }
     {
         RawDocumentBuf::from_bytes(encode(alloc, document)?)
@@ -32,7 +33,7 @@ impl RawDocumentBuf {
     /// The same as `from_document`.
     pub fn try_from_document(alloc: Global, document: &Document) -> Result<RawDocumentBuf>
         ensures ok { IfOk result (λ d. IsEncoded (tree_of_document document.now) d) }
-        ensures comes_back { ComesBack as_document (tree_of_document document.now) }
+        ensures comes_back { DocumentsComeBack }
         ensures err { IfErr result (IsRefused (tree_of_document document.now)) }
     {
         RawDocumentBuf::from_document(alloc, document)
@@ -42,8 +43,8 @@ impl RawDocumentBuf {
     pub fn to_document(&self) -> Result<Document>
         ensures tree { IfOk result (λ d. Reads self.now (tree_of_document d)) }
         ensures fault { IfErr result (TellsFirstFault self.now) }
-        ensures one_reading { AreReadOneWay as_document self.now }
-        ensures one_spelling { IsSpelledOneWay as_document self.now }
+        ensures one_reading { AllAreReadOneWay as_document }
+        ensures one_spelling { AllAreSpelledOneWay as_document }
     {
         document_from_raw(self.alloc(), self.as_ref())
     }
@@ -52,8 +53,8 @@ impl RawDocumentBuf {
     pub fn into_document(self) -> Result<Document>
         ensures tree { IfOk result (λ d. Reads self (tree_of_document d)) }
         ensures fault { IfErr result (TellsFirstFault self) }
-        ensures one_reading { AreReadOneWay as_document self }
-        ensures one_spelling { IsSpelledOneWay as_document self }
+        ensures one_reading { AllAreReadOneWay as_document }
+        ensures one_spelling { AllAreSpelledOneWay as_document }
     {
         self.to_document()
     }
@@ -74,9 +75,12 @@ impl RawBson {
     /// The value as a tree. A nested document, an array and a scope are read, as `document_from_raw` and
     /// `list_from_raw` do it; on their first fault, and where memory runs out for them, the value is dropped.
     /// Every other value is moved as it is, also the options of a regular expression, and takes no memory.
+    /// The value has no more than one such tree, and either that or a first fault.
     pub fn into_bson(self, alloc: Global) -> Result<Bson>
-        ensures { BecomesBson (owned_value self) result }
+        ensures becomes { BecomesBson (owned_value self) result }
+        ensures one_reading { BecomesOneTree (owned_value self) }
     {
+        attest_one_tree(&self);
         match self {
             RawBson::Double(x) => Ok(Bson::Double(x)),
             RawBson::String(x) => Ok(Bson::String(x)),

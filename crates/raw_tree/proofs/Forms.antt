@@ -1,5 +1,5 @@
--- The encoding of a tree that is read, and the canonical form of a document.
-use Rattle.std.proofs.Common.{◌≡◌, ◌≤◌, ◌∷◌, [], List, ℕ, zero, suc, map, length, arith, ap, refl, sym, subst, ◌∙◌}
+-- The encoding of a tree that is read.
+use Rattle.std.proofs.Common.{◌≡◌, ◌≤◌, ◌∷◌, [], List, ℕ, zero, suc, map, length, arith, ap, refl, subst}
 use Rattle.bson_model.specs.Pairs.{keep}
 use Rattle.bson_model.specs.Proper.{IsProper}
 use Rattle.bson_model.specs.Tree.{Tree, Trees, Entries, leaf, array, document, code_with_scope, trees, entries}
@@ -9,11 +9,10 @@ use Rattle.raw_view.specs.Meaning.{RawValue}
 use Rattle.raw_view.specs.Meaning as raw
 use Rattle.raw_view.specs.Number.{IsBytes}
 use Rattle.raw_tree.specs.Canonical.{IsValueCanonical, AreFramesCanonical, IsCanonicalWithin, IsCanonicalAs}
-use Rattle.raw_tree.specs.CanonicalForm.{IsSpelling, IsSpelledOneWay, IsCanonicalForm}
+use Rattle.raw_tree.specs.CanonicalForm.{IsSpelling, IsSpelledOneWay}
 use Rattle.raw_tree.specs.Encoding.{IsEncoded, encoding, encoded_len, entries_bytes, items_bytes}
-use Rattle.raw_tree.specs.Reading.{Sort, as_document, as_array, tree_of_pairs, leaf_in_order, StandsFor, StandForEach, Reads, ReadsWithin, ReadsAs}
+use Rattle.raw_tree.specs.Reading.{Sort, as_document, as_array, tree_of_pairs, leaf_in_order, StandsFor, StandForEach, ReadsWithin, ReadsAs}
 use Rattle.raw_tree.proofs.Encodings.{length-entries_bytes, length-items_bytes, length-tree_payload}
-use Rattle.raw_tree.proofs.OneTree.{one_tree}
 use Rattle.raw_tree.proofs.ReadTrees.{read_is_proper}
 use Rattle.raw_tree.proofs.Returns.{Returns, document_returns, array_returns, framed_is_envelope}
 use Rattle.raw_tree.proofs.Spelled.{canonical_is_spelled}
@@ -75,28 +74,6 @@ bytes_spelled_one_way sort b env = record {
   unchanged = λ t r. (spelling_canonical sort b t env r, canonical_spelling sort b t env r);
   canonical_reads = λ c. canonical_reads sort b c;
 }
-
--- the spelling of the tree of a document is its canonical form
-pub canonical_form : (b a : List ℕ) (t : Tree) → IsEnvelope b → Reads b t → IsSpelling t a → IsCanonicalForm b a
-canonical_form b a t env r s =
-    let back : Returns as_document a t = subst (λ (x : List ℕ). Returns as_document x t) s.1 (read_returns as_document b t r (read_is_proper as_document b t env r) s.0) in
-    record {
-      envelope = env;
-      tree = t;
-      read = r;
-      spelled = s;
-      same_tree = λ c u envelope reads size. (
-        (λ e. one_tree as_document a u t (subst (λ (x : List ℕ). Reads x u) e (read_returns as_document c u reads (read_is_proper as_document c u envelope reads) size).1) back.1),
-        (λ e. ap encoding e ∙ s.1),
-      );
-      unchanged = (
-        (λ e. spelling_canonical as_document b t env r (s.0, s.1 ∙ e)),
-        (λ c. sym s.1 ∙ (canonical_spelling as_document b t env r c).1),
-      );
-      form_envelope = back.0;
-      canonical = back.2;
-      reads_back = back.1;
-    }
 
 -- what is written has an envelope
 pub document_enveloped : (es : Entries) (b : List ℕ) → IsBytes b → IsEncoded (document es) b → IsEnvelope b

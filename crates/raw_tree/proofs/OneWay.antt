@@ -46,14 +46,18 @@ viewed_envelope ref.MaxKey d h = absurd h
 viewed_envelope ref.MinKey d h = absurd h
 viewed_envelope (ref.DbPointer x) d h = absurd h
 
+-- a value whose nested bytes have an envelope
+pub enveloped_one_way : (v : RawValue) → ((d : List ℕ) → Holds v d → IsEnvelope d) → IsValueReadOneWay v
+enveloped_one_way v env = record {
+  either = value_by_nested v (λ sort d h. decided sort d (env d h));
+  not_both = λ t fault. tree_or_fault_of_value v t fault;
+  one_tree = λ t other r s. one_tree_of_value v other t s r;
+  one_fault = λ fault other r s. one_first_fault_of_value v other fault s r;
+}
+
 -- a borrowed value
 pub value_one_way : (v : RawBsonRef) → IsValueReadOneWay (value_of v)
-value_one_way v = record {
-  either = value_by_nested (value_of v) (λ sort d h. decided sort d (viewed_envelope v d h));
-  not_both = λ t fault. tree_or_fault_of_value (value_of v) t fault;
-  one_tree = λ t other r s. one_tree_of_value (value_of v) other t s r;
-  one_fault = λ fault other r s. one_first_fault_of_value (value_of v) other fault s r;
-}
+value_one_way v = enveloped_one_way (value_of v) (viewed_envelope v)
 
 module _ (f : Frame) where
   frame_not_both : (t : Tree) (fault : KeyedFault) → FrameStandsFor f t → FirstFaultOfFrame f fault → ⊥

@@ -2,11 +2,11 @@
 -- are read here, they have an envelope.
 use Rattle.std.specs.Prelude.{◌≡◌, ◌≤◌, ◌↔◌, ℕ, List}
 use Rattle.bson_model.specs.Proper.{IsProper}
-use Rattle.bson_model.specs.Tree.{Tree}
+use Rattle.bson_model.specs.Tree.{Tree, Trees, Entries, array, document}
 use Rattle.raw_view.specs.Envelope.{IsEnvelope}
 use Rattle.raw_tree.specs.Canonical.{IsCanonical, IsCanonicalAs}
 use Rattle.raw_tree.specs.Encoding.{encoding, encoded_len}
-use Rattle.raw_tree.specs.Reading.{Sort, Reads, ReadsAs}
+use Rattle.raw_tree.specs.Reading.{Sort, as_document, as_array, Reads, ReadsAs}
 
 -- the bytes are the encoding of the tree, and the tree is of a size in range
 abbrev pub IsSpelling : Tree → List ℕ → Type 0
@@ -17,12 +17,24 @@ IsSpelling t b = (encoded_len t ≤ 2147483647) × (encoding t ≡ b)
 abbrev pub ComesBack : Sort → Tree → Type 0
 ComesBack sort t = IsProper t → encoded_len t ≤ 2147483647 → IsEnvelope (encoding t) × ReadsAs sort (encoding t) t × IsCanonicalAs sort (encoding t)
 
+-- so it is for the tree of every document; that the numbers in it are in their ranges is a part of proper
+abbrev pub DocumentsComeBack : Type 0
+DocumentsComeBack = (es : Entries) → ComesBack as_document (document es)
+
+-- and for that of every list
+abbrev pub ListsComeBack : Type 0
+ListsComeBack = (ts : Trees) → ComesBack as_array (array ts)
+
 -- A tree that these bytes are read as is proper; it is of a size in range and its encoding is these bytes
 -- exactly where they are canonical. Canonical bytes are read as a tree.
 pub record IsSpelledOneWay (sort : Sort) (b : List ℕ) : Type 0 where
   pub proper : (t : Tree) → ReadsAs sort b t → IsProper t
   pub unchanged : (t : Tree) → ReadsAs sort b t → (IsSpelling t b ↔ IsCanonicalAs sort b)
   pub canonical_reads : IsCanonicalAs sort b → (t : Tree) × ReadsAs sort b t
+
+-- so it is of all bytes with an envelope
+abbrev pub AllAreSpelledOneWay : Sort → Type 0
+AllAreSpelledOneWay sort = (b : List ℕ) → IsEnvelope b → IsSpelledOneWay sort b
 
 -- The canonical form theorem: a is the canonical form of the document b.
 pub record IsCanonicalForm (b a : List ℕ) : Type 0 where

@@ -6,6 +6,7 @@ use Rattle.bson_model.specs.Options.{sorted_options}
 use Rattle.bson_model.specs.Pairs.{keep}
 use Rattle.bson_model.specs.Tree.{Tree, Entries, leaf, array, document, code_with_scope, trees, entries}
 use Rattle.raw_view.specs.Answers.{Says}
+use Rattle.raw_view.specs.Envelope.{IsEnvelope}
 use Rattle.raw_view.specs.Errors.{IsOutOfMemory}
 use Rattle.raw_view.specs.Frame.{Frame, IsFrame, IsStop, IsWalk, Done, LeadsTo}
 use Rattle.raw_view.specs.Meaning.{RawValue, KeyedFault, Means, value, faulty}
@@ -98,6 +99,10 @@ pub record HasOneReading (IsTree : Tree → Type 0) (IsFirst : KeyedFault → Ty
 -- bytes are read as one tree, or have one first fault
 abbrev pub AreReadOneWay : Sort → List ℕ → Type 0
 AreReadOneWay sort b = HasOneReading (ReadsAs sort b) (FirstFault b)
+
+-- so are all bytes with an envelope
+abbrev pub AllAreReadOneWay : Sort → Type 0
+AllAreReadOneWay sort = (b : List ℕ) → IsEnvelope b → AreReadOneWay sort b
 
 -- a value stands for one tree, or has one first fault
 abbrev pub IsValueReadOneWay : RawValue → Type 0

@@ -6,6 +6,7 @@ ghost use Rattle.raw_view.specs.Number.{le32};
 ghost use Rattle.raw_view.specs.Value.{value_of, namespace_of, id_of};
 ghost use Rattle.bson_model.specs.Bytes.{NulFree};
 
+use crate::total::total_len;
 use bson_model::BinarySubtype;
 use raw_view::{
     Error, ErrorKind, RawBinaryRef, RawBsonRef, RawDbPointerRef, RawJavaScriptCodeWithScopeRef,
@@ -224,7 +225,7 @@ pub fn append_payload(out: &mut Vec<u8>, value: RawBsonRef<'_>) -> Result<()>
     ensures unchanged { OnErr result (out.new.items ≡ out.old.items) }
 {
     let len = payload_len(value);
-    if len > i32::MAX as usize {
+    if total_len(0, len).is_none() {
         return Err(Error::new(ErrorKind::MalformedValue {
             reason: Reason::TooLong,
         }));

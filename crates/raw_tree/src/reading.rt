@@ -7,8 +7,8 @@ ghost use Rattle.bson_model.specs.Leaf.{regular_expression, db_pointer};
 ghost use Rattle.bson_model.specs.Options.{sorted_options};
 ghost use Rattle.bson_model.specs.Pairs.{with_pair};
 ghost use Rattle.bson_model.specs.Tree.{leaf, tree_of, tree_of_document, tree_of_list, pairs_of, with_trees};
-ghost use Rattle.raw_tree.specs.CanonicalForm.{IsSpelledOneWay};
-ghost use Rattle.raw_tree.specs.Reading.{as_array, as_document, AreReadOneWay, FrameStandsFor, IsFrameReadOneWay, IsValueReadOneWay, Reads, ReadsAs, StandsFor, TellsFirstFault, TellsFirstFaultOfFrame, TellsFirstFaultOfValue};
+ghost use Rattle.raw_tree.specs.CanonicalForm.{AllAreSpelledOneWay};
+ghost use Rattle.raw_tree.specs.Reading.{as_array, as_document, AllAreReadOneWay, FrameStandsFor, IsFrameReadOneWay, IsValueReadOneWay, Reads, ReadsAs, StandsFor, TellsFirstFault, TellsFirstFaultOfFrame, TellsFirstFaultOfValue};
 ghost use Rattle.raw_view.specs.Document.{bytes_of};
 ghost use Rattle.raw_view.specs.ElementSteps.{frame_of};
 ghost use Rattle.raw_view.specs.Errors.{IsOutOfMemory};
@@ -153,24 +153,24 @@ fn read_list(alloc: Global, array: RawArray<'_>) -> Result<Vec<Bson>>
 /// The tree of a document: its pairs in order, a repeated key in the place of its first occurrence with the
 /// value of its last. It refuses exactly where a fault is at any level, also in a value that a later one
 /// would replace, and answers the first, depth first in byte order, with the key that this fault itself
-/// carries; or memory runs out. A document has no more than one tree, and either that or a first fault. Its
-/// tree is written back as its own bytes exactly where it is canonical. BSON 1.1, `document`.
+/// carries; or memory runs out. Every document has no more than one tree, and either that or a first fault.
+/// Its tree is written back as its own bytes exactly where it is canonical. BSON 1.1, `document`.
 pub fn document_from_raw(alloc: Global, document: RawDocument<'_>) -> Result<Document>
     ensures tree { IfOk result (λ d. Reads (bytes_of document.entry) (tree_of_document d)) }
     ensures fault { IfErr result (TellsFirstFault (bytes_of document.entry)) }
-    ensures one_reading { AreReadOneWay as_document (bytes_of document.entry) }
-    ensures one_spelling { IsSpelledOneWay as_document (bytes_of document.entry) }
+    ensures one_reading { AllAreReadOneWay as_document }
+    ensures one_spelling { AllAreSpelledOneWay as_document }
 {
     read_document(alloc, document)
 }
 
-/// The values of an array in order; its keys are left away. It refuses what `document_from_raw` does.
-/// BSON 1.1, `array`.
+/// The values of an array in order; its keys are left away. It refuses what `document_from_raw` does, and
+/// every array is read and written back in one way alone as well. BSON 1.1, `array`.
 pub fn list_from_raw(alloc: Global, array: RawArray<'_>) -> Result<Vec<Bson>>
     ensures tree { IfOk result (λ list. ReadsAs as_array (array_bytes_of array.entry) (tree_of_list list.items)) }
     ensures fault { IfErr result (TellsFirstFault (array_bytes_of array.entry)) }
-    ensures one_reading { AreReadOneWay as_array (array_bytes_of array.entry) }
-    ensures one_spelling { IsSpelledOneWay as_array (array_bytes_of array.entry) }
+    ensures one_reading { AllAreReadOneWay as_array }
+    ensures one_spelling { AllAreSpelledOneWay as_array }
 {
     read_list(alloc, array)
 }

@@ -1,14 +1,12 @@
-ghost use Rattle.std.specs.Prelude.{◌≡◌, ◌≤◌, ◌<◌, ◌+◌, IfSome, IfNone};
+ghost use Rattle.std.specs.Prelude.{◌≡◌, ◌≤◌, ◌<◌, ◌+◌, pos, IfSome, IfNone};
 
 /// The length of a document of so many bytes to which so many more are added; `None` where that is over
 /// 2147483647, the greatest length that a header can say. BSON 1.1, `document`.
-pub fn total_len(len: usize, added: usize) -> Option<usize>
-    ensures some { IfSome result (λ total. (total ≡ len + added) × (total ≤ 2147483647)) }
+pub fn total_len(len: usize, added: usize) -> Option<i32>
+    ensures some { IfSome result
+        (λ total. (total ≡ pos (len + added)) × (len + added ≤ 2147483647)) }
     ensures none { IfNone result (2147483647 < len + added) }
 {
     let total = len.checked_add(added)?;
-    if total > i32::MAX as usize {
-        return None;
-    }
-    Some(total)
+    i32::try_from(total).ok()
 }

@@ -4,11 +4,10 @@
 ghost use Rattle.std.specs.Prelude.{◌≡◌, ◌≤◌, ◌+◌, ◌-◌, ◌++◌, ◌∷◌, [], length, decimal, pos, take, drop, vec_len, vec_capacity, IfSome, IfNone, IfOk, IfErr, None};
 ghost use Rattle.bson_model.specs.Leaf.{Leaf};
 ghost use Rattle.bson_model.specs.Tree.{Tree, leaf, tree_of, tree_of_document, tree_of_list};
-ghost use Rattle.raw_tree.specs.CanonicalForm.{ComesBack};
+ghost use Rattle.raw_tree.specs.CanonicalForm.{DocumentsComeBack, ListsComeBack};
 ghost use Rattle.raw_tree.specs.Encoding.{encoded_len, tree_payload, kind_of_tree, IsEncoded, IsRefused};
 ghost use Rattle.raw_tree.specs.Judging.{HoldsOthers, HasRoomFor, Judges, Shows};
 ghost use Rattle.raw_tree.specs.Payload.{payload_of};
-ghost use Rattle.raw_tree.specs.Reading.{as_array, as_document};
 ghost use Rattle.raw_view.specs.Envelope.{IsEnvelope};
 ghost use Rattle.raw_view.specs.Errors.{key_of};
 ghost use Rattle.raw_view.specs.Kind as kind;
@@ -19,6 +18,7 @@ ghost use Rattle.raw_view.specs.Value.{value_of};
 use crate::payload::{
     append_payload, is_nul_free, is_value_nul_free, payload_len, put, put_c_string, put_string,
 };
+use crate::total::total_len;
 use bson_model::{Bson, Document};
 use itoa::Buffer;
 use raw_view::{
@@ -292,7 +292,7 @@ fn room_for(alloc: Global, judged: Option<usize>) -> Result<Vec<u8>>
     let Some(len) = judged else {
         return Err(refusal(Reason::InteriorNul));
     };
-    if len > i32::MAX as usize {
+    if total_len(0, len).is_none() {
         return Err(refusal(Reason::TooLong));
     }
     let Ok(out) = Vec::with_capacity(alloc, len) else {
@@ -303,12 +303,13 @@ fn room_for(alloc: Global, judged: Option<usize>) -> Result<Vec<u8>>
 
 /// The bytes of a document. BSON 1.1, `document`. It refuses, without a key, first where a key, a pattern or
 /// options at any depth hold a 0, then where the bytes would be over 2147483647, and then where memory runs
-/// out; it reserves the whole once. Of a tree whose options never descend and whose subtypes are those that
-/// their bytes stand for, what is written is canonical, and is read as that very tree.
+/// out; it reserves the whole once. Of every document's tree without such a 0, whose options never descend
+/// and whose subtypes are those that their bytes stand for, what is written is canonical, and is read as
+/// that very tree.
 pub fn encode(alloc: Global, document: &Document) -> Result<Vec<u8>>
     ensures ok { IfOk result (λ bytes. IsEncoded (tree_of_document document.now) bytes.items) }
     ensures envelope { IfOk result (λ bytes. IsEnvelope bytes.items) }
-    ensures comes_back { ComesBack as_document (tree_of_document document.now) }
+    ensures comes_back { DocumentsComeBack }
     ensures err { IfErr result (IsRefused (tree_of_document document.now)) }
 {
     let mut out = room_for(alloc, judged_document(document))?;
@@ -317,11 +318,11 @@ pub fn encode(alloc: Global, document: &Document) -> Result<Vec<u8>>
 }
 
 /// The bytes of a list, its keys the decimals from 0. BSON 1.1, `array`. It refuses what `encode` does, in
-/// the same order.
+/// the same order. What is written of every list comes back likewise.
 pub fn encode_list(alloc: Global, values: &[Bson]) -> Result<Vec<u8>>
     ensures ok { IfOk result (λ bytes. IsEncoded (tree_of_list values.now) bytes.items) }
     ensures envelope { IfOk result (λ bytes. IsEnvelope bytes.items) }
-    ensures comes_back { ComesBack as_array (tree_of_list values.now) }
+    ensures comes_back { ListsComeBack }
     ensures err { IfErr result (IsRefused (tree_of_list values.now)) }
 {
     let mut out = room_for(alloc, judged_list(values))?;

@@ -4,7 +4,6 @@ use Rattle.std.proofs.lemmas.List.{take-append-drop, drop_at}
 use Rattle.raw_view.specs.declared.element.RawElement.{RawElement}
 use Rattle.raw_view.specs.declared.error.Error.{Error}
 use Rattle.raw_view.specs.declared.error.ErrorKind.{ErrorKind}
-use Rattle.raw_view.specs.declared.error.Reason.{Reason}
 use Rattle.raw_view.specs.declared.error.ErrorKind.TheVariants as what
 use Rattle.raw_view.specs.Frame.{Frame, IsFrame, IsStop, Fault, Malformed, Utf8, IsWalk, End, Done, Stopped}
 use Rattle.std.specs.Iterator.{Yields, Drains}
@@ -13,7 +12,7 @@ use Rattle.raw_view.specs.declared.error.BorrowedError.{BorrowedError}
 use Rattle.raw_view.specs.Meaning.{KeyedFault}
 use Rattle.raw_view.specs.Answers.{Says}
 use Rattle.raw_view.specs.Front.{StopsWith, StepsFront, SaysFault, TellsBorrowed}
-use Rattle.raw_view.specs.Errors.{HasKeyCopy, IsReadingKind, IsReadingReason, Tells, TellsFault, key_of}
+use Rattle.raw_view.specs.Errors.{HasKeyCopy, IsReadingKind, Tells, TellsFault, key_of}
 use Rattle.raw_view.specs.ElementSteps.{StepsElement, frame_of, ListsWalk}
 use Rattle.raw_view.specs.Kind.{tag_of}
 
@@ -34,15 +33,12 @@ rest_from_end bs s f r n e b = drop_to bs (tag_of f.kind ∷ (f.key ++ 0 ∷ f.p
 pub step_element : (old new : Option (List ℕ)) (s : List ℕ) (e : RawElement) (r : List ℕ) → old ≡ Some s → IsFrame s (frame_of e) r → new ≡ Some r → StepsFront old (Some (Ok e)) new
 step_element old new s e r o b n = subst (λ (x : Option (List ℕ)). StepsFront x (Some (Ok e)) new) (sym o) (r, b, n)
 
-reading_reason : (r : Reason) → IsReadingKind (what.MalformedValue r) → IsReadingReason r
-reading_reason r h = (λ e. h.0 (ap what.MalformedValue e), λ e. h.1 (ap what.MalformedValue e))
-
 -- an error with a copy of its key says the fault
 pub told_kind : (k : ErrorKind) (key : Option (List ℕ)) (fault : Fault) (e : Error) → IsReadingKind k → SaysFault k fault → HasKeyCopy k key e → TellsFault e fault key
-told_kind (what.MalformedValue r) None fault e reading h is = subst (λ (x : ErrorKind). Tells x (key_of e) fault None) (sym is.0) (h, is.1, reading_reason r reading)
+told_kind (what.MalformedValue r) None fault e reading h is = subst (λ (x : ErrorKind). Tells x (key_of e) fault None) (sym is.0) (h, is.1, reading r refl)
 told_kind (what.MalformedValue r) (Some key) fault e reading h is =
     elim is as (λ _. TellsFault e fault (Some key)) [
-      | inl a ↦ subst (λ (x : ErrorKind). Tells x (key_of e) fault (Some key)) (sym a.0) (h, a.1, reading_reason r reading)
+      | inl a ↦ subst (λ (x : ErrorKind). Tells x (key_of e) fault (Some key)) (sym a.0) (h, a.1, reading r refl)
       | inr a ↦ subst (λ (x : ErrorKind). Tells x (key_of e) fault (Some key)) (sym a.0) a.1
     ]
 told_kind (what.Utf8EncodingError u) None fault e reading h is = subst (λ (x : ErrorKind). Tells x (key_of e) fault None) (sym is.0) (h, is.1)

@@ -32,9 +32,9 @@ pub record TellsRefusal (b : List ℕ) (e : Error) : Type 0 where
 abbrev pub IsReadingReason : Reason → Type 0
 IsReadingReason r = (r ≢ reason.InteriorNul) × (r ≢ reason.TooLong)
 
--- a kind of error without a reason of writing
+-- a kind of error whose reason, if it has one, is one that reading has
 abbrev pub IsReadingKind : ErrorKind → Type 0
-IsReadingKind k = (k ≢ kind.MalformedValue reason.InteriorNul) × (k ≢ kind.MalformedValue reason.TooLong)
+IsReadingKind k = (r : Reason) → k ≡ kind.MalformedValue r → IsReadingReason r
 
 -- an error of this kind that carries this key says the fault with its key. For a fault that has a key,
 -- it may say instead, without a key, that memory ran out. No reading fault has a reason of writing.

@@ -30,7 +30,7 @@ impl<'a> RawArray<'a> {
     ghost use Rattle.raw_view.specs.Item.{Item, AreItems};
     ghost use Rattle.raw_view.specs.LookUp.{IsAt};
     ghost use Rattle.raw_view.specs.Meaning.{Meaning};
-    ghost use Rattle.raw_view.specs.OneReading.{IsTheAnswerAt};
+    ghost use Rattle.raw_view.specs.OneReading.{AreTheItems, IsTheAnswerAt};
     ghost use Rattle.raw_view.specs.Value.{array_bytes_of};
     ghost use Rattle.raw_view.specs.declared.bson_ref.RawBsonRef.{RawBsonRef};
     ghost use Rattle.raw_view.specs.declared.error.Error.{Error};
@@ -68,10 +68,11 @@ impl<'a> RawArray<'a> {
 
     /// The values in order, each fault in its value's place, and then the fault at which the elements stop,
     /// if there is one. Nothing is copied but the key that a fault carries. On n bytes at most
-    /// (n - 4) / 2 + 1 items.
+    /// (n - 4) / 2 + 1 items. The bytes alone determine what the items are.
     pub fn iter(self, alloc: Global) -> RawArrayIter<'a>
         ensures begins { result ≡ Some (drop 4 (array_bytes_of self.entry)) }
         ensures items { (outs : List (Result RawBsonRef Error)) → Drains (StepsItems TellsValue) result outs → (items : List Item) × AreItems (array_bytes_of self.entry) items × TellsEach TellsValue outs items }
+        ensures one_list { (items : List Item) × AreTheItems (array_bytes_of self.entry) items }
     {
         RawArrayIter::new(alloc, self.document)
     }

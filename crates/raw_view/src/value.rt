@@ -225,7 +225,8 @@ impl<'a> RawElement<'a> {
 
     /// The same as `value`.
     pub fn try_into_ref(self, alloc: Global) -> crate::error::Result<RawBsonRef<'a>>
-        ensures { (m : Meaning) × Means (frame_of self.entry) m × TellsMeaning result m }
+        ensures meaning { (m : Meaning) × Means (frame_of self.entry) m × TellsMeaning result m }
+        ensures one_meaning { (m : Meaning) × IsTheMeaning (frame_of self.entry) m }
     {
         self.value(alloc)
     }

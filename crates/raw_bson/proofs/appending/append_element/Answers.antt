@@ -1,4 +1,5 @@
-use Rattle.std.proofs.Common.{◌≡◌, arith, refl, rules, subst, sym}
+use Rattle.std.proofs.Common.{◌≡◌, ◌∙◌, ℕ, ap, arith, pos, refl, rules, subst, sym, SFits, w32}
+use Rattle.std.proofs.lemmas.Int.{to_z-of_z}
 use Rattle.raw_view.specs.Envelope.{IsEnvelope}
 use Rattle.raw_view.specs.Number.{IsBytes}
 use Rattle.raw_view.specs.Value.{value_of}
@@ -24,7 +25,7 @@ returns-then-is_err-clause-appends c =
     let p = c.payload_len.ensures in
     let s = c.saturating_add-added.ensures in
     let l = c.len.ensures in
-    rw c.new.ensures.kind ((search rules, omega (arith, len, some.0, some.1, p, s, l)), c.new.ensures.no_key, c.reserve.ensures.items)
+    rw c.new.ensures.kind ((search rules, omega (arith, len, some.1, p, s, l)), c.new.ensures.no_key, c.reserve.ensures.items)
 
 has_room : (c : goal.After-set_header) → HasRoom c.args.bytes.now.items c.args.key.now (value_of c.args.value)
 has_room c =
@@ -33,7 +34,7 @@ has_room c =
     let p = c.payload_len.ensures in
     let s = c.saturating_add-added.ensures in
     let l = c.len.ensures in
-    omega (arith, len, some.0, some.1, p, s, l)
+    omega (arith, len, some.1, p, s, l)
 
 written : (c : goal.After-set_header) → c.set_header.new.bytes.items ≡ appended_bytes c.args.bytes.now.items c.args.key.now (value_of c.args.value)
 written c =
@@ -42,7 +43,9 @@ written c =
     let p = c.payload_len.ensures in
     let s = c.saturating_add-added.ensures in
     let l = c.len.ensures in
-    rw (c.set_header.ensures, c.put_element.ensures.items, c.reserve.ensures.items) (written_is_appended c.args.bytes.now.items c.args.key.now (value_of c.args.value) c.in-Some.total c.requires.enough (omega (arith, len, some.0, some.1, p, s, l)))
+    let fits : SFits w32 c.in-Some.total = search rules in
+    let header = simp to_z-of_z at c.set_header.ensures in
+    rw (header, c.put_element.ensures.items, c.reserve.ensures.items) (written_is_appended c.args.bytes.now.items c.args.key.now (value_of c.args.value) c.in-Some.total c.requires.enough (some.0 ∙ ap (λ (n : ℕ). pos n) (omega (arith, len, some.1, p, s, l))))
 
 pub returns-clause-appends : goal.returns-clause-appends
 returns-clause-appends c = (search rules, has_room c, written c)

@@ -21,10 +21,10 @@ returns-clause-ok c =
     (room.0, room.1, rw room.2 at c.put_document.ensures.items)
 
 pub returns-in_err-out-clause-comes_back : goal.returns-in_err-out-clause-comes_back
-returns-in_err-out-clause-comes_back c = document_returns (entries (with_trees (pairs_of c.args.document.now)))
+returns-in_err-out-clause-comes_back c = document_returns
 
 pub returns-clause-comes_back : goal.returns-clause-comes_back
-returns-clause-comes_back c = document_returns (entries (with_trees (pairs_of c.args.document.now)))
+returns-clause-comes_back c = document_returns
 
 pub returns-clause-envelope : goal.returns-clause-envelope
 returns-clause-envelope c = document_enveloped (entries (with_trees (pairs_of c.args.document.now))) c.put_document.new.out.items c.put_document.ensures.bytes (returns-clause-ok c)

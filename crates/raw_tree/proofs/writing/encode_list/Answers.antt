@@ -21,10 +21,10 @@ returns-clause-ok c =
     (room.0, room.1, rw room.2 at c.put_list.ensures.items)
 
 pub returns-in_err-out-clause-comes_back : goal.returns-in_err-out-clause-comes_back
-returns-in_err-out-clause-comes_back c = array_returns (trees (map tree_of c.args.values.now))
+returns-in_err-out-clause-comes_back c = array_returns
 
 pub returns-clause-comes_back : goal.returns-clause-comes_back
-returns-clause-comes_back c = array_returns (trees (map tree_of c.args.values.now))
+returns-clause-comes_back c = array_returns
 
 pub returns-clause-envelope : goal.returns-clause-envelope
 returns-clause-envelope c = list_enveloped (trees (map tree_of c.args.values.now)) c.put_list.new.out.items c.put_list.ensures.bytes (returns-clause-ok c)

@@ -1,10 +1,18 @@
 use Rattle.std.proofs.Common.{Option, List, ℕ, subst}
 use Rattle.std.specs.Iterator.{Drains}
 use Rattle.raw_view.specs.Answers.{StepsItems, TellsValue}
+use Rattle.raw_view.specs.Value.{array_bytes_of}
 use Rattle.raw_view.proofs.ItemSteps.{items_of}
+use Rattle.raw_view.proofs.Meanings.{has_items}
+use Rattle.raw_view.proofs.UniqueItems.{the_items}
 use Rattle.raw_view.proofs.array.RawArray.iter.Goals as goal
 
 pub returns-clause-items : goal.returns-clause-items
 returns-clause-items c outs run =
     let t = items_of TellsValue _ outs (subst (λ (x : Option (List ℕ)). Drains (StepsItems TellsValue) x outs) c.new.ensures run) in
     (t.2, (t.0, t.1, t.3, t.4), t.5)
+
+pub returns-clause-one_list : goal.returns-clause-one_list
+returns-clause-one_list c =
+    let t = has_items (array_bytes_of c.args.self) c.args.self.document.envelope in
+    (t.0, the_items (array_bytes_of c.args.self) t.0 t.1)

@@ -1,0 +1,43 @@
+-- The canonical form theorem, from what is promised of every document.
+use Rattle.std.proofs.Common.{◌≡◌, ◌≤◌, List, ℕ, zero, suc, ap, sym, subst, ◌∙◌}
+use Rattle.bson_model.specs.Pairs.{keep}
+use Rattle.bson_model.specs.Tree.{Tree, Entries, document, entries}
+use Rattle.raw_view.specs.Envelope.{IsEnvelope}
+use Rattle.raw_tree.specs.Canonical.{IsCanonical}
+use Rattle.raw_tree.specs.CanonicalForm.{AllAreSpelledOneWay, ComesBack, DocumentsComeBack, IsCanonicalForm, IsSpelling}
+use Rattle.raw_tree.specs.Encoding.{encoding, encoded_len}
+use Rattle.raw_tree.specs.Reading.{AllAreReadOneWay, Reads, as_document}
+
+-- the tree of a document is that of its entries
+document_read : (b : List ℕ) (t : Tree) → Reads b t → (es : Entries) × (t ≡ document es)
+document_read b t (zero, h) = absurd h
+document_read b t (suc n, h) = (entries (keep h.1), h.4)
+
+module _ (come_back : DocumentsComeBack) (one_reading : AllAreReadOneWay as_document) (one_spelling : AllAreSpelledOneWay as_document) where
+  -- the encoding of a tree that was read comes back
+  read_comes_back : (b : List ℕ) (t : Tree) → IsEnvelope b → Reads b t → encoded_len t ≤ 2147483647 → IsEnvelope (encoding t) × Reads (encoding t) t × IsCanonical (encoding t)
+  read_comes_back b t env read size =
+      let made = document_read b t read in
+      subst (ComesBack as_document) (sym made.1) (come_back made.0) ((one_spelling b env).proper t read) size
+
+  -- the spelling of the tree of a document is its canonical form
+  pub canonical_form : (b a : List ℕ) (t : Tree) → IsEnvelope b → Reads b t → IsSpelling t a → IsCanonicalForm b a
+  canonical_form b a t env read s =
+      let back : IsEnvelope a × Reads a t × IsCanonical a = subst (λ (x : List ℕ). IsEnvelope x × Reads x t × IsCanonical x) s.1 (read_comes_back b t env read s.0) in
+      record {
+        envelope = env;
+        tree = t;
+        read = read;
+        spelled = s;
+        same_tree = λ c u envelope reads size. (
+          (λ e. (one_reading a back.0).one_tree t u back.1 (subst (λ (x : List ℕ). Reads x u) e (read_comes_back c u envelope reads size).1)),
+          (λ e. ap encoding e ∙ s.1),
+        );
+        unchanged = (
+          (λ e. ((one_spelling b env).unchanged t read).0 (s.0, s.1 ∙ e)),
+          (λ c. sym s.1 ∙ (((one_spelling b env).unchanged t read).1 c).1),
+        );
+        form_envelope = back.0;
+        canonical = back.2;
+        reads_back = back.1;
+      }
