@@ -1,5 +1,6 @@
 -- The lengths of encodings, and one more member or pair of a walk.
-use Rattle.std.proofs.Common.{◌≡◌, ◌≤◌, ◌<◌, ◌-◌, ◌^◌, ℕ, zero, suc, ◌+◌, List, [], ◌∷◌, ◌++◌, length, map, take, decimal, min, Some, slice_get, slice_index_or, get_or, refl, ap, sym, ◌∙◌, append_assoc, length-append, arith}
+use Rattle.std.proofs.Common.{◌≡◌, ◌≤◌, ◌<◌, ◌-◌, ◌^◌, ℕ, zero, suc, ◌+◌, List, [], ◌∷◌, ◌++◌, length, map, take, drop, decimal, pos, min, Some, slice_get, slice_index_or, get_or, refl, ap, sym, ◌∙◌, append_assoc, length-append, arith}
+use Rattle.std.proofs.Math.Seq.{take-append_seam, drop-append-add}
 use Rattle.std.proofs.lemmas.List.{append-nil}
 use Rattle.std.proofs.lemmas.Option.{slice_get-get_or}
 use Rattle.bson_model.specs.Bytes.{NulFree}
@@ -7,7 +8,7 @@ use Rattle.bson_model.specs.Proper.{IsNulFree, IsLeafNulFree, InTrees, InEntries
 use Rattle.bson_model.specs.Tree.{Tree, Trees, Entries, leaf, array, document, code_with_scope, no_tree, tree_then, no_entry, entry_then, trees, entries, tree_of, with_trees, tree_of_list}
 use Rattle.bson_model.specs.declared.bson.Bson.{Bson}
 use Rattle.bson_model.proofs.Steps.{trees-more, with_trees-more}
-use Rattle.raw_view.specs.Number.{IsBytes}
+use Rattle.raw_view.specs.Number.{IsBytes, le32}
 use Rattle.raw_view.specs.declared.element_type.ElementType.{ElementType}
 use Rattle.raw_tree.specs.Encoding.{element_of, kind_of_tree, tree_payload, items_bytes, entries_bytes, encoded_len, items_len, entries_len}
 use Rattle.raw_tree.specs.Judging.{Judges}
@@ -167,6 +168,12 @@ pair_fits ps i key v e = let s = entries_len-step ps i key v e in let h = entrie
 -- an element that is put behind others in two parts
 pub behind : (before others key payload : List ℕ) (tag : ℕ) → ((before ++ others) ++ tag ∷ (key ++ 0 ∷ [])) ++ payload ≡ before ++ (others ++ tag ∷ (key ++ 0 ∷ payload))
 behind before others key payload tag = simp append_assoc
+
+-- four bytes that are set to how many bytes there are from them on
+pub set_head : (before body whole : List ℕ) (start n : ℕ) → whole ≡ before ++ 0 ∷ 0 ∷ 0 ∷ 0 ∷ body → start ≡ length before → n ≡ length whole → take start whole ++ (le32 (pos (n - start)) ++ drop (start + 4) whole) ≡ before ++ (le32 (pos (4 + length body)) ++ body)
+set_head before body whole start n w s l =
+    let len : n - length before ≡ 4 + length body = omega (arith, ap length w, length-append before (0 ∷ 0 ∷ 0 ∷ 0 ∷ body)) in
+    rw (s, len, w, take-append_seam before (0 ∷ 0 ∷ 0 ∷ 0 ∷ body), drop-append-add before (0 ∷ 0 ∷ 0 ∷ 0 ∷ body) 4) refl
 
 -- what a vector of bytes holds
 pub all_bytes : (bytes : List ℕ) → ((i d : ℕ) → i < length bytes → slice_index_or bytes i d < 256) → IsBytes bytes

@@ -25,3 +25,14 @@ tag_of kind.Int64 = 0x12
 tag_of kind.Decimal128 = 0x13
 tag_of kind.MaxKey = 0x7F
 tag_of kind.MinKey = 0xFF
+
+-- some payload of this kind means a fault and no value
+abbrev pub CanBeAtFault : ElementType → Type 0
+CanBeAtFault kind.String = Unit {0}
+CanBeAtFault kind.JavaScriptCode = Unit {0}
+CanBeAtFault kind.Symbol = Unit {0}
+CanBeAtFault kind.DbPointer = Unit {0}
+CanBeAtFault kind.Boolean = Unit {0}
+CanBeAtFault kind.Binary = Unit {0}
+CanBeAtFault kind.JavaScriptCodeWithScope = Unit {0}
+CanBeAtFault _ = ⊥

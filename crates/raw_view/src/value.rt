@@ -1,4 +1,4 @@
-ghost use Rattle.std.specs.Prelude.{◌≡◌, length, take, drop, ℕ, List, IfOk, IfErr, OnErr, Some};
+ghost use Rattle.std.specs.Prelude.{◌≡◌, length, take, drop, ℕ, List, IfOk, IfErr, IfSome, IfNone, OnErr, Some};
 ghost use Rattle.std.specs.Str.{IsUtf8};
 ghost use Rattle.raw_view.specs.Frame.{HasText, HasPayload, IsBinary, IsDbPointer, IsRegex};
 ghost use Rattle.raw_view.specs.Answers.{TellsItem};
@@ -155,51 +155,68 @@ fn code_with_scope_of<'a>(
 }
 
 impl<'a> RawElement<'a> {
-    ghost use Rattle.raw_view.specs.Errors.{TellsFault};
     ghost use Rattle.raw_view.specs.ElementSteps.{frame_of};
+    ghost use Rattle.raw_view.specs.Kind.{CanBeAtFault};
     ghost use Rattle.raw_view.specs.Meaning.{Means, MeansFault, value};
     ghost use Rattle.raw_view.specs.Value.{value_of};
+
+    /// The value of a kind whose payloads all mean one; `None` for the kinds whose payload can be at fault.
+    fn faultless_value(self) -> Option<RawBsonRef<'a>>
+        ensures value { IfSome result (λ v. Means (frame_of self.entry) (value (value_of v))) }
+        ensures none { IfNone result (CanBeAtFault self.entry.kind) }
+    {
+        let payload = self.payload;
+        match self.kind {
+            ElementType::Double => Some(RawBsonRef::Double(DoubleBits(u64_of(payload)))),
+            ElementType::EmbeddedDocument => {
+                Some(RawBsonRef::Document(RawDocument::framed(payload)))
+            }
+            ElementType::Array => {
+                Some(RawBsonRef::Array(RawArray::from_doc(RawDocument::framed(payload))))
+            }
+            ElementType::Undefined => Some(RawBsonRef::Undefined),
+            ElementType::ObjectId => {
+                Some(RawBsonRef::ObjectId(ObjectId::from_bytes(array_of(payload))))
+            }
+            ElementType::DateTime => {
+                Some(RawBsonRef::DateTime(DateTime::from_millis(i64_of(payload))))
+            }
+            ElementType::Null => Some(RawBsonRef::Null),
+            ElementType::RegularExpression => {
+                Some(RawBsonRef::RegularExpression(regex_of(payload)))
+            }
+            ElementType::Int32 => Some(RawBsonRef::Int32(i32_of(payload))),
+            ElementType::Timestamp => Some(RawBsonRef::Timestamp(timestamp_of(payload))),
+            ElementType::Int64 => Some(RawBsonRef::Int64(i64_of(payload))),
+            ElementType::Decimal128 => {
+                Some(RawBsonRef::Decimal128(Decimal128::from_bytes(array_of(payload))))
+            }
+            ElementType::MaxKey => Some(RawBsonRef::MaxKey),
+            ElementType::MinKey => Some(RawBsonRef::MinKey),
+            _ => None,
+        }
+    }
 
     /// What the payload means; a fault borrows its key. Nothing is copied.
     pub(crate) fn resolve(self) -> Result<RawBsonRef<'a>, BorrowedError<'a>>
         ensures value { IfOk result (λ v. Means (frame_of self.entry) (value (value_of v))) }
         ensures fault { IfErr result (λ e. (fault : KeyedFault) × MeansFault self.entry.kind self.entry.key.now self.entry.payload.now fault × TellsBorrowed e fault) }
     {
+        if let Some(value) = self.faultless_value() {
+            return Ok(value);
+        }
         let payload = self.payload;
         match self.kind {
-            ElementType::Double => Ok(RawBsonRef::Double(DoubleBits(u64_of(payload)))),
             ElementType::String => Ok(RawBsonRef::String(text_of(payload)?)),
-            ElementType::EmbeddedDocument => Ok(RawBsonRef::Document(RawDocument::framed(payload))),
-            ElementType::Array => {
-                Ok(RawBsonRef::Array(RawArray::from_doc(RawDocument::framed(payload))))
-            }
             ElementType::Binary => Ok(RawBsonRef::Binary(binary_of(self.key, payload)?)),
-            ElementType::Undefined => Ok(RawBsonRef::Undefined),
-            ElementType::ObjectId => {
-                Ok(RawBsonRef::ObjectId(ObjectId::from_bytes(array_of(payload))))
-            }
             ElementType::Boolean => Ok(RawBsonRef::Boolean(boolean_of(self.key, payload)?)),
-            ElementType::DateTime => {
-                Ok(RawBsonRef::DateTime(DateTime::from_millis(i64_of(payload))))
-            }
-            ElementType::Null => Ok(RawBsonRef::Null),
-            ElementType::RegularExpression => {
-                Ok(RawBsonRef::RegularExpression(regex_of(payload)))
-            }
             ElementType::DbPointer => Ok(RawBsonRef::DbPointer(db_pointer_of(payload)?)),
             ElementType::JavaScriptCode => Ok(RawBsonRef::JavaScriptCode(text_of(payload)?)),
             ElementType::Symbol => Ok(RawBsonRef::Symbol(text_of(payload)?)),
             ElementType::JavaScriptCodeWithScope => Ok(RawBsonRef::JavaScriptCodeWithScope(
                 code_with_scope_of(self.key, payload)?,
             )),
-            ElementType::Int32 => Ok(RawBsonRef::Int32(i32_of(payload))),
-            ElementType::Timestamp => Ok(RawBsonRef::Timestamp(timestamp_of(payload))),
-            ElementType::Int64 => Ok(RawBsonRef::Int64(i64_of(payload))),
-            ElementType::Decimal128 => {
-                Ok(RawBsonRef::Decimal128(Decimal128::from_bytes(array_of(payload))))
-            }
-            ElementType::MaxKey => Ok(RawBsonRef::MaxKey),
-            ElementType::MinKey => Ok(RawBsonRef::MinKey),
+            _ => unreachable!(),
         }
     }
 }

@@ -4,7 +4,7 @@ use Rattle.std.proofs.lemmas.Result.{err_from_is_err_and}
 use Rattle.bson_model.specs.Pairs.{keep, with_pair}
 use Rattle.bson_model.specs.Tree.{Tree, document, array, code_with_scope, trees, entries, tree_of, with_trees, pairs_of}
 use Rattle.bson_model.proofs.Keep.{keep-last}
-use Rattle.bson_model.proofs.Trees.{tree_of-JavaScriptCodeWithScope}
+use Rattle.bson_model.proofs.Trees.{tree_of-Double, tree_of-Undefined, tree_of-ObjectId, tree_of-Boolean, tree_of-DateTime, tree_of-Null, tree_of-JavaScriptCodeWithScope, tree_of-Timestamp, tree_of-Decimal128, tree_of-MaxKey, tree_of-MinKey}
 use Rattle.raw_view.specs.Document.{bytes_of}
 use Rattle.raw_view.specs.ElementSteps.{StepsElement, frame_of}
 use Rattle.raw_view.specs.Value.{array_bytes_of}
@@ -108,3 +108,33 @@ read_list-returns-clause-tree t c =
     let inv = c.loop-element.invariant in
     let read : ReadsAs as_array (array_bytes_of c.args.array) (array (trees (map (λ p. p.1) inv.1))) = passed_end (array_bytes_of c.args.array) inv.0 inv.1 inv.3 as_array c.loop-element.element-iterator c.next.new.self inv.2 c.in-None.ensures.steps in
     subst (λ (ts : List Tree). ReadsAs as_array (array_bytes_of c.args.array) (array (trees ts))) (sym inv.4) read
+
+pub read_value-returns-in-Double-clause-tree : goal.read_value-returns-in-Double-clause-tree
+read_value-returns-in-Double-clause-tree t c = rw c.in-Double.is (tree_of-Double c.in-Double.x)
+
+pub read_value-returns-in-Boolean-clause-tree : goal.read_value-returns-in-Boolean-clause-tree
+read_value-returns-in-Boolean-clause-tree t c = rw c.in-Boolean.is (tree_of-Boolean c.in-Boolean.x)
+
+pub read_value-returns-in-Timestamp-clause-tree : goal.read_value-returns-in-Timestamp-clause-tree
+read_value-returns-in-Timestamp-clause-tree t c = rw c.in-Timestamp.is (tree_of-Timestamp c.in-Timestamp.x)
+
+pub read_value-returns-in-ObjectId-clause-tree : goal.read_value-returns-in-ObjectId-clause-tree
+read_value-returns-in-ObjectId-clause-tree t c = rw c.in-ObjectId.is (tree_of-ObjectId c.in-ObjectId.x)
+
+pub read_value-returns-in-DateTime-clause-tree : goal.read_value-returns-in-DateTime-clause-tree
+read_value-returns-in-DateTime-clause-tree t c = rw c.in-DateTime.is (tree_of-DateTime c.in-DateTime.x)
+
+pub read_value-returns-in-Decimal128-clause-tree : goal.read_value-returns-in-Decimal128-clause-tree
+read_value-returns-in-Decimal128-clause-tree t c = rw c.in-Decimal128.is (tree_of-Decimal128 c.in-Decimal128.x)
+
+pub read_value-returns-in-Null-clause-tree : goal.read_value-returns-in-Null-clause-tree
+read_value-returns-in-Null-clause-tree t c = rw c.in-Null.is tree_of-Null
+
+pub read_value-returns-in-Undefined-clause-tree : goal.read_value-returns-in-Undefined-clause-tree
+read_value-returns-in-Undefined-clause-tree t c = rw c.in-Undefined.is tree_of-Undefined
+
+pub read_value-returns-in-MaxKey-clause-tree : goal.read_value-returns-in-MaxKey-clause-tree
+read_value-returns-in-MaxKey-clause-tree t c = rw c.in-MaxKey.is tree_of-MaxKey
+
+pub read_value-returns-in-MinKey-clause-tree : goal.read_value-returns-in-MinKey-clause-tree
+read_value-returns-in-MinKey-clause-tree t c = rw c.in-MinKey.is tree_of-MinKey

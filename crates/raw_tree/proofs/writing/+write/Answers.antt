@@ -1,11 +1,14 @@
-use Rattle.std.proofs.Common.{[], ◌∷◌, length, length-append, ap, sym, ◌∙◌, arith}
-use Rattle.bson_model.specs.Tree.{tree_of, pairs_of}
+use Rattle.std.proofs.Common.{◌≡◌, ◌++◌, ◌∷◌, [], length, take, map, length-append, append_assoc, ap, sym, ◌∙◌, arith}
+use Rattle.std.proofs.lemmas.List.{take_all}
+use Rattle.std.specs.String.{string_bytes}
+use Rattle.bson_model.specs.Tree.{document, entries, trees, tree_of, pairs_of, with_trees}
 use Rattle.bson_model.proofs.Measures.{at_most_member, value_smaller, document_smaller, code_smaller, scope_smaller}
 use Rattle.bson_model.proofs.Trees.{tree_of-Array, tree_of-Document, tree_of-JavaScriptCodeWithScope}
 use Rattle.bson_model.specs.declared.bson.Bson.{size-Bson}
 use Rattle.bson_model.specs.declared.bson.Bson.TheViews.{sized-Array}
-use Rattle.raw_tree.specs.Encoding.{encoded_len}
-use Rattle.raw_tree.proofs.Encodings.{all_bytes, member_at, pair_fits, member_fits, entries_len-step, items_len-step, entries_bytes-step, items_bytes-step, behind}
+use Rattle.raw_tree.specs.Encoding.{encoded_len, tree_payload, items_bytes, entries_bytes}
+use Rattle.raw_tree.specs.Payload.{string_payload}
+use Rattle.raw_tree.proofs.Encodings.{all_bytes, member_at, pair_fits, member_fits, entries_len-step, items_len-step, entries_bytes-step, items_bytes-step, behind, set_head}
 use Rattle.raw_tree.proofs.writing.+write.Goals as goal
 
 pub put_document-put_head-requires : goal.put_document-put_head-requires
@@ -88,3 +91,29 @@ put_document-returns-clause-bytes t c = all_bytes _ c.type_inv.out
 
 pub put_list-returns-clause-bytes : goal.put_list-returns-clause-bytes
 put_list-returns-clause-bytes t c = all_bytes _ c.type_inv.out
+
+pub put_document-returns-clause-items : goal.put_document-returns-clause-items
+put_document-returns-clause-items t c =
+    let ps = pairs_of c.args.document.now in
+    let all : take c.loop-index.index ps ≡ ps = take_all _ _ (omega arith) in
+    let whole : c.put-2.new.out.items ≡ c.args.out.now.items ++ 0 ∷ 0 ∷ 0 ∷ 0 ∷ (entries_bytes (entries (with_trees ps)) ++ 0 ∷ []) =
+        rw (c.put-2.ensures.items, c.loop-index.invariant.items, all) (simp append_assoc) in
+    c.set_len.ensures.items ∙ set_head _ _ _ _ _ whole (omega arith) (omega arith)
+
+pub put_list-returns-clause-items : goal.put_list-returns-clause-items
+put_list-returns-clause-items t c =
+    let vs = c.args.values.now in
+    let all : take c.loop-index.index vs ≡ vs = take_all _ _ (omega arith) in
+    let whole : c.put-2.new.out.items ≡ c.args.out.now.items ++ 0 ∷ 0 ∷ 0 ∷ 0 ∷ (items_bytes 0 (trees (map tree_of vs)) ++ 0 ∷ []) =
+        rw (c.put-2.ensures.items, c.loop-index.invariant.items, all) (simp append_assoc) in
+    c.set_len.ensures.items ∙ set_head _ _ _ _ _ whole (omega arith) (omega arith)
+
+pub put_value-returns-in-JavaScriptCodeWithScope-clause-items :
+    goal.put_value-returns-in-JavaScriptCodeWithScope-clause-items
+put_value-returns-in-JavaScriptCodeWithScope-clause-items t c =
+    let code = c.in-JavaScriptCodeWithScope.code in
+    let tree = ap tree_payload (ap (λ v. tree_of v) c.in-JavaScriptCodeWithScope.is ∙ tree_of-JavaScriptCodeWithScope code) in
+    let scope = tree_payload (document (entries (with_trees (pairs_of code.scope)))) in
+    let whole : c.put_document-in-JavaScriptCodeWithScope.new.out.items ≡ c.args.out.now.items ++ 0 ∷ 0 ∷ 0 ∷ 0 ∷ (string_payload (string_bytes code.code) ++ scope) =
+        rw (c.put_document-in-JavaScriptCodeWithScope.ensures.items, c.put_string.ensures.items, c.put.ensures.items, c.deref-in-JavaScriptCodeWithScope.ensures) (simp append_assoc) in
+    c.set_len.ensures.items ∙ set_head _ _ _ _ _ whole (omega arith) (omega arith) ∙ ap (λ b. c.args.out.now.items ++ b) (sym tree)

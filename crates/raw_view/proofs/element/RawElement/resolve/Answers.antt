@@ -1,6 +1,5 @@
-use Rattle.std.proofs.Common.{lit<}
 use Rattle.std.proofs.lemmas.Result.{err_from_is_err_and}
-use Rattle.raw_view.proofs.Shapes.{text_had, binary_had, document_had, pointer_had, double_had, object_id_had, boolean_had, int32_had, decimal128_had}
+use Rattle.raw_view.proofs.Shapes.{text_had, binary_had, pointer_had, boolean_had}
 use Rattle.raw_view.proofs.element.RawElement.resolve.Goals as goal
 
 pub text_of-requires : goal.text_of-requires
@@ -12,41 +11,14 @@ text_of-requires-in-JavaScriptCode c = text_had _ (rw c.in-JavaScriptCode.is at 
 pub text_of-requires-in-Symbol : goal.text_of-requires-in-Symbol
 text_of-requires-in-Symbol c = text_had _ (rw c.in-Symbol.is at c.args.self.framed)
 
-pub framed-requires : goal.framed-requires
-framed-requires c = document_had _ (rw c.in-EmbeddedDocument.is at c.args.self.framed)
-
-pub framed-requires-in-Array : goal.framed-requires-in-Array
-framed-requires-in-Array c = document_had _ (rw c.in-Array.is at c.args.self.framed)
-
 pub binary_of-requires : goal.binary_of-requires
 binary_of-requires c = binary_had _ (rw c.in-Binary.is at c.args.self.framed)
-
-pub array_of-requires : goal.array_of-requires
-array_of-requires c = (lit< tt, object_id_had _ (rw c.in-ObjectId.is at c.args.self.framed))
 
 pub boolean_of-requires : goal.boolean_of-requires
 boolean_of-requires c = boolean_had _ (rw c.in-Boolean.is at c.args.self.framed)
 
-pub i64_of-requires : goal.i64_of-requires
-i64_of-requires c = double_had _ (rw c.in-DateTime.is at c.args.self.framed)
-
-pub i64_of-requires-in-Int64 : goal.i64_of-requires-in-Int64
-i64_of-requires-in-Int64 c = double_had _ (rw c.in-Int64.is at c.args.self.framed)
-
-pub timestamp_of-requires : goal.timestamp_of-requires
-timestamp_of-requires c = double_had _ (rw c.in-Timestamp.is at c.args.self.framed)
-
-pub i32_of-requires : goal.i32_of-requires
-i32_of-requires c = int32_had _ (rw c.in-Int32.is at c.args.self.framed)
-
-pub array_of-requires-in-Decimal128 : goal.array_of-requires-in-Decimal128
-array_of-requires-in-Decimal128 c = (lit< tt, decimal128_had _ (rw c.in-Decimal128.is at c.args.self.framed))
-
 pub db_pointer_of-requires : goal.db_pointer_of-requires
 db_pointer_of-requires c = pointer_had _ (rw c.in-DbPointer.is at c.args.self.framed)
-
-pub regex_of-requires : goal.regex_of-requires
-regex_of-requires c = rw c.in-RegularExpression.is at c.args.self.framed
 
 pub code_with_scope_of-requires : goal.code_with_scope_of-requires
 code_with_scope_of-requires c = rw c.in-JavaScriptCodeWithScope.is at c.args.self.framed
