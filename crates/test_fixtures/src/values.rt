@@ -1,13 +1,14 @@
+//! A value of each kind, borrowed: those of the document of all kinds.
+
 use crate::documents::{EMPTY, NULL_ARRAY, NULL_DOCUMENT};
-use raw_bson::{
-    BinarySubtype, DateTime, Decimal128, DoubleBits, ElementType, ObjectId, RawArray, RawBinaryRef,
-    RawBsonRef, RawDbPointerRef, RawDocument, RawJavaScriptCodeWithScopeRef, RawRegexRef,
-    Timestamp,
+use bson_model::{BinarySubtype, DateTime, Decimal128, DoubleBits, ObjectId, Timestamp};
+use raw_view::{
+    ElementType, RawArray, RawBinaryRef, RawBsonRef, RawDbPointerRef, RawDocument,
+    RawJavaScriptCodeWithScopeRef, RawRegexRef, Result,
 };
-use std::test::Fail;
 
 /// The kinds in the order of their tags, each with its key in the document of all kinds.
-pub(crate) const KINDS: [(&str, ElementType); 21] = [
+pub const KINDS: [(&str, ElementType); 21] = [
     ("a", ElementType::Double),
     ("b", ElementType::String),
     ("c", ElementType::EmbeddedDocument),
@@ -31,26 +32,47 @@ pub(crate) const KINDS: [(&str, ElementType); 21] = [
     ("u", ElementType::MinKey),
 ];
 
-pub(crate) const MOMENT: Timestamp = Timestamp {
+/// Whether there is an accessor for this kind.
+pub fn has_accessor(kind: ElementType) -> bool {
+    !matches!(
+        kind,
+        ElementType::Undefined | ElementType::Decimal128 | ElementType::MaxKey | ElementType::MinKey
+    )
+}
+
+/// The double of the document of all kinds, 1.5.
+pub const HALF_MORE_THAN_ONE: DoubleBits = DoubleBits(0x3FF8_0000_0000_0000);
+
+/// Its timestamp.
+pub const MOMENT: Timestamp = Timestamp {
     time: 649876543,
     increment: 9,
 };
 
-const ID: [u8; 12] = [1, 2, 3, 4, 5, 6, 7, 8, 9, 10, 11, 12];
+/// Its object id.
+pub fn id() -> ObjectId {
+    ObjectId::from_bytes([1, 2, 3, 4, 5, 6, 7, 8, 9, 10, 11, 12])
+}
 
-const POINTED: [u8; 12] = [12, 11, 10, 9, 8, 7, 6, 5, 4, 3, 2, 1];
+/// The object id that its pointer holds.
+pub fn pointed() -> ObjectId {
+    ObjectId::from_bytes([12, 11, 10, 9, 8, 7, 6, 5, 4, 3, 2, 1])
+}
 
-const DECIMAL: [u8; 16] = [0, 1, 2, 3, 4, 5, 6, 7, 8, 9, 10, 11, 12, 13, 14, 15];
+/// Its decimal.
+pub fn decimal() -> Decimal128 {
+    Decimal128::from_bytes([0, 1, 2, 3, 4, 5, 6, 7, 8, 9, 10, 11, 12, 13, 14, 15])
+}
 
 /// A view of these bytes as an array.
-pub(crate) fn array_view(bytes: &[u8]) -> Result<RawArray<'_>, Fail> {
+pub fn array_view(bytes: &[u8]) -> Result<RawArray<'_>> {
     Ok(RawArray::from_doc(RawDocument::from_bytes(bytes)?))
 }
 
-/// The value of this kind in that document.
-pub(crate) fn borrowed(kind: ElementType) -> Result<RawBsonRef<'static>, Fail> {
+/// The value of this kind in the document of all kinds.
+pub fn borrowed(kind: ElementType) -> Result<RawBsonRef<'static>> {
     Ok(match kind {
-        ElementType::Double => RawBsonRef::Double(DoubleBits(0x3FF8_0000_0000_0000)),
+        ElementType::Double => RawBsonRef::Double(HALF_MORE_THAN_ONE),
         ElementType::String => RawBsonRef::String("s"),
         ElementType::EmbeddedDocument => {
             RawBsonRef::Document(RawDocument::from_bytes(NULL_DOCUMENT)?)
@@ -61,7 +83,7 @@ pub(crate) fn borrowed(kind: ElementType) -> Result<RawBsonRef<'static>, Fail> {
             bytes: b"\x01\x02",
         }),
         ElementType::Undefined => RawBsonRef::Undefined,
-        ElementType::ObjectId => RawBsonRef::ObjectId(ObjectId::from_bytes(ID)),
+        ElementType::ObjectId => RawBsonRef::ObjectId(id()),
         ElementType::Boolean => RawBsonRef::Boolean(true),
         ElementType::DateTime => RawBsonRef::DateTime(DateTime::from_millis(-1)),
         ElementType::Null => RawBsonRef::Null,
@@ -73,12 +95,9 @@ pub(crate) fn borrowed(kind: ElementType) -> Result<RawBsonRef<'static>, Fail> {
     })
 }
 
-fn rarer_borrowed(kind: ElementType) -> Result<RawBsonRef<'static>, Fail> {
+fn rarer_borrowed(kind: ElementType) -> Result<RawBsonRef<'static>> {
     Ok(match kind {
-        ElementType::DbPointer => RawBsonRef::DbPointer(RawDbPointerRef::new(
-            "db.c",
-            ObjectId::from_bytes(POINTED),
-        )),
+        ElementType::DbPointer => RawBsonRef::DbPointer(RawDbPointerRef::new("db.c", pointed())),
         ElementType::JavaScriptCode => RawBsonRef::JavaScriptCode("f"),
         ElementType::Symbol => RawBsonRef::Symbol("y"),
         ElementType::JavaScriptCodeWithScope => {
@@ -90,24 +109,8 @@ fn rarer_borrowed(kind: ElementType) -> Result<RawBsonRef<'static>, Fail> {
         ElementType::Int32 => RawBsonRef::Int32(7),
         ElementType::Timestamp => RawBsonRef::Timestamp(MOMENT),
         ElementType::Int64 => RawBsonRef::Int64(-2),
-        ElementType::Decimal128 => RawBsonRef::Decimal128(Decimal128::from_bytes(DECIMAL)),
+        ElementType::Decimal128 => RawBsonRef::Decimal128(decimal()),
         ElementType::MaxKey => RawBsonRef::MaxKey,
         _ => RawBsonRef::MinKey,
     })
-}
-
-/// Whether an owned value of this kind has memory of its own.
-pub(crate) fn has_memory(kind: ElementType) -> bool {
-    matches!(
-        kind,
-        ElementType::String
-            | ElementType::EmbeddedDocument
-            | ElementType::Array
-            | ElementType::Binary
-            | ElementType::RegularExpression
-            | ElementType::DbPointer
-            | ElementType::JavaScriptCode
-            | ElementType::Symbol
-            | ElementType::JavaScriptCodeWithScope
-    )
 }
