@@ -3,6 +3,7 @@ use raw_view::{
     ElementType, Error, ErrorKind, RawArray, RawBinaryRef, RawBsonRef, RawDbPointerRef,
     RawDocument, RawJavaScriptCodeWithScopeRef, RawRegexRef, Reason, ValueAccessErrorKind,
 };
+use std::process::Abort;
 use std::test::Fail;
 use test_fixtures::*;
 
@@ -55,26 +56,36 @@ fn accessed<'a>(value: RawBsonRef<'a>, kind: ElementType) -> Option<RawBsonRef<'
     })
 }
 
-/// Of each kind the value that stands in the document; the accessor for its kind answers it, and no other does.
+/// The item is the value of this kind under this key; the accessor for its kind answers it, and no other does.
+fn assert_kind(
+    rt: &impl Abort,
+    item: Option<raw_view::Result<(&str, RawBsonRef<'_>)>>,
+    key: &str,
+    kind: ElementType,
+) -> Result<(), Fail> {
+    let Some(Ok((found, value))) = item else {
+        assert!(rt; false, "{key}");
+        return Ok(());
+    };
+    assert_eq!(rt; found, key);
+    assert_eq!(rt; value.element_type(), kind, "{key}");
+    assert_eq!(rt; value, borrowed(kind)?, "{key}");
+    for (_, asked) in KINDS {
+        let wanted = if asked == kind && has_accessor(kind) {
+            Some(value)
+        } else {
+            None
+        };
+        assert_eq!(rt; accessed(value, asked), wanted, "{asked:?} of {kind:?}");
+    }
+    Ok(())
+}
+
 #[test]
 fn each_kind_has_its_value_and_its_accessor(rt: HostRuntime) -> Result<(), Fail> {
     let mut iter = RawDocument::from_bytes(ALL_KINDS)?.iter(rt.alloc());
     for (key, kind) in KINDS {
-        let Some(Ok((found, value))) = iter.next() else {
-            assert!(rt; false, "{key}");
-            return Ok(());
-        };
-        assert_eq!(rt; found, key);
-        assert_eq!(rt; value.element_type(), kind, "{key}");
-        assert_eq!(rt; value, borrowed(kind)?, "{key}");
-        for (_, asked) in KINDS {
-            let wanted = if asked == kind && has_accessor(kind) {
-                Some(value)
-            } else {
-                None
-            };
-            assert_eq!(rt; accessed(value, asked), wanted, "{asked:?} of {kind:?}");
-        }
+        assert_kind(&rt, iter.next(), key, kind)?;
     }
     assert!(rt; iter.next().is_none());
     Ok(())
