@@ -1,12 +1,12 @@
 use crate::asserts::{assert_array_text, assert_one_pair, assert_refused};
-use crate::documents::*;
-use crate::fixtures::{KINDS, array_of, array_view, borrowed, has_getter, owned};
+use crate::fixtures::{array_of, owned};
 use raw_bson::{
     ElementType, RawArrayBuf, RawBson, RawBsonRef, Reason, Regex, ToRawArrayBuf,
     ValueAccessErrorKind, ValueAccessResult, is_same_array_buf,
 };
 use std::process::Abort;
 use std::test::Fail;
+use test_fixtures::*;
 
 /// Iteration over the array yields just these values, and so does the look-up by position.
 fn assert_values(
@@ -165,6 +165,7 @@ fn get<'a>(
     })
 }
 
+/// Each getter has the value of its own kind, and of every other kind it says which it is.
 #[test]
 fn twelve_getters(rt: HostRuntime) -> Result<(), Fail> {
     let mut array = RawArrayBuf::new(rt.alloc())?;
@@ -174,11 +175,19 @@ fn twelve_getters(rt: HostRuntime) -> Result<(), Fail> {
     // each element is as in the document of all kinds, but that eleven of the keys have two digits
     assert_eq!(rt; array.as_bytes().len(), 224);
     for (index, (_, kind)) in KINDS.into_iter().enumerate() {
-        if has_getter(kind) {
-            assert!(rt; get(&array, kind, index) == Ok(borrowed(kind)?), "{kind:?}");
-        } else {
-            assert!(rt; array.get(index)? == Some(borrowed(kind)?), "{kind:?}");
+        assert!(rt; array.get(index)? == Some(borrowed(kind)?), "{kind:?}");
+    }
+    let checks = Checks::ample(rt.alloc());
+    for (_, asked) in KINDS {
+        if !has_getter(asked) {
+            continue;
         }
+        for (index, (_, kind)) in KINDS.into_iter().enumerate() {
+            let place = format!(in rt.alloc(); "{index}")?;
+            let answer = get(&array, asked, index);
+            checks.typed(answer, asked, borrowed(kind)?, place.as_str())?;
+        }
+        checks.no_value(get(&array, asked, 21), NoValue::NotPresent, "21")?;
     }
     Ok(())
 }

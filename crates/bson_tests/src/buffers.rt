@@ -1,6 +1,5 @@
 use crate::asserts::{assert_malformed, assert_one_pair, assert_pair, assert_refused};
-use crate::documents::*;
-use crate::fixtures::{MOMENT, document_of};
+use crate::fixtures::document_of;
 use raw_bson::{
     Binary, BinarySubtype, ElementType, RawBson, RawBsonRef, RawDocumentBuf, RawRegexRef, Reason,
     Regex, total_len,
@@ -8,6 +7,7 @@ use raw_bson::{
 use std::alloc::Global;
 use std::process::Abort;
 use std::test::Fail;
+use test_fixtures::*;
 
 /// The first element is of this kind and key and has so many bytes, and its value is malformed at that key.
 fn assert_first_is_malformed(

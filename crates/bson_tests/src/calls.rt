@@ -1,12 +1,12 @@
 use crate::asserts::{assert_pair, assert_refused};
-use crate::documents::*;
-use crate::fixtures::{KINDS, borrowed, document_of, has_getter, owned};
+use crate::fixtures::{document_of, owned};
 use raw_bson::{
     ElementType, Error, ErrorKind, RawBson, RawBsonRef, RawDocumentBuf, Reason,
     ValueAccessErrorKind, ValueAccessResult, is_same_document_buf,
 };
 use std::process::Abort;
 use std::test::Fail;
+use test_fixtures::*;
 
 #[test]
 fn a_value_of_each_kind_is_appended(rt: HostRuntime) -> Result<(), Fail> {
@@ -129,28 +129,19 @@ fn get<'a>(
     })
 }
 
+/// Each getter has the value of its own kind, and of every other kind it says which it is.
 #[test]
 fn twelve_getters(rt: HostRuntime) -> Result<(), Fail> {
+    let checks = Checks::ample(rt.alloc());
     let document = document_of(rt.alloc(), ALL_KINDS)?;
-    for (key, kind) in KINDS {
-        if !has_getter(kind) {
+    for (_, asked) in KINDS {
+        if !has_getter(asked) {
             continue;
         }
-        assert!(rt;
-            get(&document, kind, key) == Ok(borrowed(kind)?),
-            "{kind:?}"
-        );
-        match get(&document, kind, "j") {
-            Ok(_) => assert!(rt; false, "{kind:?}"),
-            Err(error) => {
-                let unexpected = ValueAccessErrorKind::UnexpectedType {
-                    expected: kind,
-                    actual: ElementType::Null,
-                };
-                assert!(rt; error.kind == unexpected, "{kind:?}");
-                assert_eq!(rt; error.key(), "j");
-            }
+        for (key, kind) in KINDS {
+            checks.typed(get(&document, asked, key), asked, borrowed(kind)?, key)?;
         }
+        checks.no_value(get(&document, asked, "x"), NoValue::NotPresent, "x")?;
     }
     Ok(())
 }

@@ -1,12 +1,12 @@
 use crate::asserts::{assert_array_text, assert_malformed};
-use crate::documents::*;
-use crate::fixtures::{KINDS, array_of, array_view, borrowed, document_of, owned};
+use crate::fixtures::{array_of, document_of, owned};
 use raw_bson::{
     Binary, BinarySubtype, CowRawArray, CowRawDocument, RawBinaryRef, RawBson, RawBsonRef,
     RawDocument, RawRegexRef, Reason, Regex, ToRawArrayBuf, ToRawBson, ToRawDocumentBuf,
 };
 use std::process::Abort;
 use std::test::Fail;
+use test_fixtures::*;
 
 #[test]
 fn a_view_of_a_document_is_copied(rt: HostRuntime) -> Result<(), Fail> {

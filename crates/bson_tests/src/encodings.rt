@@ -1,52 +1,32 @@
 use crate::asserts::assert_refused;
-use raw_bson::{Binary, BinarySubtype, Bson, Document, Reason, Result, encode, encode_list};
-use std::alloc::Global;
-use std::process::Abort;
+use crate::trees_fixtures::{assert_bytes, one_pair, text};
+use raw_bson::{Binary, BinarySubtype, Bson, Reason, encode, encode_list};
 use std::test::Fail;
 
-/// The document of one pair.
-fn one_pair(alloc: Global, key: &str, value: Bson) -> std::result::Result<Document, Fail> {
-    let mut document = Document::new(alloc);
-    let _ = document.insert(String::from_str(alloc, key)?, value)?;
-    Ok(document)
-}
-
-/// The answer is these bytes.
-fn assert_written(rt: &impl Abort, answer: Result<Vec<u8>>, bytes: &[u8]) {
-    match answer {
-        Ok(written) => assert_eq!(rt; written.as_slice(), bytes),
-        Err(error) => assert!(rt; false, "{error}"),
-    }
-}
-
 #[test]
-fn hello_world_written(rt: HostRuntime) -> std::result::Result<(), Fail> {
+fn hello_world_written(rt: HostRuntime) -> Result<(), Fail> {
     let alloc = rt.alloc();
-    let document = one_pair(
-        alloc,
-        "hello",
-        Bson::String(String::from_str(alloc, "world")?),
-    )?;
+    let document = one_pair(alloc, "hello", text(alloc, "world")?)?;
     let bytes = b"\x16\0\0\0\x02hello\0\x06\0\0\0world\0\0";
-    assert_written(&rt, encode(alloc, &document), bytes);
+    assert_bytes(&rt, encode(alloc, &document), bytes);
     Ok(())
 }
 
 #[test]
-fn a_list_is_written_under_decimals(rt: HostRuntime) -> std::result::Result<(), Fail> {
+fn a_list_is_written_under_decimals(rt: HostRuntime) -> Result<(), Fail> {
     let alloc = rt.alloc();
     let mut values = Vec::new(alloc);
     values.push(Bson::Null)?;
-    assert_written(&rt, encode_list(alloc, &values), b"\x08\0\0\0\x0A0\0\0");
-    assert_written(&rt, encode_list(alloc, &[]), b"\x05\0\0\0\0");
+    assert_bytes(&rt, encode_list(alloc, &values), b"\x08\0\0\0\x0A0\0\0");
+    assert_bytes(&rt, encode_list(alloc, &[]), b"\x05\0\0\0\0");
     values.push(Bson::Array(Vec::new(alloc)))?;
     let bytes = b"\x10\0\0\0\x0A0\0\x041\0\x05\0\0\0\0\0";
-    assert_written(&rt, encode_list(alloc, &values), bytes);
+    assert_bytes(&rt, encode_list(alloc, &values), bytes);
     Ok(())
 }
 
 #[test]
-fn user_defined_subtype_two_has_no_inner_length(rt: HostRuntime) -> std::result::Result<(), Fail> {
+fn user_defined_subtype_two_has_no_inner_length(rt: HostRuntime) -> Result<(), Fail> {
     let alloc = rt.alloc();
     let binary = Binary {
         subtype: BinarySubtype::UserDefined(2),
@@ -54,12 +34,12 @@ fn user_defined_subtype_two_has_no_inner_length(rt: HostRuntime) -> std::result:
     };
     let document = one_pair(alloc, "b", Bson::Binary(binary))?;
     let bytes = b"\x11\0\0\0\x05b\0\x04\0\0\0\x02\x01\x02\x03\x04\0";
-    assert_written(&rt, encode(alloc, &document), bytes);
+    assert_bytes(&rt, encode(alloc, &document), bytes);
     Ok(())
 }
 
 #[test]
-fn nul_in_a_nested_key(rt: HostRuntime) -> std::result::Result<(), Fail> {
+fn nul_in_a_nested_key(rt: HostRuntime) -> Result<(), Fail> {
     let alloc = rt.alloc();
     let inner = one_pair(alloc, "x\0", Bson::Null)?;
     let document = one_pair(alloc, "a", Bson::Document(inner))?;

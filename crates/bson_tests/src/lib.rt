@@ -1,5 +1,6 @@
 //! Tests of `raw_bson` through its public calls. They stand apart, so that `raw_bson` isn't proved twice, and list
-//! `raw_bson` alone, as a user does. Those with requests for memory refused stand in `memory_tests`.
+//! beside the shared fixtures `raw_bson` alone, as a user does. Those with requests for memory refused stand in
+//! `memory_tests`.
 #![tactic(auto)]
 
 #[cfg(test)]
@@ -12,8 +13,6 @@ mod buffers;
 mod calls;
 #[cfg(test)]
 mod copies;
-#[cfg(test)]
-mod documents;
 #[cfg(test)]
 mod encodings;
 #[cfg(test)]

@@ -1,10 +1,10 @@
 use crate::asserts::assert_array_text;
-use crate::documents::{EMPTY, GREETING, NULL_ARRAY};
 use crate::fixtures::{array_of, code_of, document_of};
 use raw_bson::{Error, ErrorKind, RawArrayBuf, RawBson, RawDocumentBuf, Reason};
 use std::alloc::Global;
 use std::process::Abort;
 use std::test::Fail;
+use test_fixtures::{EMPTY, GREETING, NULL_ARRAY};
 
 #[test]
 fn buffers_have_a_debug_text(rt: HostRuntime) -> Result<(), Fail> {

@@ -1,5 +1,4 @@
 use crate::asserts::{assert_array_text, assert_refused};
-use crate::documents::*;
 use crate::fixtures::{code_of, document_of};
 use crate::trees_fixtures::{
     assert_bytes, assert_fault, assert_owned, assert_read, empty_code, one_and_two, one_pair, put,
@@ -13,6 +12,7 @@ use raw_bson::{
 use std::alloc::Global;
 use std::process::Abort;
 use std::test::Fail;
+use test_fixtures::*;
 
 /// The number 1 under the key `i`.
 const ONE: &[u8] = b"\x0C\0\0\0\x10i\0\x01\0\0\0\0";

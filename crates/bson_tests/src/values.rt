@@ -1,13 +1,13 @@
 use crate::asserts::assert_one_pair;
-use crate::documents::*;
-use crate::fixtures::{KINDS, array_of, borrowed, code_of, document_of, owned};
+use crate::fixtures::{array_of, code_of, document_of, owned};
 use raw_bson::{
-    Binary, BinarySubtype, DoubleBits, ElementType, RawBson, RawBsonRef, Regex, is_same_code,
-    is_same_value,
+    Binary, BinarySubtype, DateTime, DoubleBits, ElementType, RawBson, RawBsonRef, Regex,
+    is_same_code, is_same_value,
 };
 use std::alloc::Global;
 use std::process::Abort;
 use std::test::Fail;
+use test_fixtures::*;
 
 /// What the accessor for this kind answers; a kind without an accessor has the answer `None`.
 fn accessed<'a>(value: &'a RawBson, kind: ElementType) -> Option<RawBsonRef<'a>> {
@@ -38,20 +38,68 @@ fn accessed<'a>(value: &'a RawBson, kind: ElementType) -> Option<RawBsonRef<'a>>
     })
 }
 
-/// Whether there is an accessor for this kind.
-fn has_accessor(kind: ElementType) -> bool {
-    !matches!(
-        kind,
-        ElementType::Undefined | ElementType::Decimal128 | ElementType::MaxKey | ElementType::MinKey
-    )
-}
-
 #[test]
 fn a_value_of_each_kind_has_its_kind_and_its_view(rt: HostRuntime) -> Result<(), Fail> {
     for (_, kind) in KINDS {
         let value = owned(rt.alloc(), kind)?;
         assert_eq!(rt; value.element_type(), kind);
         assert_eq!(rt; value.as_raw_bson_ref(), borrowed(kind)?);
+    }
+    Ok(())
+}
+
+/// Whether a part of this kind is converted to a value.
+fn has_conversion(kind: ElementType) -> bool {
+    !matches!(
+        kind,
+        ElementType::Undefined
+            | ElementType::Null
+            | ElementType::JavaScriptCode
+            | ElementType::Symbol
+            | ElementType::MaxKey
+            | ElementType::MinKey
+    )
+}
+
+/// A conversion makes the variant that its part names.
+#[test]
+fn conversions_make_values_of_their_kinds(rt: HostRuntime) -> Result<(), Fail> {
+    for (_, kind) in KINDS {
+        let is_variant = match owned(rt.alloc(), kind)? {
+            RawBson::Double(x) => kind == ElementType::Double && x == HALF_MORE_THAN_ONE,
+            RawBson::String(x) => kind == ElementType::String && x.as_str() == "s",
+            RawBson::Document(x) => {
+                kind == ElementType::EmbeddedDocument && x.as_bytes() == NULL_DOCUMENT
+            }
+            RawBson::Array(x) => kind == ElementType::Array && x.as_bytes() == NULL_ARRAY,
+            RawBson::Binary(x) => {
+                kind == ElementType::Binary && x.bytes.as_slice() == b"\x01\x02".as_slice()
+            }
+            RawBson::ObjectId(x) => kind == ElementType::ObjectId && x == id(),
+            RawBson::Boolean(x) => kind == ElementType::Boolean && x,
+            RawBson::DateTime(x) => {
+                kind == ElementType::DateTime && x == DateTime::from_millis(-1)
+            }
+            RawBson::RegularExpression(x) => {
+                kind == ElementType::RegularExpression && x.pattern.as_str() == "a"
+            }
+            RawBson::DbPointer(x) => kind == ElementType::DbPointer && x.id == pointed(),
+            RawBson::JavaScriptCodeWithScope(x) => {
+                kind == ElementType::JavaScriptCodeWithScope && x.code.as_str() == "g"
+            }
+            RawBson::Int32(x) => kind == ElementType::Int32 && x == 7,
+            RawBson::Timestamp(x) => kind == ElementType::Timestamp && x == MOMENT,
+            RawBson::Int64(x) => kind == ElementType::Int64 && x == -2,
+            RawBson::Decimal128(x) => kind == ElementType::Decimal128 && x == decimal(),
+            // no conversion makes these
+            RawBson::Undefined
+            | RawBson::Null
+            | RawBson::JavaScriptCode(_)
+            | RawBson::Symbol(_)
+            | RawBson::MaxKey
+            | RawBson::MinKey => !has_conversion(kind),
+        };
+        assert!(rt; is_variant, "{kind:?}");
     }
     Ok(())
 }

@@ -1,12 +1,11 @@
-use crate::asserts::{NoValue, Want, assert_answer, assert_no_value};
-use crate::documents::*;
-use crate::fixtures::array_view;
 use raw_bson::{RawBsonRef, ValueAccessErrorKind};
 use std::test::Fail;
+use test_fixtures::*;
 
 /// Items are counted from 0, the faults and the stop too.
 #[test]
 fn positions_or_want_of_memory(rt: HostRuntime) -> Result<(), Fail> {
+    let checks = Checks::refusable(rt.alloc());
     let null = Want::Value(RawBsonRef::Null);
     let seven = Want::Value(RawBsonRef::Int32(7));
     for (bytes, items) in [
@@ -26,10 +25,10 @@ fn positions_or_want_of_memory(rt: HostRuntime) -> Result<(), Fail> {
     ] {
         let array = array_view(bytes)?;
         for (index, want) in items.iter().enumerate() {
-            assert_answer(&rt, array.get(rt.alloc(), index), *want, bytes);
+            checks.answer(array.get(rt.alloc(), index), *want, bytes)?;
         }
         for index in [items.len(), usize::MAX] {
-            assert_answer(&rt, array.get(rt.alloc(), index), Want::Nothing, bytes);
+            checks.answer(array.get(rt.alloc(), index), Want::Nothing, bytes)?;
         }
     }
     Ok(())
@@ -37,29 +36,26 @@ fn positions_or_want_of_memory(rt: HostRuntime) -> Result<(), Fail> {
 
 #[test]
 fn negative_document_length_as_an_array_or_want_of_memory(rt: HostRuntime) -> Result<(), Fail> {
+    let checks = Checks::refusable(rt.alloc());
     let array = array_view(NEGATIVE_DOCUMENT_LENGTH)?;
     let bytes = NEGATIVE_DOCUMENT_LENGTH;
     let want = Want::Fault(NEGATIVE_AT_A);
-    assert_answer(&rt, array.get(rt.alloc(), 0), want, bytes);
-    assert_answer(&rt, array.get(rt.alloc(), 1), Want::Nothing, bytes);
+    checks.answer(array.get(rt.alloc(), 0), want, bytes)?;
+    checks.answer(array.get(rt.alloc(), 1), Want::Nothing, bytes)?;
     Ok(())
 }
 
 /// A typed look-up goes past faults, and says which it meets.
 #[test]
 fn typed_positions_or_want_of_memory(rt: HostRuntime) -> Result<(), Fail> {
+    let checks = Checks::refusable(rt.alloc());
     let swallowed = array_view(SWALLOWED_TERMINATOR)?;
     let invalid = NoValue::Invalid(OVERFLOWED);
-    assert_no_value(&rt, swallowed.get_i32(rt.alloc(), 1), invalid, "1");
-    assert_no_value(
-        &rt,
-        swallowed.get_i32(rt.alloc(), 2),
-        NoValue::NotPresent,
-        "2",
-    );
+    checks.no_value(swallowed.get_i32(rt.alloc(), 1), invalid, "1")?;
+    checks.no_value(swallowed.get_i32(rt.alloc(), 2), NoValue::NotPresent, "2")?;
     let texts = array_view(ARRAY_WITH_TEXT_NOT_UTF8)?;
     let invalid = NoValue::Invalid(NOT_UTF8);
-    assert_no_value(&rt, texts.get_str(rt.alloc(), 0), invalid, "0");
+    checks.no_value(texts.get_str(rt.alloc(), 0), invalid, "0")?;
     assert!(rt; texts.get_i32(rt.alloc(), 1) == Ok(7));
     Ok(())
 }
@@ -67,6 +63,7 @@ fn typed_positions_or_want_of_memory(rt: HostRuntime) -> Result<(), Fail> {
 /// The first request of each look-up may be refused: what needs none is answered all the same.
 #[test]
 fn fault_before_a_number_or_want_of_memory(rt: HostRuntime) -> Result<(), Fail> {
+    let checks = Checks::refusable(rt.alloc());
     let numbers = array_view(FAULT_BEFORE_A_NUMBER)?;
     let answer = numbers.get_bool(rt.alloc(), 0);
     if let Err(error) = &answer {
@@ -75,7 +72,7 @@ fn fault_before_a_number_or_want_of_memory(rt: HostRuntime) -> Result<(), Fail> 
             assert_eq!(rt; text.as_str(), "error at key: \"\": out of memory");
         }
     }
-    assert_no_value(&rt, answer, NoValue::Invalid(TWO_AT_0), "0");
+    checks.no_value(answer, NoValue::Invalid(TWO_AT_0), "0")?;
     assert!(rt; numbers.get_i32(rt.alloc(), 1) == Ok(7));
     Ok(())
 }

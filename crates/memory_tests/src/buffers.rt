@@ -1,6 +1,4 @@
 use crate::asserts::answered;
-use crate::documents::{EMPTY, NULL_ARRAY, SWALLOWED_TERMINATOR, SWALLOWED_TERMINATOR_PUSHED};
-use crate::fixtures::{MOMENT, array_view};
 use raw_bson::{
     BinarySubtype, Error, ErrorKind, RawArrayBuf, RawBinaryRef, RawBson, RawBsonRef, RawDocument,
     RawDocumentBuf, Reason, Result, ToRawArrayBuf, ToRawBson, ToRawDocumentBuf,
@@ -8,18 +6,13 @@ use raw_bson::{
 use std::alloc::Global;
 use std::process::Abort;
 use std::test::Fail;
+use test_fixtures::*;
 
 // Each call answers what it answers with ample memory, or want of memory without a key, and what it was handed by
 // reference is then as it was. So the same call goes well when it is made again.
 
-/// The number -1 under the key `a`.
-const ONE_INT32: &[u8] = b"\x0C\0\0\0\x10a\0\xFF\xFF\xFF\xFF\0";
-
-/// And the number 123 under the key `b`.
+/// The numbers -1 and 123 under the keys `a` and `b`.
 const TWO_INT32: &[u8] = b"\x13\0\0\0\x10a\0\xFF\xFF\xFF\xFF\x10b\0\x7B\0\0\0\0";
-
-/// And the number 0 under the key `c`.
-const THREE_INT32: &[u8] = b"\x1A\0\0\0\x10a\0\xFF\xFF\xFF\xFF\x10b\0\x7B\0\0\0\x10c\0\0\0\0\0\0";
 
 /// What is appended: the bytes before, the key, the value, the bytes after.
 type Append = (
@@ -38,14 +31,9 @@ const APPENDS: [Append; 5] = [
             subtype: BinarySubtype::BinaryOld,
             bytes: b"\x01\x02\x03\x04",
         }),
-        b"\x15\0\0\0\x05b\0\x08\0\0\0\x02\x04\0\0\0\x01\x02\x03\x04\0",
+        OLD_BINARY,
     ),
-    (
-        EMPTY,
-        "ts",
-        RawBsonRef::Timestamp(MOMENT),
-        b"\x11\0\0\0\x11ts\0\x09\0\0\0\x3F\x54\xBC\x26\0",
-    ),
+    (EMPTY, "ts", RawBsonRef::Timestamp(MOMENT), TIMESTAMP),
     (EMPTY, "a", RawBsonRef::Int32(-1), ONE_INT32),
     (ONE_INT32, "b", RawBsonRef::Int32(123), TWO_INT32),
     (TWO_INT32, "c", RawBsonRef::Int32(0), THREE_INT32),

@@ -1,11 +1,11 @@
-use crate::asserts::{answered, assert_fault};
-use crate::documents::*;
-use crate::fixtures::{KINDS, array_view, borrowed, has_memory};
+use crate::asserts::answered;
+use crate::kinds::has_memory;
 use raw_bson::{
     BinarySubtype, ErrorKind, NoMemory, RawBinaryRef, RawBson, RawDocument,
     RawJavaScriptCodeWithScope, Regex, ToRawArrayBuf, ToRawBson, ToRawDocumentBuf,
 };
 use std::test::Fail;
+use test_fixtures::*;
 
 // Each copy is equal, or there is none for want of memory, and what is copied is as it was.
 
@@ -124,6 +124,7 @@ fn to_raw_bson_or_want_of_memory(rt: HostRuntime) -> Result<(), Fail> {
 
 #[test]
 fn fault_of_an_element_or_want_of_memory(rt: HostRuntime) -> Result<(), Fail> {
+    let checks = Checks::refusable(rt.alloc());
     let Some(Ok(element)) = RawDocument::from_bytes(BOOLEAN_TWO)?
         .iter_elements(rt.alloc())
         .next()
@@ -137,7 +138,7 @@ fn fault_of_an_element_or_want_of_memory(rt: HostRuntime) -> Result<(), Fail> {
             if error.kind == ErrorKind::OutOfMemory {
                 assert_eq!(rt; error.key(), None);
             } else {
-                assert_fault(&rt, &error, TWO_AT_A);
+                checks.fault(&error, TWO_AT_A)?;
             }
         }
     }

@@ -1,8 +1,8 @@
-use crate::documents::*;
 use raw_bson::{ElementType, ErrorKind, RawDocument, Reason, ValueAccessErrorKind};
 use std::alloc::Global;
 use std::process::Abort;
 use std::test::Fail;
+use test_fixtures::*;
 
 // Each copy is equal, or there is none for want of memory. What has no memory of its own is copied in any run.
 

@@ -12,13 +12,11 @@ mod buffers;
 #[cfg(test)]
 mod copies;
 #[cfg(test)]
-mod documents;
-#[cfg(test)]
 mod errors;
 #[cfg(test)]
-mod fixtures;
-#[cfg(test)]
 mod getters;
+#[cfg(test)]
+mod kinds;
 #[cfg(test)]
 mod trees;
 #[cfg(test)]

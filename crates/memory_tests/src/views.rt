@@ -1,47 +1,10 @@
-use crate::asserts::{Want, assert_answer};
-use crate::documents::*;
-use raw_bson::{ElementType, RawArray, RawBsonRef, RawDocument};
-use std::alloc::Global;
-use std::process::Abort;
+use raw_bson::{ElementType, RawBsonRef, RawDocument};
 use std::test::Fail;
-
-/// Iteration over the document of these bytes yields just these keys and answers, and iteration over its array just
-/// these answers.
-fn assert_items(
-    rt: &impl Abort,
-    alloc: Global,
-    bytes: &[u8],
-    items: &[(&str, Want<'_>)],
-) -> Result<(), Fail> {
-    let document = RawDocument::from_bytes(bytes)?;
-    let mut iter = document.iter(alloc);
-    let mut values = RawArray::from_doc(document).iter(alloc);
-    for (key, want) in items {
-        let answer = match iter.next() {
-            Some(Ok((found, value))) => {
-                assert_eq!(rt; found, *key, "{bytes:?}");
-                Ok(Some(value))
-            }
-            Some(Err(error)) => Err(error),
-            None => Ok(None),
-        };
-        assert_answer(rt, answer, *want, bytes);
-        let answer = match values.next() {
-            Some(Ok(value)) => Ok(Some(value)),
-            Some(Err(error)) => Err(error),
-            None => Ok(None),
-        };
-        assert_answer(rt, answer, *want, bytes);
-    }
-    assert!(rt; iter.next().is_none(), "{bytes:?}");
-    assert!(rt; iter.next().is_none(), "{bytes:?}");
-    assert!(rt; values.next().is_none(), "{bytes:?}");
-    assert!(rt; values.next().is_none(), "{bytes:?}");
-    Ok(())
-}
+use test_fixtures::*;
 
 #[test]
 fn iteration_or_want_of_memory(rt: HostRuntime) -> Result<(), Fail> {
+    let checks = Checks::refusable(rt.alloc());
     let null = Want::Value(RawBsonRef::Null);
     let seven = Want::Value(RawBsonRef::Int32(7));
     let yes = Want::Value(RawBsonRef::Boolean(true));
@@ -72,7 +35,7 @@ fn iteration_or_want_of_memory(rt: HostRuntime) -> Result<(), Fail> {
             [("", Want::Fault(NOT_UTF8)), ("1", seven)].as_slice(),
         ),
     ] {
-        assert_items(&rt, rt.alloc(), bytes, items)?;
+        checks.items(RawDocument::from_bytes(bytes)?, items)?;
     }
     Ok(())
 }
@@ -80,41 +43,15 @@ fn iteration_or_want_of_memory(rt: HostRuntime) -> Result<(), Fail> {
 /// Of the boolean of the byte 2 the fault or want of memory, and then nothing.
 #[test]
 fn boolean_two_or_want_of_memory(rt: HostRuntime) -> Result<(), Fail> {
+    let checks = Checks::refusable(rt.alloc());
     let items = [("", Want::Fault(TWO_AT_A))];
-    assert_items(&rt, rt.alloc(), BOOLEAN_TWO, items.as_slice())
-}
-
-/// The elements of the document of these bytes have just these kinds, keys and lengths, and then comes this stop.
-fn assert_elements(
-    rt: &impl Abort,
-    alloc: Global,
-    bytes: &[u8],
-    elements: &[(ElementType, &str, usize)],
-    stop: Want<'_>,
-) -> Result<(), Fail> {
-    let mut iter = RawDocument::from_bytes(bytes)?.iter_elements(alloc);
-    for (kind, key, len) in elements {
-        match iter.next() {
-            Some(Ok(element)) => {
-                assert_eq!(rt; element.element_type(), *kind, "{bytes:?}");
-                assert_eq!(rt; element.key(), *key, "{bytes:?}");
-                assert_eq!(rt; element.len(), *len, "{bytes:?}");
-            }
-            _ => assert!(rt; false, "{bytes:?}"),
-        }
-    }
-    let end = match iter.next() {
-        Some(Ok(_)) => Ok(Some(RawBsonRef::Undefined)),
-        Some(Err(error)) => Err(error),
-        None => Ok(None),
-    };
-    assert_answer(rt, end, stop, bytes);
-    assert!(rt; iter.next().is_none(), "{bytes:?}");
+    checks.items(RawDocument::from_bytes(BOOLEAN_TWO)?, items.as_slice())?;
     Ok(())
 }
 
 #[test]
 fn elements_or_want_of_memory(rt: HostRuntime) -> Result<(), Fail> {
+    let checks = Checks::refusable(rt.alloc());
     let greeting = (ElementType::String, "hi", 10);
     let null = (ElementType::Null, "", 0);
     let two = (ElementType::Boolean, "a", 1);
@@ -135,13 +72,14 @@ fn elements_or_want_of_memory(rt: HostRuntime) -> Result<(), Fail> {
         (KEY_NOT_UTF8, [].as_slice(), Want::Fault(NOT_UTF8)),
         (PATTERN_NOT_UTF8, [].as_slice(), Want::Fault(NOT_UTF8_AT_A)),
     ] {
-        assert_elements(&rt, rt.alloc(), bytes, elements, stop)?;
+        checks.elements(RawDocument::from_bytes(bytes)?, elements, stop)?;
     }
     Ok(())
 }
 
 #[test]
 fn look_ups_or_want_of_memory(rt: HostRuntime) -> Result<(), Fail> {
+    let checks = Checks::refusable(rt.alloc());
     let greeting = Want::Value(RawBsonRef::String("y'all"));
     let seven = Want::Value(RawBsonRef::Int32(7));
     for (bytes, key, want) in [
@@ -163,13 +101,14 @@ fn look_ups_or_want_of_memory(rt: HostRuntime) -> Result<(), Fail> {
         (FAULT_BEFORE_A_NUMBER, "1", seven),
     ] {
         let answer = RawDocument::from_bytes(bytes)?.get(rt.alloc(), key);
-        assert_answer(&rt, answer, want, bytes);
+        checks.answer(answer, want, bytes)?;
     }
     Ok(())
 }
 
 #[test]
 fn values_or_want_of_memory(rt: HostRuntime) -> Result<(), Fail> {
+    let checks = Checks::refusable(rt.alloc());
     for (bytes, want) in [
         (GREETING, Want::Value(RawBsonRef::String("y'all"))),
         (BOOLEAN_TWO, Want::Fault(TWO_AT_A)),
@@ -181,9 +120,9 @@ fn values_or_want_of_memory(rt: HostRuntime) -> Result<(), Fail> {
             return Ok(());
         };
         let value = element.value(rt.alloc()).map(|value| Some(value));
-        assert_answer(&rt, value, want, bytes);
+        checks.answer(value, want, bytes)?;
         let value = element.try_into_ref(rt.alloc()).map(|value| Some(value));
-        assert_answer(&rt, value, want, bytes);
+        checks.answer(value, want, bytes)?;
     }
     Ok(())
 }

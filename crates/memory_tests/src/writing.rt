@@ -1,6 +1,6 @@
 use crate::asserts::answered;
-use crate::documents::EMPTY;
 use raw_bson::{Bson, Document, encode, encode_list};
+use test_fixtures::EMPTY;
 
 #[test]
 fn encode_or_want_of_memory(rt: HostRuntime) {

@@ -1,11 +1,11 @@
-use crate::asserts::{NoValue, Want, assert_answer, assert_no_value};
-use crate::documents::*;
-use raw_view::{RawArray, RawBsonRef, RawDocument};
+use raw_view::RawBsonRef;
 use std::test::Fail;
+use test_fixtures::*;
 
 /// The faults and the stop are counted too.
 #[test]
 fn items_are_counted_from_0(rt: HostRuntime) -> Result<(), Fail> {
+    let checks = Checks::ample(rt.alloc());
     let null = Want::Value(RawBsonRef::Null);
     let seven = Want::Value(RawBsonRef::Int32(7));
     for (bytes, items) in [
@@ -27,13 +27,13 @@ fn items_are_counted_from_0(rt: HostRuntime) -> Result<(), Fail> {
             [Want::Fault(NEGATIVE_AT_A)].as_slice(),
         ),
     ] {
-        let array = RawArray::from_doc(RawDocument::from_bytes(bytes)?);
+        let array = array_view(bytes)?;
         for (index, want) in items.iter().enumerate() {
-            assert_answer(&rt, rt.alloc(), array.get(rt.alloc(), index), *want, bytes)?;
+            checks.answer(array.get(rt.alloc(), index), *want, bytes)?;
         }
         for index in [items.len(), items.len() + 1, usize::MAX] {
             let answer = array.get(rt.alloc(), index);
-            assert_answer(&rt, rt.alloc(), answer, Want::Nothing, bytes)?;
+            checks.answer(answer, Want::Nothing, bytes)?;
         }
     }
     Ok(())
@@ -42,32 +42,21 @@ fn items_are_counted_from_0(rt: HostRuntime) -> Result<(), Fail> {
 /// Where it has no value, the error says which fault it met.
 #[test]
 fn a_typed_look_up_goes_past_faults(rt: HostRuntime) -> Result<(), Fail> {
-    let swallowed = RawArray::from_doc(RawDocument::from_bytes(SWALLOWED_TERMINATOR)?);
+    let checks = Checks::ample(rt.alloc());
+    let swallowed = array_view(SWALLOWED_TERMINATOR)?;
     for (index, want, key) in [
         (1, NoValue::Invalid(OVERFLOWED), "1"),
         (2, NoValue::NotPresent, "2"),
     ] {
-        assert_no_value(
-            &rt,
-            rt.alloc(),
-            swallowed.get_i32(rt.alloc(), index),
-            want,
-            key,
-        )?;
+        checks.no_value(swallowed.get_i32(rt.alloc(), index), want, key)?;
     }
-    let texts = RawArray::from_doc(RawDocument::from_bytes(ARRAY_WITH_TEXT_NOT_UTF8)?);
+    let texts = array_view(ARRAY_WITH_TEXT_NOT_UTF8)?;
     let invalid = NoValue::Invalid(NOT_UTF8);
-    assert_no_value(&rt, rt.alloc(), texts.get_str(rt.alloc(), 0), invalid, "0")?;
+    checks.no_value(texts.get_str(rt.alloc(), 0), invalid, "0")?;
     assert!(rt; texts.get_i32(rt.alloc(), 1) == Ok(7));
-    let numbers = RawArray::from_doc(RawDocument::from_bytes(FAULT_BEFORE_A_NUMBER)?);
+    let numbers = array_view(FAULT_BEFORE_A_NUMBER)?;
     let invalid = NoValue::Invalid(TWO_AT_0);
-    assert_no_value(
-        &rt,
-        rt.alloc(),
-        numbers.get_bool(rt.alloc(), 0),
-        invalid,
-        "0",
-    )?;
+    checks.no_value(numbers.get_bool(rt.alloc(), 0), invalid, "0")?;
     assert!(rt; numbers.get_i32(rt.alloc(), 1) == Ok(7));
     Ok(())
 }

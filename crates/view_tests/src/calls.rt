@@ -1,44 +1,23 @@
-use crate::asserts::{Want, assert_answer};
-use crate::documents::{ALL_KINDS, BOOLEAN_TWO, EMPTY, GREETING};
-use bson_model::{Binary, BinarySubtype, DateTime, Decimal128, DoubleBits, ObjectId, Timestamp};
+use bson_model::{Binary, BinarySubtype, DateTime, ObjectId};
 use raw_view::{
     ElementType, Error, ErrorKind, RawArray, RawBinaryRef, RawBsonRef, RawDbPointerRef,
     RawDocument, RawJavaScriptCodeWithScopeRef, RawRegexRef, Reason, ValueAccessErrorKind,
 };
-use std::alloc::Global;
 use std::process::Abort;
 use std::test::Fail;
+use test_fixtures::*;
 
-/// The kinds in the order of their tags, as in the document of all kinds.
-const KINDS: [(u8, ElementType); 21] = [
-    (0x01, ElementType::Double),
-    (0x02, ElementType::String),
-    (0x03, ElementType::EmbeddedDocument),
-    (0x04, ElementType::Array),
-    (0x05, ElementType::Binary),
-    (0x06, ElementType::Undefined),
-    (0x07, ElementType::ObjectId),
-    (0x08, ElementType::Boolean),
-    (0x09, ElementType::DateTime),
-    (0x0A, ElementType::Null),
-    (0x0B, ElementType::RegularExpression),
-    (0x0C, ElementType::DbPointer),
-    (0x0D, ElementType::JavaScriptCode),
-    (0x0E, ElementType::Symbol),
-    (0x0F, ElementType::JavaScriptCodeWithScope),
-    (0x10, ElementType::Int32),
-    (0x11, ElementType::Timestamp),
-    (0x12, ElementType::Int64),
-    (0x13, ElementType::Decimal128),
-    (0x7F, ElementType::MaxKey),
-    (0xFF, ElementType::MinKey),
+/// The tags of the kinds, in the order of the kinds.
+const TAGS: [u8; 21] = [
+    0x01, 0x02, 0x03, 0x04, 0x05, 0x06, 0x07, 0x08, 0x09, 0x0A, 0x0B, 0x0C, 0x0D, 0x0E, 0x0F, 0x10,
+    0x11, 0x12, 0x13, 0x7F, 0xFF,
 ];
 
 #[test]
 fn bytes_and_kinds_go_with_each_other(rt: HostRuntime) {
     for tag in 0..=255_u8 {
         let mut wanted = None;
-        for (of, kind) in KINDS {
+        for (of, (_, kind)) in TAGS.into_iter().zip(KINDS) {
             if of == tag {
                 assert_eq!(rt; kind.to_tag(), tag);
                 wanted = Some(kind);
@@ -77,13 +56,11 @@ fn accessed<'a>(value: RawBsonRef<'a>, kind: ElementType) -> Option<RawBsonRef<'
     })
 }
 
-/// The item is this value of this kind under this key; the accessor for its kind answers it, and no other does.
+/// The item is the value of this kind under this key; the accessor for its kind answers it, and no other does.
 fn assert_kind(
     rt: &impl Abort,
-    alloc: Global,
     item: Option<raw_view::Result<(&str, RawBsonRef<'_>)>>,
     key: &str,
-    want: RawBsonRef<'_>,
     kind: ElementType,
 ) -> Result<(), Fail> {
     let Some(Ok((found, value))) = item else {
@@ -92,41 +69,36 @@ fn assert_kind(
     };
     assert_eq!(rt; found, key);
     assert_eq!(rt; value.element_type(), kind, "{key}");
-    assert_answer(rt, alloc, Ok(Some(value)), Want::Value(want), ALL_KINDS)?;
+    assert_eq!(rt; value, borrowed(kind)?, "{key}");
     for (_, asked) in KINDS {
-        let wanted = match kind {
-            ElementType::Undefined
-            | ElementType::Decimal128
-            | ElementType::MaxKey
-            | ElementType::MinKey => Want::Nothing,
-            _ => if asked == kind {
-                Want::Value(want)
-            } else {
-                Want::Nothing
-            },
+        let wanted = if asked == kind && has_accessor(kind) {
+            Some(value)
+        } else {
+            None
         };
-        assert_answer(rt, alloc, Ok(accessed(value, asked)), wanted, ALL_KINDS)?;
+        assert_eq!(rt; accessed(value, asked), wanted, "{asked:?} of {kind:?}");
     }
     Ok(())
 }
 
 #[test]
 fn each_kind_has_its_value_and_its_accessor(rt: HostRuntime) -> Result<(), Fail> {
-    let id = ObjectId::from_bytes([1, 2, 3, 4, 5, 6, 7, 8, 9, 10, 11, 12]);
-    let pointed = ObjectId::from_bytes([12, 11, 10, 9, 8, 7, 6, 5, 4, 3, 2, 1]);
-    let nested = RawDocument::from_bytes(b"\x07\0\0\0\x0A\0\0")?;
-    let array = RawArray::from_doc(RawDocument::from_bytes(b"\x08\0\0\0\x0A0\0\0")?);
-    let double = DoubleBits(0x3FF8_0000_0000_0000);
-    let time = DateTime::from_millis(-1);
-    let decimal = Decimal128::from_bytes([0, 1, 2, 3, 4, 5, 6, 7, 8, 9, 10, 11, 12, 13, 14, 15]);
-    let timestamp = Timestamp {
-        time: 649876543,
-        increment: 9,
-    };
+    let mut iter = RawDocument::from_bytes(ALL_KINDS)?.iter(rt.alloc());
+    for (key, kind) in KINDS {
+        assert_kind(&rt, iter.next(), key, kind)?;
+    }
+    assert!(rt; iter.next().is_none());
+    Ok(())
+}
+
+#[test]
+fn conversions_make_values_of_their_kinds(rt: HostRuntime) -> Result<(), Fail> {
+    let document = RawDocument::from_bytes(NULL_DOCUMENT)?;
     let binary = RawBinaryRef {
         subtype: BinarySubtype::UserDefined(128),
         bytes: b"\x01\x02",
     };
+    let owned_binary = binary.to_binary(rt.alloc())?;
     let regex = RawRegexRef {
         pattern: "a",
         options: "i",
@@ -135,37 +107,31 @@ fn each_kind_has_its_value_and_its_accessor(rt: HostRuntime) -> Result<(), Fail>
         code: "g",
         scope: RawDocument::from_bytes(EMPTY)?,
     };
-    let pointer = RawDbPointerRef::new("db.c", pointed);
-    let mut iter = RawDocument::from_bytes(ALL_KINDS)?.iter(rt.alloc());
-    for ((key, want), (_, kind)) in [
-        ("a", RawBsonRef::from(double)),
-        ("b", RawBsonRef::from("s")),
-        ("c", RawBsonRef::from(nested)),
-        ("d", RawBsonRef::from(array)),
-        ("e", RawBsonRef::from(binary)),
-        ("f", RawBsonRef::Undefined),
-        ("g", RawBsonRef::from(id)),
-        ("h", RawBsonRef::from(true)),
-        ("i", RawBsonRef::from(time)),
-        ("j", RawBsonRef::Null),
-        ("k", RawBsonRef::from(regex)),
-        ("l", RawBsonRef::DbPointer(pointer)),
-        ("m", RawBsonRef::JavaScriptCode("f")),
-        ("n", RawBsonRef::Symbol("y")),
-        ("o", RawBsonRef::from(code)),
-        ("p", RawBsonRef::from(7_i32)),
-        ("q", RawBsonRef::from(timestamp)),
-        ("r", RawBsonRef::from(-2_i64)),
-        ("s", RawBsonRef::from(decimal)),
-        ("t", RawBsonRef::MaxKey),
-        ("u", RawBsonRef::MinKey),
-    ]
-    .into_iter()
-    .zip(KINDS)
-    {
-        assert_kind(&rt, rt.alloc(), iter.next(), key, want, kind)?;
+    for (value, kind) in [
+        (RawBsonRef::from(HALF_MORE_THAN_ONE), ElementType::Double),
+        (RawBsonRef::from("s"), ElementType::String),
+        (RawBsonRef::from(document), ElementType::EmbeddedDocument),
+        (
+            RawBsonRef::from(array_view(NULL_ARRAY)?),
+            ElementType::Array,
+        ),
+        (RawBsonRef::from(binary), ElementType::Binary),
+        (RawBsonRef::from(&owned_binary), ElementType::Binary),
+        (RawBsonRef::from(id()), ElementType::ObjectId),
+        (RawBsonRef::from(true), ElementType::Boolean),
+        (
+            RawBsonRef::from(DateTime::from_millis(-1)),
+            ElementType::DateTime,
+        ),
+        (RawBsonRef::from(regex), ElementType::RegularExpression),
+        (RawBsonRef::from(code), ElementType::JavaScriptCodeWithScope),
+        (RawBsonRef::from(7_i32), ElementType::Int32),
+        (RawBsonRef::from(MOMENT), ElementType::Timestamp),
+        (RawBsonRef::from(-2_i64), ElementType::Int64),
+        (RawBsonRef::from(decimal()), ElementType::Decimal128),
+    ] {
+        assert_eq!(rt; value, borrowed(kind)?, "{kind:?}");
     }
-    assert!(rt; iter.next().is_none());
     Ok(())
 }
 
@@ -178,7 +144,7 @@ fn views_keep_their_bytes(rt: HostRuntime) -> Result<(), Fail> {
     // equal bytes at another place
     let same = RawDocument::from_bytes(b"\x13\0\0\0\x02hi\0\x06\0\0\0y'all\0\0")?;
     let same_array = RawArray::from_doc(same);
-    let id = ObjectId::from_bytes([1, 2, 3, 4, 5, 6, 7, 8, 9, 10, 11, 12]);
+    let id = id();
     let other_id = ObjectId::from_bytes([0; 12]);
     let pointer = RawDbPointerRef::new("db.c", id);
     for (number, (found, wanted)) in [

@@ -5,11 +5,9 @@
 #[cfg(test)]
 mod arrays;
 #[cfg(test)]
-mod asserts;
-#[cfg(test)]
 mod calls;
 #[cfg(test)]
-mod documents;
+mod debug_texts;
 #[cfg(test)]
 mod getters;
 #[cfg(test)]

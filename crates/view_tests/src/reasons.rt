@@ -1,25 +1,25 @@
-use crate::asserts::{Fault, Want, assert_answer, assert_fault};
-use crate::documents::SWALLOWED_TERMINATOR;
 use raw_view::{RawDocument, Reason};
 use std::test::Fail;
+use test_fixtures::{Checks, Fault, SWALLOWED_TERMINATOR, Want};
 
 #[test]
 fn bytes_without_an_envelope_are_refused(rt: HostRuntime) -> Result<(), Fail> {
-    let too_short = Fault(
-        Some(Reason::TooShort),
-        None,
-        "malformed value: \"document too short\"",
-    );
-    let wrong_length = Fault(
-        Some(Reason::LengthIncorrect),
-        None,
-        "malformed value: \"document length incorrect\"",
-    );
-    let not_terminated = Fault(
-        Some(Reason::NotTerminated),
-        None,
-        "malformed value: \"document not null-terminated\"",
-    );
+    let checks = Checks::ample(rt.alloc());
+    let too_short = Fault {
+        reason: Some(Reason::TooShort),
+        key: None,
+        text: "malformed value: \"document too short\"",
+    };
+    let wrong_length = Fault {
+        reason: Some(Reason::LengthIncorrect),
+        key: None,
+        text: "malformed value: \"document length incorrect\"",
+    };
+    let not_terminated = Fault {
+        reason: Some(Reason::NotTerminated),
+        key: None,
+        text: "malformed value: \"document not null-terminated\"",
+    };
     for (bytes, want) in [
         (b"".as_slice(), too_short),
         (b"\x05\0\0\0".as_slice(), too_short),
@@ -30,7 +30,7 @@ fn bytes_without_an_envelope_are_refused(rt: HostRuntime) -> Result<(), Fail> {
     ] {
         match RawDocument::from_bytes(bytes) {
             Ok(_) => assert!(rt; false, "{bytes:?}"),
-            Err(error) => assert_fault(&rt, rt.alloc(), &error, want)?,
+            Err(error) => checks.fault(&error, want)?,
         }
     }
     Ok(())
@@ -38,6 +38,7 @@ fn bytes_without_an_envelope_are_refused(rt: HostRuntime) -> Result<(), Fail> {
 
 #[test]
 fn a_stop_says_why_no_element_stands_there(rt: HostRuntime) -> Result<(), Fail> {
+    let checks = Checks::ample(rt.alloc());
     for (bytes, reason, text) in [
         (
             b"\x07\0\0\0\x14k\0".as_slice(),
@@ -177,20 +178,26 @@ fn a_stop_says_why_no_element_stands_there(rt: HostRuntime) -> Result<(), Fail> 
         ),
     ] {
         let answer = RawDocument::from_bytes(bytes)?.get(rt.alloc(), "x");
-        let want = Want::Fault(Fault(Some(reason), Some("k"), text));
-        assert_answer(&rt, rt.alloc(), answer, want, bytes)?;
+        let want = Want::Fault(Fault {
+            reason: Some(reason),
+            key: Some("k"),
+            text,
+        });
+        checks.answer(answer, want, bytes)?;
     }
     let answer = RawDocument::from_bytes(SWALLOWED_TERMINATOR)?.get(rt.alloc(), "k");
-    let want = Want::Fault(Fault(
-        Some(Reason::Overflowed),
-        None,
-        "malformed value: \"iteration overflowed document\"",
-    ));
-    assert_answer(&rt, rt.alloc(), answer, want, SWALLOWED_TERMINATOR)
+    let want = Want::Fault(Fault {
+        reason: Some(Reason::Overflowed),
+        key: None,
+        text: "malformed value: \"iteration overflowed document\"",
+    });
+    checks.answer(answer, want, SWALLOWED_TERMINATOR)?;
+    Ok(())
 }
 
 #[test]
 fn a_value_says_why_it_is_none(rt: HostRuntime) -> Result<(), Fail> {
+    let checks = Checks::ample(rt.alloc());
     for (bytes, reason, key, text) in [
         (
             b"\x09\0\0\0\x08k\0\xFF\0".as_slice(),
@@ -289,8 +296,8 @@ fn a_value_says_why_it_is_none(rt: HostRuntime) -> Result<(), Fail> {
         ),
     ] {
         let answer = RawDocument::from_bytes(bytes)?.get(rt.alloc(), "k");
-        let want = Want::Fault(Fault(reason, key, text));
-        assert_answer(&rt, rt.alloc(), answer, want, bytes)?;
+        let want = Want::Fault(Fault { reason, key, text });
+        checks.answer(answer, want, bytes)?;
     }
     Ok(())
 }

@@ -1,7 +1,6 @@
-use crate::asserts::{Want, assert_answer, assert_elements, assert_items};
-use crate::documents::*;
 use raw_view::{ElementType, RawBsonRef, RawDocument, RawRegexRef};
 use std::test::Fail;
+use test_fixtures::*;
 
 const DATE: RawRegexRef<'static> = RawRegexRef {
     pattern: "ope",
@@ -10,6 +9,7 @@ const DATE: RawRegexRef<'static> = RawRegexRef {
 
 #[test]
 fn iteration_yields_keys_values_and_faults(rt: HostRuntime) -> Result<(), Fail> {
+    let checks = Checks::ample(rt.alloc());
     let null = Want::Value(RawBsonRef::Null);
     for (bytes, items) in [
         (EMPTY, [].as_slice()),
@@ -77,13 +77,14 @@ fn iteration_yields_keys_values_and_faults(rt: HostRuntime) -> Result<(), Fail> 
             [("", Want::Fault(STRING_PAST_END_AT_A))].as_slice(),
         ),
     ] {
-        assert_items(&rt, rt.alloc(), bytes, items)?;
+        checks.items(RawDocument::from_bytes(bytes)?, items)?;
     }
     Ok(())
 }
 
 #[test]
 fn elements_are_framed_and_not_looked_into(rt: HostRuntime) -> Result<(), Fail> {
+    let checks = Checks::ample(rt.alloc());
     let two = (ElementType::Boolean, "a", 1);
     for (bytes, elements, stop) in [
         (EMPTY, [].as_slice(), Want::Nothing),
@@ -142,13 +143,14 @@ fn elements_are_framed_and_not_looked_into(rt: HostRuntime) -> Result<(), Fail> 
             Want::Fault(STRING_PAST_END_AT_A),
         ),
     ] {
-        assert_elements(&rt, rt.alloc(), bytes, elements, stop)?;
+        checks.elements(RawDocument::from_bytes(bytes)?, elements, stop)?;
     }
     Ok(())
 }
 
 #[test]
 fn look_ups_answer_the_first_element_of_a_key(rt: HostRuntime) -> Result<(), Fail> {
+    let checks = Checks::ample(rt.alloc());
     let date = Want::Value(RawBsonRef::RegularExpression(DATE));
     for (bytes, key, want) in [
         (EMPTY, "", Want::Nothing),
@@ -198,13 +200,14 @@ fn look_ups_answer_the_first_element_of_a_key(rt: HostRuntime) -> Result<(), Fai
         ),
     ] {
         let answer = RawDocument::from_bytes(bytes)?.get(rt.alloc(), key);
-        assert_answer(&rt, rt.alloc(), answer, want, bytes)?;
+        checks.answer(answer, want, bytes)?;
     }
     Ok(())
 }
 
 #[test]
 fn an_element_has_its_value_or_its_fault(rt: HostRuntime) -> Result<(), Fail> {
+    let checks = Checks::ample(rt.alloc());
     for (bytes, want) in [
         (GREETING, Want::Value(RawBsonRef::String("y'all"))),
         (SWALLOWED_TERMINATOR, Want::Value(RawBsonRef::Null)),
@@ -224,9 +227,9 @@ fn an_element_has_its_value_or_its_fault(rt: HostRuntime) -> Result<(), Fail> {
             return Ok(());
         };
         let value = element.value(rt.alloc()).map(|value| Some(value));
-        assert_answer(&rt, rt.alloc(), value, want, bytes)?;
+        checks.answer(value, want, bytes)?;
         let value = element.try_into_ref(rt.alloc()).map(|value| Some(value));
-        assert_answer(&rt, rt.alloc(), value, want, bytes)?;
+        checks.answer(value, want, bytes)?;
     }
     Ok(())
 }

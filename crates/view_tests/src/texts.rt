@@ -1,12 +1,8 @@
-use crate::documents::{ALL_KINDS, ARRAY_WITH_TEXT_NOT_UTF8, BOOL_AND_INT32, BOOLEAN_TWO, EMPTY};
-use bson_model::BinarySubtype;
-use raw_view::{
-    ElementType, Error, ErrorKind, RawArray, RawBinaryRef, RawBsonRef, RawDocument,
-    RawJavaScriptCodeWithScopeRef, RawRegexRef, Reason, ValueAccessErrorKind,
-};
+use raw_view::{Error, ErrorKind, RawDocument, Reason};
 use std::alloc::{AllocError, Global};
 use std::process::Abort;
 use std::test::Fail;
+use test_fixtures::*;
 
 /// The text of any error.
 fn text_of<E: std::error::Error>(alloc: Global, error: &E) -> Result<String, AllocError> {
@@ -97,7 +93,7 @@ fn access_errors_are_printed(rt: HostRuntime) -> Result<(), Fail> {
 #[test]
 fn an_index_is_printed_in_decimal(rt: HostRuntime) -> Result<(), Fail> {
     assert!(rt; RawDocument::from_bytes(BOOL_AND_INT32)?.get_i32(rt.alloc(), "i32") == Ok(1000000));
-    match RawArray::from_doc(RawDocument::from_bytes(EMPTY)?).get_i32(rt.alloc(), usize::MAX) {
+    match array_view(EMPTY)?.get_i32(rt.alloc(), usize::MAX) {
         Ok(_) => assert!(rt; false),
         Err(error) => assert_eq!(rt;
             text_of(rt.alloc(), &error)?.as_str(),
@@ -133,74 +129,5 @@ fn every_kind_has_its_name_in_a_text(rt: HostRuntime) -> Result<(), Fail> {
     ] {
         assert_kind_text(&rt, rt.alloc(), key, name)?;
     }
-    Ok(())
-}
-
-/// The value has this Debug text.
-fn assert_debug(
-    rt: &impl Abort,
-    alloc: Global,
-    value: RawBsonRef<'_>,
-    text: &str,
-) -> Result<(), Fail> {
-    assert_eq!(rt; format!(in alloc; "{value:?}")?.as_str(), text);
-    Ok(())
-}
-
-#[test]
-fn views_and_values_have_a_debug_text(rt: HostRuntime) -> Result<(), Fail> {
-    let empty = RawDocument::from_bytes(EMPTY)?;
-    assert_eq!(rt;
-        format!(in rt.alloc(); "{empty:?}")?.as_str(),
-        "RawDocument { data: \"0500000000\" }"
-    );
-    let two = RawArray::from_doc(RawDocument::from_bytes(b"\x0C\0\0\0\x03a\0\xFF\xFE\xAB\xCD\0")?);
-    assert_eq!(rt;
-        format!(in rt.alloc(); "{two:?}")?.as_str(),
-        "RawArray { data: \"0c000000036100fffeabcd00\" }"
-    );
-    let binary = RawBinaryRef {
-        subtype: BinarySubtype::Generic,
-        bytes: b"\x01\xFF",
-    };
-    let regex = RawRegexRef {
-        pattern: "a",
-        options: "i",
-    };
-    let code = RawJavaScriptCodeWithScopeRef {
-        code: "f",
-        scope: empty,
-    };
-    for (value, text) in [
-        (RawBsonRef::Int32(-7), "Int32(-7)"),
-        (RawBsonRef::String("hi"), "String(\"hi\")"),
-        (RawBsonRef::MinKey, "MinKey"),
-        (
-            RawBsonRef::Document(empty),
-            "Document(RawDocument { data: \"0500000000\" })",
-        ),
-        (
-            RawBsonRef::Binary(binary),
-            "Binary(RawBinaryRef { subtype: Generic, bytes: [1, 255] })",
-        ),
-        (
-            RawBsonRef::RegularExpression(regex),
-            "RegularExpression(RawRegexRef { pattern: \"a\", options: \"i\" })",
-        ),
-        (
-            RawBsonRef::JavaScriptCodeWithScope(code),
-            "JavaScriptCodeWithScope(RawJavaScriptCodeWithScopeRef { code: \"f\", scope: RawDocument { data: \"0500000000\" } })",
-        ),
-    ] {
-        assert_debug(&rt, rt.alloc(), value, text)?;
-    }
-    let unexpected = ValueAccessErrorKind::UnexpectedType {
-        expected: ElementType::Int32,
-        actual: ElementType::Boolean,
-    };
-    assert_eq!(rt;
-        format!(in rt.alloc(); "{unexpected:?}")?.as_str(),
-        "UnexpectedType { expected: Int32, actual: Boolean }"
-    );
     Ok(())
 }

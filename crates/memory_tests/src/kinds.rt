@@ -1,0 +1,17 @@
+use raw_bson::ElementType;
+
+/// Whether an owned value of this kind has memory of its own.
+pub(crate) fn has_memory(kind: ElementType) -> bool {
+    matches!(
+        kind,
+        ElementType::String
+            | ElementType::EmbeddedDocument
+            | ElementType::Array
+            | ElementType::Binary
+            | ElementType::RegularExpression
+            | ElementType::DbPointer
+            | ElementType::JavaScriptCode
+            | ElementType::Symbol
+            | ElementType::JavaScriptCodeWithScope
+    )
+}

@@ -1,0 +1,28 @@
+//! What `view_tests`, `bson_tests` and `memory_tests` share: bytes and the faults that stand in them, a value of each
+//! kind, the getters by kind, and checks of answers. A check answers a `Mismatch`, which `?` makes the failure of a
+//! test.
+#![tactic(auto)]
+
+mod checks;
+mod documents;
+mod faults;
+mod getters;
+mod values;
+
+pub use checks::{Checks, Mismatch, NoValue, Want};
+pub use documents::{
+    ALL_KINDS, ARRAY_WITH_TEXT_NOT_UTF8, BOOL_AND_INT32, BOOLEAN_TWO, DECLARED_LENGTH_THREE,
+    DECLARED_LENGTH_THREE_APPENDED, EMPTY, FAULT_BEFORE_A_NUMBER, FAULT_UNDER_A_LATER_GOOD_KEY,
+    GREETING, INNER_LENGTH_OVERFLOWS, KEY_NOT_UTF8, NEGATIVE_DOCUMENT_LENGTH, NULL_ARRAY,
+    NULL_DOCUMENT, OLD_BINARY, ONE_INT32, PATTERN_NOT_UTF8, REGEX_SWALLOWS_THE_TERMINATOR,
+    REPEATED_KEY, SCOPE_WITH_A_WRONG_HEADER, SWALLOWED_TERMINATOR, SWALLOWED_TERMINATOR_PUSHED,
+    TAG_ZERO, THREE_INT32, TIMESTAMP, TRUNCATED_STRING,
+};
+pub use faults::{
+    ADD_OVERFLOW, CODE_TOO_SMALL_AT_A, Fault, NEGATIVE_AT_A, NOT_UTF8, NOT_UTF8_AT_A, OVERFLOWED,
+    PAST_END_AT_A, SCOPE_LENGTH, STRING_PAST_END_AT_A, TWO_AT_0, TWO_AT_A, ZERO_IS_NO_TAG,
+};
+pub use getters::{get_of_array, get_of_document, has_getter};
+pub use values::{
+    HALF_MORE_THAN_ONE, KINDS, MOMENT, array_view, borrowed, decimal, has_accessor, id, pointed,
+};
