@@ -1,9 +1,14 @@
 -- The shape of a framed payload, of which an element keeps only that there is one.
-use Rattle.std.proofs.Common.{◌≡◌, ◌≤◌, ◌+◌, ◌-◌, ◌++◌, ◌∷◌, [], ℕ, pos, List, length, take, drop, get_or, arith, ap, sym, refl, ◌∙◌, subst, length-append}
+use Rattle.std.proofs.Common.{◌≡◌, ◌≤◌, ◌+◌, ◌-◌, ◌++◌, ◌∷◌, [], ℕ, pos, List, length, take, drop, get_or, arith, ap, sym, refl, ◌∙◌, subst, append_assoc, length-append}
 use Rattle.std.proofs.Math.Logic.{∥∥₁_elim, ∥∥₁_map}
+use Rattle.std.proofs.Math.Seq.{take-append_seam, take-length, drop-append_seam, drop-append-add, get_or-append_seam}
 use Rattle.std.proofs.Props.{props}
 use Rattle.std.specs.Str.{IsUtf8}
+use Rattle.std.proofs.lemmas.Bool.Decides.{nat_tests}
+use Rattle.std.proofs.lemmas.Grind.{common_steps}
 use Rattle.std.proofs.lemmas.List.{append-nil, take_all, take_at, take-append-le, take-append-drop}
+use Rattle.bson_model.specs.Subtype.{subtype_of}
+use Rattle.bson_model.specs.declared.binaries.BinarySubtype.TheVariants.{BinaryOld}
 use Rattle.raw_view.specs.Number.{IsLe32}
 use Rattle.raw_view.specs.Envelope.{IsEnvelope}
 use Rattle.raw_view.specs.declared.error.ErrorKind.{ErrorKind}
@@ -44,6 +49,14 @@ text_had p h =
     let all : take (length p - 5 + 5) p ≡ p = take_whole p _ (omega arith) in
     subst HasText all (string_found p (length p - 5) header (omega arith) (rw at last))
 
+-- the text of a string is what stands between its length and its last byte
+pub string_cut : (p text : List ℕ) → IsString p text → take (length p - 1 - 4) (drop 4 p) ≡ text
+string_cut p text s =
+    let four : length s.head ≡ 4 = IsLe32-length s.head _ s.length_is in
+    let n : length p - 1 - 4 ≡ length text = omega (arith, string_length p text s) in
+    let behind : drop 4 p ≡ text ++ 0 ∷ [] = rw (s.spelled, append_assoc, ← four) (drop-append_seam s.head (text ++ 0 ∷ [])) in
+    rw (n, behind) (take-append_seam text (0 ∷ []))
+
 pub binary_header : (p : List ℕ) (subtype : ℕ) (bytes : List ℕ) → IsBinary p subtype bytes → (5 ≤ length p) × IsLe32 (take 4 p) (pos (length p - 5))
 binary_header p subtype bytes b =
     let four : length b.head ≡ 4 = IsLe32-length b.head _ b.length_is in
@@ -67,6 +80,19 @@ pointer_text p namespace id d =
 
 pub pointer_len : (p namespace id : List ℕ) → IsDbPointer p namespace id → 12 ≤ length p
 pointer_len p namespace id d = omega (arith, ap length d.spelled, length-append d.string id, d.id_len)
+
+-- the subtype and the bytes of a binary are what stands behind its length
+pub binary_cut : (p : List ℕ) (subtype : ℕ) (bytes : List ℕ) → IsBinary p subtype bytes → IsBinary p (get_or p 4 0) (take (length p - 5) (drop 5 p))
+binary_cut p subtype bytes b =
+    let four : length b.head ≡ 4 = IsLe32-length b.head _ b.length_is in
+    let n : length p - 5 ≡ length bytes = omega (arith, ap length b.spelled, length-append b.head (subtype ∷ bytes)) in
+    let at : get_or p 4 0 ≡ subtype = rw (b.spelled, ← four) (get_or-append_seam b.head subtype bytes 0) in
+    let behind : drop 5 p ≡ bytes = rw b.spelled (rw four at (drop-append-add b.head (subtype ∷ bytes) 1)) in
+    rw (at, n, behind, take-length bytes) b
+
+-- 2 is the byte of an old binary, and no other is
+pub old_byte : (byte : ℕ) → subtype_of byte ≡ BinaryOld → byte ≡ 2
+old_byte byte e = grind (arith, common_steps, nat_tests)
 
 pub pointer_had : (p : List ℕ) → ∥ HasPayload kind.DbPointer p ∥₁ → (namespace id : List ℕ) × IsDbPointer p namespace id
 pointer_had p h =

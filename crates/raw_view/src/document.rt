@@ -10,6 +10,7 @@ use crate::element::RawElement;
 use crate::error::{Error, ErrorKind, Reason, Result};
 use crate::hex_digits::HexDigits;
 use crate::iter::{Iter, RawIter};
+use crate::number::front_i32;
 use bson_model::{DateTime, DoubleBits, ObjectId, Timestamp};
 use std::alloc::Global;
 use std::fmt;
@@ -65,7 +66,7 @@ impl<'a> RawDocument<'a> {
         if bytes.len() < 5 {
             return Err(refusal(Reason::TooShort));
         }
-        let header = i32::from_le_bytes([bytes[0], bytes[1], bytes[2], bytes[3]]);
+        let header = front_i32(bytes);
         if header as i64 != bytes.len() as i64 {
             return Err(refusal(Reason::LengthIncorrect));
         }

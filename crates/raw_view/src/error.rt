@@ -1,4 +1,4 @@
-ghost use Rattle.std.specs.Prelude.{◌≡◌, None};
+ghost use Rattle.std.specs.Prelude.{◌≡◌, IfNone, None};
 ghost use Rattle.std.specs.Option.{option_copied};
 ghost use Rattle.raw_view.specs.Errors.{IsReadingKind, IsReadingReason};
 
@@ -58,49 +58,63 @@ pub enum Reason {
     TooLong,
 }
 
+impl Reason {
+    ghost use Rattle.raw_view.specs.Reasons.{HasNumbers};
+
+    /// What is said of a reason that has no numbers; `None` for the others.
+    fn plain_text(&self) -> Option<&'static str>
+        ensures { IfNone result (HasNumbers self.now) }
+    {
+        match self {
+            Reason::TooShort => Some("document too short"),
+            Reason::LengthIncorrect => Some("document length incorrect"),
+            Reason::NotTerminated => Some("document not null-terminated"),
+            Reason::Overflowed => Some("iteration overflowed document"),
+            Reason::NegativeLength => Some("lengths can't be negative"),
+            Reason::StringTooSmall => {
+                Some("BSON length encoded string needs to be at least 5 bytes, instead got 4")
+            }
+            Reason::StringNotTerminated => Some("expected string to be null-terminated"),
+            Reason::NestedNotTerminated => Some("not null terminated"),
+            Reason::NoTerminator => Some("expected null terminator"),
+            Reason::OldNoInner => Some("old binary subtype has no inner declared length"),
+            Reason::AddOverflow => Some("attempted to add with overflow"),
+            Reason::OldWrongInner => Some("old binary subtype has wrong inner declared length"),
+            Reason::CodeTooSmall => Some("code with scope length too small"),
+            Reason::InteriorNul => Some("interior NUL"),
+            Reason::TooLong => Some("document too long"),
+            _ => None,
+        }
+    }
+}
+
 impl fmt::Display for Reason {
     fn fmt<W: fmt::Write>(&self, f: &mut fmt::Formatter<W>) -> fmt::Result {
+        if let Some(text) = self.plain_text() {
+            return f.write_str(text);
+        }
         match self {
-            Reason::TooShort => write!(f, "document too short"),
-            Reason::LengthIncorrect => write!(f, "document length incorrect"),
-            Reason::NotTerminated => write!(f, "document not null-terminated"),
-            Reason::Overflowed => write!(f, "iteration overflowed document"),
             Reason::InvalidTag(tag) => write!(f, "invalid tag: {tag}"),
             Reason::StringHeadShort(left) => write!(
                 f,
                 "expected buffer with string to contain at least 4 bytes, but it only has {left}"
             ),
-            Reason::NegativeLength => write!(f, "lengths can't be negative"),
-            Reason::StringTooSmall => write!(
-                f,
-                "BSON length encoded string needs to be at least 5 bytes, instead got 4"
-            ),
             Reason::StringPastEnd(size, left) => write!(
                 f,
                 "expected buffer to contain at least {size} bytes, but it only has {left}"
             ),
-            Reason::StringNotTerminated => write!(f, "expected string to be null-terminated"),
             Reason::PastEnd(size, left) => write!(
                 f,
                 "length exceeds remaining length of buffer: {size} vs {left}"
             ),
             Reason::DocumentTooSmall(size) => write!(f, "document too small: {size} bytes"),
-            Reason::NestedNotTerminated => write!(f, "not null terminated"),
             Reason::LengthHeadShort(left) => {
                 write!(f, "expected 4 bytes to read i32, instead got {left}")
             }
-            Reason::NoTerminator => write!(f, "expected null terminator"),
             Reason::BadBoolean(byte) => {
                 write!(f, "boolean must be stored as 0 or 1, got {byte}")
             }
-            Reason::OldNoInner => { write!(f, "old binary subtype has no inner declared length") }
-            Reason::AddOverflow => write!(f, "attempted to add with overflow"),
-            Reason::OldWrongInner => {
-                write!(f, "old binary subtype has wrong inner declared length")
-            }
-            Reason::CodeTooSmall => write!(f, "code with scope length too small"),
-            Reason::InteriorNul => write!(f, "interior NUL"),
-            Reason::TooLong => write!(f, "document too long"),
+            _ => unreachable!(),
         }
     }
 }

@@ -97,7 +97,7 @@ put_document-returns-clause-items t c =
     let ps = pairs_of c.args.document.now in
     let all : take c.loop-index.index ps ≡ ps = take_all _ _ (omega arith) in
     let whole : c.put-2.new.out.items ≡ c.args.out.now.items ++ 0 ∷ 0 ∷ 0 ∷ 0 ∷ (entries_bytes (entries (with_trees ps)) ++ 0 ∷ []) =
-        rw (c.put-2.ensures.items, c.loop-index.invariant.items, all) (simp append_assoc) in
+    rw (c.put-2.ensures.items, c.loop-index.invariant.items, all) (simp append_assoc) in
     c.set_len.ensures.items ∙ set_head _ _ _ _ _ whole (omega arith) (omega arith)
 
 pub put_list-returns-clause-items : goal.put_list-returns-clause-items
@@ -105,7 +105,7 @@ put_list-returns-clause-items t c =
     let vs = c.args.values.now in
     let all : take c.loop-index.index vs ≡ vs = take_all _ _ (omega arith) in
     let whole : c.put-2.new.out.items ≡ c.args.out.now.items ++ 0 ∷ 0 ∷ 0 ∷ 0 ∷ (items_bytes 0 (trees (map tree_of vs)) ++ 0 ∷ []) =
-        rw (c.put-2.ensures.items, c.loop-index.invariant.items, all) (simp append_assoc) in
+    rw (c.put-2.ensures.items, c.loop-index.invariant.items, all) (simp append_assoc) in
     c.set_len.ensures.items ∙ set_head _ _ _ _ _ whole (omega arith) (omega arith)
 
 pub put_value-returns-in-JavaScriptCodeWithScope-clause-items :
@@ -115,5 +115,5 @@ put_value-returns-in-JavaScriptCodeWithScope-clause-items t c =
     let tree = ap tree_payload (ap (λ v. tree_of v) c.in-JavaScriptCodeWithScope.is ∙ tree_of-JavaScriptCodeWithScope code) in
     let scope = tree_payload (document (entries (with_trees (pairs_of code.scope)))) in
     let whole : c.put_document-in-JavaScriptCodeWithScope.new.out.items ≡ c.args.out.now.items ++ 0 ∷ 0 ∷ 0 ∷ 0 ∷ (string_payload (string_bytes code.code) ++ scope) =
-        rw (c.put_document-in-JavaScriptCodeWithScope.ensures.items, c.put_string.ensures.items, c.put.ensures.items, c.deref-in-JavaScriptCodeWithScope.ensures) (simp append_assoc) in
+    rw (c.put_document-in-JavaScriptCodeWithScope.ensures.items, c.put_string.ensures.items, c.put.ensures.items, c.deref-in-JavaScriptCodeWithScope.ensures) (simp append_assoc) in
     c.set_len.ensures.items ∙ set_head _ _ _ _ _ whole (omega arith) (omega arith) ∙ ap (λ b. c.args.out.now.items ++ b) (sym tree)

@@ -1,6 +1,19 @@
-use Rattle.std.proofs.Common.{inl, refl}
+use Rattle.std.proofs.Common.{◌≡◌, ◌-◌, take, drop, length, length-drop, pos, inl, refl, sym, arith}
+use Rattle.std.proofs.lemmas.Int.{ints}
+use Rattle.std.proofs.lemmas.List.{take_all, take-append-drop}
 use Rattle.raw_view.specs.Meaning.{malformed_at}
 use Rattle.raw_view.proofs.value.inner_bytes.Goals as goal
 
 pub returns-then-outer-lt4-clause-fault : goal.returns-then-outer-lt4-clause-fault
 returns-then-outer-lt4-clause-fault c = (malformed_at c.args.key.now, inl (c.if-outer-lt4.true, refl), c.malformed_at.ensures.tells)
+
+pub returns-clause-inner : goal.returns-clause-inner
+returns-clause-inner c =
+    let outer = c.args.outer.now in
+    let all : take (length outer - 4) (drop 4 outer) ≡ drop 4 outer = take_all _ _ (omega (arith, length-drop 4 outer)) in
+    let counted : c.front_i32-inner.result ≡ pos (length (drop 4 outer)) = omega (arith, ints, length-drop 4 outer) in
+    record {
+      head = take 4 outer;
+      length_is = rw (all, ← counted) c.front_i32-inner.ensures;
+      spelled = rw all (sym (take-append-drop 4 outer));
+    }
