@@ -2,7 +2,8 @@
 #![tactic(auto, using(std::proofs::lemmas::Grind::common_steps, bson_model::proofs::Trees::tree_laws))]
 
 ghost use Rattle.std.specs.Prelude.{◌≡◌, length, IfOk, IfErr};
-ghost use Rattle.bson_model.specs.Tree.{tree_of, tree_of_document, tree_of_list};
+ghost use Rattle.std.specs.String.{string_bytes};
+ghost use Rattle.bson_model.specs.Tree.{tree_of, tree_of_document, tree_of_list, code_with_scope, entries, with_trees, pairs_of};
 ghost use Rattle.raw_tree.specs.CanonicalForm.{AllAreSpelledOneWay, DocumentsComeBack};
 ghost use Rattle.raw_tree.specs.Encoding.{IsEncoded, IsRefused};
 ghost use Rattle.raw_tree.specs.Reading.{AllAreReadOneWay, Reads, TellsFirstFault, as_document};
@@ -71,6 +72,29 @@ fn array_of(alloc: Global, values: &[Bson]) -> Result<RawArrayBuf>
     Ok(RawArrayBuf::counted(document, values.len()))
 }
 
+/// The array of a list, which is dropped.
+fn owned_array(alloc: Global, values: Vec<Bson>) -> Result<RawBson>
+    ensures { BecomesRawBson (tree_of_list values.items) result }
+{
+    Ok(RawBson::Array(array_of(alloc, &values)?))
+}
+
+/// The bytes of a document, which is dropped.
+fn owned_document(alloc: Global, document: Document) -> Result<RawBson>
+    ensures { BecomesRawBson (tree_of_document document) result }
+{
+    Ok(RawBson::Document(RawDocumentBuf::from_document(alloc, &document)?))
+}
+
+/// The code with the bytes of its scope, which is dropped.
+fn owned_code(alloc: Global, code: JavaScriptCodeWithScope) -> Result<RawBson>
+    ensures { BecomesRawBson (code_with_scope (string_bytes code.code) (entries (with_trees (pairs_of code.scope)))) result }
+{
+    let scope = RawDocumentBuf::from_document(alloc, &code.scope)?;
+    let code = code.code;
+    Ok(RawBson::JavaScriptCodeWithScope(RawJavaScriptCodeWithScope { code, scope }))
+}
+
 impl RawBson {
     /// The value as a tree. A nested document, an array and a scope are read, as `document_from_raw` and
     /// `list_from_raw` do it; on their first fault, and where memory runs out for them, the value is dropped.
@@ -119,19 +143,13 @@ impl RawBson {
         match value {
             Bson::Double(x) => Ok(RawBson::Double(x)),
             Bson::String(x) => Ok(RawBson::String(x)),
-            Bson::Array(x) => Ok(RawBson::Array(array_of(alloc, &x)?)),
-            Bson::Document(x) => {
-                Ok(RawBson::Document(RawDocumentBuf::from_document(alloc, &x)?))
-            }
+            Bson::Array(x) => owned_array(alloc, x),
+            Bson::Document(x) => owned_document(alloc, x),
             Bson::Boolean(x) => Ok(RawBson::Boolean(x)),
             Bson::Null => Ok(RawBson::Null),
             Bson::RegularExpression(x) => Ok(RawBson::RegularExpression(x)),
             Bson::JavaScriptCode(x) => Ok(RawBson::JavaScriptCode(x)),
-            Bson::JavaScriptCodeWithScope(x) => {
-                let scope = RawDocumentBuf::from_document(alloc, &x.scope)?;
-                let code = x.code;
-                Ok(RawBson::JavaScriptCodeWithScope(RawJavaScriptCodeWithScope { code, scope }))
-            }
+            Bson::JavaScriptCodeWithScope(x) => owned_code(alloc, x),
             Bson::Int32(x) => Ok(RawBson::Int32(x)),
             Bson::Int64(x) => Ok(RawBson::Int64(x)),
             Bson::Timestamp(x) => Ok(RawBson::Timestamp(x)),
