@@ -87,7 +87,7 @@ fn to_raw_document_buf_or_want_of_memory(rt: HostRuntime) -> Result<(), Fail> {
     Ok(())
 }
 
-/// Counting takes no memory: the next key is the number of items.
+/// Counting takes memory for the key of a stop alone: the next key is the number of items.
 #[test]
 fn to_raw_array_buf_or_want_of_memory(rt: HostRuntime) -> Result<(), Fail> {
     let view = array_view(SWALLOWED_TERMINATOR)?;

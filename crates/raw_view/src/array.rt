@@ -77,9 +77,9 @@ impl<'a> RawArray<'a> {
         RawArrayIter::new(alloc, self.document)
     }
 
-    /// The item of this number, counted from 0, faults and the stop counted too: a value, or its fault. Past
+    /// The item at this place, counted from 0, faults and the stop counted too: a value, or its fault. Past
     /// the last item, so past a stop, `None`. Nothing is looked into or copied of the items before it.
-    /// The bytes and the number alone determine what is found.
+    /// The bytes and the place alone determine what is found.
     pub fn get(self, alloc: Global, index: usize) -> Result<Option<RawBsonRef<'a>>>
         ensures found { (found : Option Meaning) × IsAt (array_bytes_of self.entry) index found × TellsFound result found }
         ensures one_answer { (found : Option Meaning) × IsTheAnswerAt (array_bytes_of self.entry) index found }
@@ -101,84 +101,84 @@ impl<'a> RawArray<'a> {
         typed_at_index(alloc, self.get(alloc, index), index)
     }
 
-    /// The 64 bits of a double of this number, counted from 0; else why there is none, with the number in decimal.
+    /// The 64 bits of a double at this place, counted from 0; else why there is none, with the index in decimal.
     pub fn get_f64(self, alloc: Global, index: usize) -> ValueAccessResult<DoubleBits>
         ensures { (found : Option Meaning) × IsAt (array_bytes_of self.entry) index found × Gets typed.f64_value variants.Double (decimal index) found result }
     {
         self.get_typed::<DoubleBits>(alloc, index)
     }
 
-    /// The text of a string of this number, counted from 0; else why there is none, with the number in decimal.
+    /// The text of a string at this place, counted from 0; else why there is none, with the index in decimal.
     pub fn get_str(self, alloc: Global, index: usize) -> ValueAccessResult<&'a str>
         ensures { (found : Option Meaning) × IsAt (array_bytes_of self.entry) index found × Gets typed.str_value variants.String (decimal index) found result }
     {
         self.get_typed::<&'a str>(alloc, index)
     }
 
-    /// A nested document of this number, counted from 0; else why there is none, with the number in decimal.
+    /// A nested document at this place, counted from 0; else why there is none, with the index in decimal.
     pub fn get_document(self, alloc: Global, index: usize) -> ValueAccessResult<RawDocument<'a>>
         ensures { (found : Option Meaning) × IsAt (array_bytes_of self.entry) index found × Gets typed.document_value variants.EmbeddedDocument (decimal index) found result }
     {
         self.get_typed::<RawDocument<'a>>(alloc, index)
     }
 
-    /// An array of this number, counted from 0; else why there is none, with the number in decimal.
+    /// An array at this place, counted from 0; else why there is none, with the index in decimal.
     pub fn get_array(self, alloc: Global, index: usize) -> ValueAccessResult<RawArray<'a>>
         ensures { (found : Option Meaning) × IsAt (array_bytes_of self.entry) index found × Gets typed.array_value variants.Array (decimal index) found result }
     {
         self.get_typed::<RawArray<'a>>(alloc, index)
     }
 
-    /// Bytes and their subtype of this number, counted from 0; else why there is none, with the number in decimal.
+    /// Bytes and their subtype at this place, counted from 0; else why there is none, with the index in decimal.
     pub fn get_binary(self, alloc: Global, index: usize) -> ValueAccessResult<RawBinaryRef<'a>>
         ensures { (found : Option Meaning) × IsAt (array_bytes_of self.entry) index found × Gets typed.binary_value variants.Binary (decimal index) found result }
     {
         self.get_typed::<RawBinaryRef<'a>>(alloc, index)
     }
 
-    /// An ObjectId of this number, counted from 0; else why there is none, with the number in decimal.
+    /// An ObjectId at this place, counted from 0; else why there is none, with the index in decimal.
     pub fn get_object_id(self, alloc: Global, index: usize) -> ValueAccessResult<ObjectId>
         ensures { (found : Option Meaning) × IsAt (array_bytes_of self.entry) index found × Gets typed.object_id_value variants.ObjectId (decimal index) found result }
     {
         self.get_typed::<ObjectId>(alloc, index)
     }
 
-    /// A boolean of this number, counted from 0; else why there is none, with the number in decimal.
+    /// A boolean at this place, counted from 0; else why there is none, with the index in decimal.
     pub fn get_bool(self, alloc: Global, index: usize) -> ValueAccessResult<bool>
         ensures { (found : Option Meaning) × IsAt (array_bytes_of self.entry) index found × Gets typed.bool_value variants.Boolean (decimal index) found result }
     {
         self.get_typed::<bool>(alloc, index)
     }
 
-    /// A time of this number, counted from 0; else why there is none, with the number in decimal.
+    /// A time at this place, counted from 0; else why there is none, with the index in decimal.
     pub fn get_datetime(self, alloc: Global, index: usize) -> ValueAccessResult<DateTime>
         ensures { (found : Option Meaning) × IsAt (array_bytes_of self.entry) index found × Gets typed.datetime_value variants.DateTime (decimal index) found result }
     {
         self.get_typed::<DateTime>(alloc, index)
     }
 
-    /// A regular expression of this number, counted from 0; else why there is none, with the number in decimal.
+    /// A regular expression at this place, counted from 0; else why there is none, with the index in decimal.
     pub fn get_regex(self, alloc: Global, index: usize) -> ValueAccessResult<RawRegexRef<'a>>
         ensures { (found : Option Meaning) × IsAt (array_bytes_of self.entry) index found × Gets typed.regex_value variants.RegularExpression (decimal index) found result }
     {
         self.get_typed::<RawRegexRef<'a>>(alloc, index)
     }
 
-    /// A timestamp of this number, counted from 0; else why there is none, with the number in decimal.
+    /// A timestamp at this place, counted from 0; else why there is none, with the index in decimal.
     pub fn get_timestamp(self, alloc: Global, index: usize) -> ValueAccessResult<Timestamp>
         ensures { (found : Option Meaning) × IsAt (array_bytes_of self.entry) index found × Gets typed.timestamp_value variants.Timestamp (decimal index) found result }
     {
         self.get_typed::<Timestamp>(alloc, index)
     }
 
-    /// A signed 32-bit number of this number, counted from 0; else why there is none, with the number in decimal.
+    /// A signed 32-bit number at this place, counted from 0; else why there is none, with the index in decimal.
     pub fn get_i32(self, alloc: Global, index: usize) -> ValueAccessResult<i32>
         ensures { (found : Option Meaning) × IsAt (array_bytes_of self.entry) index found × Gets typed.i32_value variants.Int32 (decimal index) found result }
     {
         self.get_typed::<i32>(alloc, index)
     }
 
-    /// A signed 64-bit number of this number, counted from 0; else why there is none, with the number in decimal.
+    /// A signed 64-bit number at this place, counted from 0; else why there is none, with the index in decimal.
     pub fn get_i64(self, alloc: Global, index: usize) -> ValueAccessResult<i64>
         ensures { (found : Option Meaning) × IsAt (array_bytes_of self.entry) index found × Gets typed.i64_value variants.Int64 (decimal index) found result }
     {
