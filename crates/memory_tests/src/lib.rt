@@ -1,6 +1,6 @@
 //! Tests of `raw_view`, `raw_tree` and `raw_bson` that `bin/test` runs with each request for memory refused in turn,
-//! alone: each call answers what it answers with ample memory, or want of memory where it may. They stand apart, so
-//! that no other tests are proved once more for these runs.
+//! alone: each call answers what it answers with ample memory, or want of memory where it may. They stand apart,
+//! since each runs once for each request that it makes.
 #![tactic(auto)]
 
 #[cfg(test)]
