@@ -61,45 +61,48 @@ fn has_conversion(kind: ElementType) -> bool {
     )
 }
 
+/// Whether the value is the variant of this kind, with its part; where no conversion makes the kind, one of the others.
+fn is_converted(value: &RawBson, kind: ElementType) -> bool {
+    match value {
+        RawBson::Double(x) => kind == ElementType::Double && *x == HALF_MORE_THAN_ONE,
+        RawBson::String(x) => kind == ElementType::String && x.as_str() == "s",
+        RawBson::Document(x) => {
+            kind == ElementType::EmbeddedDocument && x.as_bytes() == NULL_DOCUMENT
+        }
+        RawBson::Array(x) => kind == ElementType::Array && x.as_bytes() == NULL_ARRAY,
+        RawBson::Binary(x) => {
+            kind == ElementType::Binary && x.bytes.as_slice() == b"\x01\x02".as_slice()
+        }
+        RawBson::ObjectId(x) => kind == ElementType::ObjectId && *x == id(),
+        RawBson::Boolean(x) => kind == ElementType::Boolean && *x,
+        RawBson::DateTime(x) => kind == ElementType::DateTime && *x == DateTime::from_millis(-1),
+        RawBson::RegularExpression(x) => {
+            kind == ElementType::RegularExpression && x.pattern.as_str() == "a"
+        }
+        RawBson::DbPointer(x) => kind == ElementType::DbPointer && x.id == pointed(),
+        RawBson::JavaScriptCodeWithScope(x) => {
+            kind == ElementType::JavaScriptCodeWithScope && x.code.as_str() == "g"
+        }
+        RawBson::Int32(x) => kind == ElementType::Int32 && *x == 7,
+        RawBson::Timestamp(x) => kind == ElementType::Timestamp && *x == MOMENT,
+        RawBson::Int64(x) => kind == ElementType::Int64 && *x == -2,
+        RawBson::Decimal128(x) => kind == ElementType::Decimal128 && *x == decimal(),
+        // no conversion makes these
+        RawBson::Undefined
+        | RawBson::Null
+        | RawBson::JavaScriptCode(_)
+        | RawBson::Symbol(_)
+        | RawBson::MaxKey
+        | RawBson::MinKey => !has_conversion(kind),
+    }
+}
+
 /// A conversion makes the variant that its part names.
 #[test]
 fn conversions_make_values_of_their_kinds(rt: HostRuntime) -> Result<(), Fail> {
     for (_, kind) in KINDS {
-        let is_variant = match owned(rt.alloc(), kind)? {
-            RawBson::Double(x) => kind == ElementType::Double && x == HALF_MORE_THAN_ONE,
-            RawBson::String(x) => kind == ElementType::String && x.as_str() == "s",
-            RawBson::Document(x) => {
-                kind == ElementType::EmbeddedDocument && x.as_bytes() == NULL_DOCUMENT
-            }
-            RawBson::Array(x) => kind == ElementType::Array && x.as_bytes() == NULL_ARRAY,
-            RawBson::Binary(x) => {
-                kind == ElementType::Binary && x.bytes.as_slice() == b"\x01\x02".as_slice()
-            }
-            RawBson::ObjectId(x) => kind == ElementType::ObjectId && x == id(),
-            RawBson::Boolean(x) => kind == ElementType::Boolean && x,
-            RawBson::DateTime(x) => {
-                kind == ElementType::DateTime && x == DateTime::from_millis(-1)
-            }
-            RawBson::RegularExpression(x) => {
-                kind == ElementType::RegularExpression && x.pattern.as_str() == "a"
-            }
-            RawBson::DbPointer(x) => kind == ElementType::DbPointer && x.id == pointed(),
-            RawBson::JavaScriptCodeWithScope(x) => {
-                kind == ElementType::JavaScriptCodeWithScope && x.code.as_str() == "g"
-            }
-            RawBson::Int32(x) => kind == ElementType::Int32 && x == 7,
-            RawBson::Timestamp(x) => kind == ElementType::Timestamp && x == MOMENT,
-            RawBson::Int64(x) => kind == ElementType::Int64 && x == -2,
-            RawBson::Decimal128(x) => kind == ElementType::Decimal128 && x == decimal(),
-            // no conversion makes these
-            RawBson::Undefined
-            | RawBson::Null
-            | RawBson::JavaScriptCode(_)
-            | RawBson::Symbol(_)
-            | RawBson::MaxKey
-            | RawBson::MinKey => !has_conversion(kind),
-        };
-        assert!(rt; is_variant, "{kind:?}");
+        let value = owned(rt.alloc(), kind)?;
+        assert!(rt; is_converted(&value, kind), "{kind:?}");
     }
     Ok(())
 }
