@@ -21,8 +21,8 @@ use std::alloc::Global;
 
 impl RawDocumentBuf {
     /// The bytes of a document. It refuses, without a key, first where a key, a pattern or options at any
-    /// depth hold a 0, then where the bytes would be over 2147483647, and then where memory runs out. Every
-    /// document's tree comes back as `encode` says it. BSON 1.1, `document`.
+    /// depth hold a 0, then where the bytes would be over 2147483647, and then where memory runs out. What
+    /// `encode` says of trees that come back holds here, too. BSON 1.1, `document`.
     pub fn from_document(alloc: Global, document: &Document) -> Result<RawDocumentBuf>
         ensures ok { IfOk result (λ d. IsEncoded (tree_of_document document.now) d) }
         ensures comes_back { DocumentsComeBack }

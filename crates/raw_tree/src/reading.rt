@@ -165,7 +165,7 @@ pub fn document_from_raw(alloc: Global, document: RawDocument<'_>) -> Result<Doc
 }
 
 /// The values of an array in order; its keys are left away. It refuses what `document_from_raw` does, and
-/// every array is read and written back in one way alone as well. BSON 1.1, `array`.
+/// the same holds of every array. BSON 1.1, `array`.
 pub fn list_from_raw(alloc: Global, array: RawArray<'_>) -> Result<Vec<Bson>>
     ensures tree { IfOk result (λ list. ReadsAs as_array (array_bytes_of array.entry) (tree_of_list list.items)) }
     ensures fault { IfErr result (TellsFirstFault (array_bytes_of array.entry)) }

@@ -305,7 +305,7 @@ fn room_for(alloc: Global, judged: Option<usize>) -> Result<Vec<u8>>
 /// options at any depth hold a 0, then where the bytes would be over 2147483647, and then where memory runs
 /// out; it reserves the whole once. Of every document's tree without such a 0, whose options never descend
 /// and whose subtypes are those that their bytes stand for, what is written is canonical, and is read as
-/// that very tree.
+/// that very tree; that the tree of a `Document` is well formed, `attest_document` says.
 pub fn encode(alloc: Global, document: &Document) -> Result<Vec<u8>>
     ensures ok { IfOk result (λ bytes. IsEncoded (tree_of_document document.now) bytes.items) }
     ensures envelope { IfOk result (λ bytes. IsEnvelope bytes.items) }
