@@ -1,4 +1,5 @@
 pub mod Ascending
+pub mod Bytes
 pub mod Equality
 pub mod Keep
 pub mod Kept

@@ -1,9 +1,9 @@
 -- Lists of bytes.
-use Rattle.std.specs.Prelude.{◌≡◌, ◌≢◌, ℕ, ◌<◌, List, length, All}
+use Rattle.std.specs.Prelude.{◌≡◌, ◌≢◌, ℕ, ◌<◌, List, length, slice_index, All}
 
--- numbers below 256
+-- each is a number from 0 to 255
 abbrev pub AreBytes : List ℕ → Type 0
-AreBytes bytes = All (λ b. b < 256) bytes
+AreBytes bytes = (i : ℕ) → slice_index bytes i < 256
 
 -- so many bytes
 abbrev pub AreBytesOf : ℕ → List ℕ → Type 0

@@ -1,43 +1,31 @@
 -- An append gives a document again, and what was read before it is read before the new element.
-use Rattle.std.proofs.Common.{◌≡◌, ◌≢◌, inl, inr, ◌<◌, ◌≤◌, ◌+◌, ◌-◌, ◌++◌, ◌∷◌, [], ℕ, pos, zero, suc, List, length, take, drop, get_or, arith, ap, sym, refl, ◌∙◌, subst, append_assoc, length-append, length-drop, false, true, w32}
+use Rattle.std.proofs.Common.{◌≡◌, ◌≢◌, inl, inr, ◌<◌, ◌≤◌, ◌+◌, ◌-◌, ◌++◌, ◌∷◌, [], ℕ, pos, zero, suc, List, length, take, drop, get_or, arith, ap, sym, refl, ◌∙◌, subst, append_assoc, length-append, length-drop}
 use Rattle.std.specs.Str.{IsUtf8}
-use Rattle.std.specs.Prelude.{FitsSigned}
-use Rattle.std.proofs.lemmas.Int.{fits_signed_from_abs}
-use Rattle.std.proofs.lemmas.List.{take_all, take_more, take-append-le, get_or_at, get_or-take, get_or-drop, same_from_push, length-take-le}
-use Rattle.std.proofs.lemmas.List.Elements.{All-head, All-tail}
+use Rattle.std.proofs.lemmas.List.{take-append-le, get_or_at, get_or-take, same_from_push, length-take-le}
 use Rattle.std.proofs.lemmas.Bool.{cases_lt}
-use Rattle.std.proofs.lemmas.Option.{get_or_from_slice_get}
-use Rattle.bson_model.specs.Bytes.{NulFree}
-use Rattle.bson_model.specs.Leaf.{Leaf, double, string, binary, undefined, object_id, boolean, date_time, null, regular_expression, db_pointer, javascript_code, symbol, int32, timestamp, int64, decimal128, max_key, min_key}
-use Rattle.bson_model.specs.Proper.{IsLeafInRange, IsLeafNulFree}
-use Rattle.bson_model.specs.declared.binaries.BinarySubtype.{BinarySubtype}
-use Rattle.bson_model.specs.declared.binaries.BinarySubtype.TheVariants.{BinaryOld}
-use Rattle.bson_model.specs.Subtype.{subtype_byte}
-use Rattle.raw_view.specs.Access.{kind_of_raw, kind_of_leaf}
+use Rattle.bson_model.specs.Bytes.{AreBytes}
 use Rattle.raw_view.specs.Envelope.{IsEnvelope}
-use Rattle.raw_view.specs.Frame.{HasNoNul, IsString, IsBinary, HasDeclaredLength, HasShape, Frame, IsFrame, IsWalk, Done}
+use Rattle.raw_view.specs.Format.{string_payload, framed, inside_of}
+use Rattle.raw_view.specs.Frame.{HasDeclaredLength, HasShape, Frame, IsFrame, IsWalk, Done}
 use Rattle.raw_view.specs.Kind.{tag_of}
-use Rattle.raw_view.specs.Meaning.{RawValue, single, document, array, scoped}
-use Rattle.raw_view.specs.Number.{IsBytes, IsLe32, le32}
+use Rattle.raw_view.specs.Meaning.{RawValue, single, document, array, scoped, kind_of_raw}
+use Rattle.raw_view.specs.Number.{max_length, IsLe32, le32}
 use Rattle.raw_view.specs.declared.element_type.ElementType.{ElementType}
 use Rattle.raw_view.specs.declared.element_type.ElementType.TheVariants as kind
+use Rattle.raw_view.proofs.Payloads.{document_framed}
 use Rattle.raw_view.proofs.Unique.{the_walk}
-use Rattle.raw_tree.specs.Payload.{string_payload, plain_binary_payload, binary_payload, leaf_payload, payload_of, element_bytes, framed, IsValueNulFree}
-use Rattle.raw_tree.proofs.Returns.{framed_is_envelope}
-use Rattle.raw_bson.specs.Append.{inside_of, appended_bytes, IsNulFreeElement, HasRoom, value_frame, EndsInShortScope, KeepsWalk, IsRawInRange}
+use Rattle.raw_view.proofs.Written.{length-framed, leaf_shape, declared_shape, framed_is_envelope}
+use Rattle.raw_tree.specs.Payload.{payload_of, element_bytes, IsValueNulFree}
+use Rattle.raw_bson.specs.Append.{appended_bytes, IsNulFreeElement, HasRoom, value_frame, EndsInShortScope, KeepsWalk, IsRawInRange}
 
 -- lengths
-
--- the length and the final 0 are five bytes
-length-framed : (inside : List ℕ) → length (framed inside) ≡ length inside + 5
-length-framed inside = omega (arith, length-append inside (0 ∷ []))
 
 -- the tag and the key's 0 are two
 pub length-element_bytes : (key : List ℕ) (v : RawValue) → length (element_bytes key v) ≡ length key + (2 + length (payload_of v))
 length-element_bytes key v = omega (arith, length-append key (0 ∷ payload_of v))
 
 -- all but five
-length-inside : (b : List ℕ) → 5 ≤ length b → length (inside_of b) ≡ length b - 5
+pub length-inside : (b : List ℕ) → 5 ≤ length b → length (inside_of b) ≡ length b - 5
 length-inside b five = length-take-le (length b - 5) (drop 4 b) (omega (arith, length-drop 4 b))
 
 -- the new element is added
@@ -45,93 +33,16 @@ pub length-appended_bytes : (b key : List ℕ) (v : RawValue) → 5 ≤ length b
 length-appended_bytes b key v five =
     omega (arith, length-framed (inside_of b ++ element_bytes key v), length-append (inside_of b) (element_bytes key v), length-inside b five, length-element_bytes key v)
 
--- a length of at most 2147483647 fits
-fits_length : (n : ℕ) → n ≤ 2147483647 → FitsSigned w32 (pos n)
-fits_length n l = fits_signed_from_abs w32 (pos n) (omega arith)
-
 -- the envelope
 
 -- a document with one element more has its envelope
-pub appended_is_envelope : (b key : List ℕ) (v : RawValue) → IsEnvelope b → IsBytes (appended_bytes b key v) → HasRoom b key v → IsEnvelope (appended_bytes b key v)
+pub appended_is_envelope : (b key : List ℕ) (v : RawValue) → IsEnvelope b → AreBytes (appended_bytes b key v) → HasRoom b key v → IsEnvelope (appended_bytes b key v)
 appended_is_envelope b key v _ bytes room = framed_is_envelope (inside_of b ++ element_bytes key v) bytes (omega (arith, length-framed (inside_of b ++ element_bytes key v), room))
 
--- shapes of written payloads
-
--- no 0 at any place is no 0 down the list
-HasNoNul-from : (bytes : List ℕ) → NulFree bytes → HasNoNul bytes
-HasNoNul-from [] h = tt
-HasNoNul-from (b ∷ bytes) h = (All-head (λ x. x ≢ 0) b bytes h, HasNoNul-from bytes (All-tail (λ x. x ≢ 0) b bytes h))
-
--- a written string
-string_shape : (text : List ℕ) → length (string_payload text) ≤ 2147483647 → IsString (string_payload text) text
-string_shape text l = record {
-  head = le32 (pos (length text + 1));
-  length_is = record { fits = fits_length _ (omega (arith, length-append text (0 ∷ []))); bytes_are = refl };
-  spelled = refl;
-}
-
--- the bytes of a binary, which may be those of an old one with their length before them
-plain_shape : (subtype : ℕ) (bytes : List ℕ) → length (plain_binary_payload subtype bytes) ≤ 2147483647 → IsBinary (plain_binary_payload subtype bytes) subtype bytes
-plain_shape subtype bytes l = record {
-  head = le32 (pos (length bytes));
-  length_is = record { fits = fits_length _ (omega arith); bytes_are = refl };
-  spelled = refl;
-}
-
--- a written binary
-binary_shape : (subtype : BinarySubtype) (bytes : List ℕ) → length (binary_payload subtype bytes) ≤ 2147483647 → (byte : ℕ) × (inner : List ℕ) × IsBinary (binary_payload subtype bytes) byte inner
-binary_shape BinaryOld bytes l = (2, le32 (pos (length bytes)) ++ bytes, plain_shape 2 (le32 (pos (length bytes)) ++ bytes) l)
-binary_shape subtype bytes l = (subtype_byte subtype, bytes, plain_shape (subtype_byte subtype) bytes l)
-
--- a written value that holds no others
-leaf_shape : (leaf : Leaf) (r : List ℕ) → IsLeafInRange leaf → IsLeafNulFree leaf → length (leaf_payload leaf) ≤ 2147483647 → HasShape (kind_of_leaf leaf) (leaf_payload leaf) r
-leaf_shape (double bits) r h n l = refl
-leaf_shape (string text) r h n l = (text, string_shape text l)
-leaf_shape (binary subtype bytes) r h n l = binary_shape subtype bytes l
-leaf_shape undefined r h n l = refl
-leaf_shape (object_id bytes) r h n l = h.0
-leaf_shape (boolean false) r h n l = refl
-leaf_shape (boolean true) r h n l = refl
-leaf_shape (date_time millis) r h n l = refl
-leaf_shape null r h n l = refl
-leaf_shape (regular_expression pattern options) r h n l = (
-  pattern,
-  options,
-  record {
-    spelled = refl;
-    pattern_nul_free = HasNoNul-from pattern n.0;
-    pattern_text = h.0;
-    options_nul_free = HasNoNul-from options n.1;
-    options_text = h.1;
-  },
-)
-leaf_shape (db_pointer namespace id) r h n l = (
-  namespace,
-  id,
-  record {
-    string = string_payload namespace;
-    string_is = string_shape namespace (omega (arith, length-append (string_payload namespace) id));
-    id_len = h.1.0;
-    spelled = refl;
-  },
-)
-leaf_shape (javascript_code code) r h n l = (code, string_shape code l)
-leaf_shape (symbol text) r h n l = (text, string_shape text l)
-leaf_shape (int32 z) r h n l = refl
-leaf_shape (timestamp time increment) r h n l = refl
-leaf_shape (int64 z) r h n l = refl
-leaf_shape (decimal128 bytes) r h n l = h.0
-leaf_shape max_key r h n l = refl
-leaf_shape min_key r h n l = refl
-
--- a payload that begins with its length has it declared, whatever stands behind it
-declared_shape : (t r : List ℕ) → 4 + length t ≤ 2147483647 → HasDeclaredLength (le32 (pos (4 + length t)) ++ t) r
-declared_shape t r l =
-    let size : length (le32 (pos (4 + length t)) ++ t) ≡ 4 + length t = omega arith in
-    record { enough = omega arith; header = rw size (record { fits = fits_length _ l; bytes_are = refl }) }
+-- the shape of what is written
 
 -- a written value
-pub value_has_shape : (v : RawValue) (r : List ℕ) → IsRawInRange v → IsValueNulFree v → length (payload_of v) ≤ 2147483647 → HasShape (kind_of_raw v) (payload_of v) r
+pub value_has_shape : (v : RawValue) (r : List ℕ) → IsRawInRange v → IsValueNulFree v → length (payload_of v) ≤ max_length → HasShape (kind_of_raw v) (payload_of v) r
 value_has_shape (single leaf) r h n l = leaf_shape leaf r h n l
 value_has_shape (document bytes) r h n l = h
 value_has_shape (array bytes) r h n l = h
@@ -232,18 +143,13 @@ walk_on m e (g ∷ frames) f b w none =
 
 -- behind its length a document is what is inside, and a 0
 inside_and_end : (b : List ℕ) → IsEnvelope b → drop 4 b ≡ inside_of b ++ 0 ∷ []
-inside_and_end b envelope =
-    let enough : 5 ≤ length b = envelope.enough in
-    let size : length (drop 4 b) ≡ length b - 4 = length-drop 4 b in
-    let place : 4 + (length b - 5) ≡ length b - 1 = omega arith in
-    let last : get_or (drop 4 b) (length b - 5) 0 ≡ 0 = get_or-drop 4 b (length b - 5) 0 ∙ ap (λ (i : ℕ). get_or b i 0) place ∙ get_or_from_slice_get b (length b - 1) 0 0 envelope.ended in
-    sym (take_all (length b - 5 + 1) (drop 4 b) (omega arith)) ∙ take_more (drop 4 b) (length b - 5) 0 (omega arith) ∙ ap (λ x. inside_of b ++ x ∷ []) last
+inside_and_end b envelope = ap (drop 4) (document_framed b envelope)
 
 -- the new element is a frame, whatever stands behind it
-element_is_frame : (key : List ℕ) (v : RawValue) (r : List ℕ) → IsUtf8 key → IsNulFreeElement key v → IsRawInRange v → length (payload_of v) ≤ 2147483647 → IsFrame (element_bytes key v ++ r) (value_frame key v) r
+element_is_frame : (key : List ℕ) (v : RawValue) (r : List ℕ) → IsUtf8 key → IsNulFreeElement key v → IsRawInRange v → length (payload_of v) ≤ max_length → IsFrame (element_bytes key v ++ r) (value_frame key v) r
 element_is_frame key v r text nul_free in_range l = record {
   spelled = ap (λ x. tag_of (kind_of_raw v) ∷ x) (append_assoc key (0 ∷ payload_of v) r);
-  key_nul_free = HasNoNul-from key nul_free.0;
+  key_nul_free = nul_free.0;
   key_text = text;
   payload_is = value_has_shape v r in_range nul_free.1 l;
 }
@@ -251,7 +157,7 @@ element_is_frame key v r text nul_free in_range l = record {
 -- the walk of the old content goes on with the new element
 pub keeps_walk : (b key : List ℕ) (v : RawValue) → IsEnvelope b → IsUtf8 key → IsNulFreeElement key v → IsRawInRange v → HasRoom b key v → KeepsWalk b key v (appended_bytes b key v)
 keeps_walk b key v envelope text nul_free in_range room frames w none =
-    let size : length (payload_of v) ≤ 2147483647 = omega (arith, length-appended_bytes b key v envelope.enough) in
+    let size : length (payload_of v) ≤ max_length = omega (arith, length-appended_bytes b key v envelope.enough) in
     let new : IsFrame (element_bytes key v ++ 0 ∷ []) (value_frame key v) (0 ∷ []) = element_is_frame key v (0 ∷ []) text nul_free in_range size in
     let old : IsWalk (inside_of b ++ 0 ∷ []) frames Done = subst (λ (x : List ℕ). IsWalk x frames Done) (inside_and_end b envelope) w in
     let after : inside_of b ++ (element_bytes key v ++ 0 ∷ []) ≡ drop 4 (appended_bytes b key v) = sym (append_assoc (inside_of b) (element_bytes key v) (0 ∷ [])) in

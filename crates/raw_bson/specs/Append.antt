@@ -1,24 +1,21 @@
 -- What an append to a document gives, and what it leaves.
-use Rattle.std.specs.Prelude.{◌≡◌, ◌≤◌, ◌-◌, ℕ, List, [], ◌∷◌, ◌++◌, length, take, drop, None, Result, Ok, Err}
+use Rattle.std.specs.Prelude.{◌≡◌, ◌≤◌, ℕ, List, [], ◌∷◌, ◌++◌, length, drop, None, Result, Ok, Err}
 use Rattle.std.specs.Str.{IsUtf8}
 use Rattle.bson_model.specs.Bytes.{NulFree}
 use Rattle.bson_model.specs.Proper.{IsLeafInRange}
-use Rattle.raw_view.specs.Access.{kind_of_raw}
 use Rattle.raw_view.specs.Envelope.{IsEnvelope}
 use Rattle.raw_view.specs.Errors.{key_of}
+use Rattle.raw_view.specs.Format.{framed, inside_of}
 use Rattle.raw_view.specs.Frame.{Frame, IsWalk, Done}
-use Rattle.raw_view.specs.Meaning.{RawValue, single, document, array, scoped}
+use Rattle.raw_view.specs.Meaning.{RawValue, single, document, array, scoped, kind_of_raw}
+use Rattle.raw_view.specs.Number.{max_length}
 use Rattle.raw_view.specs.OneReading.{IsTheWalk}
 use Rattle.raw_view.specs.declared.element_type.ElementType.TheVariants.{JavaScriptCodeWithScope}
 use Rattle.raw_view.specs.declared.error.Error.{Error}
 use Rattle.raw_view.specs.declared.error.ErrorKind.{ErrorKind}
 use Rattle.raw_view.specs.declared.error.ErrorKind.TheVariants as kind
 use Rattle.raw_view.specs.declared.error.Reason.TheVariants as reason
-use Rattle.raw_tree.specs.Payload.{payload_of, element_bytes, framed, IsValueNulFree}
-
--- a document without its first four bytes and its last
-abbrev pub inside_of : List ℕ → List ℕ
-inside_of b = take (length b - 5) (drop 4 b)
+use Rattle.raw_tree.specs.Payload.{payload_of, element_bytes, IsValueNulFree}
 
 -- the document b with one element more, in place of the final 0; the old content isn't looked into
 abbrev pub appended_bytes : List ℕ → List ℕ → RawValue → List ℕ
@@ -28,9 +25,9 @@ appended_bytes b key v = framed (inside_of b ++ element_bytes key v)
 abbrev pub IsNulFreeElement : List ℕ → RawValue → Type 0
 IsNulFreeElement key v = NulFree key × IsValueNulFree v
 
--- the document with one element more has at most 2147483647 bytes
+-- the document with one element more has at most the greatest length
 abbrev pub HasRoom : List ℕ → List ℕ → RawValue → Type 0
-HasRoom b key v = length (appended_bytes b key v) ≤ 2147483647
+HasRoom b key v = length (appended_bytes b key v) ≤ max_length
 
 -- Why an append is refused: first a 0, then the length, then want of memory.
 abbrev pub RefusesAppend : List ℕ → List ℕ → RawValue → ErrorKind → Type 0

@@ -6,6 +6,7 @@ use Rattle.raw_view.specs.Envelope.{IsEnvelope}
 use Rattle.raw_view.specs.Errors.{TellsRefusal, key_of}
 use Rattle.raw_view.specs.Meaning.{RawValue}
 use Rattle.raw_view.specs.Meaning as raw
+use Rattle.raw_view.specs.Number.{max_length}
 use Rattle.raw_view.specs.declared.error.Error.{Error}
 use Rattle.raw_view.specs.declared.error.ErrorKind.TheVariants.{MalformedValue}
 use Rattle.raw_view.specs.declared.error.Reason.TheVariants.{TooLong}
@@ -45,7 +46,7 @@ BecomesRawBson (code_with_scope code es) (Err e) = IsRefused (document es) e
 
 -- the encoding of the tree would be too long; the error has no key
 abbrev pub TellsTooLong : Tree → Error → Type 0
-TellsTooLong t e = (2147483647 < encoded_len t) × (e.kind ≡ MalformedValue TooLong) × (key_of e ≡ None)
+TellsTooLong t e = (max_length < encoded_len t) × (e.kind ≡ MalformedValue TooLong) × (key_of e ≡ None)
 
 -- Why no canonical form of these bytes is answered: the first reason for which they have no envelope; else
 -- their first fault, or want of memory; else that the encoding of their tree would be too long.

@@ -188,7 +188,8 @@ fn pointer_ref(pointer: &DbPointer) -> RawDbPointerRef<'_>
 }
 
 impl RawBson {
-    ghost use Rattle.raw_bson.specs.Owned.{owned_value, owned_kind};
+    ghost use Rattle.raw_bson.specs.Owned.{owned_value};
+    ghost use Rattle.raw_view.specs.Meaning.{kind_of_raw};
     ghost use Rattle.raw_bson.specs.declared.bson.RawBson.TheVariants as own;
 
     /// A view of the value. Nothing is copied.
@@ -224,7 +225,7 @@ impl RawBson {
 
     /// The kind of the value.
     pub fn element_type(&self) -> ElementType
-        ensures { result ≡ owned_kind self.now }
+        ensures { result ≡ kind_of_raw (owned_value self.now) }
     {
         match self {
             RawBson::Double(_) => ElementType::Double,

@@ -4,17 +4,18 @@ use Rattle.bson_model.specs.Leaf.{Leaf}
 use Rattle.bson_model.specs.Pairs.{keep}
 use Rattle.bson_model.specs.Tree.{Tree, Entries, leaf, document, code_with_scope, entries}
 use Rattle.raw_view.specs.Envelope.{IsEnvelope}
+use Rattle.raw_view.specs.Format.{string_payload}
 use Rattle.raw_view.specs.Frame.{Frame, IsFrame, HasShape, IsStop, IsWalk, End, Done, Stopped, LeadsTo}
 use Rattle.raw_view.specs.Meaning.{RawValue, KeyedFault, Means, MeansValue, IsCodeWithScope, Meaning, value, faulty}
 use Rattle.raw_view.specs.Meaning as raw
-use Rattle.raw_view.specs.Number.{IsBytes}
+use Rattle.bson_model.specs.Bytes.{AreBytes}
 use Rattle.raw_view.specs.declared.element_type.ElementType.{ElementType}
 use Rattle.raw_view.specs.declared.element_type.ElementType.TheVariants as kind
 use Rattle.raw_view.proofs.CallerLemmas.{LeadsTo-walk, LeadsTo-more, IsFrame-shorter}
 use Rattle.raw_view.proofs.Meanings.{has_meaning}
-use Rattle.raw_view.proofs.Payloads.{IsBytes-drop}
-use Rattle.raw_view.proofs.Walks.{IsBytes-rest, document_has_walk}
-use Rattle.raw_tree.specs.Reading.{Sort, as_document, as_array, tree_of_pairs, leaf_in_order, StandsFor, StandForEach, ReadsWithin, ReadsAs, Holds, FirstFault, FirstFaultOfValue}
+use Rattle.bson_model.proofs.Bytes.{AreBytes-drop}
+use Rattle.raw_view.proofs.Walks.{AreBytes-rest, document_has_walk}
+use Rattle.raw_tree.specs.Reading.{Sort, as_document, as_array, tree_of_pairs, leaf_in_order, StandsFor, StandForEach, ReadsUpTo, ReadsAs, Holds, FirstFault, FirstFaultOfValue}
 
 -- nested bytes
 
@@ -31,7 +32,7 @@ nested_length (raw.scoped code d) = length d
 
 -- the scope is a part of the payload
 scope_within : (p code scope : List ℕ) → IsCodeWithScope p code scope → length scope ≤ length p
-scope_within p code scope c = omega (arith, ap length c.spelled, length-append c.head (c.string ++ scope), length-append c.string scope)
+scope_within p code scope c = omega (arith, ap length c.spelled, length-append (string_payload code) scope)
 
 -- these bytes have an envelope and are no longer than the payload
 abbrev IsNestedIn : List ℕ → List ℕ → Type 0
@@ -55,18 +56,14 @@ nested_in_payload kind.Binary p r v d x m h =
       | inl a ↦ absurd (single_holds_none v _ d a.1 h)
       | inr b ↦ absurd (single_holds_none v _ d b.3 h)
     ]
-nested_in_payload kind.Boolean p r v d x m h =
-    elim m [
-      | inl a ↦ absurd (single_holds_none v _ d a.1 h)
-      | inr b ↦ absurd (single_holds_none v _ d b.1 h)
-    ]
+nested_in_payload kind.Boolean p r v d x m h = absurd (single_holds_none v _ d m.2 h)
 nested_in_payload kind.DateTime p r v d x m h = absurd (single_holds_none v _ d m.2 h)
 nested_in_payload kind.RegularExpression p r v d x m h = absurd (single_holds_none v _ d m.3 h)
 nested_in_payload kind.DbPointer p r v d x m h = absurd (single_holds_none v _ d m.4 h)
 nested_in_payload kind.JavaScriptCode p r v d x m h = absurd (single_holds_none v _ d m.2 h)
 nested_in_payload kind.Symbol p r v d x m h = absurd (single_holds_none v _ d m.2 h)
 nested_in_payload kind.Int32 p r v d x m h = absurd (single_holds_none v _ d m.2 h)
-nested_in_payload kind.Timestamp p r v d x m h = absurd (single_holds_none v _ d m.4 h)
+nested_in_payload kind.Timestamp p r v d x m h = absurd (single_holds_none v _ d m.3 h)
 nested_in_payload kind.Int64 p r v d x m h = absurd (single_holds_none v _ d m.2 h)
 nested_in_payload _ p r v d x m h = absurd (single_holds_none v _ d m h)
 
@@ -97,43 +94,43 @@ stand_each_on N M on [] pairs h = h
 stand_each_on N M on (f ∷ fs) pairs h = (h.0, h.1, h.2, h.3, stands_on N M on h.0 h.1 h.4, h.5, stand_each_on N M on fs h.2 h.6)
 
 -- what is read within some levels is read within more
-pub reads_up_to : (n m : ℕ) → n ≤ m → (sort : Sort) (b : List ℕ) (t : Tree) → ReadsWithin n sort b t → ReadsWithin m sort b t
+pub reads_up_to : (n m : ℕ) → n ≤ m → (sort : Sort) (b : List ℕ) (t : Tree) → ReadsUpTo n sort b t → ReadsUpTo m sort b t
 reads_up_to zero m l sort b t h = absurd h
 reads_up_to (suc n) zero l sort b t h = absurd (omega arith)
 reads_up_to (suc n) (suc m) l sort b t h =
-    (h.0, h.1, h.2, stand_each_on (ReadsWithin n) (ReadsWithin m) (reads_up_to n m (omega arith)) h.0 h.1 h.3, h.4)
+    (h.0, (h.1.0, h.1.1, stand_each_on (ReadsUpTo n) (ReadsUpTo m) (reads_up_to n m (omega arith)) h.1.0 h.0 h.1.2), h.2)
 
 -- within one level more
-pub reads_more : (n : ℕ) (sort : Sort) (b : List ℕ) (t : Tree) → ReadsWithin n sort b t → ReadsWithin (suc n) sort b t
+pub reads_more : (n : ℕ) (sort : Sort) (b : List ℕ) (t : Tree) → ReadsUpTo n sort b t → ReadsUpTo (suc n) sort b t
 reads_more n sort b t h = reads_up_to n (suc n) (omega arith) sort b t h
 
 -- frames read within some levels are read
-pub stand_each_of : (n : ℕ) (fs : List Frame) (pairs : List (List ℕ × Tree)) → StandForEach (ReadsWithin n) fs pairs → StandForEach ReadsAs fs pairs
-stand_each_of n fs pairs h = stand_each_on (ReadsWithin n) ReadsAs (λ sort b t r. (n, r)) fs pairs h
+pub stand_each_of : (n : ℕ) (fs : List Frame) (pairs : List (List ℕ × Tree)) → StandForEach (ReadsUpTo n) fs pairs → StandForEach ReadsAs fs pairs
+stand_each_of n fs pairs h = stand_each_on (ReadsUpTo n) ReadsAs (λ sort b t r. (n, r)) fs pairs h
 
 -- a value that stands for a tree does so within some levels
-stands_level : (v : RawValue) (t : Tree) → StandsFor ReadsAs v t → (n : ℕ) × StandsFor (ReadsWithin n) v t
+stands_level : (v : RawValue) (t : Tree) → StandsFor ReadsAs v t → (n : ℕ) × StandsFor (ReadsUpTo n) v t
 stands_level (raw.single l) t h = (0, h)
 stands_level (raw.document d) t h = h
 stands_level (raw.array d) t h = h
 stands_level (raw.scoped code d) t h = (h.1.0, (h.0, h.1.1, h.2))
 
 -- frames that are read are read within some levels
-pub stand_each_level : (fs : List Frame) (pairs : List (List ℕ × Tree)) → StandForEach ReadsAs fs pairs → (n : ℕ) × StandForEach (ReadsWithin n) fs pairs
+pub stand_each_level : (fs : List Frame) (pairs : List (List ℕ × Tree)) → StandForEach ReadsAs fs pairs → (n : ℕ) × StandForEach (ReadsUpTo n) fs pairs
 stand_each_level [] pairs h = (0, h)
 stand_each_level (f ∷ fs) pairs h =
     let first = stands_level h.0 h.1 h.4 in
     let others = stand_each_level fs h.2 h.6 in
     let n : ℕ = first.0 + others.0 in
-    let here : StandsFor (ReadsWithin n) h.0 h.1 = stands_on (ReadsWithin first.0) (ReadsWithin n) (reads_up_to first.0 n (omega arith)) h.0 h.1 first.1 in
-    let behind : StandForEach (ReadsWithin n) fs h.2 = stand_each_on (ReadsWithin others.0) (ReadsWithin n) (reads_up_to others.0 n (omega arith)) fs h.2 others.1 in
+    let here : StandsFor (ReadsUpTo n) h.0 h.1 = stands_on (ReadsUpTo first.0) (ReadsUpTo n) (reads_up_to first.0 n (omega arith)) h.0 h.1 first.1 in
+    let behind : StandForEach (ReadsUpTo n) fs h.2 = stand_each_on (ReadsUpTo others.0) (ReadsUpTo n) (reads_up_to others.0 n (omega arith)) fs h.2 others.1 in
     (n, (h.0, h.1, h.2, h.3, here, h.5, behind))
 
 -- bytes whose walk is done and whose frames all stand for trees are read
 pub reads_of : (sort : Sort) (b : List ℕ) (frames : List Frame) (pairs : List (List ℕ × Tree)) → IsWalk (drop 4 b) frames Done → StandForEach ReadsAs frames pairs → ReadsAs sort b (tree_of_pairs sort pairs)
 reads_of sort b frames pairs w h =
     let each = stand_each_level frames pairs h in
-    (suc each.0, (frames, pairs, w, each.1, refl))
+    (suc each.0, (pairs, (frames, w, each.1), refl))
 
 -- a caller's loop
 
@@ -154,7 +151,7 @@ fault_at_frame b passed pairs s f r fault l h at m = (1, (passed, pairs, s, l, h
 -- nested bytes of a frame behind them have a fault
 pub fault_inside : (b : List ℕ) (passed : List Frame) (pairs : List (List ℕ × Tree)) (s : List ℕ) (f : Frame) (r : List ℕ) (v : RawValue) (fault : KeyedFault) → LeadsTo (drop 4 b) passed s → StandForEach ReadsAs passed pairs → IsFrame s f r → Means f (value v) → FirstFaultOfValue v fault → FirstFault b fault
 fault_inside b passed pairs s f r v fault l h at m inside =
-    (suc inside.2.0, (passed, pairs, s, l, h, inr (f, r, at, inr (v, inside.0, m, inside.1, inside.2.1))))
+    (suc inside.2.0, (passed, pairs, s, l, h, inr (f, r, at, inr (v, m, (inside.0, inside.1, inside.2.1)))))
 
 -- decisions
 
@@ -169,7 +166,7 @@ StandsOrIsFaulty v = ((t : Tree) × StandsFor ReadsAs v t) ⊎ ((fault : KeyedFa
 -- a tree as which bytes are read as a document is the tree of entries
 document_read : (b : List ℕ) (t : Tree) → ReadsAs as_document b t → (es : Entries) × ReadsAs as_document b (document es)
 document_read b t (zero, h) = absurd h
-document_read b t (suc n, h) = (entries (keep h.1), (suc n, (h.0, h.1, h.2, h.3, refl)))
+document_read b t (suc n, h) = (entries (keep h.0), (suc n, (h.0, h.1, refl)))
 
 -- a value is decided where its nested bytes are
 pub value_by_nested : (v : RawValue) → ((sort : Sort) (d : List ℕ) → Holds v d → AreReadOrFaulty sort d) → StandsOrIsFaulty v
@@ -208,7 +205,7 @@ value_or_fault f (faulty fault) m = inr (fault, m)
 
 -- Along a walk, behind frames that are read: at the end the bytes are read, and a stop, a fault of a frame
 -- or one of its value is the first fault.
-along : (n : ℕ) → AreDecidedWithin n → (sort : Sort) (b : List ℕ) (passed : List Frame) (pairs : List (List ℕ × Tree)) (s : List ℕ) (frames : List Frame) (end : End) → LeadsTo (drop 4 b) passed s → StandForEach ReadsAs passed pairs → IsBytes s → length s ≤ n + 1 → IsWalk s frames end → AreReadOrFaulty sort b
+along : (n : ℕ) → AreDecidedWithin n → (sort : Sort) (b : List ℕ) (passed : List Frame) (pairs : List (List ℕ × Tree)) (s : List ℕ) (frames : List Frame) (end : End) → LeadsTo (drop 4 b) passed s → StandForEach ReadsAs passed pairs → AreBytes s → length s ≤ n + 1 → IsWalk s frames end → AreReadOrFaulty sort b
 along n shorter sort b passed pairs s [] Done lead h bytes l w = inl (tree_of_pairs sort pairs, reads_of sort b passed pairs (LeadsTo-walk (drop 4 b) passed s Done lead w) h)
 along n shorter sort b passed pairs s [] (Stopped fault key) lead h bytes l w =
     let bad : KeyedFault = record { fault = fault; key = key } in
@@ -222,7 +219,7 @@ along n shorter sort b passed pairs s (f ∷ frames) end lead h bytes l w =
         | inl t ↦ (
             let on : LeadsTo (drop 4 b) (passed ++ f ∷ []) w.0 = LeadsTo-more (drop 4 b) passed s f w.0 lead w.1 in
             let each : StandForEach ReadsAs (passed ++ f ∷ []) (pairs ++ (f.key, t.0) ∷ []) = stand_more ReadsAs passed pairs f v.0 t.0 h v.1 t.1 in
-            along n shorter sort b (passed ++ f ∷ []) (pairs ++ (f.key, t.0) ∷ []) w.0 frames end on each (IsBytes-rest s f w.0 w.1 bytes) (omega (arith, IsFrame-shorter s f w.0 w.1)) w.2)
+            along n shorter sort b (passed ++ f ∷ []) (pairs ++ (f.key, t.0) ∷ []) w.0 frames end on each (AreBytes-rest s f w.0 w.1 bytes) (omega (arith, IsFrame-shorter s f w.0 w.1)) w.2)
       ]
     ]
 
@@ -232,7 +229,7 @@ decided_within zero sort b l env = absurd (omega (arith, env.enough))
 decided_within (suc n) sort b l env =
     let w = document_has_walk b env in
     let size : length (drop 4 b) ≤ n + 1 = omega (arith, length-drop 4 b) in
-    along n (decided_within n) sort b [] [] (drop 4 b) w.0 w.1 refl refl (IsBytes-drop 4 b env.bytes) size w.2
+    along n (decided_within n) sort b [] [] (drop 4 b) w.0 w.1 refl refl (AreBytes-drop 4 b env.bytes) size w.2
 
 -- bytes with an envelope are read as a tree, or have a first fault
 pub decided : (sort : Sort) (b : List ℕ) → IsEnvelope b → AreReadOrFaulty sort b

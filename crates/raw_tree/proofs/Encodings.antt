@@ -8,11 +8,12 @@ use Rattle.bson_model.specs.Proper.{IsNulFree, IsLeafNulFree, InTrees, InEntries
 use Rattle.bson_model.specs.Tree.{Tree, Trees, Entries, leaf, array, document, code_with_scope, no_tree, tree_then, no_entry, entry_then, trees, entries, tree_of, with_trees, tree_of_list}
 use Rattle.bson_model.specs.declared.bson.Bson.{Bson}
 use Rattle.bson_model.proofs.Steps.{trees-more, with_trees-more}
-use Rattle.raw_view.specs.Number.{IsBytes, le32}
+use Rattle.raw_view.specs.Format.{framed, element_of}
+use Rattle.raw_view.specs.Number.{le32}
 use Rattle.raw_view.specs.declared.element_type.ElementType.{ElementType}
-use Rattle.raw_tree.specs.Encoding.{element_of, kind_of_tree, tree_payload, items_bytes, entries_bytes, encoded_len, items_len, entries_len}
+use Rattle.raw_view.proofs.Written.{length-framed, length-scoped_payload}
+use Rattle.raw_tree.specs.Encoding.{kind_of_tree, tree_payload, items_bytes, entries_bytes, encoded_len, items_len, entries_len}
 use Rattle.raw_tree.specs.Judging.{Judges}
-use Rattle.raw_tree.specs.Payload.{scoped_payload, framed}
 
 -- the members of a list are free of 0s, and so are the pairs of a document
 abbrev pub AreNulFree : List Tree → Type 0
@@ -20,13 +21,6 @@ AreNulFree ts = InTrees IsLeafNulFree Whatever NulFree Whatever (trees ts)
 
 abbrev pub ArePairsNulFree : List (List ℕ × Tree) → Type 0
 ArePairsNulFree es = InEntries IsLeafNulFree Whatever NulFree Whatever (entries es)
-
--- the lengths of a frame, and of a code with scope
-pub length-framed : (inside : List ℕ) → length (framed inside) ≡ 5 + length inside
-length-framed inside = omega (arith, length-append inside (0 ∷ []))
-
-pub length-scoped_payload : (code scope : List ℕ) → length (scoped_payload code scope) ≡ 4 + (5 + length code) + length scope
-length-scoped_payload code scope = omega (arith, length-append (code ++ 0 ∷ []) scope, length-append code (0 ∷ []))
 
 -- the length of an element and of what is behind it
 length-element : (kind : ElementType) (key payload rest : List ℕ) → length (element_of kind key payload ++ rest) ≡ (2 + length key + length payload) + length rest
@@ -174,9 +168,3 @@ pub set_head : (before body whole : List ℕ) (start n : ℕ) → whole ≡ befo
 set_head before body whole start n w s l =
     let len : n - length before ≡ 4 + length body = omega (arith, ap length w, length-append before (0 ∷ 0 ∷ 0 ∷ 0 ∷ body)) in
     rw (s, len, w, take-append_seam before (0 ∷ 0 ∷ 0 ∷ 0 ∷ body), drop-append-add before (0 ∷ 0 ∷ 0 ∷ 0 ∷ body) 4) refl
-
--- what a vector of bytes holds
-pub all_bytes : (bytes : List ℕ) → ((i d : ℕ) → i < length bytes → slice_index_or bytes i d < 256) → IsBytes bytes
-all_bytes [] h i = omega arith
-all_bytes (b ∷ bytes) h zero = h 0 0 (omega arith)
-all_bytes (b ∷ bytes) h (suc i) = all_bytes bytes (λ j d l. h (suc j) d (omega (arith, l))) i

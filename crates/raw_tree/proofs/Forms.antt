@@ -5,25 +5,27 @@ use Rattle.bson_model.specs.Proper.{IsProper}
 use Rattle.bson_model.specs.Tree.{Tree, Trees, Entries, leaf, array, document, code_with_scope, trees, entries}
 use Rattle.raw_view.specs.Envelope.{IsEnvelope}
 use Rattle.raw_view.specs.Frame.{Frame}
+use Rattle.raw_view.specs.Number.{max_length}
+use Rattle.raw_view.proofs.Written.{framed_is_envelope}
 use Rattle.raw_view.specs.Meaning.{RawValue}
 use Rattle.raw_view.specs.Meaning as raw
-use Rattle.raw_view.specs.Number.{IsBytes}
-use Rattle.raw_tree.specs.Canonical.{IsValueCanonical, AreFramesCanonical, IsCanonicalWithin, IsCanonicalAs}
+use Rattle.bson_model.specs.Bytes.{AreBytes}
+use Rattle.raw_tree.specs.Canonical.{IsValueCanonical, AreFramesCanonical, IsCanonicalUpTo, IsCanonicalAs}
 use Rattle.raw_tree.specs.CanonicalForm.{IsSpelling, IsSpelledOneWay}
 use Rattle.raw_tree.specs.Encoding.{IsEncoded, encoding, encoded_len, entries_bytes, items_bytes}
-use Rattle.raw_tree.specs.Reading.{Sort, as_document, as_array, tree_of_pairs, leaf_in_order, StandsFor, StandForEach, ReadsWithin, ReadsAs}
+use Rattle.raw_tree.specs.Reading.{Sort, as_document, as_array, tree_of_pairs, leaf_in_order, StandsFor, StandForEach, ReadsUpTo, ReadsAs}
 use Rattle.raw_tree.proofs.Encodings.{length-entries_bytes, length-items_bytes, length-tree_payload}
 use Rattle.raw_tree.proofs.ReadTrees.{read_is_proper}
-use Rattle.raw_tree.proofs.Returns.{Returns, document_returns, array_returns, framed_is_envelope}
+use Rattle.raw_tree.proofs.Returns.{Returns, document_returns, array_returns}
 use Rattle.raw_tree.proofs.Spelled.{canonical_is_spelled}
 
 -- the encoding of a proper tree that some bytes are read as comes back
-read_returns : (sort : Sort) (b : List ℕ) (t : Tree) → ReadsAs sort b t → IsProper t → encoded_len t ≤ 2147483647 → Returns sort (encoding t) t
+read_returns : (sort : Sort) (b : List ℕ) (t : Tree) → ReadsAs sort b t → IsProper t → encoded_len t ≤ max_length → Returns sort (encoding t) t
 read_returns sort b t (zero, r) p l = absurd r
 read_returns as_document b t (suc n, r) p l =
-    rw r.4 (document_returns (entries (keep r.1)) (subst IsProper r.4 p) (subst (λ (u : Tree). encoded_len u ≤ 2147483647) r.4 l))
+    rw r.2 (document_returns (entries (keep r.0)) (subst IsProper r.2 p) (subst (λ (u : Tree). encoded_len u ≤ max_length) r.2 l))
 read_returns as_array b t (suc n, r) p l =
-    rw r.4 (array_returns (trees (map (λ q. q.1) r.1)) (subst IsProper r.4 p) (subst (λ (u : Tree). encoded_len u ≤ 2147483647) r.4 l))
+    rw r.2 (array_returns (trees (map (λ q. q.1) r.0)) (subst IsProper r.2 p) (subst (λ (u : Tree). encoded_len u ≤ max_length) r.2 l))
 
 -- what is canonical is read, where nested bytes that are canonical are
 value_reads : (N : Sort → List ℕ → Type 0) (M : Sort → List ℕ → Tree → Type 0) → ((d : List ℕ) → N as_document d → (es : Entries) × M as_document d (document es)) → ((d : List ℕ) → N as_array d → (t : Tree) × M as_array d t) → (v : RawValue) → IsValueCanonical N v → (t : Tree) × StandsFor M v t
@@ -41,17 +43,17 @@ frames_read N M documents arrays (f ∷ fs) h =
 
 -- of a document and of an array
 mutual
-  document_reads : (n : ℕ) (b : List ℕ) → IsCanonicalWithin n as_document b → (es : Entries) × ReadsWithin n as_document b (document es)
+  document_reads : (n : ℕ) (b : List ℕ) → IsCanonicalUpTo n as_document b → (es : Entries) × ReadsUpTo n as_document b (document es)
   document_reads zero b c = absurd c
   document_reads (suc n) b c =
-      let each = frames_read (IsCanonicalWithin n) (ReadsWithin n) (document_reads n) (array_reads n) c.0 c.3 in
-      (entries (keep each.0), (c.0, each.0, c.1, each.1, refl))
+      let each = frames_read (IsCanonicalUpTo n) (ReadsUpTo n) (document_reads n) (array_reads n) c.0 c.3 in
+      (entries (keep each.0), (each.0, (c.0, c.1, each.1), refl))
 
-  array_reads : (n : ℕ) (b : List ℕ) → IsCanonicalWithin n as_array b → (t : Tree) × ReadsWithin n as_array b t
+  array_reads : (n : ℕ) (b : List ℕ) → IsCanonicalUpTo n as_array b → (t : Tree) × ReadsUpTo n as_array b t
   array_reads zero b c = absurd c
   array_reads (suc n) b c =
-      let each = frames_read (IsCanonicalWithin n) (ReadsWithin n) (document_reads n) (array_reads n) c.0 c.3 in
-      (tree_of_pairs as_array each.0, (c.0, each.0, c.1, each.1, refl))
+      let each = frames_read (IsCanonicalUpTo n) (ReadsUpTo n) (document_reads n) (array_reads n) c.0 c.3 in
+      (tree_of_pairs as_array each.0, (each.0, (c.0, c.1, each.1), refl))
 
 canonical_reads : (sort : Sort) (b : List ℕ) → IsCanonicalAs sort b → (t : Tree) × ReadsAs sort b t
 canonical_reads as_document b (n, c) = let read = document_reads n b c in (document read.0, (n, read.1))
@@ -76,10 +78,10 @@ bytes_spelled_one_way sort b env = record {
 }
 
 -- what is written has an envelope
-pub document_enveloped : (es : Entries) (b : List ℕ) → IsBytes b → IsEncoded (document es) b → IsEnvelope b
+pub document_enveloped : (es : Entries) (b : List ℕ) → AreBytes b → IsEncoded (document es) b → IsEnvelope b
 document_enveloped es b bytes e =
-    rw e.2 (framed_is_envelope (entries_bytes es) (subst IsBytes e.2 bytes) (omega (arith, length-entries_bytes es, e.1)))
+    rw e.2 (framed_is_envelope (entries_bytes es) (subst AreBytes e.2 bytes) (omega (arith, length-entries_bytes es, e.1)))
 
-pub list_enveloped : (ts : Trees) (b : List ℕ) → IsBytes b → IsEncoded (array ts) b → IsEnvelope b
+pub list_enveloped : (ts : Trees) (b : List ℕ) → AreBytes b → IsEncoded (array ts) b → IsEnvelope b
 list_enveloped ts b bytes e =
-    rw e.2 (framed_is_envelope (items_bytes 0 ts) (subst IsBytes e.2 bytes) (omega (arith, length-items_bytes 0 ts, e.1)))
+    rw e.2 (framed_is_envelope (items_bytes 0 ts) (subst AreBytes e.2 bytes) (omega (arith, length-items_bytes 0 ts, e.1)))

@@ -6,7 +6,7 @@ use Rattle.raw_view.specs.Meaning.{RawValue, KeyedFault, Meaning, Means, value, 
 use Rattle.raw_view.specs.Meaning as raw
 use Rattle.raw_view.proofs.Unique.{one_frame, one_stop, one_walk, no_frame_at_stop, no_frame_at_final, no_stop_at_final}
 use Rattle.raw_view.proofs.UniqueMeanings.{one_meaning}
-use Rattle.raw_tree.specs.Reading.{Sort, as_document, as_array, tree_of_pairs, StandsFor, StandForEach, ReadsWithin, ReadsAs, Holds, FirstFaultWithin, FirstFault, FirstFaultOfValue}
+use Rattle.raw_tree.specs.Reading.{Sort, as_document, as_array, tree_of_pairs, StandsFor, StandForEach, ReadsUpTo, ReadsAs, Holds, FailsInFrame, FirstFaultUpTo, FirstFault, FirstFaultOfValue}
 
 -- values
 
@@ -56,14 +56,14 @@ stand_each_same N M same (f ∷ fs) ps qs h k =
     h.5 ∙ rw (first, rest) (sym k.5)
 
 -- one tree within any levels
-one_tree_within : (n m : ℕ) → AgreeOn (ReadsWithin n) (ReadsWithin m)
+one_tree_within : (n m : ℕ) → AgreeOn (ReadsUpTo n) (ReadsUpTo m)
 one_tree_within zero m sort b t u h k = absurd h
 one_tree_within (suc n) zero sort b t u h k = absurd k
 one_tree_within (suc n) (suc m) sort b t u h k =
-    let frames : h.0 ≡ k.0 = (one_walk (drop 4 b) h.0 k.0 Done Done h.2 k.2).0 in
-    let there : StandForEach (ReadsWithin m) h.0 k.1 = subst (λ (x : List Frame). StandForEach (ReadsWithin m) x k.1) (sym frames) k.3 in
-    let pairs : h.1 ≡ k.1 = stand_each_same (ReadsWithin n) (ReadsWithin m) (one_tree_within n m) h.0 h.1 k.1 h.3 there in
-    h.4 ∙ ap (tree_of_pairs sort) pairs ∙ sym k.4
+    let frames : h.1.0 ≡ k.1.0 = (one_walk (drop 4 b) h.1.0 k.1.0 Done Done h.1.1 k.1.1).0 in
+    let there : StandForEach (ReadsUpTo m) h.1.0 k.0 = subst (λ (x : List Frame). StandForEach (ReadsUpTo m) x k.0) (sym frames) k.1.2 in
+    let pairs : h.0 ≡ k.0 = stand_each_same (ReadsUpTo n) (ReadsUpTo m) (one_tree_within n m) h.1.0 h.0 k.0 h.1.2 there in
+    h.2 ∙ ap (tree_of_pairs sort) pairs ∙ sym k.2
 
 -- bytes are read as one tree at most
 pub one_tree : (sort : Sort) (b : List ℕ) (t u : Tree) → ReadsAs sort b t → ReadsAs sort b u → t ≡ u
@@ -77,7 +77,7 @@ one_tree_of_value v t u h k = stands_same ReadsAs ReadsAs one_tree v t u h k
 
 -- the bytes have the fault at their front, where Inner says which nested bytes have it
 abbrev FailsAt : (List ℕ → KeyedFault → Type 0) → List ℕ → KeyedFault → Type 0
-FailsAt Inner s x = IsStop s x.fault x.key ⊎ ((f : Frame) × (r : List ℕ) × IsFrame s f r × (Means f (faulty x) ⊎ ((v : RawValue) × (d : List ℕ) × Means f (value v) × Holds v d × Inner d x)))
+FailsAt Inner s x = IsStop s x.fault x.key ⊎ ((f : Frame) × (r : List ℕ) × IsFrame s f r × FailsInFrame Inner f x)
 
 -- no bytes are read as a tree and have the fault
 abbrev AreApart : (Sort → List ℕ → Tree → Type 0) → (List ℕ → KeyedFault → Type 0) → Type 0
@@ -98,8 +98,8 @@ frame_apart N Inner apart s f r v t x at m h (inr bad) =
     elim bad.3 [
       | inl fault ↦ value_nor_fault f v x m (subst (λ (g : Frame). Means g (faulty x)) frames fault)
       | inr inside ↦ (
-          let values : inside.0 ≡ v = one_value_of f inside.0 v (subst (λ (g : Frame). Means g (value inside.0)) frames inside.2) m in
-          value_apart N Inner apart v t inside.1 x h (subst (λ (w : RawValue). Holds w inside.1) values inside.3) inside.4)
+          let values : inside.0 ≡ v = one_value_of f inside.0 v (subst (λ (g : Frame). Means g (value inside.0)) frames inside.1) m in
+          value_apart N Inner apart v t inside.2.0 x h (subst (λ (w : RawValue). Holds w inside.2.0) values inside.2.1) inside.2.2)
     ]
 
 -- nor does the final 0
@@ -117,11 +117,11 @@ walk_apart N Inner apart s (f ∷ frames) (g ∷ passed) r pairs x w h l bad =
     walk_apart N Inner apart w.0 frames passed r h.2 x w.2 h.6 (subst (λ (y : List ℕ). LeadsTo y passed r) same l.2) bad
 
 -- within any levels
-apart_within : (n m : ℕ) → AreApart (ReadsWithin n) (FirstFaultWithin m)
+apart_within : (n m : ℕ) → AreApart (ReadsUpTo n) (FirstFaultUpTo m)
 apart_within zero m sort b t x h bad = absurd h
 apart_within (suc n) zero sort b t x h bad = absurd bad
 apart_within (suc n) (suc m) sort b t x h bad =
-    walk_apart (ReadsWithin n) (FirstFaultWithin m) (apart_within n m) (drop 4 b) h.0 bad.0 bad.2 h.1 x h.2 h.3 bad.3 bad.5
+    walk_apart (ReadsUpTo n) (FirstFaultUpTo m) (apart_within n m) (drop 4 b) h.1.0 bad.0 bad.2 h.0 x h.1.1 h.1.2 bad.3 bad.5
 
 -- no bytes are read as a tree and have a first fault
 pub tree_or_fault : (sort : Sort) (b : List ℕ) (t : Tree) (x : KeyedFault) → ReadsAs sort b t → FirstFault b x → ⊥
@@ -134,7 +134,7 @@ tree_or_fault_of_value v t x h bad = value_apart ReadsAs FirstFault tree_or_faul
 -- first faults
 
 -- no bytes that are read as a tree have a fault within these levels
-reads_apart : (n : ℕ) → AreApart ReadsAs (FirstFaultWithin n)
+reads_apart : (n : ℕ) → AreApart ReadsAs (FirstFaultUpTo n)
 reads_apart n sort b t x h bad = tree_or_fault sort b t x h (n, bad)
 
 -- bytes with a fault of one sort and one of another have one fault
@@ -142,16 +142,14 @@ abbrev HaveOneFault : (List ℕ → KeyedFault → Type 0) → (List ℕ → Key
 HaveOneFault Inner Other = (b : List ℕ) (x y : KeyedFault) → Inner b x → Other b y → x ≡ y
 
 -- then a frame that means a fault, or whose value holds nested bytes with one, has one fault
-frame_fault_same : (Inner Other : List ℕ → KeyedFault → Type 0) → HaveOneFault Inner Other → (f : Frame) (x y : KeyedFault)
-    → Means f (faulty x) ⊎ ((v : RawValue) × (d : List ℕ) × Means f (value v) × Holds v d × Inner d x)
-    → Means f (faulty y) ⊎ ((v : RawValue) × (d : List ℕ) × Means f (value v) × Holds v d × Other d y) → x ≡ y
+frame_fault_same : (Inner Other : List ℕ → KeyedFault → Type 0) → HaveOneFault Inner Other → (f : Frame) (x y : KeyedFault) → FailsInFrame Inner f x → FailsInFrame Other f y → x ≡ y
 frame_fault_same Inner Other same f x y (inl a) (inl b) = one_fault_of f x y a b
-frame_fault_same Inner Other same f x y (inl a) (inr b) = absurd (value_nor_fault f b.0 x b.2 a)
-frame_fault_same Inner Other same f x y (inr a) (inl b) = absurd (value_nor_fault f a.0 y a.2 b)
+frame_fault_same Inner Other same f x y (inl a) (inr b) = absurd (value_nor_fault f b.0 x b.1 a)
+frame_fault_same Inner Other same f x y (inr a) (inl b) = absurd (value_nor_fault f a.0 y a.1 b)
 frame_fault_same Inner Other same f x y (inr a) (inr b) =
-    let values : b.0 ≡ a.0 = one_value_of f b.0 a.0 b.2 a.2 in
-    let nested : b.1 ≡ a.1 = one_nested a.0 b.1 a.1 (subst (λ (v : RawValue). Holds v b.1) values b.3) a.3 in
-    same a.1 x y a.4 (subst (λ (d : List ℕ). Other d y) nested b.4)
+    let values : b.0 ≡ a.0 = one_value_of f b.0 a.0 b.1 a.1 in
+    let nested : b.2.0 ≡ a.2.0 = one_nested a.0 b.2.0 a.2.0 (subst (λ (v : RawValue). Holds v b.2.0) values b.2.1) a.2.1 in
+    same a.2.0 x y a.2.2 (subst (λ (d : List ℕ). Other d y) nested b.2.2)
 
 -- so do bytes with a fault at their front
 front_fault_same : (Inner Other : List ℕ → KeyedFault → Type 0) → HaveOneFault Inner Other → (s : List ℕ) (x y : KeyedFault) → FailsAt Inner s x → FailsAt Other s y → x ≡ y
@@ -178,11 +176,11 @@ walk_fault_same Inner Other same apart away s (f ∷ fs) (g ∷ gs) r q ps qs x 
     walk_fault_same Inner Other same apart away l.0 fs gs r q h.2 k.2 x y l.2 h.6 a (subst (λ (z : List ℕ). LeadsTo z gs q) rest m.2) k.6 b
 
 -- within any levels
-one_fault_within : (n m : ℕ) → HaveOneFault (FirstFaultWithin n) (FirstFaultWithin m)
+one_fault_within : (n m : ℕ) → HaveOneFault (FirstFaultUpTo n) (FirstFaultUpTo m)
 one_fault_within zero m b x y h k = absurd h
 one_fault_within (suc n) zero b x y h k = absurd k
 one_fault_within (suc n) (suc m) b x y h k =
-    walk_fault_same (FirstFaultWithin n) (FirstFaultWithin m) (one_fault_within n m) (reads_apart n) (reads_apart m) (drop 4 b) h.0 k.0 h.2 k.2 h.1 k.1 x y h.3 h.4 h.5 k.3 k.4 k.5
+    walk_fault_same (FirstFaultUpTo n) (FirstFaultUpTo m) (one_fault_within n m) (reads_apart n) (reads_apart m) (drop 4 b) h.0 k.0 h.2 k.2 h.1 k.1 x y h.3 h.4 h.5 k.3 k.4 k.5
 
 -- bytes have one first fault at most
 pub one_first_fault : (b : List ℕ) (x y : KeyedFault) → FirstFault b x → FirstFault b y → x ≡ y

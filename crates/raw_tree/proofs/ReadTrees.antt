@@ -1,8 +1,7 @@
 -- A tree that bytes with an envelope are read as is proper.
-use Rattle.std.proofs.Common.{◌≡◌, ◌≢◌, ◌<◌, inl, inr, ◌++◌, ◌∷◌, [], ℕ, zero, suc, true, false, cond, fold, List, map, drop, arith, ap, refl, sym, ◌∙◌, subst, append_assoc}
+use Rattle.std.proofs.Common.{◌≡◌, ◌≢◌, ◌<◌, inl, inr, ◌++◌, ◌∷◌, [], ℕ, pos, zero, suc, true, false, cond, fold, List, length, map, drop, arith, ap, refl, sym, ◌∙◌, subst, append_assoc}
 use Rattle.std.specs.List.{IsDistinct}
 use Rattle.std.specs.Str.{IsUtf8, bytes_eq}
-use Rattle.std.proofs.lemmas.List.Elements.{All-nil, All-cons, All-from_get_or}
 use Rattle.bson_model.specs.Bytes.{AreBytes, NulFree}
 use Rattle.bson_model.specs.Leaf.{Leaf, binary, regular_expression, db_pointer}
 use Rattle.bson_model.specs.Pairs.{keep, with_pair}
@@ -15,35 +14,27 @@ use Rattle.bson_model.proofs.OptionOrder.{IsUtf8-sorted_options, OptionsAscend-s
 use Rattle.bson_model.proofs.Subtypes.{subtype_byte-subtype_of, IsProperSubtype-subtype_of}
 use Rattle.bson_model.proofs.WellFormed.{keys_in-entries}
 use Rattle.raw_view.specs.Envelope.{IsEnvelope}
-use Rattle.raw_view.specs.Frame.{HasNoNul, Frame, IsFrame, HasShape, IsBinary, IsRegex, IsDbPointer, IsWalk, Done}
+use Rattle.raw_view.specs.Format.{string_payload}
+use Rattle.raw_view.specs.Frame.{Frame, IsFrame, HasShape, IsBinary, IsRegex, IsDbPointer, IsWalk, Done}
 use Rattle.raw_view.specs.Kind.{tag_of}
 use Rattle.raw_view.specs.Meaning.{RawValue, HasInnerLength, IsBinaryValue, Means, MeansValue, value}
 use Rattle.raw_view.specs.Meaning as raw
-use Rattle.raw_view.specs.Number.{IsBytes}
+use Rattle.raw_view.specs.Number.{le32}
 use Rattle.raw_view.specs.declared.element_type.ElementType.{ElementType}
 use Rattle.raw_view.specs.declared.element_type.ElementType.TheVariants as kind
-use Rattle.raw_view.proofs.Payloads.{IsBytes-front, IsBytes-back, IsBytes-drop}
-use Rattle.raw_view.proofs.Walks.{IsBytes-rest}
-use Rattle.raw_tree.specs.Reading.{Sort, as_document, as_array, tree_of_pairs, leaf_in_order, StandsFor, StandForEach, ReadsWithin, ReadsAs}
+use Rattle.bson_model.proofs.Bytes.{AreBytes-front, AreBytes-back, AreBytes-drop}
+use Rattle.raw_view.proofs.Walks.{AreBytes-rest}
+use Rattle.raw_tree.specs.Reading.{Sort, as_document, as_array, tree_of_pairs, leaf_in_order, StandsFor, StandForEach, ReadsUpTo, ReadsAs}
 use Rattle.raw_tree.proofs.Decides.{nested_envelope}
 
 -- bytes
 
--- no 0 down the list is no 0 at any place
-pub NulFree-from : (bytes : List ℕ) → HasNoNul bytes → NulFree bytes
-NulFree-from [] h = All-nil (λ b. b ≢ 0)
-NulFree-from (b ∷ bytes) h = All-cons (λ x. x ≢ 0) b bytes h.0 (NulFree-from bytes h.1)
-
--- bytes at each place are bytes
-pub AreBytes-from : (bytes : List ℕ) → IsBytes bytes → AreBytes bytes
-AreBytes-from bytes h = All-from_get_or (λ b. b < 256) bytes 0 (λ i l. h i)
-
 -- the payload of a frame is bytes where those that the frame stands in are
-pub payload_bytes : (s : List ℕ) (f : Frame) (r : List ℕ) → IsFrame s f r → IsBytes s → IsBytes f.payload
+pub payload_bytes : (s : List ℕ) (f : Frame) (r : List ℕ) → IsFrame s f r → AreBytes s → AreBytes f.payload
 payload_bytes s f r b bytes =
     let head = tag_of f.kind ∷ (f.key ++ 0 ∷ []) in
     let whole : s ≡ head ++ (f.payload ++ r) = b.spelled ∙ ap (λ x. tag_of f.kind ∷ x) (sym (append_assoc f.key (0 ∷ []) (f.payload ++ r))) in
-    IsBytes-front f.payload r (IsBytes-back head (f.payload ++ r) (subst IsBytes whole bytes))
+    AreBytes-front f.payload r (AreBytes-back head (f.payload ++ r) (subst AreBytes whole bytes))
 
 -- leaves
 
@@ -56,50 +47,49 @@ as_leaf : (l m : Leaf) → raw.single l ≡ raw.single m → IsLeafProper (leaf_
 as_leaf l m e h = let same : m ≡ l = cc in subst (λ (x : Leaf). IsLeafProper (leaf_in_order x)) same h
 
 -- a binary that isn't old
-plain_binary_proper : (p bytes : List ℕ) (subtype : ℕ) → IsBytes p → IsBinary p subtype bytes → IsLeafProper (binary (subtype_of subtype) bytes)
+plain_binary_proper : (p bytes : List ℕ) (subtype : ℕ) → AreBytes p → IsBinary p subtype bytes → IsLeafProper (binary (subtype_of subtype) bytes)
 plain_binary_proper p bytes subtype all b =
-    let behind : IsBytes (subtype ∷ bytes) = IsBytes-back b.head (subtype ∷ bytes) (subst IsBytes b.spelled all) in
+    let behind : AreBytes (subtype ∷ bytes) = AreBytes-back (le32 (pos (length bytes))) (subtype ∷ bytes) (subst AreBytes b.spelled all) in
     let byte : subtype_byte (subtype_of subtype) < 256 = omega (arith, subtype_byte-subtype_of subtype, behind 0) in
-    ((byte, AreBytes-from bytes (λ i. behind (suc i))), tt, tt, IsProperSubtype-subtype_of subtype)
+    ((byte, λ i. behind (suc i)), tt, tt, IsProperSubtype-subtype_of subtype)
 
 -- an old binary
-old_binary_proper : (p outer inner : List ℕ) (subtype : ℕ) → IsBytes p → IsBinary p subtype outer → HasInnerLength outer inner → IsLeafProper (binary BinaryOld inner)
+old_binary_proper : (p outer inner : List ℕ) (subtype : ℕ) → AreBytes p → IsBinary p subtype outer → HasInnerLength outer inner → IsLeafProper (binary BinaryOld inner)
 old_binary_proper p outer inner subtype all b h =
-    let behind : IsBytes (subtype ∷ outer) = IsBytes-back b.head (subtype ∷ outer) (subst IsBytes b.spelled all) in
-    let bytes : IsBytes outer = λ i. behind (suc i) in
-    ((omega arith, AreBytes-from inner (IsBytes-back h.head inner (subst IsBytes h.spelled bytes))), tt, tt, refl)
+    let behind : AreBytes (subtype ∷ outer) = AreBytes-back (le32 (pos (length outer))) (subtype ∷ outer) (subst AreBytes b.spelled all) in
+    let bytes : AreBytes outer = λ i. behind (suc i) in
+    ((omega arith, AreBytes-back (le32 (pos (length inner))) inner (subst AreBytes h.spelled bytes)), tt, tt, refl)
 
 -- a binary
-binary_proper : (p bytes : List ℕ) (subtype : ℕ) (l : Leaf) → IsBytes p → IsBinary p subtype bytes → IsBinaryValue subtype bytes (raw.single l) → IsLeafProper (leaf_in_order l)
+binary_proper : (p bytes : List ℕ) (subtype : ℕ) (l : Leaf) → AreBytes p → IsBinary p subtype bytes → IsBinaryValue subtype bytes (raw.single l) → IsLeafProper (leaf_in_order l)
 binary_proper p bytes subtype l all b (inl plain) = as_leaf l _ plain.1 (plain_binary_proper p bytes subtype all b)
 binary_proper p bytes subtype l all b (inr old) = as_leaf l _ old.3 (old_binary_proper p bytes old.1 subtype all b old.2)
 
 -- a regular expression, whose options are put in order
 regex_proper : (p pattern options : List ℕ) → IsRegex p pattern options → IsLeafProper (leaf_in_order (regular_expression pattern options))
 regex_proper p pattern options x =
-    let free : NulFree options = NulFree-from options x.options_nul_free in (
+    let free : NulFree options = x.options_nul_free in (
       (x.pattern_text, IsUtf8-sorted_options options x.options_text),
-      (NulFree-from pattern x.pattern_nul_free, NulFree-sorted_options options x.options_text free),
+      (x.pattern_nul_free, NulFree-sorted_options options x.options_text free),
       OptionsAscend-sorted_options options x.options_text,
       tt,
     )
 
 -- a pointer
-pointer_proper : (p namespace id : List ℕ) → IsBytes p → IsDbPointer p namespace id → IsUtf8 namespace → IsLeafProper (db_pointer namespace id)
+pointer_proper : (p namespace id : List ℕ) → AreBytes p → IsDbPointer p namespace id → IsUtf8 namespace → IsLeafProper (db_pointer namespace id)
 pointer_proper p namespace id all d text =
-    ((text, (d.id_len, AreBytes-from id (IsBytes-back d.string id (subst IsBytes d.spelled all)))), tt, tt, tt)
+    ((text, (d.id_len, AreBytes-back (string_payload namespace) id (subst AreBytes d.spelled all))), tt, tt, tt)
 
 -- the leaf that a payload means
-leaf_proper : (k : ElementType) (p r : List ℕ) (l : Leaf) → IsBytes p → HasShape k p r → MeansValue k p (raw.single l) → IsLeafProper (leaf_in_order l)
+leaf_proper : (k : ElementType) (p r : List ℕ) (l : Leaf) → AreBytes p → HasShape k p r → MeansValue k p (raw.single l) → IsLeafProper (leaf_in_order l)
 leaf_proper kind.Double p r l all x m = as_leaf l _ m.2 (m.1.fits, tt, tt, tt)
 leaf_proper kind.String p r l all x m = as_leaf l _ m.2 (m.1.1, tt, tt, tt)
 leaf_proper kind.EmbeddedDocument p r l all x m = cc
 leaf_proper kind.Array p r l all x m = cc
 leaf_proper kind.Binary p r l all x m = binary_proper p m.1 m.0 l all m.2 m.3
 leaf_proper kind.Undefined p r l all x m = as_leaf l _ m (tt, tt, tt, tt)
-leaf_proper kind.ObjectId p r l all x m = as_leaf l _ m ((x, AreBytes-from p all), tt, tt, tt)
-leaf_proper kind.Boolean p r l all x (inl m) = as_leaf l _ m.1 (tt, tt, tt, tt)
-leaf_proper kind.Boolean p r l all x (inr m) = as_leaf l _ m.1 (tt, tt, tt, tt)
+leaf_proper kind.ObjectId p r l all x m = as_leaf l _ m ((x, all), tt, tt, tt)
+leaf_proper kind.Boolean p r l all x m = as_leaf l _ m.2 (tt, tt, tt, tt)
 leaf_proper kind.DateTime p r l all x m = as_leaf l _ m.2 (m.1.fits, tt, tt, tt)
 leaf_proper kind.Null p r l all x m = as_leaf l _ m (tt, tt, tt, tt)
 leaf_proper kind.RegularExpression p r l all x m = as_leaf l _ m.3 (regex_proper p m.0 m.1 m.2)
@@ -108,9 +98,9 @@ leaf_proper kind.JavaScriptCode p r l all x m = as_leaf l _ m.2 (m.1.1, tt, tt, 
 leaf_proper kind.Symbol p r l all x m = as_leaf l _ m.2 (m.1.1, tt, tt, tt)
 leaf_proper kind.JavaScriptCodeWithScope p r l all x m = let bad : raw.single l ≡ raw.scoped m.0 m.1 = m.5 in cc
 leaf_proper kind.Int32 p r l all x m = as_leaf l _ m.2 (m.1.fits, tt, tt, tt)
-leaf_proper kind.Timestamp p r l all x m = as_leaf l _ m.4 ((m.3.fits, m.2.fits), tt, tt, tt)
+leaf_proper kind.Timestamp p r l all x m = as_leaf l _ m.3 ((m.2.time_fits, m.2.increment_fits), tt, tt, tt)
 leaf_proper kind.Int64 p r l all x m = as_leaf l _ m.2 (m.1.fits, tt, tt, tt)
-leaf_proper kind.Decimal128 p r l all x m = as_leaf l _ m ((x, AreBytes-from p all), tt, tt, tt)
+leaf_proper kind.Decimal128 p r l all x m = as_leaf l _ m ((x, all), tt, tt, tt)
 leaf_proper kind.MaxKey p r l all x m = as_leaf l _ m (tt, tt, tt, tt)
 leaf_proper kind.MinKey p r l all x m = as_leaf l _ m (tt, tt, tt, tt)
 
@@ -133,18 +123,14 @@ code_text kind.Binary p code scope m =
       | inl a ↦ absurd (single_not_scoped _ code scope a.1)
       | inr b ↦ absurd (single_not_scoped _ code scope b.3)
     ]
-code_text kind.Boolean p code scope m =
-    elim m [
-      | inl a ↦ absurd (single_not_scoped _ code scope a.1)
-      | inr b ↦ absurd (single_not_scoped _ code scope b.1)
-    ]
+code_text kind.Boolean p code scope m = absurd (single_not_scoped _ code scope m.2)
 code_text kind.DateTime p code scope m = absurd (single_not_scoped _ code scope m.2)
 code_text kind.RegularExpression p code scope m = absurd (single_not_scoped _ code scope m.3)
 code_text kind.DbPointer p code scope m = absurd (single_not_scoped _ code scope m.4)
 code_text kind.JavaScriptCode p code scope m = absurd (single_not_scoped _ code scope m.2)
 code_text kind.Symbol p code scope m = absurd (single_not_scoped _ code scope m.2)
 code_text kind.Int32 p code scope m = absurd (single_not_scoped _ code scope m.2)
-code_text kind.Timestamp p code scope m = absurd (single_not_scoped _ code scope m.4)
+code_text kind.Timestamp p code scope m = absurd (single_not_scoped _ code scope m.3)
 code_text kind.Int64 p code scope m = absurd (single_not_scoped _ code scope m.2)
 code_text _ p code scope m = absurd (single_not_scoped _ code scope m)
 
@@ -153,7 +139,7 @@ code_text _ p code scope m = absurd (single_not_scoped _ code scope m)
 -- four facts, where those of leaves, codes, keys and kept keys follow from what is framed
 module _ (OfLeaf : Leaf → Type 0) (OfCode OfKey : List ℕ → Type 0) (OfKeys : List (List ℕ) → Type 0)
     (leaves : (l : Leaf) → IsLeafProper l → OfLeaf l) (codes : (code : List ℕ) → IsUtf8 code → OfCode code)
-    (keys : (key : List ℕ) → IsUtf8 key → HasNoNul key → OfKey key) (kept : (ks : List (List ℕ)) → IsDistinct bytes_eq ks → OfKeys ks) where
+    (keys : (key : List ℕ) → IsUtf8 key → NulFree key → OfKey key) (kept : (ks : List (List ℕ)) → IsDistinct bytes_eq ks → OfKeys ks) where
   -- the four facts hold in a tree
   abbrev IsMet : Tree → Type 0
   IsMet t = Everywhere OfLeaf OfCode OfKey OfKeys t
@@ -195,7 +181,7 @@ module _ (OfLeaf : Leaf → Type 0) (OfCode OfKey : List ℕ → Type 0) (OfKeys
   HoldRead N = (sort : Sort) (b : List ℕ) (t : Tree) → IsEnvelope b → N sort b t → IsMet t
 
   -- then in the tree that a frame's value stands for
-  of_value : (N : Sort → List ℕ → Tree → Type 0) → HoldRead N → (s : List ℕ) (f : Frame) (r : List ℕ) (v : RawValue) (t : Tree) → IsBytes s → IsFrame s f r → Means f (value v) → StandsFor N v t → IsMet t
+  of_value : (N : Sort → List ℕ → Tree → Type 0) → HoldRead N → (s : List ℕ) (f : Frame) (r : List ℕ) (v : RawValue) (t : Tree) → AreBytes s → IsFrame s f r → Means f (value v) → StandsFor N v t → IsMet t
   of_value N read s f r (raw.single l) t bytes at m h =
       let proper = leaf_proper f.kind f.payload r l (payload_bytes s f r at bytes) at.payload_is m in
       subst IsMet (sym h) (leaves (leaf_in_order l) proper)
@@ -206,18 +192,18 @@ module _ (OfLeaf : Leaf → Type 0) (OfCode OfKey : List ℕ → Type 0) (OfKeys
       subst IsMet (sym h.2) (codes code (code_text f.kind f.payload code d m), scope.0, scope.1)
 
   -- and in the pairs of a walk
-  of_walk : (N : Sort → List ℕ → Tree → Type 0) → HoldRead N → (s : List ℕ) (frames : List Frame) (pairs : List (List ℕ × Tree)) → IsBytes s → IsWalk s frames Done → StandForEach N frames pairs → InPairs pairs
+  of_walk : (N : Sort → List ℕ → Tree → Type 0) → HoldRead N → (s : List ℕ) (frames : List Frame) (pairs : List (List ℕ × Tree)) → AreBytes s → IsWalk s frames Done → StandForEach N frames pairs → InPairs pairs
   of_walk N read s [] pairs bytes w h = subst InPairs (sym h) tt
   of_walk N read s (f ∷ frames) pairs bytes w h =
       let here = of_value N read s f w.0 h.0 h.1 bytes w.1 h.3 h.4 in
-      let rest = of_walk N read w.0 frames h.2 (IsBytes-rest s f w.0 w.1 bytes) w.2 h.6 in
+      let rest = of_walk N read w.0 frames h.2 (AreBytes-rest s f w.0 w.1 bytes) w.2 h.6 in
       subst InPairs (sym h.5) (keys f.key w.1.key_text w.1.key_nul_free, here, rest)
 
   -- within any levels
-  read_within : (n : ℕ) → HoldRead (ReadsWithin n)
+  read_within : (n : ℕ) → HoldRead (ReadsUpTo n)
   read_within zero sort b t env h = absurd h
   read_within (suc n) sort b t env h =
-      subst IsMet (sym h.4) (of_pairs sort h.1 (of_walk (ReadsWithin n) (read_within n) (drop 4 b) h.0 h.1 (IsBytes-drop 4 b env.bytes) h.2 h.3))
+      subst IsMet (sym h.2) (of_pairs sort h.0 (of_walk (ReadsUpTo n) (read_within n) (drop 4 b) h.1.0 h.0 (AreBytes-drop 4 b env.bytes) h.1.1 h.1.2))
 
   -- in each tree that is read
   read_everywhere : HoldRead ReadsAs
@@ -227,7 +213,7 @@ module _ (OfLeaf : Leaf → Type 0) (OfCode OfKey : List ℕ → Type 0) (OfKeys
 pub read_is_proper : (sort : Sort) (b : List ℕ) (t : Tree) → IsEnvelope b → ReadsAs sort b t → IsProper t
 read_is_proper sort b t env h = record {
   well_formed = read_everywhere IsLeafInRange IsUtf8 IsUtf8 (IsDistinct bytes_eq) (λ l p. p.0) (λ c u. u) (λ k u n. u) (λ ks d. d) sort b t env h;
-  nul_free = read_everywhere IsLeafNulFree Whatever NulFree Whatever (λ l p. p.1) (λ c u. tt) (λ k u n. NulFree-from k n) (λ ks d. tt) sort b t env h;
+  nul_free = read_everywhere IsLeafNulFree Whatever NulFree Whatever (λ l p. p.1) (λ c u. tt) (λ k u n. n) (λ ks d. tt) sort b t env h;
   options_ascend = read_everywhere DoLeafOptionsAscend Whatever Whatever Whatever (λ l p. p.2) (λ c u. tt) (λ k u n. tt) (λ ks d. tt) sort b t env h;
   subtypes_proper = read_everywhere IsLeafSubtypeProper Whatever Whatever Whatever (λ l p. p.3) (λ c u. tt) (λ k u n. tt) (λ ks d. tt) sort b t env h;
 }

@@ -35,13 +35,13 @@ module _ (Nested : Sort → List ℕ → Type 0) where
 
 -- the walk of these bytes, with at most so many levels, ends at the final 0, its keys are canonical, and so
 -- is the value of each frame
-abbrev pub IsCanonicalWithin : ℕ → Sort → List ℕ → Type 0
-IsCanonicalWithin zero sort b = ⊥
-IsCanonicalWithin (suc n) sort b = (frames : List Frame) × IsWalk (drop 4 b) frames Done × AreKeysCanonical sort (map (λ f. f.key) frames) × AreFramesCanonical (IsCanonicalWithin n) frames
+abbrev pub IsCanonicalUpTo : ℕ → Sort → List ℕ → Type 0
+IsCanonicalUpTo zero sort b = ⊥
+IsCanonicalUpTo (suc n) sort b = (frames : List Frame) × IsWalk (drop 4 b) frames Done × AreKeysCanonical sort (map (λ f. f.key) frames) × AreFramesCanonical (IsCanonicalUpTo n) frames
 
 -- these bytes are canonical as a document, or as an array
 abbrev pub IsCanonicalAs : Sort → List ℕ → Type 0
-IsCanonicalAs sort b = (levels : ℕ) × IsCanonicalWithin levels sort b
+IsCanonicalAs sort b = (levels : ℕ) × IsCanonicalUpTo levels sort b
 
 -- the document b is canonical
 abbrev pub IsCanonical : List ℕ → Type 0

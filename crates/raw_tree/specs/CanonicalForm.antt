@@ -4,18 +4,19 @@ use Rattle.std.specs.Prelude.{◌≡◌, ◌≤◌, ◌↔◌, ℕ, List}
 use Rattle.bson_model.specs.Proper.{IsProper}
 use Rattle.bson_model.specs.Tree.{Tree, Trees, Entries, array, document}
 use Rattle.raw_view.specs.Envelope.{IsEnvelope}
+use Rattle.raw_view.specs.Number.{max_length}
 use Rattle.raw_tree.specs.Canonical.{IsCanonical, IsCanonicalAs}
 use Rattle.raw_tree.specs.Encoding.{encoding, encoded_len}
 use Rattle.raw_tree.specs.Reading.{Sort, as_document, as_array, Reads, ReadsAs}
 
 -- the bytes are the encoding of the tree, and the tree is of a size in range
 abbrev pub IsSpelling : Tree → List ℕ → Type 0
-IsSpelling t b = (encoded_len t ≤ 2147483647) × (encoding t ≡ b)
+IsSpelling t b = (encoded_len t ≤ max_length) × (encoding t ≡ b)
 
 -- Where this tree of a document, or of an array, is proper and of a size in range, its encoding has an
 -- envelope, is read as that very tree, and is canonical.
 abbrev pub ComesBack : Sort → Tree → Type 0
-ComesBack sort t = IsProper t → encoded_len t ≤ 2147483647 → IsEnvelope (encoding t) × ReadsAs sort (encoding t) t × IsCanonicalAs sort (encoding t)
+ComesBack sort t = IsProper t → encoded_len t ≤ max_length → IsEnvelope (encoding t) × ReadsAs sort (encoding t) t × IsCanonicalAs sort (encoding t)
 
 -- so it is for the tree of every document; that the numbers in it are in their ranges is a part of proper
 abbrev pub DocumentsComeBack : Type 0
@@ -45,7 +46,7 @@ pub record IsCanonicalForm (b a : List ℕ) : Type 0 where
   pub spelled : IsSpelling tree a
   -- of every document c with a tree of a size in range, the encoding of that tree is a exactly where the tree
   -- is that of b
-  pub same_tree : (c : List ℕ) (t : Tree) → IsEnvelope c → Reads c t → encoded_len t ≤ 2147483647 → ((encoding t ≡ a) ↔ (t ≡ tree))
+  pub same_tree : (c : List ℕ) (t : Tree) → IsEnvelope c → Reads c t → encoded_len t ≤ max_length → ((encoding t ≡ a) ↔ (t ≡ tree))
   -- a is b exactly where b is canonical
   pub unchanged : (a ≡ b) ↔ IsCanonical b
   -- a is a canonical document with the same tree, so that its own canonical form is a again

@@ -2,16 +2,16 @@
 use Rattle.std.specs.Prelude.{◌≡◌, ◌<◌, ◌≤◌, None, ℕ, ◌+◌, List, [], ◌∷◌, ◌++◌, length, decimal}
 use Rattle.bson_model.specs.Proper.{IsNulFree}
 use Rattle.bson_model.specs.Tree.{Tree, Trees, Entries, leaf, array, document, code_with_scope, no_tree, tree_then, no_entry, entry_then}
-use Rattle.raw_view.specs.Access.{kind_of_leaf}
 use Rattle.raw_view.specs.Errors.{key_of}
-use Rattle.raw_view.specs.Kind.{tag_of}
+use Rattle.raw_view.specs.Format.{leaf_payload, scoped_payload, framed, element_of}
+use Rattle.raw_view.specs.Kind.{kind_of_leaf}
+use Rattle.raw_view.specs.Number.{max_length}
 use Rattle.raw_view.specs.declared.element_type.ElementType.{ElementType}
 use Rattle.raw_view.specs.declared.element_type.ElementType.TheVariants as kind
 use Rattle.raw_view.specs.declared.error.Error.{Error}
 use Rattle.raw_view.specs.declared.error.ErrorKind.{ErrorKind}
 use Rattle.raw_view.specs.declared.error.ErrorKind.TheVariants as what
 use Rattle.raw_view.specs.declared.error.Reason.TheVariants as reason
-use Rattle.raw_tree.specs.Payload.{leaf_payload, scoped_payload, framed}
 
 -- the kind of a tree
 abbrev pub kind_of_tree : Tree → ElementType
@@ -19,10 +19,6 @@ kind_of_tree (leaf l) = kind_of_leaf l
 kind_of_tree (array ts) = kind.Array
 kind_of_tree (document es) = kind.EmbeddedDocument
 kind_of_tree (code_with_scope code es) = kind.JavaScriptCodeWithScope
-
--- tag, key, 0, and the payload of the tree
-abbrev pub element_of : ElementType → List ℕ → List ℕ → List ℕ
-element_of kind key payload = tag_of kind ∷ (key ++ 0 ∷ payload)
 
 abbrev mutual
   -- the payload of a tree: of a leaf that of its value; of a list, a document and a scope their elements in
@@ -66,14 +62,14 @@ abbrev mutual
 -- why a tree isn't written: first a 0, then the length, then want of memory
 abbrev pub RefusesTree : Tree → ErrorKind → Type 0
 RefusesTree t (what.MalformedValue reason.InteriorNul) = ¬ IsNulFree t
-RefusesTree t (what.MalformedValue reason.TooLong) = IsNulFree t × (2147483647 < encoded_len t)
-RefusesTree t what.OutOfMemory = IsNulFree t × (encoded_len t ≤ 2147483647)
+RefusesTree t (what.MalformedValue reason.TooLong) = IsNulFree t × (max_length < encoded_len t)
+RefusesTree t what.OutOfMemory = IsNulFree t × (encoded_len t ≤ max_length)
 RefusesTree t _ = ⊥
 
 -- what a call answers that writes a tree: its encoding, of a tree without a 0 where it may not be and of at
--- most 2147483647 bytes
+-- most the greatest length
 abbrev pub IsEncoded : Tree → List ℕ → Type 0
-IsEncoded t bytes = IsNulFree t × (encoded_len t ≤ 2147483647) × (bytes ≡ encoding t)
+IsEncoded t bytes = IsNulFree t × (encoded_len t ≤ max_length) × (bytes ≡ encoding t)
 
 -- or why there is none, without a key
 abbrev pub IsRefused : Tree → Error → Type 0

@@ -6,6 +6,7 @@ use Rattle.bson_model.specs.Tree.{Tree, leaf}
 use Rattle.bson_model.specs.declared.bson.Bson as b
 use Rattle.bson_model.specs.declared.bson.Bson.{Bson}
 use Rattle.raw_view.specs.Meaning.{RawValue, single}
+use Rattle.raw_view.specs.Number.{max_length}
 use Rattle.raw_tree.specs.Encoding.{encoded_len}
 
 -- the value is an array, a document or a code with scope
@@ -28,4 +29,4 @@ Judges t (Some len) = IsNulFree t × (len ≡ min (encoded_len t) (2 ^ 64 - 1))
 
 -- no bytes yet, and room for those of the tree, which may be written
 abbrev pub HasRoomFor : Tree → Vec ℕ Global → Type 0
-HasRoomFor t out = IsNulFree t × (encoded_len t ≤ 2147483647) × (out.items ≡ []) × (vec_len out ≡ 0) × (encoded_len t ≤ vec_capacity out)
+HasRoomFor t out = IsNulFree t × (encoded_len t ≤ max_length) × (out.items ≡ []) × (vec_len out ≡ 0) × (encoded_len t ≤ vec_capacity out)

@@ -42,19 +42,28 @@ module _ (Nested : Sort → List ℕ → Tree → Type 0) where
   StandForEach [] pairs = pairs ≡ []
   StandForEach (f ∷ fs) pairs = (v : RawValue) × (t : Tree) × (rest : List (List ℕ × Tree)) × Means f (value v) × StandsFor v t × (pairs ≡ (f.key, t) ∷ rest) × StandForEach fs rest
 
--- these bytes, with at most so many levels, are read as this tree: the walk of them ends at the final 0, and
--- each frame means a value that stands for a tree
-abbrev pub ReadsWithin : ℕ → Sort → List ℕ → Tree → Type 0
-ReadsWithin zero sort b t = ⊥
-ReadsWithin (suc n) sort b t = (frames : List Frame) × (pairs : List (List ℕ × Tree)) × IsWalk (drop 4 b) frames Done × StandForEach (ReadsWithin n) frames pairs × (t ≡ tree_of_pairs sort pairs)
+  -- what is left of a document or an array, s, is read as these pairs: its walk ends at the final 0, and each
+  -- frame means a value that stands for a tree
+  abbrev pub ReadsRest : List ℕ → List (List ℕ × Tree) → Type 0
+  ReadsRest s pairs = (frames : List Frame) × IsWalk s frames Done × StandForEach frames pairs
+
+-- these bytes, with at most so many levels, are read as this tree: what stands behind their length is read as
+-- its pairs
+abbrev pub ReadsUpTo : ℕ → Sort → List ℕ → Tree → Type 0
+ReadsUpTo zero sort b t = ⊥
+ReadsUpTo (suc n) sort b t = (pairs : List (List ℕ × Tree)) × ReadsRest (ReadsUpTo n) (drop 4 b) pairs × (t ≡ tree_of_pairs sort pairs)
 
 -- these bytes are read as this tree
 abbrev pub ReadsAs : Sort → List ℕ → Tree → Type 0
-ReadsAs sort b t = (levels : ℕ) × ReadsWithin levels sort b t
+ReadsAs sort b t = (levels : ℕ) × ReadsUpTo levels sort b t
 
 -- the document b is read as this tree
 abbrev pub Reads : List ℕ → Tree → Type 0
 Reads b t = ReadsAs as_document b t
+
+-- the frame means a value that stands for this tree
+abbrev pub FrameStandsFor : Frame → Tree → Type 0
+FrameStandsFor f t = (v : RawValue) × Means f (value v) × StandsFor ReadsAs v t
 
 -- the value holds these nested bytes
 abbrev pub Holds : RawValue → List ℕ → Type 0
@@ -63,30 +72,39 @@ Holds (raw.document e) d = d ≡ e
 Holds (raw.array e) d = d ≡ e
 Holds (raw.scoped code e) d = d ≡ e
 
--- The first fault, depth first in byte order, with at most so many levels: the frames before it stand for
--- trees; then the walk stops, or a frame means a fault, or a frame's value holds nested bytes that have it.
-abbrev pub FirstFaultWithin : ℕ → List ℕ → KeyedFault → Type 0
-FirstFaultWithin zero b fault = ⊥
-FirstFaultWithin (suc n) b fault =
-    (passed : List Frame) × (pairs : List (List ℕ × Tree)) × (s : List ℕ) × LeadsTo (drop 4 b) passed s × StandForEach ReadsAs passed pairs
-    × (IsStop s fault.fault fault.key
-    ⊎ ((f : Frame) × (r : List ℕ) × IsFrame s f r × (Means f (faulty fault) ⊎ ((v : RawValue) × (d : List ℕ) × Means f (value v) × Holds v d × FirstFaultWithin n d fault))))
+-- the first fault, where Nested says that of nested bytes
+module _ (Nested : List ℕ → KeyedFault → Type 0) where
+  -- of a value: that of the nested bytes that it holds
+  abbrev pub FailsInValue : RawValue → KeyedFault → Type 0
+  FailsInValue v fault = (d : List ℕ) × Holds v d × Nested d fault
+
+  -- of a frame: the one that it means, or that of the value that it means
+  abbrev pub FailsInFrame : Frame → KeyedFault → Type 0
+  FailsInFrame f fault = Means f (faulty fault) ⊎ ((v : RawValue) × Means f (value v) × FailsInValue v fault)
+
+  -- of what is left of a document or an array, s: the frames before it stand for trees; then the walk stops, or
+  -- a frame has it
+  abbrev pub FailsInRest : List ℕ → KeyedFault → Type 0
+  FailsInRest s fault =
+      (passed : List Frame) × (pairs : List (List ℕ × Tree)) × (r : List ℕ) × LeadsTo s passed r × StandForEach ReadsAs passed pairs
+      × (IsStop r fault.fault fault.key ⊎ ((f : Frame) × (t : List ℕ) × IsFrame r f t × FailsInFrame f fault))
+
+-- the first fault of bytes with at most so many levels, depth first in byte order
+abbrev pub FirstFaultUpTo : ℕ → List ℕ → KeyedFault → Type 0
+FirstFaultUpTo zero b fault = ⊥
+FirstFaultUpTo (suc n) b fault = FailsInRest (FirstFaultUpTo n) (drop 4 b) fault
 
 -- the first fault of these bytes
 abbrev pub FirstFault : List ℕ → KeyedFault → Type 0
-FirstFault b fault = (levels : ℕ) × FirstFaultWithin levels b fault
+FirstFault b fault = (levels : ℕ) × FirstFaultUpTo levels b fault
 
--- the first fault of a value: that of the nested bytes that it holds
+-- the first fault of a value
 abbrev pub FirstFaultOfValue : RawValue → KeyedFault → Type 0
-FirstFaultOfValue v fault = (d : List ℕ) × Holds v d × FirstFault d fault
+FirstFaultOfValue v fault = FailsInValue FirstFault v fault
 
--- the frame means a value that stands for this tree
-abbrev pub FrameStandsFor : Frame → Tree → Type 0
-FrameStandsFor f t = (v : RawValue) × Means f (value v) × StandsFor ReadsAs v t
-
--- the first fault of a frame: the one that it means, or that of the value that it means
+-- the first fault of a frame
 abbrev pub FirstFaultOfFrame : Frame → KeyedFault → Type 0
-FirstFaultOfFrame f fault = Means f (faulty fault) ⊎ ((v : RawValue) × Means f (value v) × FirstFaultOfValue v fault)
+FirstFaultOfFrame f fault = FailsInFrame FirstFault f fault
 
 -- There is exactly one of a tree, of which the first holds, and a first fault, of which the second does,
 -- and only one such tree or fault.

@@ -1,8 +1,9 @@
 ghost use Rattle.std.specs.Prelude.{◌≡◌, ◌≤◌, ◌<◌, ◌+◌, ◌-◌, ◌^◌, min, ◌↔◌, ◌++◌, ◌∷◌, [], pos, length, vec_len, vec_capacity, IfErr, OnErr, OnOk, IsTrue, IsOk};
 ghost use Rattle.bson_model.specs.Subtype.{subtype_byte};
-ghost use Rattle.raw_tree.specs.Payload.{payload_of, string_payload, plain_binary_payload, binary_payload, scoped_payload, IsValueNulFree, RefusesPayload};
+ghost use Rattle.raw_tree.specs.Payload.{payload_of, IsValueNulFree, RefusesPayload};
 ghost use Rattle.raw_view.specs.Document.{bytes_of};
-ghost use Rattle.raw_view.specs.Number.{le32};
+ghost use Rattle.raw_view.specs.Format.{string_payload, plain_binary_payload, binary_payload, scoped_payload};
+ghost use Rattle.raw_view.specs.Number.{max_length, le32};
 ghost use Rattle.raw_view.specs.Value.{value_of, namespace_of, id_of};
 ghost use Rattle.bson_model.specs.Bytes.{NulFree};
 
@@ -90,7 +91,7 @@ pub(crate) fn put(out: &mut Vec<u8>, bytes: &[u8])
 
 fn put_len(out: &mut Vec<u8>, len: usize)
     requires room { vec_len out.old + 4 ≤ vec_capacity out.old }
-    requires fits { len ≤ 2147483647 }
+    requires fits { len ≤ max_length }
     ensures items { out.new.items ≡ out.old.items ++ le32 (pos len) }
     ensures len { vec_len out.new ≡ vec_len out.old + 4 }
     ensures capacity { vec_capacity out.old ≤ vec_capacity out.new }
@@ -100,7 +101,7 @@ fn put_len(out: &mut Vec<u8>, len: usize)
 
 pub(crate) fn put_string(out: &mut Vec<u8>, text: &str)
     requires room { vec_len out.old + length (string_payload text.now) ≤ vec_capacity out.old }
-    requires fits { length (string_payload text.now) ≤ 2147483647 }
+    requires fits { length (string_payload text.now) ≤ max_length }
     ensures items { out.new.items ≡ out.old.items ++ string_payload text.now }
     ensures len { vec_len out.new ≡ vec_len out.old + length (string_payload text.now) }
     ensures capacity { vec_capacity out.old ≤ vec_capacity out.new }
@@ -122,7 +123,7 @@ pub(crate) fn put_c_string(out: &mut Vec<u8>, text: &str)
 
 fn put_plain_binary(out: &mut Vec<u8>, subtype: u8, len: usize)
     requires room { vec_len out.old + 5 ≤ vec_capacity out.old }
-    requires fits { len ≤ 2147483647 }
+    requires fits { len ≤ max_length }
     ensures items { out.new.items ≡ out.old.items ++ (le32 (pos len) ++ subtype ∷ []) }
     ensures len { vec_len out.new ≡ vec_len out.old + 5 }
     ensures capacity { vec_capacity out.old ≤ vec_capacity out.new }
@@ -133,7 +134,7 @@ fn put_plain_binary(out: &mut Vec<u8>, subtype: u8, len: usize)
 
 fn put_binary(out: &mut Vec<u8>, binary: RawBinaryRef<'_>)
     requires room { vec_len out.old + length (binary_payload binary.subtype binary.bytes.now) ≤ vec_capacity out.old }
-    requires fits { length (binary_payload binary.subtype binary.bytes.now) ≤ 2147483647 }
+    requires fits { length (binary_payload binary.subtype binary.bytes.now) ≤ max_length }
     ensures items { out.new.items ≡ out.old.items ++ binary_payload binary.entry.subtype binary.entry.bytes.now }
     ensures len { vec_len out.new ≡ vec_len out.old + length (binary_payload binary.entry.subtype binary.entry.bytes.now) }
     ensures capacity { vec_capacity out.old ≤ vec_capacity out.new }
@@ -151,7 +152,7 @@ fn put_binary(out: &mut Vec<u8>, binary: RawBinaryRef<'_>)
 
 fn put_db_pointer(out: &mut Vec<u8>, pointer: RawDbPointerRef<'_>)
     requires room { vec_len out.old + (length (string_payload (namespace_of pointer)) + 12) ≤ vec_capacity out.old }
-    requires fits { length (string_payload (namespace_of pointer)) + 12 ≤ 2147483647 }
+    requires fits { length (string_payload (namespace_of pointer)) + 12 ≤ max_length }
     ensures items { out.new.items ≡ out.old.items ++ (string_payload (namespace_of pointer.entry) ++ id_of pointer.entry) }
     ensures len { vec_len out.new ≡ vec_len out.old + (length (string_payload (namespace_of pointer.entry)) + 12) }
     ensures capacity { vec_capacity out.old ≤ vec_capacity out.new }
@@ -162,7 +163,7 @@ fn put_db_pointer(out: &mut Vec<u8>, pointer: RawDbPointerRef<'_>)
 
 fn put_code_with_scope(out: &mut Vec<u8>, code: RawJavaScriptCodeWithScopeRef<'_>)
     requires room { vec_len out.old + length (scoped_payload code.code.now (bytes_of code.scope)) ≤ vec_capacity out.old }
-    requires fits { length (scoped_payload code.code.now (bytes_of code.scope)) ≤ 2147483647 }
+    requires fits { length (scoped_payload code.code.now (bytes_of code.scope)) ≤ max_length }
     ensures items { out.new.items ≡ out.old.items ++ scoped_payload code.entry.code.now (bytes_of code.entry.scope) }
     ensures len { vec_len out.new ≡ vec_len out.old + length (scoped_payload code.entry.code.now (bytes_of code.entry.scope)) }
     ensures capacity { vec_capacity out.old ≤ vec_capacity out.new }
@@ -185,7 +186,7 @@ fn put_regex(out: &mut Vec<u8>, regex: RawRegexRef<'_>)
 
 fn put_payload(out: &mut Vec<u8>, value: RawBsonRef<'_>)
     requires room { vec_len out.old + length (payload_of (value_of value)) ≤ vec_capacity out.old }
-    requires fits { length (payload_of (value_of value)) ≤ 2147483647 }
+    requires fits { length (payload_of (value_of value)) ≤ max_length }
     ensures items { out.new.items ≡ out.old.items ++ payload_of (value_of value.entry) }
     ensures len { vec_len out.new ≡ vec_len out.old + length (payload_of (value_of value.entry)) }
     ensures capacity { vec_capacity out.old ≤ vec_capacity out.new }
@@ -220,7 +221,7 @@ pub fn append_payload(out: &mut Vec<u8>, value: RawBsonRef<'_>) -> Result<()>
     ensures items { OnOk result (out.new.items ≡ out.old.items ++ payload_of (value_of value.entry)) }
     ensures len { OnOk result (vec_len out.new ≡ vec_len out.old + length (payload_of (value_of value.entry))) }
     ensures capacity { vec_capacity out.old ≤ vec_capacity out.new }
-    ensures succeeds { length (payload_of (value_of value.entry)) ≤ 2147483647 → vec_len out.old + length (payload_of (value_of value.entry)) ≤ vec_capacity out.old → IsOk result }
+    ensures succeeds { length (payload_of (value_of value.entry)) ≤ max_length → vec_len out.old + length (payload_of (value_of value.entry)) ≤ vec_capacity out.old → IsOk result }
     ensures refused { IfErr result (RefusesPayload (value_of value.entry)) }
     ensures unchanged { OnErr result (out.new.items ≡ out.old.items) }
 {

@@ -1,11 +1,12 @@
 ghost use Rattle.std.specs.Prelude.{◌≡◌, ◌≤◌, ◌<◌, ◌+◌, pos, IfSome, IfNone};
+ghost use Rattle.raw_view.specs.Number.{max_length};
 
 /// The length of a document of so many bytes to which so many more are added; `None` where that is over
 /// 2147483647, the greatest length that a header can say. BSON 1.1, `document`.
 pub fn total_len(len: usize, added: usize) -> Option<i32>
     ensures some { IfSome result
-        (λ total. (total ≡ pos (len + added)) × (len + added ≤ 2147483647)) }
-    ensures none { IfNone result (2147483647 < len + added) }
+        (λ total. (total ≡ pos (len + added)) × (len + added ≤ max_length)) }
+    ensures none { IfNone result (max_length < len + added) }
 {
     let total = len.checked_add(added)?;
     i32::try_from(total).ok()

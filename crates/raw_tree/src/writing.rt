@@ -11,7 +11,8 @@ ghost use Rattle.raw_tree.specs.Payload.{payload_of};
 ghost use Rattle.raw_view.specs.Envelope.{IsEnvelope};
 ghost use Rattle.raw_view.specs.Errors.{key_of};
 ghost use Rattle.raw_view.specs.Kind as kind;
-ghost use Rattle.raw_view.specs.Number.{IsBytes, le32};
+ghost use Rattle.bson_model.specs.Bytes.{AreBytes};
+ghost use Rattle.raw_view.specs.Number.{max_length, le32};
 ghost use Rattle.raw_view.specs.Meaning.{single};
 ghost use Rattle.raw_view.specs.Value.{value_of};
 
@@ -184,7 +185,7 @@ fn put_decimal_head(out: &mut Vec<u8>, tag: u8, number: usize)
 /// Sets the four bytes at `start` to how many bytes there are from there on.
 fn set_len(out: &mut Vec<u8>, start: usize)
     requires header { start + 4 ≤ vec_len out.old }
-    requires fits { vec_len out.old ≤ start + 2147483647 }
+    requires fits { vec_len out.old ≤ start + max_length }
     ensures items { out.new.items ≡ take start out.old.items ++ (le32 (pos (vec_len out.old - start)) ++ drop (start + 4) out.old.items) }
     ensures len { vec_len out.new ≡ vec_len out.old }
     ensures capacity { vec_capacity out.old ≤ vec_capacity out.new }
@@ -196,7 +197,7 @@ fn set_len(out: &mut Vec<u8>, start: usize)
 /// Puts the payload of the view at the end, where there is room for it.
 fn put_leaf(out: &mut Vec<u8>, value: RawBsonRef<'_>)
     requires room { vec_len out.old + length (payload_of (value_of value)) ≤ vec_capacity out.old }
-    requires fits { length (payload_of (value_of value)) ≤ 2147483647 }
+    requires fits { length (payload_of (value_of value)) ≤ max_length }
     ensures items { out.new.items ≡ out.old.items ++ payload_of (value_of value.entry) }
     ensures len { vec_len out.new ≡ vec_len out.old + length (payload_of (value_of value.entry)) }
     ensures capacity { vec_capacity out.old ≤ vec_capacity out.new }
@@ -210,7 +211,7 @@ fn put_leaf(out: &mut Vec<u8>, value: RawBsonRef<'_>)
 #[cycle(write)]
 fn put_value(out: &mut Vec<u8>, value: &Bson)
     requires room { vec_len out.old + encoded_len (tree_of value.now) ≤ vec_capacity out.old }
-    requires fits { encoded_len (tree_of value.now) ≤ 2147483647 }
+    requires fits { encoded_len (tree_of value.now) ≤ max_length }
     ensures items { out.new.items ≡ out.old.items ++ tree_payload (tree_of value.now) }
     ensures len { vec_len out.new ≡ vec_len out.old + encoded_len (tree_of value.now) }
     ensures capacity { vec_capacity out.old ≤ vec_capacity out.new }
@@ -238,10 +239,10 @@ fn put_value(out: &mut Vec<u8>, value: &Bson)
 #[cycle(write)]
 fn put_list(out: &mut Vec<u8>, values: &[Bson])
     requires room { vec_len out.old + encoded_len (tree_of_list values.now) ≤ vec_capacity out.old }
-    requires fits { encoded_len (tree_of_list values.now) ≤ 2147483647 }
+    requires fits { encoded_len (tree_of_list values.now) ≤ max_length }
     ensures items { out.new.items ≡ out.old.items ++ tree_payload (tree_of_list values.now) }
     ensures len { vec_len out.new ≡ vec_len out.old + encoded_len (tree_of_list values.now) }
-    ensures bytes { IsBytes out.new.items }
+    ensures bytes { AreBytes out.new.items }
     ensures capacity { vec_capacity out.old ≤ vec_capacity out.new }
 {
     let start = out.len();
@@ -258,10 +259,10 @@ fn put_list(out: &mut Vec<u8>, values: &[Bson])
 #[cycle(write)]
 fn put_document(out: &mut Vec<u8>, document: &Document)
     requires room { vec_len out.old + encoded_len (tree_of_document document.now) ≤ vec_capacity out.old }
-    requires fits { encoded_len (tree_of_document document.now) ≤ 2147483647 }
+    requires fits { encoded_len (tree_of_document document.now) ≤ max_length }
     ensures items { out.new.items ≡ out.old.items ++ tree_payload (tree_of_document document.now) }
     ensures len { vec_len out.new ≡ vec_len out.old + encoded_len (tree_of_document document.now) }
-    ensures bytes { IsBytes out.new.items }
+    ensures bytes { AreBytes out.new.items }
     ensures capacity { vec_capacity out.old ≤ vec_capacity out.new }
 {
     let start = out.len();

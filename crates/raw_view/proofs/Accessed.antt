@@ -2,46 +2,19 @@
 use Rattle.std.proofs.Common.{◌≡◌, ◌≢◌, inl, inr, ℕ, List, Option, Some, None, Result, Ok, Err, refl, sym, ap, ◌∙◌, subst}
 use Rattle.raw_view.specs.declared.element_type.ElementType.{ElementType}
 use Rattle.raw_view.specs.declared.bson_ref.RawBsonRef.{RawBsonRef}
-use Rattle.raw_view.specs.declared.bson_ref.RawBsonRef.TheVariants as ref
 use Rattle.raw_view.specs.declared.error.Error.{Error}
 use Rattle.raw_view.specs.declared.access.ValueAccessError.{ValueAccessError}
 use Rattle.raw_view.specs.declared.access.ValueAccessErrorKind.{ValueAccessErrorKind}
 use Rattle.raw_view.specs.declared.access.ValueAccessErrorKind.TheVariants as access
-use Rattle.raw_view.specs.Meaning.{RawValue, KeyedFault, Meaning, value, faulty}
-use Rattle.raw_view.specs.Value.{value_of, kind_of_value}
+use Rattle.raw_view.specs.Meaning.{RawValue, kind_of_raw, KeyedFault, Meaning, value, faulty}
+use Rattle.raw_view.specs.Value.{value_of}
 use Rattle.raw_view.specs.Answers.{Says, TellsFound}
-use Rattle.raw_view.specs.Access.{kind_of_raw, IsNoValueOf, IsAccessFault, IsTypedFault, Accesses, Gets}
-
-pub kind_of_raw-value_of : (v : RawBsonRef) → kind_of_raw (value_of v) ≡ kind_of_value v
-kind_of_raw-value_of (ref.Double x) = refl
-kind_of_raw-value_of (ref.String x) = refl
-kind_of_raw-value_of (ref.Array x) = refl
-kind_of_raw-value_of (ref.Document x) = refl
-kind_of_raw-value_of (ref.Boolean x) = refl
-kind_of_raw-value_of ref.Null = refl
-kind_of_raw-value_of (ref.RegularExpression x) = refl
-kind_of_raw-value_of (ref.JavaScriptCode x) = refl
-kind_of_raw-value_of (ref.JavaScriptCodeWithScope x) = refl
-kind_of_raw-value_of (ref.Int32 x) = refl
-kind_of_raw-value_of (ref.Int64 x) = refl
-kind_of_raw-value_of (ref.Timestamp x) = refl
-kind_of_raw-value_of (ref.Binary x) = refl
-kind_of_raw-value_of (ref.ObjectId x) = refl
-kind_of_raw-value_of (ref.DateTime x) = refl
-kind_of_raw-value_of (ref.Symbol x) = refl
-kind_of_raw-value_of (ref.Decimal128 x) = refl
-kind_of_raw-value_of ref.Undefined = refl
-kind_of_raw-value_of ref.MaxKey = refl
-kind_of_raw-value_of ref.MinKey = refl
-kind_of_raw-value_of (ref.DbPointer x) = refl
+use Rattle.raw_view.specs.Access.{IsNoValueOf, IsAccessFault, IsTypedFault, Accesses, Gets}
 
 -- from what the look-up answers to what the getter promises
 module _ {T : Type 0} (value_as : T → RawValue) (expected : ElementType) where
   found_is : (answer : Result (Option RawBsonRef) Error) (found : Option Meaning) (v : RawBsonRef) → TellsFound answer found → answer ≡ Ok (Some v) → found ≡ Some (value (value_of v))
   found_is answer found v tells e = subst (λ (x : Result (Option RawBsonRef) Error). TellsFound x found) e tells
-
-  kind_differs : (v : RawBsonRef) → kind_of_value v ≢ expected → kind_of_raw (value_of v) ≢ expected
-  kind_differs v p h = p (sym (kind_of_raw-value_of v) ∙ h)
 
   inner_fault : (e : Error) (found : Option Meaning) → TellsFound (Err e) found → (fault : KeyedFault) × (found ≡ Some (faulty fault)) × Says e fault
   inner_fault e None tells = absurd tells
@@ -53,15 +26,14 @@ module _ {T : Type 0} (value_as : T → RawValue) (expected : ElementType) where
 
   no_value : (answer : Result (Option RawBsonRef) Error) (found : Option Meaning) (k : ValueAccessErrorKind) → TellsFound answer found → IsTypedFault expected answer k → IsNoValueOf expected found
   no_value answer found access.NotPresent tells h = subst (IsNoValueOf expected) (sym (subst (λ (x : Result (Option RawBsonRef) Error). TellsFound x found) h tells)) tt
-  no_value answer found (access.UnexpectedType wanted actual) tells h = subst (IsNoValueOf expected) (sym (found_is answer found h.0 tells h.1)) (kind_differs h.0 h.2)
+  no_value answer found (access.UnexpectedType wanted actual) tells h = subst (IsNoValueOf expected) (sym (found_is answer found h.0 tells h.1)) h.2
   no_value answer found (access.InvalidBson inner) tells h = let f = fault_at answer found inner tells h.0 in subst (IsNoValueOf expected) (sym f.1) tt
   no_value answer found access.OutOfMemory tells h = let f = fault_at answer found h.0 tells h.1 in subst (IsNoValueOf expected) (sym f.1) tt
 
   access_fault : (answer : Result (Option RawBsonRef) Error) (found : Option Meaning) (k : ValueAccessErrorKind) → TellsFound answer found → IsTypedFault expected answer k → IsAccessFault expected found k
   access_fault answer found access.NotPresent tells h = subst (λ (x : Result (Option RawBsonRef) Error). TellsFound x found) h tells
   access_fault answer found (access.UnexpectedType wanted actual) tells h =
-      let same = sym (kind_of_raw-value_of h.0) in
-      (value_of h.0, found_is answer found h.0 tells h.1, h.3, h.4 ∙ same, λ e. kind_differs h.0 h.2 (sym same ∙ sym h.4 ∙ e))
+      (value_of h.0, found_is answer found h.0 tells h.1, h.3, h.4, λ e. h.2 (sym h.4 ∙ e))
   access_fault answer found (access.InvalidBson inner) tells h = let f = fault_at answer found inner tells h.0 in (f.0, f.1, (f.2, h.1))
   access_fault answer found access.OutOfMemory tells h = no_value answer found access.OutOfMemory tells h
 

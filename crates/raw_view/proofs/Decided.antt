@@ -6,11 +6,12 @@ use Rattle.std.proofs.lemmas.List.{length-take-le, length-take}
 use Rattle.raw_view.specs.declared.element_type.ElementType.{ElementType}
 use Rattle.raw_view.specs.declared.element_type.ElementType.TheVariants as kind
 use Rattle.raw_view.specs.Frame.{HasShape}
-use Rattle.raw_view.specs.Number.{IsBytes, IsLe32}
+use Rattle.bson_model.specs.Bytes.{AreBytes}
+use Rattle.raw_view.specs.Number.{IsLe32}
 use Rattle.raw_view.specs.Kind.{tag_of}
 use Rattle.raw_view.proofs.Frames.{kind_of, kind_of-tag_of}
 use Rattle.raw_view.proofs.Numbers.{read_front, IsLe32-same, IsLe32-length}
-use Rattle.raw_view.proofs.Payloads.{string_at, string_front, document_found, document_front, binary_found, binary_front, scoped_found, scoped_front, pointer_found, pointer_string, pointer_within}
+use Rattle.raw_view.proofs.Payloads.{string_at, string_front, document_found, document_front, binary_found, binary_front, scoped_found, scoped_front, pointer_found, no_pointer, pointer_within}
 use Rattle.raw_view.proofs.Texts.{regex_front, options_of, regex_found}
 use Rattle.raw_view.proofs.DecidedTexts.{front_text_or_not, no_front_text}
 
@@ -71,7 +72,7 @@ is_length head (pos n) h = inl (n, h)
 is_length head (negsuc n) h = inr (λ m k. let e : negsuc n ≡ pos m = IsLe32-same head (negsuc n) (pos m) h k in cc)
 
 -- the four bytes at the front are a length, or none is there
-length_or_not : (z : List ℕ) → IsBytes z → ((n : ℕ) × IsLe32 (take 4 z) (pos n)) ⊎ ((n : ℕ) → ¬ IsLe32 (take 4 z) (pos n))
+length_or_not : (z : List ℕ) → AreBytes z → ((n : ℕ) × IsLe32 (take 4 z) (pos n)) ⊎ ((n : ℕ) → ¬ IsLe32 (take 4 z) (pos n))
 length_or_not z bytes =
     elim (cases_lt (length z) 4) [
       | inl l ↦ inr (λ n h. omega (arith, IsLe32-length (take 4 z) (pos n) h, length-take 4 z))
@@ -81,7 +82,7 @@ length_or_not z bytes =
 -- A kind whose payload begins with a length: payloads of it stand at the front just where the length there
 -- fits, and whether one does is decided.
 by_length :
-    (kind : ElementType) (z : List ℕ) (Fits : ℕ → Type 0) → IsBytes z →
+    (kind : ElementType) (z : List ℕ) (Fits : ℕ → Type 0) → AreBytes z →
     ((n : ℕ) → Fits n ⊎ ¬ Fits n) →
     ((n : ℕ) → IsLe32 (take 4 z) (pos n) → Fits n → Stands kind z) →
     ((p r : List ℕ) → z ≡ p ++ r → HasShape kind p r → (n : ℕ) × IsLe32 (take 4 z) (pos n) × Fits n) →
@@ -96,7 +97,7 @@ by_length kind z Fits bytes fits stands front =
     ]
 
 -- a string: its text has the length less 1, and a 0 behind it
-pub string_or_not : (z : List ℕ) → IsBytes z → Stands kind.String z ⊎ Misses kind.String z
+pub string_or_not : (z : List ℕ) → AreBytes z → Stands kind.String z ⊎ Misses kind.String z
 string_or_not z bytes =
     by_length kind.String z (λ n. (1 ≤ n) × ((n + 4 ≤ length z) × (get_or z (n + 4 - 1) 0 ≡ 0))) bytes
     (λ n. both_or_not (le_or_not 1 n) (both_or_not (le_or_not (n + 4) (length z)) (cases_eq (get_or z (n + 4 - 1) 0) 0)))
@@ -107,7 +108,7 @@ string_or_not z bytes =
     (length x.0 + 1, s.0, (omega arith, (omega arith, rw at s.2))))
 
 -- a nested document: just so many bytes, at least five, the last a 0
-pub document_or_not : (z : List ℕ) → IsBytes z → Stands kind.EmbeddedDocument z ⊎ Misses kind.EmbeddedDocument z
+pub document_or_not : (z : List ℕ) → AreBytes z → Stands kind.EmbeddedDocument z ⊎ Misses kind.EmbeddedDocument z
 document_or_not z bytes =
     by_length kind.EmbeddedDocument z (λ n. (5 ≤ n) × ((n ≤ length z) × (get_or z (n - 1) 0 ≡ 0))) bytes
     (λ n. both_or_not (le_or_not 5 n) (both_or_not (le_or_not n (length z)) (cases_eq (get_or z (n - 1) 0) 0)))
@@ -115,7 +116,7 @@ document_or_not z bytes =
     (λ p r e x. let d = document_front z p r e x in (d.0, d.1, (d.2, (d.3, d.4))))
 
 -- a binary: five bytes more than its length
-binary_or_not : (z : List ℕ) → IsBytes z → Stands kind.Binary z ⊎ Misses kind.Binary z
+binary_or_not : (z : List ℕ) → AreBytes z → Stands kind.Binary z ⊎ Misses kind.Binary z
 binary_or_not z bytes =
     by_length kind.Binary z (λ n. n + 5 ≤ length z) bytes
     (λ n. le_or_not (n + 5) (length z))
@@ -123,7 +124,7 @@ binary_or_not z bytes =
     (binary_front z)
 
 -- a code with scope: just so many bytes
-scoped_or_not : (z : List ℕ) → IsBytes z → Stands kind.JavaScriptCodeWithScope z ⊎ Misses kind.JavaScriptCodeWithScope z
+scoped_or_not : (z : List ℕ) → AreBytes z → Stands kind.JavaScriptCodeWithScope z ⊎ Misses kind.JavaScriptCodeWithScope z
 scoped_or_not z bytes =
     by_length kind.JavaScriptCodeWithScope z (λ n. (4 ≤ length z) × (n ≤ length z)) bytes
     (λ n. both_or_not (le_or_not 4 (length z)) (le_or_not n (length z)))
@@ -131,14 +132,14 @@ scoped_or_not z bytes =
     (λ p r e x. let d = scoped_front z p r e x in (d.0, d.2, (d.1, d.3)))
 
 -- a pointer: a string and twelve bytes
-pointer_or_not : (z : List ℕ) → IsBytes z → Stands kind.DbPointer z ⊎ Misses kind.DbPointer z
+pointer_or_not : (z : List ℕ) → AreBytes z → Stands kind.DbPointer z ⊎ Misses kind.DbPointer z
 pointer_or_not z bytes =
     elim (string_or_not z bytes) [
       | inl t ↦ elim (cases_lt (length z) (t.0 + 12)) [
         | inl l ↦ inr (λ p r e x. omega (arith, pointer_within z p r t.0 t.2 t.1 e x))
         | inr l ↦ inl (t.0 + 12, l, pointer_found z t.0 t.2 l)
       ]
-      | inr none ↦ inr (λ p r e x. none x.2.string (x.1 ++ r) (pointer_string z p r x.0 x.1 e x.2) (x.0, x.2.string_is))
+      | inr none ↦ inr (no_pointer z none)
     ]
 
 -- a regular expression: two texts
@@ -153,7 +154,7 @@ regex_or_not z =
     ]
 
 -- a payload of the kind stands at the front, or none does
-pub payload_or_not : (k : ElementType) (z : List ℕ) → IsBytes z → Stands k z ⊎ Misses k z
+pub payload_or_not : (k : ElementType) (z : List ℕ) → AreBytes z → Stands k z ⊎ Misses k z
 payload_or_not kind.Double z bytes = sized_or_not 8 z
 payload_or_not kind.String z bytes = string_or_not z bytes
 payload_or_not kind.EmbeddedDocument z bytes = document_or_not z bytes

@@ -3,7 +3,9 @@ use Rattle.std.proofs.Common.{◌≡◌, ◌⊎◌, inl, inr, ◌++◌, ◌∷�
 use Rattle.std.specs.Str.{IsUtf8, is_utf8}
 use Rattle.std.proofs.lemmas.Bool.{cases_Bool, cases_eq, both_ways}
 use Rattle.std.proofs.lemmas.Str.{IsUtf8-from_is_utf8, is_utf8-from_IsUtf8}
-use Rattle.raw_view.specs.Frame.{HasNoNul, BeginsWithBadText, HasBadRegexText}
+use Rattle.bson_model.specs.Bytes.{NulFree}
+use Rattle.raw_view.specs.Frame.{BeginsWithBadText, HasBadRegexText}
+use Rattle.bson_model.proofs.Bytes.{NulFree-nil, NulFree-cons}
 use Rattle.raw_view.proofs.Cuts.{cut}
 use Rattle.raw_view.proofs.Texts.{no_nul_in, good_text, no_bad_regex}
 
@@ -16,24 +18,24 @@ utf8_or_not x =
     ]
 
 -- what stands before the first 0 and behind it, or there is no 0
-nul_or_none : (z : List ℕ) → ((x w : List ℕ) × (z ≡ x ++ 0 ∷ w) × HasNoNul x) ⊎ HasNoNul z
-nul_or_none [] = inr tt
+nul_or_none : (z : List ℕ) → ((x w : List ℕ) × (z ≡ x ++ 0 ∷ w) × NulFree x) ⊎ NulFree z
+nul_or_none [] = inr NulFree-nil
 nul_or_none (b ∷ z) =
     elim (cases_eq b 0) [
-      | inl e ↦ inl ([], z, ap (λ x. x ∷ z) e, tt)
+      | inl e ↦ inl ([], z, ap (λ x. x ∷ z) e, NulFree-nil)
       | inr n ↦ elim (nul_or_none z) [
-        | inl f ↦ inl (b ∷ f.0, f.1, ap (λ x. b ∷ x) f.2, (n, f.3))
-        | inr h ↦ inr (n, h)
+        | inl f ↦ inl (b ∷ f.0, f.1, ap (λ x. b ∷ x) f.2, NulFree-cons b f.0 n f.3)
+        | inr h ↦ inr (NulFree-cons b z n h)
       ]
     ]
 
 -- z begins with a UTF-8 text and its 0
 abbrev pub HasFrontText : List ℕ → Type 0
-HasFrontText z = (x w : List ℕ) × (z ≡ x ++ 0 ∷ w) × HasNoNul x × IsUtf8 x
+HasFrontText z = (x w : List ℕ) × (z ≡ x ++ 0 ∷ w) × NulFree x × IsUtf8 x
 
 -- z has no 0, or what stands before the first isn't UTF-8
 abbrev pub HasNoFrontText : List ℕ → Type 0
-HasNoFrontText z = HasNoNul z ⊎ BeginsWithBadText z
+HasNoFrontText z = NulFree z ⊎ BeginsWithBadText z
 
 -- a text stands up to the first 0, or none does
 pub front_text_or_not : (z : List ℕ) → HasFrontText z ⊎ HasNoFrontText z
@@ -47,7 +49,7 @@ front_text_or_not z =
     ]
 
 -- not both
-pub no_front_text : (z x w : List ℕ) → z ≡ x ++ 0 ∷ w → HasNoNul x → IsUtf8 x → HasNoFrontText z → ⊥
+pub no_front_text : (z x w : List ℕ) → z ≡ x ++ 0 ∷ w → NulFree x → IsUtf8 x → HasNoFrontText z → ⊥
 no_front_text z x w e h u none = elim none [ inl n ↦ no_nul_in z x w e n | inr b ↦ good_text z x w e h u b ]
 
 -- z begins with bytes up to a 0 that are no text, or not

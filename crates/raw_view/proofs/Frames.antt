@@ -6,8 +6,10 @@ use Rattle.raw_view.specs.declared.element_type.ElementType.TheVariants as kind
 use Rattle.raw_view.specs.declared.error.ErrorKind.{ErrorKind}
 use Rattle.raw_view.specs.declared.error.ErrorKind.TheVariants as what
 use Rattle.raw_view.specs.Kind.{tag_of}
-use Rattle.raw_view.specs.Frame.{HasShape, HasNoFrame, HasNoNul, IsStop, Malformed}
+use Rattle.bson_model.specs.Bytes.{NulFree}
+use Rattle.raw_view.specs.Frame.{HasShape, HasNoFrame, IsStop, Malformed}
 use Rattle.raw_view.specs.Front.{StopsWith, IsTextFault, IsPayloadFault}
+use Rattle.bson_model.proofs.Bytes.{NulFree-head, NulFree-tail}
 use Rattle.raw_view.proofs.Cuts.{cut}
 
 abbrev pub kind_of : ℕ → Option ElementType
@@ -64,7 +66,7 @@ tag_of-same a b e =
     cc
 
 -- where no payload of the kind stands behind the key's 0, no frame stands at the front
-pub no_frame : (s : List ℕ) (tag : ℕ) (k z : List ℕ) (kind : ElementType) → s ≡ tag ∷ (k ++ 0 ∷ z) → HasNoNul k → tag ≡ tag_of kind → ((p r : List ℕ) → z ≡ p ++ r → HasShape kind p r → ⊥) → HasNoFrame s
+pub no_frame : (s : List ℕ) (tag : ℕ) (k z : List ℕ) (kind : ElementType) → s ≡ tag ∷ (k ++ 0 ∷ z) → NulFree k → tag ≡ tag_of kind → ((p r : List ℕ) → z ≡ p ++ r → HasShape kind p r → ⊥) → HasNoFrame s
 no_frame s tag k z kind e h t none f r b =
     let both : tag ∷ (k ++ 0 ∷ z) ≡ tag_of f.kind ∷ (f.key ++ 0 ∷ (f.payload ++ r)) = sym e ∙ b.spelled in
     let tags : tag ≡ tag_of f.kind = cc in
@@ -81,10 +83,10 @@ no_kind s tag z e none f r b =
     none f.kind tags
 
 -- the bytes behind the tag hold a 0 where the whole ends with one
-pub no_nul_ends : (tag : ℕ) (z : List ℕ) → HasNoNul z → slice_get (tag ∷ z) (length z) ≡ Some 0 → z ≡ []
+pub no_nul_ends : (tag : ℕ) (z : List ℕ) → NulFree z → slice_get (tag ∷ z) (length z) ≡ Some 0 → z ≡ []
 no_nul_ends tag [] h e = refl
-no_nul_ends tag (x ∷ []) h e = absurd (h.0 cc)
-no_nul_ends tag (x ∷ y ∷ z) h e = let none : y ∷ z ≡ [] = no_nul_ends x (y ∷ z) h.1 e in cc
+no_nul_ends tag (x ∷ []) h e = absurd (NulFree-head x [] h cc)
+no_nul_ends tag (x ∷ y ∷ z) h e = let none : y ∷ z ≡ [] = no_nul_ends x (y ∷ z) (NulFree-tail x (y ∷ z) h) e in cc
 
 -- where no text up to a 0 stands behind the tag, it is a text that isn't UTF-8
 pub key_stop : (s : List ℕ) (tag : ℕ) (behind : List ℕ) (fault : ErrorKind) → s ≡ tag ∷ behind → behind ≢ [] → slice_get s (length s - 1) ≡ Some 0 → IsTextFault behind fault → StopsWith fault None s
@@ -96,11 +98,11 @@ key_stop s tag behind (what.Utf8EncodingError error) e some last h =
 key_stop s tag behind what.OutOfMemory e some last h = h
 
 -- a tag that is no kind's
-pub tag_stop : (s : List ℕ) (tag : ℕ) (key behind : List ℕ) → s ≡ tag ∷ (key ++ 0 ∷ behind) → HasNoNul key → IsUtf8 key → ((kind : ElementType) → tag ≢ tag_of kind) → IsStop s Malformed (Some key)
+pub tag_stop : (s : List ℕ) (tag : ℕ) (key behind : List ℕ) → s ≡ tag ∷ (key ++ 0 ∷ behind) → NulFree key → IsUtf8 key → ((kind : ElementType) → tag ≢ tag_of kind) → IsStop s Malformed (Some key)
 tag_stop s tag key behind e h u none = (record { tag = tag; behind = behind; spelled = e; nul_free = h }, u, no_kind s tag _ e none, λ bad. none kind.RegularExpression bad.0)
 
 -- a payload that isn't there
-pub payload_stop : (s : List ℕ) (tag : ℕ) (key behind : List ℕ) (kind : ElementType) (fault : ErrorKind) → s ≡ tag ∷ (key ++ 0 ∷ behind) → HasNoNul key → IsUtf8 key → tag ≡ tag_of kind → ((p r : List ℕ) → behind ≡ p ++ r → HasShape kind p r → ⊥) → IsPayloadFault (tag_of kind) behind fault → StopsWith fault (Some key) s
+pub payload_stop : (s : List ℕ) (tag : ℕ) (key behind : List ℕ) (kind : ElementType) (fault : ErrorKind) → s ≡ tag ∷ (key ++ 0 ∷ behind) → NulFree key → IsUtf8 key → tag ≡ tag_of kind → ((p r : List ℕ) → behind ≡ p ++ r → HasShape kind p r → ⊥) → IsPayloadFault (tag_of kind) behind fault → StopsWith fault (Some key) s
 payload_stop s tag key behind kind (what.MalformedValue reason) e h u t none fault =
     (record { tag = tag; behind = behind; spelled = e; nul_free = h }, u, no_frame s tag key behind kind e h t none, λ bad. fault (sym t ∙ bad.0, bad.1))
 payload_stop s tag key behind kind (what.Utf8EncodingError error) e h u t none fault =

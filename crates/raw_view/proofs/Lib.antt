@@ -13,6 +13,7 @@ pub mod CallerLemmas
 pub mod DecidedTexts
 pub mod Decided
 pub mod Walks
+pub mod Written
 pub mod Meanings
 pub mod UniquePayloads
 pub mod Unique

@@ -6,7 +6,7 @@ use Rattle.raw_view.specs.declared.error.Error.{Error}
 use Rattle.raw_view.specs.Frame.{Frame, Done, Stopped, LeadsTo}
 use Rattle.raw_view.specs.Meaning.{Meaning, value, faulty, Means}
 use Rattle.raw_view.specs.ElementSteps.{StepsElement, HasRead, frame_of}
-use Rattle.raw_view.specs.LookUp.{HasNoKey, FindsFrame, FindsEnd}
+use Rattle.raw_view.specs.LookUp.{HasNoKey, HasThisKey, Finds}
 use Rattle.raw_view.specs.Answers.{TellsMeaning, TellsFound}
 
 pub HasNoKey-more : (key : List ℕ) (fs : List Frame) (f : Frame) → HasNoKey key fs → f.key ≢ key → HasNoKey key (fs ++ f ∷ [])
@@ -15,7 +15,7 @@ HasNoKey-more key (g ∷ fs) f h n = (h.0, HasNoKey-more key fs f h.1 n)
 
 -- along a walk from s, past frames with other keys
 abbrev pub Looks : List ℕ → List ℕ → Option Meaning → Type 0
-Looks start key found = (passed : List Frame) × (s : List ℕ) × LeadsTo start passed s × HasNoKey key passed × (FindsFrame s key found ⊎ FindsEnd s found)
+Looks start key found = (passed : List Frame) × (s : List ℕ) × LeadsTo start passed s × HasNoKey key passed × Finds (HasThisKey key) s found
 
 -- the frame that is found
 pub found_frame : (start key : List ℕ) (passed : List Frame) (old new : Option (List ℕ)) (e : RawElement) → HasRead start passed old → HasNoKey key passed → StepsElement old (Some (Ok e)) new → (frame_of e).key ≡ key → (m : Meaning) → Means (frame_of e) m → Looks start key (Some m)

@@ -7,7 +7,8 @@ use Rattle.std.proofs.lemmas.List.{take-append-drop, take_all, take-append-le, a
 use Rattle.bson_model.specs.Leaf.{Leaf, double, string, binary, undefined, object_id, boolean, date_time, null, regular_expression, db_pointer, javascript_code, symbol, int32, timestamp, int64, decimal128, max_key, min_key}
 use Rattle.bson_model.specs.Subtype.{subtype_of}
 use Rattle.bson_model.specs.declared.binaries.BinarySubtype.TheVariants.{BinaryOld}
-use Rattle.raw_view.specs.Number.{IsBytes, IsLe32}
+use Rattle.bson_model.specs.Bytes.{AreBytes}
+use Rattle.raw_view.specs.Number.{le32, IsLe32}
 use Rattle.raw_view.specs.Envelope.{IsEnvelope}
 use Rattle.raw_view.specs.Kind.{tag_of}
 use Rattle.raw_view.specs.declared.element_type.ElementType.{ElementType}
@@ -15,15 +16,16 @@ use Rattle.raw_view.specs.declared.element_type.ElementType.TheVariants as kind
 use Rattle.raw_view.specs.Frame.{Frame, IsFrame, HasShape, HasText, IsBinary, IsDbPointer, HasDeclaredLength, IsWalk, End, Done, Stopped}
 use Rattle.raw_view.specs.Meaning.{single, document, array, scoped, Meaning, value, faulty, Means, MeansValue, MeansFault, SpellsText, SpellsNoText, HasInnerLength, OldBinaryFault, IsCodeWithScope, KeyedFault, malformed, malformed_at, not_text}
 use Rattle.raw_view.specs.Item.{Item, entry, stopped, ItemsOf, AreItems}
-use Rattle.raw_view.proofs.Numbers.{read_front, unsigned32, unsigned64, signed32, signed64, IsLe32-same}
-use Rattle.raw_view.proofs.Payloads.{IsBytes-take, IsBytes-front, IsBytes-back, IsBytes-drop}
+use Rattle.raw_view.proofs.Numbers.{read_front, unsigned32, unsigned64, signed32, signed64, length_fits, IsLe32-same}
+use Rattle.raw_view.proofs.Payloads.{timestamp_found}
+use Rattle.bson_model.proofs.Bytes.{AreBytes-take, AreBytes-front, AreBytes-back, AreBytes-drop}
 use Rattle.raw_view.proofs.Shapes.{scope_parts}
 use Rattle.raw_view.proofs.DecidedTexts.{utf8_or_not}
 use Rattle.raw_view.proofs.Decided.{string_or_not, document_or_not}
-use Rattle.raw_view.proofs.Walks.{IsBytes-rest, document_has_walk}
+use Rattle.raw_view.proofs.Walks.{AreBytes-rest, document_has_walk}
 
 -- just these bytes are an envelope or not
-envelope_or_not : (b : List ℕ) → IsBytes b → IsEnvelope b ⊎ ¬ IsEnvelope b
+envelope_or_not : (b : List ℕ) → AreBytes b → IsEnvelope b ⊎ ¬ IsEnvelope b
 envelope_or_not b bytes =
     elim (document_or_not b bytes) [
       | inl d ↦ elim (cases_lt d.0 (length b)) [
@@ -54,8 +56,8 @@ text_means kind key p leaf t good bad =
 boolean_means : (key p : List ℕ) → length p ≡ 1 → HasMeaning kind.Boolean key p
 boolean_means key [] l = absurd (omega arith)
 boolean_means key (x ∷ y ∷ p) l = absurd (omega arith)
-boolean_means key (zero ∷ []) l = (value (single (boolean false)), inl (refl, refl))
-boolean_means key (suc zero ∷ []) l = (value (single (boolean true)), inr (refl, refl))
+boolean_means key (zero ∷ []) l = (value (single (boolean false)), (false, refl, refl))
+boolean_means key (suc zero ∷ []) l = (value (single (boolean true)), (true, refl, refl))
 boolean_means key (suc (suc n) ∷ []) l = (faulty (malformed_at key), (suc (suc n), refl, omega arith, refl))
 
 -- the inner length of an old binary counts the rest, or it is a fault
@@ -64,7 +66,8 @@ inner_length key outer (pos n) l h =
     elim (cases_eq (n + 4) (length outer)) [
       | inl e ↦ (
           let size : length (drop 4 outer) ≡ n = omega (arith, length-drop 4 outer) in
-          inl (drop 4 outer, record { head = take 4 outer; length_is = rw size h; spelled = sym (take-append-drop 4 outer) }))
+          let head : take 4 outer ≡ le32 (pos (length (drop 4 outer))) = rw size h.bytes_are in
+          inl (drop 4 outer, record { fits = omega (arith, size, length_fits (take 4 outer) n h); spelled = sym (take-append-drop 4 outer) ∙ ap (λ x. x ++ drop 4 outer) head }))
       | inr d ↦ inr (malformed_at key, inr (inr (pos n, l, h, (λ o. omega (arith, ints, o.0, o.1)), (λ e. d (omega (arith, ints, e))), refl)))
     ]
 inner_length key outer (negsuc n) l h =
@@ -74,7 +77,7 @@ inner_length key outer (negsuc n) l h =
     ]
 
 -- a binary of subtype 2
-old_binary_means : (key p outer : List ℕ) → IsBytes outer → IsBinary p 2 outer → HasMeaning kind.Binary key p
+old_binary_means : (key p outer : List ℕ) → AreBytes outer → IsBinary p 2 outer → HasMeaning kind.Binary key p
 old_binary_means key p outer bytes b =
     elim (cases_lt (length outer) 4) [
       | inl l ↦ (faulty (malformed_at key), (outer, b, inl (l, refl)))
@@ -85,11 +88,11 @@ old_binary_means key p outer bytes b =
     ]
 
 -- any binary
-binary_means : (key p bytes : List ℕ) (subtype : ℕ) → IsBytes p → IsBinary p subtype bytes → HasMeaning kind.Binary key p
+binary_means : (key p bytes : List ℕ) (subtype : ℕ) → AreBytes p → IsBinary p subtype bytes → HasMeaning kind.Binary key p
 binary_means key p bytes subtype all b =
     elim (cases_eq subtype 2) [
       | inl e ↦ (
-          let behind : IsBytes (subtype ∷ bytes) = IsBytes-back b.head (subtype ∷ bytes) (subst IsBytes b.spelled all) in
+          let behind : AreBytes (subtype ∷ bytes) = AreBytes-back (le32 (pos (length bytes))) (subtype ∷ bytes) (subst AreBytes b.spelled all) in
           old_binary_means key p bytes (λ i. behind (suc i)) (subst (λ (x : ℕ). IsBinary p x bytes) e b))
       | inr n ↦ (value (single (binary (subtype_of subtype) bytes)), (subtype, bytes, b, inl (n, refl)))
     ]
@@ -103,7 +106,7 @@ pointer_means key p namespace id d =
     ]
 
 -- a code with scope of at least 14 bytes whose string has been cut off
-code_means : (key p code scope : List ℕ) → 14 ≤ length p → IsBytes scope → IsCodeWithScope p code scope → HasMeaning kind.JavaScriptCodeWithScope key p
+code_means : (key p code scope : List ℕ) → 14 ≤ length p → AreBytes scope → IsCodeWithScope p code scope → HasMeaning kind.JavaScriptCodeWithScope key p
 code_means key p code scope l bytes c =
     elim (utf8_or_not code) [
       | inl u ↦ elim (envelope_or_not scope bytes) [
@@ -114,24 +117,24 @@ code_means key p code scope l bytes c =
     ]
 
 -- any code with scope
-scoped_means : (key p r : List ℕ) → IsBytes p → HasDeclaredLength p r → HasMeaning kind.JavaScriptCodeWithScope key p
+scoped_means : (key p r : List ℕ) → AreBytes p → HasDeclaredLength p r → HasMeaning kind.JavaScriptCodeWithScope key p
 scoped_means key p r bytes d =
     elim (cases_lt (length p) 14) [
       | inl l ↦ (faulty (malformed_at key), inl (l, refl))
       | inr l ↦ (
-          let behind : IsBytes (drop 4 p) = IsBytes-drop 4 p bytes in
+          let behind : AreBytes (drop 4 p) = AreBytes-drop 4 p bytes in
           let four : take 4 (p ++ r) ≡ take 4 p = take-append-le 4 p r (omega arith) in
           let header : IsLe32 (take 4 p) (pos (length p)) = subst (λ (x : List ℕ). IsLe32 x (pos (length p))) four d.header in
           elim (string_or_not (drop 4 p) behind) [
             | inl s ↦ (
                 let cut : drop 4 p ≡ take s.0 (drop 4 p) ++ drop s.0 (drop 4 p) = sym (take-append-drop s.0 (drop 4 p)) in
-                code_means key p s.2.0 (drop s.0 (drop 4 p)) l (IsBytes-drop s.0 (drop 4 p) behind) (scope_parts p (take s.0 (drop 4 p)) (drop s.0 (drop 4 p)) s.2.0 header cut s.2.1))
+                code_means key p s.2.0 (drop s.0 (drop 4 p)) l (AreBytes-drop s.0 (drop 4 p) behind) (scope_parts p (take s.0 (drop 4 p)) (drop s.0 (drop 4 p)) s.2.0 header cut s.2.1))
             | inr none ↦ (faulty malformed, inr (inl (l, none, refl)))
           ])
     ]
 
 -- any payload
-payload_means : (k : ElementType) (key p r : List ℕ) → IsBytes p → HasShape k p r → HasMeaning k key p
+payload_means : (k : ElementType) (key p r : List ℕ) → AreBytes p → HasShape k p r → HasMeaning k key p
 payload_means kind.Double key p r bytes l = (value (single (double _)), (from_le_bytes w64 p, unsigned64 p l bytes, refl))
 payload_means kind.String key p r bytes t = text_means kind.String key p string t (λ text s. (text, s, refl)) (λ n. (n, refl))
 payload_means kind.EmbeddedDocument key p r bytes d = (value (document p), refl)
@@ -149,34 +152,35 @@ payload_means kind.Symbol key p r bytes t = text_means kind.Symbol key p symbol 
 payload_means kind.JavaScriptCodeWithScope key p r bytes d = scoped_means key p r bytes d
 payload_means kind.Int32 key p r bytes l = (value (single (int32 _)), (_, signed32 p _ (unsigned32 p l bytes), refl))
 payload_means kind.Timestamp key p r bytes l =
-    let front = unsigned32 (take 4 p) (length-take-le 4 p (omega arith)) (IsBytes-take 4 p bytes) in
-    let back = unsigned32 (drop 4 p) (omega (arith, length-drop 4 p)) (IsBytes-drop 4 p bytes) in
-    (value (single (timestamp _ _)), (_, _, front, back, refl))
+    let front = unsigned32 (take 4 p) (length-take-le 4 p (omega arith)) (AreBytes-take 4 p bytes) in
+    let back = unsigned32 (drop 4 p) (omega (arith, length-drop 4 p)) (AreBytes-drop 4 p bytes) in
+    let parts = timestamp_found p (take 4 p) (drop 4 p) _ _ (sym (take-append-drop 4 p)) front back in
+    (value (single (timestamp _ _)), (_, _, parts, refl))
 payload_means kind.Int64 key p r bytes l = (value (single (int64 _)), (_, signed64 p _ (unsigned64 p l bytes), refl))
 payload_means kind.Decimal128 key p r bytes l = (value (single (decimal128 p)), refl)
 payload_means kind.MaxKey key p r bytes l = (value (single max_key), refl)
 payload_means kind.MinKey key p r bytes l = (value (single min_key), refl)
 
 -- a frame has a meaning
-pub has_meaning : (f : Frame) (r s : List ℕ) → IsBytes s → IsFrame s f r → (m : Meaning) × Means f m
+pub has_meaning : (f : Frame) (r s : List ℕ) → AreBytes s → IsFrame s f r → (m : Meaning) × Means f m
 has_meaning f r s bytes b =
     let head = tag_of f.kind ∷ (f.key ++ 0 ∷ []) in
     let whole : s ≡ head ++ (f.payload ++ r) = b.spelled ∙ ap (λ x. tag_of f.kind ∷ x) (sym (append_assoc f.key (0 ∷ []) (f.payload ++ r))) in
-    let payload = IsBytes-front f.payload r (IsBytes-back head (f.payload ++ r) (subst IsBytes whole bytes)) in
+    let payload = AreBytes-front f.payload r (AreBytes-back head (f.payload ++ r) (subst AreBytes whole bytes)) in
     payload_means f.kind f.key f.payload r payload b.payload_is
 
 -- what the frames of a walk mean, in order
-items_of : (s : List ℕ) (frames : List Frame) (end : End) → IsBytes s → IsWalk s frames end → (items : List Item) × ItemsOf frames end items
+items_of : (s : List ℕ) (frames : List Frame) (end : End) → AreBytes s → IsWalk s frames end → (items : List Item) × ItemsOf frames end items
 items_of s [] Done bytes w = ([], refl)
 items_of s [] (Stopped fault key) bytes w = (stopped (record { fault = fault; key = key }) ∷ [], refl)
 items_of s (f ∷ frames) end bytes w =
     let m = has_meaning f w.0 s bytes w.1 in
-    let rest = items_of w.0 frames end (IsBytes-rest s f w.0 w.1 bytes) w.2 in
+    let rest = items_of w.0 frames end (AreBytes-rest s f w.0 w.1 bytes) w.2 in
     (entry f.key m.0 ∷ rest.0, (m.0, rest.0, m.1, refl, rest.1))
 
 -- a document has items
 pub has_items : (b : List ℕ) → IsEnvelope b → (items : List Item) × AreItems b items
 has_items b d =
     let w = document_has_walk b d in
-    let items = items_of (drop 4 b) w.0 w.1 (IsBytes-drop 4 b d.bytes) w.2 in
+    let items = items_of (drop 4 b) w.0 w.1 (AreBytes-drop 4 b d.bytes) w.2 in
     (items.0, (w.0, w.1, w.2, items.1))

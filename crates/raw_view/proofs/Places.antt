@@ -10,7 +10,7 @@ use Rattle.raw_view.specs.Frame.{Frame, IsFrame, LeadsTo, Fault, IsStop, EndsIn,
 use Rattle.raw_view.specs.Meaning.{Meaning, Means, faulty, KeyedFault}
 use Rattle.raw_view.specs.ElementSteps.{frame_of}
 use Rattle.raw_view.specs.Front.{StepsFront, StopsWith, SaysFault, TellsBorrowed}
-use Rattle.raw_view.specs.LookUp.{MeansAt, EndsAt}
+use Rattle.raw_view.specs.LookUp.{IsAny, Finds, FindsNothing}
 
 abbrev Step : Type 0
 Step = Result RawElement BorrowedError
@@ -48,20 +48,21 @@ passed_of s (Err b ∷ xs) t y =
 
 -- where a look-up from s by position arrives
 abbrev pub Arrives : List ℕ → ℕ → Option Meaning → Type 0
-Arrives start index found = (passed : List Frame) × (s : List ℕ) × LeadsTo start passed s × (((length passed ≡ index) × MeansAt s found) ⊎ EndsAt s (length passed) index found)
+Arrives start index found = (passed : List Frame) × (s : List ℕ) × LeadsTo start passed s × (((length passed ≡ index) × Finds IsAny s found) ⊎ ((length passed < index) × FindsNothing s found))
 
 le_cases : (m n : ℕ) → m ≤ n → (m ≡ n) ⊎ (m < n)
 le_cases m n h = grind arith
 
--- past the last item
-none_at : (count index : ℕ) → count ≤ index → ((count ≡ index) × ◌≡◌ {A = Option Meaning} None None) ⊎ ((count < index) × ◌≡◌ {A = Option Meaning} None None)
-none_at count index h = elim (le_cases count index h) [ inl a ↦ inl (a, refl) | inr b ↦ inr (b, refl) ]
-
+-- at the final 0
 at_none : (s q : List ℕ) (index : ℕ) (fs : List Frame) → LeadsTo s fs q → q ≡ 0 ∷ [] → length fs ≤ index → Arrives s index None
-at_none s q index fs l e h = (fs, q, l, inr (Done, e, none_at (length fs) index h))
+at_none s q index fs l e h =
+    elim (le_cases (length fs) index h) [
+      | inl here ↦ (fs, q, l, inl (here, inr (Done, e, refl)))
+      | inr past ↦ (fs, q, l, inr (past, (Done, e, refl)))
+    ]
 
 none_from : (s : List ℕ) (xs : List Step) (t : Option (List ℕ)) (index : ℕ) (u : Option (List ℕ)) → Passed s xs t → StepsFront t None u → length xs ≤ index → Arrives s index None
-none_from s xs None index u p st l = (p.0, p.1, p.3, inr (p.2, p.4, inr (omega (arith, p.5), refl)))
+none_from s xs None index u p st l = (p.0, p.1, p.3, inr (omega (arith, p.5), (p.2, p.4, refl)))
 none_from s xs (Some q) index u p st l = at_none s q index p.0 p.1 st.0 (omega (arith, p.2))
 
 pub nth_none : (s : List ℕ) (index : ℕ) (u : Option (List ℕ)) → SkipsThenYields StepsFront (Some s) index None u → Arrives s index None
@@ -69,7 +70,7 @@ nth_none s index u h = none_from s h.0 h.1.0 index u (passed_of s h.0 h.1.0 h.1.
 
 element_from : (s : List ℕ) (xs : List Step) (t : Option (List ℕ)) (index : ℕ) (e : RawElement) (u : Option (List ℕ)) → Passed s xs t → StepsFront t (Some (Ok e)) u → length xs ≡ index → (m : Meaning) → Means (frame_of e) m → Arrives s index (Some m)
 element_from s xs None index e u p st l m means = let bad : ◌≡◌ {A = Option Step} (Some (Ok e)) None = st.0 in cc
-element_from s xs (Some q) index e u p st l m means = (p.0, q, p.1, inl (sym p.2 ∙ l, (frame_of e, st.0, m, st.1, means, refl)))
+element_from s xs (Some q) index e u p st l m means = (p.0, q, p.1, inl (sym p.2 ∙ l, inl (frame_of e, st.0, m, st.1, tt, means, refl)))
 
 -- the element of that number
 pub nth_element : (s : List ℕ) (index : ℕ) (e : RawElement) (u : Option (List ℕ)) → SkipsThenYields StepsFront (Some s) index (Some (Ok e)) u → (m : Meaning) → Means (frame_of e) m → Arrives s index (Some m)
@@ -79,7 +80,7 @@ stop_from : (s : List ℕ) (xs : List Step) (t : Option (List ℕ)) (index : ℕ
 stop_from s xs None index b u p st l = let bad : ◌≡◌ {A = Option Step} (Some (Err b)) None = st.0 in cc
 stop_from s xs (Some q) index b u p st l =
     let said = stop_said b.kind (option_copied b.key) q st.0 in
-    (record { fault = said.0; key = option_copied b.key }, record { says = said.1; key_is = refl }, (p.0, q, p.1, inr (Stopped said.0 (option_copied b.key), said.2, inl (sym p.2 ∙ l, refl))))
+    (record { fault = said.0; key = option_copied b.key }, record { says = said.1; key_is = refl }, (p.0, q, p.1, inl (sym p.2 ∙ l, inr (Stopped said.0 (option_copied b.key), said.2, refl))))
 
 -- the stop, if it has that number
 pub nth_stop : (s : List ℕ) (index : ℕ) (b : BorrowedError) (u : Option (List ℕ)) → SkipsThenYields StepsFront (Some s) index (Some (Err b)) u → (fault : KeyedFault) × TellsBorrowed b fault × Arrives s index (Some (faulty fault))

@@ -9,18 +9,20 @@ use Rattle.std.proofs.lemmas.Grind.{common_steps}
 use Rattle.std.proofs.lemmas.List.{append-nil, take_all, take_at, take-append-le, take-append-drop}
 use Rattle.bson_model.specs.Subtype.{subtype_of}
 use Rattle.bson_model.specs.declared.binaries.BinarySubtype.TheVariants.{BinaryOld}
-use Rattle.raw_view.specs.Number.{IsLe32}
+use Rattle.raw_view.specs.Number.{le32, IsLe32}
 use Rattle.raw_view.specs.Envelope.{IsEnvelope}
+use Rattle.raw_view.specs.Format.{string_payload}
 use Rattle.raw_view.specs.declared.error.ErrorKind.{ErrorKind}
 use Rattle.raw_view.specs.declared.element_type.ElementType.TheVariants as kind
-use Rattle.raw_view.specs.Frame.{HasNoNul, HasText, IsString, IsBinary, IsDbPointer, HasPayload, Malformed}
+use Rattle.bson_model.specs.Bytes.{NulFree}
+use Rattle.raw_view.specs.Frame.{HasText, IsString, IsBinary, IsDbPointer, HasPayload, Malformed}
 use Rattle.raw_view.specs.declared.error.ErrorKind.TheVariants as what
 use Rattle.raw_view.specs.declared.error.Reason.{Reason}
 use Rattle.raw_view.specs.Errors.{IsMalformed}
 use Rattle.raw_view.specs.Meaning.{SpellsNoText, IsCodeWithScope}
 use Rattle.raw_view.specs.Front.{IsTextFault, SaysFault}
-use Rattle.raw_view.proofs.Payloads.{string_found, string_front, string_length, binary_found, pointer_found}
-use Rattle.raw_view.proofs.Numbers.{IsLe32-length}
+use Rattle.raw_view.proofs.Payloads.{counted_whole, string_is, string_found, string_front, string_length, binary_found, pointer_found}
+use Rattle.raw_view.proofs.Numbers.{le32_of, length_fits}
 use Rattle.raw_view.proofs.Cuts.{cut}
 use Rattle.raw_view.proofs.Texts.{pattern_fault_no_regex, options_fault_no_regex, options_of}
 
@@ -52,18 +54,16 @@ text_had p h =
 -- the text of a string is what stands between its length and its last byte
 pub string_cut : (p text : List ℕ) → IsString p text → take (length p - 1 - 4) (drop 4 p) ≡ text
 string_cut p text s =
-    let four : length s.head ≡ 4 = IsLe32-length s.head _ s.length_is in
     let n : length p - 1 - 4 ≡ length text = omega (arith, string_length p text s) in
-    let behind : drop 4 p ≡ text ++ 0 ∷ [] = rw (s.spelled, append_assoc, ← four) (drop-append_seam s.head (text ++ 0 ∷ [])) in
+    let behind : drop 4 p ≡ text ++ 0 ∷ [] = ap (drop 4) s.spelled in
     rw (n, behind) (take-append_seam text (0 ∷ []))
 
 pub binary_header : (p : List ℕ) (subtype : ℕ) (bytes : List ℕ) → IsBinary p subtype bytes → (5 ≤ length p) × IsLe32 (take 4 p) (pos (length p - 5))
 binary_header p subtype bytes b =
-    let four : length b.head ≡ 4 = IsLe32-length b.head _ b.length_is in
-    let size : length p ≡ length bytes + 5 = omega (arith, ap length b.spelled, length-append b.head (subtype ∷ bytes)) in
-    let front : take 4 p ≡ b.head = ap (take 4) b.spelled ∙ take_at b.head (subtype ∷ bytes) 4 four in
+    let size : length p ≡ length bytes + 5 = omega (arith, ap length b.spelled) in
+    let front : take 4 p ≡ le32 (pos (length bytes)) = ap (take 4) b.spelled in
     let n : length p - 5 ≡ length bytes = omega arith in
-    (omega arith, rw (front, n) b.length_is)
+    (omega arith, rw (front, n) (le32_of (length bytes) b.fits))
 
 pub binary_had : (p : List ℕ) → ∥ HasPayload kind.Binary p ∥₁ → (subtype : ℕ) × (bytes : List ℕ) × IsBinary p subtype bytes
 binary_had p h =
@@ -74,20 +74,20 @@ binary_had p h =
 
 pointer_text : (p namespace id : List ℕ) → IsDbPointer p namespace id → HasText (take (length p - 12) p)
 pointer_text p namespace id d =
-    let n : length d.string ≡ length p - 12 = omega (arith, ap length d.spelled, length-append d.string id, d.id_len) in
-    let front : take (length p - 12) p ≡ d.string = ap (take (length p - 12)) d.spelled ∙ take_at d.string id _ n in
-    (namespace, rw front d.string_is)
+    let string : List ℕ = string_payload namespace in
+    let n : length string ≡ length p - 12 = omega (arith, ap length d.spelled, length-append string id, d.id_len) in
+    let front : take (length p - 12) p ≡ string = ap (take (length p - 12)) d.spelled ∙ take_at string id _ n in
+    (namespace, rw front (string_is namespace d.fits))
 
 pub pointer_len : (p namespace id : List ℕ) → IsDbPointer p namespace id → 12 ≤ length p
-pointer_len p namespace id d = omega (arith, ap length d.spelled, length-append d.string id, d.id_len)
+pointer_len p namespace id d = omega (arith, ap length d.spelled, length-append (string_payload namespace) id, d.id_len)
 
 -- the subtype and the bytes of a binary are what stands behind its length
 pub binary_cut : (p : List ℕ) (subtype : ℕ) (bytes : List ℕ) → IsBinary p subtype bytes → IsBinary p (get_or p 4 0) (take (length p - 5) (drop 5 p))
 binary_cut p subtype bytes b =
-    let four : length b.head ≡ 4 = IsLe32-length b.head _ b.length_is in
-    let n : length p - 5 ≡ length bytes = omega (arith, ap length b.spelled, length-append b.head (subtype ∷ bytes)) in
-    let at : get_or p 4 0 ≡ subtype = rw (b.spelled, ← four) (get_or-append_seam b.head subtype bytes 0) in
-    let behind : drop 5 p ≡ bytes = rw b.spelled (rw four at (drop-append-add b.head (subtype ∷ bytes) 1)) in
+    let n : length p - 5 ≡ length bytes = omega (arith, ap length b.spelled) in
+    let at : get_or p 4 0 ≡ subtype = ap (λ (x : List ℕ). get_or x 4 0) b.spelled in
+    let behind : drop 5 p ≡ bytes = ap (drop 5) b.spelled in
     rw (at, n, behind, take-length bytes) b
 
 -- 2 is the byte of an old binary, and no other is
@@ -127,26 +127,23 @@ decimal128_had p h = ∥∥₁_elim h (hlevel props) (λ t. t.1)
 pub no_pattern_fault : (p : List ℕ) (fault : ErrorKind) → ∥ HasPayload kind.RegularExpression p ∥₁ → IsTextFault p fault → ⊥
 no_pattern_fault p fault h f = ∥∥₁_elim h (hlevel props) (λ t. pattern_fault_no_regex p fault f p [] (whole p) t.1)
 
-pub no_options_fault : (p text behind : List ℕ) (fault : ErrorKind) → ∥ HasPayload kind.RegularExpression p ∥₁ → p ≡ text ++ 0 ∷ behind → HasNoNul text → IsTextFault behind fault → ⊥
+pub no_options_fault : (p text behind : List ℕ) (fault : ErrorKind) → ∥ HasPayload kind.RegularExpression p ∥₁ → p ≡ text ++ 0 ∷ behind → NulFree text → IsTextFault behind fault → ⊥
 no_options_fault p text behind fault h e nul_free f = ∥∥₁_elim h (hlevel props) (λ t. options_fault_no_regex p text behind fault e nul_free f p [] (whole p) t.1)
 
 -- and nothing behind them
-pub regex_ends : (p text behind options z : List ℕ) → ∥ HasPayload kind.RegularExpression p ∥₁ → p ≡ text ++ 0 ∷ behind → HasNoNul text → behind ≡ options ++ 0 ∷ z → HasNoNul options → z ≡ []
+pub regex_ends : (p text behind options z : List ℕ) → ∥ HasPayload kind.RegularExpression p ∥₁ → p ≡ text ++ 0 ∷ behind → NulFree text → behind ≡ options ++ 0 ∷ z → NulFree options → z ≡ []
 regex_ends p text behind options z h e nul_free d k =
     ∥∥₁_elim h (hlevel props) (λ t. (cut options t.1.1 z [] k t.1.2.options_nul_free (sym d ∙ options_of p text behind p [] e nul_free (whole p) t.1)).1)
 
 -- the parts of values
 
 pub pointer_no_text : (p string id : List ℕ) → p ≡ string ++ id → length id ≡ 12 → SpellsNoText string → (namespace id : List ℕ) × IsDbPointer p namespace id × ¬ IsUtf8 namespace
-pointer_no_text p string id e l t = (t.0, id, record { string = string; string_is = t.1; id_len = l; spelled = e }, t.2)
+pointer_no_text p string id e l t = (t.0, id, record { fits = t.1.fits; id_len = l; spelled = e ∙ ap (λ x. x ++ id) t.1.spelled }, t.2)
 
 pub scope_parts : (p string scope code : List ℕ) → IsLe32 (take 4 p) (pos (length p)) → drop 4 p ≡ string ++ scope → IsString string code → IsCodeWithScope p code scope
 scope_parts p string scope code h e s = record {
-  head = take 4 p;
-  string = string;
-  length_is = h;
-  string_is = s;
-  spelled = sym (take-append-drop 4 p) ∙ ap (λ x. take 4 p ++ x) e;
+  fits = length_fits (take 4 p) (length p) h;
+  spelled = counted_whole p (string_payload code ++ scope) h (e ∙ ap (λ x. x ++ scope) s.spelled);
 }
 
 pub says_malformed : (P : Reason → Type 0) (k : ErrorKind) → IsMalformed k P → SaysFault k Malformed

@@ -6,20 +6,22 @@ use Rattle.raw_view.specs.declared.error.ErrorKind.{ErrorKind}
 use Rattle.raw_view.specs.declared.error.ErrorKind.TheVariants as what
 use Rattle.raw_view.specs.Kind.{tag_of}
 use Rattle.raw_view.specs.declared.element_type.ElementType.TheVariants as kind
-use Rattle.raw_view.specs.Frame.{HasNoNul, IsRegex, BeginsWithBadText, HasBadRegexText}
+use Rattle.bson_model.specs.Bytes.{NulFree}
+use Rattle.raw_view.specs.Frame.{IsRegex, BeginsWithBadText, HasBadRegexText}
 use Rattle.raw_view.specs.Front.{IsTextFault, IsPayloadFault}
+use Rattle.bson_model.proofs.Bytes.{NulFree-head, NulFree-tail}
 use Rattle.raw_view.proofs.Cuts.{cut}
 
 -- a list with a 0 in it
-pub has_nul : (x w : List ℕ) → HasNoNul (x ++ 0 ∷ w) → ⊥
-has_nul [] w h = h.0 refl
-has_nul (b ∷ x) w h = has_nul x w h.1
+pub has_nul : (x w : List ℕ) → NulFree (x ++ 0 ∷ w) → ⊥
+has_nul [] w h = NulFree-head 0 w h refl
+has_nul (b ∷ x) w h = has_nul x w (NulFree-tail b (x ++ 0 ∷ w) h)
 
-pub no_nul_in : (z x w : List ℕ) → z ≡ x ++ 0 ∷ w → HasNoNul z → ⊥
-no_nul_in z x w e h = has_nul x w (subst HasNoNul e h)
+pub no_nul_in : (z x w : List ℕ) → z ≡ x ++ 0 ∷ w → NulFree z → ⊥
+no_nul_in z x w e h = has_nul x w (subst NulFree e h)
 
 -- bytes that begin with a text don't begin with bytes that are none
-pub good_text : (z x w : List ℕ) → z ≡ x ++ 0 ∷ w → HasNoNul x → IsUtf8 x → BeginsWithBadText z → ⊥
+pub good_text : (z x w : List ℕ) → z ≡ x ++ 0 ∷ w → NulFree x → IsUtf8 x → BeginsWithBadText z → ⊥
 good_text z x w e h u bad =
     let same = cut x bad.0 w bad.1 h bad.3 (sym e ∙ bad.2) in
     bad.4 (subst IsUtf8 same.0 u)
@@ -34,16 +36,16 @@ pattern_fault_no_regex bs (what.Utf8EncodingError error) h p r e x = good_text b
 pattern_fault_no_regex bs what.OutOfMemory h p r e x = h
 
 -- the options' part of a regular expression at the front
-pub options_of : (bs text behind p r : List ℕ) → bs ≡ text ++ 0 ∷ behind → HasNoNul text → bs ≡ p ++ r → (x : (pattern options : List ℕ) × IsRegex p pattern options) → behind ≡ x.1 ++ 0 ∷ r
+pub options_of : (bs text behind p r : List ℕ) → bs ≡ text ++ 0 ∷ behind → NulFree text → bs ≡ p ++ r → (x : (pattern options : List ℕ) × IsRegex p pattern options) → behind ≡ x.1 ++ 0 ∷ r
 options_of bs text behind p r spelled nul_free e x = (cut text x.0 behind (x.1 ++ 0 ∷ r) nul_free x.2.pattern_nul_free (sym spelled ∙ regex_front bs p r x.0 x.1 e x.2)).1
 
-pub options_fault_no_regex : (bs text behind : List ℕ) (fault : ErrorKind) → bs ≡ text ++ 0 ∷ behind → HasNoNul text → IsTextFault behind fault → (p r : List ℕ) → bs ≡ p ++ r → (pattern options : List ℕ) × IsRegex p pattern options → ⊥
+pub options_fault_no_regex : (bs text behind : List ℕ) (fault : ErrorKind) → bs ≡ text ++ 0 ∷ behind → NulFree text → IsTextFault behind fault → (p r : List ℕ) → bs ≡ p ++ r → (pattern options : List ℕ) × IsRegex p pattern options → ⊥
 options_fault_no_regex bs text behind (what.MalformedValue reason) spelled nul_free h p r e x = no_nul_in behind x.1 r (options_of bs text behind p r spelled nul_free e x) h
 options_fault_no_regex bs text behind (what.Utf8EncodingError error) spelled nul_free h p r e x = good_text behind x.1 r (options_of bs text behind p r spelled nul_free e x) x.2.options_nul_free x.2.options_text h
 options_fault_no_regex bs text behind what.OutOfMemory spelled nul_free h p r e x = h
 
 -- the kind of the fault
-pub no_bad_regex : (bs : List ℕ) → HasNoNul bs → HasBadRegexText bs → ⊥
+pub no_bad_regex : (bs : List ℕ) → NulFree bs → HasBadRegexText bs → ⊥
 no_bad_regex bs h bad = elim bad [ inl b ↦ no_nul_in bs b.0 b.1 b.2 h | inr b ↦ no_nul_in bs b.0 b.1 b.2 h ]
 
 pub pattern_fault : (bs : List ℕ) (fault : ErrorKind) → IsTextFault bs fault → IsPayloadFault (tag_of kind.RegularExpression) bs fault
@@ -51,20 +53,20 @@ pattern_fault bs (what.MalformedValue reason) h = λ bad. no_bad_regex bs h bad.
 pattern_fault bs (what.Utf8EncodingError error) h = (refl, inl h)
 pattern_fault bs what.OutOfMemory h = h
 
-no_bad_options : (bs text behind : List ℕ) → bs ≡ text ++ 0 ∷ behind → HasNoNul text → IsUtf8 text → HasNoNul behind → HasBadRegexText bs → ⊥
+no_bad_options : (bs text behind : List ℕ) → bs ≡ text ++ 0 ∷ behind → NulFree text → IsUtf8 text → NulFree behind → HasBadRegexText bs → ⊥
 no_bad_options bs text behind e nul_free u h bad =
     elim bad [
       | inl b ↦ good_text bs text behind e nul_free u b
       | inr b ↦ let same = (cut text b.0 behind b.1 nul_free b.3 (sym e ∙ b.2)).1 in no_nul_in behind b.5.0 b.5.1 (same ∙ b.5.2) h
     ]
 
-pub options_fault : (bs text behind : List ℕ) (fault : ErrorKind) → bs ≡ text ++ 0 ∷ behind → HasNoNul text → IsUtf8 text → IsTextFault behind fault → IsPayloadFault (tag_of kind.RegularExpression) bs fault
+pub options_fault : (bs text behind : List ℕ) (fault : ErrorKind) → bs ≡ text ++ 0 ∷ behind → NulFree text → IsUtf8 text → IsTextFault behind fault → IsPayloadFault (tag_of kind.RegularExpression) bs fault
 options_fault bs text behind (what.MalformedValue reason) e nul_free u h = λ bad. no_bad_options bs text behind e nul_free u h bad.1
 options_fault bs text behind (what.Utf8EncodingError error) e nul_free u h = (refl, inr (text, behind, e, nul_free, u, h))
 options_fault bs text behind what.OutOfMemory e nul_free u h = h
 
 -- two texts, each with its 0, are a regular expression
-pub regex_found : (bs x w y v : List ℕ) → bs ≡ x ++ 0 ∷ w → w ≡ y ++ 0 ∷ v → HasNoNul x → IsUtf8 x → HasNoNul y → IsUtf8 y → (pattern options : List ℕ) × IsRegex (take (length bs - length v) bs) pattern options
+pub regex_found : (bs x w y v : List ℕ) → bs ≡ x ++ 0 ∷ w → w ≡ y ++ 0 ∷ v → NulFree x → IsUtf8 x → NulFree y → IsUtf8 y → (pattern options : List ℕ) × IsRegex (take (length bs - length v) bs) pattern options
 regex_found bs x w y v e d h u k t =
     let whole : bs ≡ (x ++ 0 ∷ (y ++ 0 ∷ [])) ++ v = e ∙ ap (λ z. x ++ 0 ∷ z) (d ∙ sym (append_assoc y (0 ∷ []) v)) ∙ sym (append_assoc x (0 ∷ (y ++ 0 ∷ [])) v) in
     let size : length (x ++ 0 ∷ (y ++ 0 ∷ [])) ≡ length bs - length v = omega (arith, ap length whole, length-append (x ++ 0 ∷ (y ++ 0 ∷ [])) v) in

@@ -1,9 +1,9 @@
 -- The items of a document are determined, and what a look-up finds there.
-use Rattle.std.proofs.Common.{◌≡◌, ◌≢◌, ◌⊎◌, inl, inr, ℕ, suc, List, [], ◌∷◌, ◌+◌, ◌≤◌, length, drop, ap, sym, ◌∙◌, subst, arith, Option, Some}
+use Rattle.std.proofs.Common.{◌≡◌, ◌≢◌, ◌⊎◌, inl, inr, ℕ, suc, List, [], ◌∷◌, ◌+◌, ◌<◌, ◌≤◌, length, drop, ap, sym, ◌∙◌, subst, arith, Option, Some}
 use Rattle.raw_view.specs.Frame.{Frame, IsFrame, End, Done, Stopped, LeadsTo}
 use Rattle.raw_view.specs.Meaning.{Meaning, Means}
 use Rattle.raw_view.specs.Item.{Item, ItemsOf, AreItems}
-use Rattle.raw_view.specs.LookUp.{HasNoKey, found_at_end, FindsFrame, FindsEnd, LooksUp, EndsAt, MeansAt, IsAt}
+use Rattle.raw_view.specs.LookUp.{FindsFrame, found_at_end, Finds, FindsNothing, HasThisKey, HasNoKey, LooksUp, IsAny, IsAt}
 use Rattle.raw_view.specs.OneReading.{AreTheItems, IsTheAnswer, IsTheAnswerAt}
 use Rattle.raw_view.proofs.Unique.{one_frame, one_end, one_walk, no_frame_at_end}
 use Rattle.raw_view.proofs.UniqueMeanings.{one_meaning}
@@ -25,34 +25,32 @@ one_items b xs ys x y =
     let walks = one_walk (drop 4 b) x.0 y.0 x.1 y.1 x.2 y.2 in
     items_same x.0 x.1 xs ys x.3 (rw (walks.0, walks.1) y.3)
 
--- look-ups by key
-
--- what a look-up finds at s, where it goes no further
-abbrev Finds : List ℕ → List ℕ → Option Meaning → Type 0
-Finds s key found = FindsFrame s key found ⊎ FindsEnd s found
+-- look-ups
 
 -- what the frame means is one
-frame_found : (s key : List ℕ) (a c : Option Meaning) → FindsFrame s key a → FindsFrame s key c → a ≡ c
-frame_found s key a c x y =
+frame_found : (P : Frame → Type 0) (s : List ℕ) (a c : Option Meaning) → FindsFrame P s a → FindsFrame P s c → a ≡ c
+frame_found P s a c x y =
     let frames = one_frame s x.0 y.0 x.1 y.1 x.3 y.3 in
     let meanings = one_meaning x.0 x.2 y.2 x.5 (subst (λ (f : Frame). Means f y.2) (sym frames.0) y.5) in
     x.6 ∙ ap Some meanings ∙ sym y.6
 
 -- a look-up finds one thing where it goes no further
-found_here : (s key : List ℕ) (a c : Option Meaning) → Finds s key a → Finds s key c → a ≡ c
-found_here s key a c (inl x) (inl y) = frame_found s key a c x y
-found_here s key a c (inl x) (inr y) = absurd (no_frame_at_end s y.0 y.1 x.0 x.1 x.3)
-found_here s key a c (inr x) (inl y) = absurd (no_frame_at_end s x.0 x.1 y.0 y.1 y.3)
-found_here s key a c (inr x) (inr y) = x.2 ∙ ap found_at_end (one_end s x.0 y.0 x.1 y.1) ∙ sym y.2
+found_here : (P : Frame → Type 0) (s : List ℕ) (a c : Option Meaning) → Finds P s a → Finds P s c → a ≡ c
+found_here P s a c (inl x) (inl y) = frame_found P s a c x y
+found_here P s a c (inl x) (inr y) = absurd (no_frame_at_end s y.0 y.1 x.0 x.1 x.3)
+found_here P s a c (inr x) (inl y) = absurd (no_frame_at_end s x.0 x.1 y.0 y.1 y.3)
+found_here P s a c (inr x) (inr y) = x.2 ∙ ap found_at_end (one_end s x.0 y.0 x.1 y.1) ∙ sym y.2
+
+-- by key
 
 -- it goes no further at a frame with the key, and at the end
-not_passed : (s key : List ℕ) (found : Option Meaning) (f : Frame) (r : List ℕ) → Finds s key found → IsFrame s f r → f.key ≢ key → ⊥
+not_passed : (s key : List ℕ) (found : Option Meaning) (f : Frame) (r : List ℕ) → Finds (HasThisKey key) s found → IsFrame s f r → f.key ≢ key → ⊥
 not_passed s key found f r (inl x) b other = other (ap (λ (g : Frame). g.key) (one_frame s f x.0 r x.1 b x.3).0 ∙ x.4)
 not_passed s key found f r (inr x) b other = no_frame_at_end s x.0 x.1 f r b
 
 -- two look-ups from s find one thing
-one_found : (s key : List ℕ) (fs gs : List Frame) (r q : List ℕ) (a c : Option Meaning) → LeadsTo s fs r → LeadsTo s gs q → HasNoKey key fs → HasNoKey key gs → Finds r key a → Finds q key c → a ≡ c
-one_found s key [] [] r q a c x y m n h k = found_here s key a c (rw x h) (rw y k)
+one_found : (s key : List ℕ) (fs gs : List Frame) (r q : List ℕ) (a c : Option Meaning) → LeadsTo s fs r → LeadsTo s gs q → HasNoKey key fs → HasNoKey key gs → Finds (HasThisKey key) r a → Finds (HasThisKey key) q c → a ≡ c
+one_found s key [] [] r q a c x y m n h k = found_here (HasThisKey key) s a c (rw x h) (rw y k)
 one_found s key [] (g ∷ gs) r q a c x y m n h k = absurd (not_passed s key a g y.0 (rw x h) y.1 n.0)
 one_found s key (f ∷ fs) [] r q a c x y m n h k = absurd (not_passed s key c f x.0 (rw y k) x.1 m.0)
 one_found s key (f ∷ fs) (g ∷ gs) r q a c x y m n h k =
@@ -63,49 +61,28 @@ one_found s key (f ∷ fs) (g ∷ gs) r q a c x y m n h k =
 pub one_look_up : (b key : List ℕ) (a c : Option Meaning) → LooksUp b key a → LooksUp b key c → a ≡ c
 one_look_up b key a c x y = one_found (drop 4 b) key x.0 y.0 x.1 y.1 a c x.2 y.2 x.3 y.3 x.4 y.4
 
--- look-ups by position
+-- by position
 
 -- what is found at s behind so many frames
 abbrev FindsAt : List ℕ → ℕ → ℕ → Option Meaning → Type 0
-FindsAt s count index found = ((count ≡ index) × MeansAt s found) ⊎ EndsAt s count index found
-
--- what the frame means is one
-meant_here : (s : List ℕ) (a c : Option Meaning) → MeansAt s a → MeansAt s c → a ≡ c
-meant_here s a c x y =
-    let frames = one_frame s x.0 y.0 x.1 y.1 x.3 y.3 in
-    let meanings = one_meaning x.0 x.2 y.2 x.4 (subst (λ (f : Frame). Means f y.2) (sym frames.0) y.4) in
-    x.5 ∙ ap Some meanings ∙ sym y.5
-
--- the stop is one, or nothing comes behind it
-ended_here : (s : List ℕ) (count index : ℕ) (a c : Option Meaning) → EndsAt s count index a → EndsAt s count index c → a ≡ c
-ended_here s count index a c x y =
-    elim x.2 [
-      | inl here ↦ elim y.2 [
-        | inl there ↦ here.1 ∙ ap found_at_end (one_end s x.0 y.0 x.1 y.1) ∙ sym there.1
-        | inr past ↦ absurd (omega (arith, here.0, past.0))
-      ]
-      | inr gone ↦ elim y.2 [
-        | inl there ↦ absurd (omega (arith, gone.0, there.0))
-        | inr past ↦ gone.1 ∙ sym past.1
-      ]
-    ]
+FindsAt s count index found = ((count ≡ index) × Finds IsAny s found) ⊎ ((count < index) × FindsNothing s found)
 
 -- behind so many frames one thing is found
 found_at_here : (s : List ℕ) (count index : ℕ) (a c : Option Meaning) → FindsAt s count index a → FindsAt s count index c → a ≡ c
-found_at_here s count index a c (inl x) (inl y) = meant_here s a c x.1 y.1
-found_at_here s count index a c (inl x) (inr y) = absurd (no_frame_at_end s y.0 y.1 x.1.0 x.1.1 x.1.3)
-found_at_here s count index a c (inr x) (inl y) = absurd (no_frame_at_end s x.0 x.1 y.1.0 y.1.1 y.1.3)
-found_at_here s count index a c (inr x) (inr y) = ended_here s count index a c x y
+found_at_here s count index a c (inl x) (inl y) = found_here IsAny s a c x.1 y.1
+found_at_here s count index a c (inl x) (inr y) = absurd (omega (arith, x.0, y.0))
+found_at_here s count index a c (inr x) (inl y) = absurd (omega (arith, x.0, y.0))
+found_at_here s count index a c (inr x) (inr y) = x.1.2 ∙ sym y.1.2
 
 -- at a frame, the position has been reached
 reached : (s : List ℕ) (count index : ℕ) (found : Option Meaning) (f : Frame) (r : List ℕ) → FindsAt s count index found → IsFrame s f r → index ≤ count
 reached s count index found f r (inl x) b = omega (arith, x.0)
-reached s count index found f r (inr x) b = absurd (no_frame_at_end s x.0 x.1 f r b)
+reached s count index found f r (inr x) b = absurd (no_frame_at_end s x.1.0 x.1.1 f r b)
 
 -- no more frames are passed than the position says
 within : (s : List ℕ) (count index : ℕ) (found : Option Meaning) → FindsAt s count index found → count ≤ index
 within s count index found (inl x) = omega (arith, x.0)
-within s count index found (inr x) = elim x.2 [ inl here ↦ omega (arith, here.0) | inr past ↦ omega (arith, past.0) ]
+within s count index found (inr x) = omega (arith, x.0)
 
 -- two look-ups from s, behind so many frames, find one thing
 one_found_at : (s : List ℕ) (n index : ℕ) (fs gs : List Frame) (r q : List ℕ) (a c : Option Meaning) → LeadsTo s fs r → LeadsTo s gs q → FindsAt r (n + length fs) index a → FindsAt q (n + length gs) index c → a ≡ c

@@ -1,20 +1,20 @@
 -- Meanings are determined: a frame has one at most. That its payload was framed, or is bytes, is not needed.
-use Rattle.std.proofs.Common.{◌≡◌, inl, inr, ℕ, pos, List, [], ◌∷◌, ◌++◌, ◌+◌, ◌≤◌, length, take, drop, ap, sym, ◌∙◌, subst, arith, length-append}
+use Rattle.std.proofs.Common.{◌≡◌, inl, inr, ◌<◌, ℕ, pos, Bool, true, false, List, [], ◌∷◌, ◌+◌, ◌≤◌, length, take, drop, ap, sym, ◌∙◌, subst, arith, length-append}
 use Rattle.std.specs.Str.{IsUtf8}
 use Rattle.std.proofs.lemmas.Int.{ints}
-use Rattle.std.proofs.lemmas.List.{drop_at}
-use Rattle.bson_model.specs.Leaf.{double, string, binary, date_time, javascript_code, symbol, int32, int64}
+use Rattle.bson_model.specs.Leaf.{double, string, binary, boolean, date_time, javascript_code, symbol, int32, int64}
 use Rattle.bson_model.specs.declared.binaries.BinarySubtype.TheVariants.{BinaryOld}
 use Rattle.raw_view.specs.Number.{IsLe32}
 use Rattle.raw_view.specs.Envelope.{IsEnvelope}
+use Rattle.raw_view.specs.Format.{string_payload, boolean_payload}
 use Rattle.raw_view.specs.declared.element_type.ElementType.{ElementType}
 use Rattle.raw_view.specs.declared.element_type.ElementType.TheVariants as kind
 use Rattle.raw_view.specs.Frame.{Frame}
 use Rattle.raw_view.specs.Meaning.{RawValue, single, Meaning, value, faulty, Means, MeansValue, MeansFault, SpellsText, SpellsNoText, HasInnerLength, IsBinaryValue, Overflows, OldBinaryFault, IsCodeWithScope, HasNoCode, ScopeFault, KeyedFault}
 use Rattle.raw_view.specs.OneReading.{IsTheMeaning}
-use Rattle.raw_view.proofs.Numbers.{IsLe32-same, IsLe64-same, IsUnsigned32-same, IsUnsigned64-same, IsLe32-length, take_head}
-use Rattle.raw_view.proofs.Payloads.{string_length}
-use Rattle.raw_view.proofs.UniquePayloads.{one_text, one_binary, one_inner, one_regex, one_pointer, one_code}
+use Rattle.raw_view.proofs.Numbers.{le32_of, IsLe32-same, IsLe64-same, IsUnsigned64-same}
+use Rattle.raw_view.proofs.Payloads.{string_is, code_fits}
+use Rattle.raw_view.proofs.UniquePayloads.{one_text, one_binary, one_inner, one_regex, one_pointer, one_code, one_timestamp, one_truth}
 
 -- values
 
@@ -24,13 +24,6 @@ one_binary_value m bytes v w (inl a) (inl b) = a.1 ∙ sym b.1
 one_binary_value m bytes v w (inl a) (inr b) = absurd (a.0 b.0)
 one_binary_value m bytes v w (inr a) (inl b) = absurd (b.0 a.0)
 one_binary_value m bytes v w (inr a) (inr b) = a.3 ∙ ap (λ x. single (binary BinaryOld x)) (one_inner bytes a.1 b.1 a.2 b.2) ∙ sym b.3
-
--- false or true
-one_boolean : (p : List ℕ) (v w : RawValue) → MeansValue kind.Boolean p v → MeansValue kind.Boolean p w → v ≡ w
-one_boolean p v w (inl a) (inl b) = a.1 ∙ sym b.1
-one_boolean p v w (inl a) (inr b) = let bad : ◌≡◌ {A = List ℕ} (0 ∷ []) (1 ∷ []) = sym a.0 ∙ b.0 in cc
-one_boolean p v w (inr a) (inl b) = let bad : ◌≡◌ {A = List ℕ} (1 ∷ []) (0 ∷ []) = sym a.0 ∙ b.0 in cc
-one_boolean p v w (inr a) (inr b) = a.1 ∙ sym b.1
 
 -- a payload of a kind means one value at most
 one_value : (k : ElementType) (p : List ℕ) (v w : RawValue) → MeansValue k p v → MeansValue k p w → v ≡ w
@@ -43,7 +36,7 @@ one_value kind.Binary p v w a b =
     one_binary_value a.0 a.1 v w a.3 (rw (same.0, same.1) b.3)
 one_value kind.Undefined p v w a b = a ∙ sym b
 one_value kind.ObjectId p v w a b = a ∙ sym b
-one_value kind.Boolean p v w a b = one_boolean p v w a b
+one_value kind.Boolean p v w a b = a.2 ∙ ap (λ x. single (boolean x)) (one_truth a.0 b.0 (sym a.1 ∙ b.1)) ∙ sym b.2
 one_value kind.DateTime p v w a b = a.2 ∙ ap (λ x. single (date_time x)) (IsLe64-same p a.0 b.0 a.1 b.1) ∙ sym b.2
 one_value kind.Null p v w a b = a ∙ sym b
 one_value kind.RegularExpression p v w a b =
@@ -59,9 +52,8 @@ one_value kind.JavaScriptCodeWithScope p v w a b =
     a.5 ∙ rw (same.0, same.1) (sym b.5)
 one_value kind.Int32 p v w a b = a.2 ∙ ap (λ x. single (int32 x)) (IsLe32-same p a.0 b.0 a.1 b.1) ∙ sym b.2
 one_value kind.Timestamp p v w a b =
-    let increments = IsUnsigned32-same _ a.1 b.1 a.2 b.2 in
-    let times = IsUnsigned32-same _ a.0 b.0 a.3 b.3 in
-    a.4 ∙ rw (times, increments) (sym b.4)
+    let same = one_timestamp p a.0 b.0 a.1 b.1 a.2 b.2 in
+    a.3 ∙ rw (same.0, same.1) (sym b.3)
 one_value kind.Int64 p v w a b = a.2 ∙ ap (λ x. single (int64 x)) (IsLe64-same p a.0 b.0 a.1 b.1) ∙ sym b.2
 one_value kind.Decimal128 p v w a b = a ∙ sym b
 one_value kind.MaxKey p v w a b = a ∙ sym b
@@ -83,9 +75,7 @@ one_old_fault key outer f g (inr (inr a)) (inr (inr b)) = a.5 ∙ sym b.5
 
 -- a code with scope has a code
 has_code : (p code scope : List ℕ) → IsCodeWithScope p code scope → ¬ HasNoCode p
-has_code p code scope c none =
-    let four = IsLe32-length c.head _ c.length_is in
-    none c.string scope (ap (drop 4) c.spelled ∙ drop_at c.head (c.string ++ scope) 4 four) (code, c.string_is)
+has_code p code scope c none = none (string_payload code) scope (ap (drop 4) c.spelled) (code, string_is code (code_fits p code scope c))
 
 -- both are the code, so both or neither is a text
 same_code : (p x y v w : List ℕ) → IsCodeWithScope p x v → IsCodeWithScope p y w → IsUtf8 x → IsUtf8 y
@@ -132,9 +122,8 @@ text_or_none p text a b = b.2 (subst IsUtf8 (one_text p text b.0 a.0 b.1) a.1)
 -- an inner length that counts the bytes is no fault
 no_old_fault : (key outer inner : List ℕ) (fault : KeyedFault) → HasInnerLength outer inner → ¬ OldBinaryFault key outer fault
 no_old_fault key outer inner fault a b =
-    let four = IsLe32-length a.head _ a.length_is in
-    let size : length outer ≡ length inner + 4 = omega (arith, ap length a.spelled, length-append a.head inner, four) in
-    let header : IsLe32 (take 4 outer) (pos (length inner)) = rw (a.spelled, take_head a.head inner _ a.length_is) a.length_is in
+    let size : length outer ≡ length inner + 4 = omega (arith, ap length a.spelled) in
+    let header : IsLe32 (take 4 outer) (pos (length inner)) = subst (λ (x : List ℕ). IsLe32 x (pos (length inner))) (sym (ap (take 4) a.spelled)) (le32_of (length inner) a.fits) in
     elim b [
       | inl l ↦ omega (arith, l.0)
       | inr more ↦ elim more [
@@ -150,8 +139,7 @@ no_old_fault key outer inner fault a b =
 -- a code with a scope that has an envelope is no fault
 no_scope_fault : (key p code scope : List ℕ) (fault : KeyedFault) → IsCodeWithScope p code scope → IsUtf8 code → IsEnvelope scope → ¬ ScopeFault key p fault
 no_scope_fault key p code scope fault c u d b =
-    let four = IsLe32-length c.head _ c.length_is in
-    let size : 14 ≤ length p = omega (arith, ap length c.spelled, length-append c.head (c.string ++ scope), length-append c.string scope, four, string_length c.string code c.string_is, d.enough) in
+    let size : 14 ≤ length p = omega (arith, ap length c.spelled, length-append (string_payload code) scope, length-append code (0 ∷ []), d.enough) in
     elim b [
       | inl l ↦ omega (arith, l.0)
       | inr more ↦ elim more [
@@ -173,15 +161,9 @@ no_binary_fault key p v fault a b =
     ]
 
 -- the byte of a boolean
-no_boolean_fault : (key p : List ℕ) (v : RawValue) (fault : KeyedFault) → MeansValue kind.Boolean p v → ¬ MeansFault kind.Boolean key p fault
-no_boolean_fault key p v fault (inl a) b =
-    let e : 0 ∷ [] ≡ b.0 ∷ [] = sym a.0 ∙ b.1 in
-    let byte : 0 ≡ b.0 = cc in
-    omega (arith, byte, b.2)
-no_boolean_fault key p v fault (inr a) b =
-    let e : 1 ∷ [] ≡ b.0 ∷ [] = sym a.0 ∙ b.1 in
-    let byte : 1 ≡ b.0 = cc in
-    omega (arith, byte, b.2)
+no_boolean_byte : (b : Bool) (byte : ℕ) → boolean_payload b ≡ byte ∷ [] → ¬ (1 < byte)
+no_boolean_byte false byte e l = let same : 0 ≡ byte = cc in omega (arith, same, l)
+no_boolean_byte true byte e l = let same : 1 ≡ byte = cc in omega (arith, same, l)
 
 -- a payload of a kind doesn't mean both
 value_or_fault : (k : ElementType) (key p : List ℕ) (v : RawValue) (fault : KeyedFault) → MeansValue k p v → MeansFault k key p fault → ⊥
@@ -189,7 +171,7 @@ value_or_fault kind.String key p v fault a b = text_or_none p a.0 a.1 b.0
 value_or_fault kind.JavaScriptCode key p v fault a b = text_or_none p a.0 a.1 b.0
 value_or_fault kind.Symbol key p v fault a b = text_or_none p a.0 a.1 b.0
 value_or_fault kind.DbPointer key p v fault a b = b.3 (subst IsUtf8 (one_pointer p a.0 b.0 a.1 b.1 a.2 b.2).0 a.3)
-value_or_fault kind.Boolean key p v fault a b = no_boolean_fault key p v fault a b
+value_or_fault kind.Boolean key p v fault a b = no_boolean_byte a.0 b.0 (sym a.1 ∙ b.1) b.2
 value_or_fault kind.Binary key p v fault a b = no_binary_fault key p v fault a b
 value_or_fault kind.JavaScriptCodeWithScope key p v fault a b = no_scope_fault key p a.0 a.1 fault a.2 a.3 a.4 b
 value_or_fault k key p v fault a b = b

@@ -1,16 +1,18 @@
 -- Payloads are determined: one of a kind is cut off in one way, and its parts are its only ones.
-use Rattle.std.proofs.Common.{◌≡◌, ℕ, ℤ, pos, List, [], ◌∷◌, ◌++◌, ◌-◌, ◌≤◌, length, take, sym, ◌∙◌, subst, refl, arith}
+use Rattle.std.proofs.Common.{◌≡◌, ℕ, ℤ, pos, Bool, true, false, List, [], ◌∷◌, ◌++◌, ◌+◌, ◌-◌, ◌≤◌, length, take, w32, ap, sym, ◌∙◌, subst, refl, arith}
+use Rattle.std.specs.Int.{to_le_bytes}
 use Rattle.std.proofs.lemmas.List.{take-append-le, append_cancel_right}
 use Rattle.raw_view.specs.declared.element_type.ElementType.{ElementType}
 use Rattle.raw_view.specs.declared.element_type.ElementType.TheVariants as kind
-use Rattle.raw_view.specs.Number.{IsLe32}
+use Rattle.raw_view.specs.Number.{le32, IsLe32}
 use Rattle.raw_view.specs.Envelope.{IsEnvelope}
+use Rattle.raw_view.specs.Format.{string_payload, boolean_payload}
 use Rattle.raw_view.specs.Frame.{HasShape, IsString, IsBinary, IsRegex, IsDbPointer}
-use Rattle.raw_view.specs.Meaning.{HasInnerLength, IsCodeWithScope}
+use Rattle.raw_view.specs.Meaning.{HasInnerLength, IsCodeWithScope, IsTimestamp}
 use Rattle.raw_view.proofs.Cuts.{cut}
 use Rattle.raw_view.proofs.Decided.{one_length}
-use Rattle.raw_view.proofs.Numbers.{IsLe32-length}
-use Rattle.raw_view.proofs.Payloads.{same_cut, string_same, pointer_string}
+use Rattle.raw_view.proofs.Numbers.{IsUnsigned32-same}
+use Rattle.raw_view.proofs.Payloads.{string_is, same_cut, string_same, pointer_string, code_fits}
 use Rattle.raw_view.proofs.Shapes.{binary_header}
 use Rattle.raw_view.proofs.Texts.{regex_front}
 
@@ -57,9 +59,9 @@ pointer_same : (p q r t : List ℕ) → HasShape kind.DbPointer p r → HasShape
 pointer_same p q r t a b e =
     let x = pointer_string (p ++ r) p r a.0 a.1 refl a.2 in
     let y = pointer_string (p ++ r) q t b.0 b.1 e b.2 in
-    let strings = string_same a.2.string b.2.string (a.1 ++ r) (b.1 ++ t) a.0 b.0 a.2.string_is b.2.string_is (sym x ∙ y) in
+    let strings = string_same (string_payload a.0) (string_payload b.0) (a.1 ++ r) (b.1 ++ t) a.0 b.0 (string_is a.0 a.2.fits) (string_is b.0 b.2.fits) (sym x ∙ y) in
     let ids = same_cut a.1 b.1 r t 12 a.2.id_len b.2.id_len strings.1 in
-    let spelled : a.2.string ++ a.1 ≡ b.2.string ++ b.1 = rw (strings.0, ids.0) in
+    let spelled : string_payload a.0 ++ a.1 ≡ string_payload b.0 ++ b.1 = ap (λ x. x ++ a.1) strings.0 ∙ ap (λ x. string_payload b.0 ++ x) ids.0 in
     (a.2.spelled ∙ spelled ∙ sym b.2.spelled, ids.1)
 
 -- a payload of a kind is cut off in one way
@@ -88,15 +90,13 @@ payload_same kind.MinKey p q r t a b e = same_cut p q r t 0 a b e
 
 -- the parts of a payload
 
--- two lists behind heads of four bytes
-behind_heads : (head other x y : List ℕ) (z w : ℤ) → IsLe32 head z → IsLe32 other w → head ++ x ≡ other ++ y → x ≡ y
-behind_heads head other x y z w a b e = (same_cut head other x y 4 (IsLe32-length head z a) (IsLe32-length other w b) e).1
+-- two lists behind the bytes of a number
+behind_numbers : (z w : ℤ) (x y : List ℕ) → le32 z ++ x ≡ le32 w ++ y → x ≡ y
+behind_numbers z w x y e = (same_cut (le32 z) (le32 w) x y 4 refl refl e).1
 
 -- a string has one text
 pub one_text : (p x y : List ℕ) → IsString p x → IsString p y → x ≡ y
-one_text p x y a b =
-    let e : a.head ++ x ≡ b.head ++ y = append_cancel_right (a.head ++ x) (b.head ++ y) (0 ∷ []) (sym a.spelled ∙ b.spelled) in
-    behind_heads a.head b.head x y _ _ a.length_is b.length_is e
+one_text p x y a b = append_cancel_right x y (0 ∷ []) (behind_numbers (pos (length x + 1)) (pos (length y + 1)) (x ++ 0 ∷ []) (y ++ 0 ∷ []) (sym a.spelled ∙ b.spelled))
 
 -- a text and what stands behind its string
 text_and_rest : (p q r t x y : List ℕ) → IsString p x → IsString q y → p ++ r ≡ q ++ t → (x ≡ y) × (r ≡ t)
@@ -107,12 +107,12 @@ text_and_rest p q r t x y a b e =
 -- a binary has one subtype and its bytes
 pub one_binary : (p x y : List ℕ) (m n : ℕ) → IsBinary p m x → IsBinary p n y → (m ≡ n) × (x ≡ y)
 one_binary p x y m n a b =
-    let e : m ∷ x ≡ n ∷ y = behind_heads a.head b.head (m ∷ x) (n ∷ y) _ _ a.length_is b.length_is (sym a.spelled ∙ b.spelled) in
+    let e : m ∷ x ≡ n ∷ y = behind_numbers (pos (length x)) (pos (length y)) (m ∷ x) (n ∷ y) (sym a.spelled ∙ b.spelled) in
     (cc, cc)
 
 -- an old binary has its bytes
 pub one_inner : (outer x y : List ℕ) → HasInnerLength outer x → HasInnerLength outer y → x ≡ y
-one_inner outer x y a b = behind_heads a.head b.head x y _ _ a.length_is b.length_is (sym a.spelled ∙ b.spelled)
+one_inner outer x y a b = behind_numbers (pos (length x)) (pos (length y)) x y (sym a.spelled ∙ b.spelled)
 
 -- a regular expression has one pattern and its options
 pub one_regex : (p x y v w : List ℕ) → IsRegex p x v → IsRegex p y w → (x ≡ y) × (v ≡ w)
@@ -122,10 +122,27 @@ one_regex p x y v w a b =
 
 -- a pointer has one namespace and its identifier
 pub one_pointer : (p x y v w : List ℕ) → IsDbPointer p x v → IsDbPointer p y w → (x ≡ y) × (v ≡ w)
-one_pointer p x y v w a b = text_and_rest a.string b.string v w x y a.string_is b.string_is (sym a.spelled ∙ b.spelled)
+one_pointer p x y v w a b = text_and_rest (string_payload x) (string_payload y) v w x y (string_is x a.fits) (string_is y b.fits) (sym a.spelled ∙ b.spelled)
 
 -- a code with scope has one code and its scope
 pub one_code : (p x y v w : List ℕ) → IsCodeWithScope p x v → IsCodeWithScope p y w → (x ≡ y) × (v ≡ w)
 one_code p x y v w a b =
-    let e = behind_heads a.head b.head (a.string ++ v) (b.string ++ w) _ _ a.length_is b.length_is (sym a.spelled ∙ b.spelled) in
-    text_and_rest a.string b.string v w x y a.string_is b.string_is e
+    let v_whole : List ℕ = string_payload x ++ v in
+    let w_whole : List ℕ = string_payload y ++ w in
+    let e = behind_numbers (pos (4 + length v_whole)) (pos (4 + length w_whole)) v_whole w_whole (sym a.spelled ∙ b.spelled) in
+    text_and_rest (string_payload x) (string_payload y) v w x y (string_is x (code_fits p x v a)) (string_is y (code_fits p y w b)) e
+
+-- a timestamp has one time and its increment
+pub one_timestamp : (p : List ℕ) (x y v w : ℕ) → IsTimestamp p x v → IsTimestamp p y w → (x ≡ y) × (v ≡ w)
+one_timestamp p x y v w a b =
+    let parts = same_cut (to_le_bytes w32 v) (to_le_bytes w32 w) (to_le_bytes w32 x) (to_le_bytes w32 y) 4 refl refl (sym a.spelled ∙ b.spelled) in (
+      IsUnsigned32-same (to_le_bytes w32 y) x y (record { fits = a.time_fits; bytes_are = sym parts.1 }) (record { fits = b.time_fits; bytes_are = refl }),
+      IsUnsigned32-same (to_le_bytes w32 w) v w (record { fits = a.increment_fits; bytes_are = sym parts.0 }) (record { fits = b.increment_fits; bytes_are = refl }),
+    )
+
+-- a boolean is one
+pub one_truth : (x y : Bool) → boolean_payload x ≡ boolean_payload y → x ≡ y
+one_truth false false e = refl
+one_truth true true e = refl
+one_truth false true e = let bad : ◌≡◌ {A = List ℕ} (0 ∷ []) (1 ∷ []) = e in cc
+one_truth true false e = let bad : ◌≡◌ {A = List ℕ} (1 ∷ []) (0 ∷ []) = e in cc

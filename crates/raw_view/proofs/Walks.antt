@@ -4,14 +4,14 @@ use Rattle.std.specs.Str.{IsUtf8}
 use Rattle.std.proofs.lemmas.Bool.{cases_eq}
 use Rattle.std.proofs.lemmas.List.{take-append-drop, nil_from_length, get_or-append-add}
 use Rattle.std.proofs.lemmas.Option.{slice_get-get_or, get_or_from_slice_get}
-use Rattle.raw_view.specs.Number.{IsBytes}
+use Rattle.bson_model.specs.Bytes.{AreBytes, NulFree}
 use Rattle.raw_view.specs.Envelope.{IsEnvelope}
 use Rattle.raw_view.specs.Kind.{tag_of}
 use Rattle.raw_view.specs.declared.element_type.ElementType.TheVariants as kind
-use Rattle.raw_view.specs.Frame.{HasNoNul, Frame, IsFrame, HasNoFrame, Fault, Malformed, Utf8, HasKey, IsStop, End, Done, Stopped, IsWalk}
+use Rattle.raw_view.specs.Frame.{Frame, IsFrame, HasNoFrame, Fault, Malformed, Utf8, HasKey, IsStop, End, Done, Stopped, IsWalk}
 use Rattle.raw_view.proofs.DecidedTexts.{front_text_or_not, bad_regex_or_not}
 use Rattle.raw_view.proofs.Decided.{both_or_not, kind_or_not, payload_or_not}
-use Rattle.raw_view.proofs.Payloads.{IsBytes-back, IsBytes-drop}
+use Rattle.bson_model.proofs.Bytes.{AreBytes-back, AreBytes-drop}
 use Rattle.raw_view.proofs.Frames.{no_frame, no_nul_ends, tag_stop}
 use Rattle.raw_view.proofs.CallerLemmas.{IsFrame-shorter}
 use Rattle.raw_view.proofs.Iteration.{front_and_rest}
@@ -29,8 +29,8 @@ EndsWithNul-back front back last some =
     slice_get-get_or back (length back - 1) 0 (omega arith) ∙ ap Some (sym (get_or-append-add front back (length back - 1) 0) ∙ rw place at end)
 
 -- what stands behind a frame is bytes
-pub IsBytes-rest : (s : List ℕ) (f : Frame) (r : List ℕ) → IsFrame s f r → IsBytes s → IsBytes r
-IsBytes-rest s f r b bytes = IsBytes-back (tag_of f.kind ∷ (f.key ++ 0 ∷ f.payload)) r (subst IsBytes (front_and_rest s f r b) bytes)
+pub AreBytes-rest : (s : List ℕ) (f : Frame) (r : List ℕ) → IsFrame s f r → AreBytes s → AreBytes r
+AreBytes-rest s f r b bytes = AreBytes-back (tag_of f.kind ∷ (f.key ++ 0 ∷ f.payload)) r (subst AreBytes (front_and_rest s f r b) bytes)
 
 -- and the last of them is 0
 EndsWithNul-rest : (s : List ℕ) (f : Frame) (r : List ℕ) → IsFrame s f r → EndsWithNul s → EndsWithNul r
@@ -44,7 +44,7 @@ HasFront s =
     ⊎ ((fault : Fault) × (key : Option (List ℕ)) × IsStop s fault key)
 
 -- where no 0 stands behind the tag and the last byte is 0, the tag is the final 0
-last_is_final : (tag : ℕ) (behind : List ℕ) → HasNoNul behind → EndsWithNul (tag ∷ behind) → tag ∷ behind ≡ 0 ∷ []
+last_is_final : (tag : ℕ) (behind : List ℕ) → NulFree behind → EndsWithNul (tag ∷ behind) → tag ∷ behind ≡ 0 ∷ []
 last_is_final tag behind h last =
     let at : length (tag ∷ behind) - 1 ≡ length behind = omega arith in
     let end : slice_get (tag ∷ behind) (length behind) ≡ Some 0 = rw at at (last (omega arith)) in
@@ -53,7 +53,7 @@ last_is_final tag behind h last =
     cc
 
 -- a key and no frame: a stop, whose fault is one of text where a text of a regular expression is bad
-key_and_no_frame : (s : List ℕ) (tag : ℕ) (key behind : List ℕ) → s ≡ tag ∷ (key ++ 0 ∷ behind) → HasNoNul key → IsUtf8 key → HasNoFrame s → (fault : Fault) × (key : Option (List ℕ)) × IsStop s fault key
+key_and_no_frame : (s : List ℕ) (tag : ℕ) (key behind : List ℕ) → s ≡ tag ∷ (key ++ 0 ∷ behind) → NulFree key → IsUtf8 key → HasNoFrame s → (fault : Fault) × (key : Option (List ℕ)) × IsStop s fault key
 key_and_no_frame s tag key behind e h u none =
     let k : HasKey s key = record { tag = tag; behind = behind; spelled = e; nul_free = h } in
     elim (both_or_not (cases_eq tag (tag_of kind.RegularExpression)) (bad_regex_or_not behind)) [
@@ -62,7 +62,7 @@ key_and_no_frame s tag key behind e h u none =
     ]
 
 -- a key that is a text: a frame, or a stop
-behind_key : (s : List ℕ) (tag : ℕ) (key behind : List ℕ) → IsBytes behind → tag < 256 → s ≡ tag ∷ (key ++ 0 ∷ behind) → HasNoNul key → IsUtf8 key → HasFront s
+behind_key : (s : List ℕ) (tag : ℕ) (key behind : List ℕ) → AreBytes behind → tag < 256 → s ≡ tag ∷ (key ++ 0 ∷ behind) → NulFree key → IsUtf8 key → HasFront s
 behind_key s tag key behind bytes l e h u =
     elim (kind_or_not tag l) [
       | inl k ↦ elim (payload_or_not k.0 behind bytes) [
@@ -82,14 +82,14 @@ behind_key s tag key behind bytes l e h u =
     ]
 
 -- something of the three stands at the front
-pub has_front : (s : List ℕ) → IsBytes s → EndsWithNul s → HasFront s
+pub has_front : (s : List ℕ) → AreBytes s → EndsWithNul s → HasFront s
 has_front [] bytes last = inr (inr (Malformed, None, refl))
 has_front (tag ∷ behind) bytes last =
     elim (front_text_or_not behind) [
       | inl t ↦ (
-          let back : IsBytes behind = λ i. bytes (suc i) in
+          let back : AreBytes behind = λ i. bytes (suc i) in
           let text : behind ≡ (t.0 ++ 0 ∷ []) ++ t.1 = rw append_assoc t.2 in
-          behind_key (tag ∷ behind) tag t.0 t.1 (IsBytes-back (t.0 ++ 0 ∷ []) t.1 (subst IsBytes text back)) (bytes 0) (ap (λ x. tag ∷ x) t.2) t.3 t.4)
+          behind_key (tag ∷ behind) tag t.0 t.1 (AreBytes-back (t.0 ++ 0 ∷ []) t.1 (subst AreBytes text back)) (bytes 0) (ap (λ x. tag ∷ x) t.2) t.3 t.4)
       | inr none ↦ elim none [
         | inl h ↦ inl (last_is_final tag behind h last)
         | inr b ↦ inr (inr (Utf8, None, (b.0, record { tag = tag; behind = b.1; spelled = ap (λ x. tag ∷ x) b.2; nul_free = b.3 }, b.4)))
@@ -97,21 +97,21 @@ has_front (tag ∷ behind) bytes last =
     ]
 
 -- a walk through at most so many bytes
-walk_within : (n : ℕ) (s : List ℕ) → length s ≤ n → IsBytes s → EndsWithNul s → (frames : List Frame) × (end : End) × IsWalk s frames end
+walk_within : (n : ℕ) (s : List ℕ) → length s ≤ n → AreBytes s → EndsWithNul s → (frames : List Frame) × (end : End) × IsWalk s frames end
 walk_within zero s l bytes last = ([], Stopped Malformed None, nil_from_length s (omega arith))
 walk_within (suc n) s l bytes last =
     elim (has_front s bytes last) [
       | inl e ↦ ([], Done, e)
       | inr more ↦ elim more [
         | inl t ↦ (
-            let rest = walk_within n t.1 (omega (arith, IsFrame-shorter s t.0 t.1 t.2)) (IsBytes-rest s t.0 t.1 t.2 bytes) (EndsWithNul-rest s t.0 t.1 t.2 last) in
+            let rest = walk_within n t.1 (omega (arith, IsFrame-shorter s t.0 t.1 t.2)) (AreBytes-rest s t.0 t.1 t.2 bytes) (EndsWithNul-rest s t.0 t.1 t.2 last) in
             (t.0 ∷ rest.0, rest.1, (t.1, t.2, rest.2)))
         | inr stop ↦ ([], Stopped stop.0 stop.1, stop.2)
       ]
     ]
 
 -- a walk, through all of the bytes
-pub has_walk : (s : List ℕ) → IsBytes s → EndsWithNul s → (frames : List Frame) × (end : End) × IsWalk s frames end
+pub has_walk : (s : List ℕ) → AreBytes s → EndsWithNul s → (frames : List Frame) × (end : End) × IsWalk s frames end
 has_walk s bytes last = walk_within (length s) s (omega arith) bytes last
 
 -- the walk of a document
@@ -119,4 +119,4 @@ pub document_has_walk : (b : List ℕ) → IsEnvelope b → (frames : List Frame
 document_has_walk b d =
     let whole : b ≡ take 4 b ++ drop 4 b = sym (take-append-drop 4 b) in
     let last : EndsWithNul b = λ some. d.ended in
-    has_walk (drop 4 b) (IsBytes-drop 4 b d.bytes) (EndsWithNul-back (take 4 b) (drop 4 b) (subst EndsWithNul whole last))
+    has_walk (drop 4 b) (AreBytes-drop 4 b d.bytes) (EndsWithNul-back (take 4 b) (drop 4 b) (subst EndsWithNul whole last))

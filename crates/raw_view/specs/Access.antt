@@ -1,59 +1,26 @@
 -- Typed access: what a getter answers for what a look-up finds.
 use Rattle.std.specs.Prelude.{◌≡◌, ◌≢◌, ◌⊎◌, ℕ, List, [], Option, None, Some, Result, Ok, Err}
 use Rattle.std.specs.String.{string_bytes}
-use Rattle.bson_model.specs.Leaf.{Leaf, double, string, binary, undefined, object_id, boolean, date_time, null, regular_expression, db_pointer, javascript_code, symbol, int32, timestamp, int64, decimal128, max_key, min_key}
 use Rattle.raw_view.specs.declared.element_type.ElementType.{ElementType}
-use Rattle.raw_view.specs.declared.element_type.ElementType.TheVariants as kind
 use Rattle.raw_view.specs.declared.error.Error.{Error}
 use Rattle.raw_view.specs.declared.error.ErrorKind.TheVariants as what
 use Rattle.raw_view.specs.declared.access.ValueAccessError.{ValueAccessError}
 use Rattle.raw_view.specs.declared.access.ValueAccessErrorKind.{ValueAccessErrorKind}
 use Rattle.raw_view.specs.declared.access.ValueAccessErrorKind.TheVariants as access
-use Rattle.raw_view.specs.Meaning.{RawValue, single, document, array, scoped, KeyedFault, Meaning, value, faulty}
+use Rattle.raw_view.specs.Meaning.{RawValue, kind_of_raw, KeyedFault, Meaning, value, faulty}
 use Rattle.raw_view.specs.Answers.{Says}
-use Rattle.raw_view.specs.Errors.{key_of}
-use Rattle.raw_view.specs.Value.{value_of, kind_of_value}
+use Rattle.raw_view.specs.Errors.{IsSameError}
+use Rattle.raw_view.specs.Value.{value_of}
 use Rattle.raw_view.specs.declared.bson_ref.RawBsonRef.{RawBsonRef}
 
 -- the key that an access error carries: the one asked for, or nothing where memory ran out
 abbrev pub key_asked : ValueAccessError → List ℕ
 key_asked e = string_bytes e.key
 
-abbrev pub kind_of_leaf : Leaf → ElementType
-kind_of_leaf (double _) = kind.Double
-kind_of_leaf (string _) = kind.String
-kind_of_leaf (binary _ _) = kind.Binary
-kind_of_leaf undefined = kind.Undefined
-kind_of_leaf (object_id _) = kind.ObjectId
-kind_of_leaf (boolean _) = kind.Boolean
-kind_of_leaf (date_time _) = kind.DateTime
-kind_of_leaf null = kind.Null
-kind_of_leaf (regular_expression _ _) = kind.RegularExpression
-kind_of_leaf (db_pointer _ _) = kind.DbPointer
-kind_of_leaf (javascript_code _) = kind.JavaScriptCode
-kind_of_leaf (symbol _) = kind.Symbol
-kind_of_leaf (int32 _) = kind.Int32
-kind_of_leaf (timestamp _ _) = kind.Timestamp
-kind_of_leaf (int64 _) = kind.Int64
-kind_of_leaf (decimal128 _) = kind.Decimal128
-kind_of_leaf max_key = kind.MaxKey
-kind_of_leaf min_key = kind.MinKey
-
--- two errors of one kind with one key
-abbrev pub IsSameError : Error → Error → Type 0
-IsSameError s t = (t.kind ≡ s.kind) × (key_of t ≡ key_of s)
-
 -- two reasons for no value that are the same
 abbrev pub IsSameAccess : ValueAccessErrorKind → ValueAccessErrorKind → Type 0
 IsSameAccess (access.InvalidBson s) (access.InvalidBson t) = IsSameError s t
 IsSameAccess s t = t ≡ s
-
--- the kind of a value
-abbrev pub kind_of_raw : RawValue → ElementType
-kind_of_raw (single leaf) = kind_of_leaf leaf
-kind_of_raw (document _) = kind.EmbeddedDocument
-kind_of_raw (array _) = kind.Array
-kind_of_raw (scoped _ _) = kind.JavaScriptCodeWithScope
 
 -- the error says a fault, and not that memory ran out
 abbrev pub SaysInner : Error → KeyedFault → Type 0
@@ -87,7 +54,7 @@ module _ {T : Type 0} where
 -- why a getter for this kind has no value for what a look-up answers
 abbrev pub IsTypedFault : ElementType → Result (Option RawBsonRef) Error → ValueAccessErrorKind → Type 0
 IsTypedFault expected answer access.NotPresent = answer ≡ Ok None
-IsTypedFault expected answer (access.UnexpectedType wanted actual) = (v : RawBsonRef) × (answer ≡ Ok (Some v)) × (kind_of_value v ≢ expected) × (wanted ≡ expected) × (actual ≡ kind_of_value v)
+IsTypedFault expected answer (access.UnexpectedType wanted actual) = (v : RawBsonRef) × (answer ≡ Ok (Some v)) × (kind_of_raw (value_of v) ≢ expected) × (wanted ≡ expected) × (actual ≡ kind_of_raw (value_of v))
 IsTypedFault expected answer (access.InvalidBson inner) = (answer ≡ Err inner) × (inner.kind ≢ what.OutOfMemory)
 IsTypedFault expected answer access.OutOfMemory = (e : Error) × (answer ≡ Err e) × (e.kind ≡ what.OutOfMemory)
 

@@ -1,12 +1,13 @@
 -- The envelope of a document. BSON 1.1, `document ::= int32 e_list "\x00"`.
 use Rattle.std.specs.Prelude.{◌≡◌, ◌≢◌, ℕ, ◌-◌, ◌<◌, ◌≤◌, pos, List, length, take, Some, slice_get}
-use Rattle.raw_view.specs.Number.{IsBytes, IsLe32}
+use Rattle.bson_model.specs.Bytes.{AreBytes}
+use Rattle.raw_view.specs.Number.{IsLe32}
 use Rattle.raw_view.specs.declared.error.Reason.{Reason}
 use Rattle.raw_view.specs.declared.error.Reason.TheVariants as reason
 
 -- each is a byte; at least five; the first four are the length of the whole; the last is 0
 pub record IsEnvelope (b : List ℕ) : Type 0 where
-  pub bytes : IsBytes b
+  pub bytes : AreBytes b
   pub enough : 5 ≤ length b
   pub header : IsLe32 (take 4 b) (pos (length b))
   pub ended : slice_get b (length b - 1) ≡ Some 0

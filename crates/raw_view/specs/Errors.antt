@@ -17,6 +17,10 @@ text_of (Some text) = Some (string_bytes text)
 abbrev pub key_of : Error → Option (List ℕ)
 key_of e = text_of e.key
 
+-- two errors of one kind with one key
+abbrev pub IsSameError : Error → Error → Type 0
+IsSameError s t = (t.kind ≡ s.kind) × (key_of t ≡ key_of s)
+
 -- malformed, for a reason of which this holds
 abbrev pub IsMalformed : ErrorKind → (Reason → Type 0) → Type 0
 IsMalformed (kind.MalformedValue reason) P = P reason

@@ -1,50 +1,43 @@
 -- What stands in a document: frames, and where they end. Relations between whole byte lists: s is what is
 -- left of a document, p a payload, r what stands behind it, each a list of bytes; that they are bytes is what
 -- the envelope of the document says.
-use Rattle.std.specs.Prelude.{◌≡◌, ◌≢◌, ◌⊎◌, ℕ, ◌+◌, ◌≤◌, pos, List, [], ◌∷◌, ◌++◌, length, take, Option, Some, None}
+use Rattle.std.specs.Prelude.{◌≡◌, ◌⊎◌, ℕ, ◌<◌, ◌≤◌, pos, List, [], ◌∷◌, ◌++◌, length, take, Option, Some, None}
 use Rattle.std.specs.Str.{IsUtf8}
-use Rattle.raw_view.specs.Number.{IsLe32}
+use Rattle.bson_model.specs.Bytes.{NulFree}
+use Rattle.raw_view.specs.Number.{max_length, IsLe32}
 use Rattle.raw_view.specs.Envelope.{IsEnvelope}
+use Rattle.raw_view.specs.Format.{string_payload, plain_binary_payload, regex_payload, pointer_payload, tagged, element_of}
 use Rattle.raw_view.specs.Kind.{tag_of}
 use Rattle.raw_view.specs.declared.element_type.ElementType.{ElementType}
 use Rattle.raw_view.specs.declared.element_type.ElementType.TheVariants as kind
 
--- no byte is 0
-abbrev pub HasNoNul : List ℕ → Type 0
-HasNoNul [] = Unit {0}
-HasNoNul (x ∷ xs) = (x ≢ 0) × HasNoNul xs
-
--- p is the string of this text: the length of the text and its 0, the text, and a 0.
--- The text may hold a 0. BSON 1.1, `string`.
+-- p is the string of this text, which may hold a 0
 pub record IsString (p text : List ℕ) : Type 0 where
-  pub head : List ℕ
-  pub length_is : IsLe32 head (pos (length text + 1))
-  pub spelled : p ≡ head ++ text ++ 0 ∷ []
+  pub fits : length text < max_length
+  pub spelled : p ≡ string_payload text
 
 -- p is the string of some text
 abbrev pub HasText : List ℕ → Type 0
 HasText p = (text : List ℕ) × IsString p text
 
--- p is the length of the bytes, their subtype, and the bytes. BSON 1.1, `binary`.
+-- p is the binary of this subtype's byte and these bytes
 pub record IsBinary (p : List ℕ) (subtype : ℕ) (bytes : List ℕ) : Type 0 where
-  pub head : List ℕ
-  pub length_is : IsLe32 head (pos (length bytes))
-  pub spelled : p ≡ head ++ subtype ∷ bytes
+  pub fits : length bytes ≤ max_length
+  pub spelled : p ≡ plain_binary_payload subtype bytes
 
--- p is a pattern and options, each a UTF-8 text up to its 0. BSON 1.1, `cstring cstring`.
+-- p is the regular expression of this pattern and these options, each a UTF-8 text without a 0
 pub record IsRegex (p pattern options : List ℕ) : Type 0 where
-  pub spelled : p ≡ pattern ++ 0 ∷ (options ++ 0 ∷ [])
-  pub pattern_nul_free : HasNoNul pattern
+  pub spelled : p ≡ regex_payload pattern options
+  pub pattern_nul_free : NulFree pattern
   pub pattern_text : IsUtf8 pattern
-  pub options_nul_free : HasNoNul options
+  pub options_nul_free : NulFree options
   pub options_text : IsUtf8 options
 
--- p is a namespace as a string, and the twelve bytes of an ObjectId. BSON 1.1, `string (byte*12)`.
+-- p is the pointer of this namespace and this identifier
 pub record IsDbPointer (p namespace id : List ℕ) : Type 0 where
-  pub string : List ℕ
-  pub string_is : IsString string namespace
+  pub fits : length namespace < max_length
   pub id_len : length id ≡ 12
-  pub spelled : p ≡ string ++ id
+  pub spelled : p ≡ pointer_payload namespace id
 
 -- p, with r behind it, has at least four bytes, and they begin with the length of p.
 -- So a code with scope is framed by its length alone, and where that is under four the next element
@@ -87,10 +80,10 @@ pub record Frame : Type 0 where
   pub key : List ℕ
   pub payload : List ℕ
 
--- the frame stands at the front of s: tag, key, 0 and payload; r is what is left. BSON 1.1, `element`.
+-- the frame stands at the front of s as an element, and r is left behind it
 pub record IsFrame (s : List ℕ) (f : Frame) (r : List ℕ) : Type 0 where
-  pub spelled : s ≡ tag_of f.kind ∷ (f.key ++ 0 ∷ (f.payload ++ r))
-  pub key_nul_free : HasNoNul f.key
+  pub spelled : s ≡ element_of f.kind f.key (f.payload ++ r)
+  pub key_nul_free : NulFree f.key
   pub key_text : IsUtf8 f.key
   pub payload_is : HasShape f.kind f.payload r
 
@@ -106,16 +99,16 @@ pub data Fault : Type 0 where
 pub record HasKey (s : List ℕ) (key : List ℕ) : Type 0 where
   pub tag : ℕ
   pub behind : List ℕ
-  pub spelled : s ≡ tag ∷ (key ++ 0 ∷ behind)
-  pub nul_free : HasNoNul key
+  pub spelled : s ≡ tagged tag key behind
+  pub nul_free : NulFree key
 
 -- z begins with bytes up to a 0 that aren't UTF-8
 abbrev pub BeginsWithBadText : List ℕ → Type 0
-BeginsWithBadText z = (x w : List ℕ) × (z ≡ x ++ 0 ∷ w) × HasNoNul x × ¬ IsUtf8 x
+BeginsWithBadText z = (x w : List ℕ) × (z ≡ x ++ 0 ∷ w) × NulFree x × ¬ IsUtf8 x
 
 -- a pattern that has its 0 isn't UTF-8, or options that have theirs aren't, behind a pattern that is
 abbrev pub HasBadRegexText : List ℕ → Type 0
-HasBadRegexText z = BeginsWithBadText z ⊎ ((x w : List ℕ) × (z ≡ x ++ 0 ∷ w) × HasNoNul x × IsUtf8 x × BeginsWithBadText w)
+HasBadRegexText z = BeginsWithBadText z ⊎ ((x w : List ℕ) × (z ≡ x ++ 0 ∷ w) × NulFree x × IsUtf8 x × BeginsWithBadText w)
 
 -- behind a key with this tag stands a regular expression of which a text isn't UTF-8
 abbrev pub HasBadText : ℕ → List ℕ → Type 0

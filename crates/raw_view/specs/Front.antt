@@ -7,7 +7,8 @@ use Rattle.raw_view.specs.declared.front.Front.{Front}
 use Rattle.raw_view.specs.declared.front.Front.TheVariants as front
 use Rattle.raw_view.specs.declared.error.ErrorKind.{ErrorKind}
 use Rattle.raw_view.specs.declared.error.ErrorKind.TheVariants as kind
-use Rattle.raw_view.specs.Frame.{IsFrame, Fault, Malformed, Utf8, IsStop, HasNoNul, BeginsWithBadText, HasBadText}
+use Rattle.bson_model.specs.Bytes.{NulFree}
+use Rattle.raw_view.specs.Frame.{IsFrame, Fault, Malformed, Utf8, IsStop, BeginsWithBadText, HasBadText}
 use Rattle.raw_view.specs.ElementSteps.{frame_of}
 use Rattle.raw_view.specs.Meaning.{KeyedFault}
 
@@ -38,7 +39,7 @@ IsPayloadFault tag z kind.OutOfMemory = ⊥
 
 -- why no text up to a 0 stands at the front of z
 abbrev pub IsTextFault : List ℕ → ErrorKind → Type 0
-IsTextFault z (kind.MalformedValue _) = HasNoNul z
+IsTextFault z (kind.MalformedValue _) = NulFree z
 IsTextFault z (kind.Utf8EncodingError _) = BeginsWithBadText z
 IsTextFault z kind.OutOfMemory = ⊥
 

@@ -1,5 +1,6 @@
 -- The kinds of element and their tags. BSON 1.1, `element`.
 use Rattle.std.specs.Prelude.{ℕ}
+use Rattle.bson_model.specs.Leaf.{Leaf, double, string, binary, undefined, object_id, boolean, date_time, null, regular_expression, db_pointer, javascript_code, symbol, int32, timestamp, int64, decimal128, max_key, min_key}
 use Rattle.raw_view.specs.declared.element_type.ElementType.{ElementType}
 use Rattle.raw_view.specs.declared.element_type.ElementType.TheVariants as kind
 
@@ -36,3 +37,24 @@ CanBeAtFault kind.Boolean = Unit {0}
 CanBeAtFault kind.Binary = Unit {0}
 CanBeAtFault kind.JavaScriptCodeWithScope = Unit {0}
 CanBeAtFault _ = ⊥
+
+-- the kind of a value that holds no others
+abbrev pub kind_of_leaf : Leaf → ElementType
+kind_of_leaf (double _) = kind.Double
+kind_of_leaf (string _) = kind.String
+kind_of_leaf (binary _ _) = kind.Binary
+kind_of_leaf undefined = kind.Undefined
+kind_of_leaf (object_id _) = kind.ObjectId
+kind_of_leaf (boolean _) = kind.Boolean
+kind_of_leaf (date_time _) = kind.DateTime
+kind_of_leaf null = kind.Null
+kind_of_leaf (regular_expression _ _) = kind.RegularExpression
+kind_of_leaf (db_pointer _ _) = kind.DbPointer
+kind_of_leaf (javascript_code _) = kind.JavaScriptCode
+kind_of_leaf (symbol _) = kind.Symbol
+kind_of_leaf (int32 _) = kind.Int32
+kind_of_leaf (timestamp _ _) = kind.Timestamp
+kind_of_leaf (int64 _) = kind.Int64
+kind_of_leaf (decimal128 _) = kind.Decimal128
+kind_of_leaf max_key = kind.MaxKey
+kind_of_leaf min_key = kind.MinKey

@@ -1,4 +1,5 @@
 pub mod Number
+pub mod Format
 pub mod Envelope
 pub mod Kind
 pub mod Frame

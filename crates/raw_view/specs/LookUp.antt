@@ -1,40 +1,48 @@
--- Look-up by key.
+-- Look-up, by key and by position.
 use Rattle.std.specs.Prelude.{◌≡◌, ◌≢◌, ◌⊎◌, ◌<◌, ℕ, List, [], ◌∷◌, length, drop, Option, Some, None}
 use Rattle.raw_view.specs.Frame.{Frame, IsFrame, End, Done, Stopped, EndsIn, LeadsTo}
 use Rattle.raw_view.specs.Meaning.{Meaning, faulty, Means}
 
--- no frame has the key
-abbrev pub HasNoKey : List ℕ → List Frame → Type 0
-HasNoKey key [] = Unit {0}
-HasNoKey key (f ∷ fs) = (f.key ≢ key) × HasNoKey key fs
+-- a frame that is looked for stands at the front of s, and this is what it means
+abbrev pub FindsFrame : (Frame → Type 0) → List ℕ → Option Meaning → Type 0
+FindsFrame IsWanted s found = (f : Frame) × (r : List ℕ) × (m : Meaning) × IsFrame s f r × IsWanted f × Means f m × (found ≡ Some m)
 
 -- where the walk ends, a look-up finds the stop, or nothing
 abbrev pub found_at_end : End → Option Meaning
 found_at_end Done = None
 found_at_end (Stopped fault key) = Some (faulty (record { fault = fault; key = key }))
 
--- a frame with the key stands at the front of s, and this is what it means
-abbrev pub FindsFrame : List ℕ → List ℕ → Option Meaning → Type 0
-FindsFrame s key found = (f : Frame) × (r : List ℕ) × (m : Meaning) × IsFrame s f r × (f.key ≡ key) × Means f m × (found ≡ Some m)
-
--- the walk ends at s
+-- the walk ends at s, where this is found
 abbrev pub FindsEnd : List ℕ → Option Meaning → Type 0
 FindsEnd s found = (end : End) × EndsIn s end × (found ≡ found_at_end end)
+
+-- what a look-up finds at s, where it goes no further: a frame that it looks for, or the end of the walk
+abbrev pub Finds : (Frame → Type 0) → List ℕ → Option Meaning → Type 0
+Finds IsWanted s found = FindsFrame IsWanted s found ⊎ FindsEnd s found
+
+-- the walk ends at s, behind which nothing is found
+abbrev pub FindsNothing : List ℕ → Option Meaning → Type 0
+FindsNothing s found = (end : End) × EndsIn s end × (found ≡ None)
+
+-- this frame has the key
+abbrev pub HasThisKey : List ℕ → Frame → Type 0
+HasThisKey key f = f.key ≡ key
+
+-- no frame has it
+abbrev pub HasNoKey : List ℕ → List Frame → Type 0
+HasNoKey key [] = Unit {0}
+HasNoKey key (f ∷ fs) = (f.key ≢ key) × HasNoKey key fs
 
 -- What a look-up by key finds in the document b: what the first frame with the key means; else the stop;
 -- else nothing. The frames passed on the way have other keys.
 abbrev pub LooksUp : List ℕ → List ℕ → Option Meaning → Type 0
-LooksUp b key found = (passed : List Frame) × (s : List ℕ) × LeadsTo (drop 4 b) passed s × HasNoKey key passed × (FindsFrame s key found ⊎ FindsEnd s found)
+LooksUp b key found = (passed : List Frame) × (s : List ℕ) × LeadsTo (drop 4 b) passed s × HasNoKey key passed × Finds (HasThisKey key) s found
 
--- the walk ends at s behind so many frames: the stop is the item of that number, and nothing comes behind it
-abbrev pub EndsAt : List ℕ → ℕ → ℕ → Option Meaning → Type 0
-EndsAt s count index found = (end : End) × EndsIn s end × (((count ≡ index) × (found ≡ found_at_end end)) ⊎ ((count < index) × (found ≡ None)))
-
--- a frame stands at the front of s, and this is what it means
-abbrev pub MeansAt : List ℕ → Option Meaning → Type 0
-MeansAt s found = (f : Frame) × (r : List ℕ) × (m : Meaning) × IsFrame s f r × Means f m × (found ≡ Some m)
+-- any frame
+abbrev pub IsAny : Frame → Type 0
+IsAny f = Unit {0}
 
 -- What a look-up by position finds in the document b: the item of that number, counted from 0, faults and
 -- the stop counted too; past the last item nothing.
 abbrev pub IsAt : List ℕ → ℕ → Option Meaning → Type 0
-IsAt b index found = (passed : List Frame) × (s : List ℕ) × LeadsTo (drop 4 b) passed s × (((length passed ≡ index) × MeansAt s found) ⊎ EndsAt s (length passed) index found)
+IsAt b index found = (passed : List Frame) × (s : List ℕ) × LeadsTo (drop 4 b) passed s × (((length passed ≡ index) × Finds IsAny s found) ⊎ ((length passed < index) × FindsNothing s found))

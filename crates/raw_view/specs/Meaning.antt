@@ -1,12 +1,14 @@
 -- What a payload means: a value, or a fault. A payload p here is one that was framed, so it has the shape of
 -- its kind.
-use Rattle.std.specs.Prelude.{◌≡◌, ◌≢◌, ◌⊎◌, ℕ, ◌<◌, ◌≤◌, ◌+ℤ◌, ◌≤ℤ◌, ℤ, pos, negsuc, true, false, List, [], ◌∷◌, ◌++◌, length, take, drop, Option, Some, None}
+use Rattle.std.specs.Prelude.{◌≡◌, ◌≢◌, ◌⊎◌, ℕ, ◌<◌, ◌≤◌, ◌^◌, ◌+ℤ◌, ◌≤ℤ◌, ℤ, pos, negsuc, Bool, List, [], ◌∷◌, ◌++◌, length, take, drop, Option, Some, None}
 use Rattle.std.specs.Str.{IsUtf8}
 use Rattle.bson_model.specs.Leaf.{Leaf, double, string, binary, undefined, object_id, boolean, date_time, null, regular_expression, db_pointer, javascript_code, symbol, int32, timestamp, int64, decimal128, max_key, min_key}
 use Rattle.bson_model.specs.Subtype.{subtype_of}
 use Rattle.bson_model.specs.declared.binaries.BinarySubtype.TheVariants.{BinaryOld}
-use Rattle.raw_view.specs.Number.{IsLe32, IsLe64, IsUnsigned32, IsUnsigned64}
+use Rattle.raw_view.specs.Number.{max_length, IsLe32, IsLe64, IsUnsigned64}
 use Rattle.raw_view.specs.Envelope.{IsEnvelope}
+use Rattle.raw_view.specs.Format.{boolean_payload, old_bytes, scoped_payload, timestamp_payload}
+use Rattle.raw_view.specs.Kind.{kind_of_leaf}
 use Rattle.raw_view.specs.declared.element_type.ElementType.{ElementType}
 use Rattle.raw_view.specs.declared.element_type.ElementType.TheVariants as kind
 use Rattle.raw_view.specs.Frame.{Frame, IsString, HasText, IsBinary, IsRegex, IsDbPointer, Fault, Malformed, Utf8}
@@ -19,20 +21,28 @@ pub data RawValue : Type 0 where
   -- the code, the scope
   scoped : List ℕ → List ℕ → RawValue
 
--- the bytes of an old binary: their length once more, and the bytes themselves.
--- BSON 1.1, `binary`, subtype 2.
-pub record HasInnerLength (outer bytes : List ℕ) : Type 0 where
-  pub head : List ℕ
-  pub length_is : IsLe32 head (pos (length bytes))
-  pub spelled : outer ≡ head ++ bytes
+-- the kind of a value
+abbrev pub kind_of_raw : RawValue → ElementType
+kind_of_raw (single leaf) = kind_of_leaf leaf
+kind_of_raw (document _) = kind.EmbeddedDocument
+kind_of_raw (array _) = kind.Array
+kind_of_raw (scoped _ _) = kind.JavaScriptCodeWithScope
 
--- p is its own length, a string of the code, and the scope. BSON 1.1, `code_w_s`.
+-- an old binary has these bytes, with their length before them
+pub record HasInnerLength (outer bytes : List ℕ) : Type 0 where
+  pub fits : length bytes ≤ max_length
+  pub spelled : outer ≡ old_bytes bytes
+
+-- p is the code with scope of this code and these bytes as its scope
 pub record IsCodeWithScope (p code scope : List ℕ) : Type 0 where
-  pub head : List ℕ
-  pub string : List ℕ
-  pub length_is : IsLe32 head (pos (length p))
-  pub string_is : IsString string code
-  pub spelled : p ≡ head ++ (string ++ scope)
+  pub fits : length p ≤ max_length
+  pub spelled : p ≡ scoped_payload code scope
+
+-- p is the timestamp of this time and this increment
+pub record IsTimestamp (p : List ℕ) (time increment : ℕ) : Type 0 where
+  pub time_fits : time < 2 ^ 32
+  pub increment_fits : increment < 2 ^ 32
+  pub spelled : p ≡ timestamp_payload time increment
 
 -- the payload is the string of a UTF-8 text
 abbrev pub SpellsText : List ℕ → List ℕ → Type 0
@@ -53,7 +63,7 @@ MeansValue kind.Array p v = v ≡ array p
 MeansValue kind.Binary p v = (subtype : ℕ) × (bytes : List ℕ) × IsBinary p subtype bytes × IsBinaryValue subtype bytes v
 MeansValue kind.Undefined p v = v ≡ single undefined
 MeansValue kind.ObjectId p v = v ≡ single (object_id p)
-MeansValue kind.Boolean p v = ((p ≡ 0 ∷ []) × (v ≡ single (boolean false))) ⊎ ((p ≡ 1 ∷ []) × (v ≡ single (boolean true)))
+MeansValue kind.Boolean p v = (b : Bool) × (p ≡ boolean_payload b) × (v ≡ single (boolean b))
 MeansValue kind.DateTime p v = (millis : ℤ) × IsLe64 p millis × (v ≡ single (date_time millis))
 MeansValue kind.Null p v = v ≡ single null
 MeansValue kind.RegularExpression p v = (pattern options : List ℕ) × IsRegex p pattern options × (v ≡ single (regular_expression pattern options))
@@ -62,7 +72,7 @@ MeansValue kind.JavaScriptCode p v = (text : List ℕ) × SpellsText p text × (
 MeansValue kind.Symbol p v = (text : List ℕ) × SpellsText p text × (v ≡ single (symbol text))
 MeansValue kind.JavaScriptCodeWithScope p v = (code scope : List ℕ) × IsCodeWithScope p code scope × IsUtf8 code × IsEnvelope scope × (v ≡ scoped code scope)
 MeansValue kind.Int32 p v = (z : ℤ) × IsLe32 p z × (v ≡ single (int32 z))
-MeansValue kind.Timestamp p v = (time increment : ℕ) × IsUnsigned32 (take 4 p) increment × IsUnsigned32 (drop 4 p) time × (v ≡ single (timestamp time increment))
+MeansValue kind.Timestamp p v = (time increment : ℕ) × IsTimestamp p time increment × (v ≡ single (timestamp time increment))
 MeansValue kind.Int64 p v = (z : ℤ) × IsLe64 p z × (v ≡ single (int64 z))
 MeansValue kind.Decimal128 p v = v ≡ single (decimal128 p)
 MeansValue kind.MaxKey p v = v ≡ single max_key

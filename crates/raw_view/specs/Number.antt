@@ -1,10 +1,10 @@
 -- Numbers as bytes: least first, in two's complement. BSON 1.1, basic types.
-use Rattle.std.specs.Prelude.{◌≡◌, ◌<◌, ◌^◌, ℕ, List, ℤ, FitsSigned, slice_index}
+use Rattle.std.specs.Prelude.{◌≡◌, ◌<◌, ◌^◌, ℕ, List, ℤ, FitsSigned}
 use Rattle.std.specs.Int.{w32, w64, to_le_bytes, cast_unsigned}
 
--- each is a number from 0 to 255
-abbrev pub IsBytes : List ℕ → Type 0
-IsBytes bytes = (i : ℕ) → slice_index bytes i < 256
+-- the greatest number that fits 32 bits with a sign, so that no length is over it
+abbrev pub max_length : ℕ
+max_length = 2147483647
 
 -- the four bytes of a number that fits 32 bits with a sign
 abbrev pub le32 : ℤ → List ℕ

@@ -2,8 +2,6 @@
 use Rattle.std.specs.Prelude.{ℕ, List}
 use Rattle.bson_model.specs.Leaf.{double, string, binary, undefined, object_id, boolean, date_time, null, regular_expression, db_pointer, javascript_code, symbol, int32, timestamp, int64, decimal128, max_key, min_key}
 use Rattle.bson_model.specs.Scalars.{bytes_of_object_id, millis_of_date_time, bytes_of_decimal128}
-use Rattle.raw_view.specs.declared.element_type.ElementType.{ElementType}
-use Rattle.raw_view.specs.declared.element_type.ElementType.TheVariants as kind
 use Rattle.raw_view.specs.declared.bson_ref.RawBsonRef.{RawBsonRef}
 use Rattle.raw_view.specs.declared.bson_ref.RawBsonRef.TheVariants as ref
 use Rattle.raw_view.specs.declared.bson_ref.RawDbPointerRef.{RawDbPointerRef}
@@ -45,27 +43,3 @@ value_of ref.Undefined = single undefined
 value_of ref.MaxKey = single max_key
 value_of ref.MinKey = single min_key
 value_of (ref.DbPointer p) = single (db_pointer (namespace_of p) (id_of p))
-
--- the kind of a borrowed value
-abbrev pub kind_of_value : RawBsonRef → ElementType
-kind_of_value (ref.Double _) = kind.Double
-kind_of_value (ref.String _) = kind.String
-kind_of_value (ref.Array _) = kind.Array
-kind_of_value (ref.Document _) = kind.EmbeddedDocument
-kind_of_value (ref.Boolean _) = kind.Boolean
-kind_of_value ref.Null = kind.Null
-kind_of_value (ref.RegularExpression _) = kind.RegularExpression
-kind_of_value (ref.JavaScriptCode _) = kind.JavaScriptCode
-kind_of_value (ref.JavaScriptCodeWithScope _) = kind.JavaScriptCodeWithScope
-kind_of_value (ref.Int32 _) = kind.Int32
-kind_of_value (ref.Int64 _) = kind.Int64
-kind_of_value (ref.Timestamp _) = kind.Timestamp
-kind_of_value (ref.Binary _) = kind.Binary
-kind_of_value (ref.ObjectId _) = kind.ObjectId
-kind_of_value (ref.DateTime _) = kind.DateTime
-kind_of_value (ref.Symbol _) = kind.Symbol
-kind_of_value (ref.Decimal128 _) = kind.Decimal128
-kind_of_value ref.Undefined = kind.Undefined
-kind_of_value ref.MaxKey = kind.MaxKey
-kind_of_value ref.MinKey = kind.MinKey
-kind_of_value (ref.DbPointer _) = kind.DbPointer

@@ -152,8 +152,8 @@ impl Clone for ValueAccessError {
 /// A type whose values a typed getter answers.
 pub(crate) trait Typed<'a>: Sized + Drop {
     ghost use Rattle.raw_view.specs.declared.element_type.ElementType.{ElementType};
-    ghost use Rattle.raw_view.specs.Meaning.{RawValue};
-    ghost use Rattle.raw_view.specs.Value.{value_of, kind_of_value};
+    ghost use Rattle.raw_view.specs.Meaning.{RawValue, kind_of_raw};
+    ghost use Rattle.raw_view.specs.Value.{value_of};
 
     // the kind of its values, and the value that one of it views
     ghost kind: { ElementType };
@@ -167,7 +167,7 @@ pub(crate) trait Typed<'a>: Sized + Drop {
     /// What a value of its kind holds; `None` for every other kind.
     fn accessed(value: RawBsonRef<'a>) -> Option<Self>
         ensures some { IfSome result (λ x. value_of value.entry ≡ value_as x) }
-        ensures none { IfNone result (kind_of_value value.entry ≢ kind) };
+        ensures none { IfNone result (kind_of_raw (value_of value.entry) ≢ kind) };
 }
 
 /// What a typed getter has for what a look-up answers.

@@ -55,12 +55,13 @@ pub enum RawBsonRef<'a> {
 }
 
 impl<'a> RawBsonRef<'a> {
-    ghost use Rattle.raw_view.specs.Value.{kind_of_value};
+    ghost use Rattle.raw_view.specs.Meaning.{kind_of_raw};
+    ghost use Rattle.raw_view.specs.Value.{value_of};
     ghost use Rattle.raw_view.specs.Accessors as accessors;
 
     /// The kind of the value.
     pub fn element_type(self) -> ElementType
-        ensures { result ≡ kind_of_value self.entry }
+        ensures { result ≡ kind_of_raw (value_of self.entry) }
     {
         match self {
             RawBsonRef::Double(_) => ElementType::Double,

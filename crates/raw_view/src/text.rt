@@ -1,15 +1,15 @@
 ghost use Rattle.std.specs.Prelude.{◌≡◌, ◌++◌, ◌∷◌, IfSome, IfNone, IfOk, IfErr};
 ghost use Rattle.std.specs.Str.{IsUtf8};
 ghost use Rattle.raw_view.specs.Errors.{IsReadingKind};
-ghost use Rattle.raw_view.specs.Frame.{HasNoNul};
+ghost use Rattle.bson_model.specs.Bytes.{NulFree};
 ghost use Rattle.raw_view.specs.Front.{IsTextFault};
 
 use crate::error::{ErrorKind, Reason};
 
 /// What stands before the first 0, and what stands behind it; `None` where there is no 0.
 pub(crate) fn split_at_nul(bytes: &[u8]) -> Option<(&[u8], &[u8])>
-    ensures found { IfSome result (λ x. (bytes.now ≡ x.0.now ++ 0 ∷ x.1.now) × HasNoNul x.0.now) }
-    ensures none { IfNone result (HasNoNul bytes.now) }
+    ensures found { IfSome result (λ x. (bytes.now ≡ x.0.now ++ 0 ∷ x.1.now) × NulFree x.0.now) }
+    ensures none { IfNone result (NulFree bytes.now) }
 {
     for (at, byte) in bytes.iter().enumerate() {
         if *byte == 0 {
@@ -21,7 +21,7 @@ pub(crate) fn split_at_nul(bytes: &[u8]) -> Option<(&[u8], &[u8])>
 
 /// The text up to the first 0, and what stands behind that 0.
 pub(crate) fn split_text(bytes: &[u8]) -> Result<(&str, &[u8]), ErrorKind>
-    ensures found { IfOk result (λ x. (bytes.now ≡ x.0.now ++ 0 ∷ x.1.now) × HasNoNul x.0.now × IsUtf8 x.0.now) }
+    ensures found { IfOk result (λ x. (bytes.now ≡ x.0.now ++ 0 ∷ x.1.now) × NulFree x.0.now × IsUtf8 x.0.now) }
     ensures fault { IfErr result (IsTextFault bytes.now) }
     ensures reading { IfErr result IsReadingKind }
 {

@@ -1,4 +1,4 @@
-ghost use Rattle.std.specs.Prelude.{◌≡◌, length, take, drop, ℕ, List, IfOk, IfErr, IfSome, IfNone, OnErr, Some};
+ghost use Rattle.std.specs.Prelude.{◌≡◌, length, ℕ, List, IfOk, IfErr, IfSome, IfNone, OnErr, Some};
 ghost use Rattle.std.specs.Str.{IsUtf8};
 ghost use Rattle.raw_view.specs.Frame.{HasText, HasPayload, IsBinary, IsDbPointer, IsRegex};
 ghost use Rattle.raw_view.specs.Answers.{TellsItem};
@@ -8,8 +8,7 @@ ghost use Rattle.bson_model.specs.Leaf.{binary, boolean};
 ghost use Rattle.raw_view.specs.Document.{bytes_of};
 ghost use Rattle.raw_view.specs.Envelope.{IsEnvelope};
 ghost use Rattle.raw_view.specs.Front.{TellsBorrowed};
-ghost use Rattle.raw_view.specs.Meaning.{KeyedFault, Meaning, Means, SpellsText, SpellsNoText, MeansValue, MeansFault, single, HasInnerLength, OldBinaryFault, IsCodeWithScope, not_text};
-ghost use Rattle.raw_view.specs.Number.{IsUnsigned32};
+ghost use Rattle.raw_view.specs.Meaning.{KeyedFault, Meaning, Means, SpellsText, SpellsNoText, MeansValue, MeansFault, single, HasInnerLength, OldBinaryFault, IsCodeWithScope, IsTimestamp, not_text};
 ghost use Rattle.raw_view.specs.Value.{namespace_of, id_of};
 ghost use Rattle.raw_view.specs.declared.element_type.ElementType.TheVariants.{RegularExpression, JavaScriptCodeWithScope};
 
@@ -58,7 +57,7 @@ fn boolean_of<'a>(key: &'a str, payload: &'a [u8]) -> Result<bool, BorrowedError
 /// The increment and the time of a timestamp.
 fn timestamp_of(payload: &[u8]) -> Timestamp
     requires { length payload.now ≡ 8 }
-    ensures { IsUnsigned32 (take 4 payload.now) result.increment × IsUnsigned32 (drop 4 payload.now) result.time }
+    ensures { IsTimestamp payload.now result.time result.increment }
 {
     let (increment, time) = payload.split_at(4);
     Timestamp {

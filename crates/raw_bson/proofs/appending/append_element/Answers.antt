@@ -1,11 +1,11 @@
 use Rattle.std.proofs.Common.{◌≡◌, ◌∙◌, ℕ, ap, arith, pos, refl, rules, subst, sym, SFits, w32}
 use Rattle.std.proofs.lemmas.Int.{to_z-of_z}
 use Rattle.raw_view.specs.Envelope.{IsEnvelope}
-use Rattle.raw_view.specs.Number.{IsBytes}
+use Rattle.bson_model.specs.Bytes.{AreBytes}
 use Rattle.raw_view.specs.Value.{value_of}
 use Rattle.raw_bson.specs.Append.{appended_bytes, HasRoom}
 use Rattle.raw_bson.proofs.KeptWalks.{length-appended_bytes, appended_is_envelope, keeps_walk}
-use Rattle.raw_tree.proofs.Encodings.{all_bytes}
+use Rattle.bson_model.proofs.Bytes.{AreBytes-from_elements}
 use Rattle.raw_bson.proofs.Written.{written_is_appended}
 use Rattle.raw_bson.proofs.appending.append_element.Goals as goal
 
@@ -56,5 +56,5 @@ returns-clause-walk c =
 
 pub returns-clause-envelope : goal.returns-clause-envelope
 returns-clause-envelope c =
-    let bytes = subst IsBytes (written c) (all_bytes c.set_header.new.bytes.items c.type_inv.bytes) in
+    let bytes = subst AreBytes (written c) (AreBytes-from_elements c.set_header.new.bytes.items c.type_inv.bytes) in
     subst IsEnvelope (sym (written c)) (appended_is_envelope c.args.bytes.now.items c.args.key.now (value_of c.args.value) c.requires bytes (has_room c))

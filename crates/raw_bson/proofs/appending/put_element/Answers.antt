@@ -1,8 +1,7 @@
-use Rattle.std.proofs.Common.{◌≡◌, ◌-◌, ◌++◌, ◌∷◌, [], ℕ, List, length, take, vec_len, append_assoc, arith, ap, sym, ◌∙◌}
-use Rattle.raw_view.specs.Access.{kind_of_raw}
+use Rattle.std.proofs.Common.{◌≡◌, ◌-◌, ◌++◌, ◌∷◌, [], ℕ, List, length, take, vec_len, append_assoc, arith, ap, ◌∙◌}
 use Rattle.raw_view.specs.Kind.{tag_of}
+use Rattle.raw_view.specs.Meaning.{kind_of_raw}
 use Rattle.raw_view.specs.Value.{value_of}
-use Rattle.raw_view.proofs.Accessed.{kind_of_raw-value_of}
 use Rattle.raw_bson.proofs.appending.put_element.Goals as goal
 
 -- a tag, a key with its 0, a payload and a 0, put one behind the other
@@ -14,6 +13,6 @@ returns c =
     let old = c.args.bytes.now.items in
     let same : vec_len c.args.bytes.now ≡ length old = omega arith in
     let popped : c.pop.new.self.items ≡ take (length old - 1) old = rw same at c.pop.ensures.rest in
-    let tag : c.to_tag.result ≡ tag_of (kind_of_raw (value_of c.args.value)) = c.to_tag.ensures ∙ ap tag_of (c.element_type.ensures ∙ sym (kind_of_raw-value_of c.args.value)) in
+    let tag : c.to_tag.result ≡ tag_of (kind_of_raw (value_of c.args.value)) = c.to_tag.ensures ∙ ap tag_of c.element_type.ensures in
     let tagged : c.push_reserved.new.self.items ≡ take (length old - 1) old ++ tag_of (kind_of_raw (value_of c.args.value)) ∷ [] = rw (← popped, ← tag) c.push_reserved.ensures.items in
     record { items = put_after _ _ _ _ _ _ _ _ tagged c.put_key.ensures.items c.in-Ok.ensures.items c.push_reserved-2.ensures.items }

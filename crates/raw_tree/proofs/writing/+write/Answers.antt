@@ -2,13 +2,14 @@ use Rattle.std.proofs.Common.{◌≡◌, ◌++◌, ◌∷◌, [], length, take, 
 use Rattle.std.proofs.lemmas.List.{take_all}
 use Rattle.std.specs.String.{string_bytes}
 use Rattle.bson_model.specs.Tree.{document, entries, trees, tree_of, pairs_of, with_trees}
+use Rattle.bson_model.proofs.Bytes.{AreBytes-from_elements}
 use Rattle.bson_model.proofs.Measures.{at_most_member, value_smaller, document_smaller, code_smaller, scope_smaller}
 use Rattle.bson_model.proofs.Trees.{tree_of-Array, tree_of-Document, tree_of-JavaScriptCodeWithScope}
 use Rattle.bson_model.specs.declared.bson.Bson.{size-Bson}
 use Rattle.bson_model.specs.declared.bson.Bson.TheViews.{sized-Array}
 use Rattle.raw_tree.specs.Encoding.{encoded_len, tree_payload, items_bytes, entries_bytes}
-use Rattle.raw_tree.specs.Payload.{string_payload}
-use Rattle.raw_tree.proofs.Encodings.{all_bytes, member_at, pair_fits, member_fits, entries_len-step, items_len-step, entries_bytes-step, items_bytes-step, behind, set_head}
+use Rattle.raw_view.specs.Format.{string_payload}
+use Rattle.raw_tree.proofs.Encodings.{member_at, pair_fits, member_fits, entries_len-step, items_len-step, entries_bytes-step, items_bytes-step, behind, set_head}
 use Rattle.raw_tree.proofs.writing.+write.Goals as goal
 
 pub put_document-put_head-requires : goal.put_document-put_head-requires
@@ -87,10 +88,10 @@ put_value-put_document-requires-in-JavaScriptCodeWithScope t c =
     (omega arith, (omega arith, omega arith))
 
 pub put_document-returns-clause-bytes : goal.put_document-returns-clause-bytes
-put_document-returns-clause-bytes t c = all_bytes _ c.type_inv.out
+put_document-returns-clause-bytes t c = AreBytes-from_elements _ c.type_inv.out
 
 pub put_list-returns-clause-bytes : goal.put_list-returns-clause-bytes
-put_list-returns-clause-bytes t c = all_bytes _ c.type_inv.out
+put_list-returns-clause-bytes t c = AreBytes-from_elements _ c.type_inv.out
 
 pub put_document-returns-clause-items : goal.put_document-returns-clause-items
 put_document-returns-clause-items t c =

@@ -2,10 +2,8 @@ use Rattle.std.proofs.Common.{◌≡◌, ap, sym, ◌∙◌}
 use Rattle.bson_model.specs.Tree.{Tree, tree_of}
 use Rattle.bson_model.proofs.Trees.{tree_of-Array, tree_of-Document, tree_of-JavaScriptCodeWithScope}
 use Rattle.raw_view.specs.Kind.{tag_of}
-use Rattle.raw_view.specs.Access.{kind_of_raw}
-use Rattle.raw_view.specs.Meaning.{RawValue, single, document, array, scoped}
+use Rattle.raw_view.specs.Meaning.{RawValue, kind_of_raw, single, document, array, scoped}
 use Rattle.raw_view.specs.Value.{value_of}
-use Rattle.raw_view.proofs.Accessed.{kind_of_raw-value_of}
 use Rattle.raw_tree.specs.Encoding.{kind_of_tree}
 use Rattle.raw_tree.specs.Judging.{Shows}
 use Rattle.raw_tree.proofs.writing.tag.Goals as goal
@@ -35,4 +33,4 @@ returns-in-JavaScriptCodeWithScope c =
 pub returns-in-Some : goal.returns-in-Some
 returns-in-Some c =
     let shown = shown_kind (tree_of c.args.value.now) (value_of c.in-Some.leaf) c.in-Some.ensures.some in
-    c.to_tag-in_default.ensures ∙ ap tag_of (c.element_type.ensures ∙ sym (shown ∙ kind_of_raw-value_of c.in-Some.leaf))
+    c.to_tag-in_default.ensures ∙ ap tag_of (c.element_type.ensures ∙ sym shown)

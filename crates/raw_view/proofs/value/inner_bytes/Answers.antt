@@ -1,7 +1,9 @@
-use Rattle.std.proofs.Common.{◌≡◌, ◌-◌, take, drop, length, length-drop, pos, inl, refl, sym, arith}
+use Rattle.std.proofs.Common.{◌≡◌, ◌-◌, ◌++◌, ◌∙◌, take, drop, length, length-drop, pos, inl, refl, ap, sym, arith}
 use Rattle.std.proofs.lemmas.Int.{ints}
 use Rattle.std.proofs.lemmas.List.{take_all, take-append-drop}
 use Rattle.raw_view.specs.Meaning.{malformed_at}
+use Rattle.raw_view.specs.Number.{IsLe32}
+use Rattle.raw_view.proofs.Numbers.{length_fits}
 use Rattle.raw_view.proofs.value.inner_bytes.Goals as goal
 
 pub returns-then-outer-lt4-clause-fault : goal.returns-then-outer-lt4-clause-fault
@@ -12,8 +14,8 @@ returns-clause-inner c =
     let outer = c.args.outer.now in
     let all : take (length outer - 4) (drop 4 outer) ≡ drop 4 outer = take_all _ _ (omega (arith, length-drop 4 outer)) in
     let counted : c.front_i32-inner.result ≡ pos (length (drop 4 outer)) = omega (arith, ints, length-drop 4 outer) in
-    record {
-      head = take 4 outer;
-      length_is = rw (all, ← counted) c.front_i32-inner.ensures;
-      spelled = rw all (sym (take-append-drop 4 outer));
-    }
+    let header : IsLe32 (take 4 outer) (pos (length (drop 4 outer))) = rw (← counted) c.front_i32-inner.ensures in
+    rw all (record {
+      fits = length_fits (take 4 outer) (length (drop 4 outer)) header;
+      spelled = sym (take-append-drop 4 outer) ∙ ap (λ x. x ++ drop 4 outer) header.bytes_are;
+    })
