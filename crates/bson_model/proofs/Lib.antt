@@ -11,3 +11,4 @@ pub mod Measures
 pub mod Variants
 pub mod WellFormed
 pub mod Zips
+pub mod Face

@@ -1,11 +1,11 @@
 -- What a value, a document or a code with scope holds is smaller than it, by the measure that the check
 -- takes: `size-Bson`, `size-Document`, `size-JavaScriptCodeWithScope`.
-use Rattle.std.proofs.Common.{◌≡◌, ℕ, zero, suc, ◌<◌, ◌≤◌, List, [], ◌∷◌, map, Some, slice_get, ap, arith, Vec, Global}
+use Rattle.std.proofs.Common.{◌≡◌, ℕ, zero, suc, ◌<◌, ◌≤◌, List, [], ◌∷◌, map, Some, slice_get, ap, arith}
 use denote.Param.Weighed.{most}
 use Rattle.bson_model.specs.Tree.{pairs_of}
 use Rattle.bson_model.specs.declared.bson.Bson as b
 use Rattle.bson_model.specs.declared.bson.Bson.{Bson, size-Bson}
-use Rattle.bson_model.specs.declared.bson.Bson.TheViews.{sized-Array, sized-Document, sized-JavaScriptCodeWithScope}
+use Rattle.bson_model.specs.declared.bson.Bson.TheViews.{sized-Document, sized-JavaScriptCodeWithScope}
 use Rattle.bson_model.specs.declared.bson.Document.{Document, size-Document, size_is-Document}
 use Rattle.bson_model.specs.declared.bson.JavaScriptCodeWithScope.{JavaScriptCodeWithScope, size-JavaScriptCodeWithScope, size_is-JavaScriptCodeWithScope}
 
@@ -23,10 +23,6 @@ at_most_value (p ∷ ps) (suc i) k v e = let h = at_most_value ps i k v e in ome
 -- a value of `pair_at`
 pub value_smaller : (d : Document) (i : ℕ) (k : List ℕ) (v : Bson) → slice_get (pairs_of d) i ≡ Some (k, v) → size-Bson v < size-Document d
 value_smaller d i k v e = omega (arith, size_is-Document d, at_most_value d.pairs i k v e)
-
--- a list's member
-pub member_smaller : (vs : Vec Bson Global) (i : ℕ) (v : Bson) → slice_get vs.items i ≡ Some v → size-Bson v < size-Bson (b.Array vs)
-member_smaller vs i v e = omega (arith, sized-Array vs, at_most_member vs.items i v e)
 
 -- the document of a value
 pub document_smaller : (d : Document) → size-Document d < size-Bson (b.Document d)

@@ -1,17 +1,15 @@
 -- What putting the options of a regular expression in order gives.
-use Rattle.std.proofs.Common.{◌≡◌, ◌≢◌, ℕ, Bool, true, false, cond, ◌&&◌, List, [], ◌∷◌, ◌++◌, length, All, refl, ap, sym, ◌∙◌, lit<, length-append}
+use Rattle.std.proofs.Common.{◌≡◌, ◌≢◌, ℕ, Bool, true, false, cond, ◌&&◌, List, [], ◌∷◌, ◌++◌, All, refl, ap, sym, ◌∙◌, lit<}
 use Rattle.std.proofs.Math.Dec.{leb}
 use Rattle.std.proofs.Math.Utf8.{scalars, scalar, encode, encodes}
-use Rattle.std.specs.List.{sum_by}
 use Rattle.std.specs.Prelude.{encode_utf8_all}
 use Rattle.std.specs.Str.{chars, IsUtf8}
 use Rattle.std.proofs.lemmas.Str.{chars-encodes, encodes-chars, scalars-chars, encode_ascii, inside_one}
 use Rattle.std.proofs.lemmas.List.Elements.{All-nil, All-cons, All-head, All-tail, All-append, All-from_get_or}
-use Rattle.std.proofs.lemmas.List.Recursion.{is_sum_by}
-use Rattle.std.proofs.lemmas.List.Sorted.{All-permutation, sum_by-IsPermutation}
+use Rattle.std.proofs.lemmas.List.Sorted.{All-permutation}
 use Rattle.bson_model.specs.Bytes.{NulFree}
 use Rattle.bson_model.specs.Options.{put_in_order, ascending, sorted_options, OptionsAscend, OrdersOptions}
-use Rattle.bson_model.proofs.Ascending.{IsPermutation-ascending, IsNonDecreasing-ascending, ascending_unique, ascending_same}
+use Rattle.bson_model.proofs.Ascending.{IsPermutation-ascending, IsNonDecreasing-ascending, ascending_same}
 
 scalars-put_in_order : (c : ℕ) (ds : List ℕ) → scalar c ≡ true → scalars ds ≡ true → scalars (put_in_order c ds) ≡ true
 scalars-put_in_order c [] e h = rw e refl
@@ -53,22 +51,9 @@ OrdersOptions-sorted_options options text = record {
   ascend = OptionsAscend-sorted_options options text;
 }
 
--- nothing else does
-pub OrdersOptions-unique : (options sorted : List ℕ) → OrdersOptions options sorted → sorted ≡ sorted_options options
-OrdersOptions-unique options sorted orders =
-    sym (encodes-chars sorted orders.text) ∙ ap encode_utf8_all (ascending_unique (chars options) (chars sorted) orders.same orders.ascend)
-
 -- options that never descend stay as they are
 pub sorted_options-same : (options : List ℕ) → IsUtf8 options → OptionsAscend options → sorted_options options ≡ options
 sorted_options-same options text ascend = ap encode_utf8_all (ascending_same (chars options) ascend) ∙ encodes-chars options text
-
--- and no others do
-pub OptionsAscend-from_same : (options : List ℕ) → IsUtf8 options → sorted_options options ≡ options → OptionsAscend options
-OptionsAscend-from_same options text same = rw same at (OptionsAscend-sorted_options options text)
-
--- a second time changes nothing
-pub sorted_options-twice : (options : List ℕ) → IsUtf8 options → sorted_options (sorted_options options) ≡ sorted_options options
-sorted_options-twice options text = sorted_options-same (sorted_options options) (IsUtf8-sorted_options options text) (OptionsAscend-sorted_options options text)
 
 after_front : (xs ys : List ℕ) → NulFree (xs ++ ys) → NulFree ys
 after_front [] ys h = h
@@ -100,12 +85,3 @@ pub NulFree-sorted_options : (options : List ℕ) → IsUtf8 options → NulFree
 NulFree-sorted_options options text h =
     let cs = chars options in
     NulFree-encodes (ascending cs) (All-permutation (λ c. c ≢ 0) cs (ascending cs) (IsPermutation-ascending cs) (no_nul_chars cs (rw (encodes-chars options text) h)))
-
-length-encodes : (cs : List ℕ) → length (encodes cs) ≡ sum_by (λ c. length (encode c)) cs
-length-encodes cs = is_sum_by (λ ds. length (encodes ds)) (λ c. length (encode c)) refl (λ c ds. length-append (encode c) (encodes ds)) cs
-
--- it is as long as the options
-pub length-sorted_options : (options : List ℕ) → IsUtf8 options → length (sorted_options options) ≡ length options
-length-sorted_options options text =
-    let cs = chars options in
-    length-encodes (ascending cs) ∙ sum_by-IsPermutation (λ c. length (encode c)) cs (ascending cs) (IsPermutation-ascending cs) ∙ sym (length-encodes cs) ∙ ap length (encodes-chars options text)

@@ -9,6 +9,7 @@ use Rattle.raw_bson.specs.Envelope.{IsEnvelope, Refuses}
 use Rattle.raw_bson.specs.Frame.{Frame, Fault, Malformed, Utf8, End, Done, Stopped, IsWalk}
 use Rattle.raw_bson.specs.Kind.{tag_of}
 use Rattle.raw_bson.specs.Meaning.{KeyedFault}
+use Rattle.raw_bson.specs.Number.{max_length}
 use Rattle.raw_bson.specs.Reading.{FirstFault, Reads}
 use Rattle.raw_bson.specs.Tree.{Tree}
 use Rattle.bsonraw.specs.declared.command.Command.{Command}
@@ -89,8 +90,8 @@ pub record PrintsRefusal (b : List ℕ) (status : ℕ) (output : List ℕ) : Typ
 -- no tree, its first fault.
 abbrev pub PrintsForm : List ℕ → ℕ → List ℕ → Type 0
 PrintsForm b status output =
-    ((t : Tree) × Reads b t × (encoded_len t ≤ 2147483647) × (status ≡ 0) × (output ≡ encode_lower (encoding t) ++ codes "\n"))
-    ⊎ ((t : Tree) × Reads b t × (2147483647 < encoded_len t) × (status ≡ 1) × (output ≡ codes "refused 5\n"))
+    ((t : Tree) × Reads b t × (encoded_len t ≤ max_length) × (status ≡ 0) × (output ≡ encode_lower (encoding t) ++ codes "\n"))
+    ⊎ ((t : Tree) × Reads b t × (max_length < encoded_len t) × (status ≡ 1) × (output ≡ codes "refused 5\n"))
     ⊎ ((fault : KeyedFault) × FirstFault b fault × (status ≡ 1) × (output ≡ end_line (Stopped fault.fault fault.key)))
 
 -- what a command prints of a document

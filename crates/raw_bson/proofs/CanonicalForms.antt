@@ -3,6 +3,7 @@ use Rattle.std.proofs.Common.{◌≡◌, ◌≤◌, List, ℕ, zero, suc, ap, sy
 use Rattle.bson_model.specs.Pairs.{keep}
 use Rattle.bson_model.specs.Tree.{Tree, Entries, document, entries}
 use Rattle.raw_view.specs.Envelope.{IsEnvelope}
+use Rattle.raw_view.specs.Number.{max_length}
 use Rattle.raw_tree.specs.Canonical.{IsCanonical}
 use Rattle.raw_tree.specs.CanonicalForm.{AllAreSpelledOneWay, ComesBack, DocumentsComeBack, IsCanonicalForm, IsSpelling}
 use Rattle.raw_tree.specs.Encoding.{encoding, encoded_len}
@@ -11,11 +12,11 @@ use Rattle.raw_tree.specs.Reading.{AllAreReadOneWay, Reads, as_document}
 -- the tree of a document is that of its entries
 document_read : (b : List ℕ) (t : Tree) → Reads b t → (es : Entries) × (t ≡ document es)
 document_read b t (zero, h) = absurd h
-document_read b t (suc n, h) = (entries (keep h.1), h.4)
+document_read b t (suc n, h) = (entries (keep h.0), h.2)
 
 module _ (come_back : DocumentsComeBack) (one_reading : AllAreReadOneWay as_document) (one_spelling : AllAreSpelledOneWay as_document) where
   -- the encoding of a tree that was read comes back
-  read_comes_back : (b : List ℕ) (t : Tree) → IsEnvelope b → Reads b t → encoded_len t ≤ 2147483647 → IsEnvelope (encoding t) × Reads (encoding t) t × IsCanonical (encoding t)
+  read_comes_back : (b : List ℕ) (t : Tree) → IsEnvelope b → Reads b t → encoded_len t ≤ max_length → IsEnvelope (encoding t) × Reads (encoding t) t × IsCanonical (encoding t)
   read_comes_back b t env read size =
       let made = document_read b t read in
       subst (ComesBack as_document) (sym made.1) (come_back made.0) ((one_spelling b env).proper t read) size

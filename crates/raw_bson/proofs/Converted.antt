@@ -12,8 +12,7 @@ use Rattle.raw_view.specs.declared.error.ErrorKind.TheVariants as kind
 use Rattle.raw_view.specs.declared.error.Reason.TheVariants as reason
 use Rattle.raw_tree.specs.Encoding.{IsEncoded, IsRefused, RefusesTree, items_len}
 use Rattle.raw_tree.specs.Reading.{Holds, Reads, TellsFirstFault, TellsFirstFaultOfValue}
-use Rattle.raw_tree.proofs.Encodings.{length-tree_payload}
-use Rattle.raw_tree.proofs.OneWay.{enveloped_one_way}
+use Rattle.raw_tree.proofs.Face.{length-tree_payload, enveloped_one_way}
 use Rattle.raw_bson.specs.Append.{IsRawInRange}
 use Rattle.raw_bson.specs.Conversion.{BecomesOneTree, RefusesForm}
 

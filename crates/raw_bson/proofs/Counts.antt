@@ -6,8 +6,7 @@ use Rattle.raw_view.specs.Item.{Item, entry, stopped, ItemsOf}
 use Rattle.bson_model.specs.Bytes.{AreBytes}
 use Rattle.raw_view.specs.declared.element.RawElement.{RawElement}
 use Rattle.raw_view.specs.declared.error.Error.{Error}
-use Rattle.raw_view.proofs.Meanings.{has_meaning}
-use Rattle.raw_view.proofs.Walks.{AreBytes-rest}
+use Rattle.raw_view.proofs.Face.{has_meaning, AreBytes-rest}
 
 -- the stop is an item
 abbrev stops : End → ℕ

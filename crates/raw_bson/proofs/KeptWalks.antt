@@ -5,16 +5,14 @@ use Rattle.std.proofs.lemmas.List.{take-append-le, get_or_at, get_or-take, same_
 use Rattle.std.proofs.lemmas.Bool.{cases_lt}
 use Rattle.bson_model.specs.Bytes.{AreBytes}
 use Rattle.raw_view.specs.Envelope.{IsEnvelope}
-use Rattle.raw_view.specs.Format.{string_payload, framed, inside_of}
+use Rattle.raw_view.specs.Format.{string_payload, inside_of}
 use Rattle.raw_view.specs.Frame.{HasDeclaredLength, HasShape, Frame, IsFrame, IsWalk, Done}
 use Rattle.raw_view.specs.Kind.{tag_of}
 use Rattle.raw_view.specs.Meaning.{RawValue, single, document, array, scoped, kind_of_raw}
 use Rattle.raw_view.specs.Number.{max_length, IsLe32, le32}
 use Rattle.raw_view.specs.declared.element_type.ElementType.{ElementType}
 use Rattle.raw_view.specs.declared.element_type.ElementType.TheVariants as kind
-use Rattle.raw_view.proofs.Payloads.{document_framed}
-use Rattle.raw_view.proofs.Unique.{the_walk}
-use Rattle.raw_view.proofs.Written.{length-framed, leaf_shape, declared_shape, framed_is_envelope}
+use Rattle.raw_view.proofs.Face.{document_framed, the_walk, length-framed, leaf_shape, declared_shape, framed_is_envelope}
 use Rattle.raw_tree.specs.Payload.{payload_of, element_bytes, IsValueNulFree}
 use Rattle.raw_bson.specs.Append.{appended_bytes, IsNulFreeElement, HasRoom, value_frame, EndsInShortScope, KeepsWalk, IsRawInRange}
 

@@ -16,8 +16,7 @@ use Rattle.bson_model.specs.declared.object_id.DbPointer.{DbPointer}
 use Rattle.bson_model.specs.declared.regexes.Regex.{Regex}
 use Rattle.bson_model.specs.declared.times.DateTime.{DateTime}
 use Rattle.bson_model.specs.declared.times.Timestamp.{Timestamp}
-use Rattle.bson_model.proofs.Equality.{same_subtype}
-use Rattle.bson_model.proofs.Variants.{Kinds, AllDecide, decided, along, joined}
+use Rattle.bson_model.proofs.Face.{same_subtype, Kinds, AllDecide, decided, along, joined}
 use Rattle.raw_view.specs.Meaning.{RawValue, single, document, array, scoped}
 use Rattle.raw_bson.specs.Owned.{owned_value, count_in, IsSameOwned}
 use Rattle.raw_bson.specs.declared.array_buf.RawArrayBuf.{RawArrayBuf}

@@ -28,6 +28,7 @@ pub use Rattle.raw_view.specs.Document
 pub use Rattle.raw_view.specs.ElementSteps
 pub use Rattle.raw_view.specs.Envelope
 pub use Rattle.raw_view.specs.Errors
+pub use Rattle.raw_view.specs.Format
 pub use Rattle.raw_view.specs.Frame
 pub use Rattle.raw_view.specs.Item
 pub use Rattle.raw_view.specs.Kind

@@ -5,7 +5,7 @@ ghost use Rattle.raw_bson.specs.Append.{Appends, KeepsWalk};
 ghost use Rattle.raw_tree.specs.Payload.{element_bytes};
 ghost use Rattle.raw_view.specs.Envelope.{IsEnvelope};
 ghost use Rattle.raw_view.specs.Errors.{key_of};
-ghost use Rattle.raw_view.specs.Number.{le32};
+ghost use Rattle.raw_view.specs.Number.{max_length, le32};
 ghost use Rattle.raw_view.specs.Value.{value_of};
 
 use crate::attest::attest_value;
@@ -35,7 +35,7 @@ fn put_key(bytes: &mut Vec<u8>, key: &str)
 /// Puts an element in place of the last byte, and a 0 behind it, where there is room for them.
 fn put_element(bytes: &mut Vec<u8>, key: &str, value: RawBsonRef<'_>)
     requires some { 0 < vec_len bytes.old }
-    requires fits { length (element_bytes key.now (value_of value)) ≤ 2147483647 }
+    requires fits { length (element_bytes key.now (value_of value)) ≤ max_length }
     requires room { vec_len bytes.old + length (element_bytes key.now (value_of value)) ≤ vec_capacity bytes.old }
     ensures items { bytes.new.items ≡ take (length bytes.old.items - 1) bytes.old.items ++ (element_bytes key.now (value_of value.entry) ++ 0 ∷ []) }
 {

@@ -11,10 +11,8 @@ use Rattle.raw_view.specs.Meaning as raw
 use Rattle.bson_model.specs.Bytes.{AreBytes}
 use Rattle.raw_view.specs.declared.element_type.ElementType.{ElementType}
 use Rattle.raw_view.specs.declared.element_type.ElementType.TheVariants as kind
-use Rattle.raw_view.proofs.CallerLemmas.{LeadsTo-walk, LeadsTo-more, IsFrame-shorter}
-use Rattle.raw_view.proofs.Meanings.{has_meaning}
-use Rattle.bson_model.proofs.Bytes.{AreBytes-drop}
-use Rattle.raw_view.proofs.Walks.{AreBytes-rest, document_has_walk}
+use Rattle.raw_view.proofs.Face.{LeadsTo-walk, LeadsTo-more, IsFrame-shorter, has_meaning, AreBytes-rest, document_has_walk}
+use Rattle.bson_model.proofs.Face.{AreBytes-drop}
 use Rattle.raw_tree.specs.Reading.{Sort, as_document, as_array, tree_of_pairs, leaf_in_order, StandsFor, StandForEach, ReadsUpTo, ReadsAs, Holds, FirstFault, FirstFaultOfValue}
 
 -- nested bytes
@@ -99,14 +97,6 @@ reads_up_to zero m l sort b t h = absurd h
 reads_up_to (suc n) zero l sort b t h = absurd (omega arith)
 reads_up_to (suc n) (suc m) l sort b t h =
     (h.0, (h.1.0, h.1.1, stand_each_on (ReadsUpTo n) (ReadsUpTo m) (reads_up_to n m (omega arith)) h.1.0 h.0 h.1.2), h.2)
-
--- within one level more
-pub reads_more : (n : ℕ) (sort : Sort) (b : List ℕ) (t : Tree) → ReadsUpTo n sort b t → ReadsUpTo (suc n) sort b t
-reads_more n sort b t h = reads_up_to n (suc n) (omega arith) sort b t h
-
--- frames read within some levels are read
-pub stand_each_of : (n : ℕ) (fs : List Frame) (pairs : List (List ℕ × Tree)) → StandForEach (ReadsUpTo n) fs pairs → StandForEach ReadsAs fs pairs
-stand_each_of n fs pairs h = stand_each_on (ReadsUpTo n) ReadsAs (λ sort b t r. (n, r)) fs pairs h
 
 -- a value that stands for a tree does so within some levels
 stands_level : (v : RawValue) (t : Tree) → StandsFor ReadsAs v t → (n : ℕ) × StandsFor (ReadsUpTo n) v t
@@ -234,7 +224,3 @@ decided_within (suc n) sort b l env =
 -- bytes with an envelope are read as a tree, or have a first fault
 pub decided : (sort : Sort) (b : List ℕ) → IsEnvelope b → AreReadOrFaulty sort b
 decided sort b env = decided_within (length b) sort b (omega arith) env
-
--- a frame's value stands for a tree, or has a first fault
-pub value_decided : (s : List ℕ) (f : Frame) (r : List ℕ) (v : RawValue) → IsFrame s f r → Means f (value v) → StandsOrIsFaulty v
-value_decided s f r v b m = value_by_nested v (λ sort d h. decided sort d (nested_envelope s f r v d b m h))

@@ -1,5 +1,5 @@
 -- The lengths of encodings, and one more member or pair of a walk.
-use Rattle.std.proofs.Common.{◌≡◌, ◌≤◌, ◌<◌, ◌-◌, ◌^◌, ℕ, zero, suc, ◌+◌, List, [], ◌∷◌, ◌++◌, length, map, take, drop, decimal, pos, min, Some, slice_get, slice_index_or, get_or, refl, ap, sym, ◌∙◌, append_assoc, length-append, arith}
+use Rattle.std.proofs.Common.{◌≡◌, ◌≤◌, ◌<◌, ◌-◌, ◌^◌, ℕ, zero, suc, ◌+◌, List, [], ◌∷◌, ◌++◌, length, map, take, drop, decimal, pos, min, Some, slice_get, get_or, refl, ap, sym, ◌∙◌, append_assoc, length-append, arith}
 use Rattle.std.proofs.Math.Seq.{take-append_seam, drop-append-add}
 use Rattle.std.proofs.lemmas.List.{append-nil}
 use Rattle.std.proofs.lemmas.Option.{slice_get-get_or}
@@ -7,11 +7,11 @@ use Rattle.bson_model.specs.Bytes.{NulFree}
 use Rattle.bson_model.specs.Proper.{IsNulFree, IsLeafNulFree, InTrees, InEntries, Whatever}
 use Rattle.bson_model.specs.Tree.{Tree, Trees, Entries, leaf, array, document, code_with_scope, no_tree, tree_then, no_entry, entry_then, trees, entries, tree_of, with_trees, tree_of_list}
 use Rattle.bson_model.specs.declared.bson.Bson.{Bson}
-use Rattle.bson_model.proofs.Steps.{trees-more, with_trees-more}
+use Rattle.bson_model.proofs.Face.{trees-more, with_trees-more}
 use Rattle.raw_view.specs.Format.{framed, element_of}
 use Rattle.raw_view.specs.Number.{le32}
 use Rattle.raw_view.specs.declared.element_type.ElementType.{ElementType}
-use Rattle.raw_view.proofs.Written.{length-framed, length-scoped_payload}
+use Rattle.raw_view.proofs.Face.{length-framed, length-scoped_payload}
 use Rattle.raw_tree.specs.Encoding.{kind_of_tree, tree_payload, items_bytes, entries_bytes, encoded_len, items_len, entries_len}
 use Rattle.raw_tree.specs.Judging.{Judges}
 

@@ -6,7 +6,7 @@ use Rattle.bson_model.specs.Tree.{Tree, Trees, Entries, leaf, array, document, c
 use Rattle.raw_view.specs.Envelope.{IsEnvelope}
 use Rattle.raw_view.specs.Frame.{Frame}
 use Rattle.raw_view.specs.Number.{max_length}
-use Rattle.raw_view.proofs.Written.{framed_is_envelope}
+use Rattle.raw_view.proofs.Face.{framed_is_envelope}
 use Rattle.raw_view.specs.Meaning.{RawValue}
 use Rattle.raw_view.specs.Meaning as raw
 use Rattle.bson_model.specs.Bytes.{AreBytes}

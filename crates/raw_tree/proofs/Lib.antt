@@ -7,3 +7,4 @@ pub mod ReadTrees
 pub mod Spelled
 pub mod Returns
 pub mod Forms
+pub mod Face

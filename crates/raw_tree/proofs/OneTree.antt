@@ -2,10 +2,9 @@
 use Rattle.std.proofs.Common.{◌≡◌, ◌⊎◌, inl, inr, ◌∷◌, [], ℕ, zero, suc, List, drop, ap, sym, ◌∙◌, subst}
 use Rattle.bson_model.specs.Tree.{Tree, document, code_with_scope}
 use Rattle.raw_view.specs.Frame.{Frame, IsFrame, IsStop, IsWalk, Done, LeadsTo}
-use Rattle.raw_view.specs.Meaning.{RawValue, KeyedFault, Meaning, Means, value, faulty}
+use Rattle.raw_view.specs.Meaning.{RawValue, KeyedFault, Means, value, faulty}
 use Rattle.raw_view.specs.Meaning as raw
-use Rattle.raw_view.proofs.Unique.{one_frame, one_stop, one_walk, no_frame_at_stop, no_frame_at_final, no_stop_at_final}
-use Rattle.raw_view.proofs.UniqueMeanings.{one_meaning}
+use Rattle.raw_view.proofs.Face.{one_frame, one_stop, one_walk, no_frame_at_stop, no_frame_at_final, no_stop_at_final, one_meaning}
 use Rattle.raw_tree.specs.Reading.{Sort, as_document, as_array, tree_of_pairs, StandsFor, StandForEach, ReadsUpTo, ReadsAs, Holds, FailsInFrame, FirstFaultUpTo, FirstFault, FirstFaultOfValue}
 
 -- values

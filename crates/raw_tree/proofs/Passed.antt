@@ -6,7 +6,7 @@ use Rattle.raw_view.specs.Frame.{Frame}
 use Rattle.raw_view.specs.Meaning.{KeyedFault}
 use Rattle.raw_view.specs.declared.element.RawElement.{RawElement}
 use Rattle.raw_view.specs.declared.error.Error.{Error}
-use Rattle.raw_view.proofs.CallerLemmas.{HasRead-end, LeadsTo-bound}
+use Rattle.raw_view.proofs.Face.{HasRead-end, LeadsTo-bound}
 use Rattle.raw_tree.specs.Reading.{Sort, tree_of_pairs, StandForEach, ReadsAs, FrameStandsFor, TellsFirstFault, TellsFirstFaultOfFrame}
 use Rattle.raw_tree.proofs.Decides.{stand_more, reads_of, fault_at_stop, fault_at_frame, fault_inside}
 

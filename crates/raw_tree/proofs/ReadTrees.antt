@@ -1,5 +1,5 @@
 -- A tree that bytes with an envelope are read as is proper.
-use Rattle.std.proofs.Common.{◌≡◌, ◌≢◌, ◌<◌, inl, inr, ◌++◌, ◌∷◌, [], ℕ, pos, zero, suc, true, false, cond, fold, List, length, map, drop, arith, ap, refl, sym, ◌∙◌, subst, append_assoc}
+use Rattle.std.proofs.Common.{◌≡◌, ◌<◌, inl, inr, ◌++◌, ◌∷◌, [], ℕ, pos, zero, suc, true, false, cond, fold, List, length, map, drop, arith, ap, refl, sym, ◌∙◌, subst, append_assoc}
 use Rattle.std.specs.List.{IsDistinct}
 use Rattle.std.specs.Str.{IsUtf8, bytes_eq}
 use Rattle.bson_model.specs.Bytes.{AreBytes, NulFree}
@@ -9,10 +9,7 @@ use Rattle.bson_model.specs.Proper.{Everywhere, InTrees, InEntries, Whatever, Is
 use Rattle.bson_model.specs.Subtype.{subtype_of, subtype_byte}
 use Rattle.bson_model.specs.Tree.{Tree, document, trees, entries}
 use Rattle.bson_model.specs.declared.binaries.BinarySubtype.TheVariants.{BinaryOld}
-use Rattle.bson_model.proofs.Keep.{fold-keep, HasDistinctKeys-keep}
-use Rattle.bson_model.proofs.OptionOrder.{IsUtf8-sorted_options, OptionsAscend-sorted_options, NulFree-sorted_options}
-use Rattle.bson_model.proofs.Subtypes.{subtype_byte-subtype_of, IsProperSubtype-subtype_of}
-use Rattle.bson_model.proofs.WellFormed.{keys_in-entries}
+use Rattle.bson_model.proofs.Face.{fold-keep, HasDistinctKeys-keep, IsUtf8-sorted_options, OptionsAscend-sorted_options, NulFree-sorted_options, subtype_byte-subtype_of, IsProperSubtype-subtype_of, keys_in-entries, AreBytes-front, AreBytes-back, AreBytes-drop}
 use Rattle.raw_view.specs.Envelope.{IsEnvelope}
 use Rattle.raw_view.specs.Format.{string_payload}
 use Rattle.raw_view.specs.Frame.{Frame, IsFrame, HasShape, IsBinary, IsRegex, IsDbPointer, IsWalk, Done}
@@ -22,8 +19,7 @@ use Rattle.raw_view.specs.Meaning as raw
 use Rattle.raw_view.specs.Number.{le32}
 use Rattle.raw_view.specs.declared.element_type.ElementType.{ElementType}
 use Rattle.raw_view.specs.declared.element_type.ElementType.TheVariants as kind
-use Rattle.bson_model.proofs.Bytes.{AreBytes-front, AreBytes-back, AreBytes-drop}
-use Rattle.raw_view.proofs.Walks.{AreBytes-rest}
+use Rattle.raw_view.proofs.Face.{AreBytes-rest}
 use Rattle.raw_tree.specs.Reading.{Sort, as_document, as_array, tree_of_pairs, leaf_in_order, StandsFor, StandForEach, ReadsUpTo, ReadsAs}
 use Rattle.raw_tree.proofs.Decides.{nested_envelope}
 

@@ -8,9 +8,7 @@ use Rattle.bson_model.specs.Subtype.{subtype_of, subtype_byte}
 use Rattle.bson_model.specs.Tree.{Tree, leaf, document, trees, entries}
 use Rattle.bson_model.specs.declared.binaries.BinarySubtype.{BinarySubtype}
 use Rattle.bson_model.specs.declared.binaries.BinarySubtype.TheVariants.{Generic, Function, BinaryOld, UuidOld, Uuid, Md5, Encrypted, Column, Sensitive, Vector, Reserved, UserDefined}
-use Rattle.bson_model.proofs.Keep.{keep-distinct}
-use Rattle.bson_model.proofs.OptionOrder.{sorted_options-same}
-use Rattle.bson_model.proofs.Subtypes.{subtype_byte-subtype_of}
+use Rattle.bson_model.proofs.Face.{keep-distinct, sorted_options-same, subtype_byte-subtype_of}
 use Rattle.raw_view.specs.Envelope.{IsEnvelope}
 use Rattle.raw_view.specs.Format.{plain_binary_payload, binary_payload, leaf_payload, scoped_payload, framed, element_of}
 use Rattle.raw_view.specs.Frame.{Frame, IsFrame, HasShape, IsBinary, IsWalk, Done}
@@ -19,9 +17,7 @@ use Rattle.raw_view.specs.Meaning.{RawValue, kind_of_raw, IsBinaryValue, Means, 
 use Rattle.raw_view.specs.Meaning as raw
 use Rattle.raw_view.specs.declared.element_type.ElementType.{ElementType}
 use Rattle.raw_view.specs.declared.element_type.ElementType.TheVariants as kind
-use Rattle.raw_view.proofs.Iteration.{front_and_rest}
-use Rattle.raw_view.proofs.Payloads.{counted_whole}
-use Rattle.raw_view.proofs.Unique.{one_walk}
+use Rattle.raw_view.proofs.Face.{front_and_rest, counted_whole, one_walk}
 use Rattle.raw_tree.specs.Canonical.{AreDecimalsFrom, AreKeysCanonical, IsValueCanonical, AreFramesCanonical, IsCanonicalUpTo, IsCanonicalAs}
 use Rattle.raw_tree.specs.Encoding.{kind_of_tree, tree_payload, items_bytes, entries_bytes, encoding}
 use Rattle.raw_tree.specs.Payload.{payload_of}

@@ -1,5 +1,5 @@
 -- The bytes that trees are written as. BSON 1.1, `document`.
-use Rattle.std.specs.Prelude.{◌≡◌, ◌<◌, ◌≤◌, None, ℕ, ◌+◌, List, [], ◌∷◌, ◌++◌, length, decimal}
+use Rattle.std.specs.Prelude.{◌≡◌, ◌<◌, ◌≤◌, None, ℕ, ◌+◌, List, [], ◌++◌, length, decimal}
 use Rattle.bson_model.specs.Proper.{IsNulFree}
 use Rattle.bson_model.specs.Tree.{Tree, Trees, Entries, leaf, array, document, code_with_scope, no_tree, tree_then, no_entry, entry_then}
 use Rattle.raw_view.specs.Errors.{key_of}

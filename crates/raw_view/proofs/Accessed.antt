@@ -1,12 +1,12 @@
 -- The accessors give the values of their kinds, and nothing for every other kind.
-use Rattle.std.proofs.Common.{◌≡◌, ◌≢◌, inl, inr, ℕ, List, Option, Some, None, Result, Ok, Err, refl, sym, ap, ◌∙◌, subst}
+use Rattle.std.proofs.Common.{◌≡◌, inl, inr, ℕ, List, Option, Some, None, Result, Ok, Err, refl, sym, ap, ◌∙◌, subst}
 use Rattle.raw_view.specs.declared.element_type.ElementType.{ElementType}
 use Rattle.raw_view.specs.declared.bson_ref.RawBsonRef.{RawBsonRef}
 use Rattle.raw_view.specs.declared.error.Error.{Error}
 use Rattle.raw_view.specs.declared.access.ValueAccessError.{ValueAccessError}
 use Rattle.raw_view.specs.declared.access.ValueAccessErrorKind.{ValueAccessErrorKind}
 use Rattle.raw_view.specs.declared.access.ValueAccessErrorKind.TheVariants as access
-use Rattle.raw_view.specs.Meaning.{RawValue, kind_of_raw, KeyedFault, Meaning, value, faulty}
+use Rattle.raw_view.specs.Meaning.{RawValue, KeyedFault, Meaning, value, faulty}
 use Rattle.raw_view.specs.Value.{value_of}
 use Rattle.raw_view.specs.Answers.{Says, TellsFound}
 use Rattle.raw_view.specs.Access.{IsNoValueOf, IsAccessFault, IsTypedFault, Accesses, Gets}

@@ -1,7 +1,7 @@
 -- A key and its 0 are determined by the bytes.
 use Rattle.std.proofs.Common.{◌≡◌, ℕ, List, [], ◌∷◌, ◌++◌}
 use Rattle.bson_model.specs.Bytes.{NulFree}
-use Rattle.bson_model.proofs.Bytes.{NulFree-head, NulFree-tail}
+use Rattle.bson_model.proofs.Face.{NulFree-head, NulFree-tail}
 
 pub cut : (k k' z z' : List ℕ) → NulFree k → NulFree k' → k ++ 0 ∷ z ≡ k' ++ 0 ∷ z' → (k ≡ k') × (z ≡ z')
 cut [] [] z z' h h' e = (cc, cc)

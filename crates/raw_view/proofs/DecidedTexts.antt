@@ -5,7 +5,7 @@ use Rattle.std.proofs.lemmas.Bool.{cases_Bool, cases_eq, both_ways}
 use Rattle.std.proofs.lemmas.Str.{IsUtf8-from_is_utf8, is_utf8-from_IsUtf8}
 use Rattle.bson_model.specs.Bytes.{NulFree}
 use Rattle.raw_view.specs.Frame.{BeginsWithBadText, HasBadRegexText}
-use Rattle.bson_model.proofs.Bytes.{NulFree-nil, NulFree-cons}
+use Rattle.bson_model.proofs.Face.{NulFree-nil, NulFree-cons}
 use Rattle.raw_view.proofs.Cuts.{cut}
 use Rattle.raw_view.proofs.Texts.{no_nul_in, good_text, no_bad_regex}
 

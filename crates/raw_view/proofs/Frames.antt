@@ -9,7 +9,7 @@ use Rattle.raw_view.specs.Kind.{tag_of}
 use Rattle.bson_model.specs.Bytes.{NulFree}
 use Rattle.raw_view.specs.Frame.{HasShape, HasNoFrame, IsStop, Malformed}
 use Rattle.raw_view.specs.Front.{StopsWith, IsTextFault, IsPayloadFault}
-use Rattle.bson_model.proofs.Bytes.{NulFree-head, NulFree-tail}
+use Rattle.bson_model.proofs.Face.{NulFree-head, NulFree-tail}
 use Rattle.raw_view.proofs.Cuts.{cut}
 
 abbrev pub kind_of : ℕ → Option ElementType

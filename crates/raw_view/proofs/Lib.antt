@@ -9,7 +9,7 @@ pub mod ItemSteps
 pub mod LookUps
 pub mod Places
 pub mod Accessed
-pub mod CallerLemmas
+pub mod Loops
 pub mod DecidedTexts
 pub mod Decided
 pub mod Walks
@@ -19,3 +19,4 @@ pub mod UniquePayloads
 pub mod Unique
 pub mod UniqueMeanings
 pub mod UniqueItems
+pub mod Face

@@ -18,7 +18,7 @@ use Rattle.raw_view.specs.Meaning.{single, document, array, scoped, Meaning, val
 use Rattle.raw_view.specs.Item.{Item, entry, stopped, ItemsOf, AreItems}
 use Rattle.raw_view.proofs.Numbers.{read_front, unsigned32, unsigned64, signed32, signed64, length_fits, IsLe32-same}
 use Rattle.raw_view.proofs.Payloads.{timestamp_found}
-use Rattle.bson_model.proofs.Bytes.{AreBytes-take, AreBytes-front, AreBytes-back, AreBytes-drop}
+use Rattle.bson_model.proofs.Face.{AreBytes-take, AreBytes-front, AreBytes-back, AreBytes-drop}
 use Rattle.raw_view.proofs.Shapes.{scope_parts}
 use Rattle.raw_view.proofs.DecidedTexts.{utf8_or_not}
 use Rattle.raw_view.proofs.Decided.{string_or_not, document_or_not}

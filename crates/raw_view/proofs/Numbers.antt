@@ -1,10 +1,9 @@
 -- Numbers at the front of bytes.
-use Rattle.std.proofs.Common.{◌≡◌, ◌≤◌, ◌<◌, ◌^◌, ◌++◌, ◌∷◌, [], ℕ, ℤ, pos, zero, suc, List, length, take, get_or, w32, w64, of_z, to_z, arith, ap, sym, refl, ◌∙◌}
+use Rattle.std.proofs.Common.{◌≡◌, ◌≤◌, ◌<◌, ◌^◌, ◌∷◌, [], ℕ, ℤ, pos, zero, suc, List, length, take, get_or, w32, w64, of_z, to_z, arith, ap, sym, refl, ◌∙◌}
 use Rattle.std.proofs.Math.Facts.{Fits-of_z, sfits_to_z}
 use Rattle.std.specs.Int.{from_le_bytes, to_le_bytes}
 use Rattle.std.proofs.lemmas.Int.{to_z-of_z, of_z-to_z, fits_signed_from_abs}
 use Rattle.std.proofs.lemmas.Nat.{le_bytes_4, le_bytes_8, from_le_bytes-to_le_bytes_4, from_le_bytes-to_le_bytes_8}
-use Rattle.std.proofs.lemmas.List.{take_at}
 use Rattle.bson_model.specs.Bytes.{AreBytes}
 use Rattle.raw_view.specs.Number.{max_length, le32, IsLe32, IsLe64, IsUnsigned32, IsUnsigned64}
 
@@ -80,7 +79,3 @@ IsLe64-same bs z w a b =
 
 pub IsLe32-length : (bs : List ℕ) (z : ℤ) → IsLe32 bs z → length bs ≡ 4
 IsLe32-length bs z a = ap length a.bytes_are
-
--- a head of four bytes in front of others is their first four
-pub take_head : (head t : List ℕ) (z : ℤ) → IsLe32 head z → take 4 (head ++ t) ≡ head
-take_head head t z a = take_at head t 4 (IsLe32-length head z a)

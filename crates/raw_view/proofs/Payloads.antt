@@ -4,7 +4,7 @@ use Rattle.std.proofs.lemmas.List.{take_at, drop_at, take_all, take-take, take-a
 use Rattle.std.proofs.lemmas.Option.{slice_get-get_or, get_or_from_slice_get}
 use Rattle.std.specs.Int.{to_le_bytes}
 use Rattle.bson_model.specs.Bytes.{AreBytes}
-use Rattle.bson_model.proofs.Bytes.{AreBytes-take}
+use Rattle.bson_model.proofs.Face.{AreBytes-take}
 use Rattle.raw_view.specs.Number.{max_length, le32, IsLe32, IsUnsigned32}
 use Rattle.raw_view.specs.Envelope.{IsEnvelope}
 use Rattle.raw_view.specs.Format.{string_payload, counted, framed, inside_of}

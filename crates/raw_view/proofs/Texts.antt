@@ -9,7 +9,7 @@ use Rattle.raw_view.specs.declared.element_type.ElementType.TheVariants as kind
 use Rattle.bson_model.specs.Bytes.{NulFree}
 use Rattle.raw_view.specs.Frame.{IsRegex, BeginsWithBadText, HasBadRegexText}
 use Rattle.raw_view.specs.Front.{IsTextFault, IsPayloadFault}
-use Rattle.bson_model.proofs.Bytes.{NulFree-head, NulFree-tail}
+use Rattle.bson_model.proofs.Face.{NulFree-head, NulFree-tail}
 use Rattle.raw_view.proofs.Cuts.{cut}
 
 -- a list with a 0 in it

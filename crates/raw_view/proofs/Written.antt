@@ -10,7 +10,7 @@ use Rattle.bson_model.specs.Proper.{IsLeafInRange, IsLeafNulFree, IsLeafSubtypeP
 use Rattle.bson_model.specs.Subtype.{subtype_of, subtype_byte, IsProperSubtype}
 use Rattle.bson_model.specs.declared.binaries.BinarySubtype.{BinarySubtype}
 use Rattle.bson_model.specs.declared.binaries.BinarySubtype.TheVariants.{BinaryOld}
-use Rattle.bson_model.proofs.Bytes.{AreBytes-nil, AreBytes-cons, AreBytes-append, AreBytes-nul, AreBytes-number, AreBytes-text}
+use Rattle.bson_model.proofs.Face.{AreBytes-nil, AreBytes-cons, AreBytes-append, AreBytes-nul, AreBytes-number, AreBytes-text}
 use Rattle.raw_view.specs.Envelope.{IsEnvelope}
 use Rattle.raw_view.specs.Format.{string_payload, plain_binary_payload, old_bytes, binary_payload, regex_payload, pointer_payload, leaf_payload, counted, scoped_payload, framed, element_of}
 use Rattle.raw_view.specs.Frame.{IsBinary, IsRegex, IsDbPointer, HasDeclaredLength, HasShape}

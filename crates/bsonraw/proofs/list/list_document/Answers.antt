@@ -3,7 +3,7 @@ use Rattle.raw_bson.specs.Frame.{Done, Stopped}
 use Rattle.raw_bson.specs.ElementSteps.{StepsElement, frame_of}
 use Rattle.raw_bson.specs.RawElement.{RawElement}
 use Rattle.raw_bson.specs.Error.{Error}
-use Rattle.raw_bson.proofs.CallerLemmas.{HasRead-more, HasRead-end, HasRead-stop}
+use Rattle.raw_bson.proofs.Face.{HasRead-more, HasRead-end, HasRead-stop}
 use Rattle.bsonraw.specs.Print.{end_line, frame_line}
 use Rattle.bsonraw.proofs.Lines.{frame_lines-more}
 use Rattle.bsonraw.proofs.list.list_document.Goals as goal

@@ -5,8 +5,8 @@ use Rattle.bson_model.specs.Bytes.{AreBytes}
 use Rattle.raw_view.specs.Value.{value_of}
 use Rattle.raw_bson.specs.Append.{appended_bytes, HasRoom}
 use Rattle.raw_bson.proofs.KeptWalks.{length-appended_bytes, appended_is_envelope, keeps_walk}
-use Rattle.bson_model.proofs.Bytes.{AreBytes-from_elements}
-use Rattle.raw_bson.proofs.Written.{written_is_appended}
+use Rattle.bson_model.proofs.Face.{AreBytes-from_elements}
+use Rattle.raw_bson.proofs.Appended.{written_is_appended}
 use Rattle.raw_bson.proofs.appending.append_element.Goals as goal
 
 pub returns-in_default-clause-appends : goal.returns-in_default-clause-appends

@@ -3,14 +3,13 @@ use Rattle.std.proofs.lemmas.List.{map-append}
 use Rattle.std.proofs.lemmas.Result.{err_from_is_err_and}
 use Rattle.bson_model.specs.Pairs.{keep, with_pair}
 use Rattle.bson_model.specs.Tree.{Tree, document, array, code_with_scope, trees, entries, tree_of, with_trees, pairs_of}
-use Rattle.bson_model.proofs.Keep.{keep-last}
-use Rattle.bson_model.proofs.Trees.{tree_of-Double, tree_of-Undefined, tree_of-ObjectId, tree_of-Boolean, tree_of-DateTime, tree_of-Null, tree_of-JavaScriptCodeWithScope, tree_of-Timestamp, tree_of-Decimal128, tree_of-MaxKey, tree_of-MinKey}
+use Rattle.bson_model.proofs.Face.{keep-last, tree_of-Double, tree_of-Undefined, tree_of-ObjectId, tree_of-Boolean, tree_of-DateTime, tree_of-Null, tree_of-JavaScriptCodeWithScope, tree_of-Timestamp, tree_of-Decimal128, tree_of-MaxKey, tree_of-MinKey}
 use Rattle.raw_view.specs.Document.{bytes_of}
 use Rattle.raw_view.specs.ElementSteps.{StepsElement, frame_of}
 use Rattle.raw_view.specs.Value.{array_bytes_of}
 use Rattle.raw_view.specs.declared.element.RawElement.{RawElement}
 use Rattle.raw_view.specs.declared.error.Error.{Error}
-use Rattle.raw_view.proofs.CallerLemmas.{HasRead-more}
+use Rattle.raw_view.proofs.Face.{HasRead-more}
 use Rattle.raw_tree.specs.Reading.{as_document, as_array, Reads, ReadsAs}
 use Rattle.raw_tree.proofs.Passed.{passed_shorter, passed_stop, passed_fault, passed_more, passed_end}
 use Rattle.raw_tree.proofs.reading.+reading.Goals as goal

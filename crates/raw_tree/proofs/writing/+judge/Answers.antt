@@ -1,7 +1,7 @@
 use Rattle.std.proofs.Common.{sym, arith, rules}
 use Rattle.bson_model.specs.Bytes.{NulFree}
 use Rattle.bson_model.specs.Tree.{pairs_of}
-use Rattle.bson_model.proofs.Measures.{value_smaller}
+use Rattle.bson_model.proofs.Face.{value_smaller}
 use Rattle.raw_tree.proofs.Encodings.{member_at, judged_member, judged_pair, refused_member, refused_value, refused_key}
 use Rattle.raw_tree.proofs.writing.+judge.Goals as goal
 

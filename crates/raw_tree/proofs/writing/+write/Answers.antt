@@ -2,9 +2,7 @@ use Rattle.std.proofs.Common.{◌≡◌, ◌++◌, ◌∷◌, [], length, take, 
 use Rattle.std.proofs.lemmas.List.{take_all}
 use Rattle.std.specs.String.{string_bytes}
 use Rattle.bson_model.specs.Tree.{document, entries, trees, tree_of, pairs_of, with_trees}
-use Rattle.bson_model.proofs.Bytes.{AreBytes-from_elements}
-use Rattle.bson_model.proofs.Measures.{at_most_member, value_smaller, document_smaller, code_smaller, scope_smaller}
-use Rattle.bson_model.proofs.Trees.{tree_of-Array, tree_of-Document, tree_of-JavaScriptCodeWithScope}
+use Rattle.bson_model.proofs.Face.{AreBytes-from_elements, at_most_member, value_smaller, document_smaller, code_smaller, scope_smaller, tree_of-Array, tree_of-Document, tree_of-JavaScriptCodeWithScope}
 use Rattle.bson_model.specs.declared.bson.Bson.{size-Bson}
 use Rattle.bson_model.specs.declared.bson.Bson.TheViews.{sized-Array}
 use Rattle.raw_tree.specs.Encoding.{encoded_len, tree_payload, items_bytes, entries_bytes}

@@ -1,4 +1,4 @@
-use Rattle.bson_model.proofs.Trees.{tree_of-Double, tree_of-Boolean, tree_of-Timestamp, tree_of-ObjectId, tree_of-DateTime, tree_of-Decimal128, tree_of-Null, tree_of-Undefined, tree_of-MaxKey, tree_of-MinKey}
+use Rattle.bson_model.proofs.Face.{tree_of-Double, tree_of-Boolean, tree_of-Timestamp, tree_of-ObjectId, tree_of-DateTime, tree_of-Decimal128, tree_of-Null, tree_of-Undefined, tree_of-MaxKey, tree_of-MinKey}
 use Rattle.raw_tree.proofs.writing.leaf_ref.Goals as goal
 
 pub returns-in-Double-clause-some : goal.returns-in-Double-clause-some

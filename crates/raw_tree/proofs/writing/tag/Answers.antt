@@ -1,6 +1,6 @@
 use Rattle.std.proofs.Common.{◌≡◌, ap, sym, ◌∙◌}
 use Rattle.bson_model.specs.Tree.{Tree, tree_of}
-use Rattle.bson_model.proofs.Trees.{tree_of-Array, tree_of-Document, tree_of-JavaScriptCodeWithScope}
+use Rattle.bson_model.proofs.Face.{tree_of-Array, tree_of-Document, tree_of-JavaScriptCodeWithScope}
 use Rattle.raw_view.specs.Kind.{tag_of}
 use Rattle.raw_view.specs.Meaning.{RawValue, kind_of_raw, single, document, array, scoped}
 use Rattle.raw_view.specs.Value.{value_of}

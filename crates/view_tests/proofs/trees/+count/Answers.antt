@@ -1,5 +1,5 @@
 use Rattle.std.proofs.Common.{sym, arith}
-use Rattle.bson_model.proofs.Measures.{value_smaller}
+use Rattle.bson_model.proofs.Face.{value_smaller}
 use Rattle.view_tests.proofs.trees.+count.Goals as goal
 
 pub leaves_of_document-leaves_of_value-requires : goal.leaves_of_document-leaves_of_value-requires

@@ -1,7 +1,7 @@
 use Rattle.std.proofs.Common.{refl}
 use Rattle.std.proofs.lemmas.Result.{err_from_is_err_and}
 use Rattle.bson_model.specs.Tree.{entries, pairs_of, with_trees}
-use Rattle.bson_model.proofs.Trees.{tree_of-JavaScriptCodeWithScope}
+use Rattle.bson_model.proofs.Face.{tree_of-JavaScriptCodeWithScope}
 use Rattle.raw_view.specs.Meaning as raw
 use Rattle.raw_bson.proofs.Converted.{told_of_value}
 use Rattle.raw_bson.proofs.bson.RawBson.into_bson.Goals as goal

@@ -4,7 +4,7 @@ use Rattle.raw_view.specs.declared.element.RawElement.{RawElement}
 use Rattle.raw_view.specs.declared.error.Error.{Error}
 use Rattle.raw_view.specs.ElementSteps.{StepsElement, frame_of}
 use Rattle.raw_view.specs.Document.{bytes_of}
-use Rattle.raw_view.proofs.CallerLemmas.{HasRead-more}
+use Rattle.raw_view.proofs.Loops.{HasRead-more}
 use Rattle.raw_view.proofs.LookUps.{HasNoKey-more, found_frame, found_stop, found_none, found_value, found_fault}
 use Rattle.raw_view.proofs.UniqueItems.{the_answer}
 use Rattle.raw_view.proofs.document.RawDocument.get.Goals as goal

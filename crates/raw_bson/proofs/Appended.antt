@@ -1,6 +1,6 @@
 -- The bytes that an append writes.
 use Rattle.std.proofs.Common.{◌≡◌, ◌≤◌, ◌+◌, ◌-◌, ◌∷◌, ◌++◌, [], ℕ, ℤ, List, pos, length, take, drop, ap, sym, ◌∙◌, arith, append_assoc, length-append}
-use Rattle.std.proofs.lemmas.List.{drop-take, drop-append-le, length-take, length-drop}
+use Rattle.std.proofs.lemmas.List.{drop-take, drop-append-le, length-take}
 use Rattle.raw_view.specs.Meaning.{RawValue}
 use Rattle.raw_view.specs.Number.{le32}
 use Rattle.raw_tree.specs.Payload.{payload_of, element_bytes}

@@ -1,0 +1,4 @@
+-- The lemmas that crates above may cite, also of the crates below; they cite no other.
+
+-- loops over elements
+pub use Rattle.raw_view.proofs.Face.{LeadsTo-walk, LeadsTo-more, LeadsTo-bound, IsFrame-shorter, HasRead-more, HasRead-end, HasRead-stop, HasRead-bound}

@@ -1,0 +1,16 @@
+-- The lemmas of this crate that crates above may cite; they cite no other.
+
+-- loops over elements
+pub use Rattle.raw_view.proofs.Loops.{LeadsTo-walk, LeadsTo-more, LeadsTo-bound, IsFrame-shorter, HasRead-more, HasRead-end, HasRead-stop, HasRead-bound}
+-- every document has a walk, every frame a meaning
+pub use Rattle.raw_view.proofs.Iteration.{front_and_rest}
+pub use Rattle.raw_view.proofs.Walks.{AreBytes-rest, document_has_walk}
+pub use Rattle.raw_view.proofs.Meanings.{has_meaning}
+-- and there is one alone
+pub use Rattle.raw_view.proofs.Unique.{one_frame, one_stop, one_walk, the_walk, no_frame_at_stop, no_frame_at_final, no_stop_at_final}
+pub use Rattle.raw_view.proofs.UniqueItems.{the_items}
+pub use Rattle.raw_view.proofs.UniqueMeanings.{one_meaning}
+-- documents, and bytes that begin with their own length
+pub use Rattle.raw_view.proofs.Payloads.{counted_whole, document_framed}
+-- what is written by the format
+pub use Rattle.raw_view.proofs.Written.{length-framed, length-scoped_payload, AreBytes-leaf, AreBytes-scoped, AreBytes-framed, AreBytes-element, leaf_shape, declared_shape, framed_is_envelope, leaf_means, scoped_means}
