@@ -25,7 +25,7 @@ appended_bytes b key v = framed (inside_of b ++ element_bytes key v)
 abbrev pub IsNulFreeElement : List ℕ → RawValue → Type 0
 IsNulFreeElement key v = NulFree key × IsValueNulFree v
 
--- the document with one element more has at most the greatest length
+-- the document with one element more is no longer than the greatest length
 abbrev pub HasRoom : List ℕ → List ℕ → RawValue → Type 0
 HasRoom b key v = length (appended_bytes b key v) ≤ max_length
 

@@ -1,13 +1,12 @@
 -- Copies that own their bytes.
 use Rattle.std.specs.Prelude.{◌≡◌, ℕ, List, length, Result, Ok, Err}
-use Rattle.bson_model.specs.Leaf.{regular_expression}
-use Rattle.bson_model.specs.Options.{sorted_options}
 use Rattle.raw_view.specs.Item.{Item}
 use Rattle.raw_view.specs.OneReading.{AreTheItems}
 use Rattle.raw_view.specs.Answers.{Says}
 use Rattle.raw_view.specs.Errors.{IsOutOfMemory}
 use Rattle.raw_view.specs.Meaning.{RawValue, single, Meaning, value, faulty}
 use Rattle.raw_view.specs.declared.error.Error.{Error}
+use Rattle.raw_tree.specs.Reading.{leaf_in_order}
 use Rattle.raw_bson.specs.Owned.{owned_value}
 use Rattle.raw_bson.specs.declared.bson.RawBson.{RawBson}
 use Rattle.raw_bson.specs.declared.bson.RawBson.TheVariants as own
@@ -18,7 +17,7 @@ CountsItems b count = (items : List Item) × AreTheItems b items × (count ≡ l
 
 -- the same value, of a regular expression the one with its options' characters in ascending order
 abbrev pub with_options_in_order : RawValue → RawValue
-with_options_in_order (single (regular_expression pattern options)) = single (regular_expression pattern (sorted_options options))
+with_options_in_order (single l) = single (leaf_in_order l)
 with_options_in_order v = v
 
 -- the count of an array is the number of its items

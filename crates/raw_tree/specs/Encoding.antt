@@ -39,7 +39,7 @@ abbrev mutual
   entries_bytes no_entry = []
   entries_bytes (entry_then key t es) = element_of (kind_of_tree t) key (tree_payload t) ++ entries_bytes es
 
--- the bytes of a document or a list, and of no other tree: its payload
+-- the bytes of a document or a list, which are its payload; asked of no other tree
 abbrev pub encoding : Tree → List ℕ
 encoding t = tree_payload t
 

@@ -48,7 +48,7 @@ module _ (Nested : Sort → List ℕ → Tree → Type 0) where
   ReadsRest s pairs = (frames : List Frame) × IsWalk s frames Done × StandForEach frames pairs
 
 -- these bytes, with at most so many levels, are read as this tree: what stands behind their length is read as
--- its pairs
+-- pairs, and the tree is that of these pairs
 abbrev pub ReadsUpTo : ℕ → Sort → List ℕ → Tree → Type 0
 ReadsUpTo zero sort b t = ⊥
 ReadsUpTo (suc n) sort b t = (pairs : List (List ℕ × Tree)) × ReadsRest (ReadsUpTo n) (drop 4 b) pairs × (t ≡ tree_of_pairs sort pairs)
@@ -72,24 +72,25 @@ Holds (raw.document e) d = d ≡ e
 Holds (raw.array e) d = d ≡ e
 Holds (raw.scoped code e) d = d ≡ e
 
--- the first fault, where Nested says that of nested bytes
+-- first faults, where Nested says that of nested bytes
 module _ (Nested : List ℕ → KeyedFault → Type 0) where
-  -- of a value: that of the nested bytes that it holds
+  -- the first fault of a value is that of the nested bytes that it holds
   abbrev pub FailsInValue : RawValue → KeyedFault → Type 0
   FailsInValue v fault = (d : List ℕ) × Holds v d × Nested d fault
 
-  -- of a frame: the one that it means, or that of the value that it means
+  -- the first fault of a frame is the one that it means, or that of the value that it means
   abbrev pub FailsInFrame : Frame → KeyedFault → Type 0
   FailsInFrame f fault = Means f (faulty fault) ⊎ ((v : RawValue) × Means f (value v) × FailsInValue v fault)
 
-  -- of what is left of a document or an array, s: the frames before it stand for trees; then the walk stops, or
-  -- a frame has it
+  -- the first fault of what is left of a document or an array, s: frames that stand for trees are passed; then
+  -- the walk stops with this fault, or the next frame has it
   abbrev pub FailsInRest : List ℕ → KeyedFault → Type 0
   FailsInRest s fault =
       (passed : List Frame) × (pairs : List (List ℕ × Tree)) × (r : List ℕ) × LeadsTo s passed r × StandForEach ReadsAs passed pairs
-      × (IsStop r fault.fault fault.key ⊎ ((f : Frame) × (t : List ℕ) × IsFrame r f t × FailsInFrame f fault))
+      × (IsStop r fault.fault fault.key ⊎ ((f : Frame) × (q : List ℕ) × IsFrame r f q × FailsInFrame f fault))
 
--- the first fault of bytes with at most so many levels, depth first in byte order
+-- the first fault of these bytes, depth first in byte order, where it stands at most so many levels deep, these
+-- bytes being the first level
 abbrev pub FirstFaultUpTo : ℕ → List ℕ → KeyedFault → Type 0
 FirstFaultUpTo zero b fault = ⊥
 FirstFaultUpTo (suc n) b fault = FailsInRest (FirstFaultUpTo n) (drop 4 b) fault

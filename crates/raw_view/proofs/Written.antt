@@ -12,7 +12,7 @@ use Rattle.bson_model.specs.declared.binaries.BinarySubtype.{BinarySubtype}
 use Rattle.bson_model.specs.declared.binaries.BinarySubtype.TheVariants.{BinaryOld}
 use Rattle.bson_model.proofs.Face.{AreBytes-nil, AreBytes-cons, AreBytes-append, AreBytes-nul, AreBytes-number, AreBytes-text}
 use Rattle.raw_view.specs.Envelope.{IsEnvelope}
-use Rattle.raw_view.specs.Format.{string_payload, plain_binary_payload, old_bytes, binary_payload, regex_payload, pointer_payload, leaf_payload, counted, scoped_payload, framed, element_of}
+use Rattle.raw_view.specs.Format.{string_payload, plain_binary_payload, inner_payload, binary_payload, regex_payload, pointer_payload, leaf_payload, counted, scoped_payload, framed, element_of}
 use Rattle.raw_view.specs.Frame.{IsBinary, IsRegex, IsDbPointer, HasDeclaredLength, HasShape}
 use Rattle.raw_view.specs.Kind.{tag_of, kind_of_leaf}
 use Rattle.raw_view.specs.Meaning.{single, scoped, MeansValue}
@@ -41,7 +41,7 @@ AreBytes-plain : (subtype : ℕ) (bytes : List ℕ) → subtype < 256 → AreByt
 AreBytes-plain subtype bytes l h = AreBytes-behind_length (length bytes) (subtype ∷ bytes) (AreBytes-cons subtype bytes l h)
 
 AreBytes-binary : (subtype : BinarySubtype) (bytes : List ℕ) → subtype_byte subtype < 256 → AreBytes bytes → AreBytes (binary_payload subtype bytes)
-AreBytes-binary BinaryOld bytes l h = AreBytes-plain 2 (old_bytes bytes) (omega arith) (AreBytes-behind_length (length bytes) bytes h)
+AreBytes-binary BinaryOld bytes l h = AreBytes-plain 2 (inner_payload bytes) (omega arith) (AreBytes-behind_length (length bytes) bytes h)
 AreBytes-binary subtype bytes l h = AreBytes-plain (subtype_byte subtype) bytes l h
 
 -- a leaf in range
@@ -101,7 +101,7 @@ plain_is : (subtype : ℕ) (bytes : List ℕ) → length (plain_binary_payload s
 plain_is subtype bytes l = record { fits = omega arith; spelled = refl }
 
 binary_shape : (subtype : BinarySubtype) (bytes : List ℕ) → length (binary_payload subtype bytes) ≤ max_length → (byte : ℕ) × (inner : List ℕ) × IsBinary (binary_payload subtype bytes) byte inner
-binary_shape BinaryOld bytes l = (2, old_bytes bytes, plain_is 2 (old_bytes bytes) l)
+binary_shape BinaryOld bytes l = (2, inner_payload bytes, plain_is 2 (inner_payload bytes) l)
 binary_shape subtype bytes l = (subtype_byte subtype, bytes, plain_is (subtype_byte subtype) bytes l)
 
 -- a regular expression
@@ -175,7 +175,7 @@ new_binary_means subtype bytes proper other l =
     (subtype_byte subtype, bytes, plain_is (subtype_byte subtype) bytes l, inl (not_old subtype proper other, ap (λ s. single (binary s bytes)) (sym proper)))
 
 binary_means : (subtype : BinarySubtype) (bytes : List ℕ) → IsProperSubtype subtype → length (binary_payload subtype bytes) ≤ max_length → MeansValue kind.Binary (binary_payload subtype bytes) (single (binary subtype bytes))
-binary_means BinaryOld bytes proper l = (2, old_bytes bytes, plain_is 2 (old_bytes bytes) l, inr (refl, bytes, record { fits = omega arith; spelled = refl }, refl))
+binary_means BinaryOld bytes proper l = (2, inner_payload bytes, plain_is 2 (inner_payload bytes) l, inr (refl, bytes, record { fits = omega arith; spelled = refl }, refl))
 binary_means subtype bytes proper l = new_binary_means subtype bytes proper (λ e. cc) l
 
 -- a leaf

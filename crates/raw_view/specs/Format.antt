@@ -1,30 +1,34 @@
--- The format: each production of BSON 1.1 as the function from its parts to its bytes. Reading and writing
--- are both said by these; that a length fits its four bytes, and that a text is one, is said there.
+-- The format: productions of BSON 1.1 as functions from their parts to their bytes. Writing is said by these,
+-- and so is reading, but for the envelope of a document (Envelope) and the framing of a code with scope (Frame).
+-- That a length fits, and that a text is UTF-8, is said where they are used.
 use Rattle.std.specs.Prelude.{ℕ, pos, ◌+◌, ◌-◌, Bool, true, false, List, [], ◌∷◌, ◌++◌, length, take, drop}
-use Rattle.std.specs.Int.{w32, w64, to_le_bytes}
 use Rattle.bson_model.specs.Leaf.{Leaf, double, string, binary, undefined, object_id, boolean, date_time, null, regular_expression, db_pointer, javascript_code, symbol, int32, timestamp, int64, decimal128, max_key, min_key}
 use Rattle.bson_model.specs.Subtype.{subtype_byte}
 use Rattle.bson_model.specs.declared.binaries.BinarySubtype.{BinarySubtype}
 use Rattle.bson_model.specs.declared.binaries.BinarySubtype.TheVariants.{BinaryOld}
 use Rattle.raw_view.specs.Kind.{tag_of}
-use Rattle.raw_view.specs.Number.{le32, le64}
+use Rattle.raw_view.specs.Number.{le32, le_u32, le64, le_u64}
 use Rattle.raw_view.specs.declared.element_type.ElementType.{ElementType}
+
+-- a text with a 0 behind it, and what stands behind that. BSON 1.1, `cstring`.
+abbrev pub c_string : List ℕ → List ℕ → List ℕ
+c_string text behind = text ++ 0 ∷ behind
 
 -- a text with a 0 behind it, and before both their length. BSON 1.1, `string`.
 abbrev pub string_payload : List ℕ → List ℕ
-string_payload text = le32 (pos (length text + 1)) ++ (text ++ 0 ∷ [])
+string_payload text = le32 (pos (length text + 1)) ++ c_string text []
 
 -- the length of the bytes, their subtype, and the bytes. BSON 1.1, `binary`.
 abbrev pub plain_binary_payload : ℕ → List ℕ → List ℕ
 plain_binary_payload subtype bytes = le32 (pos (length bytes)) ++ subtype ∷ bytes
 
--- what an old binary has for its bytes: their length once more, and the bytes. BSON 1.1, `binary`, subtype 2.
-abbrev pub old_bytes : List ℕ → List ℕ
-old_bytes bytes = le32 (pos (length bytes)) ++ bytes
+-- what an old binary has in place of its bytes: their own length, and the bytes. BSON 1.1, `binary`, subtype 2.
+abbrev pub inner_payload : List ℕ → List ℕ
+inner_payload bytes = le32 (pos (length bytes)) ++ bytes
 
--- a binary by its subtype
+-- a binary: an old one with that inner length, one of every other subtype without
 abbrev pub binary_payload : BinarySubtype → List ℕ → List ℕ
-binary_payload BinaryOld bytes = plain_binary_payload 2 (old_bytes bytes)
+binary_payload BinaryOld bytes = plain_binary_payload 2 (inner_payload bytes)
 binary_payload subtype bytes = plain_binary_payload (subtype_byte subtype) bytes
 
 -- false or true. BSON 1.1, `element`, type 8.
@@ -34,7 +38,7 @@ boolean_payload true = 1 ∷ []
 
 -- a pattern and options, each with a 0 behind it. BSON 1.1, `cstring cstring`.
 abbrev pub regex_payload : List ℕ → List ℕ → List ℕ
-regex_payload pattern options = pattern ++ 0 ∷ (options ++ 0 ∷ [])
+regex_payload pattern options = c_string pattern (c_string options [])
 
 -- a namespace as a string, and the twelve bytes of an ObjectId. BSON 1.1, `string (byte*12)`.
 abbrev pub pointer_payload : List ℕ → List ℕ → List ℕ
@@ -42,11 +46,11 @@ pointer_payload namespace id = string_payload namespace ++ id
 
 -- the increment, then the time. BSON 1.1, `element`, type 17.
 abbrev pub timestamp_payload : ℕ → ℕ → List ℕ
-timestamp_payload time increment = to_le_bytes w32 increment ++ to_le_bytes w32 time
+timestamp_payload time increment = le_u32 increment ++ le_u32 time
 
 -- the payload of a value that holds no others. BSON 1.1, `element`.
 abbrev pub leaf_payload : Leaf → List ℕ
-leaf_payload (double bits) = to_le_bytes w64 bits
+leaf_payload (double bits) = le_u64 bits
 leaf_payload (string text) = string_payload text
 leaf_payload (binary subtype bytes) = binary_payload subtype bytes
 leaf_payload undefined = []
@@ -65,7 +69,7 @@ leaf_payload (decimal128 bytes) = bytes
 leaf_payload max_key = []
 leaf_payload min_key = []
 
--- these bytes behind their length, which counts itself
+-- the length of the whole, its own four bytes counted, and these bytes
 abbrev pub counted : List ℕ → List ℕ
 counted rest = le32 (pos (4 + length rest)) ++ rest
 
@@ -83,7 +87,7 @@ inside_of b = take (length b - 5) (drop 4 b)
 
 -- a tag, a key with a 0 behind it, and what stands behind that
 abbrev pub tagged : ℕ → List ℕ → List ℕ → List ℕ
-tagged tag key behind = tag ∷ (key ++ 0 ∷ behind)
+tagged tag key behind = tag ∷ c_string key behind
 
 -- an element: the tag of its kind, its key, and its payload, with what may stand behind it. BSON 1.1, `element`.
 abbrev pub element_of : ElementType → List ℕ → List ℕ → List ℕ

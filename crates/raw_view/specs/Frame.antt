@@ -6,12 +6,12 @@ use Rattle.std.specs.Str.{IsUtf8}
 use Rattle.bson_model.specs.Bytes.{NulFree}
 use Rattle.raw_view.specs.Number.{max_length, IsLe32}
 use Rattle.raw_view.specs.Envelope.{IsEnvelope}
-use Rattle.raw_view.specs.Format.{string_payload, plain_binary_payload, regex_payload, pointer_payload, tagged, element_of}
+use Rattle.raw_view.specs.Format.{c_string, string_payload, plain_binary_payload, regex_payload, pointer_payload, tagged, element_of}
 use Rattle.raw_view.specs.Kind.{tag_of}
 use Rattle.raw_view.specs.declared.element_type.ElementType.{ElementType}
 use Rattle.raw_view.specs.declared.element_type.ElementType.TheVariants as kind
 
--- p is the string of this text, which may hold a 0
+-- p is the string of this text, which may hold a 0 and need not be UTF-8
 pub record IsString (p text : List ℕ) : Type 0 where
   pub fits : length text < max_length
   pub spelled : p ≡ string_payload text
@@ -104,11 +104,11 @@ pub record HasKey (s : List ℕ) (key : List ℕ) : Type 0 where
 
 -- z begins with bytes up to a 0 that aren't UTF-8
 abbrev pub BeginsWithBadText : List ℕ → Type 0
-BeginsWithBadText z = (x w : List ℕ) × (z ≡ x ++ 0 ∷ w) × NulFree x × ¬ IsUtf8 x
+BeginsWithBadText z = (x w : List ℕ) × (z ≡ c_string x w) × NulFree x × ¬ IsUtf8 x
 
 -- a pattern that has its 0 isn't UTF-8, or options that have theirs aren't, behind a pattern that is
 abbrev pub HasBadRegexText : List ℕ → Type 0
-HasBadRegexText z = BeginsWithBadText z ⊎ ((x w : List ℕ) × (z ≡ x ++ 0 ∷ w) × NulFree x × IsUtf8 x × BeginsWithBadText w)
+HasBadRegexText z = BeginsWithBadText z ⊎ ((x w : List ℕ) × (z ≡ c_string x w) × NulFree x × IsUtf8 x × BeginsWithBadText w)
 
 -- behind a key with this tag stands a regular expression of which a text isn't UTF-8
 abbrev pub HasBadText : ℕ → List ℕ → Type 0

@@ -16,7 +16,8 @@ found_at_end (Stopped fault key) = Some (faulty (record { fault = fault; key = k
 abbrev pub FindsEnd : List ℕ → Option Meaning → Type 0
 FindsEnd s found = (end : End) × EndsIn s end × (found ≡ found_at_end end)
 
--- what a look-up finds at s, where it goes no further: a frame that it looks for, or the end of the walk
+-- what a look-up finds at s, where it goes no further: what a frame means that it looks for; or, where the walk
+-- ends, the stop or nothing
 abbrev pub Finds : (Frame → Type 0) → List ℕ → Option Meaning → Type 0
 Finds IsWanted s found = FindsFrame IsWanted s found ⊎ FindsEnd s found
 
@@ -28,7 +29,7 @@ FindsNothing s found = (end : End) × EndsIn s end × (found ≡ None)
 abbrev pub HasThisKey : List ℕ → Frame → Type 0
 HasThisKey key f = f.key ≡ key
 
--- no frame has it
+-- none of these frames has the key
 abbrev pub HasNoKey : List ℕ → List Frame → Type 0
 HasNoKey key [] = Unit {0}
 HasNoKey key (f ∷ fs) = (f.key ≢ key) × HasNoKey key fs

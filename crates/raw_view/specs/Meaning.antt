@@ -7,7 +7,7 @@ use Rattle.bson_model.specs.Subtype.{subtype_of}
 use Rattle.bson_model.specs.declared.binaries.BinarySubtype.TheVariants.{BinaryOld}
 use Rattle.raw_view.specs.Number.{max_length, IsLe32, IsLe64, IsUnsigned64}
 use Rattle.raw_view.specs.Envelope.{IsEnvelope}
-use Rattle.raw_view.specs.Format.{boolean_payload, old_bytes, scoped_payload, timestamp_payload}
+use Rattle.raw_view.specs.Format.{boolean_payload, inner_payload, scoped_payload, timestamp_payload}
 use Rattle.raw_view.specs.Kind.{kind_of_leaf}
 use Rattle.raw_view.specs.declared.element_type.ElementType.{ElementType}
 use Rattle.raw_view.specs.declared.element_type.ElementType.TheVariants as kind
@@ -28,10 +28,10 @@ kind_of_raw (document _) = kind.EmbeddedDocument
 kind_of_raw (array _) = kind.Array
 kind_of_raw (scoped _ _) = kind.JavaScriptCodeWithScope
 
--- an old binary has these bytes, with their length before them
+-- outer is what an old binary has in place of these bytes
 pub record HasInnerLength (outer bytes : List ℕ) : Type 0 where
   pub fits : length bytes ≤ max_length
-  pub spelled : outer ≡ old_bytes bytes
+  pub spelled : outer ≡ inner_payload bytes
 
 -- p is the code with scope of this code and these bytes as its scope
 pub record IsCodeWithScope (p code scope : List ℕ) : Type 0 where

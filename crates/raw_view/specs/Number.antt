@@ -2,7 +2,7 @@
 use Rattle.std.specs.Prelude.{◌≡◌, ◌<◌, ◌^◌, ℕ, List, ℤ, FitsSigned}
 use Rattle.std.specs.Int.{w32, w64, to_le_bytes, cast_unsigned}
 
--- the greatest number that fits 32 bits with a sign, so that no length is over it
+-- the greatest number that fits 32 bits with a sign: the greatest length that four bytes say
 abbrev pub max_length : ℕ
 max_length = 2147483647
 
@@ -24,12 +24,20 @@ pub record IsLe64 (bytes : List ℕ) (z : ℤ) : Type 0 where
   pub fits : FitsSigned w64 z
   pub bytes_are : bytes ≡ le64 z
 
+-- the four bytes of a number that fits 32 bits without a sign
+abbrev pub le_u32 : ℕ → List ℕ
+le_u32 n = to_le_bytes w32 n
+
 -- the number fits 32 bits without a sign, and these are its four bytes
 pub record IsUnsigned32 (bytes : List ℕ) (n : ℕ) : Type 0 where
   pub fits : n < 2 ^ 32
-  pub bytes_are : bytes ≡ to_le_bytes w32 n
+  pub bytes_are : bytes ≡ le_u32 n
+
+-- the eight bytes of a number that fits 64 bits without a sign
+abbrev pub le_u64 : ℕ → List ℕ
+le_u64 n = to_le_bytes w64 n
 
 -- the number fits 64 bits without a sign, and these are its eight bytes
 pub record IsUnsigned64 (bytes : List ℕ) (n : ℕ) : Type 0 where
   pub fits : n < 2 ^ 64
-  pub bytes_are : bytes ≡ to_le_bytes w64 n
+  pub bytes_are : bytes ≡ le_u64 n
