@@ -1,7 +1,7 @@
 //! Trees, and what is said of the calls that read and write them.
 
 use crate::asserts::assert_malformed;
-use raw_bson::{Bson, Document, JavaScriptCodeWithScope, RawBson, Reason, Regex};
+use raw_bson::{Bson, Document, JavaScriptCodeWithScope, RawBson, RawDocumentBuf, Reason, Regex};
 use std::alloc::Global;
 use std::process::Abort;
 use std::test::Fail;
@@ -49,6 +49,34 @@ pub(crate) fn one_and_two(alloc: Global) -> Result<Vec<Bson>, Fail> {
 pub(crate) fn assert_bytes(rt: &impl Abort, answer: raw_bson::Result<Vec<u8>>, bytes: &[u8]) {
     match answer {
         Ok(written) => assert_eq!(rt; written.as_slice(), bytes),
+        Err(error) => assert!(rt; false, "{error}"),
+    }
+}
+
+/// The answer is this tree.
+pub(crate) fn assert_tree(rt: &impl Abort, answer: raw_bson::Result<Document>, wanted: &Document) {
+    match answer {
+        Ok(tree) => assert!(rt; tree == *wanted, "{tree:?}"),
+        Err(error) => assert!(rt; false, "{error}"),
+    }
+}
+
+/// The answer is a buffer of these bytes.
+pub(crate) fn assert_buffer(
+    rt: &impl Abort,
+    answer: raw_bson::Result<RawDocumentBuf>,
+    bytes: &[u8],
+) {
+    match answer {
+        Ok(buffer) => assert_eq!(rt; buffer.as_bytes(), bytes),
+        Err(error) => assert!(rt; false, "{error}"),
+    }
+}
+
+/// The answer is this value.
+pub(crate) fn assert_value(rt: &impl Abort, answer: raw_bson::Result<Bson>, wanted: &Bson) {
+    match answer {
+        Ok(value) => assert!(rt; value == *wanted, "{value:?}"),
         Err(error) => assert!(rt; false, "{error}"),
     }
 }
