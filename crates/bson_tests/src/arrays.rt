@@ -1,8 +1,8 @@
 use crate::asserts::{assert_array_text, assert_one_pair, assert_refused};
 use crate::fixtures::{array_of, owned};
 use raw_bson::{
-    ElementType, RawArrayBuf, RawBson, RawBsonRef, Reason, Regex, ValueAccessErrorKind,
-    ValueAccessResult, is_same_array_buf,
+    ElementType, RawArrayBuf, RawBson, RawBsonRef, Reason, Regex, ValueAccessResult,
+    is_same_array_buf,
 };
 use std::alloc::Global;
 use std::process::Abort;
@@ -28,9 +28,11 @@ fn assert_looked_up(
     values: &[RawBsonRef<'_>],
 ) -> Result<(), Fail> {
     for (index, value) in values.iter().enumerate() {
-        assert_eq!(rt; array.get(index)?, Some(*value), "at {index}");
+        let found = array.get(index)?;
+        assert_eq!(rt; found, Some(*value), "at {index}");
     }
-    assert_eq!(rt; array.get(values.len())?, None);
+    let behind = array.get(values.len())?;
+    assert_eq!(rt; behind, None);
     Ok(())
 }
 
@@ -88,26 +90,20 @@ fn array_of_texts(alloc: Global, texts: &[&str]) -> Result<RawArrayBuf, Fail> {
     Ok(array)
 }
 
-/// The array has the four texts, of which the first and the last are looked up.
-fn assert_four_texts(rt: &impl Abort, array: &RawArrayBuf) {
-    assert_eq!(rt; array.as_bytes().len(), 67);
-    assert_eq!(rt; array.as_bytes()[..4], *b"\x43\0\0\0".as_slice());
-    assert!(rt; array.get_str(0) == Ok("binary"));
-    assert!(rt; array.get_str(3) == Ok("notation"));
-    match array.get_str(4) {
-        Ok(_) => assert!(rt; false),
-        Err(error) => {
-            assert!(rt; error.kind == ValueAccessErrorKind::NotPresent);
-            assert_eq!(rt; error.key(), "4");
-        }
-    }
+/// Whether the getter has this text.
+fn has_text(array: &RawArrayBuf, index: usize, text: &str) -> bool {
+    array.get_str(index) == Ok(text)
 }
 
 #[test]
 fn four_texts_pushed(rt: HostRuntime) -> Result<(), Fail> {
     let texts = ["binary", "serialized", "object", "notation"];
     let array = array_of_texts(rt.alloc(), texts.as_slice())?;
-    assert_four_texts(&rt, &array);
+    assert_eq!(rt; array.as_bytes().len(), 67);
+    assert_eq!(rt; array.as_bytes()[..4], *b"\x43\0\0\0".as_slice());
+    assert!(rt; has_text(&array, 0, "binary"));
+    assert!(rt; has_text(&array, 3, "notation"));
+    Checks::ample(rt.alloc()).no_value(array.get_str(4), NoValue::NotPresent, "4")?;
     Ok(())
 }
 
@@ -257,7 +253,9 @@ fn all_pushed(alloc: Global) -> Result<RawArrayBuf, Fail> {
 /// The array has the values of all kinds, each in its place.
 fn assert_all_kinds(rt: &impl Abort, array: &RawArrayBuf) -> Result<(), Fail> {
     for (index, (_, kind)) in KINDS.iter().enumerate() {
-        assert_eq!(rt; array.get(index)?, Some(borrowed(*kind)?), "{kind:?}");
+        let found = array.get(index)?;
+        let wanted = borrowed(*kind)?;
+        assert_eq!(rt; found, Some(wanted), "{kind:?}");
     }
     Ok(())
 }

@@ -54,6 +54,17 @@ pub(crate) fn assert_same(rt: &impl Abort, value: RawBson, wanted: RawBson) {
     assert!(rt; value == wanted, "{value:?}");
 }
 
+/// The error has this Display text.
+pub(crate) fn assert_text(
+    rt: &impl Abort,
+    alloc: Global,
+    error: &Error,
+    text: &str,
+) -> std::result::Result<(), Fail> {
+    assert_eq!(rt; format!(in alloc; "{error}")?.as_str(), text);
+    Ok(())
+}
+
 /// The array has this Debug text, which shows its bytes and its count.
 pub(crate) fn assert_array_text(
     rt: &impl Abort,

@@ -1,7 +1,7 @@
-use crate::asserts::{assert_malformed, assert_one_pair, assert_pair, assert_refused};
+use crate::asserts::{assert_malformed, assert_one_pair, assert_pair, assert_refused, assert_text};
 use crate::fixtures::document_of;
 use raw_bson::{
-    Binary, BinarySubtype, ElementType, Error, RawBson, RawBsonRef, RawDocumentBuf, RawElement,
+    Binary, BinarySubtype, ElementType, RawBson, RawBsonRef, RawDocumentBuf, RawElement,
     RawRegexRef, Reason, Regex, total_len,
 };
 use std::alloc::Global;
@@ -58,12 +58,6 @@ fn declared_length_three(rt: HostRuntime) -> Result<(), Fail> {
     let document = document_of(rt.alloc(), DECLARED_LENGTH_THREE)?;
     let element = (ElementType::JavaScriptCodeWithScope, "a", 3);
     assert_one_is_malformed(&rt, rt.alloc(), &document, element, Reason::CodeTooSmall);
-    Ok(())
-}
-
-/// The error has this Display text.
-fn assert_text(rt: &impl Abort, alloc: Global, error: &Error, text: &str) -> Result<(), Fail> {
-    assert_eq!(rt; format!(in alloc; "{error}")?.as_str(), text);
     Ok(())
 }
 

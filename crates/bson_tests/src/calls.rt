@@ -78,9 +78,12 @@ fn each_value_is_iterated(rt: HostRuntime) -> Result<(), Fail> {
 /// The look-up of each key yields its value, and that of another key nothing.
 fn assert_looked_up(rt: &impl Abort, document: &RawDocumentBuf) -> Result<(), Fail> {
     for &(key, kind) in KINDS.iter() {
-        assert_eq!(rt; document.get(key)?, Some(borrowed(kind)?), "{kind:?}");
+        let found = document.get(key)?;
+        let wanted = borrowed(kind)?;
+        assert_eq!(rt; found, Some(wanted), "{kind:?}");
     }
-    assert_eq!(rt; document.get("v")?, None);
+    let behind = document.get("v")?;
+    assert_eq!(rt; behind, None);
     Ok(())
 }
 
@@ -100,7 +103,9 @@ fn assert_element(
 ) -> Result<(), Fail> {
     assert_eq!(rt; element.key(), key);
     assert_eq!(rt; element.element_type(), kind);
-    assert_eq!(rt; element.value(alloc)?, borrowed(kind)?, "{kind:?}");
+    let found = element.value(alloc)?;
+    let wanted = borrowed(kind)?;
+    assert_eq!(rt; found, wanted, "{kind:?}");
     Ok(())
 }
 

@@ -1,5 +1,6 @@
-use crate::asserts::{assert_array_text, assert_malformed};
+use crate::asserts::{assert_array_text, assert_same};
 use crate::fixtures::{array_of, document_of, owned};
+use crate::trees_fixtures::assert_fault;
 use raw_bson::{
     Binary, BinarySubtype, CowRawArray, CowRawDocument, ElementType, RawBinaryRef, RawBson,
     RawBsonRef, RawDocument, RawElement, RawRegexRef, Reason, Regex, ToRawArrayBuf, ToRawBson,
@@ -50,8 +51,7 @@ fn a_view_of_an_array_is_copied_and_counted(rt: HostRuntime) -> Result<(), Fail>
 fn a_borrowed_value_of_each_kind_is_copied(rt: HostRuntime) -> Result<(), Fail> {
     for &(_, kind) in KINDS.iter() {
         let copy = borrowed(kind)?.to_raw_bson(rt.alloc())?;
-        let is_copied = copy == owned(rt.alloc(), kind)?;
-        assert!(rt; is_copied, "{copy:?}");
+        assert_same(&rt, copy, owned(rt.alloc(), kind)?);
     }
     Ok(())
 }
@@ -88,24 +88,24 @@ fn the_value_of_an_element_of_a_buffer_is_copied(rt: HostRuntime) -> Result<(), 
     Ok(())
 }
 
-#[test]
-fn the_fault_of_an_element_is_answered(rt: HostRuntime) -> Result<(), Fail> {
-    for (bytes, reason) in [
-        (BOOLEAN_TWO, Reason::BadBoolean(2)),
-        (DECLARED_LENGTH_THREE, Reason::CodeTooSmall),
-    ] {
-        match RawDocument::from_bytes(bytes)?
-            .iter_elements(rt.alloc())
-            .next()
-        {
-            Some(Ok(element)) => match element.to_raw_bson(rt.alloc()) {
-                Ok(_) => assert!(rt; false, "{reason:?}"),
-                Err(error) => assert_malformed(&rt, &error, reason, Some("a")),
-            },
-            _ => assert!(rt; false, "{reason:?}"),
-        }
+/// The first element's value isn't copied, for this reason, at the key `a`.
+fn assert_not_copied(
+    rt: &impl Abort,
+    alloc: Global,
+    bytes: &[u8],
+    reason: Reason,
+) -> Result<(), Fail> {
+    match RawDocument::from_bytes(bytes)?.iter_elements(alloc).next() {
+        Some(Ok(element)) => assert_fault(rt, element.to_raw_bson(alloc), reason, "a"),
+        _ => assert!(rt; false, "{reason:?}"),
     }
     Ok(())
+}
+
+#[test]
+fn the_fault_of_an_element_is_answered(rt: HostRuntime) -> Result<(), Fail> {
+    assert_not_copied(&rt, rt.alloc(), BOOLEAN_TWO, Reason::BadBoolean(2))?;
+    assert_not_copied(&rt, rt.alloc(), DECLARED_LENGTH_THREE, Reason::CodeTooSmall)
 }
 
 /// The pattern `a` with the options in order.
@@ -123,8 +123,7 @@ fn options_put_in_order(rt: HostRuntime) -> Result<(), Fail> {
         options: "mi",
     };
     let copy = RawBsonRef::RegularExpression(regex).to_raw_bson(rt.alloc())?;
-    let is_in_order = copy == regex_in_order(rt.alloc())?;
-    assert!(rt; is_in_order);
+    assert_same(&rt, copy, regex_in_order(rt.alloc())?);
     Ok(())
 }
 

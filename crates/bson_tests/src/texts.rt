@@ -1,4 +1,4 @@
-use crate::asserts::assert_array_text;
+use crate::asserts::{assert_array_text, assert_text};
 use crate::fixtures::{array_of, code_of, document_of};
 use raw_bson::{Error, ErrorKind, RawArrayBuf, RawBson, RawDocumentBuf, Reason};
 use std::alloc::Global;
@@ -55,26 +55,30 @@ fn code_with_scope_has_a_debug_text(rt: HostRuntime) -> Result<(), Fail> {
     assert_debug_text(&rt, rt.alloc(), &code, text)
 }
 
+/// The owned value has this Debug text.
+fn assert_value_text(
+    rt: &impl Abort,
+    alloc: Global,
+    value: RawBson,
+    text: &str,
+) -> Result<(), Fail> {
+    assert_debug_text(rt, alloc, &value, text)
+}
+
 #[test]
 fn owned_values_have_a_debug_text(rt: HostRuntime) -> Result<(), Fail> {
     let alloc = rt.alloc();
-    assert_debug_text(&rt, alloc, &RawBson::from(-7_i32), "Int32(-7)")?;
-    assert_debug_text(&rt, alloc, &RawBson::Null, "Null")?;
+    assert_value_text(&rt, alloc, RawBson::from(-7_i32), "Int32(-7)")?;
+    assert_value_text(&rt, alloc, RawBson::Null, "Null")?;
     let hi = RawBson::from_str(alloc, "hi")?;
-    assert_debug_text(&rt, alloc, &hi, "String(\"hi\")")
+    assert_value_text(&rt, alloc, hi, "String(\"hi\")")
 }
 
 #[test]
 fn an_owned_array_has_a_debug_text(rt: HostRuntime) -> Result<(), Fail> {
     let array = RawBson::from(array_of(rt.alloc(), EMPTY)?);
     let text = "Array(RawArrayBuf { data: \"0500000000\", len: 0 })";
-    assert_debug_text(&rt, rt.alloc(), &array, text)
-}
-
-/// The error has this Display text.
-fn assert_text(rt: &impl Abort, alloc: Global, error: &Error, text: &str) -> Result<(), Fail> {
-    assert_eq!(rt; format!(in alloc; "{error}")?.as_str(), text);
-    Ok(())
+    assert_value_text(&rt, rt.alloc(), array, text)
 }
 
 #[test]

@@ -75,20 +75,22 @@ fn three_put(alloc: Global) -> Result<Document, Fail> {
     Ok(tree)
 }
 
+/// The tree is the wanted one, and has its three keys in this order.
+fn assert_three_pairs(rt: &impl Abort, tree: &Document, wanted: &Document) {
+    assert!(rt; tree == wanted);
+    assert_eq!(rt; tree.len(), 3);
+    for (index, key) in ["a string", "an integer", "a document"].iter().enumerate() {
+        let found = tree.pair_at(index).map(|(found, _)| found);
+        assert_eq!(rt; found, Some(*key));
+    }
+}
+
 #[test]
 fn three_pairs_are_read_in_order(rt: HostRuntime) -> Result<(), Fail> {
     // three pairs of three kinds
+    let wanted = three_put(rt.alloc())?;
     let tree = three_appended(rt.alloc())?.to_document()?;
-    let is_read = tree == three_put(rt.alloc())?;
-    assert!(rt; is_read);
-    assert_eq!(rt; tree.len(), 3);
-    for (index, key) in ["a string", "an integer", "a document"]
-        .into_iter()
-        .enumerate()
-    {
-        let found = tree.pair_at(index).map(|(found, _)| found);
-        assert_eq!(rt; found, Some(key));
-    }
+    assert_three_pairs(&rt, &tree, &wanted);
     Ok(())
 }
 
@@ -97,7 +99,7 @@ fn owned_options_are_kept(rt: HostRuntime) -> Result<(), Fail> {
     // owned regex kept
     let owned = RawBson::from(regex(rt.alloc(), "mi")?);
     let kept = Bson::RegularExpression(regex(rt.alloc(), "mi")?);
-    assert_read(&rt, rt.alloc(), owned, kept);
+    assert_read(&rt, rt.alloc(), owned, &kept);
     Ok(())
 }
 
@@ -119,7 +121,7 @@ fn options_are_put_in_order_in_a_nested_document(rt: HostRuntime) -> Result<(), 
     let ordered = Bson::RegularExpression(regex(rt.alloc(), "im")?);
     let wanted = Bson::Document(one_pair(rt.alloc(), "r", ordered)?);
     let nested = document_of(rt.alloc(), b"\x0D\0\0\0\x0Br\0p\0mi\0\0")?;
-    assert_read(&rt, rt.alloc(), RawBson::from(nested), wanted);
+    assert_read(&rt, rt.alloc(), RawBson::from(nested), &wanted);
     Ok(())
 }
 
@@ -213,10 +215,16 @@ fn user_defined_subtype_two_is_no_proper_one(rt: HostRuntime) -> Result<(), Fail
     Ok(())
 }
 
+/// The owned value of the list of the numbers 1 and 2.
+fn two_written(alloc: Global) -> Result<RawBson, Fail> {
+    let list = Bson::Array(one_and_two(alloc)?);
+    Ok(RawBson::try_from_bson(alloc, list)?)
+}
+
 #[test]
 fn a_list_of_two_is_written(rt: HostRuntime) -> Result<(), Fail> {
     // try_from_bson of an array of two
-    match RawBson::try_from_bson(rt.alloc(), Bson::Array(one_and_two(rt.alloc())?))? {
+    match two_written(rt.alloc())? {
         RawBson::Array(array) => assert_array_text(
             &rt,
             rt.alloc(),
@@ -232,8 +240,7 @@ fn a_list_of_two_is_written(rt: HostRuntime) -> Result<(), Fail> {
 fn a_list_of_two_is_read_back(rt: HostRuntime) -> Result<(), Fail> {
     // try_from_bson of an array of two
     let list = Bson::Array(one_and_two(rt.alloc())?);
-    let written = RawBson::try_from_bson(rt.alloc(), Bson::Array(one_and_two(rt.alloc())?))?;
-    assert_read(&rt, rt.alloc(), written, list);
+    assert_read(&rt, rt.alloc(), two_written(rt.alloc())?, &list);
     Ok(())
 }
 
@@ -241,7 +248,7 @@ fn a_list_of_two_is_read_back(rt: HostRuntime) -> Result<(), Fail> {
 fn a_number_is_written_and_read_back(rt: HostRuntime) {
     // try_from_bson of a number
     assert_owned(&rt, rt.alloc(), Bson::Int32(1), RawBson::Int32(1));
-    assert_read(&rt, rt.alloc(), RawBson::Int32(1), Bson::Int32(1));
+    assert_read(&rt, rt.alloc(), RawBson::Int32(1), &Bson::Int32(1));
 }
 
 #[test]
@@ -250,7 +257,7 @@ fn a_code_is_written_and_read_back(rt: HostRuntime) -> Result<(), Fail> {
     let owned = RawBson::from(code_of(rt.alloc(), "", EMPTY)?);
     assert_owned(&rt, rt.alloc(), empty_code(rt.alloc()), owned);
     let owned = RawBson::from(code_of(rt.alloc(), "", EMPTY)?);
-    assert_read(&rt, rt.alloc(), owned, empty_code(rt.alloc()));
+    assert_read(&rt, rt.alloc(), owned, &empty_code(rt.alloc()));
     Ok(())
 }
 

@@ -1,6 +1,6 @@
 //! Trees, and what is said of the calls that read and write them.
 
-use crate::asserts::assert_malformed;
+use crate::asserts::{assert_malformed, assert_same};
 use raw_bson::{Bson, Document, JavaScriptCodeWithScope, RawBson, RawDocumentBuf, Reason, Regex};
 use std::alloc::Global;
 use std::process::Abort;
@@ -97,15 +97,12 @@ pub(crate) fn assert_fault<T: Drop>(
 /// The value becomes this owned one.
 pub(crate) fn assert_owned(rt: &impl Abort, alloc: Global, value: Bson, wanted: RawBson) {
     match RawBson::try_from_bson(alloc, value) {
-        Ok(owned) => assert!(rt; owned == wanted, "{owned:?}"),
+        Ok(owned) => assert_same(rt, owned, wanted),
         Err(error) => assert!(rt; false, "{error}"),
     }
 }
 
 /// The owned value becomes this one.
-pub(crate) fn assert_read(rt: &impl Abort, alloc: Global, owned: RawBson, wanted: Bson) {
-    match owned.into_bson(alloc) {
-        Ok(value) => assert!(rt; value == wanted, "{value:?}"),
-        Err(error) => assert!(rt; false, "{error}"),
-    }
+pub(crate) fn assert_read(rt: &impl Abort, alloc: Global, owned: RawBson, wanted: &Bson) {
+    assert_value(rt, owned.into_bson(alloc), wanted);
 }

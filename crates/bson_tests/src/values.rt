@@ -278,16 +278,9 @@ fn other(alloc: Global, kind: ElementType) -> Result<RawBson, Fail> {
 }
 
 /// The other value is of this kind, too, and the two differ.
-fn assert_differ(rt: &impl Abort, value: &RawBson, other: &RawBson, kind: ElementType) {
+fn assert_differ(rt: &impl Abort, value: RawBson, other: RawBson, kind: ElementType) {
     assert_eq!(rt; other.element_type(), kind);
-    assert_eq!(rt; are_equal(value, other), (false, false), "{kind:?}");
-}
-
-/// The other value of this kind differs.
-fn assert_another(rt: &impl Abort, alloc: Global, kind: ElementType) -> Result<(), Fail> {
-    let value = owned(alloc, kind)?;
-    assert_differ(rt, &value, &other(alloc, kind)?, kind);
-    Ok(())
+    assert_eq!(rt; are_equal(&value, &other), (false, false), "{kind:?}");
 }
 
 #[test]
@@ -306,7 +299,8 @@ fn values_of_one_kind_differ_by_their_parts(rt: HostRuntime) -> Result<(), Fail>
     ]
     .iter()
     {
-        assert_another(&rt, rt.alloc(), kind)?;
+        let value = owned(rt.alloc(), kind)?;
+        assert_differ(&rt, value, other(rt.alloc(), kind)?, kind);
     }
     Ok(())
 }
@@ -315,7 +309,7 @@ fn values_of_one_kind_differ_by_their_parts(rt: HostRuntime) -> Result<(), Fail>
 fn a_negative_zero_is_another_double_than_the_zero(rt: HostRuntime) {
     let zero = RawBson::from(DoubleBits(0));
     let negative = RawBson::from(DoubleBits(0x8000_0000_0000_0000));
-    assert_differ(&rt, &zero, &negative, ElementType::Double);
+    assert_differ(&rt, zero, negative, ElementType::Double);
 }
 
 /// Whether the two are equal, by `==` and by the law.
