@@ -1,4 +1,4 @@
-use raw_bson::{Error, ErrorKind, RawArrayBuf, RawBsonRef, RawDocument, Reason, Result};
+use raw_bson::{Error, ErrorKind, RawArrayBuf, RawBson, RawBsonRef, RawDocument, Reason, Result};
 use std::alloc::Global;
 use std::process::Abort;
 use std::test::Fail;
@@ -47,6 +47,22 @@ pub(crate) fn assert_one_pair(
     let mut iter = document.iter(alloc);
     assert_pair(rt, iter.next(), key, value);
     assert!(rt; iter.next().is_none(), "{key:?}");
+}
+
+/// The owned value is the wanted one.
+pub(crate) fn assert_same(rt: &impl Abort, value: RawBson, wanted: RawBson) {
+    assert!(rt; value == wanted, "{value:?}");
+}
+
+/// The error has this Display text.
+pub(crate) fn assert_text(
+    rt: &impl Abort,
+    alloc: Global,
+    error: &Error,
+    text: &str,
+) -> std::result::Result<(), Fail> {
+    assert_eq!(rt; format!(in alloc; "{error}")?.as_str(), text);
+    Ok(())
 }
 
 /// The array has this Debug text, which shows its bytes and its count.

@@ -51,6 +51,15 @@ pub(crate) fn owned(alloc: Global, kind: ElementType) -> Result<RawBson, Fail> {
     })
 }
 
+/// The values of all kinds, each with its kind.
+pub(crate) fn all_owned(alloc: Global) -> Result<Vec<(ElementType, RawBson)>, Fail> {
+    let mut values = Vec::new(alloc);
+    for &(_, kind) in KINDS.iter() {
+        values.push((kind, owned(alloc, kind)?))?;
+    }
+    Ok(values)
+}
+
 fn rarer_owned(alloc: Global, kind: ElementType) -> Result<RawBson, Fail> {
     Ok(match kind {
         ElementType::DbPointer => RawBson::from(DbPointer {

@@ -1,26 +1,46 @@
-use crate::asserts::assert_array_text;
+use crate::asserts::{assert_array_text, assert_text};
 use crate::fixtures::{array_of, code_of, document_of};
 use raw_bson::{Error, ErrorKind, RawArrayBuf, RawBson, RawDocumentBuf, Reason};
 use std::alloc::Global;
+use std::fmt::Debug;
 use std::process::Abort;
 use std::test::Fail;
 use test_fixtures::{EMPTY, GREETING, NULL_ARRAY};
 
+/// The value has this Debug text.
+fn assert_debug_text<T: Debug>(
+    rt: &impl Abort,
+    alloc: Global,
+    value: &T,
+    text: &str,
+) -> Result<(), Fail> {
+    assert_eq!(rt; format!(in alloc; "{value:?}")?.as_str(), text);
+    Ok(())
+}
+
 #[test]
-fn buffers_have_a_debug_text(rt: HostRuntime) -> Result<(), Fail> {
+fn an_empty_document_has_a_debug_text(rt: HostRuntime) -> Result<(), Fail> {
     let empty = RawDocumentBuf::new(rt.alloc())?;
-    assert_eq!(rt;
-        format!(in rt.alloc(); "{empty:?}")?.as_str(),
-        "RawDocumentBuf { data: \"0500000000\" }"
-    );
+    let text = "RawDocumentBuf { data: \"0500000000\" }";
+    assert_debug_text(&rt, rt.alloc(), &empty, text)
+}
+
+#[test]
+fn a_document_has_a_debug_text(rt: HostRuntime) -> Result<(), Fail> {
     let greeting = document_of(rt.alloc(), GREETING)?;
-    assert_eq!(rt;
-        format!(in rt.alloc(); "{greeting:?}")?.as_str(),
-        "RawDocumentBuf { data: \"1300000002686900060000007927616c6c0000\" }"
-    );
+    let text = "RawDocumentBuf { data: \"1300000002686900060000007927616c6c0000\" }";
+    assert_debug_text(&rt, rt.alloc(), &greeting, text)
+}
+
+#[test]
+fn an_empty_array_has_a_debug_text(rt: HostRuntime) -> Result<(), Fail> {
     let empty = RawArrayBuf::new(rt.alloc())?;
     let text = "RawArrayBuf { data: \"0500000000\", len: 0 }";
-    assert_array_text(&rt, rt.alloc(), &empty, text)?;
+    assert_array_text(&rt, rt.alloc(), &empty, text)
+}
+
+#[test]
+fn an_array_has_a_debug_text(rt: HostRuntime) -> Result<(), Fail> {
     let mut array = array_of(rt.alloc(), NULL_ARRAY)?;
     array.push(RawBson::MinKey)?;
     let text = "RawArrayBuf { data: \"0b0000000a3000ff310000\", len: 2 }";
@@ -28,30 +48,37 @@ fn buffers_have_a_debug_text(rt: HostRuntime) -> Result<(), Fail> {
 }
 
 #[test]
-fn owned_values_have_a_debug_text(rt: HostRuntime) -> Result<(), Fail> {
+fn code_with_scope_has_a_debug_text(rt: HostRuntime) -> Result<(), Fail> {
     let code = code_of(rt.alloc(), "g", EMPTY)?;
-    assert_eq!(rt;
-        format!(in rt.alloc(); "{code:?}")?.as_str(),
-        "RawJavaScriptCodeWithScope { code: \"g\", scope: RawDocumentBuf { data: \"0500000000\" } }"
-    );
-    for (value, text) in [
-        (RawBson::from(-7_i32), "Int32(-7)"),
-        (RawBson::Null, "Null"),
-        (RawBson::from_str(rt.alloc(), "hi")?, "String(\"hi\")"),
-        (
-            RawBson::from(array_of(rt.alloc(), EMPTY)?),
-            "Array(RawArrayBuf { data: \"0500000000\", len: 0 })",
-        ),
-    ] {
-        assert_eq!(rt; format!(in rt.alloc(); "{value:?}")?.as_str(), text);
-    }
-    Ok(())
+    let text =
+        "RawJavaScriptCodeWithScope { code: \"g\", scope: RawDocumentBuf { data: \"0500000000\" } }";
+    assert_debug_text(&rt, rt.alloc(), &code, text)
 }
 
-/// The error has this Display text.
-fn assert_text(rt: &impl Abort, alloc: Global, error: &Error, text: &str) -> Result<(), Fail> {
-    assert_eq!(rt; format!(in alloc; "{error}")?.as_str(), text);
-    Ok(())
+/// The owned value has this Debug text.
+fn assert_value_text(
+    rt: &impl Abort,
+    alloc: Global,
+    value: RawBson,
+    text: &str,
+) -> Result<(), Fail> {
+    assert_debug_text(rt, alloc, &value, text)
+}
+
+#[test]
+fn owned_values_have_a_debug_text(rt: HostRuntime) -> Result<(), Fail> {
+    let alloc = rt.alloc();
+    assert_value_text(&rt, alloc, RawBson::from(-7_i32), "Int32(-7)")?;
+    assert_value_text(&rt, alloc, RawBson::Null, "Null")?;
+    let hi = RawBson::from_str(alloc, "hi")?;
+    assert_value_text(&rt, alloc, hi, "String(\"hi\")")
+}
+
+#[test]
+fn an_owned_array_has_a_debug_text(rt: HostRuntime) -> Result<(), Fail> {
+    let array = RawBson::from(array_of(rt.alloc(), EMPTY)?);
+    let text = "Array(RawArrayBuf { data: \"0500000000\", len: 0 })";
+    assert_value_text(&rt, rt.alloc(), array, text)
 }
 
 #[test]
@@ -63,6 +90,11 @@ fn refusals_of_writing_are_printed(rt: HostRuntime) -> Result<(), Fail> {
         let error = Error::new(ErrorKind::MalformedValue { reason });
         assert_text(&rt, rt.alloc(), &error, text)?;
     }
+    Ok(())
+}
+
+#[test]
+fn the_error_of_an_append_is_printed(rt: HostRuntime) -> Result<(), Fail> {
     let mut document = RawDocumentBuf::new(rt.alloc())?;
     match document.append("a\0b", RawBson::Null) {
         Ok(()) => assert!(rt; false),

@@ -1,8 +1,8 @@
 use crate::asserts::{assert_array_text, assert_refused};
 use crate::fixtures::{code_of, document_of};
 use crate::trees_fixtures::{
-    assert_bytes, assert_fault, assert_owned, assert_read, empty_code, one_and_two, one_pair, put,
-    regex, text,
+    assert_buffer, assert_bytes, assert_fault, assert_owned, assert_read, assert_tree,
+    assert_value, empty_code, one_and_two, one_pair, put, regex, text,
 };
 use raw_bson::{
     Binary, BinarySubtype, Bson, Document, RawBson, RawBsonRef, RawDocument, RawDocumentBuf,
@@ -27,26 +27,21 @@ fn one_int32_is_read(rt: HostRuntime) -> Result<(), Fail> {
     // one int32
     let wanted = one_pair(rt.alloc(), "i", Bson::Int32(1))?;
     let buffer = document_of(rt.alloc(), ONE)?;
-    assert!(rt; document_from_raw(rt.alloc(), buffer.as_ref())? == wanted);
-    assert!(rt; buffer.to_document()? == wanted);
+    assert_tree(&rt, document_from_raw(rt.alloc(), buffer.as_ref()), &wanted);
+    assert_tree(&rt, buffer.to_document(), &wanted);
     assert_eq!(rt; buffer.as_bytes(), ONE);
-    assert!(rt; buffer.into_document()? == wanted);
+    assert_tree(&rt, buffer.into_document(), &wanted);
     Ok(())
 }
 
 #[test]
 fn hello_world_is_written(rt: HostRuntime) -> Result<(), Fail> {
     // hello world written
-    let tree = one_pair(rt.alloc(), "hello", text(rt.alloc(), "world")?)?;
-    for answer in [
-        RawDocumentBuf::from_document(rt.alloc(), &tree),
-        RawDocumentBuf::try_from_document(rt.alloc(), &tree),
-    ] {
-        assert_eq!(rt;
-            answer?.as_bytes(),
-            b"\x16\0\0\0\x02hello\0\x06\0\0\0world\0\0".as_slice()
-        );
-    }
+    let alloc = rt.alloc();
+    let tree = one_pair(alloc, "hello", text(alloc, "world")?)?;
+    let bytes = b"\x16\0\0\0\x02hello\0\x06\0\0\0world\0\0";
+    assert_buffer(&rt, RawDocumentBuf::from_document(alloc, &tree), bytes);
+    assert_buffer(&rt, RawDocumentBuf::try_from_document(alloc, &tree), bytes);
     Ok(())
 }
 
@@ -62,36 +57,40 @@ fn three_appended(alloc: Global) -> Result<RawDocumentBuf, Fail> {
 }
 
 #[test]
-fn three_pairs_are_read_in_order(rt: HostRuntime) -> Result<(), Fail> {
+fn three_pairs_are_appended(rt: HostRuntime) -> Result<(), Fail> {
     // three pairs of three kinds
     let buffer = three_appended(rt.alloc())?;
     assert_eq!(rt; buffer.as_bytes().len(), 72);
     assert!(rt; buffer.as_bytes().starts_with(b"\x48\0\0\0"));
-    let nested = one_pair(rt.alloc(), "a key", Bson::Boolean(true))?;
-    let mut wanted = Document::new(rt.alloc());
-    put(
-        rt.alloc(),
-        &mut wanted,
-        "a string",
-        text(rt.alloc(), "some string")?,
-    )?;
-    put(rt.alloc(), &mut wanted, "an integer", Bson::Int32(12))?;
-    put(
-        rt.alloc(),
-        &mut wanted,
-        "a document",
-        Bson::Document(nested),
-    )?;
-    let tree = buffer.to_document()?;
+    Ok(())
+}
+
+/// The tree of the same pairs.
+fn three_put(alloc: Global) -> Result<Document, Fail> {
+    let mut tree = Document::new(alloc);
+    put(alloc, &mut tree, "a string", text(alloc, "some string")?)?;
+    put(alloc, &mut tree, "an integer", Bson::Int32(12))?;
+    let nested = one_pair(alloc, "a key", Bson::Boolean(true))?;
+    put(alloc, &mut tree, "a document", Bson::Document(nested))?;
+    Ok(tree)
+}
+
+/// The tree is the wanted one, and has its three keys in this order.
+fn assert_three_pairs(rt: &impl Abort, tree: &Document, wanted: &Document) {
     assert!(rt; tree == wanted);
     assert_eq!(rt; tree.len(), 3);
-    for (index, key) in ["a string", "an integer", "a document"]
-        .into_iter()
-        .enumerate()
-    {
+    for (index, key) in ["a string", "an integer", "a document"].iter().enumerate() {
         let found = tree.pair_at(index).map(|(found, _)| found);
-        assert_eq!(rt; found, Some(key));
+        assert_eq!(rt; found, Some(*key));
     }
+}
+
+#[test]
+fn three_pairs_are_read_in_order(rt: HostRuntime) -> Result<(), Fail> {
+    // three pairs of three kinds
+    let wanted = three_put(rt.alloc())?;
+    let tree = three_appended(rt.alloc())?.to_document()?;
+    assert_three_pairs(&rt, &tree, &wanted);
     Ok(())
 }
 
@@ -100,7 +99,7 @@ fn owned_options_are_kept(rt: HostRuntime) -> Result<(), Fail> {
     // owned regex kept
     let owned = RawBson::from(regex(rt.alloc(), "mi")?);
     let kept = Bson::RegularExpression(regex(rt.alloc(), "mi")?);
-    assert_read(&rt, rt.alloc(), owned, kept);
+    assert_read(&rt, rt.alloc(), owned, &kept);
     Ok(())
 }
 
@@ -112,37 +111,53 @@ fn options_are_put_in_order_where_they_are_read(rt: HostRuntime) -> Result<(), F
         pattern: "p",
         options: "mi",
     });
-    assert!(rt; bson_from_raw(rt.alloc(), borrowed)? == ordered);
+    assert_value(&rt, bson_from_raw(rt.alloc(), borrowed), &ordered);
+    Ok(())
+}
+
+#[test]
+fn options_are_put_in_order_in_a_nested_document(rt: HostRuntime) -> Result<(), Fail> {
+    // owned regex kept
+    let ordered = Bson::RegularExpression(regex(rt.alloc(), "im")?);
     let wanted = Bson::Document(one_pair(rt.alloc(), "r", ordered)?);
     let nested = document_of(rt.alloc(), b"\x0D\0\0\0\x0Br\0p\0mi\0\0")?;
-    assert_read(&rt, rt.alloc(), RawBson::from(nested), wanted);
+    assert_read(&rt, rt.alloc(), RawBson::from(nested), &wanted);
     Ok(())
+}
+
+/// The document `a` of one null, whose key holds a NUL.
+fn nul_in_a_nested_key(alloc: Global) -> Result<Document, Fail> {
+    let nested = one_pair(alloc, "x\0", Bson::Null)?;
+    one_pair(alloc, "a", Bson::Document(nested))
 }
 
 #[test]
 fn a_nul_in_a_nested_key_is_refused(rt: HostRuntime) -> Result<(), Fail> {
     // NUL in a nested key
-    let nested = one_pair(rt.alloc(), "x\0", Bson::Null)?;
-    let tree = one_pair(rt.alloc(), "a", Bson::Document(nested))?;
-    assert_refused(&rt, encode(rt.alloc(), &tree), Reason::InteriorNul);
-    for answer in [
-        RawDocumentBuf::from_document(rt.alloc(), &tree),
-        RawDocumentBuf::try_from_document(rt.alloc(), &tree),
-    ] {
-        assert_refused(&rt, answer, Reason::InteriorNul);
-    }
-    let answer = RawBson::try_from_bson(rt.alloc(), Bson::Document(tree));
+    let alloc = rt.alloc();
+    let tree = nul_in_a_nested_key(alloc)?;
+    assert_refused(&rt, encode(alloc, &tree), Reason::InteriorNul);
+    let answer = RawDocumentBuf::from_document(alloc, &tree);
+    assert_refused(&rt, answer, Reason::InteriorNul);
+    let answer = RawDocumentBuf::try_from_document(alloc, &tree);
+    assert_refused(&rt, answer, Reason::InteriorNul);
+    let answer = RawBson::try_from_bson(alloc, Bson::Document(tree));
     assert_refused(&rt, answer, Reason::InteriorNul);
     Ok(())
 }
 
 #[test]
-fn a_fault_has_its_own_key(rt: HostRuntime) -> Result<(), Fail> {
+fn a_nested_stop_has_no_key(rt: HostRuntime) -> Result<(), Fail> {
     // nested stop's own key
     let stop = document_of(rt.alloc(), b"\x0E\0\0\0\x03a\0\x06\0\0\0\x0A\0\0")?;
     let answer = document_from_raw(rt.alloc(), stop.as_ref());
     assert_refused(&rt, answer, Reason::Overflowed);
     assert_refused(&rt, stop.into_document(), Reason::Overflowed);
+    Ok(())
+}
+
+#[test]
+fn a_fault_has_its_own_key(rt: HostRuntime) -> Result<(), Fail> {
     // fault under a later good key
     let bytes = b"\x0D\0\0\0\x08a\0\x02\x08a\0\x01\0";
     let answer = document_from_raw(rt.alloc(), RawDocument::from_bytes(bytes)?);
@@ -153,11 +168,16 @@ fn a_fault_has_its_own_key(rt: HostRuntime) -> Result<(), Fail> {
 }
 
 #[test]
-fn a_tree_has_a_key_once_and_keeps_the_order(rt: HostRuntime) -> Result<(), Fail> {
+fn a_tree_has_a_key_once(rt: HostRuntime) -> Result<(), Fail> {
     // repeated key
+    let view = RawDocument::from_bytes(REPEATED_KEY)?;
     let wanted = one_pair(rt.alloc(), "a", Bson::Int32(2))?;
-    let tree = document_from_raw(rt.alloc(), RawDocument::from_bytes(REPEATED_KEY)?)?;
-    assert!(rt; tree == wanted);
+    assert_tree(&rt, document_from_raw(rt.alloc(), view), &wanted);
+    Ok(())
+}
+
+#[test]
+fn a_tree_keeps_the_order(rt: HostRuntime) -> Result<(), Fail> {
     // two orders of two keys
     let tree = document_from_raw(rt.alloc(), RawDocument::from_bytes(A_THEN_B)?)?;
     let other = document_from_raw(rt.alloc(), RawDocument::from_bytes(B_THEN_A)?)?;
@@ -195,46 +215,74 @@ fn user_defined_subtype_two_is_no_proper_one(rt: HostRuntime) -> Result<(), Fail
     Ok(())
 }
 
+/// The owned value of the list of the numbers 1 and 2.
+fn two_written(alloc: Global) -> Result<RawBson, Fail> {
+    let list = Bson::Array(one_and_two(alloc)?);
+    Ok(RawBson::try_from_bson(alloc, list)?)
+}
+
 #[test]
-fn a_list_of_two_is_written_and_read_back(rt: HostRuntime) -> Result<(), Fail> {
+fn a_list_of_two_is_written(rt: HostRuntime) -> Result<(), Fail> {
     // try_from_bson of an array of two
-    let written = RawBson::try_from_bson(rt.alloc(), Bson::Array(one_and_two(rt.alloc())?))?;
-    match &written {
+    match two_written(rt.alloc())? {
         RawBson::Array(array) => assert_array_text(
             &rt,
             rt.alloc(),
-            array,
+            &array,
             "RawArrayBuf { data: \"13000000103000010000001031000200000000\", len: 2 }",
         )?,
         _ => assert!(rt; false),
     }
-    assert!(rt; written.into_bson(rt.alloc())? == Bson::Array(one_and_two(rt.alloc())?));
     Ok(())
 }
 
 #[test]
-fn a_number_and_a_code_are_written_and_read_back(rt: HostRuntime) -> Result<(), Fail> {
+fn a_list_of_two_is_read_back(rt: HostRuntime) -> Result<(), Fail> {
+    // try_from_bson of an array of two
+    let list = Bson::Array(one_and_two(rt.alloc())?);
+    assert_read(&rt, rt.alloc(), two_written(rt.alloc())?, &list);
+    Ok(())
+}
+
+#[test]
+fn a_number_is_written_and_read_back(rt: HostRuntime) {
     // try_from_bson of a number
     assert_owned(&rt, rt.alloc(), Bson::Int32(1), RawBson::Int32(1));
-    assert_read(&rt, rt.alloc(), RawBson::Int32(1), Bson::Int32(1));
+    assert_read(&rt, rt.alloc(), RawBson::Int32(1), &Bson::Int32(1));
+}
+
+#[test]
+fn a_code_is_written_and_read_back(rt: HostRuntime) -> Result<(), Fail> {
     // try_from_bson of a code with scope
     let owned = RawBson::from(code_of(rt.alloc(), "", EMPTY)?);
     assert_owned(&rt, rt.alloc(), empty_code(rt.alloc()), owned);
     let owned = RawBson::from(code_of(rt.alloc(), "", EMPTY)?);
-    assert_read(&rt, rt.alloc(), owned, empty_code(rt.alloc()));
+    assert_read(&rt, rt.alloc(), owned, &empty_code(rt.alloc()));
     Ok(())
 }
 
 #[test]
-fn an_array_and_an_element_are_read(rt: HostRuntime) -> Result<(), Fail> {
+fn an_array_is_read(rt: HostRuntime) -> Result<(), Fail> {
     // list_from_raw
     let holder = document_of(rt.alloc(), b"\x0F\0\0\0\x04a\0\x07\0\0\0\x0A\0\0\0")?;
     let list = list_from_raw(rt.alloc(), holder.get_array("a")?)?;
     assert!(rt; list.as_slice() == [Bson::Null].as_slice());
+    Ok(())
+}
+
+#[test]
+fn an_element_is_read(rt: HostRuntime) -> Result<(), Fail> {
     // bson_from_element
     for element in document_of(rt.alloc(), ONE)?.iter_elements() {
-        assert!(rt; bson_from_element(rt.alloc(), element?)? == Bson::Int32(1));
+        let answer = bson_from_element(rt.alloc(), element?);
+        assert_value(&rt, answer, &Bson::Int32(1));
     }
+    Ok(())
+}
+
+#[test]
+fn the_fault_of_an_element_is_answered(rt: HostRuntime) -> Result<(), Fail> {
+    // bson_from_element
     for element in document_of(rt.alloc(), BOOLEAN_TWO)?.iter_elements() {
         let answer = bson_from_element(rt.alloc(), element?);
         assert_fault(&rt, answer, Reason::BadBoolean(2), "a");

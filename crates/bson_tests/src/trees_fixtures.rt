@@ -1,7 +1,7 @@
 //! Trees, and what is said of the calls that read and write them.
 
-use crate::asserts::assert_malformed;
-use raw_bson::{Bson, Document, JavaScriptCodeWithScope, RawBson, Reason, Regex};
+use crate::asserts::{assert_malformed, assert_same};
+use raw_bson::{Bson, Document, JavaScriptCodeWithScope, RawBson, RawDocumentBuf, Reason, Regex};
 use std::alloc::Global;
 use std::process::Abort;
 use std::test::Fail;
@@ -53,6 +53,34 @@ pub(crate) fn assert_bytes(rt: &impl Abort, answer: raw_bson::Result<Vec<u8>>, b
     }
 }
 
+/// The answer is this tree.
+pub(crate) fn assert_tree(rt: &impl Abort, answer: raw_bson::Result<Document>, wanted: &Document) {
+    match answer {
+        Ok(tree) => assert!(rt; tree == *wanted, "{tree:?}"),
+        Err(error) => assert!(rt; false, "{error}"),
+    }
+}
+
+/// The answer is a buffer of these bytes.
+pub(crate) fn assert_buffer(
+    rt: &impl Abort,
+    answer: raw_bson::Result<RawDocumentBuf>,
+    bytes: &[u8],
+) {
+    match answer {
+        Ok(buffer) => assert_eq!(rt; buffer.as_bytes(), bytes),
+        Err(error) => assert!(rt; false, "{error}"),
+    }
+}
+
+/// The answer is this value.
+pub(crate) fn assert_value(rt: &impl Abort, answer: raw_bson::Result<Bson>, wanted: &Bson) {
+    match answer {
+        Ok(value) => assert!(rt; value == *wanted, "{value:?}"),
+        Err(error) => assert!(rt; false, "{error}"),
+    }
+}
+
 /// The answer is the fault of this reason at this key.
 pub(crate) fn assert_fault<T: Drop>(
     rt: &impl Abort,
@@ -69,15 +97,12 @@ pub(crate) fn assert_fault<T: Drop>(
 /// The value becomes this owned one.
 pub(crate) fn assert_owned(rt: &impl Abort, alloc: Global, value: Bson, wanted: RawBson) {
     match RawBson::try_from_bson(alloc, value) {
-        Ok(owned) => assert!(rt; owned == wanted, "{owned:?}"),
+        Ok(owned) => assert_same(rt, owned, wanted),
         Err(error) => assert!(rt; false, "{error}"),
     }
 }
 
 /// The owned value becomes this one.
-pub(crate) fn assert_read(rt: &impl Abort, alloc: Global, owned: RawBson, wanted: Bson) {
-    match owned.into_bson(alloc) {
-        Ok(value) => assert!(rt; value == wanted, "{value:?}"),
-        Err(error) => assert!(rt; false, "{error}"),
-    }
+pub(crate) fn assert_read(rt: &impl Abort, alloc: Global, owned: RawBson, wanted: &Bson) {
+    assert_value(rt, owned.into_bson(alloc), wanted);
 }

@@ -1,8 +1,8 @@
-use crate::asserts::assert_one_pair;
-use crate::fixtures::{array_of, code_of, document_of, owned};
+use crate::asserts::{assert_one_pair, assert_same};
+use crate::fixtures::{all_owned, array_of, code_of, document_of, owned};
 use raw_bson::{
-    Binary, BinarySubtype, DateTime, DoubleBits, ElementType, RawBson, RawBsonRef, Regex,
-    is_same_code, is_same_value,
+    Binary, BinarySubtype, DateTime, DoubleBits, ElementType, RawBson, RawBsonRef,
+    RawJavaScriptCodeWithScope, Regex, is_same_code, is_same_value,
 };
 use std::alloc::Global;
 use std::process::Abort;
@@ -20,6 +20,13 @@ fn accessed<'a>(value: &'a RawBson, kind: ElementType) -> Option<RawBsonRef<'a>>
         ElementType::ObjectId => RawBsonRef::ObjectId(value.as_object_id()?),
         ElementType::Boolean => RawBsonRef::Boolean(value.as_bool()?),
         ElementType::DateTime => RawBsonRef::DateTime(value.as_datetime()?),
+        _ => accessed_rarer(value, kind)?,
+    })
+}
+
+/// The same for the rarer kinds.
+fn accessed_rarer<'a>(value: &'a RawBson, kind: ElementType) -> Option<RawBsonRef<'a>> {
+    Some(match kind {
         ElementType::RegularExpression => RawBsonRef::RegularExpression(value.as_regex()?),
         ElementType::DbPointer => RawBsonRef::DbPointer(value.as_db_pointer()?),
         ElementType::JavaScriptCode => RawBsonRef::JavaScriptCode(value.as_javascript()?),
@@ -38,14 +45,19 @@ fn accessed<'a>(value: &'a RawBson, kind: ElementType) -> Option<RawBsonRef<'a>>
     })
 }
 
-#[test]
-fn a_value_of_each_kind_has_its_kind_and_its_view(rt: HostRuntime) -> Result<(), Fail> {
-    for (_, kind) in KINDS {
-        let value = owned(rt.alloc(), kind)?;
-        assert_eq!(rt; value.element_type(), kind);
-        assert_eq!(rt; value.as_raw_bson_ref(), borrowed(kind)?);
+/// Each value is of its kind, and its view is the borrowed value of that kind.
+fn assert_viewed(rt: &impl Abort, values: &[(ElementType, RawBson)]) -> Result<(), Fail> {
+    for (kind, value) in values {
+        assert_eq!(rt; value.element_type(), *kind);
+        assert_eq!(rt; value.as_raw_bson_ref(), borrowed(*kind)?);
     }
     Ok(())
+}
+
+#[test]
+fn a_value_of_each_kind_has_its_kind_and_its_view(rt: HostRuntime) -> Result<(), Fail> {
+    let values = all_owned(rt.alloc())?;
+    assert_viewed(&rt, &values)
 }
 
 /// Whether a part of this kind is converted to a value.
@@ -97,83 +109,151 @@ fn is_converted(value: &RawBson, kind: ElementType) -> bool {
     }
 }
 
+fn assert_converted(rt: &impl Abort, values: &[(ElementType, RawBson)]) {
+    for (kind, value) in values {
+        assert!(rt; is_converted(value, *kind), "{kind:?}");
+    }
+}
+
 /// A conversion makes the variant that its part names.
 #[test]
 fn conversions_make_values_of_their_kinds(rt: HostRuntime) -> Result<(), Fail> {
-    for (_, kind) in KINDS {
-        let value = owned(rt.alloc(), kind)?;
-        assert!(rt; is_converted(&value, kind), "{kind:?}");
+    let values = all_owned(rt.alloc())?;
+    assert_converted(&rt, &values);
+    Ok(())
+}
+
+/// Of a value of this kind each accessor answers what it should.
+fn assert_accessed(rt: &impl Abort, value: &RawBson, kind: ElementType) -> Result<(), Fail> {
+    for &(_, asked) in KINDS.iter() {
+        let wanted = if asked == kind && has_accessor(kind) {
+            Some(borrowed(kind)?)
+        } else {
+            None
+        };
+        assert_eq!(rt; accessed(value, asked), wanted, "{asked:?} of {kind:?}");
     }
     Ok(())
 }
 
 #[test]
 fn an_accessor_answers_its_own_kind_alone(rt: HostRuntime) -> Result<(), Fail> {
-    for (_, kind) in KINDS {
-        let value = owned(rt.alloc(), kind)?;
-        for (_, asked) in KINDS {
-            let wanted = if asked == kind && has_accessor(kind) {
-                Some(borrowed(kind)?)
-            } else {
-                None
-            };
-            assert_eq!(rt; accessed(&value, asked), wanted, "{asked:?} of {kind:?}");
-        }
+    let values = all_owned(rt.alloc())?;
+    for (kind, value) in values.iter() {
+        assert_accessed(&rt, value, *kind)?;
     }
     Ok(())
+}
+
+/// An array of one null, onto which `true` is pushed where it stands in a value.
+fn pushed_in_its_place(alloc: Global) -> Result<RawBson, Fail> {
+    let mut value = RawBson::from(array_of(alloc, NULL_ARRAY)?);
+    let array = value.as_array_mut().ok_or("an array isn't lent")?;
+    array.push(RawBson::from(true))?;
+    Ok(value)
 }
 
 #[test]
 fn an_array_is_changed_in_its_place(rt: HostRuntime) -> Result<(), Fail> {
-    let mut value = RawBson::from(array_of(rt.alloc(), NULL_ARRAY)?);
-    match value.as_array_mut() {
-        Some(array) => array.push(RawBson::from(true))?,
-        None => assert!(rt; false),
-    }
     let changed = b"\x0C\0\0\0\x0A0\0\x081\0\x01\0".as_slice();
-    assert!(rt; value == RawBson::from(array_of(rt.alloc(), changed)?));
-    for (_, kind) in KINDS {
-        let mut value = owned(rt.alloc(), kind)?;
-        let is_array = kind == ElementType::Array;
-        assert_eq!(rt; value.as_array_mut().is_some(), is_array, "{kind:?}");
+    let wanted = RawBson::from(array_of(rt.alloc(), changed)?);
+    assert_same(&rt, pushed_in_its_place(rt.alloc())?, wanted);
+    Ok(())
+}
+
+fn lends_an_array(mut value: RawBson) -> bool {
+    value.as_array_mut().is_some()
+}
+
+#[test]
+fn only_an_array_is_lent_as_one(rt: HostRuntime) -> Result<(), Fail> {
+    for &(_, kind) in KINDS.iter() {
+        let is_lent = lends_an_array(owned(rt.alloc(), kind)?);
+        assert_eq!(rt; is_lent, kind == ElementType::Array, "{kind:?}");
     }
     Ok(())
+}
+
+/// An empty document, to which the number -1 is appended where it stands in a value.
+fn appended_in_its_place(alloc: Global) -> Result<RawBson, Fail> {
+    let mut value = RawBson::from(document_of(alloc, EMPTY)?);
+    let document = value.as_document_mut().ok_or("a document isn't lent")?;
+    document.append("a", RawBson::from(-1_i32))?;
+    Ok(value)
 }
 
 #[test]
 fn a_document_is_changed_in_its_place(rt: HostRuntime) -> Result<(), Fail> {
-    let mut value = RawBson::from(document_of(rt.alloc(), EMPTY)?);
-    match value.as_document_mut() {
-        Some(document) => document.append("a", RawBson::from(-1_i32))?,
-        None => assert!(rt; false),
-    }
-    assert!(rt; value == RawBson::from(document_of(rt.alloc(), ONE_INT32)?));
-    for (_, kind) in KINDS {
-        let mut value = owned(rt.alloc(), kind)?;
-        let is_document = kind == ElementType::EmbeddedDocument;
-        assert_eq!(rt; value.as_document_mut().is_some(), is_document, "{kind:?}");
+    let wanted = RawBson::from(document_of(rt.alloc(), ONE_INT32)?);
+    assert_same(&rt, appended_in_its_place(rt.alloc())?, wanted);
+    Ok(())
+}
+
+fn lends_a_document(mut value: RawBson) -> bool {
+    value.as_document_mut().is_some()
+}
+
+#[test]
+fn only_a_document_is_lent_as_one(rt: HostRuntime) -> Result<(), Fail> {
+    for &(_, kind) in KINDS.iter() {
+        let is_lent = lends_a_document(owned(rt.alloc(), kind)?);
+        assert_eq!(rt; is_lent, kind == ElementType::EmbeddedDocument, "{kind:?}");
     }
     Ok(())
 }
 
-#[test]
-fn values_are_equal_only_to_their_like(rt: HostRuntime) -> Result<(), Fail> {
-    for (_, kind) in KINDS {
-        let value = owned(rt.alloc(), kind)?;
-        let copy = value.clone()?;
-        assert_eq!(rt; copy.as_raw_bson_ref(), borrowed(kind)?);
-        for (_, other_kind) in KINDS {
-            let other = owned(rt.alloc(), other_kind)?;
+/// Whether the two are equal, by `==` and by the law.
+fn are_equal(value: &RawBson, other: &RawBson) -> (bool, bool) {
+    (value == other, is_same_value(value, other))
+}
+
+/// Each value is equal to the other of its kind, and to no other.
+fn assert_equal_by_kind(
+    rt: &impl Abort,
+    values: &[(ElementType, RawBson)],
+    others: &[(ElementType, RawBson)],
+) {
+    for (kind, value) in values {
+        for (other_kind, other) in others {
             let same = kind == other_kind;
-            assert_eq!(rt; value == other, same, "{kind:?} and {other_kind:?}");
-            assert_eq!(rt; copy == other, same, "{kind:?} and {other_kind:?}");
-            assert_eq!(rt;
-                is_same_value(&value, &other),
-                same,
-                "{kind:?} and {other_kind:?}"
-            );
+            let found = are_equal(value, other);
+            assert_eq!(rt; found, (same, same), "{kind:?} and {other_kind:?}");
         }
     }
+}
+
+#[test]
+fn values_are_equal_only_to_their_like(rt: HostRuntime) -> Result<(), Fail> {
+    let values = all_owned(rt.alloc())?;
+    let others = all_owned(rt.alloc())?;
+    assert_equal_by_kind(&rt, &values, &others);
+    Ok(())
+}
+
+fn copied(alloc: Global, kind: ElementType) -> Result<RawBson, Fail> {
+    Ok(owned(alloc, kind)?.clone()?)
+}
+
+/// A copy of the value of each kind.
+fn all_copied(alloc: Global) -> Result<Vec<(ElementType, RawBson)>, Fail> {
+    let mut copies = Vec::new(alloc);
+    for &(_, kind) in KINDS.iter() {
+        copies.push((kind, copied(alloc, kind)?))?;
+    }
+    Ok(copies)
+}
+
+#[test]
+fn a_copy_of_each_kind_has_its_kind_and_its_view(rt: HostRuntime) -> Result<(), Fail> {
+    let copies = all_copied(rt.alloc())?;
+    assert_viewed(&rt, &copies)
+}
+
+#[test]
+fn copies_are_equal_only_to_their_like(rt: HostRuntime) -> Result<(), Fail> {
+    let copies = all_copied(rt.alloc())?;
+    let others = all_owned(rt.alloc())?;
+    assert_equal_by_kind(&rt, &copies, &others);
     Ok(())
 }
 
@@ -197,9 +277,15 @@ fn other(alloc: Global, kind: ElementType) -> Result<RawBson, Fail> {
     })
 }
 
+/// The other value is of this kind, too, and the two differ.
+fn assert_differ(rt: &impl Abort, value: RawBson, other: RawBson, kind: ElementType) {
+    assert_eq!(rt; other.element_type(), kind);
+    assert_eq!(rt; are_equal(&value, &other), (false, false), "{kind:?}");
+}
+
 #[test]
 fn values_of_one_kind_differ_by_their_parts(rt: HostRuntime) -> Result<(), Fail> {
-    for kind in [
+    for &kind in [
         ElementType::Double,
         ElementType::String,
         ElementType::EmbeddedDocument,
@@ -210,65 +296,98 @@ fn values_of_one_kind_differ_by_their_parts(rt: HostRuntime) -> Result<(), Fail>
         ElementType::JavaScriptCodeWithScope,
         ElementType::Int32,
         ElementType::Int64,
-    ] {
+    ]
+    .iter()
+    {
         let value = owned(rt.alloc(), kind)?;
-        let other = other(rt.alloc(), kind)?;
-        assert_eq!(rt; other.element_type(), kind);
-        assert!(rt; value != other, "{kind:?}");
-        assert!(rt; !is_same_value(&value, &other), "{kind:?}");
+        assert_differ(&rt, value, other(rt.alloc(), kind)?, kind);
     }
-    // a negative zero is another double than the zero
-    assert!(rt; RawBson::from(DoubleBits(0)) != RawBson::from(DoubleBits(0x8000_0000_0000_0000)));
+    Ok(())
+}
+
+#[test]
+fn a_negative_zero_is_another_double_than_the_zero(rt: HostRuntime) {
+    let zero = RawBson::from(DoubleBits(0));
+    let negative = RawBson::from(DoubleBits(0x8000_0000_0000_0000));
+    assert_differ(&rt, zero, negative, ElementType::Double);
+}
+
+/// Whether the two are equal, by `==` and by the law.
+fn are_equal_codes(
+    code: &RawJavaScriptCodeWithScope,
+    other: &RawJavaScriptCodeWithScope,
+) -> (bool, bool) {
+    (code == other, is_same_code(code, other))
+}
+
+/// The copy is equal to the code, and has its parts.
+fn assert_copied(
+    rt: &impl Abort,
+    copy: &RawJavaScriptCodeWithScope,
+    code: &RawJavaScriptCodeWithScope,
+) {
+    assert_eq!(rt; are_equal_codes(copy, code), (true, true));
+    assert_eq!(rt; copy.code.as_str(), "g");
+    assert_eq!(rt; copy.scope.as_bytes(), EMPTY);
+}
+
+#[test]
+fn code_with_scope_is_copied(rt: HostRuntime) -> Result<(), Fail> {
+    let code = code_of(rt.alloc(), "g", EMPTY)?;
+    assert_copied(&rt, &code.clone()?, &code);
     Ok(())
 }
 
 #[test]
 fn code_with_scope_is_equal_by_both_parts(rt: HostRuntime) -> Result<(), Fail> {
     let code = code_of(rt.alloc(), "g", EMPTY)?;
-    let copy = code.clone()?;
-    assert!(rt; copy == code);
-    assert!(rt; is_same_code(&copy, &code));
-    assert_eq!(rt; copy.code.as_str(), "g");
-    assert_eq!(rt; copy.scope.as_bytes(), EMPTY);
-    for other in [
-        code_of(rt.alloc(), "h", EMPTY)?,
-        code_of(rt.alloc(), "g", NULL_DOCUMENT)?,
-    ] {
-        assert!(rt; other != code);
-        assert!(rt; !is_same_code(&other, &code));
+    for (text, scope) in [("h", EMPTY), ("g", NULL_DOCUMENT)] {
+        let found = are_equal_codes(&code_of(rt.alloc(), text, scope)?, &code);
+        assert_eq!(rt; found, (false, false), "{text}");
     }
     Ok(())
 }
 
 #[test]
 fn a_text_is_copied(rt: HostRuntime) -> Result<(), Fail> {
-    let value = RawBson::from_str(rt.alloc(), "a")?;
-    assert!(rt; value == RawBson::String(String::from_str(rt.alloc(), "a")?));
+    let wanted = RawBson::String(String::from_str(rt.alloc(), "a")?);
+    assert_same(&rt, RawBson::from_str(rt.alloc(), "a")?, wanted);
+    Ok(())
+}
+
+#[test]
+fn a_new_regex_has_its_options_in_order(rt: HostRuntime) -> Result<(), Fail> {
+    let ordered = Regex::new(rt.alloc(), "^a", "mi")?;
+    assert_eq!(rt; ordered.pattern.as_str(), "^a");
+    assert_eq!(rt; ordered.options.as_str(), "im");
+    Ok(())
+}
+
+/// A regular expression as a literal makes it, which leaves the order of its options.
+fn regex_as_written(alloc: Global) -> Result<RawBson, Fail> {
+    Ok(RawBson::RegularExpression(Regex {
+        pattern: String::from_str(alloc, "^a")?,
+        options: String::from_str(alloc, "mi")?,
+    }))
+}
+
+/// The document of this value alone, under the empty key, is these bytes, and the value is read back.
+fn assert_written(
+    rt: &impl Abort,
+    alloc: Global,
+    value: RawBsonRef<'_>,
+    bytes: &[u8],
+) -> Result<(), Fail> {
+    let mut document = document_of(alloc, EMPTY)?;
+    document.append_ref("", value)?;
+    assert_eq!(rt; document.as_bytes(), bytes);
+    assert_one_pair(rt, alloc, document.as_ref(), "", value);
     Ok(())
 }
 
 #[test]
 fn options_are_kept_as_they_stand_in_an_owned_value(rt: HostRuntime) -> Result<(), Fail> {
-    // `Regex::new` puts them in order, a literal doesn't, and an append writes what stands there
-    let ordered = Regex::new(rt.alloc(), "^a", "mi")?;
-    assert_eq!(rt; ordered.pattern.as_str(), "^a");
-    assert_eq!(rt; ordered.options.as_str(), "im");
-    let mut document = document_of(rt.alloc(), EMPTY)?;
-    let as_written = RawBson::RegularExpression(Regex {
-        pattern: String::from_str(rt.alloc(), "^a")?,
-        options: String::from_str(rt.alloc(), "mi")?,
-    });
-    document.append_ref("", as_written.as_raw_bson_ref())?;
-    assert_eq!(rt;
-        document.as_bytes(),
-        b"\x0D\0\0\0\x0B\0^a\0mi\0\0".as_slice()
-    );
-    assert_one_pair(
-        &rt,
-        rt.alloc(),
-        document.as_ref(),
-        "",
-        as_written.as_raw_bson_ref(),
-    );
-    Ok(())
+    let value = regex_as_written(rt.alloc())?;
+    let bytes = b"\x0D\0\0\0\x0B\0^a\0mi\0\0";
+    assert_written(&rt, rt.alloc(), value.as_raw_bson_ref(), bytes)
 }
