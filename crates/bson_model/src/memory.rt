@@ -1,4 +1,4 @@
-use crate::{Bson, Document, NoMemory};
+use crate::{Bson, Document};
 use std::alloc::Global;
 use std::process::Abort;
 
@@ -17,37 +17,42 @@ const PAIRS: [(&str, i32); 9] = [
     ("i", 9),
 ];
 
-/// The document is the first of the pairs, so many of them.
-fn assert_pairs(rt: &impl Abort, document: &Document, count: usize) {
-    assert_eq!(rt; document.len(), count);
+/// Whether this pair stands at this place, and is what is found by its key.
+fn is_pair(document: &Document, index: usize, key: &str, value: &Bson) -> bool {
+    document.pair_at(index) == Some((key, value)) && document.get(key) == Some(value)
+}
+
+/// Whether the document is the first of the pairs, so many of them.
+fn has_pairs(document: &Document, count: usize) -> bool {
     for (index, (key, number)) in PAIRS.into_iter().enumerate() {
-        let value = Bson::Int32(number);
-        if index < count {
-            assert!(rt; document.pair_at(index) == Some((key, &value)), "{key}");
-            assert!(rt; document.get(key) == Some(&value), "{key}");
+        let is_right = if index < count {
+            is_pair(document, index, key, &Bson::Int32(number))
         } else {
-            assert!(rt; document.pair_at(index).is_none(), "{key}");
-            assert!(rt; document.get(key).is_none(), "{key}");
+            document.pair_at(index).is_none() && document.get(key).is_none()
+        };
+        if !is_right {
+            return false;
         }
+    }
+    document.len() == count
+}
+
+/// Whether memory sufficed to insert the pair, whose key is a new one.
+fn is_inserted(alloc: Global, document: &mut Document, key: &str, number: i32) -> bool {
+    match String::from_str(alloc, key) {
+        Ok(text) => matches!(document.insert(text, Bson::Int32(number)), Ok(None)),
+        Err(_) => false,
     }
 }
 
 /// Inserts the pairs. A refused insert leaves the document as it was, and goes well when it is made again.
 fn insert_pairs(rt: &impl Abort, alloc: Global, document: &mut Document) {
     for (before, (key, number)) in PAIRS.into_iter().enumerate() {
-        for _ in 0..2 {
-            let Ok(text) = String::from_str(alloc, key) else {
-                continue;
-            };
-            match document.insert(text, Bson::Int32(number)) {
-                Ok(old) => {
-                    assert!(rt; old.is_none(), "{key}");
-                    break;
-                }
-                Err(NoMemory) => assert_pairs(rt, document, before),
-            }
+        if !is_inserted(alloc, document, key, number) {
+            assert!(rt; has_pairs(document, before), "{key}");
+            assert!(rt; is_inserted(alloc, document, key, number), "{key}");
         }
-        assert_pairs(rt, document, before.saturating_add(1));
+        assert!(rt; has_pairs(document, before.saturating_add(1)), "{key}");
     }
 }
 
@@ -57,22 +62,22 @@ fn insert_of_a_new_key_or_want_of_memory(rt: HostRuntime) {
     insert_pairs(&rt, rt.alloc(), &mut document);
 }
 
+/// Whether a null takes the place of the number under this key.
+fn is_replaced(document: &mut Document, key: String, number: i32) -> bool {
+    let old = document.insert(key, Bson::Null);
+    old == Ok(Some(Bson::Int32(number)))
+}
+
 /// The insert itself takes no memory, so that none can be refused to it.
 #[test]
 fn insert_of_a_key_that_is_there_or_want_of_memory(rt: HostRuntime) {
     let mut document = Document::new(rt.alloc());
     insert_pairs(&rt, rt.alloc(), &mut document);
     for (index, (key, number)) in PAIRS.into_iter().enumerate() {
-        let Ok(text) = String::from_str(rt.alloc(), key) else {
-            continue;
-        };
-        let old = document.insert(text, Bson::Null);
-        assert!(rt; old == Ok(Some(Bson::Int32(number))), "{key}");
-        assert!(rt; document.get(key) == Some(&Bson::Null), "{key}");
-        assert!(rt;
-            document.pair_at(index) == Some((key, &Bson::Null)),
-            "{key}"
-        );
+        if let Ok(text) = String::from_str(rt.alloc(), key) {
+            assert!(rt; is_replaced(&mut document, text, number), "{key}");
+            assert!(rt; is_pair(&document, index, key, &Bson::Null), "{key}");
+        }
     }
     assert_eq!(rt; document.len(), PAIRS.len());
 }

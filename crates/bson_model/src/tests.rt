@@ -4,7 +4,21 @@ use crate::{
     attest_value, is_same_document, is_same_tree,
 };
 use std::alloc::{AllocError, Global};
+use std::fmt::Debug;
+use std::process::Abort;
 use std::test::Fail;
+
+// The value has this `Debug` text.
+fn assert_debug<T: Debug>(
+    rt: &impl Abort,
+    alloc: Global,
+    value: &T,
+    text: &str,
+) -> Result<(), Fail> {
+    let found = format!(in alloc; "{value:?}")?;
+    assert_eq!(rt; found.as_str(), text);
+    Ok(())
+}
 
 #[test]
 fn an_object_id_is_its_twelve_bytes(rt: HostRuntime) -> Result<(), Fail> {
@@ -27,22 +41,28 @@ fn small_values_keep_what_they_are_given(rt: HostRuntime) -> Result<(), Fail> {
     assert_eq!(rt; Decimal128::from_bytes(bytes).bytes(), bytes);
     let negative_zero = DoubleBits(0x8000_0000_0000_0000);
     assert_ne!(rt; negative_zero, DoubleBits(0));
-    assert_eq!(rt;
-        format!(in rt.alloc(); "{negative_zero:?}")?.as_str(),
-        "DoubleBits(9223372036854775808)"
-    );
+    assert_debug(
+        &rt,
+        rt.alloc(),
+        &negative_zero,
+        "DoubleBits(9223372036854775808)",
+    )?;
     let timestamp = Timestamp {
         time: 1,
         increment: 2,
     };
-    assert_eq!(rt;
-        format!(in rt.alloc(); "{timestamp:?}")?.as_str(),
-        "Timestamp { time: 1, increment: 2 }"
-    );
-    assert_eq!(rt;
-        format!(in rt.alloc(); "{:?}", DateTime::from_millis(7))?.as_str(),
-        "DateTime { millis: 7 }"
-    );
+    assert_debug(
+        &rt,
+        rt.alloc(),
+        &timestamp,
+        "Timestamp { time: 1, increment: 2 }",
+    )?;
+    assert_debug(
+        &rt,
+        rt.alloc(),
+        &DateTime::from_millis(7),
+        "DateTime { millis: 7 }",
+    )?;
     Ok(())
 }
 
@@ -72,10 +92,12 @@ fn subtypes_have_their_bytes(rt: HostRuntime) -> Result<(), Fail> {
         subtype: BinarySubtype::UserDefined(200),
         bytes: vec![in rt.alloc(); 1, 2]?,
     };
-    assert_eq!(rt;
-        format!(in rt.alloc(); "{binary:?}")?.as_str(),
-        "Binary { subtype: UserDefined(200), bytes: [1, 2] }"
-    );
+    assert_debug(
+        &rt,
+        rt.alloc(),
+        &binary,
+        "Binary { subtype: UserDefined(200), bytes: [1, 2] }",
+    )?;
     let same = Binary {
         subtype: BinarySubtype::UserDefined(200),
         bytes: vec![in rt.alloc(); 1, 2]?,
@@ -91,10 +113,12 @@ fn options_are_put_in_order(rt: HostRuntime) -> Result<(), Fail> {
     assert_eq!(rt; regex.pattern.as_str(), "^a");
     assert_eq!(rt; regex.options.as_str(), "iix\u{FFFD}\u{10000}");
     let plain = Regex::new(rt.alloc(), "a", "im")?;
-    assert_eq!(rt;
-        format!(in rt.alloc(); "{plain:?}")?.as_str(),
-        "Regex { pattern: \"a\", options: \"im\" }"
-    );
+    assert_debug(
+        &rt,
+        rt.alloc(),
+        &plain,
+        "Regex { pattern: \"a\", options: \"im\" }",
+    )?;
     assert!(rt; plain != regex);
     Ok(())
 }
@@ -105,18 +129,17 @@ fn the_rest_is_printed(rt: HostRuntime) -> Result<(), Fail> {
         namespace: String::from_str(rt.alloc(), "db.things")?,
         id: ObjectId::from_bytes([0; 12]),
     };
-    assert_eq!(rt;
-        format!(in rt.alloc(); "{pointer:?}")?.as_str(),
-        "DbPointer { namespace: \"db.things\", id: ObjectId { bytes: [0, 0, 0, 0, 0, 0, 0, 0, 0, 0, 0, 0] } }"
-    );
+    assert_debug(
+        &rt,
+        rt.alloc(),
+        &pointer,
+        "DbPointer { namespace: \"db.things\", id: ObjectId { bytes: [0, 0, 0, 0, 0, 0, 0, 0, 0, 0, 0, 0] } }",
+    )?;
     assert_eq!(rt;
         format!(in rt.alloc(); "{NoMemory}")?.as_str(),
         "out of memory"
     );
-    assert_eq!(rt;
-        format!(in rt.alloc(); "{NoMemory:?}")?.as_str(),
-        "NoMemory"
-    );
+    assert_debug(&rt, rt.alloc(), &NoMemory, "NoMemory")?;
     Ok(())
 }
 
@@ -213,18 +236,26 @@ fn rarer_value_of(alloc: Global, variant: u8) -> Result<Bson, Fail> {
     }
 }
 
+fn attest(value: &Bson) {
+    attest_value(value);
+    if let Bson::Array(members) = value {
+        attest_list(members);
+    }
+}
+
+// Whether both comparisons say so of the two values.
+fn are_found_equal(value: &Bson, other: &Bson, equal: bool) -> bool {
+    (value == other) == equal && is_same_tree(value, other) == equal
+}
+
 #[test]
 fn values_are_equal_only_to_their_like(rt: HostRuntime) -> Result<(), Fail> {
     for i in 0..21 {
         let value = value_of(rt.alloc(), i)?;
-        attest_value(&value);
-        if let Bson::Array(members) = &value {
-            attest_list(members);
-        }
+        attest(&value);
         for j in 0..21 {
             let other = value_of(rt.alloc(), j)?;
-            assert_eq!(rt; value == other, i == j, "at {i} and {j}");
-            assert_eq!(rt; is_same_tree(&value, &other), i == j, "at {i} and {j}");
+            assert!(rt; are_found_equal(&value, &other, i == j), "at {i} and {j}");
         }
     }
     Ok(())
@@ -233,47 +264,58 @@ fn values_are_equal_only_to_their_like(rt: HostRuntime) -> Result<(), Fail> {
 #[test]
 fn a_document_is_printed_in_order(rt: HostRuntime) -> Result<(), Fail> {
     let pairs = two_pairs(rt.alloc())?;
-    assert_eq!(rt;
-        format!(in rt.alloc(); "{pairs:?}")?.as_str(),
-        "Document { pairs: {\"b\": Int32(3), \"a\": Int32(2)} }"
-    );
+    assert_debug(
+        &rt,
+        rt.alloc(),
+        &pairs,
+        "Document { pairs: {\"b\": Int32(3), \"a\": Int32(2)} }",
+    )?;
     let document = holding(rt.alloc(), Bson::Document(pairs))?;
-    assert_eq!(rt;
-        format!(in rt.alloc(); "{document:?}")?.as_str(),
-        "Document { pairs: {\"key\": Document(Document { pairs: {\"b\": Int32(3), \"a\": Int32(2)} })} }"
-    );
+    assert_debug(
+        &rt,
+        rt.alloc(),
+        &document,
+        "Document { pairs: {\"key\": Document(Document { pairs: {\"b\": Int32(3), \"a\": Int32(2)} })} }",
+    )?;
     Ok(())
 }
 
+// The value in a document, a list or a code with scope.
+fn wrapped(alloc: Global, level: u32, value: Bson) -> Result<Bson, NoMemory> {
+    match level % 3 {
+        0 => Ok(Bson::Document(holding(alloc, value)?)),
+        1 => Ok(Bson::Array(vec![in alloc; value]?)),
+        _ => code_holding(alloc, value),
+    }
+}
+
+fn code_holding(alloc: Global, value: Bson) -> Result<Bson, NoMemory> {
+    let scope = holding(alloc, value)?;
+    let code = text(alloc, "code")?;
+    Ok(Bson::JavaScriptCodeWithScope(JavaScriptCodeWithScope { code, scope }))
+}
+
 // Documents, lists and codes with scope in turn, 500 levels deep, round a number.
-fn nested(alloc: Global, innermost: i32) -> Result<Document, Fail> {
+fn nested(alloc: Global, innermost: i32) -> Result<Document, NoMemory> {
     let mut value = Bson::Int32(innermost);
     for level in 0..500 {
-        value = match level % 3 {
-            0 => Bson::Document(holding(alloc, value)?),
-            1 => Bson::Array(vec![in alloc; value]?),
-            _ => Bson::JavaScriptCodeWithScope(JavaScriptCodeWithScope {
-                code: text(alloc, "code")?,
-                scope: holding(alloc, value)?,
-            }),
-        };
+        value = wrapped(alloc, level, value)?;
     }
     holding(alloc, value)
 }
 
-fn holding(alloc: Global, value: Bson) -> Result<Document, Fail> {
+fn holding(alloc: Global, value: Bson) -> Result<Document, NoMemory> {
+    let key = text(alloc, "key")?;
     let mut document = Document::new(alloc);
-    document.insert(text(alloc, "key")?, value)?;
+    document.insert(key, value)?;
     Ok(document)
 }
 
 #[test]
 fn five_hundred_levels_are_compared_and_dropped(rt: HostRuntime) -> Result<(), Fail> {
     let document = nested(rt.alloc(), 1)?;
-    let same = nested(rt.alloc(), 1)?;
-    let other = nested(rt.alloc(), 2)?;
     attest_document(&document);
-    assert!(rt; document == same);
-    assert!(rt; document != other);
+    assert!(rt; document == nested(rt.alloc(), 1)?);
+    assert!(rt; document != nested(rt.alloc(), 2)?);
     Ok(())
 }

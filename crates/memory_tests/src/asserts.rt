@@ -1,13 +1,42 @@
-use raw_bson::{Error, ErrorKind, Result};
+use raw_bson::{Error, ErrorKind, RawArrayBuf, RawDocumentBuf, Result};
 use std::process::Abort;
+
+/// Whether the error is want of memory, without a key.
+pub(crate) fn is_want_of_memory(error: &Error) -> bool {
+    *error == Error::new(ErrorKind::OutOfMemory)
+}
 
 /// The value that was answered; without one, the answer is want of memory, without a key.
 pub(crate) fn answered<T: Drop>(rt: &impl Abort, answer: Result<T>) -> Option<T> {
     match answer {
         Ok(value) => Some(value),
         Err(error) => {
-            assert!(rt; error == Error::new(ErrorKind::OutOfMemory), "{error:?}");
+            assert!(rt; is_want_of_memory(&error), "{error:?}");
             None
         }
+    }
+}
+
+/// Whether the answer is a document of these bytes, or want of memory.
+pub(crate) fn is_document(answer: Result<RawDocumentBuf>, bytes: &[u8]) -> bool {
+    match answer {
+        Ok(document) => document.as_bytes() == bytes,
+        Err(error) => is_want_of_memory(&error),
+    }
+}
+
+/// Whether the answer is an array of these bytes, or want of memory.
+pub(crate) fn is_array(answer: Result<RawArrayBuf>, bytes: &[u8]) -> bool {
+    match answer {
+        Ok(array) => array.as_bytes() == bytes,
+        Err(error) => is_want_of_memory(&error),
+    }
+}
+
+/// Whether the answer is just these bytes, or want of memory.
+pub(crate) fn is_list(answer: Result<Vec<u8>>, bytes: &[u8]) -> bool {
+    match answer {
+        Ok(list) => list.as_slice() == bytes,
+        Err(error) => is_want_of_memory(&error),
     }
 }

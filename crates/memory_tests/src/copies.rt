@@ -1,13 +1,25 @@
-use crate::asserts::answered;
+use crate::asserts::{answered, is_document, is_want_of_memory};
 use crate::kinds::has_memory;
 use raw_bson::{
-    BinarySubtype, ErrorKind, NoMemory, RawBinaryRef, RawBson, RawDocument,
-    RawJavaScriptCodeWithScope, Regex, ToRawArrayBuf, ToRawBson, ToRawDocumentBuf,
+    Binary, BinarySubtype, ElementType, NoMemory, RawArrayBuf, RawBinaryRef, RawBson, RawBsonRef,
+    RawDocument, RawDocumentBuf, RawElement, RawJavaScriptCodeWithScope, Regex, ToRawArrayBuf,
+    ToRawBson, ToRawDocumentBuf,
 };
+use std::alloc::Global;
 use std::test::Fail;
 use test_fixtures::*;
 
 // Each copy is equal, or there is none for want of memory, and what is copied is as it was.
+
+/// Whether the answer is the vector of the bytes 1 and 2, or want of memory.
+fn is_vector(answer: raw_bson::Result<Binary>) -> bool {
+    match answer {
+        Ok(copy) => {
+            copy.subtype == BinarySubtype::Vector && copy.bytes.as_slice() == b"\x01\x02".as_slice()
+        }
+        Err(error) => is_want_of_memory(&error),
+    }
+}
 
 #[test]
 fn binary_copy_or_want_of_memory(rt: HostRuntime) {
@@ -15,48 +27,71 @@ fn binary_copy_or_want_of_memory(rt: HostRuntime) {
         subtype: BinarySubtype::Vector,
         bytes: b"\x01\x02",
     };
-    if let Some(copy) = answered(&rt, value.to_binary(rt.alloc())) {
-        assert_eq!(rt; copy.subtype, BinarySubtype::Vector);
-        assert_eq!(rt; copy.bytes.as_slice(), b"\x01\x02".as_slice());
-    }
+    assert!(rt; is_vector(value.to_binary(rt.alloc())));
+}
+
+/// The document has these bytes, and its clone is equal.
+fn is_document_cloned(document: &RawDocumentBuf, bytes: &[u8]) -> bool {
+    let copy: Result<_, _> = document.clone();
+    let is_equal = match copy {
+        Ok(copy) => copy == *document,
+        Err(_) => true,
+    };
+    is_equal && document.as_bytes() == bytes
+}
+
+/// The array has these bytes, and its clone is equal.
+fn is_array_cloned(array: &RawArrayBuf, bytes: &[u8]) -> bool {
+    let copy: Result<_, _> = array.clone();
+    let is_equal = match copy {
+        Ok(copy) => copy == *array,
+        Err(_) => true,
+    };
+    is_equal && array.as_bytes() == bytes
 }
 
 #[test]
 fn clones_of_buffers_or_want_of_memory(rt: HostRuntime) -> Result<(), Fail> {
     let view = RawDocument::from_bytes(GREETING)?;
     if let Some(document) = answered(&rt, view.to_raw_document_buf(rt.alloc())) {
-        let copy: Result<_, _> = document.clone();
-        if let Ok(copy) = copy {
-            assert!(rt; copy == document);
-        }
-        assert_eq!(rt; document.as_bytes(), GREETING);
+        assert!(rt; is_document_cloned(&document, GREETING));
     }
     let view = array_view(SWALLOWED_TERMINATOR)?;
     if let Some(array) = answered(&rt, view.to_raw_array_buf(rt.alloc())) {
-        let copy: Result<_, _> = array.clone();
-        if let Ok(copy) = copy {
-            assert!(rt; copy == array);
-        }
-        assert_eq!(rt; array.as_bytes(), SWALLOWED_TERMINATOR);
+        assert!(rt; is_array_cloned(&array, SWALLOWED_TERMINATOR));
     }
     Ok(())
 }
 
+/// The value is the wanted one, and so is its clone; without a clone, it has memory of its own.
+fn is_value_cloned(value: &RawBson, want: RawBsonRef<'_>, kind: ElementType) -> bool {
+    let copy: Result<_, _> = value.clone();
+    let is_equal = match copy {
+        Ok(copy) => copy.as_raw_bson_ref() == want,
+        Err(_) => has_memory(kind),
+    };
+    is_equal && value.as_raw_bson_ref() == want
+}
+
 #[test]
 fn clones_of_values_or_want_of_memory(rt: HostRuntime) -> Result<(), Fail> {
-    for (key, kind) in KINDS {
+    for (_, kind) in KINDS {
         let want = borrowed(kind)?;
-        let Some(value) = answered(&rt, want.to_raw_bson(rt.alloc())) else {
-            continue;
-        };
-        let copy: Result<_, _> = value.clone();
-        match copy {
-            Ok(copy) => assert_eq!(rt; copy.as_raw_bson_ref(), want),
-            Err(_) => assert!(rt; has_memory(kind), "{key}"),
+        if let Some(value) = answered(&rt, want.to_raw_bson(rt.alloc())) {
+            assert!(rt; is_value_cloned(&value, want, kind));
         }
-        assert_eq!(rt; value.as_raw_bson_ref(), want);
     }
     Ok(())
+}
+
+/// The code has these parts, and its clone is equal.
+fn is_code_cloned(code: &RawJavaScriptCodeWithScope, text: &str, scope: &[u8]) -> bool {
+    let copy: Result<_, _> = code.clone();
+    let is_equal = match copy {
+        Ok(copy) => copy == *code,
+        Err(_) => true,
+    };
+    is_equal && code.code.as_str() == text && code.scope.as_bytes() == scope
 }
 
 #[test]
@@ -65,26 +100,23 @@ fn clone_of_code_with_scope_or_want_of_memory(rt: HostRuntime) -> Result<(), Fai
         return Ok(());
     };
     let view = RawDocument::from_bytes(NULL_DOCUMENT)?;
-    let Some(scope) = answered(&rt, view.to_raw_document_buf(rt.alloc())) else {
-        return Ok(());
-    };
-    let code = RawJavaScriptCodeWithScope { code: text, scope };
-    let copy: Result<_, _> = code.clone();
-    if let Ok(copy) = copy {
-        assert!(rt; copy == code);
+    if let Some(scope) = answered(&rt, view.to_raw_document_buf(rt.alloc())) {
+        let code = RawJavaScriptCodeWithScope { code: text, scope };
+        assert!(rt; is_code_cloned(&code, "g", NULL_DOCUMENT));
     }
-    assert_eq!(rt; code.code.as_str(), "g");
-    assert_eq!(rt; code.scope.as_bytes(), NULL_DOCUMENT);
     Ok(())
 }
 
 #[test]
 fn to_raw_document_buf_or_want_of_memory(rt: HostRuntime) -> Result<(), Fail> {
     let view = RawDocument::from_bytes(GREETING)?;
-    if let Some(copy) = answered(&rt, view.to_raw_document_buf(rt.alloc())) {
-        assert_eq!(rt; copy.as_bytes(), GREETING);
-    }
+    assert!(rt; is_document(view.to_raw_document_buf(rt.alloc()), GREETING));
     Ok(())
+}
+
+/// Whether the bytes of the array become those after a push, if memory isn't wanted for it.
+fn is_pushed(array: &mut RawArrayBuf, before: &[u8], after: &[u8]) -> bool {
+    array.as_bytes() == before && (array.push(RawBson::Null).is_err() || array.as_bytes() == after)
 }
 
 /// Counting takes memory for the key of a stop alone: the next key is the number of items.
@@ -92,12 +124,18 @@ fn to_raw_document_buf_or_want_of_memory(rt: HostRuntime) -> Result<(), Fail> {
 fn to_raw_array_buf_or_want_of_memory(rt: HostRuntime) -> Result<(), Fail> {
     let view = array_view(SWALLOWED_TERMINATOR)?;
     if let Some(mut copy) = answered(&rt, view.to_raw_array_buf(rt.alloc())) {
-        assert_eq!(rt; copy.as_bytes(), SWALLOWED_TERMINATOR);
-        if copy.push(RawBson::Null).is_ok() {
-            assert_eq!(rt; copy.as_bytes(), SWALLOWED_TERMINATOR_PUSHED);
-        }
+        let after = SWALLOWED_TERMINATOR_PUSHED;
+        assert!(rt; is_pushed(&mut copy, SWALLOWED_TERMINATOR, after));
     }
     Ok(())
+}
+
+/// Whether the answer is the wanted value, or want of memory for a value that has memory of its own.
+fn is_copy(answer: raw_bson::Result<RawBson>, want: RawBsonRef<'_>, kind: ElementType) -> bool {
+    match answer {
+        Ok(copy) => copy.as_raw_bson_ref() == want,
+        Err(error) => has_memory(kind) && is_want_of_memory(&error),
+    }
 }
 
 #[test]
@@ -109,56 +147,58 @@ fn to_raw_bson_or_want_of_memory(rt: HostRuntime) -> Result<(), Fail> {
             assert!(rt; false, "{key}");
             return Ok(());
         };
-        for answer in [
-            want.to_raw_bson(rt.alloc()),
-            element.to_raw_bson(rt.alloc()),
-        ] {
-            match answered(&rt, answer) {
-                Some(copy) => assert_eq!(rt; copy.as_raw_bson_ref(), want),
-                None => assert!(rt; has_memory(kind), "{key}"),
-            }
-        }
+        assert!(rt; is_copy(want.to_raw_bson(rt.alloc()), want, kind), "{key}");
+        assert!(rt;
+            is_copy(element.to_raw_bson(rt.alloc()), want, kind),
+            "{key}"
+        );
     }
     Ok(())
 }
 
-#[test]
-fn fault_of_an_element_or_want_of_memory(rt: HostRuntime) -> Result<(), Fail> {
-    let checks = Checks::refusable(rt.alloc());
-    let Some(Ok(element)) = RawDocument::from_bytes(BOOLEAN_TWO)?
-        .iter_elements(rt.alloc())
-        .next()
-    else {
-        assert!(rt; false);
-        return Ok(());
-    };
-    match element.to_raw_bson(rt.alloc()) {
-        Ok(_) => assert!(rt; false),
-        Err(error) => {
-            if error.kind == ErrorKind::OutOfMemory {
-                assert_eq!(rt; error.key(), None);
-            } else {
-                checks.fault(&error, TWO_AT_A)?;
-            }
-        }
+/// The first element of a document of these bytes.
+fn first_element(alloc: Global, bytes: &[u8]) -> Option<RawElement<'_>> {
+    let view = RawDocument::from_bytes(bytes).ok()?;
+    view.iter_elements(alloc).next()?.ok()
+}
+
+/// Whether the answer is the fault of the boolean of the byte 2, or want of memory.
+fn is_fault(checks: Checks, answer: raw_bson::Result<RawBson>) -> bool {
+    match answer {
+        Ok(_) => false,
+        Err(error) => is_want_of_memory(&error) || checks.fault(&error, TWO_AT_A).is_ok(),
     }
-    Ok(())
+}
+
+#[test]
+fn fault_of_an_element_or_want_of_memory(rt: HostRuntime) {
+    let checks = Checks::refusable(rt.alloc());
+    match first_element(rt.alloc(), BOOLEAN_TWO) {
+        Some(element) => assert!(rt; is_fault(checks, element.to_raw_bson(rt.alloc()))),
+        None => assert!(rt; false),
+    }
+}
+
+fn is_text(answer: raw_bson::Result<RawBson>, text: &str) -> bool {
+    match answer {
+        Ok(value) => value.as_str() == Some(text),
+        Err(error) => is_want_of_memory(&error),
+    }
 }
 
 #[test]
 fn from_str_or_want_of_memory(rt: HostRuntime) {
-    if let Some(value) = answered(&rt, RawBson::from_str(rt.alloc(), "a")) {
-        assert_eq!(rt; value.as_str(), Some("a"));
+    assert!(rt; is_text(RawBson::from_str(rt.alloc(), "a"), "a"));
+}
+
+fn is_regex(answer: Result<Regex, NoMemory>, pattern: &str, options: &str) -> bool {
+    match answer {
+        Ok(regex) => regex.pattern.as_str() == pattern && regex.options.as_str() == options,
+        Err(error) => error == NoMemory,
     }
 }
 
 #[test]
 fn regex_or_want_of_memory(rt: HostRuntime) {
-    match Regex::new(rt.alloc(), "^a", "mi") {
-        Ok(regex) => {
-            assert_eq!(rt; regex.pattern.as_str(), "^a");
-            assert_eq!(rt; regex.options.as_str(), "im");
-        }
-        Err(error) => assert_eq!(rt; error, NoMemory),
-    }
+    assert!(rt; is_regex(Regex::new(rt.alloc(), "^a", "mi"), "^a", "im"));
 }

@@ -1,9 +1,9 @@
-use crate::asserts::answered;
+use crate::asserts::{answered, is_document, is_list, is_want_of_memory};
 use raw_bson::{
-    Bson, Document, RawBson, RawBsonRef, RawDocument, RawDocumentBuf, ToRawDocumentBuf,
+    Bson, Document, Error, RawBson, RawBsonRef, RawDocument, RawDocumentBuf, ToRawDocumentBuf,
     bson_from_element, bson_from_raw, canonical_bytes, document_from_raw, list_from_raw,
 };
-use std::process::Abort;
+use std::alloc::Global;
 use std::test::Fail;
 
 // `bin/test` runs these with each request for memory refused in turn, alone: each call answers what it answers with
@@ -43,33 +43,55 @@ fn is_part(key: &str, value: &Bson) -> bool {
     }
 }
 
-/// Where there is a tree, it has these parts in this order.
-fn assert_parts(rt: &impl Abort, tree: Option<Document>) {
-    let Some(tree) = tree else {
-        return;
-    };
-    assert_eq!(rt; tree.len(), 5);
+/// Whether the tree has these parts in this order.
+fn has_parts(tree: &Document) -> bool {
     for (index, wanted) in ["d", "l", "t", "r", "c"].into_iter().enumerate() {
         match tree.pair_at(index) {
             Some((key, value)) => {
-                assert_eq!(rt; key, wanted);
-                assert!(rt; is_part(key, value), "{key}");
+                if key != wanted || !is_part(key, value) {
+                    return false;
+                }
             }
-            None => assert!(rt; false, "{wanted}"),
+            None => return false,
         }
+    }
+    tree.len() == 5
+}
+
+/// Whether the answer is a tree of these parts, or want of memory.
+fn is_tree(answer: raw_bson::Result<Document>) -> bool {
+    match answer {
+        Ok(tree) => has_parts(&tree),
+        Err(error) => is_want_of_memory(&error),
     }
 }
 
 #[test]
 fn trees_of_documents_or_want_of_memory(rt: HostRuntime) -> Result<(), Fail> {
     let view = RawDocument::from_bytes(OTHER_SPELLING)?;
-    assert_parts(&rt, answered(&rt, document_from_raw(rt.alloc(), view)));
+    assert!(rt; is_tree(document_from_raw(rt.alloc(), view)));
     if let Some(buffer) = answered(&rt, view.to_raw_document_buf(rt.alloc())) {
-        assert_parts(&rt, answered(&rt, buffer.to_document()));
-        assert_eq!(rt; buffer.as_bytes(), OTHER_SPELLING);
-        assert_parts(&rt, answered(&rt, buffer.into_document()));
+        assert!(rt; is_tree(buffer.to_document()));
+        assert!(rt; buffer.as_bytes() == OTHER_SPELLING);
+        assert!(rt; is_tree(buffer.into_document()));
     }
     Ok(())
+}
+
+/// Whether the answer is the value under this key, or want of memory.
+fn is_part_answered(key: &str, answer: raw_bson::Result<Bson>) -> bool {
+    match answer {
+        Ok(tree) => is_part(key, &tree),
+        Err(error) => is_want_of_memory(&error),
+    }
+}
+
+/// Whether the answer is a list of one null, or want of memory.
+fn is_null_list(answer: raw_bson::Result<Vec<Bson>>) -> bool {
+    match answer {
+        Ok(list) => list.as_slice() == [Bson::Null].as_slice(),
+        Err(error) => is_want_of_memory(&error),
+    }
 }
 
 #[test]
@@ -77,41 +99,52 @@ fn trees_of_values_or_want_of_memory(rt: HostRuntime) -> Result<(), Fail> {
     for element in RawDocument::from_bytes(OTHER_SPELLING)?.iter_elements(rt.alloc()) {
         let element = element?;
         let key = element.key();
-        if let Some(tree) = answered(&rt, bson_from_element(rt.alloc(), element)) {
-            assert!(rt; is_part(key, &tree), "{key}");
-        }
+        assert!(rt; is_part_answered(key, bson_from_element(rt.alloc(), element)));
         let value = element.value(rt.alloc())?;
-        if let Some(tree) = answered(&rt, bson_from_raw(rt.alloc(), value)) {
-            assert!(rt; is_part(key, &tree), "{key}");
-        }
+        assert!(rt; is_part_answered(key, bson_from_raw(rt.alloc(), value)));
         if let RawBsonRef::Array(array) = value {
-            if let Some(list) = answered(&rt, list_from_raw(rt.alloc(), array)) {
-                assert!(rt; list.as_slice() == [Bson::Null].as_slice());
-            }
+            assert!(rt; is_null_list(list_from_raw(rt.alloc(), array)));
         }
     }
     Ok(())
 }
 
+/// Whether each call that writes the tree gives its bytes, or wants memory, and leaves the tree as it was.
+fn is_written(alloc: Global, tree: &Document) -> bool {
+    is_document(RawDocumentBuf::from_document(alloc, tree), PARTS)
+        && is_document(RawDocumentBuf::try_from_document(alloc, tree), PARTS)
+        && has_parts(tree)
+}
+
 #[test]
 fn bytes_of_trees_or_want_of_memory(rt: HostRuntime) -> Result<(), Fail> {
-    if let Some(form) = answered(&rt, canonical_bytes(rt.alloc(), OTHER_SPELLING)) {
-        assert_eq!(rt; form.as_slice(), PARTS);
-    }
+    assert!(rt; is_list(canonical_bytes(rt.alloc(), OTHER_SPELLING), PARTS));
     let view = RawDocument::from_bytes(PARTS)?;
-    let Some(tree) = answered(&rt, document_from_raw(rt.alloc(), view)) else {
-        return Ok(());
-    };
-    for answer in [
-        RawDocumentBuf::from_document(rt.alloc(), &tree),
-        RawDocumentBuf::try_from_document(rt.alloc(), &tree),
-    ] {
-        if let Some(buffer) = answered(&rt, answer) {
-            assert_eq!(rt; buffer.as_bytes(), PARTS);
-        }
+    if let Some(tree) = answered(&rt, document_from_raw(rt.alloc(), view)) {
+        assert!(rt; is_written(rt.alloc(), &tree));
     }
-    assert_parts(&rt, Some(tree));
     Ok(())
+}
+
+/// Whether memory was wanted for the value under this key. A text and a regular expression are moved, which takes none.
+fn is_copy_refused(key: &str, error: &Error) -> bool {
+    key != "t" && key != "r" && is_want_of_memory(error)
+}
+
+/// Whether the value becomes the tree under this key, or memory is wanted for its copy.
+fn comes_back(alloc: Global, key: &str, owned: RawBson) -> bool {
+    match owned.into_bson(alloc) {
+        Ok(tree) => is_part(key, &tree),
+        Err(error) => is_copy_refused(key, &error),
+    }
+}
+
+/// Whether the tree under this key becomes this value, and that the tree again, or memory is wanted for a copy.
+fn goes_and_comes_back(alloc: Global, key: &str, tree: Bson, value: RawBsonRef<'_>) -> bool {
+    match RawBson::try_from_bson(alloc, tree) {
+        Ok(owned) => owned.as_raw_bson_ref() == value && comes_back(alloc, key, owned),
+        Err(error) => is_copy_refused(key, &error),
+    }
 }
 
 /// A value that is moved takes no memory, so that none can be refused to it.
@@ -120,23 +153,9 @@ fn owned_values_or_want_of_memory(rt: HostRuntime) -> Result<(), Fail> {
     for element in RawDocument::from_bytes(PARTS)?.iter_elements(rt.alloc()) {
         let element = element?;
         let key = element.key();
-        let Some(tree) = answered(&rt, bson_from_element(rt.alloc(), element)) else {
-            continue;
-        };
-        let is_moved = key == "t" || key == "r";
-        let answer = RawBson::try_from_bson(rt.alloc(), tree);
-        assert!(rt; answer.is_ok() || !is_moved, "{key}");
-        let Some(owned) = answered(&rt, answer) else {
-            continue;
-        };
-        assert!(rt;
-            owned.as_raw_bson_ref() == element.value(rt.alloc())?,
-            "{key}"
-        );
-        let answer = owned.into_bson(rt.alloc());
-        assert!(rt; answer.is_ok() || !is_moved, "{key}");
-        if let Some(tree) = answered(&rt, answer) {
-            assert!(rt; is_part(key, &tree), "{key}");
+        let value = element.value(rt.alloc())?;
+        if let Some(tree) = answered(&rt, bson_from_element(rt.alloc(), element)) {
+            assert!(rt; goes_and_comes_back(rt.alloc(), key, tree, value));
         }
     }
     assert!(rt; RawBson::Int32(7).into_bson(rt.alloc()) == Ok(Bson::Int32(7)));

@@ -9,32 +9,30 @@ fn iteration_or_want_of_memory(rt: HostRuntime) -> Result<(), Fail> {
     let seven = Want::Value(RawBsonRef::Int32(7));
     let yes = Want::Value(RawBsonRef::Boolean(true));
     let greeting = Want::Value(RawBsonRef::String("y'all"));
-    for (bytes, items) in [
-        (EMPTY, [].as_slice()),
-        (GREETING, [("hi", greeting)].as_slice()),
+    let rows: [(&[u8], &[(&str, Want<'_>)]); 9] = [
+        (EMPTY, &[]),
+        (GREETING, &[("hi", greeting)]),
         (
             SWALLOWED_TERMINATOR,
-            [("", null), ("", Want::Fault(OVERFLOWED))].as_slice(),
+            &[("", null), ("", Want::Fault(OVERFLOWED))],
         ),
-        (TAG_ZERO, [("", Want::Fault(ZERO_IS_NO_TAG))].as_slice()),
+        (TAG_ZERO, &[("", Want::Fault(ZERO_IS_NO_TAG))]),
         (
             NEGATIVE_DOCUMENT_LENGTH,
-            [("", Want::Fault(NEGATIVE_AT_A))].as_slice(),
+            &[("", Want::Fault(NEGATIVE_AT_A))],
         ),
         (
             FAULT_UNDER_A_LATER_GOOD_KEY,
-            [("", Want::Fault(TWO_AT_A)), ("a", yes)].as_slice(),
+            &[("", Want::Fault(TWO_AT_A)), ("a", yes)],
         ),
-        (KEY_NOT_UTF8, [("", Want::Fault(NOT_UTF8))].as_slice()),
-        (
-            PATTERN_NOT_UTF8,
-            [("", Want::Fault(NOT_UTF8_AT_A))].as_slice(),
-        ),
+        (KEY_NOT_UTF8, &[("", Want::Fault(NOT_UTF8))]),
+        (PATTERN_NOT_UTF8, &[("", Want::Fault(NOT_UTF8_AT_A))]),
         (
             ARRAY_WITH_TEXT_NOT_UTF8,
-            [("", Want::Fault(NOT_UTF8)), ("1", seven)].as_slice(),
+            &[("", Want::Fault(NOT_UTF8)), ("1", seven)],
         ),
-    ] {
+    ];
+    for (bytes, items) in rows {
         checks.items(RawDocument::from_bytes(bytes)?, items)?;
     }
     Ok(())
@@ -49,80 +47,83 @@ fn boolean_two_or_want_of_memory(rt: HostRuntime) -> Result<(), Fail> {
     Ok(())
 }
 
+/// Documents, each with the kinds, keys and lengths of its elements, and the stop.
+const ELEMENTS: [(&[u8], &[(ElementType, &str, usize)], Want<'static>); 7] = [
+    (EMPTY, &[], Want::Nothing),
+    (GREETING, &[(ElementType::String, "hi", 10)], Want::Nothing),
+    (
+        SWALLOWED_TERMINATOR,
+        &[(ElementType::Null, "", 0)],
+        Want::Fault(OVERFLOWED),
+    ),
+    (TAG_ZERO, &[], Want::Fault(ZERO_IS_NO_TAG)),
+    (
+        FAULT_UNDER_A_LATER_GOOD_KEY,
+        &[
+            (ElementType::Boolean, "a", 1),
+            (ElementType::Boolean, "a", 1),
+        ],
+        Want::Nothing,
+    ),
+    (KEY_NOT_UTF8, &[], Want::Fault(NOT_UTF8)),
+    (PATTERN_NOT_UTF8, &[], Want::Fault(NOT_UTF8_AT_A)),
+];
+
 #[test]
 fn elements_or_want_of_memory(rt: HostRuntime) -> Result<(), Fail> {
     let checks = Checks::refusable(rt.alloc());
-    let greeting = (ElementType::String, "hi", 10);
-    let null = (ElementType::Null, "", 0);
-    let two = (ElementType::Boolean, "a", 1);
-    for (bytes, elements, stop) in [
-        (EMPTY, [].as_slice(), Want::Nothing),
-        (GREETING, [greeting].as_slice(), Want::Nothing),
-        (
-            SWALLOWED_TERMINATOR,
-            [null].as_slice(),
-            Want::Fault(OVERFLOWED),
-        ),
-        (TAG_ZERO, [].as_slice(), Want::Fault(ZERO_IS_NO_TAG)),
-        (
-            FAULT_UNDER_A_LATER_GOOD_KEY,
-            [two, two].as_slice(),
-            Want::Nothing,
-        ),
-        (KEY_NOT_UTF8, [].as_slice(), Want::Fault(NOT_UTF8)),
-        (PATTERN_NOT_UTF8, [].as_slice(), Want::Fault(NOT_UTF8_AT_A)),
-    ] {
+    for (bytes, elements, stop) in ELEMENTS {
         checks.elements(RawDocument::from_bytes(bytes)?, elements, stop)?;
     }
     Ok(())
 }
 
+/// Documents, each with a key and the answer of its look-up.
+const LOOK_UPS: [(&[u8], &str, Want<'static>); 15] = [
+    (EMPTY, "", Want::Nothing),
+    (GREETING, "hi", Want::Value(RawBsonRef::String("y'all"))),
+    (GREETING, "h", Want::Nothing),
+    (SWALLOWED_TERMINATOR, "", Want::Value(RawBsonRef::Null)),
+    (SWALLOWED_TERMINATOR, "x", Want::Fault(OVERFLOWED)),
+    (TAG_ZERO, "", Want::Fault(ZERO_IS_NO_TAG)),
+    (TAG_ZERO, "x", Want::Fault(ZERO_IS_NO_TAG)),
+    (NEGATIVE_DOCUMENT_LENGTH, "b", Want::Fault(NEGATIVE_AT_A)),
+    (BOOLEAN_TWO, "a", Want::Fault(TWO_AT_A)),
+    (BOOLEAN_TWO, "b", Want::Nothing),
+    (FAULT_UNDER_A_LATER_GOOD_KEY, "a", Want::Fault(TWO_AT_A)),
+    (PATTERN_NOT_UTF8, "a", Want::Fault(NOT_UTF8_AT_A)),
+    (ARRAY_WITH_TEXT_NOT_UTF8, "0", Want::Fault(NOT_UTF8)),
+    // a fault, and what stands past it
+    (FAULT_BEFORE_A_NUMBER, "0", Want::Fault(TWO_AT_0)),
+    (
+        FAULT_BEFORE_A_NUMBER,
+        "1",
+        Want::Value(RawBsonRef::Int32(7)),
+    ),
+];
+
 #[test]
 fn look_ups_or_want_of_memory(rt: HostRuntime) -> Result<(), Fail> {
     let checks = Checks::refusable(rt.alloc());
-    let greeting = Want::Value(RawBsonRef::String("y'all"));
-    let seven = Want::Value(RawBsonRef::Int32(7));
-    for (bytes, key, want) in [
-        (EMPTY, "", Want::Nothing),
-        (GREETING, "hi", greeting),
-        (GREETING, "h", Want::Nothing),
-        (SWALLOWED_TERMINATOR, "", Want::Value(RawBsonRef::Null)),
-        (SWALLOWED_TERMINATOR, "x", Want::Fault(OVERFLOWED)),
-        (TAG_ZERO, "", Want::Fault(ZERO_IS_NO_TAG)),
-        (TAG_ZERO, "x", Want::Fault(ZERO_IS_NO_TAG)),
-        (NEGATIVE_DOCUMENT_LENGTH, "b", Want::Fault(NEGATIVE_AT_A)),
-        (BOOLEAN_TWO, "a", Want::Fault(TWO_AT_A)),
-        (BOOLEAN_TWO, "b", Want::Nothing),
-        (FAULT_UNDER_A_LATER_GOOD_KEY, "a", Want::Fault(TWO_AT_A)),
-        (PATTERN_NOT_UTF8, "a", Want::Fault(NOT_UTF8_AT_A)),
-        (ARRAY_WITH_TEXT_NOT_UTF8, "0", Want::Fault(NOT_UTF8)),
-        // a fault, and what stands past it
-        (FAULT_BEFORE_A_NUMBER, "0", Want::Fault(TWO_AT_0)),
-        (FAULT_BEFORE_A_NUMBER, "1", seven),
-    ] {
+    for (bytes, key, want) in LOOK_UPS {
         let answer = RawDocument::from_bytes(bytes)?.get(rt.alloc(), key);
         checks.answer(answer, want, bytes)?;
     }
     Ok(())
 }
 
+/// Documents, each with the answer of its first element.
+const FIRST_VALUES: [(&[u8], Want<'static>); 3] = [
+    (GREETING, Want::Value(RawBsonRef::String("y'all"))),
+    (BOOLEAN_TWO, Want::Fault(TWO_AT_A)),
+    (ARRAY_WITH_TEXT_NOT_UTF8, Want::Fault(NOT_UTF8)),
+];
+
 #[test]
 fn values_or_want_of_memory(rt: HostRuntime) -> Result<(), Fail> {
     let checks = Checks::refusable(rt.alloc());
-    for (bytes, want) in [
-        (GREETING, Want::Value(RawBsonRef::String("y'all"))),
-        (BOOLEAN_TWO, Want::Fault(TWO_AT_A)),
-        (ARRAY_WITH_TEXT_NOT_UTF8, Want::Fault(NOT_UTF8)),
-    ] {
-        let document = RawDocument::from_bytes(bytes)?;
-        let Some(Ok(element)) = document.iter_elements(rt.alloc()).next() else {
-            assert!(rt; false, "{bytes:?}");
-            return Ok(());
-        };
-        let value = element.value(rt.alloc()).map(|value| Some(value));
-        checks.answer(value, want, bytes)?;
-        let value = element.try_into_ref(rt.alloc()).map(|value| Some(value));
-        checks.answer(value, want, bytes)?;
+    for (bytes, want) in FIRST_VALUES {
+        checks.first_value(RawDocument::from_bytes(bytes)?, want)?;
     }
     Ok(())
 }

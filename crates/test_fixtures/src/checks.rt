@@ -197,6 +197,28 @@ impl Checks {
         self.holds(iter.next().is_none(), &"an element", &"the end", &bytes)
     }
 
+    /// Both calls that read the value of the document's first element answer the wanted one.
+    pub fn first_value(self, document: RawDocument<'_>, want: Want<'_>) -> Result<(), Mismatch> {
+        let bytes = document.as_bytes();
+        let Some(Ok(element)) = document.iter_elements(self.alloc).next() else {
+            return self.holds(false, &"no element", &want, &bytes);
+        };
+        self.value(element.value(self.alloc), want, bytes)?;
+        self.value(element.try_into_ref(self.alloc), want, bytes)
+    }
+
+    fn value(
+        self,
+        answer: raw_view::Result<RawBsonRef<'_>>,
+        want: Want<'_>,
+        bytes: &[u8],
+    ) -> Result<(), Mismatch> {
+        match answer {
+            Ok(value) => self.answer(Ok(Some(value)), want, bytes),
+            Err(error) => self.answer(Err(error), want, bytes),
+        }
+    }
+
     /// A typed getter has no value, for this cause and with this key; or it wants memory, and has the empty key.
     pub fn no_value<T: Debug + Drop>(
         self,

@@ -8,25 +8,14 @@ fn items_are_counted_from_0(rt: HostRuntime) -> Result<(), Fail> {
     let checks = Checks::ample(rt.alloc());
     let null = Want::Value(RawBsonRef::Null);
     let seven = Want::Value(RawBsonRef::Int32(7));
-    for (bytes, items) in [
-        (EMPTY, [].as_slice()),
-        (
-            SWALLOWED_TERMINATOR,
-            [null, Want::Fault(OVERFLOWED)].as_slice(),
-        ),
-        (
-            ARRAY_WITH_TEXT_NOT_UTF8,
-            [Want::Fault(NOT_UTF8), seven].as_slice(),
-        ),
-        (
-            FAULT_BEFORE_A_NUMBER,
-            [Want::Fault(TWO_AT_0), seven].as_slice(),
-        ),
-        (
-            NEGATIVE_DOCUMENT_LENGTH,
-            [Want::Fault(NEGATIVE_AT_A)].as_slice(),
-        ),
-    ] {
+    let rows: [(&[u8], &[Want<'_>]); 5] = [
+        (EMPTY, &[]),
+        (SWALLOWED_TERMINATOR, &[null, Want::Fault(OVERFLOWED)]),
+        (ARRAY_WITH_TEXT_NOT_UTF8, &[Want::Fault(NOT_UTF8), seven]),
+        (FAULT_BEFORE_A_NUMBER, &[Want::Fault(TWO_AT_0), seven]),
+        (NEGATIVE_DOCUMENT_LENGTH, &[Want::Fault(NEGATIVE_AT_A)]),
+    ];
+    for (bytes, items) in rows {
         let array = array_view(bytes)?;
         for (index, want) in items.iter().enumerate() {
             checks.answer(array.get(rt.alloc(), index), *want, bytes)?;

@@ -1,8 +1,10 @@
 use bson_model::{Binary, BinarySubtype, DateTime, ObjectId};
 use raw_view::{
     ElementType, Error, ErrorKind, RawArray, RawBinaryRef, RawBsonRef, RawDbPointerRef,
-    RawDocument, RawJavaScriptCodeWithScopeRef, RawRegexRef, Reason, ValueAccessErrorKind,
+    RawDocument, RawJavaScriptCodeWithScopeRef, RawRegexRef, Reason, ValueAccessError,
+    ValueAccessErrorKind,
 };
+use std::alloc::{AllocError, Global};
 use std::process::Abort;
 use std::test::Fail;
 use test_fixtures::*;
@@ -13,17 +15,23 @@ const TAGS: [u8; 21] = [
     0x11, 0x12, 0x13, 0x7F, 0xFF,
 ];
 
+/// The kind of this tag.
+fn kind_of(tag: u8) -> Option<ElementType> {
+    for (of, (_, kind)) in TAGS.into_iter().zip(KINDS) {
+        if of == tag {
+            return Some(kind);
+        }
+    }
+    None
+}
+
 #[test]
 fn bytes_and_kinds_go_with_each_other(rt: HostRuntime) {
     for tag in 0..=255_u8 {
-        let mut wanted = None;
-        for (of, (_, kind)) in TAGS.into_iter().zip(KINDS) {
-            if of == tag {
-                assert_eq!(rt; kind.to_tag(), tag);
-                wanted = Some(kind);
-            }
+        assert_eq!(rt; ElementType::from(tag), kind_of(tag), "{tag}");
+        if let Some(kind) = kind_of(tag) {
+            assert_eq!(rt; kind.to_tag(), tag);
         }
-        assert_eq!(rt; ElementType::from(tag), wanted, "{tag}");
     }
 }
 
@@ -56,20 +64,10 @@ fn accessed<'a>(value: RawBsonRef<'a>, kind: ElementType) -> Option<RawBsonRef<'
     })
 }
 
-/// The item is the value of this kind under this key; the accessor for its kind answers it, and no other does.
-fn assert_kind(
-    rt: &impl Abort,
-    item: Option<raw_view::Result<(&str, RawBsonRef<'_>)>>,
-    key: &str,
-    kind: ElementType,
-) -> Result<(), Fail> {
-    let Some(Ok((found, value))) = item else {
-        assert!(rt; false, "{key}");
-        return Ok(());
-    };
-    assert_eq!(rt; found, key);
-    assert_eq!(rt; value.element_type(), kind, "{key}");
-    assert_eq!(rt; value, borrowed(kind)?, "{key}");
+/// The value is that of this kind; the accessor for its kind answers it, and no other does.
+fn assert_kind(rt: &impl Abort, value: RawBsonRef<'_>, kind: ElementType) -> Result<(), Fail> {
+    assert_eq!(rt; value.element_type(), kind);
+    assert_eq!(rt; value, borrowed(kind)?, "{kind:?}");
     for (_, asked) in KINDS {
         let wanted = if asked == kind && has_accessor(kind) {
             Some(value)
@@ -85,7 +83,13 @@ fn assert_kind(
 fn each_kind_has_its_value_and_its_accessor(rt: HostRuntime) -> Result<(), Fail> {
     let mut iter = RawDocument::from_bytes(ALL_KINDS)?.iter(rt.alloc());
     for (key, kind) in KINDS {
-        assert_kind(&rt, iter.next(), key, kind)?;
+        match iter.next() {
+            Some(Ok((found, value))) => {
+                assert_eq!(rt; found, key);
+                assert_kind(&rt, value, kind)?;
+            }
+            _ => assert!(rt; false, "{key}"),
+        }
     }
     assert!(rt; iter.next().is_none());
     Ok(())
@@ -98,7 +102,6 @@ fn conversions_make_values_of_their_kinds(rt: HostRuntime) -> Result<(), Fail> {
         subtype: BinarySubtype::UserDefined(128),
         bytes: b"\x01\x02",
     };
-    let owned_binary = binary.to_binary(rt.alloc())?;
     let regex = RawRegexRef {
         pattern: "a",
         options: "i",
@@ -116,7 +119,6 @@ fn conversions_make_values_of_their_kinds(rt: HostRuntime) -> Result<(), Fail> {
             ElementType::Array,
         ),
         (RawBsonRef::from(binary), ElementType::Binary),
-        (RawBsonRef::from(&owned_binary), ElementType::Binary),
         (RawBsonRef::from(id()), ElementType::ObjectId),
         (RawBsonRef::from(true), ElementType::Boolean),
         (
@@ -132,6 +134,18 @@ fn conversions_make_values_of_their_kinds(rt: HostRuntime) -> Result<(), Fail> {
     ] {
         assert_eq!(rt; value, borrowed(kind)?, "{kind:?}");
     }
+    Ok(())
+}
+
+#[test]
+fn a_reference_to_an_owned_binary_is_converted(rt: HostRuntime) -> Result<(), Fail> {
+    let binary = RawBinaryRef {
+        subtype: BinarySubtype::UserDefined(128),
+        bytes: b"\x01\x02",
+    };
+    let owned_binary = binary.to_binary(rt.alloc())?;
+    let wanted = borrowed(ElementType::Binary);
+    assert!(rt; Ok(RawBsonRef::from(&owned_binary)) == wanted);
     Ok(())
 }
 
@@ -184,6 +198,13 @@ fn views_keep_their_bytes(rt: HostRuntime) -> Result<(), Fail> {
     Ok(())
 }
 
+fn seven_and_eight(alloc: Global) -> Result<Binary, AllocError> {
+    Ok(Binary {
+        subtype: BinarySubtype::BinaryOld,
+        bytes: vec![in alloc; 7, 8]?,
+    })
+}
+
 #[test]
 fn a_binary_goes_and_comes_back(rt: HostRuntime) -> Result<(), Fail> {
     // an old binary of two bytes, and its inner length
@@ -195,52 +216,65 @@ fn a_binary_goes_and_comes_back(rt: HostRuntime) -> Result<(), Fail> {
     assert_eq!(rt; value.subtype, BinarySubtype::BinaryOld);
     assert_eq!(rt; value.bytes, b"\x07\x08".as_slice());
     let copy = value.to_binary(rt.alloc())?;
-    let wanted = Binary {
-        subtype: BinarySubtype::BinaryOld,
-        bytes: vec![in rt.alloc(); 7, 8]?,
-    };
-    assert!(rt; copy == wanted);
-    assert_eq!(rt; RawBsonRef::from(&copy), RawBsonRef::Binary(value));
+    assert!(rt; RawBsonRef::from(&copy) == RawBsonRef::Binary(value));
+    assert!(rt; copy == seven_and_eight(rt.alloc())?);
     Ok(())
 }
 
+const TWO: ErrorKind = ErrorKind::MalformedValue {
+    reason: Reason::BadBoolean(2),
+};
+
 #[test]
-fn errors_have_equal_copies(rt: HostRuntime) -> Result<(), Fail> {
-    let two = ErrorKind::MalformedValue {
-        reason: Reason::BadBoolean(2),
-    };
-    assert!(rt; two.clone()? == two);
+fn kinds_of_errors_have_equal_copies(rt: HostRuntime) -> Result<(), Fail> {
+    assert!(rt; TWO.clone()? == TWO);
     assert!(rt; ErrorKind::OutOfMemory.clone()? == ErrorKind::OutOfMemory);
-    let plain = Error::new(two);
-    assert_eq!(rt; plain.key(), None);
-    assert!(rt; plain.clone()? == plain);
-    let damaged = RawDocument::from_bytes(BOOLEAN_TWO)?;
-    match damaged.get(rt.alloc(), "a") {
-        Ok(_) => assert!(rt; false),
-        Err(error) => {
-            let copy = error.clone()?;
-            assert_eq!(rt; copy.key(), Some("a"));
-            assert!(rt; copy == error);
-            assert!(rt; copy.kind == plain.kind);
-            assert!(rt; copy != plain);
-        }
-    }
-    for key in ["a", "b"] {
-        match damaged.get_i32(rt.alloc(), key) {
-            Ok(_) => assert!(rt; false),
-            Err(error) => {
-                assert!(rt; error.kind.clone()? == error.kind);
-                let copy = error.clone()?;
-                assert_eq!(rt; copy.key(), key);
-                assert!(rt; copy == error);
-            }
-        }
-    }
     let unexpected = ValueAccessErrorKind::UnexpectedType {
         expected: ElementType::Int32,
         actual: ElementType::Boolean,
     };
     assert!(rt; unexpected.clone()? == unexpected);
     assert!(rt; unexpected != ValueAccessErrorKind::NotPresent);
+    Ok(())
+}
+
+/// Whether the error has a copy that is equal.
+fn is_copied(error: &Error) -> Result<bool, AllocError> {
+    let copy = error.clone()?;
+    Ok(copy == *error)
+}
+
+/// Whether the error at `a` has a copy that is equal, and differs from the error without a key by that key alone.
+fn is_copied_at_a(error: &Error, plain: &Error) -> Result<bool, AllocError> {
+    let copy = error.clone()?;
+    Ok(copy == *error && copy.key() == Some("a") && copy.kind == plain.kind && copy != *plain)
+}
+
+#[test]
+fn errors_have_equal_copies(rt: HostRuntime) -> Result<(), Fail> {
+    let plain = Error::new(TWO);
+    assert_eq!(rt; plain.key(), None);
+    assert!(rt; is_copied(&plain)?);
+    match RawDocument::from_bytes(BOOLEAN_TWO)?.get(rt.alloc(), "a") {
+        Ok(_) => assert!(rt; false),
+        Err(error) => assert!(rt; is_copied_at_a(&error, &plain)?),
+    }
+    Ok(())
+}
+
+/// Whether the error has this key, and a copy that is equal, and so has its kind.
+fn is_access_copied(error: &ValueAccessError, key: &str) -> Result<bool, AllocError> {
+    let copy = error.clone()?;
+    Ok(copy == *error && copy.key() == key && error.kind.clone()? == error.kind)
+}
+
+#[test]
+fn access_errors_have_equal_copies(rt: HostRuntime) -> Result<(), Fail> {
+    for key in ["a", "b"] {
+        match RawDocument::from_bytes(BOOLEAN_TWO)?.get_i32(rt.alloc(), key) {
+            Ok(_) => assert!(rt; false, "{key}"),
+            Err(error) => assert!(rt; is_access_copied(&error, key)?, "{key}"),
+        }
+    }
     Ok(())
 }

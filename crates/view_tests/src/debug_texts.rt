@@ -1,9 +1,9 @@
 //! The `Debug` texts: those that Rust's `derive` gives, and of views their bytes as hexadecimal digits.
 
-use bson_model::{BinarySubtype, Bson, Decimal128, Document, JavaScriptCodeWithScope};
+use bson_model::{BinarySubtype, Bson, Decimal128, Document, JavaScriptCodeWithScope, NoMemory};
 use raw_view::{
     ElementType, Error, ErrorKind, RawBinaryRef, RawBsonRef, RawDbPointerRef, RawDocument,
-    RawJavaScriptCodeWithScopeRef, RawRegexRef, Reason, ValueAccessErrorKind,
+    RawJavaScriptCodeWithScopeRef, RawRegexRef, Reason, ValueAccessError, ValueAccessErrorKind,
 };
 use std::alloc::Global;
 use std::fmt::Debug;
@@ -18,22 +18,19 @@ fn assert_debug<T: Debug>(
     value: &T,
     text: &str,
 ) -> Result<(), Fail> {
-    assert_eq!(rt; format!(in alloc; "{value:?}")?.as_str(), text);
+    let found = format!(in alloc; "{value:?}")?;
+    assert_eq!(rt; found.as_str(), text);
     Ok(())
 }
 
 #[test]
 fn views_and_values_have_a_debug_text(rt: HostRuntime) -> Result<(), Fail> {
     let empty = RawDocument::from_bytes(EMPTY)?;
-    assert_eq!(rt;
-        format!(in rt.alloc(); "{empty:?}")?.as_str(),
-        "RawDocument { data: \"0500000000\" }"
-    );
+    let text = "RawDocument { data: \"0500000000\" }";
+    assert_debug(&rt, rt.alloc(), &empty, text)?;
     let two = array_view(b"\x0C\0\0\0\x03a\0\xFF\xFE\xAB\xCD\0")?;
-    assert_eq!(rt;
-        format!(in rt.alloc(); "{two:?}")?.as_str(),
-        "RawArray { data: \"0c000000036100fffeabcd00\" }"
-    );
+    let text = "RawArray { data: \"0c000000036100fffeabcd00\" }";
+    assert_debug(&rt, rt.alloc(), &two, text)?;
     let binary = RawBinaryRef {
         subtype: BinarySubtype::Generic,
         bytes: b"\x01\xFF",
@@ -87,12 +84,24 @@ fn parts_of_values_have_a_debug_text(rt: HostRuntime) -> Result<(), Fail> {
         &Decimal128::from_bytes([0, 1, 2, 3, 4, 5, 6, 7, 8, 9, 10, 11, 12, 13, 14, 255]),
         "Decimal128 { bytes: [0, 1, 2, 3, 4, 5, 6, 7, 8, 9, 10, 11, 12, 13, 14, 255] }",
     )?;
-    let mut scope = Document::new(rt.alloc());
-    let _ = scope.insert(String::from_str(rt.alloc(), "x")?, Bson::Int32(-7))?;
-    let _ = scope.insert(String::from_str(rt.alloc(), "y")?, Bson::Null)?;
+    Ok(())
+}
+
+/// The number -7 and a null, under the keys `x` and `y`.
+fn scope(alloc: Global) -> Result<Document, NoMemory> {
+    let x = String::from_str(alloc, "x")?;
+    let y = String::from_str(alloc, "y")?;
+    let mut scope = Document::new(alloc);
+    scope.insert(x, Bson::Int32(-7))?;
+    scope.insert(y, Bson::Null)?;
+    Ok(scope)
+}
+
+#[test]
+fn code_with_scope_has_a_debug_text(rt: HostRuntime) -> Result<(), Fail> {
     let code = JavaScriptCodeWithScope {
         code: String::from_str(rt.alloc(), "g")?,
-        scope,
+        scope: scope(rt.alloc())?,
     };
     assert_debug(
         &rt,
@@ -133,6 +142,18 @@ fn reasons_have_a_debug_text(rt: HostRuntime) -> Result<(), Fail> {
     Ok(())
 }
 
+/// The error has this `Debug` text, and its kind this one.
+fn assert_error(
+    rt: &impl Abort,
+    alloc: Global,
+    error: &Error,
+    kind: &str,
+    text: &str,
+) -> Result<(), Fail> {
+    assert_debug(rt, alloc, &error.kind, kind)?;
+    assert_debug(rt, alloc, error, text)
+}
+
 /// The error of the look-up of `a` in these bytes has this `Debug` text, and so has its kind.
 fn assert_look_up(
     rt: &impl Abort,
@@ -143,10 +164,7 @@ fn assert_look_up(
 ) -> Result<(), Fail> {
     match RawDocument::from_bytes(bytes)?.get(alloc, "a") {
         Ok(_) => assert!(rt; false, "{text}"),
-        Err(error) => {
-            assert_debug(rt, alloc, &error.kind, kind)?;
-            assert_debug(rt, alloc, &error, text)?;
-        }
+        Err(error) => assert_error(rt, alloc, &error, kind, text)?,
     }
     Ok(())
 }
@@ -155,8 +173,7 @@ fn assert_look_up(
 fn errors_have_a_debug_text(rt: HostRuntime) -> Result<(), Fail> {
     let none = Error::new(ErrorKind::OutOfMemory);
     let text = "Error { kind: OutOfMemory, key: None }";
-    assert_debug(&rt, rt.alloc(), &none.kind, "OutOfMemory")?;
-    assert_debug(&rt, rt.alloc(), &none, text)?;
+    assert_error(&rt, rt.alloc(), &none, "OutOfMemory", text)?;
     for (bytes, kind, text) in [
         (
             BOOLEAN_TWO,
@@ -179,6 +196,19 @@ fn errors_have_a_debug_text(rt: HostRuntime) -> Result<(), Fail> {
     Ok(())
 }
 
+/// The error has this `Debug` text, and its kind this one.
+fn assert_access_error(
+    rt: &impl Abort,
+    alloc: Global,
+    error: &ValueAccessError,
+    kind: &str,
+    key: &str,
+) -> Result<(), Fail> {
+    assert_debug(rt, alloc, &error.kind, kind)?;
+    let text = format!(in alloc; "ValueAccessError {{ kind: {kind}, key: \"{key}\" }}")?;
+    assert_debug(rt, alloc, error, text.as_str())
+}
+
 /// The error of the getter of a boolean at this key has this `Debug` text, and its kind this one.
 fn assert_access(
     rt: &impl Abort,
@@ -189,11 +219,7 @@ fn assert_access(
 ) -> Result<(), Fail> {
     match RawDocument::from_bytes(bytes)?.get_bool(alloc, key) {
         Ok(_) => assert!(rt; false, "{kind}"),
-        Err(error) => {
-            assert_debug(rt, alloc, &error.kind, kind)?;
-            let text = format!(in alloc; "ValueAccessError {{ kind: {kind}, key: \"{key}\" }}")?;
-            assert_debug(rt, alloc, &error, text.as_str())?;
-        }
+        Err(error) => assert_access_error(rt, alloc, &error, kind, key)?,
     }
     Ok(())
 }

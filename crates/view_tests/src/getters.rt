@@ -1,52 +1,80 @@
 use raw_view::{ElementType, RawDocument};
+use std::alloc::Global;
 use std::test::Fail;
 use test_fixtures::*;
+
+/// The getters of one kind at the value of another, in both views.
+fn check_at(
+    alloc: Global,
+    asked: ElementType,
+    index: usize,
+    key: &str,
+    kind: ElementType,
+) -> Result<(), Fail> {
+    let checks = Checks::ample(alloc);
+    let value = borrowed(kind)?;
+    let document = RawDocument::from_bytes(ALL_KINDS)?;
+    checks.typed(
+        get_of_document(document, alloc, asked, key),
+        asked,
+        value,
+        key,
+    )?;
+    let array = array_view(ALL_KINDS)?;
+    let place = format!(in alloc; "{index}")?;
+    checks.typed(
+        get_of_array(array, alloc, asked, index),
+        asked,
+        value,
+        place.as_str(),
+    )?;
+    Ok(())
+}
 
 /// Each getter has the value of its own kind, and of every other kind it says which it is.
 #[test]
 fn twelve_getters_of_both_views(rt: HostRuntime) -> Result<(), Fail> {
-    let alloc = rt.alloc();
-    let checks = Checks::ample(alloc);
-    let document = RawDocument::from_bytes(ALL_KINDS)?;
-    let array = array_view(ALL_KINDS)?;
     for (_, asked) in KINDS {
-        if !has_getter(asked) {
-            continue;
-        }
-        for (index, (key, kind)) in KINDS.into_iter().enumerate() {
-            let value = borrowed(kind)?;
-            let answer = get_of_document(document, alloc, asked, key);
-            checks.typed(answer, asked, value, key)?;
-            let answer = get_of_array(array, alloc, asked, index);
-            let place = format!(in alloc; "{index}")?;
-            checks.typed(answer, asked, value, place.as_str())?;
+        if has_getter(asked) {
+            for (index, (key, kind)) in KINDS.into_iter().enumerate() {
+                check_at(rt.alloc(), asked, index, key, kind)?;
+            }
         }
     }
     Ok(())
 }
 
-/// Where nothing is, and of a boolean of the byte 2, each getter says why there is no value.
+/// Where nothing is, and of a boolean of the byte 2, the getter of this kind says why there is no value.
+fn check_document(checks: Checks, alloc: Global, kind: ElementType) -> Result<(), Fail> {
+    for (bytes, key, want) in [
+        (ALL_KINDS, "x", NoValue::NotPresent),
+        (BOOLEAN_TWO, "a", NoValue::Invalid(TWO_AT_A)),
+    ] {
+        let document = RawDocument::from_bytes(bytes)?;
+        checks.no_value(get_of_document(document, alloc, kind, key), want, key)?;
+    }
+    Ok(())
+}
+
+/// The same of arrays.
+fn check_array(checks: Checks, alloc: Global, kind: ElementType) -> Result<(), Fail> {
+    for (bytes, index, key, want) in [
+        (ALL_KINDS, 21, "21", NoValue::NotPresent),
+        (BOOLEAN_TWO, 0, "0", NoValue::Invalid(TWO_AT_A)),
+    ] {
+        let array = array_view(bytes)?;
+        checks.no_value(get_of_array(array, alloc, kind, index), want, key)?;
+    }
+    Ok(())
+}
+
 #[test]
 fn twelve_getters_without_a_value(rt: HostRuntime) -> Result<(), Fail> {
-    let alloc = rt.alloc();
-    let checks = Checks::ample(alloc);
-    let document = RawDocument::from_bytes(ALL_KINDS)?;
-    let array = array_view(ALL_KINDS)?;
-    let damaged = RawDocument::from_bytes(BOOLEAN_TWO)?;
-    let damaged_array = array_view(BOOLEAN_TWO)?;
-    let absent = NoValue::NotPresent;
-    let invalid = NoValue::Invalid(TWO_AT_A);
+    let checks = Checks::ample(rt.alloc());
     for (_, kind) in KINDS {
-        if !has_getter(kind) {
-            continue;
-        }
-        for (answer, want, key) in [
-            (get_of_document(document, alloc, kind, "x"), absent, "x"),
-            (get_of_document(damaged, alloc, kind, "a"), invalid, "a"),
-            (get_of_array(array, alloc, kind, 21), absent, "21"),
-            (get_of_array(damaged_array, alloc, kind, 0), invalid, "0"),
-        ] {
-            checks.no_value(answer, want, key)?;
+        if has_getter(kind) {
+            check_document(checks, rt.alloc(), kind)?;
+            check_array(checks, rt.alloc(), kind)?;
         }
     }
     Ok(())

@@ -1,12 +1,19 @@
 use raw_view::{Error, ErrorKind, RawDocument, Reason};
-use std::alloc::{AllocError, Global};
+use std::alloc::Global;
 use std::process::Abort;
 use std::test::Fail;
 use test_fixtures::*;
 
-/// The text of any error.
-fn text_of<E: std::error::Error>(alloc: Global, error: &E) -> Result<String, AllocError> {
-    format!(in alloc; "{error}")
+/// The error has this text.
+fn assert_text<E: std::error::Error>(
+    rt: &impl Abort,
+    alloc: Global,
+    error: &E,
+    text: &str,
+) -> Result<(), Fail> {
+    let found = format!(in alloc; "{error}")?;
+    assert_eq!(rt; found.as_str(), text);
+    Ok(())
 }
 
 /// The getter of an int32 has no value, and its error this text.
@@ -19,7 +26,7 @@ fn assert_i32_text(
 ) -> Result<(), Fail> {
     match RawDocument::from_bytes(bytes)?.get_i32(alloc, key) {
         Ok(_) => assert!(rt; false, "{text}"),
-        Err(error) => assert_eq!(rt; text_of(alloc, &error)?.as_str(), text),
+        Err(error) => assert_text(rt, alloc, &error, text)?,
     }
     Ok(())
 }
@@ -31,7 +38,7 @@ fn assert_kind_text(rt: &impl Abort, alloc: Global, key: &str, name: &str) -> Re
     )?;
     match RawDocument::from_bytes(ALL_KINDS)?.get_bool(alloc, key) {
         Ok(_) => assert!(rt; false, "{key}"),
-        Err(error) => assert_eq!(rt; text_of(alloc, &error)?.as_str(), text.as_str()),
+        Err(error) => assert_text(rt, alloc, &error, text.as_str())?,
     }
     Ok(())
 }
@@ -39,22 +46,23 @@ fn assert_kind_text(rt: &impl Abort, alloc: Global, key: &str, name: &str) -> Re
 #[test]
 fn errors_are_printed(rt: HostRuntime) -> Result<(), Fail> {
     let none = Error::new(ErrorKind::OutOfMemory);
-    assert_eq!(rt; text_of(rt.alloc(), &none)?.as_str(), "out of memory");
+    assert_text(&rt, rt.alloc(), &none, "out of memory")?;
     let short = Error::new(ErrorKind::MalformedValue {
         reason: Reason::TooShort,
     });
-    assert_eq!(rt;
-        text_of(rt.alloc(), &short)?.as_str(),
-        "malformed value: \"document too short\""
-    );
+    let text = "malformed value: \"document too short\"";
+    assert_text(&rt, rt.alloc(), &short, text)?;
+    Ok(())
+}
+
+#[test]
+fn a_key_is_printed_as_it_stands(rt: HostRuntime) -> Result<(), Fail> {
     // the key is a quote and a line end
-    let stop = RawDocument::from_bytes(b"\x08\0\0\0\x14\"\n\0")?.get(rt.alloc(), "");
-    match stop {
+    let view = RawDocument::from_bytes(b"\x08\0\0\0\x14\"\n\0")?;
+    let text = "error at key \"\"\n\": malformed value: \"invalid tag: 20\"";
+    match view.get(rt.alloc(), "") {
         Ok(_) => assert!(rt; false),
-        Err(error) => assert_eq!(rt;
-            text_of(rt.alloc(), &error)?.as_str(),
-            "error at key \"\"\n\": malformed value: \"invalid tag: 20\""
-        ),
+        Err(error) => assert_text(&rt, rt.alloc(), &error, text)?,
     }
     Ok(())
 }
@@ -93,12 +101,10 @@ fn access_errors_are_printed(rt: HostRuntime) -> Result<(), Fail> {
 #[test]
 fn an_index_is_printed_in_decimal(rt: HostRuntime) -> Result<(), Fail> {
     assert!(rt; RawDocument::from_bytes(BOOL_AND_INT32)?.get_i32(rt.alloc(), "i32") == Ok(1000000));
+    let text = "error at key: \"18446744073709551615\": value not present";
     match array_view(EMPTY)?.get_i32(rt.alloc(), usize::MAX) {
         Ok(_) => assert!(rt; false),
-        Err(error) => assert_eq!(rt;
-            text_of(rt.alloc(), &error)?.as_str(),
-            "error at key: \"18446744073709551615\": value not present"
-        ),
+        Err(error) => assert_text(&rt, rt.alloc(), &error, text)?,
     }
     Ok(())
 }

@@ -1,4 +1,5 @@
-use bson_model::{Bson, Document, JavaScriptCodeWithScope};
+use bson_model::{Bson, Document, JavaScriptCodeWithScope, NoMemory};
+use std::alloc::Global;
 use std::process::Abort;
 use std::test::Fail;
 
@@ -35,19 +36,34 @@ fn leaves_of_document(document: &Document) -> u64 {
     count
 }
 
+fn insert(alloc: Global, document: &mut Document, key: &str, value: Bson) -> Result<(), NoMemory> {
+    let key = String::from_str(alloc, key)?;
+    document.insert(key, value)?;
+    Ok(())
+}
+
+/// Code whose scope is a null.
+fn code(alloc: Global) -> Result<Bson, NoMemory> {
+    let mut scope = Document::new(alloc);
+    insert(alloc, &mut scope, "x", Bson::Null)?;
+    Ok(Bson::JavaScriptCodeWithScope(JavaScriptCodeWithScope {
+        code: String::new(alloc),
+        scope,
+    }))
+}
+
+/// A list of a number and code, and a boolean.
+fn tree(alloc: Global) -> Result<Document, NoMemory> {
+    let list = Bson::Array(vec![in alloc; Bson::Int32(1), code(alloc)?]?);
+    let mut document = Document::new(alloc);
+    insert(alloc, &mut document, "a", list)?;
+    insert(alloc, &mut document, "b", Bson::Boolean(true))?;
+    Ok(document)
+}
+
 #[test]
 fn leaves_are_counted_at_any_depth(rt: HostRuntime) -> Result<(), Fail> {
-    let mut scope = Document::new(rt.alloc());
-    let _ = scope.insert(String::from_str(rt.alloc(), "x")?, Bson::Null)?;
-    let mut list = Vec::new(rt.alloc());
-    list.push(Bson::Int32(1))?;
-    list.push(Bson::JavaScriptCodeWithScope(JavaScriptCodeWithScope {
-        code: String::new(rt.alloc()),
-        scope,
-    }))?;
-    let mut document = Document::new(rt.alloc());
-    let _ = document.insert(String::from_str(rt.alloc(), "a")?, Bson::Array(list))?;
-    let _ = document.insert(String::from_str(rt.alloc(), "b")?, Bson::Boolean(true))?;
-    assert_eq!(rt; leaves_of_value(&Bson::Document(document)), 3);
+    let tree = Bson::Document(tree(rt.alloc())?);
+    assert_eq!(rt; leaves_of_value(&tree), 3);
     Ok(())
 }
