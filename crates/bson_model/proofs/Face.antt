@@ -13,5 +13,5 @@ pub use Rattle.bson_model.proofs.WellFormed.{keys_in-entries}
 pub use Rattle.bson_model.proofs.Trees.{tree_of-Double, tree_of-Document, tree_of-Array, tree_of-Undefined, tree_of-ObjectId, tree_of-Boolean, tree_of-DateTime, tree_of-Null, tree_of-JavaScriptCodeWithScope, tree_of-Timestamp, tree_of-Decimal128, tree_of-MaxKey, tree_of-MinKey}
 pub use Rattle.bson_model.proofs.Measures.{value_smaller, document_smaller, code_smaller, scope_smaller, at_most_member}
 -- equality decided kind by kind
-pub use Rattle.bson_model.proofs.Equality.{same_subtype}
+pub use Rattle.bson_model.proofs.SubtypeEquality.{same_subtype}
 pub use Rattle.bson_model.proofs.Variants.{AllDecide, Kinds, along, decided, joined}

@@ -5,6 +5,7 @@ pub mod Keep
 pub mod Kept
 pub mod OptionOrder
 pub mod Steps
+pub mod SubtypeEquality
 pub mod Subtypes
 pub mod Trees
 pub mod Measures

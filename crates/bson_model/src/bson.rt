@@ -114,7 +114,8 @@ impl Document {
 
     /// The pair at a place, counted from 0.
     pub fn pair_at(&self, index: usize) -> Option<(&str, &Bson)>
-        ensures { option_map (λ p. (p.0.now, p.1.now)) result ≡ slice_get (pairs_of self.now) index }
+        ensures { option_map (λ p. (p.0.now, p.1.now)) result
+            ≡ slice_get (pairs_of self.now) index }
     {
         self.pairs.pair_at(index)
     }
@@ -122,7 +123,8 @@ impl Document {
     /// Puts a pair last, or where its key stands, and answers the value that stood there. It fails only
     /// for a key that is not there, and then changes nothing and drops the pair.
     pub fn insert(&mut self, key: String, value: Bson) -> Result<Option<Bson>, NoMemory>
-        ensures inserted { OnOk result (pairs_of self.new ≡ with_pair (string_bytes key) value (pairs_of self.old)) }
+        ensures inserted { OnOk result (pairs_of self.new
+            ≡ with_pair (string_bytes key) value (pairs_of self.old)) }
         ensures trees { OnOk result (with_trees (pairs_of self.new) ≡
             with_pair (string_bytes key) (tree_of value) (with_trees (pairs_of self.old))) }
         ensures old { IfOk result (λ old. old ≡ value_at (string_bytes key) (pairs_of self.old)) }

@@ -4,7 +4,7 @@
 mod binaries;
 mod bson;
 mod errors;
-mod laws;
+pub mod laws;
 mod numbers;
 mod object_id;
 mod pairs;
@@ -15,7 +15,6 @@ mod times;
 pub use binaries::{Binary, BinarySubtype};
 pub use bson::{Bson, Document, JavaScriptCodeWithScope};
 pub use errors::NoMemory;
-pub use laws::{attest_document, attest_list, attest_value, is_same_document, is_same_tree};
 pub use numbers::{Decimal128, DoubleBits};
 pub use object_id::{DbPointer, ObjectId};
 pub use regexes::Regex;

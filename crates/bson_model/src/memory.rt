@@ -5,7 +5,7 @@ use std::process::Abort;
 // `bin/test` runs these with each request for memory refused in turn, alone.
 
 /// So many pairs that the keys and the values ask for memory more than once.
-const PAIRS: [(&str, i32); 9] = [
+const PAIRS: &[(&str, i32)] = &[
     ("a", 1),
     ("b", 2),
     ("c", 3),
@@ -24,9 +24,9 @@ fn is_pair(document: &Document, index: usize, key: &str, value: &Bson) -> bool {
 
 /// Whether the document is the first of the pairs, so many of them.
 fn has_pairs(document: &Document, count: usize) -> bool {
-    for (index, (key, number)) in PAIRS.into_iter().enumerate() {
+    for (index, (key, number)) in PAIRS.iter().enumerate() {
         let is_right = if index < count {
-            is_pair(document, index, key, &Bson::Int32(number))
+            is_pair(document, index, key, &Bson::Int32(*number))
         } else {
             document.pair_at(index).is_none() && document.get(key).is_none()
         };
@@ -40,17 +40,20 @@ fn has_pairs(document: &Document, count: usize) -> bool {
 /// Whether memory sufficed to insert the pair, whose key is a new one.
 fn is_inserted(alloc: Global, document: &mut Document, key: &str, number: i32) -> bool {
     match String::from_str(alloc, key) {
-        Ok(text) => matches!(document.insert(text, Bson::Int32(number)), Ok(None)),
+        Ok(text) => match document.insert(text, Bson::Int32(number)) {
+            Ok(old) => old.is_none(),
+            Err(_) => false,
+        },
         Err(_) => false,
     }
 }
 
 /// Inserts the pairs. A refused insert leaves the document as it was, and goes well when it is made again.
 fn insert_pairs(rt: &impl Abort, alloc: Global, document: &mut Document) {
-    for (before, (key, number)) in PAIRS.into_iter().enumerate() {
-        if !is_inserted(alloc, document, key, number) {
+    for (before, (key, number)) in PAIRS.iter().enumerate() {
+        if !is_inserted(alloc, document, key, *number) {
             assert!(rt; has_pairs(document, before), "{key}");
-            assert!(rt; is_inserted(alloc, document, key, number), "{key}");
+            assert!(rt; is_inserted(alloc, document, key, *number), "{key}");
         }
         assert!(rt; has_pairs(document, before.saturating_add(1)), "{key}");
     }
@@ -64,8 +67,10 @@ fn insert_of_a_new_key_or_want_of_memory(rt: HostRuntime) {
 
 /// Whether a null takes the place of the number under this key.
 fn is_replaced(document: &mut Document, key: String, number: i32) -> bool {
-    let old = document.insert(key, Bson::Null);
-    old == Ok(Some(Bson::Int32(number)))
+    match document.insert(key, Bson::Null) {
+        Ok(old) => old == Some(Bson::Int32(number)),
+        Err(_) => false,
+    }
 }
 
 /// The insert itself takes no memory, so that none can be refused to it.
@@ -73,9 +78,9 @@ fn is_replaced(document: &mut Document, key: String, number: i32) -> bool {
 fn insert_of_a_key_that_is_there_or_want_of_memory(rt: HostRuntime) {
     let mut document = Document::new(rt.alloc());
     insert_pairs(&rt, rt.alloc(), &mut document);
-    for (index, (key, number)) in PAIRS.into_iter().enumerate() {
+    for (index, (key, number)) in PAIRS.iter().enumerate() {
         if let Ok(text) = String::from_str(rt.alloc(), key) {
-            assert!(rt; is_replaced(&mut document, text, number), "{key}");
+            assert!(rt; is_replaced(&mut document, text, *number), "{key}");
             assert!(rt; is_pair(&document, index, key, &Bson::Null), "{key}");
         }
     }

@@ -33,7 +33,8 @@ impl ObjectId {
 
     /// Its bytes as 24 lower case hexadecimal digits, or `NoMemory`.
     pub fn to_hex(self, alloc: Global) -> Result<String, NoMemory>
-        ensures digits { IfOk result (λ text. string_bytes text ≡ encode_lower (bytes_of_object_id self)) }
+        ensures digits { IfOk result
+            (λ text. string_bytes text ≡ encode_lower (bytes_of_object_id self)) }
         ensures length { IfOk result (λ text. length (string_bytes text) ≡ 24) }
     {
         Ok(hex::encode(alloc, &self.bytes()[..])?)

@@ -1,7 +1,7 @@
+use crate::laws::{attest_document, attest_list, attest_value, is_same_document, is_same_tree};
 use crate::{
     Binary, BinarySubtype, Bson, DateTime, DbPointer, Decimal128, Document, DoubleBits,
-    JavaScriptCodeWithScope, NoMemory, ObjectId, Regex, Timestamp, attest_document, attest_list,
-    attest_value, is_same_document, is_same_tree,
+    JavaScriptCodeWithScope, NoMemory, ObjectId, Regex, Timestamp,
 };
 use std::alloc::{AllocError, Global};
 use std::fmt::Debug;
@@ -20,16 +20,20 @@ fn assert_debug<T: Debug>(
     Ok(())
 }
 
+// The object id has these hexadecimal digits.
+fn assert_hex(rt: &impl Abort, alloc: Global, id: ObjectId, digits: &str) -> Result<(), Fail> {
+    let found = id.to_hex(alloc)?;
+    assert_eq!(rt; found.as_str(), digits);
+    Ok(())
+}
+
 #[test]
 fn an_object_id_is_its_twelve_bytes(rt: HostRuntime) -> Result<(), Fail> {
     let id = ObjectId::from_bytes([1, 2, 3, 4, 5, 6, 7, 8, 9, 10, 11, 12]);
-    assert_eq!(rt; id.to_hex(rt.alloc())?.as_str(), "0102030405060708090a0b0c");
+    assert_hex(&rt, rt.alloc(), id, "0102030405060708090a0b0c")?;
     assert_eq!(rt; id.bytes(), [1, 2, 3, 4, 5, 6, 7, 8, 9, 10, 11, 12]);
     let high = ObjectId::from_bytes([0xff, 0xab, 0, 0, 0, 0, 0, 0, 0, 0, 0, 0x0f]);
-    assert_eq!(rt;
-        high.to_hex(rt.alloc())?.as_str(),
-        "ffab0000000000000000000f"
-    );
+    assert_hex(&rt, rt.alloc(), high, "ffab0000000000000000000f")?;
     assert_ne!(rt; id, high);
     Ok(())
 }
@@ -66,43 +70,50 @@ fn small_values_keep_what_they_are_given(rt: HostRuntime) -> Result<(), Fail> {
     Ok(())
 }
 
+// Bytes, each with its subtype.
+const SUBTYPES: &[(u8, BinarySubtype)] = &[
+    (0, BinarySubtype::Generic),
+    (1, BinarySubtype::Function),
+    (2, BinarySubtype::BinaryOld),
+    (3, BinarySubtype::UuidOld),
+    (4, BinarySubtype::Uuid),
+    (5, BinarySubtype::Md5),
+    (6, BinarySubtype::Encrypted),
+    (7, BinarySubtype::Column),
+    (8, BinarySubtype::Sensitive),
+    (9, BinarySubtype::Vector),
+    (10, BinarySubtype::Reserved(10)),
+    (127, BinarySubtype::Reserved(127)),
+    (128, BinarySubtype::UserDefined(128)),
+    (255, BinarySubtype::UserDefined(255)),
+];
+
 #[test]
-fn subtypes_have_their_bytes(rt: HostRuntime) -> Result<(), Fail> {
-    for (byte, subtype) in [
-        (0, BinarySubtype::Generic),
-        (1, BinarySubtype::Function),
-        (2, BinarySubtype::BinaryOld),
-        (3, BinarySubtype::UuidOld),
-        (4, BinarySubtype::Uuid),
-        (5, BinarySubtype::Md5),
-        (6, BinarySubtype::Encrypted),
-        (7, BinarySubtype::Column),
-        (8, BinarySubtype::Sensitive),
-        (9, BinarySubtype::Vector),
-        (10, BinarySubtype::Reserved(10)),
-        (127, BinarySubtype::Reserved(127)),
-        (128, BinarySubtype::UserDefined(128)),
-        (255, BinarySubtype::UserDefined(255)),
-    ] {
-        assert_eq!(rt; BinarySubtype::from_u8(byte), subtype);
-        assert_eq!(rt; subtype.to_u8(), byte);
+fn subtypes_have_their_bytes(rt: HostRuntime) {
+    for (byte, subtype) in SUBTYPES {
+        assert_eq!(rt; BinarySubtype::from_u8(*byte), *subtype);
+        assert_eq!(rt; subtype.to_u8(), *byte);
     }
     assert_eq!(rt; BinarySubtype::UserDefined(2).to_u8(), 2);
-    let binary = Binary {
+}
+
+fn one_and_two(alloc: Global) -> Result<Binary, AllocError> {
+    Ok(Binary {
         subtype: BinarySubtype::UserDefined(200),
-        bytes: vec![in rt.alloc(); 1, 2]?,
-    };
+        bytes: vec![in alloc; 1, 2]?,
+    })
+}
+
+#[test]
+fn a_binary_is_printed_and_compared(rt: HostRuntime) -> Result<(), Fail> {
+    let binary = one_and_two(rt.alloc())?;
     assert_debug(
         &rt,
         rt.alloc(),
         &binary,
         "Binary { subtype: UserDefined(200), bytes: [1, 2] }",
     )?;
-    let same = Binary {
-        subtype: BinarySubtype::UserDefined(200),
-        bytes: vec![in rt.alloc(); 1, 2]?,
-    };
-    assert!(rt; binary == same);
+    assert!(rt; binary == one_and_two(rt.alloc())?);
     Ok(())
 }
 
@@ -112,15 +123,19 @@ fn options_are_put_in_order(rt: HostRuntime) -> Result<(), Fail> {
     let regex = Regex::new(rt.alloc(), "^a", "\u{10000}xi\u{FFFD}i")?;
     assert_eq!(rt; regex.pattern.as_str(), "^a");
     assert_eq!(rt; regex.options.as_str(), "iix\u{FFFD}\u{10000}");
+    assert!(rt; Regex::new(rt.alloc(), "a", "im")? != regex);
+    Ok(())
+}
+
+#[test]
+fn a_regular_expression_is_printed(rt: HostRuntime) -> Result<(), Fail> {
     let plain = Regex::new(rt.alloc(), "a", "im")?;
     assert_debug(
         &rt,
         rt.alloc(),
         &plain,
         "Regex { pattern: \"a\", options: \"im\" }",
-    )?;
-    assert!(rt; plain != regex);
-    Ok(())
+    )
 }
 
 #[test]
@@ -147,46 +162,67 @@ fn text(alloc: Global, content: &str) -> Result<String, AllocError> {
     String::from_str(alloc, content)
 }
 
-// The pairs b: 3 and a: 2, where b was 1 first.
-fn two_pairs(alloc: Global) -> Result<Document, Fail> {
+// What the insert answers is let go.
+fn put(document: &mut Document, key: String, value: Bson) -> Result<(), NoMemory> {
+    document.insert(key, value)?;
+    Ok(())
+}
+
+fn document_of(alloc: Global, pairs: &[(&str, i32)]) -> Result<Document, NoMemory> {
     let mut document = Document::new(alloc);
-    for (key, number) in [("b", 1), ("a", 2), ("b", 3)] {
-        document.insert(text(alloc, key)?, Bson::Int32(number))?;
+    for (key, number) in pairs {
+        put(&mut document, text(alloc, key)?, Bson::Int32(*number))?;
     }
     Ok(document)
+}
+
+// The pairs b: 3 and a: 2, where b was 1 first.
+fn two_pairs(alloc: Global) -> Result<Document, NoMemory> {
+    document_of(alloc, &[("b", 1), ("a", 2), ("b", 3)])
+}
+
+fn has_two_pairs(document: &Document) -> bool {
+    document.len() == 2
+        && document.pair_at(0) == Some(("b", &Bson::Int32(3)))
+        && document.pair_at(1) == Some(("a", &Bson::Int32(2)))
+        && document.pair_at(2).is_none()
 }
 
 #[test]
 fn a_document_is_its_pairs_in_order(rt: HostRuntime) -> Result<(), Fail> {
     let document = two_pairs(rt.alloc())?;
     assert!(rt; !document.is_empty());
-    assert_eq!(rt; document.len(), 2);
-    assert!(rt; document.pair_at(0) == Some(("b", &Bson::Int32(3))));
-    assert!(rt; document.pair_at(1) == Some(("a", &Bson::Int32(2))));
-    assert!(rt; document.pair_at(2).is_none());
+    assert!(rt; has_two_pairs(&document));
     assert!(rt; document.get("a") == Some(&Bson::Int32(2)));
     assert!(rt; document.get("c").is_none());
     Ok(())
+}
+
+// Whether the insert of a number under the key `b` answers this old value.
+fn is_old_value(
+    alloc: Global,
+    document: &mut Document,
+    number: i32,
+    wanted: Option<&Bson>,
+) -> Result<bool, NoMemory> {
+    let key = text(alloc, "b")?;
+    let old = document.insert(key, Bson::Int32(number))?;
+    Ok(old.as_ref() == wanted)
 }
 
 #[test]
 fn insert_answers_the_old_value(rt: HostRuntime) -> Result<(), Fail> {
     let mut document = Document::new(rt.alloc());
     assert!(rt; document.is_empty());
-    let new = document.insert(text(rt.alloc(), "b")?, Bson::Int32(1))?;
-    assert!(rt; new.is_none());
-    let old = document.insert(text(rt.alloc(), "b")?, Bson::Int32(2))?;
-    assert!(rt; old == Some(Bson::Int32(1)));
+    assert!(rt; is_old_value(rt.alloc(), &mut document, 1, None)?);
+    assert!(rt; is_old_value(rt.alloc(), &mut document, 2, Some(&Bson::Int32(1)))?);
     Ok(())
 }
 
 #[test]
 fn the_order_of_keys_counts(rt: HostRuntime) -> Result<(), Fail> {
     let document = two_pairs(rt.alloc())?;
-    let mut other = Document::new(rt.alloc());
-    for (key, number) in [("a", 2), ("b", 3)] {
-        other.insert(text(rt.alloc(), key)?, Bson::Int32(number))?;
-    }
+    let other = document_of(rt.alloc(), &[("a", 2), ("b", 3)])?;
     assert!(rt; !is_same_document(&document, &other));
     Ok(())
 }
@@ -248,15 +284,25 @@ fn are_found_equal(value: &Bson, other: &Bson, equal: bool) -> bool {
     (value == other) == equal && is_same_tree(value, other) == equal
 }
 
+// Of the values of all variants, the value is equal to that of its own place alone.
+fn assert_like(rt: &impl Abort, alloc: Global, value: &Bson, place: u8) -> Result<(), Fail> {
+    for variant in 0..21 {
+        let other = value_of(alloc, variant)?;
+        let equal = variant == place;
+        assert!(rt;
+            are_found_equal(value, &other, equal),
+            "at {place} and {variant}"
+        );
+    }
+    Ok(())
+}
+
 #[test]
 fn values_are_equal_only_to_their_like(rt: HostRuntime) -> Result<(), Fail> {
-    for i in 0..21 {
-        let value = value_of(rt.alloc(), i)?;
+    for variant in 0..21 {
+        let value = value_of(rt.alloc(), variant)?;
         attest(&value);
-        for j in 0..21 {
-            let other = value_of(rt.alloc(), j)?;
-            assert!(rt; are_found_equal(&value, &other, i == j), "at {i} and {j}");
-        }
+        assert_like(&rt, rt.alloc(), &value, variant)?;
     }
     Ok(())
 }
@@ -307,7 +353,7 @@ fn nested(alloc: Global, innermost: i32) -> Result<Document, NoMemory> {
 fn holding(alloc: Global, value: Bson) -> Result<Document, NoMemory> {
     let key = text(alloc, "key")?;
     let mut document = Document::new(alloc);
-    document.insert(key, value)?;
+    put(&mut document, key, value)?;
     Ok(document)
 }
 

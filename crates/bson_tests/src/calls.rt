@@ -1,8 +1,9 @@
 use crate::asserts::{assert_pair, assert_refused};
 use crate::fixtures::{document_of, owned};
+use raw_bson::laws::is_same_document_buf;
 use raw_bson::{
     ElementType, Error, ErrorKind, RawBson, RawBsonRef, RawDocumentBuf, RawElement, Reason,
-    ValueAccessErrorKind, ValueAccessResult, is_same_document_buf,
+    ValueAccessErrorKind, ValueAccessResult,
 };
 use std::alloc::Global;
 use std::process::Abort;

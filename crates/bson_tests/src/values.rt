@@ -1,8 +1,9 @@
 use crate::asserts::{assert_one_pair, assert_same};
 use crate::fixtures::{all_owned, array_of, code_of, document_of, owned};
+use raw_bson::laws::{is_same_code, is_same_value};
 use raw_bson::{
     Binary, BinarySubtype, DateTime, DoubleBits, ElementType, RawBson, RawBsonRef,
-    RawJavaScriptCodeWithScope, Regex, is_same_code, is_same_value,
+    RawJavaScriptCodeWithScope, Regex,
 };
 use std::alloc::Global;
 use std::process::Abort;

@@ -15,7 +15,8 @@ use std::alloc::{AllocError, Global};
 
 /// The canonical form of a document in hex, or why there is none.
 pub fn canon_document(alloc: Global, document: RawDocument<'_>) -> Result<Printed, AllocError>
-    ensures { IfOk result (λ p. PrintsForm (bytes_of document.entry) (code_of p.status) (string_bytes p.output)) }
+    ensures { IfOk result
+        (λ p. PrintsForm (bytes_of document.entry) (code_of p.status) (string_bytes p.output)) }
 {
     match canonical_bytes(alloc, document.as_bytes()) {
         Ok(form) => form_line(alloc, &form),
@@ -25,7 +26,8 @@ pub fn canon_document(alloc: Global, document: RawDocument<'_>) -> Result<Printe
 
 /// The line of a canonical form, in hex.
 fn form_line(alloc: Global, form: &[u8]) -> Result<Printed, AllocError>
-    ensures { (b : List ℕ) → IsCanonicalForm b form.now → IfOk result (λ p. PrintsForm b (code_of p.status) (string_bytes p.output)) }
+    ensures { (b : List ℕ) → IsCanonicalForm b form.now → IfOk result
+        (λ p. PrintsForm b (code_of p.status) (string_bytes p.output)) }
 {
     let mut output = hex::encode(alloc, form)?;
     output.push_str("\n")?;

@@ -1,9 +1,10 @@
-ghost use Rattle.std.specs.Prelude.{◌≡◌, ◌≢◌, ◌++◌, ℕ, List, Option, IfOk, OnOk};
+ghost use Rattle.std.specs.Prelude.{◌≡◌, ◌≢◌, ◌++◌, ℕ, List, Option, OnOk};
 ghost use Rattle.std.specs.String.{string_bytes};
 ghost use Rattle.raw_bson.specs.Errors.{TellsFault};
 ghost use Rattle.raw_bson.specs.Frame.{Fault, Stopped};
-ghost use Rattle.bsonraw.specs.Print.{end_line, key_text};
+ghost use Rattle.bsonraw.specs.Print.{end_line};
 
+use crate::key::key_digits;
 use raw_bson::{Error, ErrorKind};
 use std::alloc::{AllocError, Global};
 
@@ -11,7 +12,8 @@ use std::alloc::{AllocError, Global};
 /// the answer.
 pub fn push_fault(alloc: Global, output: &mut String, error: &Error) -> Result<(), AllocError>
     ensures line { (fault : Fault) (key : Option (List ℕ)) → TellsFault error.now fault key →
-        OnOk result (string_bytes output.new ≡ string_bytes output.old ++ end_line (Stopped fault key)) }
+        OnOk result
+        (string_bytes output.new ≡ string_bytes output.old ++ end_line (Stopped fault key)) }
     ensures memory { OnOk result (error.now.kind ≢ ErrorKind.OutOfMemory) }
 {
     let kind = match &error.kind {
@@ -25,16 +27,5 @@ pub fn push_fault(alloc: Global, output: &mut String, error: &Error) -> Result<(
             writeln!(output, "fault {kind} {key}")
         }
         None => writeln!(output, "fault {kind} none"),
-    }
-}
-
-/// A key in hex, and the empty one as a dash.
-pub fn key_digits(alloc: Global, key: &str) -> Result<String, AllocError>
-    ensures { IfOk result (λ text. string_bytes text ≡ key_text key.now) }
-{
-    if key.is_empty() {
-        String::from_str(alloc, "-")
-    } else {
-        hex::encode(alloc, key)
     }
 }

@@ -5,12 +5,13 @@
 mod answer;
 mod canon;
 mod command;
+mod digits;
 mod fault;
+mod key;
 mod list;
 mod printed;
 mod run;
 mod status;
-mod text;
 
 use run::run;
 use status::Status;

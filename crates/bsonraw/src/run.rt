@@ -43,7 +43,8 @@ pub fn run<R: Read, W: Write>(alloc: Global, command: &str, reader: &mut R, writ
 
 /// Writes the output. The status is the output's own, or 5 where writing failed.
 fn written<W: Write>(writer: &mut W, output: &[u8], status: u8) -> u8
-    ensures { result ≢ 5 → (result ≡ status) × Appends (W.contents writer.old) (W.contents writer.new) output.now }
+    ensures { result ≢ 5 → (result ≡ status)
+        × Appends (W.contents writer.old) (W.contents writer.new) output.now }
 {
     match put(writer, output) {
         Ok(()) => status,

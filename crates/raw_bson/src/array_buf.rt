@@ -10,11 +10,10 @@ ghost use Rattle.raw_view.specs.Value.{array_bytes_of};
 
 use crate::bson::RawBson;
 use crate::document_buf::RawDocumentBuf;
-use crate::hex_digits::HexDigits;
 use bson_model::{DateTime, DoubleBits, ObjectId, Timestamp};
 use itoa::Buffer;
 use raw_view::{
-    RawArray, RawArrayIter, RawBinaryRef, RawBsonRef, RawDocument, RawRegexRef, Result,
+    HexDigits, RawArray, RawArrayIter, RawBinaryRef, RawBsonRef, RawDocument, RawRegexRef, Result,
     ValueAccessResult,
 };
 use std::alloc::{AllocError, Global};
@@ -43,7 +42,7 @@ impl Model for RawArrayBuf {
 impl RawArrayBuf {
     /// The array without values, of count 0; or want of memory.
     pub fn new(alloc: Global) -> Result<RawArrayBuf>
-        ensures empty { IfOk result (λ a. (a.bytes ≡ 5 ∷ 0 ∷ 0 ∷ 0 ∷ 0 ∷ []) × (a.count ≡ 0)) }
+        ensures empty { IfOk result (λ a. a ≡ empty_array) }
         ensures err { IfErr result IsOutOfMemory }
     {
         Ok(RawArrayBuf {
@@ -101,7 +100,7 @@ impl RawArrayBuf {
 impl RawArrayBuf {
     ghost use Rattle.std.specs.Prelude.{List, Option, Result, Some, decimal, drop};
     ghost use Rattle.std.specs.Iterator.{Drains};
-    ghost use Rattle.raw_view.specs.Access.{Gets};
+    ghost use Rattle.raw_view.specs.Access.{GetsAt};
     ghost use Rattle.raw_view.specs.Answers.{StepsItems, TellsEach, TellsFound, TellsValue};
     ghost use Rattle.raw_view.specs.Item.{Item, AreItems};
     ghost use Rattle.raw_view.specs.LookUp.{IsAt};
@@ -132,7 +131,9 @@ impl RawArrayBuf {
     /// (n - 4) / 2 + 1 items.
     pub fn iter(&self) -> RawArrayIter<'_>
         ensures begins { result ≡ Some (drop 4 self.now.bytes) }
-        ensures items { (outs : List (Result RawBsonRef Error)) → Drains (StepsItems TellsValue) result outs → (items : List Item) × AreItems self.now.bytes items × TellsEach TellsValue outs items }
+        ensures items { (outs : List (Result RawBsonRef Error)) →
+            Drains (StepsItems TellsValue) result outs → (items : List Item)
+            × AreItems self.now.bytes items × TellsEach TellsValue outs items }
     {
         self.as_ref().iter(self.document.alloc())
     }
@@ -140,91 +141,93 @@ impl RawArrayBuf {
     /// The item of this number, counted from 0, faults counted too: its value, or its fault. The fault at
     /// which the elements stop is the last item; past it `None`. Nothing of another item is answered.
     pub fn get(&self, index: usize) -> Result<Option<RawBsonRef<'_>>>
-        ensures { (found : Option Meaning) × IsAt self.now.bytes index found × TellsFound result found }
+        ensures { (found : Option Meaning) × IsAt self.now.bytes index found
+            × TellsFound result found }
     {
         self.as_ref().get(self.document.alloc(), index)
     }
 
     /// The 64 bits of a double at this place, counted from 0; else why there is none, with the index in decimal.
     pub fn get_f64(&self, index: usize) -> ValueAccessResult<DoubleBits>
-        ensures { (found : Option Meaning) × IsAt self.now.bytes index found × Gets typed.f64_value variants.Double (decimal index) found result }
+        ensures { GetsAt typed.f64_value variants.Double self.now.bytes index result }
     {
         self.as_ref().get_f64(self.document.alloc(), index)
     }
 
     /// The text of a string at this place, counted from 0; else why there is none, with the index in decimal.
     pub fn get_str(&self, index: usize) -> ValueAccessResult<&str>
-        ensures { (found : Option Meaning) × IsAt self.now.bytes index found × Gets typed.str_value variants.String (decimal index) found result }
+        ensures { GetsAt typed.str_value variants.String self.now.bytes index result }
     {
         self.as_ref().get_str(self.document.alloc(), index)
     }
 
     /// A nested document at this place, counted from 0; else why there is none, with the index in decimal.
     pub fn get_document(&self, index: usize) -> ValueAccessResult<RawDocument<'_>>
-        ensures { (found : Option Meaning) × IsAt self.now.bytes index found × Gets typed.document_value variants.EmbeddedDocument (decimal index) found result }
+        ensures { GetsAt typed.document_value variants.EmbeddedDocument
+            self.now.bytes index result }
     {
         self.as_ref().get_document(self.document.alloc(), index)
     }
 
     /// An array at this place, counted from 0; else why there is none, with the index in decimal.
     pub fn get_array(&self, index: usize) -> ValueAccessResult<RawArray<'_>>
-        ensures { (found : Option Meaning) × IsAt self.now.bytes index found × Gets typed.array_value variants.Array (decimal index) found result }
+        ensures { GetsAt typed.array_value variants.Array self.now.bytes index result }
     {
         self.as_ref().get_array(self.document.alloc(), index)
     }
 
     /// Bytes and their subtype at this place, counted from 0; else why there is none, with the index in decimal.
     pub fn get_binary(&self, index: usize) -> ValueAccessResult<RawBinaryRef<'_>>
-        ensures { (found : Option Meaning) × IsAt self.now.bytes index found × Gets typed.binary_value variants.Binary (decimal index) found result }
+        ensures { GetsAt typed.binary_value variants.Binary self.now.bytes index result }
     {
         self.as_ref().get_binary(self.document.alloc(), index)
     }
 
     /// An ObjectId at this place, counted from 0; else why there is none, with the index in decimal.
     pub fn get_object_id(&self, index: usize) -> ValueAccessResult<ObjectId>
-        ensures { (found : Option Meaning) × IsAt self.now.bytes index found × Gets typed.object_id_value variants.ObjectId (decimal index) found result }
+        ensures { GetsAt typed.object_id_value variants.ObjectId self.now.bytes index result }
     {
         self.as_ref().get_object_id(self.document.alloc(), index)
     }
 
     /// A boolean at this place, counted from 0; else why there is none, with the index in decimal.
     pub fn get_bool(&self, index: usize) -> ValueAccessResult<bool>
-        ensures { (found : Option Meaning) × IsAt self.now.bytes index found × Gets typed.bool_value variants.Boolean (decimal index) found result }
+        ensures { GetsAt typed.bool_value variants.Boolean self.now.bytes index result }
     {
         self.as_ref().get_bool(self.document.alloc(), index)
     }
 
     /// A time at this place, counted from 0; else why there is none, with the index in decimal.
     pub fn get_datetime(&self, index: usize) -> ValueAccessResult<DateTime>
-        ensures { (found : Option Meaning) × IsAt self.now.bytes index found × Gets typed.datetime_value variants.DateTime (decimal index) found result }
+        ensures { GetsAt typed.datetime_value variants.DateTime self.now.bytes index result }
     {
         self.as_ref().get_datetime(self.document.alloc(), index)
     }
 
     /// A regular expression at this place, counted from 0; else why there is none, with the index in decimal.
     pub fn get_regex(&self, index: usize) -> ValueAccessResult<RawRegexRef<'_>>
-        ensures { (found : Option Meaning) × IsAt self.now.bytes index found × Gets typed.regex_value variants.RegularExpression (decimal index) found result }
+        ensures { GetsAt typed.regex_value variants.RegularExpression self.now.bytes index result }
     {
         self.as_ref().get_regex(self.document.alloc(), index)
     }
 
     /// A timestamp at this place, counted from 0; else why there is none, with the index in decimal.
     pub fn get_timestamp(&self, index: usize) -> ValueAccessResult<Timestamp>
-        ensures { (found : Option Meaning) × IsAt self.now.bytes index found × Gets typed.timestamp_value variants.Timestamp (decimal index) found result }
+        ensures { GetsAt typed.timestamp_value variants.Timestamp self.now.bytes index result }
     {
         self.as_ref().get_timestamp(self.document.alloc(), index)
     }
 
     /// A signed 32-bit number at this place, counted from 0; else why there is none, with the index in decimal.
     pub fn get_i32(&self, index: usize) -> ValueAccessResult<i32>
-        ensures { (found : Option Meaning) × IsAt self.now.bytes index found × Gets typed.i32_value variants.Int32 (decimal index) found result }
+        ensures { GetsAt typed.i32_value variants.Int32 self.now.bytes index result }
     {
         self.as_ref().get_i32(self.document.alloc(), index)
     }
 
     /// A signed 64-bit number at this place, counted from 0; else why there is none, with the index in decimal.
     pub fn get_i64(&self, index: usize) -> ValueAccessResult<i64>
-        ensures { (found : Option Meaning) × IsAt self.now.bytes index found × Gets typed.i64_value variants.Int64 (decimal index) found result }
+        ensures { GetsAt typed.i64_value variants.Int64 self.now.bytes index result }
     {
         self.as_ref().get_i64(self.document.alloc(), index)
     }

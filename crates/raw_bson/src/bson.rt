@@ -1,6 +1,5 @@
-ghost use Rattle.std.specs.Prelude.{◌≡◌, ℕ, ◌≤◌, option_copied, option_map, IfOk, IfErr};
+ghost use Rattle.std.specs.Prelude.{◌≡◌, IfOk, IfErr};
 ghost use Rattle.std.specs.String.{string_bytes};
-ghost use Rattle.raw_bson.specs.OwnedAccessors as accessors;
 ghost use Rattle.raw_bson.specs.OwnedAccessors.{binary_parts, regex_parts, pointer_parts, scope_parts};
 ghost use Rattle.std.specs.Borrow.{sem};
 ghost use Rattle.raw_bson.specs.Lending.{HoldsArray, HoldsDocument, LendsArray, LendsDocument};
@@ -103,7 +102,8 @@ impl Clone for RawJavaScriptCodeWithScope {
 }
 
 fn clone_binary(binary: &Binary) -> std::result::Result<Binary, AllocError>
-    ensures { IfOk result (λ b. (b.subtype ≡ binary.now.subtype) × (b.bytes.items ≡ binary.now.bytes.items)) }
+    ensures { IfOk result
+        (λ b. (b.subtype ≡ binary.now.subtype) × (b.bytes.items ≡ binary.now.bytes.items)) }
 {
     Ok(Binary {
         subtype: binary.subtype,
@@ -112,7 +112,9 @@ fn clone_binary(binary: &Binary) -> std::result::Result<Binary, AllocError>
 }
 
 fn clone_regex(regex: &Regex) -> std::result::Result<Regex, AllocError>
-    ensures { IfOk result (λ r. (string_bytes r.pattern ≡ string_bytes regex.now.pattern) × (string_bytes r.options ≡ string_bytes regex.now.options)) }
+    ensures { IfOk result
+        (λ r. (string_bytes r.pattern ≡ string_bytes regex.now.pattern)
+        × (string_bytes r.options ≡ string_bytes regex.now.options)) }
 {
     Ok(Regex {
         pattern: regex.pattern.clone()?,
@@ -121,7 +123,9 @@ fn clone_regex(regex: &Regex) -> std::result::Result<Regex, AllocError>
 }
 
 fn clone_pointer(pointer: &DbPointer) -> std::result::Result<DbPointer, AllocError>
-    ensures { IfOk result (λ p. (string_bytes p.namespace ≡ string_bytes pointer.now.namespace) × (p.id ≡ pointer.now.id)) }
+    ensures { IfOk result
+        (λ p. (string_bytes p.namespace ≡ string_bytes pointer.now.namespace)
+        × (p.id ≡ pointer.now.id)) }
 {
     Ok(DbPointer {
         namespace: pointer.namespace.clone()?,
@@ -163,7 +167,7 @@ impl Clone for RawBson {
     }
 }
 
-fn binary_ref(binary: &Binary) -> RawBinaryRef<'_>
+pub(crate) fn binary_ref(binary: &Binary) -> RawBinaryRef<'_>
     ensures { binary_parts result ≡ (binary.now.subtype, binary.now.bytes.items) }
 {
     RawBinaryRef {
@@ -172,8 +176,9 @@ fn binary_ref(binary: &Binary) -> RawBinaryRef<'_>
     }
 }
 
-fn regex_ref(regex: &Regex) -> RawRegexRef<'_>
-    ensures { regex_parts result ≡ (string_bytes regex.now.pattern, string_bytes regex.now.options) }
+pub(crate) fn regex_ref(regex: &Regex) -> RawRegexRef<'_>
+    ensures { regex_parts result
+        ≡ (string_bytes regex.now.pattern, string_bytes regex.now.options) }
 {
     RawRegexRef {
         pattern: regex.pattern.as_str(),
@@ -181,8 +186,9 @@ fn regex_ref(regex: &Regex) -> RawRegexRef<'_>
     }
 }
 
-fn pointer_ref(pointer: &DbPointer) -> RawDbPointerRef<'_>
-    ensures { pointer_parts result ≡ (string_bytes pointer.now.namespace, bytes_of_object_id pointer.now.id) }
+pub(crate) fn pointer_ref(pointer: &DbPointer) -> RawDbPointerRef<'_>
+    ensures { pointer_parts result
+        ≡ (string_bytes pointer.now.namespace, bytes_of_object_id pointer.now.id) }
 {
     RawDbPointerRef::new(pointer.namespace.as_str(), pointer.id)
 }
@@ -257,10 +263,7 @@ impl RawBson {
         ensures copied { IfOk result (λ v. owned_value v ≡ single (string text.now)) }
         ensures err { IfErr result IsOutOfMemory }
     {
-        match String::from_str(alloc, text) {
-            Ok(text) => Ok(RawBson::String(text)),
-            Err(AllocError) => Err(Error::new(ErrorKind::OutOfMemory)),
-        }
+        Ok(RawBson::String(String::from_str(alloc, text)?))
     }
 
     /// The array, to change it; `None` for every other kind. The value stays an array.
@@ -283,340 +286,5 @@ impl RawBson {
             RawBson::Document(x) => Some(x),
             _ => None,
         }
-    }
-
-    /// The value of this kind: the double; `None` for every other kind.
-    pub fn as_f64(&self) -> Option<DoubleBits>
-        ensures { result ≡ accessors.as_f64 self.now }
-    {
-        match self {
-            RawBson::Double(x) => Some(*x),
-            _ => None,
-        }
-    }
-
-    /// The value of this kind: the text; `None` for every other kind.
-    pub fn as_str(&self) -> Option<&str>
-        ensures { option_copied result ≡ accessors.as_str self.now }
-    {
-        match self {
-            RawBson::String(x) => Some(x.as_str()),
-            _ => None,
-        }
-    }
-
-    /// The value of this kind: the array; `None` for every other kind.
-    pub fn as_array(&self) -> Option<RawArray<'_>>
-        ensures { option_map array_bytes_of result ≡ accessors.as_array self.now }
-    {
-        match self {
-            RawBson::Array(x) => Some(x.as_ref()),
-            _ => None,
-        }
-    }
-
-    /// The value of this kind: the nested document; `None` for every other kind.
-    pub fn as_document(&self) -> Option<RawDocument<'_>>
-        ensures { option_map bytes_of result ≡ accessors.as_document self.now }
-    {
-        match self {
-            RawBson::Document(x) => Some(x.as_ref()),
-            _ => None,
-        }
-    }
-
-    /// The value of this kind: the boolean; `None` for every other kind.
-    pub fn as_bool(&self) -> Option<bool>
-        ensures { result ≡ accessors.as_bool self.now }
-    {
-        match self {
-            RawBson::Boolean(x) => Some(*x),
-            _ => None,
-        }
-    }
-
-    /// The value of this kind: the number; `None` for every other kind.
-    pub fn as_i32(&self) -> Option<i32>
-        ensures { result ≡ accessors.as_i32 self.now }
-    {
-        match self {
-            RawBson::Int32(x) => Some(*x),
-            _ => None,
-        }
-    }
-
-    /// The value of this kind: the number; `None` for every other kind.
-    pub fn as_i64(&self) -> Option<i64>
-        ensures { result ≡ accessors.as_i64 self.now }
-    {
-        match self {
-            RawBson::Int64(x) => Some(*x),
-            _ => None,
-        }
-    }
-
-    /// The value of this kind: the identifier; `None` for every other kind.
-    pub fn as_object_id(&self) -> Option<ObjectId>
-        ensures { result ≡ accessors.as_object_id self.now }
-    {
-        match self {
-            RawBson::ObjectId(x) => Some(*x),
-            _ => None,
-        }
-    }
-
-    /// The value of this kind: the bytes and their subtype; `None` for every other kind.
-    pub fn as_binary(&self) -> Option<RawBinaryRef<'_>>
-        ensures { option_map binary_parts result ≡ accessors.as_binary self.now }
-    {
-        match self {
-            RawBson::Binary(x) => Some(binary_ref(x)),
-            _ => None,
-        }
-    }
-
-    /// The value of this kind: the pattern and the options; `None` for every other kind.
-    pub fn as_regex(&self) -> Option<RawRegexRef<'_>>
-        ensures { option_map regex_parts result ≡ accessors.as_regex self.now }
-    {
-        match self {
-            RawBson::RegularExpression(x) => Some(regex_ref(x)),
-            _ => None,
-        }
-    }
-
-    /// The value of this kind: the time; `None` for every other kind.
-    pub fn as_datetime(&self) -> Option<DateTime>
-        ensures { result ≡ accessors.as_datetime self.now }
-    {
-        match self {
-            RawBson::DateTime(x) => Some(*x),
-            _ => None,
-        }
-    }
-
-    /// The value of this kind: the symbol's text; `None` for every other kind.
-    pub fn as_symbol(&self) -> Option<&str>
-        ensures { option_copied result ≡ accessors.as_symbol self.now }
-    {
-        match self {
-            RawBson::Symbol(x) => Some(x.as_str()),
-            _ => None,
-        }
-    }
-
-    /// The value of this kind: the timestamp; `None` for every other kind.
-    pub fn as_timestamp(&self) -> Option<Timestamp>
-        ensures { result ≡ accessors.as_timestamp self.now }
-    {
-        match self {
-            RawBson::Timestamp(x) => Some(*x),
-            _ => None,
-        }
-    }
-
-    /// `Some` exactly for null.
-    pub fn as_null(&self) -> Option<()>
-        ensures { result ≡ accessors.as_null self.now }
-    {
-        match self {
-            RawBson::Null => Some(()),
-            _ => None,
-        }
-    }
-
-    /// The value of this kind: the pointer; `None` for every other kind.
-    pub fn as_db_pointer(&self) -> Option<RawDbPointerRef<'_>>
-        ensures { option_map pointer_parts result ≡ accessors.as_db_pointer self.now }
-    {
-        match self {
-            RawBson::DbPointer(x) => Some(pointer_ref(x)),
-            _ => None,
-        }
-    }
-
-    /// The value of this kind: the code; `None` for every other kind.
-    pub fn as_javascript(&self) -> Option<&str>
-        ensures { option_copied result ≡ accessors.as_javascript self.now }
-    {
-        match self {
-            RawBson::JavaScriptCode(x) => Some(x.as_str()),
-            _ => None,
-        }
-    }
-
-    /// The value of this kind: the code and its scope; `None` for every other kind.
-    pub fn as_javascript_with_scope(&self) -> Option<RawJavaScriptCodeWithScopeRef<'_>>
-        ensures { option_map scope_parts result ≡ accessors.as_javascript_with_scope self.now }
-    {
-        match self {
-            RawBson::JavaScriptCodeWithScope(x) => Some(x.as_ref()),
-            _ => None,
-        }
-    }
-}
-
-impl From<i32> for RawBson {
-    ghost use Rattle.std.specs.Prelude.{◌≡◌};
-    ghost use Rattle.raw_bson.specs.declared.bson.RawBson.TheVariants as own;
-
-    ghost from_gives = { λ x r. r ≡ own.Int32 x };
-
-    fn from(value: i32) -> RawBson {
-        RawBson::Int32(value)
-    }
-}
-
-impl From<i64> for RawBson {
-    ghost use Rattle.std.specs.Prelude.{◌≡◌};
-    ghost use Rattle.raw_bson.specs.declared.bson.RawBson.TheVariants as own;
-
-    ghost from_gives = { λ x r. r ≡ own.Int64 x };
-
-    fn from(value: i64) -> RawBson {
-        RawBson::Int64(value)
-    }
-}
-
-impl From<String> for RawBson {
-    ghost use Rattle.std.specs.Prelude.{◌≡◌};
-    ghost use Rattle.raw_bson.specs.declared.bson.RawBson.TheVariants as own;
-
-    ghost from_gives = { λ x r. r ≡ own.String x };
-
-    fn from(value: String) -> RawBson {
-        RawBson::String(value)
-    }
-}
-
-impl From<DoubleBits> for RawBson {
-    ghost use Rattle.std.specs.Prelude.{◌≡◌};
-    ghost use Rattle.raw_bson.specs.declared.bson.RawBson.TheVariants as own;
-
-    ghost from_gives = { λ x r. r ≡ own.Double x };
-
-    fn from(value: DoubleBits) -> RawBson {
-        RawBson::Double(value)
-    }
-}
-
-impl From<bool> for RawBson {
-    ghost use Rattle.std.specs.Prelude.{◌≡◌};
-    ghost use Rattle.raw_bson.specs.declared.bson.RawBson.TheVariants as own;
-
-    ghost from_gives = { λ x r. r ≡ own.Boolean x };
-
-    fn from(value: bool) -> RawBson {
-        RawBson::Boolean(value)
-    }
-}
-
-impl From<RawDocumentBuf> for RawBson {
-    ghost use Rattle.std.specs.Prelude.{◌≡◌};
-    ghost use Rattle.raw_bson.specs.declared.bson.RawBson.TheVariants as own;
-
-    ghost from_gives = { λ x r. r ≡ own.Document x };
-
-    fn from(value: RawDocumentBuf) -> RawBson {
-        RawBson::Document(value)
-    }
-}
-
-impl From<RawArrayBuf> for RawBson {
-    ghost use Rattle.std.specs.Prelude.{◌≡◌};
-    ghost use Rattle.raw_bson.specs.declared.bson.RawBson.TheVariants as own;
-
-    ghost from_gives = { λ x r. r ≡ own.Array x };
-
-    fn from(value: RawArrayBuf) -> RawBson {
-        RawBson::Array(value)
-    }
-}
-
-impl From<DateTime> for RawBson {
-    ghost use Rattle.std.specs.Prelude.{◌≡◌};
-    ghost use Rattle.raw_bson.specs.declared.bson.RawBson.TheVariants as own;
-
-    ghost from_gives = { λ x r. r ≡ own.DateTime x };
-
-    fn from(value: DateTime) -> RawBson {
-        RawBson::DateTime(value)
-    }
-}
-
-impl From<Timestamp> for RawBson {
-    ghost use Rattle.std.specs.Prelude.{◌≡◌};
-    ghost use Rattle.raw_bson.specs.declared.bson.RawBson.TheVariants as own;
-
-    ghost from_gives = { λ x r. r ≡ own.Timestamp x };
-
-    fn from(value: Timestamp) -> RawBson {
-        RawBson::Timestamp(value)
-    }
-}
-
-impl From<ObjectId> for RawBson {
-    ghost use Rattle.std.specs.Prelude.{◌≡◌};
-    ghost use Rattle.raw_bson.specs.declared.bson.RawBson.TheVariants as own;
-
-    ghost from_gives = { λ x r. r ≡ own.ObjectId x };
-
-    fn from(value: ObjectId) -> RawBson {
-        RawBson::ObjectId(value)
-    }
-}
-
-impl From<Decimal128> for RawBson {
-    ghost use Rattle.std.specs.Prelude.{◌≡◌};
-    ghost use Rattle.raw_bson.specs.declared.bson.RawBson.TheVariants as own;
-
-    ghost from_gives = { λ x r. r ≡ own.Decimal128 x };
-
-    fn from(value: Decimal128) -> RawBson {
-        RawBson::Decimal128(value)
-    }
-}
-
-impl From<RawJavaScriptCodeWithScope> for RawBson {
-    ghost use Rattle.std.specs.Prelude.{◌≡◌};
-    ghost use Rattle.raw_bson.specs.declared.bson.RawBson.TheVariants as own;
-
-    ghost from_gives = { λ x r. r ≡ own.JavaScriptCodeWithScope x };
-
-    fn from(value: RawJavaScriptCodeWithScope) -> RawBson {
-        RawBson::JavaScriptCodeWithScope(value)
-    }
-}
-
-impl From<Binary> for RawBson {
-    ghost use Rattle.std.specs.Prelude.{◌≡◌};
-    ghost use Rattle.raw_bson.specs.declared.bson.RawBson.TheVariants as own;
-
-    ghost from_gives = { λ x r. r ≡ own.Binary x };
-
-    fn from(value: Binary) -> RawBson {
-        RawBson::Binary(value)
-    }
-}
-
-impl From<Regex> for RawBson {
-    ghost use Rattle.std.specs.Prelude.{◌≡◌};
-    ghost use Rattle.raw_bson.specs.declared.bson.RawBson.TheVariants as own;
-
-    ghost from_gives = { λ x r. r ≡ own.RegularExpression x };
-
-    fn from(value: Regex) -> RawBson {
-        RawBson::RegularExpression(value)
-    }
-}
-
-impl From<DbPointer> for RawBson {
-    ghost use Rattle.std.specs.Prelude.{◌≡◌};
-    ghost use Rattle.raw_bson.specs.declared.bson.RawBson.TheVariants as own;
-
-    ghost from_gives = { λ x r. r ≡ own.DbPointer x };
-
-    fn from(value: DbPointer) -> RawBson {
-        RawBson::DbPointer(value)
     }
 }

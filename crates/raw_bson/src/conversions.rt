@@ -11,9 +11,9 @@ ghost use Rattle.raw_bson.specs.Conversion.{BecomesBson, BecomesOneTree, Becomes
 ghost use Rattle.raw_bson.specs.Owned.{owned_value};
 
 use crate::array_buf::RawArrayBuf;
-use crate::attest::attest_one_tree;
 use crate::bson::{RawBson, RawJavaScriptCodeWithScope};
 use crate::document_buf::RawDocumentBuf;
+use crate::laws::attest_one_tree;
 use bson_model::{Bson, Document, JavaScriptCodeWithScope};
 use raw_tree::{document_from_raw, encode, encode_list, list_from_raw};
 use raw_view::Result;
@@ -88,7 +88,9 @@ fn owned_document(alloc: Global, document: Document) -> Result<RawBson>
 
 /// The code with the bytes of its scope, which is dropped.
 fn owned_code(alloc: Global, code: JavaScriptCodeWithScope) -> Result<RawBson>
-    ensures { BecomesRawBson (code_with_scope (string_bytes code.code) (entries (with_trees (pairs_of code.scope)))) result }
+    ensures { BecomesRawBson
+        (code_with_scope (string_bytes code.code) (entries (with_trees (pairs_of code.scope))))
+        result }
 {
     let scope = RawDocumentBuf::from_document(alloc, &code.scope)?;
     let code = code.code;

@@ -13,10 +13,10 @@ use crate::bson::{RawBson, RawJavaScriptCodeWithScope};
 use crate::document_buf::RawDocumentBuf;
 use bson_model::{DbPointer, Regex};
 use raw_view::{
-    Error, ErrorKind, RawArray, RawBsonRef, RawDbPointerRef, RawDocument, RawElement,
-    RawJavaScriptCodeWithScopeRef, RawRegexRef, Result,
+    RawArray, RawBsonRef, RawDbPointerRef, RawDocument, RawElement, RawJavaScriptCodeWithScopeRef,
+    RawRegexRef, Result,
 };
-use std::alloc::{AllocError, Global};
+use std::alloc::Global;
 
 /// A copy of a view of a document.
 pub trait ToRawDocumentBuf {
@@ -38,31 +38,12 @@ pub trait ToRawBson {
     fn to_raw_bson(self, alloc: Global) -> Result<RawBson>;
 }
 
-fn out_of_memory() -> Error
-    ensures { IsOutOfMemory result }
-{
-    Error::new(ErrorKind::OutOfMemory)
-}
-
-fn copy_text(alloc: Global, text: &str) -> Result<String>
-    ensures copied { IfOk result (λ copy. string_bytes copy ≡ text.now) }
-    ensures err { IfErr result IsOutOfMemory }
-{
-    match String::from_str(alloc, text) {
-        Ok(copy) => Ok(copy),
-        Err(AllocError) => Err(out_of_memory()),
-    }
-}
-
 impl ToRawDocumentBuf for RawDocument<'_> {
     fn to_raw_document_buf(self, alloc: Global) -> Result<RawDocumentBuf>
         ensures copied { IfOk result (λ copy. copy ≡ bytes_of self.entry) }
         ensures err { IfErr result IsOutOfMemory }
     {
-        match Vec::from_slice(alloc, self.as_bytes()) {
-            Ok(bytes) => RawDocumentBuf::from_bytes(bytes),
-            Err(AllocError) => Err(out_of_memory()),
-        }
+        RawDocumentBuf::from_bytes(Vec::from_slice(alloc, self.as_bytes())?)
     }
 }
 
@@ -89,10 +70,7 @@ fn copy_regex(alloc: Global, regex: RawRegexRef<'_>) -> Result<RawBson>
     ensures copied { IfOk result (IsCopy (value_of (ref.RegularExpression regex.entry))) }
     ensures err { IfErr result IsOutOfMemory }
 {
-    match Regex::new(alloc, regex.pattern, regex.options) {
-        Ok(regex) => Ok(RawBson::RegularExpression(regex)),
-        Err(_) => Err(out_of_memory()),
-    }
+    Ok(RawBson::RegularExpression(Regex::new(alloc, regex.pattern, regex.options)?))
 }
 
 fn copy_pointer(alloc: Global, pointer: RawDbPointerRef<'_>) -> Result<RawBson>
@@ -100,7 +78,7 @@ fn copy_pointer(alloc: Global, pointer: RawDbPointerRef<'_>) -> Result<RawBson>
     ensures err { IfErr result IsOutOfMemory }
 {
     Ok(RawBson::DbPointer(DbPointer {
-        namespace: copy_text(alloc, pointer.namespace())?,
+        namespace: String::from_str(alloc, pointer.namespace())?,
         id: pointer.id(),
     }))
 }
@@ -110,7 +88,7 @@ fn copy_code(alloc: Global, code: RawJavaScriptCodeWithScopeRef<'_>) -> Result<R
     ensures err { IfErr result IsOutOfMemory }
 {
     Ok(RawBson::JavaScriptCodeWithScope(RawJavaScriptCodeWithScope {
-        code: copy_text(alloc, code.code)?,
+        code: String::from_str(alloc, code.code)?,
         scope: code.scope.to_raw_document_buf(alloc)?,
     }))
 }
@@ -122,13 +100,15 @@ impl ToRawBson for RawBsonRef<'_> {
     {
         match self {
             RawBsonRef::Double(x) => Ok(RawBson::Double(x)),
-            RawBsonRef::String(x) => Ok(RawBson::String(copy_text(alloc, x)?)),
+            RawBsonRef::String(x) => Ok(RawBson::String(String::from_str(alloc, x)?)),
             RawBsonRef::Array(x) => Ok(RawBson::Array(x.to_raw_array_buf(alloc)?)),
             RawBsonRef::Document(x) => Ok(RawBson::Document(x.to_raw_document_buf(alloc)?)),
             RawBsonRef::Boolean(x) => Ok(RawBson::Boolean(x)),
             RawBsonRef::Null => Ok(RawBson::Null),
             RawBsonRef::RegularExpression(x) => copy_regex(alloc, x),
-            RawBsonRef::JavaScriptCode(x) => Ok(RawBson::JavaScriptCode(copy_text(alloc, x)?)),
+            RawBsonRef::JavaScriptCode(x) => Ok(RawBson::JavaScriptCode(String::from_str(
+                alloc, x,
+            )?)),
             RawBsonRef::JavaScriptCodeWithScope(x) => copy_code(alloc, x),
             RawBsonRef::Int32(x) => Ok(RawBson::Int32(x)),
             RawBsonRef::Int64(x) => Ok(RawBson::Int64(x)),
@@ -136,7 +116,7 @@ impl ToRawBson for RawBsonRef<'_> {
             RawBsonRef::Binary(x) => Ok(RawBson::Binary(x.to_binary(alloc)?)),
             RawBsonRef::ObjectId(x) => Ok(RawBson::ObjectId(x)),
             RawBsonRef::DateTime(x) => Ok(RawBson::DateTime(x)),
-            RawBsonRef::Symbol(x) => Ok(RawBson::Symbol(copy_text(alloc, x)?)),
+            RawBsonRef::Symbol(x) => Ok(RawBson::Symbol(String::from_str(alloc, x)?)),
             RawBsonRef::Decimal128(x) => Ok(RawBson::Decimal128(x)),
             RawBsonRef::Undefined => Ok(RawBson::Undefined),
             RawBsonRef::MaxKey => Ok(RawBson::MaxKey),

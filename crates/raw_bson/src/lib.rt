@@ -2,30 +2,29 @@
 //! crate that a user names: it passes on the public items of the crates below.
 #![tactic(auto)]
 
+mod accessors;
 mod appending;
 mod array_buf;
-mod attest;
 mod bson;
 mod canonical;
 mod conversions;
 mod copies;
 mod cow;
 mod document_buf;
-mod hex_digits;
-mod laws;
+mod document_readers;
+mod from;
+pub mod laws;
 
 pub use array_buf::RawArrayBuf;
 pub use bson::{RawBson, RawJavaScriptCodeWithScope};
 pub use bson_model::{
     Binary, BinarySubtype, Bson, DateTime, DbPointer, Decimal128, Document, DoubleBits,
-    JavaScriptCodeWithScope, NoMemory, ObjectId, Regex, Timestamp, attest_document, attest_list,
-    attest_value, is_same_document, is_same_tree,
+    JavaScriptCodeWithScope, NoMemory, ObjectId, Regex, Timestamp,
 };
 pub use canonical::canonical_bytes;
 pub use copies::{ToRawArrayBuf, ToRawBson, ToRawDocumentBuf};
 pub use cow::{CowRawArray, CowRawDocument};
 pub use document_buf::RawDocumentBuf;
-pub use laws::{is_same_array_buf, is_same_code, is_same_document_buf, is_same_value};
 pub use raw_tree::{
     bson_from_element, bson_from_raw, document_from_raw, encode, encode_list, list_from_raw,
     total_len,
@@ -34,5 +33,4 @@ pub use raw_view::{
     ElementType, Error, ErrorKind, Iter, RawArray, RawArrayIter, RawBinaryRef, RawBsonRef,
     RawDbPointerRef, RawDocument, RawElement, RawIter, RawJavaScriptCodeWithScopeRef, RawRegexRef,
     Reason, Result, ValueAccessError, ValueAccessErrorKind, ValueAccessResult,
-    is_same_array as is_same_array_view, is_same_document as is_same_view,
 };

@@ -1,13 +1,8 @@
 -- The bytes that values are written as.
-use Rattle.std.specs.Prelude.{◌≡◌, ◌⊎◌, ◌<◌, ◌≤◌, None, ℕ, List, length}
+use Rattle.std.specs.Prelude.{ℕ, List}
 use Rattle.bson_model.specs.Proper.{IsLeafNulFree}
-use Rattle.raw_view.specs.Errors.{IsMalformed, key_of}
 use Rattle.raw_view.specs.Format.{leaf_payload, scoped_payload, element_of}
 use Rattle.raw_view.specs.Meaning.{RawValue, single, document, array, scoped, kind_of_raw}
-use Rattle.raw_view.specs.Number.{max_length}
-use Rattle.raw_view.specs.declared.error.Error.{Error}
-use Rattle.raw_view.specs.declared.error.ErrorKind.TheVariants.{OutOfMemory}
-use Rattle.raw_view.specs.declared.error.Reason.TheVariants.{TooLong}
 
 -- the payload of a value; a nested document, an array and a scope are their bytes
 abbrev pub payload_of : RawValue → List ℕ
@@ -24,7 +19,3 @@ element_bytes key v = element_of (kind_of_raw v) key (payload_of v)
 abbrev pub IsValueNulFree : RawValue → Type 0
 IsValueNulFree (single leaf) = IsLeafNulFree leaf
 IsValueNulFree _ = Unit {0}
-
--- why a value's payload isn't written, without a key: it is too long; or memory ran out
-abbrev pub RefusesPayload : RawValue → Error → Type 0
-RefusesPayload v e = (IsMalformed e.kind (λ r. (r ≡ TooLong) × (max_length < length (payload_of v))) ⊎ ((e.kind ≡ OutOfMemory) × (length (payload_of v) ≤ max_length))) × (key_of e ≡ None)

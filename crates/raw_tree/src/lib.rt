@@ -1,12 +1,15 @@
 //! Trees of BSON values from bytes, and the bytes that values and trees are written as.
 #![tactic(auto)]
 
+mod judging;
 mod payload;
+mod put;
 mod reading;
 mod total;
 mod writing;
 
-pub use payload::{append_payload, is_nul_free, is_value_nul_free, payload_len};
+pub use payload::{is_nul_free, is_value_nul_free, payload_len};
+pub use put::{put_element, set_len};
 pub use reading::{bson_from_element, bson_from_raw, document_from_raw, list_from_raw};
 pub use total::total_len;
 pub use writing::{encode, encode_list};

@@ -41,7 +41,10 @@ fn copied(alloc: Global, text: &str) -> Result<String>
 
 /// The regular expression with its options in order.
 fn regex_from(alloc: Global, regex: RawRegexRef<'_>) -> Result<Bson>
-    ensures tree { IfOk result (λ t. tree_of t ≡ leaf (regular_expression regex.entry.pattern.now (sorted_options regex.entry.options.now))) }
+    ensures tree { IfOk result
+        (λ t. tree_of t
+        ≡ leaf
+        (regular_expression regex.entry.pattern.now (sorted_options regex.entry.options.now))) }
     ensures err { IfErr result IsOutOfMemory }
 {
     match Regex::new(alloc, regex.pattern, regex.options) {
@@ -51,7 +54,8 @@ fn regex_from(alloc: Global, regex: RawRegexRef<'_>) -> Result<Bson>
 }
 
 fn pointer_from(alloc: Global, pointer: RawDbPointerRef<'_>) -> Result<Bson>
-    ensures tree { IfOk result (λ t. tree_of t ≡ leaf (db_pointer (namespace_of pointer.entry) (id_of pointer.entry))) }
+    ensures tree { IfOk result
+        (λ t. tree_of t ≡ leaf (db_pointer (namespace_of pointer.entry) (id_of pointer.entry))) }
     ensures err { IfErr result IsOutOfMemory }
 {
     Ok(Bson::DbPointer(DbPointer {
@@ -62,7 +66,8 @@ fn pointer_from(alloc: Global, pointer: RawDbPointerRef<'_>) -> Result<Bson>
 
 /// Puts a pair last, or where its key stands; the only error is want of memory.
 fn put_pair(alloc: Global, tree: &mut Document, key: &str, value: Bson) -> Result<()>
-    ensures put { OnOk result (with_trees (pairs_of tree.new) ≡ with_pair key.now (tree_of value) (with_trees (pairs_of tree.old))) }
+    ensures put { OnOk result (with_trees (pairs_of tree.new)
+        ≡ with_pair key.now (tree_of value) (with_trees (pairs_of tree.old))) }
     ensures err { IfErr result IsOutOfMemory }
 {
     match tree.insert(copied(alloc, key)?, value) {
@@ -74,7 +79,9 @@ fn put_pair(alloc: Global, tree: &mut Document, key: &str, value: Bson) -> Resul
 /// The code and the tree of its scope.
 #[cycle(reading)]
 fn read_code(alloc: Global, code: RawJavaScriptCodeWithScopeRef<'_>) -> Result<Bson>
-    ensures tree { IfOk result (λ t. StandsFor ReadsAs (scoped code.entry.code.now (bytes_of code.entry.scope)) (tree_of t)) }
+    ensures tree { IfOk result
+        (λ t. StandsFor ReadsAs
+        (scoped code.entry.code.now (bytes_of code.entry.scope)) (tree_of t)) }
     ensures fault { IfErr result (TellsFirstFault (bytes_of code.entry.scope)) }
 {
     let scope = read_document(alloc, code.scope)?;
@@ -137,7 +144,8 @@ fn read_document(alloc: Global, document: RawDocument<'_>) -> Result<Document>
 
 #[cycle(reading)]
 fn read_list(alloc: Global, array: RawArray<'_>) -> Result<Vec<Bson>>
-    ensures tree { IfOk result (λ list. ReadsAs as_array (array_bytes_of array.entry) (tree_of_list list.items)) }
+    ensures tree { IfOk result
+        (λ list. ReadsAs as_array (array_bytes_of array.entry) (tree_of_list list.items)) }
     ensures fault { IfErr result (TellsFirstFault (array_bytes_of array.entry)) }
 {
     let mut list = Vec::new(alloc);
@@ -167,7 +175,8 @@ pub fn document_from_raw(alloc: Global, document: RawDocument<'_>) -> Result<Doc
 /// The values of an array in order; its keys are left away. It refuses what `document_from_raw` does, and
 /// the same holds of every array. BSON 1.1, `array`.
 pub fn list_from_raw(alloc: Global, array: RawArray<'_>) -> Result<Vec<Bson>>
-    ensures tree { IfOk result (λ list. ReadsAs as_array (array_bytes_of array.entry) (tree_of_list list.items)) }
+    ensures tree { IfOk result
+        (λ list. ReadsAs as_array (array_bytes_of array.entry) (tree_of_list list.items)) }
     ensures fault { IfErr result (TellsFirstFault (array_bytes_of array.entry)) }
     ensures one_reading { AllAreReadOneWay as_array }
     ensures one_spelling { AllAreSpelledOneWay as_array }

@@ -1,5 +1,5 @@
 -- Typed access: what a getter answers for what a look-up finds.
-use Rattle.std.specs.Prelude.{◌≡◌, ◌≢◌, ◌⊎◌, ℕ, List, [], Option, None, Some, Result, Ok, Err}
+use Rattle.std.specs.Prelude.{◌≡◌, ◌≢◌, ◌⊎◌, ℕ, List, [], Option, None, Some, Result, Ok, Err, decimal}
 use Rattle.std.specs.String.{string_bytes}
 use Rattle.raw_view.specs.declared.element_type.ElementType.{ElementType}
 use Rattle.raw_view.specs.declared.error.Error.{Error}
@@ -10,6 +10,7 @@ use Rattle.raw_view.specs.declared.access.ValueAccessErrorKind.TheVariants as ac
 use Rattle.raw_view.specs.Meaning.{RawValue, kind_of_raw, KeyedFault, Meaning, value, faulty}
 use Rattle.raw_view.specs.Answers.{Says}
 use Rattle.raw_view.specs.Errors.{IsSameError}
+use Rattle.raw_view.specs.LookUp.{LooksUp, IsAt}
 use Rattle.raw_view.specs.Value.{value_of}
 use Rattle.raw_view.specs.declared.bson_ref.RawBsonRef.{RawBsonRef}
 
@@ -50,6 +51,14 @@ module _ {T : Type 0} where
   abbrev pub Gets : (T → RawValue) → ElementType → List ℕ → Option Meaning → Result T ValueAccessError → Type 0
   Gets value_as expected key found (Ok x) = found ≡ Some (value (value_as x))
   Gets value_as expected key found (Err e) = IsAccessFault expected found e.kind × HasKeyAsked e.kind key (key_asked e)
+
+  -- what a getter answers that looks up a key in the document b
+  abbrev pub GetsByKey : (T → RawValue) → ElementType → List ℕ → List ℕ → Result T ValueAccessError → Type 0
+  GetsByKey value_as expected b key answer = (found : Option Meaning) × LooksUp b key found × Gets value_as expected key found answer
+
+  -- what a getter answers that looks up a position in the document b; it carries the index in decimal
+  abbrev pub GetsAt : (T → RawValue) → ElementType → List ℕ → ℕ → Result T ValueAccessError → Type 0
+  GetsAt value_as expected b index answer = (found : Option Meaning) × IsAt b index found × Gets value_as expected (decimal index) found answer
 
 -- why a getter for this kind has no value for what a look-up answers
 abbrev pub IsTypedFault : ElementType → Result (Option RawBsonRef) Error → ValueAccessErrorKind → Type 0

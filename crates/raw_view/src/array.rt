@@ -1,12 +1,13 @@
 ghost use Rattle.std.specs.Prelude.{◌≡◌, ◌↔◌, IsTrue, Some, length, drop, [], ◌∷◌};
 
-use crate::access::{Typed, ValueAccessResult, typed_at_index};
+use crate::access::ValueAccessResult;
 use crate::bson_ref::{RawBinaryRef, RawBsonRef, RawRegexRef};
 use crate::document::RawDocument;
 use crate::elements::Elements;
 use crate::error::Result;
 use crate::hex_digits::HexDigits;
 use crate::iter::RawArrayIter;
+use crate::typed::{Typed, typed_at_index};
 use bson_model::{DateTime, DoubleBits, ObjectId, Timestamp};
 use std::alloc::Global;
 use std::fmt;
@@ -21,7 +22,7 @@ impl<'a> RawArray<'a> {
     ghost use Rattle.std.specs.Prelude.{List, Option, Result};
     ghost use Rattle.std.specs.Iterator.{Drains};
     ghost use Rattle.std.specs.Fmt.{decimal};
-    ghost use Rattle.raw_view.specs.Access.{Gets};
+    ghost use Rattle.raw_view.specs.Access.{GetsAt};
     ghost use Rattle.raw_view.specs.Typed as typed;
     ghost use Rattle.raw_view.specs.declared.element_type.ElementType.TheVariants as variants;
     ghost use Rattle.raw_view.specs.Answers.{StepsItems, TellsEach, TellsFound, TellsValue};
@@ -71,7 +72,9 @@ impl<'a> RawArray<'a> {
     /// (n - 4) / 2 + 1 items. The bytes alone determine what the items are.
     pub fn iter(self, alloc: Global) -> RawArrayIter<'a>
         ensures begins { result ≡ Some (drop 4 (array_bytes_of self.entry)) }
-        ensures items { (outs : List (Result RawBsonRef Error)) → Drains (StepsItems TellsValue) result outs → (items : List Item) × AreItems (array_bytes_of self.entry) items × TellsEach TellsValue outs items }
+        ensures items { (outs : List (Result RawBsonRef Error)) →
+            Drains (StepsItems TellsValue) result outs → (items : List Item)
+            × AreItems (array_bytes_of self.entry) items × TellsEach TellsValue outs items }
         ensures one_list { (items : List Item) × AreTheItems (array_bytes_of self.entry) items }
     {
         RawArrayIter::new(alloc, self.document)
@@ -81,8 +84,10 @@ impl<'a> RawArray<'a> {
     /// the last item, so past a stop, `None`. Nothing is looked into or copied of the items before it.
     /// The bytes and the place alone determine what is found.
     pub fn get(self, alloc: Global, index: usize) -> Result<Option<RawBsonRef<'a>>>
-        ensures found { (found : Option Meaning) × IsAt (array_bytes_of self.entry) index found × TellsFound result found }
-        ensures one_answer { (found : Option Meaning) × IsTheAnswerAt (array_bytes_of self.entry) index found }
+        ensures found { (found : Option Meaning) × IsAt (array_bytes_of self.entry) index found
+            × TellsFound result found }
+        ensures one_answer { (found : Option Meaning)
+            × IsTheAnswerAt (array_bytes_of self.entry) index found }
     {
         match Elements::new(self.document).nth(index) {
             None => Ok(None),
@@ -96,91 +101,98 @@ impl<'a> RawArray<'a> {
 
     /// What a typed getter answers.
     fn get_typed<T: Typed<'a>>(self, alloc: Global, index: usize) -> ValueAccessResult<T>
-        ensures { (found : Option Meaning) × IsAt (array_bytes_of self.entry) index found × Gets T.value_as T.kind (decimal index) found result }
+        ensures { GetsAt T.value_as T.kind (array_bytes_of self.entry) index result }
     {
         typed_at_index(alloc, self.get(alloc, index), index)
     }
 
     /// The 64 bits of a double at this place, counted from 0; else why there is none, with the index in decimal.
     pub fn get_f64(self, alloc: Global, index: usize) -> ValueAccessResult<DoubleBits>
-        ensures { (found : Option Meaning) × IsAt (array_bytes_of self.entry) index found × Gets typed.f64_value variants.Double (decimal index) found result }
+        ensures { GetsAt typed.f64_value variants.Double (array_bytes_of self.entry) index result }
     {
         self.get_typed::<DoubleBits>(alloc, index)
     }
 
     /// The text of a string at this place, counted from 0; else why there is none, with the index in decimal.
     pub fn get_str(self, alloc: Global, index: usize) -> ValueAccessResult<&'a str>
-        ensures { (found : Option Meaning) × IsAt (array_bytes_of self.entry) index found × Gets typed.str_value variants.String (decimal index) found result }
+        ensures { GetsAt typed.str_value variants.String (array_bytes_of self.entry) index result }
     {
         self.get_typed::<&'a str>(alloc, index)
     }
 
     /// A nested document at this place, counted from 0; else why there is none, with the index in decimal.
     pub fn get_document(self, alloc: Global, index: usize) -> ValueAccessResult<RawDocument<'a>>
-        ensures { (found : Option Meaning) × IsAt (array_bytes_of self.entry) index found × Gets typed.document_value variants.EmbeddedDocument (decimal index) found result }
+        ensures { GetsAt typed.document_value variants.EmbeddedDocument
+            (array_bytes_of self.entry) index result }
     {
         self.get_typed::<RawDocument<'a>>(alloc, index)
     }
 
     /// An array at this place, counted from 0; else why there is none, with the index in decimal.
     pub fn get_array(self, alloc: Global, index: usize) -> ValueAccessResult<RawArray<'a>>
-        ensures { (found : Option Meaning) × IsAt (array_bytes_of self.entry) index found × Gets typed.array_value variants.Array (decimal index) found result }
+        ensures { GetsAt typed.array_value variants.Array (array_bytes_of self.entry) index result }
     {
         self.get_typed::<RawArray<'a>>(alloc, index)
     }
 
     /// Bytes and their subtype at this place, counted from 0; else why there is none, with the index in decimal.
     pub fn get_binary(self, alloc: Global, index: usize) -> ValueAccessResult<RawBinaryRef<'a>>
-        ensures { (found : Option Meaning) × IsAt (array_bytes_of self.entry) index found × Gets typed.binary_value variants.Binary (decimal index) found result }
+        ensures { GetsAt typed.binary_value variants.Binary
+            (array_bytes_of self.entry) index result }
     {
         self.get_typed::<RawBinaryRef<'a>>(alloc, index)
     }
 
     /// An ObjectId at this place, counted from 0; else why there is none, with the index in decimal.
     pub fn get_object_id(self, alloc: Global, index: usize) -> ValueAccessResult<ObjectId>
-        ensures { (found : Option Meaning) × IsAt (array_bytes_of self.entry) index found × Gets typed.object_id_value variants.ObjectId (decimal index) found result }
+        ensures { GetsAt typed.object_id_value variants.ObjectId
+            (array_bytes_of self.entry) index result }
     {
         self.get_typed::<ObjectId>(alloc, index)
     }
 
     /// A boolean at this place, counted from 0; else why there is none, with the index in decimal.
     pub fn get_bool(self, alloc: Global, index: usize) -> ValueAccessResult<bool>
-        ensures { (found : Option Meaning) × IsAt (array_bytes_of self.entry) index found × Gets typed.bool_value variants.Boolean (decimal index) found result }
+        ensures { GetsAt typed.bool_value variants.Boolean
+            (array_bytes_of self.entry) index result }
     {
         self.get_typed::<bool>(alloc, index)
     }
 
     /// A time at this place, counted from 0; else why there is none, with the index in decimal.
     pub fn get_datetime(self, alloc: Global, index: usize) -> ValueAccessResult<DateTime>
-        ensures { (found : Option Meaning) × IsAt (array_bytes_of self.entry) index found × Gets typed.datetime_value variants.DateTime (decimal index) found result }
+        ensures { GetsAt typed.datetime_value variants.DateTime
+            (array_bytes_of self.entry) index result }
     {
         self.get_typed::<DateTime>(alloc, index)
     }
 
     /// A regular expression at this place, counted from 0; else why there is none, with the index in decimal.
     pub fn get_regex(self, alloc: Global, index: usize) -> ValueAccessResult<RawRegexRef<'a>>
-        ensures { (found : Option Meaning) × IsAt (array_bytes_of self.entry) index found × Gets typed.regex_value variants.RegularExpression (decimal index) found result }
+        ensures { GetsAt typed.regex_value variants.RegularExpression
+            (array_bytes_of self.entry) index result }
     {
         self.get_typed::<RawRegexRef<'a>>(alloc, index)
     }
 
     /// A timestamp at this place, counted from 0; else why there is none, with the index in decimal.
     pub fn get_timestamp(self, alloc: Global, index: usize) -> ValueAccessResult<Timestamp>
-        ensures { (found : Option Meaning) × IsAt (array_bytes_of self.entry) index found × Gets typed.timestamp_value variants.Timestamp (decimal index) found result }
+        ensures { GetsAt typed.timestamp_value variants.Timestamp
+            (array_bytes_of self.entry) index result }
     {
         self.get_typed::<Timestamp>(alloc, index)
     }
 
     /// A signed 32-bit number at this place, counted from 0; else why there is none, with the index in decimal.
     pub fn get_i32(self, alloc: Global, index: usize) -> ValueAccessResult<i32>
-        ensures { (found : Option Meaning) × IsAt (array_bytes_of self.entry) index found × Gets typed.i32_value variants.Int32 (decimal index) found result }
+        ensures { GetsAt typed.i32_value variants.Int32 (array_bytes_of self.entry) index result }
     {
         self.get_typed::<i32>(alloc, index)
     }
 
     /// A signed 64-bit number at this place, counted from 0; else why there is none, with the index in decimal.
     pub fn get_i64(self, alloc: Global, index: usize) -> ValueAccessResult<i64>
-        ensures { (found : Option Meaning) × IsAt (array_bytes_of self.entry) index found × Gets typed.i64_value variants.Int64 (decimal index) found result }
+        ensures { GetsAt typed.i64_value variants.Int64 (array_bytes_of self.entry) index result }
     {
         self.get_typed::<i64>(alloc, index)
     }

@@ -1,16 +1,17 @@
 ghost use Rattle.std.specs.Prelude.{◌≡◌, ◌↔◌, IsOk, IfOk, IfErr, IsTrue, None, Some, drop, length, [], ◌∷◌};
 ghost use Rattle.raw_view.specs.ElementSteps.{frame_of};
 ghost use Rattle.raw_view.specs.Envelope.{IsEnvelope};
-ghost use Rattle.raw_view.specs.Errors.{IsMalformed, TellsRefusal, key_of};
+ghost use Rattle.raw_view.specs.Errors.{TellsRefusal};
 
-use crate::access::{Typed, ValueAccessResult, typed_at_key};
+use crate::access::ValueAccessResult;
 use crate::array::RawArray;
 use crate::bson_ref::{RawBinaryRef, RawBsonRef, RawRegexRef};
 use crate::element::RawElement;
-use crate::error::{Error, ErrorKind, Reason, Result};
+use crate::error::{Error, Reason, Result};
 use crate::hex_digits::HexDigits;
 use crate::iter::{Iter, RawIter};
 use crate::number::front_i32;
+use crate::typed::{Typed, typed_at_key};
 use bson_model::{DateTime, DoubleBits, ObjectId, Timestamp};
 use std::alloc::Global;
 use std::fmt;
@@ -31,16 +32,10 @@ fn has_key(element: RawElement<'_>, key: &str) -> bool
     element.key() == key
 }
 
-fn refusal(reason: Reason) -> Error
-    ensures { IsMalformed result.kind (λ r. r ≡ reason) × (key_of result ≡ None) }
-{
-    Error::new(ErrorKind::MalformedValue { reason })
-}
-
 impl<'a> RawDocument<'a> {
     ghost use Rattle.std.specs.Prelude.{ℕ, List, Option, Result};
     ghost use denote.Ref.{Bor};
-    ghost use Rattle.raw_view.specs.Access.{Gets};
+    ghost use Rattle.raw_view.specs.Access.{GetsByKey};
     ghost use Rattle.raw_view.specs.Answers.{StepsItems, TellsEach, TellsFound, TellsItem};
     ghost use Rattle.raw_view.specs.Typed as typed;
     ghost use Rattle.raw_view.specs.declared.element_type.ElementType.TheVariants as variants;
@@ -64,14 +59,14 @@ impl<'a> RawDocument<'a> {
         ensures refused { IfErr result (TellsRefusal bytes.now) }
     {
         if bytes.len() < 5 {
-            return Err(refusal(Reason::TooShort));
+            return Err(Error::malformed(Reason::TooShort));
         }
         let header = front_i32(bytes);
         if header as i64 != bytes.len() as i64 {
-            return Err(refusal(Reason::LengthIncorrect));
+            return Err(Error::malformed(Reason::LengthIncorrect));
         }
         if bytes[bytes.len() - 1] != 0 {
-            return Err(refusal(Reason::NotTerminated));
+            return Err(Error::malformed(Reason::NotTerminated));
         }
         Ok(RawDocument { bytes })
     }
@@ -106,8 +101,11 @@ impl<'a> RawDocument<'a> {
     /// element stands at the front of any bytes.
     pub fn iter_elements(self, alloc: Global) -> RawIter<'a>
         ensures begins { result ≡ Some (drop 4 (bytes_of self.entry)) }
-        ensures walk { (items : List (Result RawElement Error)) → Drains StepsElement result items → (frames : List Frame) × (end : End) × IsTheWalk (drop 4 (bytes_of self.entry)) frames end × ListsWalk items frames end }
-        ensures one_walk { (frames : List Frame) × (end : End) × IsTheWalk (drop 4 (bytes_of self.entry)) frames end }
+        ensures walk { (items : List (Result RawElement Error)) →
+            Drains StepsElement result items → (frames : List Frame) × (end : End)
+            × IsTheWalk (drop 4 (bytes_of self.entry)) frames end × ListsWalk items frames end }
+        ensures one_walk { (frames : List Frame) × (end : End)
+            × IsTheWalk (drop 4 (bytes_of self.entry)) frames end }
         ensures one_frame { OneFirstFrame }
     {
         RawIter::new(alloc, self)
@@ -118,7 +116,9 @@ impl<'a> RawDocument<'a> {
     /// most (n - 4) / 2 + 1 items. The bytes alone determine what the items are.
     pub fn iter(self, alloc: Global) -> Iter<'a>
         ensures begins { result ≡ Some (drop 4 (bytes_of self.entry)) }
-        ensures items { (outs : List (Result (Bor (List ℕ) × RawBsonRef) Error)) → Drains (StepsItems TellsItem) result outs → (items : List Item) × AreItems (bytes_of self.entry) items × TellsEach TellsItem outs items }
+        ensures items { (outs : List (Result (Bor (List ℕ) × RawBsonRef) Error)) →
+            Drains (StepsItems TellsItem) result outs → (items : List Item)
+            × AreItems (bytes_of self.entry) items × TellsEach TellsItem outs items }
         ensures one_list { (items : List Item) × AreTheItems (bytes_of self.entry) items }
     {
         Iter::<'a>::new(alloc, self)
@@ -129,8 +129,10 @@ impl<'a> RawDocument<'a> {
     /// into, and nothing behind the element that is found. The bytes and the key alone determine what is
     /// found.
     pub fn get(self, alloc: Global, key: &str) -> Result<Option<RawBsonRef<'a>>>
-        ensures found { (found : Option Meaning) × LooksUp (bytes_of self.entry) key.now found × TellsFound result found }
-        ensures one_answer { (found : Option Meaning) × IsTheAnswer (bytes_of self.entry) key.now found }
+        ensures found { (found : Option Meaning) × LooksUp (bytes_of self.entry) key.now found
+            × TellsFound result found }
+        ensures one_answer { (found : Option Meaning)
+            × IsTheAnswer (bytes_of self.entry) key.now found }
     {
         for element in self.iter_elements(alloc) {
             let element = element?;
@@ -146,91 +148,97 @@ impl<'a> RawDocument<'a> {
 
     /// What a typed getter answers.
     fn get_typed<T: Typed<'a>>(self, alloc: Global, key: &str) -> ValueAccessResult<T>
-        ensures { (found : Option Meaning) × LooksUp (bytes_of self.entry) key.now found × Gets T.value_as T.kind key.now found result }
+        ensures { GetsByKey T.value_as T.kind (bytes_of self.entry) key.now result }
     {
         typed_at_key(alloc, self.get(alloc, key), key)
     }
 
     /// The 64 bits of a double under this key; else why there is none, with the key.
     pub fn get_f64(self, alloc: Global, key: &str) -> ValueAccessResult<DoubleBits>
-        ensures { (found : Option Meaning) × LooksUp (bytes_of self.entry) key.now found × Gets typed.f64_value variants.Double key.now found result }
+        ensures { GetsByKey typed.f64_value variants.Double (bytes_of self.entry) key.now result }
     {
         self.get_typed::<DoubleBits>(alloc, key)
     }
 
     /// The text of a string under this key; else why there is none, with the key.
     pub fn get_str(self, alloc: Global, key: &str) -> ValueAccessResult<&'a str>
-        ensures { (found : Option Meaning) × LooksUp (bytes_of self.entry) key.now found × Gets typed.str_value variants.String key.now found result }
+        ensures { GetsByKey typed.str_value variants.String (bytes_of self.entry) key.now result }
     {
         self.get_typed::<&'a str>(alloc, key)
     }
 
     /// A nested document under this key; else why there is none, with the key.
     pub fn get_document(self, alloc: Global, key: &str) -> ValueAccessResult<RawDocument<'a>>
-        ensures { (found : Option Meaning) × LooksUp (bytes_of self.entry) key.now found × Gets typed.document_value variants.EmbeddedDocument key.now found result }
+        ensures { GetsByKey typed.document_value variants.EmbeddedDocument
+            (bytes_of self.entry) key.now result }
     {
         self.get_typed::<RawDocument<'a>>(alloc, key)
     }
 
     /// An array under this key; else why there is none, with the key.
     pub fn get_array(self, alloc: Global, key: &str) -> ValueAccessResult<RawArray<'a>>
-        ensures { (found : Option Meaning) × LooksUp (bytes_of self.entry) key.now found × Gets typed.array_value variants.Array key.now found result }
+        ensures { GetsByKey typed.array_value variants.Array (bytes_of self.entry) key.now result }
     {
         self.get_typed::<RawArray<'a>>(alloc, key)
     }
 
     /// Bytes and their subtype under this key; else why there is none, with the key.
     pub fn get_binary(self, alloc: Global, key: &str) -> ValueAccessResult<RawBinaryRef<'a>>
-        ensures { (found : Option Meaning) × LooksUp (bytes_of self.entry) key.now found × Gets typed.binary_value variants.Binary key.now found result }
+        ensures { GetsByKey typed.binary_value variants.Binary
+            (bytes_of self.entry) key.now result }
     {
         self.get_typed::<RawBinaryRef<'a>>(alloc, key)
     }
 
     /// An ObjectId under this key; else why there is none, with the key.
     pub fn get_object_id(self, alloc: Global, key: &str) -> ValueAccessResult<ObjectId>
-        ensures { (found : Option Meaning) × LooksUp (bytes_of self.entry) key.now found × Gets typed.object_id_value variants.ObjectId key.now found result }
+        ensures { GetsByKey typed.object_id_value variants.ObjectId
+            (bytes_of self.entry) key.now result }
     {
         self.get_typed::<ObjectId>(alloc, key)
     }
 
     /// A boolean under this key; else why there is none, with the key.
     pub fn get_bool(self, alloc: Global, key: &str) -> ValueAccessResult<bool>
-        ensures { (found : Option Meaning) × LooksUp (bytes_of self.entry) key.now found × Gets typed.bool_value variants.Boolean key.now found result }
+        ensures { GetsByKey typed.bool_value variants.Boolean (bytes_of self.entry) key.now result }
     {
         self.get_typed::<bool>(alloc, key)
     }
 
     /// A time under this key; else why there is none, with the key.
     pub fn get_datetime(self, alloc: Global, key: &str) -> ValueAccessResult<DateTime>
-        ensures { (found : Option Meaning) × LooksUp (bytes_of self.entry) key.now found × Gets typed.datetime_value variants.DateTime key.now found result }
+        ensures { GetsByKey typed.datetime_value variants.DateTime
+            (bytes_of self.entry) key.now result }
     {
         self.get_typed::<DateTime>(alloc, key)
     }
 
     /// A regular expression under this key; else why there is none, with the key.
     pub fn get_regex(self, alloc: Global, key: &str) -> ValueAccessResult<RawRegexRef<'a>>
-        ensures { (found : Option Meaning) × LooksUp (bytes_of self.entry) key.now found × Gets typed.regex_value variants.RegularExpression key.now found result }
+        ensures { GetsByKey typed.regex_value variants.RegularExpression
+            (bytes_of self.entry) key.now result }
     {
         self.get_typed::<RawRegexRef<'a>>(alloc, key)
     }
 
     /// A timestamp under this key; else why there is none, with the key.
     pub fn get_timestamp(self, alloc: Global, key: &str) -> ValueAccessResult<Timestamp>
-        ensures { (found : Option Meaning) × LooksUp (bytes_of self.entry) key.now found × Gets typed.timestamp_value variants.Timestamp key.now found result }
+        ensures { GetsByKey typed.timestamp_value variants.Timestamp
+            (bytes_of self.entry) key.now result }
     {
         self.get_typed::<Timestamp>(alloc, key)
     }
 
     /// A signed 32-bit number under this key; else why there is none, with the key.
     pub fn get_i32(self, alloc: Global, key: &str) -> ValueAccessResult<i32>
-        ensures { (found : Option Meaning) × LooksUp (bytes_of self.entry) key.now found × Gets typed.i32_value variants.Int32 key.now found result }
+        ensures { GetsByKey typed.i32_value variants.Int32 (bytes_of self.entry) key.now result }
     {
         self.get_typed::<i32>(alloc, key)
     }
 
     /// A signed 64-bit number under this key; else why there is none, with the key.
     pub fn get_i64(self, alloc: Global, key: &str) -> ValueAccessResult<i64>
-        ensures { (found : Option Meaning) × LooksUp (bytes_of self.entry) key.now found × Gets typed.i64_value variants.Int64 key.now found result }
+        ensures { GetsByKey typed.i64_value variants.Int64 (bytes_of self.entry) key.now result }
     {
         self.get_typed::<i64>(alloc, key)
     }

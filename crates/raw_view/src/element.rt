@@ -1,7 +1,17 @@
-ghost use Rattle.std.specs.Prelude.{◌≡◌, length};
+ghost use Rattle.std.specs.Prelude.{◌≡◌, length, IfOk, IfErr, IfSome, IfNone};
 ghost use Rattle.raw_view.specs.Frame.{HasPayload};
 
+use crate::array::RawArray;
+use crate::bson_ref::RawBsonRef;
+use crate::document::RawDocument;
 use crate::element_type::ElementType;
+use crate::error::{BorrowedError, Result};
+use crate::number::{array_of, i32_of, i64_of, u64_of};
+use crate::value::{
+    binary_of, boolean_of, code_with_scope_of, db_pointer_of, regex_of, text_of, timestamp_of,
+};
+use bson_model::{DateTime, Decimal128, DoubleBits, ObjectId};
+use std::alloc::Global;
 
 /// One element: its key, its kind and the bytes of its payload, whose value isn't resolved.
 #[derive(Clone, Copy, Debug)]
@@ -34,5 +44,116 @@ impl<'a> RawElement<'a> {
         ensures { result ≡ (frame_of self.entry).kind }
     {
         self.kind
+    }
+}
+
+impl<'a> RawElement<'a> {
+    ghost use Rattle.raw_view.specs.ElementSteps.{frame_of};
+    ghost use Rattle.raw_view.specs.Front.{TellsBorrowed};
+    ghost use Rattle.raw_view.specs.Kind.{CanBeAtFault};
+    ghost use Rattle.raw_view.specs.Meaning.{KeyedFault, Means, MeansFault, value};
+    ghost use Rattle.raw_view.specs.Value.{value_of};
+
+    /// The value of a kind whose payloads all mean one; `None` for the kinds whose payload can be at fault.
+    fn faultless_value(self) -> Option<RawBsonRef<'a>>
+        ensures value { IfSome result (λ v. Means (frame_of self.entry) (value (value_of v))) }
+        ensures none { IfNone result (CanBeAtFault self.entry.kind) }
+    {
+        let payload = self.payload;
+        match self.kind {
+            ElementType::Double => Some(RawBsonRef::Double(DoubleBits(u64_of(payload)))),
+            ElementType::EmbeddedDocument => {
+                Some(RawBsonRef::Document(RawDocument::framed(payload)))
+            }
+            ElementType::Array => {
+                Some(RawBsonRef::Array(RawArray::from_doc(RawDocument::framed(payload))))
+            }
+            ElementType::Undefined => Some(RawBsonRef::Undefined),
+            ElementType::ObjectId => {
+                Some(RawBsonRef::ObjectId(ObjectId::from_bytes(array_of(payload))))
+            }
+            ElementType::DateTime => {
+                Some(RawBsonRef::DateTime(DateTime::from_millis(i64_of(payload))))
+            }
+            ElementType::Null => Some(RawBsonRef::Null),
+            ElementType::RegularExpression => {
+                Some(RawBsonRef::RegularExpression(regex_of(payload)))
+            }
+            ElementType::Int32 => Some(RawBsonRef::Int32(i32_of(payload))),
+            ElementType::Timestamp => Some(RawBsonRef::Timestamp(timestamp_of(payload))),
+            ElementType::Int64 => Some(RawBsonRef::Int64(i64_of(payload))),
+            ElementType::Decimal128 => {
+                Some(RawBsonRef::Decimal128(Decimal128::from_bytes(array_of(payload))))
+            }
+            ElementType::MaxKey => Some(RawBsonRef::MaxKey),
+            ElementType::MinKey => Some(RawBsonRef::MinKey),
+            _ => None,
+        }
+    }
+
+    /// What the payload means; a fault borrows its key. Nothing is copied.
+    pub(crate) fn resolve(self) -> std::result::Result<RawBsonRef<'a>, BorrowedError<'a>>
+        ensures value { IfOk result (λ v. Means (frame_of self.entry) (value (value_of v))) }
+        ensures fault { IfErr result
+            (λ e. (fault : KeyedFault)
+            × MeansFault self.entry.kind self.entry.key.now self.entry.payload.now fault
+            × TellsBorrowed e fault) }
+    {
+        if let Some(value) = self.faultless_value() {
+            return Ok(value);
+        }
+        let payload = self.payload;
+        match self.kind {
+            ElementType::String => Ok(RawBsonRef::String(text_of(payload)?)),
+            ElementType::Binary => Ok(RawBsonRef::Binary(binary_of(self.key, payload)?)),
+            ElementType::Boolean => Ok(RawBsonRef::Boolean(boolean_of(self.key, payload)?)),
+            ElementType::DbPointer => Ok(RawBsonRef::DbPointer(db_pointer_of(payload)?)),
+            ElementType::JavaScriptCode => Ok(RawBsonRef::JavaScriptCode(text_of(payload)?)),
+            ElementType::Symbol => Ok(RawBsonRef::Symbol(text_of(payload)?)),
+            ElementType::JavaScriptCodeWithScope => Ok(RawBsonRef::JavaScriptCodeWithScope(
+                code_with_scope_of(self.key, payload)?,
+            )),
+            _ => unreachable!(),
+        }
+    }
+}
+
+impl<'a> RawElement<'a> {
+    ghost use Rattle.raw_view.specs.Answers.{TellsItem, TellsMeaning};
+    ghost use Rattle.raw_view.specs.ElementSteps.{frame_of};
+    ghost use Rattle.raw_view.specs.Item.{entry};
+    ghost use Rattle.raw_view.specs.Meaning.{Meaning, Means};
+    ghost use Rattle.raw_view.specs.OneReading.{IsTheMeaning};
+
+    /// The value that the payload means, with its parts borrowed from the document; or its fault, with a
+    /// copy of the key where it carries one. Where that copy finds no memory, the error says so instead.
+    /// The kind, the key and the payload alone determine what is meant.
+    pub fn value(self, alloc: Global) -> Result<RawBsonRef<'a>>
+        ensures meaning { (m : Meaning) × Means (frame_of self.entry) m × TellsMeaning result m }
+        ensures one_meaning { (m : Meaning) × IsTheMeaning (frame_of self.entry) m }
+    {
+        match self.resolve() {
+            Ok(value) => Ok(value),
+            Err(error) => Err(error.into_error(alloc)),
+        }
+    }
+
+    /// The same as `value`.
+    pub fn try_into_ref(self, alloc: Global) -> Result<RawBsonRef<'a>>
+        ensures meaning { (m : Meaning) × Means (frame_of self.entry) m × TellsMeaning result m }
+        ensures one_meaning { (m : Meaning) × IsTheMeaning (frame_of self.entry) m }
+    {
+        self.value(alloc)
+    }
+
+    /// The key with the value, or the value's fault.
+    pub(crate) fn keyed_value(self, alloc: Global) -> Result<(&'a str, RawBsonRef<'a>)>
+        ensures { (m : Meaning) × Means (frame_of self.entry) m
+            × TellsItem result (entry (frame_of self.entry).key m) }
+    {
+        match self.value(alloc) {
+            Ok(value) => Ok((self.key(), value)),
+            Err(error) => Err(error),
+        }
     }
 }

@@ -53,7 +53,8 @@ impl ElementType {
     /// The kind that a tag stands for; `None` for a byte that is no tag.
     pub fn from(tag: u8) -> Option<ElementType>
         ensures of_its_tag { (kind : ElementType) → (result ≡ Some kind) ↔ (tag ≡ tag_of kind) }
-        ensures cases { MatchOption result ((kind : ElementType) → tag ≢ tag_of kind) (λ kind. tag ≡ tag_of kind) }
+        ensures cases { MatchOption result ((kind : ElementType) → tag ≢ tag_of kind)
+            (λ kind. tag ≡ tag_of kind) }
     {
         match tag {
             0x01 => Some(ElementType::Double),

@@ -2,6 +2,7 @@ ghost use Rattle.std.specs.Prelude.{◌≡◌, IfNone, None};
 ghost use Rattle.std.specs.Option.{option_copied};
 ghost use Rattle.raw_view.specs.Errors.{IsReadingKind, IsReadingReason};
 
+use bson_model::NoMemory;
 use std::alloc::{AllocError, Global};
 use std::fmt;
 use std::str::Utf8Error;
@@ -142,7 +143,7 @@ pub struct Error {
 }
 
 impl Error {
-    ghost use Rattle.raw_view.specs.Errors.{key_of};
+    ghost use Rattle.raw_view.specs.Errors.{key_of, IsOutOfMemory};
 
     /// An error of this kind, without a key.
     pub fn new(kind: ErrorKind) -> Error
@@ -150,6 +151,21 @@ impl Error {
         ensures no_key { key_of result ≡ None }
     {
         Error { kind, key: None }
+    }
+
+    /// Malformed for this reason, without a key.
+    pub fn malformed(reason: Reason) -> Error
+        ensures kind { result.kind ≡ ErrorKind.MalformedValue reason }
+        ensures no_key { key_of result ≡ None }
+    {
+        Error::new(ErrorKind::MalformedValue { reason })
+    }
+
+    /// No memory was left; without a key.
+    pub fn out_of_memory() -> Error
+        ensures { IsOutOfMemory result }
+    {
+        Error::new(ErrorKind::OutOfMemory)
     }
 
     pub(crate) fn into_kind(self) -> ErrorKind
@@ -252,7 +268,7 @@ impl<'a> BorrowedError<'a> {
                 kind: self.kind,
                 key: Some(key),
             },
-            Err(AllocError) => Error::new(ErrorKind::OutOfMemory),
+            Err(AllocError) => Error::out_of_memory(),
         }
     }
 }
@@ -271,3 +287,23 @@ impl fmt::Display for Error {
 }
 
 impl std::error::Error for Error {}
+
+impl From<AllocError> for Error {
+    ghost use Rattle.raw_view.specs.Errors.{IsOutOfMemory};
+
+    ghost from_gives = { λ _ e. IsOutOfMemory e };
+
+    fn from(_error: AllocError) -> Error {
+        Error::out_of_memory()
+    }
+}
+
+impl From<NoMemory> for Error {
+    ghost use Rattle.raw_view.specs.Errors.{IsOutOfMemory};
+
+    ghost from_gives = { λ _ e. IsOutOfMemory e };
+
+    fn from(_error: NoMemory) -> Error {
+        Error::out_of_memory()
+    }
+}

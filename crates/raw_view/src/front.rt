@@ -1,11 +1,11 @@
 ghost use Rattle.std.specs.Prelude.{◌≡◌, ◌<◌, ◌-◌, length, slice_get, Some};
 ghost use Rattle.raw_view.specs.Front.{IsFront};
 
+use crate::c_string::split_text;
 use crate::element::RawElement;
 use crate::element_type::ElementType;
 use crate::error::{BorrowedError, Reason};
-use crate::payload::payload_len;
-use crate::text::split_text;
+use crate::payload::front_len;
 
 /// What stands at the front of the bytes that are left.
 pub(crate) enum Front<'a> {
@@ -35,7 +35,7 @@ pub(crate) fn front_of<'a>(rest: &'a [u8]) -> Front<'a>
     let Some(kind) = ElementType::from(*tag) else {
         return Front::Stop(BorrowedError::malformed_at(Reason::InvalidTag(*tag), key));
     };
-    match payload_len(kind, behind) {
+    match front_len(kind, behind) {
         Err(kind) => Front::Stop(BorrowedError {
             kind,
             key: Some(key),

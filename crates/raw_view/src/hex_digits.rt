@@ -1,8 +1,8 @@
 use std::fmt;
 
-/// Bytes as lower case hex digits, for Debug texts.
+/// Bytes as lower case hex digits, for the Debug texts of this crate and of those above.
 #[derive(Drop)]
-pub(crate) struct HexDigits<'a>(pub(crate) &'a [u8]);
+pub struct HexDigits<'a>(pub &'a [u8]);
 
 impl fmt::Display for HexDigits<'_> {
     fn fmt<W: fmt::Write>(&self, f: &mut fmt::Formatter<W>) -> fmt::Result {

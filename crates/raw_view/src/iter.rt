@@ -5,7 +5,6 @@ use crate::document::RawDocument;
 use crate::element::RawElement;
 use crate::elements::Elements;
 use crate::error::Result;
-use crate::value::keyed_value;
 use std::alloc::Global;
 use std::marker::Model;
 
@@ -99,7 +98,7 @@ impl<'a> Iterator for Iter<'a> {
     fn next(&mut self) -> Option<Result<(&'a str, RawBsonRef<'a>)>> {
         match self.elements.next() {
             None => None,
-            Some(Ok(element)) => Some(keyed_value(element, self.alloc)),
+            Some(Ok(element)) => Some(element.keyed_value(self.alloc)),
             Some(Err(error)) => Some(Err(error)),
         }
     }

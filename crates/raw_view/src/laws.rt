@@ -1,3 +1,5 @@
+//! What `==` of views answers, as calls whose contracts say it. Programs never need them; proofs do.
+
 ghost use Rattle.std.specs.Prelude.{◌≡◌, ◌↔◌, IsTrue};
 ghost use Rattle.raw_view.specs.Document.{bytes_of};
 ghost use Rattle.raw_view.specs.Value.{array_bytes_of};
@@ -5,15 +7,16 @@ ghost use Rattle.raw_view.specs.Value.{array_bytes_of};
 use crate::array::RawArray;
 use crate::document::RawDocument;
 
-/// Whether two documents are `==`: they are exactly where they have the same bytes.
-pub fn is_same_document(left: RawDocument<'_>, right: RawDocument<'_>) -> bool
+/// Whether two documents are `==`: they are exactly where they have the same bytes. Programs never need it; proofs
+/// do.
+pub fn is_same_view(left: RawDocument<'_>, right: RawDocument<'_>) -> bool
     ensures { IsTrue result ↔ (bytes_of left.entry ≡ bytes_of right.entry) }
 {
     left == right
 }
 
-/// Whether two arrays are `==`: they are exactly where they have the same bytes.
-pub fn is_same_array(first: RawArray<'_>, second: RawArray<'_>) -> bool
+/// Whether two arrays are `==`: they are exactly where they have the same bytes. Programs never need it; proofs do.
+pub fn is_same_array_view(first: RawArray<'_>, second: RawArray<'_>) -> bool
     ensures { IsTrue result ↔ (array_bytes_of first.entry ≡ array_bytes_of second.entry) }
 {
     first == second

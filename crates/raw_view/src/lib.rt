@@ -3,20 +3,23 @@
 #![tactic(auto)]
 
 mod access;
+mod accessors;
 mod array;
 mod bson_ref;
+mod c_string;
 mod document;
 mod element;
 mod element_type;
 mod elements;
 mod error;
+mod from;
 mod front;
 mod hex_digits;
 mod iter;
-mod laws;
+pub mod laws;
 mod number;
 mod payload;
-mod text;
+mod typed;
 mod value;
 
 pub use access::{ValueAccessError, ValueAccessErrorKind, ValueAccessResult};
@@ -28,5 +31,5 @@ pub use document::RawDocument;
 pub use element::RawElement;
 pub use element_type::ElementType;
 pub use error::{Error, ErrorKind, Reason, Result};
+pub use hex_digits::HexDigits;
 pub use iter::{Iter, RawArrayIter, RawIter};
-pub use laws::{is_same_array, is_same_document};

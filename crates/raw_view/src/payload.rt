@@ -7,10 +7,10 @@ ghost use Rattle.raw_view.specs.Kind.{tag_of};
 ghost use Rattle.raw_view.specs.Number.{IsLe32};
 ghost use Rattle.raw_view.specs.declared.element_type.ElementType.TheVariants.{Binary, DbPointer, RegularExpression};
 
+use crate::c_string::split_text;
 use crate::element_type::ElementType;
 use crate::error::{ErrorKind, Reason};
 use crate::number::front_i32;
-use crate::text::split_text;
 
 fn fixed_len(size: usize, rest: &[u8]) -> Result<usize, Reason>
     ensures found { IfOk result (λ n. (n ≡ size) × (size ≤ length rest.now)) }
@@ -38,7 +38,7 @@ fn declared_len(rest: &[u8]) -> Result<usize, Reason>
     Ok(declared as usize)
 }
 
-pub(crate) fn string_len(rest: &[u8]) -> Result<usize, Reason>
+pub(crate) fn front_string_len(rest: &[u8]) -> Result<usize, Reason>
     ensures within { IfOk result (λ n. n ≤ length rest.now) }
     ensures found { IfOk result (λ n. HasText (take n rest.now)) }
     ensures none { OnErr result ((p r : List ℕ) → rest.now ≡ p ++ r → ¬ HasText p) }
@@ -121,7 +121,7 @@ fn db_pointer_len(rest: &[u8]) -> Result<usize, Reason>
     ensures none { OnErr result ((p r : List ℕ) → rest.now ≡ p ++ r → ¬ HasShape DbPointer p r) }
     ensures reading { IfErr result IsReadingReason }
 {
-    let size = string_len(rest)? + 12;
+    let size = front_string_len(rest)? + 12;
     if rest.len() < size {
         return Err(Reason::PastEnd(size, rest.len()));
     }
@@ -130,8 +130,10 @@ fn db_pointer_len(rest: &[u8]) -> Result<usize, Reason>
 
 fn regex_len(rest: &[u8]) -> Result<usize, ErrorKind>
     ensures within { IfOk result (λ n. n ≤ length rest.now) }
-    ensures found { IfOk result (λ n. HasShape RegularExpression (take n rest.now) (drop n rest.now)) }
-    ensures none { OnErr result ((p r : List ℕ) → rest.now ≡ p ++ r → ¬ HasShape RegularExpression p r) }
+    ensures found { IfOk result
+        (λ n. HasShape RegularExpression (take n rest.now) (drop n rest.now)) }
+    ensures none { OnErr result ((p r : List ℕ) → rest.now ≡ p ++ r →
+        ¬ HasShape RegularExpression p r) }
     ensures fault { IfErr result (IsPayloadFault (tag_of RegularExpression) rest.now) }
     ensures reading { IfErr result IsReadingKind }
 {
@@ -149,7 +151,9 @@ fn sized_len(kind: ElementType, rest: &[u8]) -> Result<usize, Reason>
     ensures reading { IfErr result IsReadingReason }
 {
     match kind {
-        ElementType::String | ElementType::JavaScriptCode | ElementType::Symbol => string_len(rest),
+        ElementType::String | ElementType::JavaScriptCode | ElementType::Symbol => front_string_len(
+            rest,
+        ),
         ElementType::EmbeddedDocument | ElementType::Array => document_len(rest),
         ElementType::Binary => binary_len(rest),
         ElementType::DbPointer => db_pointer_len(rest),
@@ -168,7 +172,7 @@ fn sized_len(kind: ElementType, rest: &[u8]) -> Result<usize, Reason>
 }
 
 /// How many bytes the payload at the front takes; else why none of this kind stands there.
-pub(crate) fn payload_len(kind: ElementType, rest: &[u8]) -> Result<usize, ErrorKind>
+pub(crate) fn front_len(kind: ElementType, rest: &[u8]) -> Result<usize, ErrorKind>
     ensures within { IfOk result (λ n. n ≤ length rest.now) }
     ensures found { IfOk result (λ n. HasShape kind (take n rest.now) (drop n rest.now)) }
     ensures none { OnErr result ((p r : List ℕ) → rest.now ≡ p ++ r → ¬ HasShape kind p r) }

@@ -1,36 +1,32 @@
-ghost use Rattle.std.specs.Prelude.{◌≡◌, length, ℕ, List, IfOk, IfErr, IfSome, IfNone, OnErr, Some};
+//! What the payload of one kind means, where others of that kind are at fault.
+
+ghost use Rattle.std.specs.Prelude.{◌≡◌, length, ℕ, List, IfOk, IfErr};
 ghost use Rattle.std.specs.Str.{IsUtf8};
-ghost use Rattle.raw_view.specs.Frame.{HasText, HasPayload, IsBinary, IsDbPointer, IsRegex};
-ghost use Rattle.raw_view.specs.Answers.{TellsItem};
-ghost use Rattle.raw_view.specs.Item.{entry};
-ghost use Rattle.raw_view.specs.ElementSteps.{frame_of};
 ghost use Rattle.bson_model.specs.Leaf.{binary, boolean};
 ghost use Rattle.raw_view.specs.Document.{bytes_of};
 ghost use Rattle.raw_view.specs.Envelope.{IsEnvelope};
+ghost use Rattle.raw_view.specs.Frame.{HasText, HasPayload, IsBinary, IsDbPointer, IsRegex};
 ghost use Rattle.raw_view.specs.Front.{TellsBorrowed};
-ghost use Rattle.raw_view.specs.Meaning.{KeyedFault, Meaning, Means, SpellsText, SpellsNoText, MeansValue, MeansFault, single, HasInnerLength, OldBinaryFault, IsCodeWithScope, IsTimestamp, not_text};
+ghost use Rattle.raw_view.specs.Meaning.{KeyedFault, SpellsText, SpellsNoText, MeansValue, MeansFault, single, HasInnerLength, OldBinaryFault, IsCodeWithScope, IsTimestamp, not_text};
 ghost use Rattle.raw_view.specs.Value.{namespace_of, id_of};
 ghost use Rattle.raw_view.specs.declared.element_type.ElementType.TheVariants.{RegularExpression, JavaScriptCodeWithScope};
 
-use crate::array::RawArray;
-use crate::bson_ref::{
-    RawBinaryRef, RawBsonRef, RawDbPointerRef, RawJavaScriptCodeWithScopeRef, RawRegexRef,
-};
+use crate::bson_ref::{RawBinaryRef, RawDbPointerRef, RawJavaScriptCodeWithScopeRef, RawRegexRef};
+use crate::c_string::split_text;
 use crate::document::RawDocument;
-use crate::element::RawElement;
 use crate::element_type::ElementType;
 use crate::error::{BorrowedError, ErrorKind, Reason};
-use crate::number::{array_of, front_i32, i32_of, i64_of, u32_of, u64_of};
-use crate::payload::string_len;
-use crate::text::split_text;
-use bson_model::{BinarySubtype, DateTime, Decimal128, DoubleBits, ObjectId, Timestamp};
-use std::alloc::Global;
+use crate::number::{array_of, front_i32, u32_of};
+use crate::payload::front_string_len;
+use bson_model::{BinarySubtype, ObjectId, Timestamp};
 
 /// The text of a string.
-fn text_of(string: &[u8]) -> Result<&str, BorrowedError<'_>>
+pub(crate) fn text_of(string: &[u8]) -> Result<&str, BorrowedError<'_>>
     requires { HasText string.now }
     ensures text { IfOk result (λ text. SpellsText string.now text.now) }
-    ensures fault { IfErr result (λ e. (fault : KeyedFault) × (SpellsNoText string.now × (fault ≡ not_text)) × TellsBorrowed e fault) }
+    ensures fault { IfErr result
+        (λ e. (fault : KeyedFault) × (SpellsNoText string.now × (fault ≡ not_text))
+        × TellsBorrowed e fault) }
 {
     match std::str::from_utf8(&string[4..string.len() - 1]) {
         Ok(text) => Ok(text),
@@ -42,10 +38,13 @@ fn text_of(string: &[u8]) -> Result<&str, BorrowedError<'_>>
 }
 
 /// The boolean of one byte.
-fn boolean_of<'a>(key: &'a str, payload: &'a [u8]) -> Result<bool, BorrowedError<'a>>
+pub(crate) fn boolean_of<'a>(key: &'a str, payload: &'a [u8]) -> Result<bool, BorrowedError<'a>>
     requires { length payload.now ≡ 1 }
-    ensures value { IfOk result (λ b. MeansValue ElementType.Boolean payload.now (single (boolean b))) }
-    ensures fault { IfErr result (λ e. (fault : KeyedFault) × MeansFault ElementType.Boolean key.now payload.now fault × TellsBorrowed e fault) }
+    ensures value { IfOk result
+        (λ b. MeansValue ElementType.Boolean payload.now (single (boolean b))) }
+    ensures fault { IfErr result
+        (λ e. (fault : KeyedFault) × MeansFault ElementType.Boolean key.now payload.now fault
+        × TellsBorrowed e fault) }
 {
     match payload[0] {
         0 => Ok(false),
@@ -55,7 +54,7 @@ fn boolean_of<'a>(key: &'a str, payload: &'a [u8]) -> Result<bool, BorrowedError
 }
 
 /// The increment and the time of a timestamp.
-fn timestamp_of(payload: &[u8]) -> Timestamp
+pub(crate) fn timestamp_of(payload: &[u8]) -> Timestamp
     requires { length payload.now ≡ 8 }
     ensures { IsTimestamp payload.now result.time result.increment }
 {
@@ -69,7 +68,9 @@ fn timestamp_of(payload: &[u8]) -> Timestamp
 /// The bytes of an old binary, without their inner length.
 fn inner_bytes<'a>(key: &'a str, outer: &'a [u8]) -> Result<&'a [u8], BorrowedError<'a>>
     ensures inner { IfOk result (λ inner. HasInnerLength outer.now inner.now) }
-    ensures fault { IfErr result (λ e. (fault : KeyedFault) × OldBinaryFault key.now outer.now fault × TellsBorrowed e fault) }
+    ensures fault { IfErr result
+        (λ e. (fault : KeyedFault) × OldBinaryFault key.now outer.now fault
+        × TellsBorrowed e fault) }
 {
     if outer.len() < 4 {
         return Err(BorrowedError::malformed_at(Reason::OldNoInner, key));
@@ -85,10 +86,16 @@ fn inner_bytes<'a>(key: &'a str, outer: &'a [u8]) -> Result<&'a [u8], BorrowedEr
 }
 
 /// The bytes of a binary and their subtype.
-fn binary_of<'a>(key: &'a str, payload: &'a [u8]) -> Result<RawBinaryRef<'a>, BorrowedError<'a>>
+pub(crate) fn binary_of<'a>(
+    key: &'a str,
+    payload: &'a [u8],
+) -> Result<RawBinaryRef<'a>, BorrowedError<'a>>
     requires { (subtype : ℕ) × (bytes : List ℕ) × IsBinary payload.now subtype bytes }
-    ensures value { IfOk result (λ b. MeansValue ElementType.Binary payload.now (single (binary b.subtype b.bytes.now))) }
-    ensures fault { IfErr result (λ e. (fault : KeyedFault) × MeansFault ElementType.Binary key.now payload.now fault × TellsBorrowed e fault) }
+    ensures value { IfOk result
+        (λ b. MeansValue ElementType.Binary payload.now (single (binary b.subtype b.bytes.now))) }
+    ensures fault { IfErr result
+        (λ e. (fault : KeyedFault) × MeansFault ElementType.Binary key.now payload.now fault
+        × TellsBorrowed e fault) }
 {
     let bytes = &payload[5..];
     match BinarySubtype::from_u8(payload[4]) {
@@ -101,7 +108,7 @@ fn binary_of<'a>(key: &'a str, payload: &'a [u8]) -> Result<RawBinaryRef<'a>, Bo
 }
 
 /// The pattern and the options of a regular expression.
-fn regex_of(payload: &[u8]) -> RawRegexRef<'_>
+pub(crate) fn regex_of(payload: &[u8]) -> RawRegexRef<'_>
     requires { ∥ HasPayload RegularExpression payload.now ∥₁ }
     ensures { IsRegex payload.now result.pattern.now result.options.now }
 {
@@ -115,10 +122,14 @@ fn regex_of(payload: &[u8]) -> RawRegexRef<'_>
 }
 
 /// The pointer to an object.
-fn db_pointer_of(payload: &[u8]) -> Result<RawDbPointerRef<'_>, BorrowedError<'_>>
+pub(crate) fn db_pointer_of(payload: &[u8]) -> Result<RawDbPointerRef<'_>, BorrowedError<'_>>
     requires { (namespace id : List ℕ) × IsDbPointer payload.now namespace id }
-    ensures value { IfOk result (λ p. IsDbPointer payload.now (namespace_of p) (id_of p) × IsUtf8 (namespace_of p)) }
-    ensures fault { IfErr result (λ e. (fault : KeyedFault) × ((namespace id : List ℕ) × IsDbPointer payload.now namespace id × (¬ IsUtf8 namespace) × (fault ≡ not_text)) × TellsBorrowed e fault) }
+    ensures value { IfOk result
+        (λ p. IsDbPointer payload.now (namespace_of p) (id_of p) × IsUtf8 (namespace_of p)) }
+    ensures fault { IfErr result
+        (λ e. (fault : KeyedFault)
+        × ((namespace id : List ℕ) × IsDbPointer payload.now namespace id × (¬ IsUtf8 namespace)
+        × (fault ≡ not_text)) × TellsBorrowed e fault) }
 {
     let (string, id) = payload.split_at(payload.len() - 12);
     let namespace = text_of(string)?;
@@ -126,19 +137,23 @@ fn db_pointer_of(payload: &[u8]) -> Result<RawDbPointerRef<'_>, BorrowedError<'_
 }
 
 /// A code and its scope.
-fn code_with_scope_of<'a>(
+pub(crate) fn code_with_scope_of<'a>(
     key: &'a str,
     payload: &'a [u8],
 ) -> Result<RawJavaScriptCodeWithScopeRef<'a>, BorrowedError<'a>>
     requires { ∥ HasPayload JavaScriptCodeWithScope payload.now ∥₁ }
-    ensures value { IfOk result (λ c. IsCodeWithScope payload.now c.code.now (bytes_of c.scope) × IsUtf8 c.code.now × IsEnvelope (bytes_of c.scope)) }
-    ensures fault { IfErr result (λ e. (fault : KeyedFault) × MeansFault JavaScriptCodeWithScope key.now payload.now fault × TellsBorrowed e fault) }
+    ensures value { IfOk result
+        (λ c. IsCodeWithScope payload.now c.code.now (bytes_of c.scope) × IsUtf8 c.code.now
+        × IsEnvelope (bytes_of c.scope)) }
+    ensures fault { IfErr result
+        (λ e. (fault : KeyedFault) × MeansFault JavaScriptCodeWithScope key.now payload.now fault
+        × TellsBorrowed e fault) }
 {
     if payload.len() < 14 {
         return Err(BorrowedError::malformed_at(Reason::CodeTooSmall, key));
     }
     let (_, behind) = payload.split_at(4);
-    let len = match string_len(behind) {
+    let len = match front_string_len(behind) {
         Ok(len) => len,
         Err(reason) => return Err(BorrowedError::malformed(reason)),
     };
@@ -150,113 +165,5 @@ fn code_with_scope_of<'a>(
             kind: error.into_kind(),
             key: None,
         }),
-    }
-}
-
-impl<'a> RawElement<'a> {
-    ghost use Rattle.raw_view.specs.ElementSteps.{frame_of};
-    ghost use Rattle.raw_view.specs.Kind.{CanBeAtFault};
-    ghost use Rattle.raw_view.specs.Meaning.{Means, MeansFault, value};
-    ghost use Rattle.raw_view.specs.Value.{value_of};
-
-    /// The value of a kind whose payloads all mean one; `None` for the kinds whose payload can be at fault.
-    fn faultless_value(self) -> Option<RawBsonRef<'a>>
-        ensures value { IfSome result (λ v. Means (frame_of self.entry) (value (value_of v))) }
-        ensures none { IfNone result (CanBeAtFault self.entry.kind) }
-    {
-        let payload = self.payload;
-        match self.kind {
-            ElementType::Double => Some(RawBsonRef::Double(DoubleBits(u64_of(payload)))),
-            ElementType::EmbeddedDocument => {
-                Some(RawBsonRef::Document(RawDocument::framed(payload)))
-            }
-            ElementType::Array => {
-                Some(RawBsonRef::Array(RawArray::from_doc(RawDocument::framed(payload))))
-            }
-            ElementType::Undefined => Some(RawBsonRef::Undefined),
-            ElementType::ObjectId => {
-                Some(RawBsonRef::ObjectId(ObjectId::from_bytes(array_of(payload))))
-            }
-            ElementType::DateTime => {
-                Some(RawBsonRef::DateTime(DateTime::from_millis(i64_of(payload))))
-            }
-            ElementType::Null => Some(RawBsonRef::Null),
-            ElementType::RegularExpression => {
-                Some(RawBsonRef::RegularExpression(regex_of(payload)))
-            }
-            ElementType::Int32 => Some(RawBsonRef::Int32(i32_of(payload))),
-            ElementType::Timestamp => Some(RawBsonRef::Timestamp(timestamp_of(payload))),
-            ElementType::Int64 => Some(RawBsonRef::Int64(i64_of(payload))),
-            ElementType::Decimal128 => {
-                Some(RawBsonRef::Decimal128(Decimal128::from_bytes(array_of(payload))))
-            }
-            ElementType::MaxKey => Some(RawBsonRef::MaxKey),
-            ElementType::MinKey => Some(RawBsonRef::MinKey),
-            _ => None,
-        }
-    }
-
-    /// What the payload means; a fault borrows its key. Nothing is copied.
-    pub(crate) fn resolve(self) -> Result<RawBsonRef<'a>, BorrowedError<'a>>
-        ensures value { IfOk result (λ v. Means (frame_of self.entry) (value (value_of v))) }
-        ensures fault { IfErr result (λ e. (fault : KeyedFault) × MeansFault self.entry.kind self.entry.key.now self.entry.payload.now fault × TellsBorrowed e fault) }
-    {
-        if let Some(value) = self.faultless_value() {
-            return Ok(value);
-        }
-        let payload = self.payload;
-        match self.kind {
-            ElementType::String => Ok(RawBsonRef::String(text_of(payload)?)),
-            ElementType::Binary => Ok(RawBsonRef::Binary(binary_of(self.key, payload)?)),
-            ElementType::Boolean => Ok(RawBsonRef::Boolean(boolean_of(self.key, payload)?)),
-            ElementType::DbPointer => Ok(RawBsonRef::DbPointer(db_pointer_of(payload)?)),
-            ElementType::JavaScriptCode => Ok(RawBsonRef::JavaScriptCode(text_of(payload)?)),
-            ElementType::Symbol => Ok(RawBsonRef::Symbol(text_of(payload)?)),
-            ElementType::JavaScriptCodeWithScope => Ok(RawBsonRef::JavaScriptCodeWithScope(
-                code_with_scope_of(self.key, payload)?,
-            )),
-            _ => unreachable!(),
-        }
-    }
-}
-
-impl<'a> RawElement<'a> {
-    ghost use Rattle.raw_view.specs.Answers.{TellsMeaning};
-    ghost use Rattle.raw_view.specs.ElementSteps.{frame_of};
-    ghost use Rattle.raw_view.specs.Meaning.{Meaning, Means};
-    ghost use Rattle.raw_view.specs.OneReading.{IsTheMeaning};
-
-    /// The value that the payload means, with its parts borrowed from the document; or its fault, with a
-    /// copy of the key where it carries one. Where that copy finds no memory, the error says so instead.
-    /// The kind, the key and the payload alone determine what is meant.
-    pub fn value(self, alloc: Global) -> crate::error::Result<RawBsonRef<'a>>
-        ensures meaning { (m : Meaning) × Means (frame_of self.entry) m × TellsMeaning result m }
-        ensures one_meaning { (m : Meaning) × IsTheMeaning (frame_of self.entry) m }
-    {
-        match self.resolve() {
-            Ok(value) => Ok(value),
-            Err(error) => Err(error.into_error(alloc)),
-        }
-    }
-
-    /// The same as `value`.
-    pub fn try_into_ref(self, alloc: Global) -> crate::error::Result<RawBsonRef<'a>>
-        ensures meaning { (m : Meaning) × Means (frame_of self.entry) m × TellsMeaning result m }
-        ensures one_meaning { (m : Meaning) × IsTheMeaning (frame_of self.entry) m }
-    {
-        self.value(alloc)
-    }
-}
-
-/// The element's key with its value, or the value's fault.
-pub(crate) fn keyed_value<'a>(
-    element: RawElement<'a>,
-    alloc: Global,
-) -> crate::error::Result<(&'a str, RawBsonRef<'a>)>
-    ensures { (m : Meaning) × Means (frame_of element.entry) m × TellsItem result (entry (frame_of element.entry).key m) }
-{
-    match element.value(alloc) {
-        Ok(value) => Ok((element.key(), value)),
-        Err(error) => Err(error),
     }
 }

@@ -111,33 +111,36 @@ fn code_with_scope_has_a_debug_text(rt: HostRuntime) -> Result<(), Fail> {
     )
 }
 
+/// Each reason with its `Debug` text.
+const REASONS: &[(Reason, &str)] = &[
+    (Reason::TooShort, "TooShort"),
+    (Reason::LengthIncorrect, "LengthIncorrect"),
+    (Reason::NotTerminated, "NotTerminated"),
+    (Reason::Overflowed, "Overflowed"),
+    (Reason::InvalidTag(20), "InvalidTag(20)"),
+    (Reason::StringHeadShort(3), "StringHeadShort(3)"),
+    (Reason::NegativeLength, "NegativeLength"),
+    (Reason::StringTooSmall, "StringTooSmall"),
+    (Reason::StringPastEnd(10, 5), "StringPastEnd(10, 5)"),
+    (Reason::StringNotTerminated, "StringNotTerminated"),
+    (Reason::PastEnd(134217731, 8), "PastEnd(134217731, 8)"),
+    (Reason::DocumentTooSmall(4), "DocumentTooSmall(4)"),
+    (Reason::NestedNotTerminated, "NestedNotTerminated"),
+    (Reason::LengthHeadShort(0), "LengthHeadShort(0)"),
+    (Reason::NoTerminator, "NoTerminator"),
+    (Reason::BadBoolean(2), "BadBoolean(2)"),
+    (Reason::OldNoInner, "OldNoInner"),
+    (Reason::AddOverflow, "AddOverflow"),
+    (Reason::OldWrongInner, "OldWrongInner"),
+    (Reason::CodeTooSmall, "CodeTooSmall"),
+    (Reason::InteriorNul, "InteriorNul"),
+    (Reason::TooLong, "TooLong"),
+];
+
 #[test]
 fn reasons_have_a_debug_text(rt: HostRuntime) -> Result<(), Fail> {
-    for (reason, text) in [
-        (Reason::TooShort, "TooShort"),
-        (Reason::LengthIncorrect, "LengthIncorrect"),
-        (Reason::NotTerminated, "NotTerminated"),
-        (Reason::Overflowed, "Overflowed"),
-        (Reason::InvalidTag(20), "InvalidTag(20)"),
-        (Reason::StringHeadShort(3), "StringHeadShort(3)"),
-        (Reason::NegativeLength, "NegativeLength"),
-        (Reason::StringTooSmall, "StringTooSmall"),
-        (Reason::StringPastEnd(10, 5), "StringPastEnd(10, 5)"),
-        (Reason::StringNotTerminated, "StringNotTerminated"),
-        (Reason::PastEnd(134217731, 8), "PastEnd(134217731, 8)"),
-        (Reason::DocumentTooSmall(4), "DocumentTooSmall(4)"),
-        (Reason::NestedNotTerminated, "NestedNotTerminated"),
-        (Reason::LengthHeadShort(0), "LengthHeadShort(0)"),
-        (Reason::NoTerminator, "NoTerminator"),
-        (Reason::BadBoolean(2), "BadBoolean(2)"),
-        (Reason::OldNoInner, "OldNoInner"),
-        (Reason::AddOverflow, "AddOverflow"),
-        (Reason::OldWrongInner, "OldWrongInner"),
-        (Reason::CodeTooSmall, "CodeTooSmall"),
-        (Reason::InteriorNul, "InteriorNul"),
-        (Reason::TooLong, "TooLong"),
-    ] {
-        assert_debug(&rt, rt.alloc(), &reason, text)?;
+    for (reason, text) in REASONS {
+        assert_debug(&rt, rt.alloc(), reason, text)?;
     }
     Ok(())
 }

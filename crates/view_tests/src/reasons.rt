@@ -37,7 +37,7 @@ fn bytes_without_an_envelope_are_refused(rt: HostRuntime) -> Result<(), Fail> {
 }
 
 /// Documents whose first element has the key `k` and no frame: why, and the text of the error.
-const STOPS: [(&[u8], Reason, &str); 26] = [
+const STOPS: &[(&[u8], Reason, &str)] = &[
     (
         b"\x07\0\0\0\x14k\0",
         Reason::InvalidTag(20),
@@ -182,7 +182,7 @@ fn a_stop_says_why_no_element_stands_there(rt: HostRuntime) -> Result<(), Fail> 
     for (bytes, reason, text) in STOPS {
         let answer = RawDocument::from_bytes(bytes)?.get(rt.alloc(), "x");
         let want = Want::Fault(Fault {
-            reason: Some(reason),
+            reason: Some(*reason),
             key: Some("k"),
             text,
         });
@@ -199,7 +199,7 @@ fn a_stop_says_why_no_element_stands_there(rt: HostRuntime) -> Result<(), Fail> 
 }
 
 /// Documents whose first element has the key `k` and no value: why, the key of the error, and its text.
-const FAULTS: [(&[u8], Option<Reason>, Option<&str>, &str); 15] = [
+const FAULTS: &[(&[u8], Option<Reason>, Option<&str>, &str)] = &[
     (
         b"\x09\0\0\0\x08k\0\xFF\0",
         Some(Reason::BadBoolean(255)),
@@ -302,7 +302,11 @@ fn a_value_says_why_it_is_none(rt: HostRuntime) -> Result<(), Fail> {
     let checks = Checks::ample(rt.alloc());
     for (bytes, reason, key, text) in FAULTS {
         let answer = RawDocument::from_bytes(bytes)?.get(rt.alloc(), "k");
-        let want = Want::Fault(Fault { reason, key, text });
+        let want = Want::Fault(Fault {
+            reason: *reason,
+            key: *key,
+            text,
+        });
         checks.answer(answer, want, bytes)?;
     }
     Ok(())

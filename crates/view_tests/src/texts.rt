@@ -1,5 +1,6 @@
+use bson_model::NoMemory;
 use raw_view::{Error, ErrorKind, RawDocument, Reason};
-use std::alloc::Global;
+use std::alloc::{AllocError, Global};
 use std::process::Abort;
 use std::test::Fail;
 use test_fixtures::*;
@@ -67,32 +68,35 @@ fn a_key_is_printed_as_it_stands(rt: HostRuntime) -> Result<(), Fail> {
     Ok(())
 }
 
+/// Documents, each with a key under which no int32 is found, and the text of the error.
+const ACCESS_TEXTS: &[(&[u8], &str, &str)] = &[
+    (
+        BOOL_AND_INT32,
+        "bool",
+        "error at key: \"bool\":  unexpected element type: Boolean, expected: Int32",
+    ),
+    (
+        BOOL_AND_INT32,
+        "unknown",
+        "error at key: \"unknown\": value not present",
+    ),
+    (EMPTY, "", "error at key: \"\": value not present"),
+    (EMPTY, "\"\n", "error at key: \"\"\n\": value not present"),
+    (
+        BOOLEAN_TWO,
+        "a",
+        "error at key: \"a\": : error at key \"a\": malformed value: \"boolean must be stored as 0 or 1, got 2\"",
+    ),
+    (
+        ARRAY_WITH_TEXT_NOT_UTF8,
+        "0",
+        "error at key: \"0\": : utf-8 encoding error: invalid utf-8 sequence of 1 bytes from index 0",
+    ),
+];
+
 #[test]
 fn access_errors_are_printed(rt: HostRuntime) -> Result<(), Fail> {
-    for (bytes, key, text) in [
-        (
-            BOOL_AND_INT32,
-            "bool",
-            "error at key: \"bool\":  unexpected element type: Boolean, expected: Int32",
-        ),
-        (
-            BOOL_AND_INT32,
-            "unknown",
-            "error at key: \"unknown\": value not present",
-        ),
-        (EMPTY, "", "error at key: \"\": value not present"),
-        (EMPTY, "\"\n", "error at key: \"\"\n\": value not present"),
-        (
-            BOOLEAN_TWO,
-            "a",
-            "error at key: \"a\": : error at key \"a\": malformed value: \"boolean must be stored as 0 or 1, got 2\"",
-        ),
-        (
-            ARRAY_WITH_TEXT_NOT_UTF8,
-            "0",
-            "error at key: \"0\": : utf-8 encoding error: invalid utf-8 sequence of 1 bytes from index 0",
-        ),
-    ] {
+    for (bytes, key, text) in ACCESS_TEXTS {
         assert_i32_text(&rt, rt.alloc(), bytes, key, text)?;
     }
     Ok(())
@@ -109,31 +113,57 @@ fn an_index_is_printed_in_decimal(rt: HostRuntime) -> Result<(), Fail> {
     Ok(())
 }
 
+/// The key of each kind but the boolean in the document of all kinds, with the name of the kind.
+const NAMES: &[(&str, &str)] = &[
+    ("a", "Double"),
+    ("b", "String"),
+    ("c", "EmbeddedDocument"),
+    ("d", "Array"),
+    ("e", "Binary"),
+    ("f", "Undefined"),
+    ("g", "ObjectId"),
+    ("i", "DateTime"),
+    ("j", "Null"),
+    ("k", "RegularExpression"),
+    ("l", "DbPointer"),
+    ("m", "JavaScriptCode"),
+    ("n", "Symbol"),
+    ("o", "JavaScriptCodeWithScope"),
+    ("p", "Int32"),
+    ("q", "Timestamp"),
+    ("r", "Int64"),
+    ("s", "Decimal128"),
+    ("t", "MaxKey"),
+    ("u", "MinKey"),
+];
+
 #[test]
 fn every_kind_has_its_name_in_a_text(rt: HostRuntime) -> Result<(), Fail> {
-    for (key, name) in [
-        ("a", "Double"),
-        ("b", "String"),
-        ("c", "EmbeddedDocument"),
-        ("d", "Array"),
-        ("e", "Binary"),
-        ("f", "Undefined"),
-        ("g", "ObjectId"),
-        ("i", "DateTime"),
-        ("j", "Null"),
-        ("k", "RegularExpression"),
-        ("l", "DbPointer"),
-        ("m", "JavaScriptCode"),
-        ("n", "Symbol"),
-        ("o", "JavaScriptCodeWithScope"),
-        ("p", "Int32"),
-        ("q", "Timestamp"),
-        ("r", "Int64"),
-        ("s", "Decimal128"),
-        ("t", "MaxKey"),
-        ("u", "MinKey"),
-    ] {
+    for (key, name) in NAMES {
         assert_kind_text(&rt, rt.alloc(), key, name)?;
     }
     Ok(())
+}
+
+/// Whether the error says that no memory was left, and has no key.
+fn is_want_of_memory(error: &Error) -> bool {
+    matches!(error.kind, ErrorKind::OutOfMemory) && error.key().is_none()
+}
+
+#[test]
+fn a_failed_allocation_becomes_an_error(rt: HostRuntime) -> Result<(), Fail> {
+    assert!(rt; is_want_of_memory(&Error::from(AllocError)));
+    assert!(rt; is_want_of_memory(&Error::from(NoMemory)));
+    assert_text(&rt, rt.alloc(), &Error::out_of_memory(), "out of memory")
+}
+
+#[test]
+fn a_refusal_is_an_error_without_a_key(rt: HostRuntime) -> Result<(), Fail> {
+    let error = Error::malformed(Reason::TooShort);
+    assert_text(
+        &rt,
+        rt.alloc(),
+        &error,
+        "malformed value: \"document too short\"",
+    )
 }

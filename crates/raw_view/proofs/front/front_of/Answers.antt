@@ -15,9 +15,9 @@ returns-in_default-from c =
     let spelled : c.args.rest.now ≡ c.in-Some.tag.now ∷ (c.in-Ok.parts.0.now ++ 0 ∷ c.in-Ok.parts.1.now) = search (rules, common_steps) in
     rw (c.malformed_at.ensures.kind, c.malformed_at.ensures.key) (tag_stop _ _ _ _ spelled text.1 text.2 c.in_default-from.ensures.cases)
 
-pub returns-in-Err-payload_len : goal.returns-in-Err-payload_len
-returns-in-Err-payload_len c =
+pub returns-in-Err-front_len : goal.returns-in-Err-front_len
+returns-in-Err-front_len c =
     let text = c.in-Ok.ensures.found in
     let spelled : c.args.rest.now ≡ c.in-Some.tag.now ∷ (c.in-Ok.parts.0.now ++ 0 ∷ c.in-Ok.parts.1.now) = search (rules, common_steps) in
-    let fault = c.in-Err-payload_len.ensures in
-    payload_stop _ _ _ _ c.in-Some-from.kind c.in-Err-payload_len.kind spelled text.1 text.2 c.in-Some-from.ensures.cases fault.none fault.fault
+    let fault = c.in-Err-front_len.ensures in
+    payload_stop _ _ _ _ c.in-Some-from.kind c.in-Err-front_len.kind spelled text.1 text.2 c.in-Some-from.ensures.cases fault.none fault.fault

@@ -1,7 +1,7 @@
 use Rattle.std.proofs.Common.{◌≡◌, length, take, Some}
 use Rattle.bson_model.specs.Tree.{document, entries, pairs_of, with_trees, tree_of_list}
 use Rattle.raw_tree.specs.Judging.{Judges}
-use Rattle.raw_tree.proofs.writing.+judge.Given as goal
+use Rattle.raw_tree.proofs.judging.+judge.Given as goal
 
 abbrev pub invariant-judged_document-loop-index : goal.invariant-judged_document-loop-index
 invariant-judged_document-loop-index l =

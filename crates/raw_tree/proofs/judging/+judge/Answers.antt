@@ -3,7 +3,7 @@ use Rattle.bson_model.specs.Bytes.{NulFree}
 use Rattle.bson_model.specs.Tree.{pairs_of}
 use Rattle.bson_model.proofs.Face.{value_smaller}
 use Rattle.raw_tree.proofs.Encodings.{member_at, judged_member, judged_pair, refused_member, refused_value, refused_key}
-use Rattle.raw_tree.proofs.writing.+judge.Goals as goal
+use Rattle.raw_tree.proofs.judging.+judge.Goals as goal
 
 pub judged_document-judged_value-requires : goal.judged_document-judged_value-requires
 judged_document-judged_value-requires t c =

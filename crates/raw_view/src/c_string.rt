@@ -21,7 +21,8 @@ pub(crate) fn split_at_nul(bytes: &[u8]) -> Option<(&[u8], &[u8])>
 
 /// The text up to the first 0, and what stands behind that 0.
 pub(crate) fn split_text(bytes: &[u8]) -> Result<(&str, &[u8]), ErrorKind>
-    ensures found { IfOk result (λ x. (bytes.now ≡ x.0.now ++ 0 ∷ x.1.now) × NulFree x.0.now × IsUtf8 x.0.now) }
+    ensures found { IfOk result
+        (λ x. (bytes.now ≡ x.0.now ++ 0 ∷ x.1.now) × NulFree x.0.now × IsUtf8 x.0.now) }
     ensures fault { IfErr result (IsTextFault bytes.now) }
     ensures reading { IfErr result IsReadingKind }
 {

@@ -1,5 +1,5 @@
 use Rattle.bson_model.proofs.Face.{tree_of-Double, tree_of-Boolean, tree_of-Timestamp, tree_of-ObjectId, tree_of-DateTime, tree_of-Decimal128, tree_of-Null, tree_of-Undefined, tree_of-MaxKey, tree_of-MinKey}
-use Rattle.raw_tree.proofs.writing.leaf_ref.Goals as goal
+use Rattle.raw_tree.proofs.judging.leaf_ref.Goals as goal
 
 pub returns-in-Double-clause-some : goal.returns-in-Double-clause-some
 returns-in-Double-clause-some c = rw c.in-Double.is (tree_of-Double c.in-Double.bits)

@@ -1,0 +1,185 @@
+ghost use Rattle.std.specs.Prelude.{◌≡◌, option_copied, option_map};
+ghost use Rattle.raw_view.specs.Document.{bytes_of};
+ghost use Rattle.raw_view.specs.Value.{array_bytes_of};
+
+use crate::bson::{RawBson, binary_ref, pointer_ref, regex_ref};
+use bson_model::{DateTime, DoubleBits, ObjectId, Timestamp};
+use raw_view::{
+    RawArray, RawBinaryRef, RawDbPointerRef, RawDocument, RawJavaScriptCodeWithScopeRef,
+    RawRegexRef,
+};
+
+impl RawBson {
+    ghost use Rattle.raw_bson.specs.OwnedAccessors as accessors;
+    ghost use Rattle.raw_bson.specs.OwnedAccessors.{binary_parts, regex_parts, pointer_parts, scope_parts};
+
+    /// The value of this kind: the double; `None` for every other kind.
+    pub fn as_f64(&self) -> Option<DoubleBits>
+        ensures { result ≡ accessors.as_f64 self.now }
+    {
+        match self {
+            RawBson::Double(x) => Some(*x),
+            _ => None,
+        }
+    }
+
+    /// The value of this kind: the text; `None` for every other kind.
+    pub fn as_str(&self) -> Option<&str>
+        ensures { option_copied result ≡ accessors.as_str self.now }
+    {
+        match self {
+            RawBson::String(x) => Some(x.as_str()),
+            _ => None,
+        }
+    }
+
+    /// The value of this kind: the array; `None` for every other kind.
+    pub fn as_array(&self) -> Option<RawArray<'_>>
+        ensures { option_map array_bytes_of result ≡ accessors.as_array self.now }
+    {
+        match self {
+            RawBson::Array(x) => Some(x.as_ref()),
+            _ => None,
+        }
+    }
+
+    /// The value of this kind: the nested document; `None` for every other kind.
+    pub fn as_document(&self) -> Option<RawDocument<'_>>
+        ensures { option_map bytes_of result ≡ accessors.as_document self.now }
+    {
+        match self {
+            RawBson::Document(x) => Some(x.as_ref()),
+            _ => None,
+        }
+    }
+
+    /// The value of this kind: the boolean; `None` for every other kind.
+    pub fn as_bool(&self) -> Option<bool>
+        ensures { result ≡ accessors.as_bool self.now }
+    {
+        match self {
+            RawBson::Boolean(x) => Some(*x),
+            _ => None,
+        }
+    }
+
+    /// The value of this kind: the number; `None` for every other kind.
+    pub fn as_i32(&self) -> Option<i32>
+        ensures { result ≡ accessors.as_i32 self.now }
+    {
+        match self {
+            RawBson::Int32(x) => Some(*x),
+            _ => None,
+        }
+    }
+
+    /// The value of this kind: the number; `None` for every other kind.
+    pub fn as_i64(&self) -> Option<i64>
+        ensures { result ≡ accessors.as_i64 self.now }
+    {
+        match self {
+            RawBson::Int64(x) => Some(*x),
+            _ => None,
+        }
+    }
+
+    /// The value of this kind: the identifier; `None` for every other kind.
+    pub fn as_object_id(&self) -> Option<ObjectId>
+        ensures { result ≡ accessors.as_object_id self.now }
+    {
+        match self {
+            RawBson::ObjectId(x) => Some(*x),
+            _ => None,
+        }
+    }
+
+    /// The value of this kind: the bytes and their subtype; `None` for every other kind.
+    pub fn as_binary(&self) -> Option<RawBinaryRef<'_>>
+        ensures { option_map binary_parts result ≡ accessors.as_binary self.now }
+    {
+        match self {
+            RawBson::Binary(x) => Some(binary_ref(x)),
+            _ => None,
+        }
+    }
+
+    /// The value of this kind: the pattern and the options; `None` for every other kind.
+    pub fn as_regex(&self) -> Option<RawRegexRef<'_>>
+        ensures { option_map regex_parts result ≡ accessors.as_regex self.now }
+    {
+        match self {
+            RawBson::RegularExpression(x) => Some(regex_ref(x)),
+            _ => None,
+        }
+    }
+
+    /// The value of this kind: the time; `None` for every other kind.
+    pub fn as_datetime(&self) -> Option<DateTime>
+        ensures { result ≡ accessors.as_datetime self.now }
+    {
+        match self {
+            RawBson::DateTime(x) => Some(*x),
+            _ => None,
+        }
+    }
+
+    /// The value of this kind: the symbol's text; `None` for every other kind.
+    pub fn as_symbol(&self) -> Option<&str>
+        ensures { option_copied result ≡ accessors.as_symbol self.now }
+    {
+        match self {
+            RawBson::Symbol(x) => Some(x.as_str()),
+            _ => None,
+        }
+    }
+
+    /// The value of this kind: the timestamp; `None` for every other kind.
+    pub fn as_timestamp(&self) -> Option<Timestamp>
+        ensures { result ≡ accessors.as_timestamp self.now }
+    {
+        match self {
+            RawBson::Timestamp(x) => Some(*x),
+            _ => None,
+        }
+    }
+
+    /// `Some` exactly for null.
+    pub fn as_null(&self) -> Option<()>
+        ensures { result ≡ accessors.as_null self.now }
+    {
+        match self {
+            RawBson::Null => Some(()),
+            _ => None,
+        }
+    }
+
+    /// The value of this kind: the pointer; `None` for every other kind.
+    pub fn as_db_pointer(&self) -> Option<RawDbPointerRef<'_>>
+        ensures { option_map pointer_parts result ≡ accessors.as_db_pointer self.now }
+    {
+        match self {
+            RawBson::DbPointer(x) => Some(pointer_ref(x)),
+            _ => None,
+        }
+    }
+
+    /// The value of this kind: the code; `None` for every other kind.
+    pub fn as_javascript(&self) -> Option<&str>
+        ensures { option_copied result ≡ accessors.as_javascript self.now }
+    {
+        match self {
+            RawBson::JavaScriptCode(x) => Some(x.as_str()),
+            _ => None,
+        }
+    }
+
+    /// The value of this kind: the code and its scope; `None` for every other kind.
+    pub fn as_javascript_with_scope(&self) -> Option<RawJavaScriptCodeWithScopeRef<'_>>
+        ensures { option_map scope_parts result ≡ accessors.as_javascript_with_scope self.now }
+    {
+        match self {
+            RawBson::JavaScriptCodeWithScope(x) => Some(x.as_ref()),
+            _ => None,
+        }
+    }
+}
