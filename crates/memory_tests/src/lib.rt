@@ -12,6 +12,8 @@ mod buffers;
 #[cfg(test)]
 mod copies;
 #[cfg(test)]
+mod counts;
+#[cfg(test)]
 mod errors;
 #[cfg(test)]
 mod getters;

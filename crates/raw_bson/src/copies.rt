@@ -11,10 +11,10 @@ ghost use Rattle.raw_view.specs.Value.{value_of, array_bytes_of};
 use crate::array_buf::RawArrayBuf;
 use crate::bson::{RawBson, RawJavaScriptCodeWithScope};
 use crate::document_buf::RawDocumentBuf;
-use bson_model::{DbPointer, Regex};
+use bson_model::Regex;
+use raw_tree::copied_pointer;
 use raw_view::{
-    RawArray, RawBsonRef, RawDbPointerRef, RawDocument, RawElement, RawJavaScriptCodeWithScopeRef,
-    RawRegexRef, Result,
+    RawArray, RawBsonRef, RawDocument, RawElement, RawJavaScriptCodeWithScopeRef, Result,
 };
 use std::alloc::Global;
 
@@ -66,23 +66,6 @@ impl ToRawArrayBuf for RawArray<'_> {
     }
 }
 
-fn copy_regex(alloc: Global, regex: RawRegexRef<'_>) -> Result<RawBson>
-    ensures copied { IfOk result (IsCopy (value_of (ref.RegularExpression regex.entry))) }
-    ensures err { IfErr result IsOutOfMemory }
-{
-    Ok(RawBson::RegularExpression(Regex::new(alloc, regex.pattern, regex.options)?))
-}
-
-fn copy_pointer(alloc: Global, pointer: RawDbPointerRef<'_>) -> Result<RawBson>
-    ensures copied { IfOk result (IsCopy (value_of (ref.DbPointer pointer.entry))) }
-    ensures err { IfErr result IsOutOfMemory }
-{
-    Ok(RawBson::DbPointer(DbPointer {
-        namespace: String::from_str(alloc, pointer.namespace())?,
-        id: pointer.id(),
-    }))
-}
-
 fn copy_code(alloc: Global, code: RawJavaScriptCodeWithScopeRef<'_>) -> Result<RawBson>
     ensures copied { IfOk result (IsCopy (value_of (ref.JavaScriptCodeWithScope code.entry))) }
     ensures err { IfErr result IsOutOfMemory }
@@ -105,7 +88,10 @@ impl ToRawBson for RawBsonRef<'_> {
             RawBsonRef::Document(x) => Ok(RawBson::Document(x.to_raw_document_buf(alloc)?)),
             RawBsonRef::Boolean(x) => Ok(RawBson::Boolean(x)),
             RawBsonRef::Null => Ok(RawBson::Null),
-            RawBsonRef::RegularExpression(x) => copy_regex(alloc, x),
+            RawBsonRef::RegularExpression(x) => {
+                let regex = Regex::new(alloc, x.pattern, x.options)?;
+                Ok(RawBson::RegularExpression(regex))
+            }
             RawBsonRef::JavaScriptCode(x) => Ok(RawBson::JavaScriptCode(String::from_str(
                 alloc, x,
             )?)),
@@ -121,7 +107,7 @@ impl ToRawBson for RawBsonRef<'_> {
             RawBsonRef::Undefined => Ok(RawBson::Undefined),
             RawBsonRef::MaxKey => Ok(RawBson::MaxKey),
             RawBsonRef::MinKey => Ok(RawBson::MinKey),
-            RawBsonRef::DbPointer(x) => copy_pointer(alloc, x),
+            RawBsonRef::DbPointer(x) => Ok(RawBson::DbPointer(copied_pointer(alloc, x)?)),
         }
     }
 }

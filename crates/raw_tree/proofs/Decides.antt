@@ -1,192 +1,89 @@
--- Bytes with an envelope are read as a tree, or have a first fault; and what a caller's loop keeps.
-use Rattle.std.proofs.Common.{◌≡◌, ◌⊎◌, inl, inr, ◌≤◌, ◌+◌, ◌++◌, ◌∷◌, [], ℕ, zero, suc, List, length, drop, arith, ap, refl, subst, length-append, length-drop}
-use Rattle.bson_model.specs.Leaf.{Leaf}
+-- Bytes with an envelope are read as a tree and have a frame count, or have a first fault and frames until it.
+use Rattle.std.proofs.Common.{◌≡◌, ◌⊎◌, inl, inr, ◌≤◌, ◌+◌, ◌++◌, ◌∷◌, [], ℕ, zero, suc, List, length, drop, arith, refl, subst, length-drop}
+use Rattle.bson_model.specs.Bytes.{AreBytes}
 use Rattle.bson_model.specs.Pairs.{keep}
 use Rattle.bson_model.specs.Tree.{Tree, Entries, leaf, document, code_with_scope, entries}
-use Rattle.raw_view.specs.Envelope.{IsEnvelope}
-use Rattle.raw_view.specs.Format.{string_payload}
-use Rattle.raw_view.specs.Frame.{Frame, IsFrame, HasShape, IsStop, IsWalk, End, Done, Stopped, LeadsTo}
-use Rattle.raw_view.specs.Meaning.{RawValue, KeyedFault, Means, MeansValue, IsCodeWithScope, Meaning, value, faulty}
-use Rattle.raw_view.specs.Meaning as raw
-use Rattle.bson_model.specs.Bytes.{AreBytes}
-use Rattle.raw_view.specs.declared.element_type.ElementType.{ElementType}
-use Rattle.raw_view.specs.declared.element_type.ElementType.TheVariants as kind
-use Rattle.raw_view.proofs.Face.{LeadsTo-walk, LeadsTo-more, IsFrame-shorter, has_meaning, AreBytes-rest, document_has_walk}
 use Rattle.bson_model.proofs.Face.{AreBytes-drop}
-use Rattle.raw_tree.specs.Reading.{Sort, as_document, as_array, tree_of_pairs, leaf_in_order, StandsFor, StandForEach, ReadsUpTo, ReadsAs, Holds, FirstFault, FirstFaultOfValue}
+use Rattle.raw_view.specs.Envelope.{IsEnvelope}
+use Rattle.raw_view.specs.Frame.{Frame, IsFrame, IsWalk, End, Done, Stopped, LeadsTo}
+use Rattle.raw_view.specs.Meaning.{RawValue, KeyedFault, Means, Meaning, value, faulty}
+use Rattle.raw_view.specs.Meaning as raw
+use Rattle.raw_view.proofs.Face.{LeadsTo-walk, LeadsTo-more, IsFrame-shorter, has_meaning, AreBytes-rest, document_has_walk, one_frame, no_frame_at_stop, no_frame_at_final}
+use Rattle.raw_tree.specs.FrameCount.{CountsIn, CountsFrames, HasFrameCount, HasFramesToFault, HasFramesUntilFault}
+use Rattle.raw_tree.specs.Reading.{Sort, as_document, as_array, tree_of_pairs, leaf_in_order, StandsFor, StandForEach, ReadsAs, Holds, FirstFault, FirstFaultOfValue}
+use Rattle.raw_tree.proofs.FrameCounts.{count_of_walk, counts_more, to_stop, to_frame, to_inside}
+use Rattle.raw_tree.proofs.Loops.{nested_envelope, nested_shorter, reads_of, stand_more, fault_at_stop, fault_at_frame, fault_inside}
+use Rattle.raw_tree.proofs.OneTree.{tree_or_fault}
 
--- nested bytes
+-- bytes are read as a tree and have so many frames, or have a first fault and so many frames until it
+abbrev pub IsCounted : Sort → List ℕ → ℕ → Type 0
+IsCounted sort b n = ((t : Tree) × ReadsAs sort b t × HasFrameCount b n) ⊎ ((fault : KeyedFault) × FirstFault b fault × HasFramesToFault b n)
 
--- a value that holds no others holds no nested bytes
-single_holds_none : (v : RawValue) (l : Leaf) (d : List ℕ) → v ≡ raw.single l → Holds v d → ⊥
-single_holds_none v l d e h = subst (λ (x : RawValue). Holds x d) e h
+-- so many are the frames until the first fault
+pub counted_until : (sort : Sort) (b : List ℕ) (n : ℕ) → IsCounted sort b n → HasFramesUntilFault b n
+counted_until sort b n (inl all) = inl (λ fault bad. tree_or_fault sort b all.0 fault all.1 bad, all.2)
+counted_until sort b n (inr to) = inr to.2
 
--- how many bytes are nested in a value
-abbrev pub nested_length : RawValue → ℕ
-nested_length (raw.single l) = 0
-nested_length (raw.document d) = length d
-nested_length (raw.array d) = length d
-nested_length (raw.scoped code d) = length d
-
--- the scope is a part of the payload
-scope_within : (p code scope : List ℕ) → IsCodeWithScope p code scope → length scope ≤ length p
-scope_within p code scope c = omega (arith, ap length c.spelled, length-append (string_payload code) scope)
-
--- these bytes have an envelope and are no longer than the payload
-abbrev IsNestedIn : List ℕ → List ℕ → Type 0
-IsNestedIn p d = IsEnvelope d × (length d ≤ length p)
-
--- a payload that has its envelope is nested in itself
-whole_payload : (p d : List ℕ) → IsEnvelope p → d ≡ p → IsNestedIn p d
-whole_payload p d env e = (rw e env, omega (arith, ap length e))
-
--- the nested bytes of a payload, by kind
-nested_in_payload : (k : ElementType) (p r : List ℕ) (v : RawValue) (d : List ℕ) → HasShape k p r → MeansValue k p v → Holds v d → IsNestedIn p d
-nested_in_payload kind.EmbeddedDocument p r v d x m h = whole_payload p d x (subst (λ (y : RawValue). Holds y d) m h)
-nested_in_payload kind.Array p r v d x m h = whole_payload p d x (subst (λ (y : RawValue). Holds y d) m h)
-nested_in_payload kind.JavaScriptCodeWithScope p r v d x m h =
-    let e : d ≡ m.1 = subst (λ (y : RawValue). Holds y d) m.5 h in
-    (rw e m.4, omega (arith, ap length e, scope_within p m.0 m.1 m.2))
-nested_in_payload kind.Double p r v d x m h = absurd (single_holds_none v _ d m.2 h)
-nested_in_payload kind.String p r v d x m h = absurd (single_holds_none v _ d m.2 h)
-nested_in_payload kind.Binary p r v d x m h =
-    elim m.3 [
-      | inl a ↦ absurd (single_holds_none v _ d a.1 h)
-      | inr b ↦ absurd (single_holds_none v _ d b.3 h)
-    ]
-nested_in_payload kind.Boolean p r v d x m h = absurd (single_holds_none v _ d m.2 h)
-nested_in_payload kind.DateTime p r v d x m h = absurd (single_holds_none v _ d m.2 h)
-nested_in_payload kind.RegularExpression p r v d x m h = absurd (single_holds_none v _ d m.3 h)
-nested_in_payload kind.DbPointer p r v d x m h = absurd (single_holds_none v _ d m.4 h)
-nested_in_payload kind.JavaScriptCode p r v d x m h = absurd (single_holds_none v _ d m.2 h)
-nested_in_payload kind.Symbol p r v d x m h = absurd (single_holds_none v _ d m.2 h)
-nested_in_payload kind.Int32 p r v d x m h = absurd (single_holds_none v _ d m.2 h)
-nested_in_payload kind.Timestamp p r v d x m h = absurd (single_holds_none v _ d m.3 h)
-nested_in_payload kind.Int64 p r v d x m h = absurd (single_holds_none v _ d m.2 h)
-nested_in_payload _ p r v d x m h = absurd (single_holds_none v _ d m h)
-
--- a payload stands behind a tag and a 0
-payload_shorter : (s : List ℕ) (f : Frame) (r : List ℕ) → IsFrame s f r → length f.payload + 2 ≤ length s
-payload_shorter s f r b = omega (arith, ap length b.spelled, length-append f.key (0 ∷ (f.payload ++ r)), length-append f.payload r)
-
--- the nested bytes of a frame's value have an envelope
-pub nested_envelope : (s : List ℕ) (f : Frame) (r : List ℕ) (v : RawValue) (d : List ℕ) → IsFrame s f r → Means f (value v) → Holds v d → IsEnvelope d
-nested_envelope s f r v d b m h = (nested_in_payload f.kind f.payload r v d b.payload_is m h).0
-
--- and they are shorter by two than the bytes where the frame stands
-pub nested_shorter : (s : List ℕ) (f : Frame) (r : List ℕ) (v : RawValue) (d : List ℕ) → IsFrame s f r → Means f (value v) → Holds v d → length d + 2 ≤ length s
-nested_shorter s f r v d b m h = omega (arith, (nested_in_payload f.kind f.payload r v d b.payload_is m h).1, payload_shorter s f r b)
-
--- levels
-
--- where other bytes are read as the same trees, a value stands for the same tree
-stands_on : (N M : Sort → List ℕ → Tree → Type 0) → ((sort : Sort) (b : List ℕ) (t : Tree) → N sort b t → M sort b t) → (v : RawValue) (t : Tree) → StandsFor N v t → StandsFor M v t
-stands_on N M on (raw.single l) t h = h
-stands_on N M on (raw.document d) t h = on as_document d t h
-stands_on N M on (raw.array d) t h = on as_array d t h
-stands_on N M on (raw.scoped code d) t h = (h.0, on as_document d (document h.0) h.1, h.2)
-
--- so do the values of frames
-stand_each_on : (N M : Sort → List ℕ → Tree → Type 0) → ((sort : Sort) (b : List ℕ) (t : Tree) → N sort b t → M sort b t) → (fs : List Frame) (pairs : List (List ℕ × Tree)) → StandForEach N fs pairs → StandForEach M fs pairs
-stand_each_on N M on [] pairs h = h
-stand_each_on N M on (f ∷ fs) pairs h = (h.0, h.1, h.2, h.3, stands_on N M on h.0 h.1 h.4, h.5, stand_each_on N M on fs h.2 h.6)
-
--- what is read within some levels is read within more
-pub reads_up_to : (n m : ℕ) → n ≤ m → (sort : Sort) (b : List ℕ) (t : Tree) → ReadsUpTo n sort b t → ReadsUpTo m sort b t
-reads_up_to zero m l sort b t h = absurd h
-reads_up_to (suc n) zero l sort b t h = absurd (omega arith)
-reads_up_to (suc n) (suc m) l sort b t h =
-    (h.0, (h.1.0, h.1.1, stand_each_on (ReadsUpTo n) (ReadsUpTo m) (reads_up_to n m (omega arith)) h.1.0 h.0 h.1.2), h.2)
-
--- a value that stands for a tree does so within some levels
-stands_level : (v : RawValue) (t : Tree) → StandsFor ReadsAs v t → (n : ℕ) × StandsFor (ReadsUpTo n) v t
-stands_level (raw.single l) t h = (0, h)
-stands_level (raw.document d) t h = h
-stands_level (raw.array d) t h = h
-stands_level (raw.scoped code d) t h = (h.1.0, (h.0, h.1.1, h.2))
-
--- frames that are read are read within some levels
-pub stand_each_level : (fs : List Frame) (pairs : List (List ℕ × Tree)) → StandForEach ReadsAs fs pairs → (n : ℕ) × StandForEach (ReadsUpTo n) fs pairs
-stand_each_level [] pairs h = (0, h)
-stand_each_level (f ∷ fs) pairs h =
-    let first = stands_level h.0 h.1 h.4 in
-    let others = stand_each_level fs h.2 h.6 in
-    let n : ℕ = first.0 + others.0 in
-    let here : StandsFor (ReadsUpTo n) h.0 h.1 = stands_on (ReadsUpTo first.0) (ReadsUpTo n) (reads_up_to first.0 n (omega arith)) h.0 h.1 first.1 in
-    let behind : StandForEach (ReadsUpTo n) fs h.2 = stand_each_on (ReadsUpTo others.0) (ReadsUpTo n) (reads_up_to others.0 n (omega arith)) fs h.2 others.1 in
-    (n, (h.0, h.1, h.2, h.3, here, h.5, behind))
-
--- bytes whose walk is done and whose frames all stand for trees are read
-pub reads_of : (sort : Sort) (b : List ℕ) (frames : List Frame) (pairs : List (List ℕ × Tree)) → IsWalk (drop 4 b) frames Done → StandForEach ReadsAs frames pairs → ReadsAs sort b (tree_of_pairs sort pairs)
-reads_of sort b frames pairs w h =
-    let each = stand_each_level frames pairs h in
-    (suc each.0, (pairs, (frames, w, each.1), refl))
-
--- a caller's loop
-
--- one frame more is read
-pub stand_more : (Nested : Sort → List ℕ → Tree → Type 0) (fs : List Frame) (pairs : List (List ℕ × Tree)) (f : Frame) (v : RawValue) (t : Tree) → StandForEach Nested fs pairs → Means f (value v) → StandsFor Nested v t → StandForEach Nested (fs ++ f ∷ []) (pairs ++ (f.key, t) ∷ [])
-stand_more Nested [] pairs f v t h m st = (v, t, [], m, st, ap (λ x. x ++ (f.key, t) ∷ []) h, refl)
-stand_more Nested (g ∷ fs) pairs f v t h m st =
-    (h.0, h.1, h.2 ++ (f.key, t) ∷ [], h.3, h.4, ap (λ x. x ++ (f.key, t) ∷ []) h.5, stand_more Nested fs h.2 f v t h.6 m st)
-
--- behind the frames that are read the walk stops
-pub fault_at_stop : (b : List ℕ) (passed : List Frame) (pairs : List (List ℕ × Tree)) (s : List ℕ) (fault : KeyedFault) → LeadsTo (drop 4 b) passed s → StandForEach ReadsAs passed pairs → IsStop s fault.fault fault.key → FirstFault b fault
-fault_at_stop b passed pairs s fault l h stop = (1, (passed, pairs, s, l, h, inl stop))
-
--- a frame behind them means a fault
-pub fault_at_frame : (b : List ℕ) (passed : List Frame) (pairs : List (List ℕ × Tree)) (s : List ℕ) (f : Frame) (r : List ℕ) (fault : KeyedFault) → LeadsTo (drop 4 b) passed s → StandForEach ReadsAs passed pairs → IsFrame s f r → Means f (faulty fault) → FirstFault b fault
-fault_at_frame b passed pairs s f r fault l h at m = (1, (passed, pairs, s, l, h, inr (f, r, at, inl m)))
-
--- nested bytes of a frame behind them have a fault
-pub fault_inside : (b : List ℕ) (passed : List Frame) (pairs : List (List ℕ × Tree)) (s : List ℕ) (f : Frame) (r : List ℕ) (v : RawValue) (fault : KeyedFault) → LeadsTo (drop 4 b) passed s → StandForEach ReadsAs passed pairs → IsFrame s f r → Means f (value v) → FirstFaultOfValue v fault → FirstFault b fault
-fault_inside b passed pairs s f r v fault l h at m inside =
-    (suc inside.2.0, (passed, pairs, s, l, h, inr (f, r, at, inr (v, m, (inside.0, inside.1, inside.2.1)))))
-
--- decisions
-
--- bytes are read as a tree, or have a first fault
-abbrev pub AreReadOrFaulty : Sort → List ℕ → Type 0
-AreReadOrFaulty sort b = ((t : Tree) × ReadsAs sort b t) ⊎ ((fault : KeyedFault) × FirstFault b fault)
-
--- a value stands for a tree, or has a first fault
-abbrev pub StandsOrIsFaulty : RawValue → Type 0
-StandsOrIsFaulty v = ((t : Tree) × StandsFor ReadsAs v t) ⊎ ((fault : KeyedFault) × FirstFaultOfValue v fault)
+-- a value stands for a tree, and so many frames stand in it; or nested bytes that it holds have a first fault,
+-- and so many frames until it
+abbrev IsValueCounted : RawValue → ℕ → Type 0
+IsValueCounted v n = ((t : Tree) × StandsFor ReadsAs v t × CountsIn HasFrameCount (value v) n) ⊎ ((d : List ℕ) × (fault : KeyedFault) × Holds v d × FirstFault d fault × HasFramesToFault d n)
 
 -- a tree as which bytes are read as a document is the tree of entries
-document_read : (b : List ℕ) (t : Tree) → ReadsAs as_document b t → (es : Entries) × ReadsAs as_document b (document es)
+pub document_read : (b : List ℕ) (t : Tree) → ReadsAs as_document b t → (es : Entries) × ReadsAs as_document b (document es)
 document_read b t (zero, h) = absurd h
 document_read b t (suc n, h) = (entries (keep h.0), (suc n, (h.0, h.1, refl)))
 
--- a value is decided where its nested bytes are
-pub value_by_nested : (v : RawValue) → ((sort : Sort) (d : List ℕ) → Holds v d → AreReadOrFaulty sort d) → StandsOrIsFaulty v
-value_by_nested (raw.single l) nested = inl (leaf (leaf_in_order l), refl)
-value_by_nested (raw.document d) nested =
-    elim (nested as_document d refl) [
-      | inl t ↦ inl t
-      | inr bad ↦ inr (bad.0, (d, refl, bad.1))
-    ]
-value_by_nested (raw.array d) nested =
-    elim (nested as_array d refl) [
-      | inl t ↦ inl t
-      | inr bad ↦ inr (bad.0, (d, refl, bad.1))
-    ]
-value_by_nested (raw.scoped code d) nested =
-    elim (nested as_document d refl) [
-      | inl t ↦ (
-          let scope = document_read d t.0 t.1 in
-          inl (code_with_scope code scope.0, (scope.0, scope.1, refl)))
-      | inr bad ↦ inr (bad.0, (d, refl, bad.1))
+-- the value of a code is counted where its scope is
+scoped_counted : (code d : List ℕ) (n : ℕ) → IsCounted as_document d n → IsValueCounted (raw.scoped code d) n
+scoped_counted code d n (inl all) =
+    let scope = document_read d all.0 all.1 in
+    inl (code_with_scope code scope.0, (scope.0, scope.1, refl), all.2)
+scoped_counted code d n (inr to) = inr (d, to.0, refl, to.1, to.2)
+
+-- so is that of a document, or of an array, where its bytes are
+whole_counted : (sort : Sort) (d : List ℕ) (n : ℕ) → IsCounted sort d n → ((t : Tree) × ReadsAs sort d t × HasFrameCount d n) ⊎ ((e : List ℕ) × (fault : KeyedFault) × (e ≡ d) × FirstFault e fault × HasFramesToFault e n)
+whole_counted sort d n (inl all) = inl all
+whole_counted sort d n (inr to) = inr (d, to.0, refl, to.1, to.2)
+
+-- a value is counted where its nested bytes are
+pub value_counted : (v : RawValue) → ((sort : Sort) (d : List ℕ) → Holds v d → (n : ℕ) × IsCounted sort d n) → (n : ℕ) × IsValueCounted v n
+value_counted (raw.single l) nested = (0, inl (leaf (leaf_in_order l), refl, refl))
+value_counted (raw.document d) nested =
+    let n = nested as_document d refl in
+    (n.0, whole_counted as_document d n.0 n.1)
+value_counted (raw.array d) nested =
+    let n = nested as_array d refl in
+    (n.0, whole_counted as_array d n.0 n.1)
+value_counted (raw.scoped code d) nested =
+    let n = nested as_document d refl in
+    (n.0, scoped_counted code d n.0 n.1)
+
+-- a value stands for a tree, or has a first fault, where its nested bytes are counted
+pub value_decided : (v : RawValue) → ((sort : Sort) (d : List ℕ) → Holds v d → (n : ℕ) × IsCounted sort d n) → ((t : Tree) × StandsFor ReadsAs v t) ⊎ ((fault : KeyedFault) × FirstFaultOfValue v fault)
+value_decided v nested =
+    elim (value_counted v nested).1 [
+      | inl all ↦ inl (all.0, all.1)
+      | inr to ↦ inr (to.1, (to.0, to.2, to.3))
     ]
 
--- bytes with an envelope and at most this length are decided
-abbrev AreDecidedWithin : ℕ → Type 0
-AreDecidedWithin n = (sort : Sort) (d : List ℕ) → length d ≤ n → IsEnvelope d → AreReadOrFaulty sort d
+-- bytes with an envelope and at most this length are counted
+abbrev AreCountedWithin : ℕ → Type 0
+AreCountedWithin n = (sort : Sort) (d : List ℕ) → length d ≤ n → IsEnvelope d → (k : ℕ) × IsCounted sort d k
 
--- the value of a frame is decided where shorter bytes are
-value_within : (n : ℕ) → AreDecidedWithin n → (s : List ℕ) (f : Frame) (r : List ℕ) (v : RawValue) → length s ≤ n + 1 → IsFrame s f r → Means f (value v) → StandsOrIsFaulty v
-value_within n shorter s f r v l b m =
-    value_by_nested v (λ sort d h. shorter sort d (omega (arith, nested_shorter s f r v d b m h)) (nested_envelope s f r v d b m h))
+-- the value of a frame is counted where shorter bytes are
+value_within : (n : ℕ) → AreCountedWithin n → (s : List ℕ) (f : Frame) (r : List ℕ) (v : RawValue) → length s ≤ n + 1 → IsFrame s f r → Means f (value v) → (k : ℕ) × IsValueCounted v k
+value_within n shorter s f r v l at m =
+    value_counted v (λ sort d h. shorter sort d (omega (arith, nested_shorter s f r v d at m h)) (nested_envelope s f r v d at m h))
+
+-- bytes are counted, and have at least so many frames
+abbrev pub IsCountedFrom : Sort → List ℕ → ℕ → Type 0
+IsCountedFrom sort b least = (n : ℕ) × (least ≤ n) × IsCounted sort b n
+
+-- of frames the first is counted at least
+abbrev pub least_of : List Frame → ℕ
+least_of [] = 0
+least_of (_ ∷ _) = 1
 
 -- a meaning is a value or a fault
 value_or_fault : (f : Frame) (m : Meaning) → Means f m → ((v : RawValue) × Means f (value v)) ⊎ ((fault : KeyedFault) × Means f (faulty fault))
@@ -195,32 +92,83 @@ value_or_fault f (faulty fault) m = inr (fault, m)
 
 -- Along a walk, behind frames that are read: at the end the bytes are read, and a stop, a fault of a frame
 -- or one of its value is the first fault.
-along : (n : ℕ) → AreDecidedWithin n → (sort : Sort) (b : List ℕ) (passed : List Frame) (pairs : List (List ℕ × Tree)) (s : List ℕ) (frames : List Frame) (end : End) → LeadsTo (drop 4 b) passed s → StandForEach ReadsAs passed pairs → AreBytes s → length s ≤ n + 1 → IsWalk s frames end → AreReadOrFaulty sort b
-along n shorter sort b passed pairs s [] Done lead h bytes l w = inl (tree_of_pairs sort pairs, reads_of sort b passed pairs (LeadsTo-walk (drop 4 b) passed s Done lead w) h)
-along n shorter sort b passed pairs s [] (Stopped fault key) lead h bytes l w =
+along : (n : ℕ) → AreCountedWithin n → (sort : Sort) (b : List ℕ) (passed : List Frame) (pairs : List (List ℕ × Tree)) (before : ℕ) (s : List ℕ) (frames : List Frame) (end : End) → LeadsTo (drop 4 b) passed s → StandForEach ReadsAs passed pairs → CountsFrames HasFrameCount passed before
+    → AreBytes s → length s ≤ n + 1 → IsWalk s frames end → IsCountedFrom sort b (before + least_of frames)
+along n shorter sort b passed pairs before s [] Done lead h c bytes l w =
+    let whole = LeadsTo-walk (drop 4 b) passed s Done lead w in
+    (before, omega arith, inl (tree_of_pairs sort pairs, reads_of sort b passed pairs whole h, count_of_walk b passed Done before whole c))
+along n shorter sort b passed pairs before s [] (Stopped fault key) lead h c bytes l w =
     let bad : KeyedFault = record { fault = fault; key = key } in
-    inr (bad, fault_at_stop b passed pairs s bad lead h w)
-along n shorter sort b passed pairs s (f ∷ frames) end lead h bytes l w =
+    (before, omega arith, inr (bad, fault_at_stop b passed pairs s bad lead h w, to_stop b passed pairs s before lead h c bad w))
+along n shorter sort b passed pairs before s (f ∷ frames) end lead h c bytes l w =
     let m = has_meaning f w.0 s bytes w.1 in
     elim (value_or_fault f m.0 m.1) [
-      | inr bad ↦ inr (bad.0, fault_at_frame b passed pairs s f w.0 bad.0 lead h w.1 bad.1)
-      | inl v ↦ elim (value_within n shorter s f w.0 v.0 l w.1 v.1) [
-        | inr bad ↦ inr (bad.0, fault_inside b passed pairs s f w.0 v.0 bad.0 lead h w.1 v.1 bad.1)
-        | inl t ↦ (
-            let on : LeadsTo (drop 4 b) (passed ++ f ∷ []) w.0 = LeadsTo-more (drop 4 b) passed s f w.0 lead w.1 in
-            let each : StandForEach ReadsAs (passed ++ f ∷ []) (pairs ++ (f.key, t.0) ∷ []) = stand_more ReadsAs passed pairs f v.0 t.0 h v.1 t.1 in
-            along n shorter sort b (passed ++ f ∷ []) (pairs ++ (f.key, t.0) ∷ []) w.0 frames end on each (AreBytes-rest s f w.0 w.1 bytes) (omega (arith, IsFrame-shorter s f w.0 w.1)) w.2)
-      ]
+      | inr bad ↦ (before + 1, omega arith, inr (bad.0, fault_at_frame b passed pairs s f w.0 bad.0 lead h w.1 bad.1, to_frame b passed pairs s before lead h c f w.0 bad.0 w.1 bad.1))
+      | inl v ↦ (
+          let k = value_within n shorter s f w.0 v.0 l w.1 v.1 in
+          elim k.1 [
+            | inr to ↦ (before + 1 + k.0, omega arith, inr (to.1, fault_inside b passed pairs s f w.0 v.0 to.1 lead h w.1 v.1 (to.0, to.2, to.3), to_inside b passed pairs s before lead h c f w.0 v.0 to.0 to.1 k.0 w.1 v.1 to.2 to.3 to.4))
+            | inl t ↦ (
+                let on : LeadsTo (drop 4 b) (passed ++ f ∷ []) w.0 = LeadsTo-more (drop 4 b) passed s f w.0 lead w.1 in
+                let each : StandForEach ReadsAs (passed ++ f ∷ []) (pairs ++ (f.key, t.0) ∷ []) = stand_more ReadsAs passed pairs f v.0 t.0 h v.1 t.1 in
+                let more : CountsFrames HasFrameCount (passed ++ f ∷ []) (before + 1 + k.0) = counts_more passed before f (value v.0) k.0 c v.1 t.2 in
+                let rest = along n shorter sort b (passed ++ f ∷ []) (pairs ++ (f.key, t.0) ∷ []) (before + 1 + k.0) w.0 frames end on each more (AreBytes-rest s f w.0 w.1 bytes) (omega (arith, IsFrame-shorter s f w.0 w.1)) w.2 in
+                (rest.0, omega (arith, rest.1), rest.2))
+          ])
     ]
 
--- bytes with an envelope are decided, by recursion on a bound of their length
-decided_within : (n : ℕ) → AreDecidedWithin n
-decided_within zero sort b l env = absurd (omega (arith, env.enough))
-decided_within (suc n) sort b l env =
+-- bytes with an envelope are counted, by recursion on a bound of their length
+counted_within : (n : ℕ) → AreCountedWithin n
+counted_within zero sort b l env = absurd (omega (arith, env.enough))
+counted_within (suc n) sort b l env =
     let w = document_has_walk b env in
     let size : length (drop 4 b) ≤ n + 1 = omega (arith, length-drop 4 b) in
-    along n (decided_within n) sort b [] [] (drop 4 b) w.0 w.1 refl refl (AreBytes-drop 4 b env.bytes) size w.2
+    let from = along n (counted_within n) sort b [] [] 0 (drop 4 b) w.0 w.1 refl refl refl (AreBytes-drop 4 b env.bytes) size w.2 in
+    (from.0, from.2)
+
+-- bytes with an envelope are counted
+pub counted : (sort : Sort) (b : List ℕ) → IsEnvelope b → (n : ℕ) × IsCounted sort b n
+counted sort b env = counted_within (length b) sort b (omega arith) env
 
 -- bytes with an envelope are read as a tree, or have a first fault
-pub decided : (sort : Sort) (b : List ℕ) → IsEnvelope b → AreReadOrFaulty sort b
-decided sort b env = decided_within (length b) sort b (omega arith) env
+pub decided : (sort : Sort) (b : List ℕ) → IsEnvelope b → ((t : Tree) × ReadsAs sort b t) ⊎ ((fault : KeyedFault) × FirstFault b fault)
+decided sort b env =
+    elim (counted sort b env).1 [
+      | inl all ↦ inl (all.0, all.1)
+      | inr to ↦ inr (to.0, to.1)
+    ]
+
+-- what a loop knows
+
+-- frames that lead on are the first of the walk
+rest_of_walk : (s : List ℕ) (passed : List Frame) (r : List ℕ) (frames : List Frame) (end : End) → LeadsTo s passed r → IsWalk s frames end → (others : List Frame) × IsWalk r others end
+rest_of_walk s [] r frames end l w = (frames, subst (λ (x : List ℕ). IsWalk x frames end) l w)
+rest_of_walk s (f ∷ fs) r [] Done l w = absurd (no_frame_at_final s w f l.0 l.1)
+rest_of_walk s (f ∷ fs) r [] (Stopped fault key) l w = absurd (no_frame_at_stop s fault key w f l.0 l.1)
+rest_of_walk s (f ∷ fs) r (g ∷ gs) end l w =
+    let same : l.0 ≡ w.0 = (one_frame s f g l.0 w.0 l.1 w.1).1 in
+    rest_of_walk w.0 fs r gs end (subst (λ (x : List ℕ). LeadsTo x fs r) same l.2) w.2
+
+AreBytes-behind : (s : List ℕ) (passed : List Frame) (r : List ℕ) → LeadsTo s passed r → AreBytes s → AreBytes r
+AreBytes-behind s [] r l bytes = subst AreBytes l bytes
+AreBytes-behind s (f ∷ fs) r l bytes = AreBytes-behind l.0 fs r l.2 (AreBytes-rest s f l.0 l.1 bytes)
+
+module _ (sort : Sort) (b : List ℕ) (env : IsEnvelope b) (passed : List Frame) (pairs : List (List ℕ × Tree)) (before : ℕ) (s : List ℕ) (lead : LeadsTo (drop 4 b) passed s) (each : StandForEach ReadsAs passed pairs) (c : CountsFrames HasFrameCount passed before) where
+  counted_on : (frames : List Frame) × (end : End) × IsWalk s frames end × IsCountedFrom sort b (before + least_of frames)
+  counted_on =
+      let whole = document_has_walk b env in
+      let rest = rest_of_walk (drop 4 b) passed s whole.0 whole.1 lead whole.2 in
+      (rest.0, whole.1, rest.1, along (length s) (λ of_sort d l e. counted of_sort d e) sort b passed pairs before s rest.0 whole.1 lead each c (AreBytes-behind (drop 4 b) passed s lead (AreBytes-drop 4 b env.bytes)) (omega arith) rest.1)
+
+  -- frames that have been read are counted
+  pub counted_from : IsCountedFrom sort b before
+  counted_from = let on = counted_on in (on.3.0, omega (arith, on.3.1), on.3.2)
+
+  with_frame : (f : Frame) (r : List ℕ) → IsFrame s f r → (frames : List Frame) (end : End) → IsWalk s frames end → IsCountedFrom sort b (before + least_of frames) → IsCountedFrom sort b (before + 1)
+  with_frame f r at [] Done w n = absurd (no_frame_at_final s w f r at)
+  with_frame f r at [] (Stopped fault key) w n = absurd (no_frame_at_stop s fault key w f r at)
+  with_frame f r at (g ∷ gs) end w n = n
+
+  -- and so is the frame behind them
+  pub counted_from_frame : (f : Frame) (r : List ℕ) → IsFrame s f r → IsCountedFrom sort b (before + 1)
+  counted_from_frame f r at = let on = counted_on in with_frame f r at on.0 on.1 on.2 on.3

@@ -1,5 +1,8 @@
 pub mod Decides
-pub mod Passed
+pub mod FrameCounts
+pub mod LevelSteps
+pub mod Stacks
+pub mod Loops
 pub mod Encodings
 pub mod OneTree
 pub mod OneWay

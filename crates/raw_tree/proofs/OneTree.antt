@@ -1,5 +1,5 @@
 -- Reading is determined: bytes are read as one tree at most, have one first fault at most, and never both.
-use Rattle.std.proofs.Common.{◌≡◌, ◌⊎◌, inl, inr, ◌∷◌, [], ℕ, zero, suc, List, drop, ap, sym, ◌∙◌, subst}
+use Rattle.std.proofs.Common.{◌≡◌, ◌⊎◌, inl, inr, ◌∷◌, [], ℕ, zero, suc, List, drop, ap, refl, sym, ◌∙◌, subst}
 use Rattle.bson_model.specs.Tree.{Tree, document, code_with_scope}
 use Rattle.raw_view.specs.Frame.{Frame, IsFrame, IsStop, IsWalk, Done, LeadsTo}
 use Rattle.raw_view.specs.Meaning.{RawValue, KeyedFault, Means, value, faulty}
@@ -22,7 +22,7 @@ pub value_nor_fault : (f : Frame) (v : RawValue) (x : KeyedFault) → Means f (v
 value_nor_fault f v x a b = let same : value v ≡ faulty x = one_meaning f (value v) (faulty x) a b in cc
 
 -- a value holds the nested bytes of one list at most
-one_nested : (v : RawValue) (d e : List ℕ) → Holds v d → Holds v e → d ≡ e
+pub one_nested : (v : RawValue) (d e : List ℕ) → Holds v d → Holds v e → d ≡ e
 one_nested (raw.single l) d e a b = absurd a
 one_nested (raw.document x) d e a b = a ∙ sym b
 one_nested (raw.array x) d e a b = a ∙ sym b
@@ -75,7 +75,7 @@ one_tree_of_value v t u h k = stands_same ReadsAs ReadsAs one_tree v t u h k
 -- a tree and a fault exclude each other
 
 -- the bytes have the fault at their front, where Inner says which nested bytes have it
-abbrev FailsAt : (List ℕ → KeyedFault → Type 0) → List ℕ → KeyedFault → Type 0
+abbrev pub FailsAt : (List ℕ → KeyedFault → Type 0) → List ℕ → KeyedFault → Type 0
 FailsAt Inner s x = IsStop s x.fault x.key ⊎ ((f : Frame) × (r : List ℕ) × IsFrame s f r × FailsInFrame Inner f x)
 
 -- no bytes are read as a tree and have the fault
@@ -161,25 +161,26 @@ front_fault_same Inner Other same s x y (inr a) (inr b) =
     let frames : b.0 ≡ a.0 = (one_frame s b.0 a.0 b.1 a.1 b.2 a.2).0 in
     frame_fault_same Inner Other same a.0 x y a.3 (rw frames at b.3)
 
--- and bytes with a fault behind frames that stand for trees
-walk_fault_same : (Inner Other : List ℕ → KeyedFault → Type 0) → HaveOneFault Inner Other → AreApart ReadsAs Inner → AreApart ReadsAs Other → (s : List ℕ) (fs gs : List Frame) (r q : List ℕ) (ps qs : List (List ℕ × Tree)) (x y : KeyedFault)
-    → LeadsTo s fs r → StandForEach ReadsAs fs ps → FailsAt Inner r x → LeadsTo s gs q → StandForEach ReadsAs gs qs → FailsAt Other q y → x ≡ y
-walk_fault_same Inner Other same apart away s [] [] r q ps qs x y l h a m k b =
-    front_fault_same Inner Other same s x y (subst (λ (z : List ℕ). FailsAt Inner z x) (sym l) a) (subst (λ (z : List ℕ). FailsAt Other z y) (sym m) b)
-walk_fault_same Inner Other same apart away s [] (g ∷ gs) r q ps qs x y l h a m k b =
+-- frames that stand for trees lead to one fault alone
+pub passed_same : (Inner Other : List ℕ → KeyedFault → Type 0) → AreApart ReadsAs Inner → AreApart ReadsAs Other → (s : List ℕ) (fs gs : List Frame) (r q : List ℕ) (ps qs : List (List ℕ × Tree)) (x y : KeyedFault)
+    → LeadsTo s fs r → StandForEach ReadsAs fs ps → FailsAt Inner r x → LeadsTo s gs q → StandForEach ReadsAs gs qs → FailsAt Other q y → (fs ≡ gs) × (r ≡ q)
+passed_same Inner Other apart away s [] [] r q ps qs x y l h a m k b = (refl, sym l ∙ m)
+passed_same Inner Other apart away s [] (g ∷ gs) r q ps qs x y l h a m k b =
     absurd (frame_apart ReadsAs Inner apart s g m.0 k.0 k.1 x m.1 k.3 k.4 (subst (λ (z : List ℕ). FailsAt Inner z x) (sym l) a))
-walk_fault_same Inner Other same apart away s (f ∷ fs) [] r q ps qs x y l h a m k b =
+passed_same Inner Other apart away s (f ∷ fs) [] r q ps qs x y l h a m k b =
     absurd (frame_apart ReadsAs Other away s f l.0 h.0 h.1 y l.1 h.3 h.4 (subst (λ (z : List ℕ). FailsAt Other z y) (sym m) b))
-walk_fault_same Inner Other same apart away s (f ∷ fs) (g ∷ gs) r q ps qs x y l h a m k b =
-    let rest : m.0 ≡ l.0 = (one_frame s g f m.0 l.0 m.1 l.1).1 in
-    walk_fault_same Inner Other same apart away l.0 fs gs r q h.2 k.2 x y l.2 h.6 a (subst (λ (z : List ℕ). LeadsTo z gs q) rest m.2) k.6 b
+passed_same Inner Other apart away s (f ∷ fs) (g ∷ gs) r q ps qs x y l h a m k b =
+    let front = one_frame s g f m.0 l.0 m.1 l.1 in
+    let others = passed_same Inner Other apart away l.0 fs gs r q h.2 k.2 x y l.2 h.6 a (subst (λ (z : List ℕ). LeadsTo z gs q) front.1 m.2) k.6 b in
+    (rw (front.0, others.0) refl, others.1)
 
 -- within any levels
 one_fault_within : (n m : ℕ) → HaveOneFault (FirstFaultUpTo n) (FirstFaultUpTo m)
 one_fault_within zero m b x y h k = absurd h
 one_fault_within (suc n) zero b x y h k = absurd k
 one_fault_within (suc n) (suc m) b x y h k =
-    walk_fault_same (FirstFaultUpTo n) (FirstFaultUpTo m) (one_fault_within n m) (reads_apart n) (reads_apart m) (drop 4 b) h.0 k.0 h.2 k.2 h.1 k.1 x y h.3 h.4 h.5 k.3 k.4 k.5
+    let same = passed_same (FirstFaultUpTo n) (FirstFaultUpTo m) (reads_apart n) (reads_apart m) (drop 4 b) h.0 k.0 h.2 k.2 h.1 k.1 x y h.3 h.4 h.5 k.3 k.4 k.5 in
+    front_fault_same (FirstFaultUpTo n) (FirstFaultUpTo m) (one_fault_within n m) h.2 x y h.5 (subst (λ (r : List ℕ). FailsAt (FirstFaultUpTo m) r y) (sym same.1) k.5)
 
 -- bytes have one first fault at most
 pub one_first_fault : (b : List ℕ) (x y : KeyedFault) → FirstFault b x → FirstFault b y → x ≡ y

@@ -9,8 +9,10 @@ use Rattle.raw_view.specs.Value.{value_of}
 use Rattle.raw_view.specs.declared.bson_ref.RawBsonRef.{RawBsonRef}
 use Rattle.raw_view.specs.declared.bson_ref.RawBsonRef.TheVariants as ref
 use Rattle.raw_view.specs.declared.error.Error.{Error}
-use Rattle.raw_tree.specs.Reading.{Sort, ReadsAs, StandsFor, Holds, FirstFaultOfValue, FirstFaultOfFrame, FrameStandsFor, AreReadOneWay, IsValueReadOneWay, IsFrameReadOneWay}
-use Rattle.raw_tree.proofs.Decides.{decided, value_by_nested}
+use Rattle.raw_tree.specs.FrameCount.{AllAreCountedOneWay}
+use Rattle.raw_tree.specs.Reading.{Sort, as_document, ReadsAs, StandsFor, Holds, FirstFaultOfValue, FirstFaultOfFrame, FrameStandsFor, AreReadOneWay, IsValueReadOneWay, IsFrameReadOneWay}
+use Rattle.raw_tree.proofs.Decides.{counted, counted_until, decided, value_decided}
+use Rattle.raw_tree.proofs.FrameCounts.{one_until}
 use Rattle.raw_tree.proofs.OneTree.{one_fault_of, one_value_of, value_nor_fault, one_tree, one_tree_of_value, one_first_fault, one_first_fault_of_value, tree_or_fault, tree_or_fault_of_value}
 
 -- bytes with an envelope
@@ -21,6 +23,13 @@ bytes_one_way sort b env = record {
   one_tree = λ t other r s. one_tree sort b other t s r;
   one_fault = λ fault other r s. one_first_fault b other fault s r;
 }
+
+-- and have one number of frames until the first fault
+pub counted_one_way : AllAreCountedOneWay
+counted_one_way b env =
+    let n = counted as_document b env in
+    let until = counted_until as_document b n.0 n.1 in
+    (n.0, until, λ other h. one_until b other n.0 h until)
 
 -- the nested bytes of a borrowed value have an envelope
 viewed_envelope : (v : RawBsonRef) (d : List ℕ) → Holds (value_of v) d → IsEnvelope d
@@ -49,7 +58,7 @@ viewed_envelope (ref.DbPointer x) d h = absurd h
 -- a value whose nested bytes have an envelope
 pub enveloped_one_way : (v : RawValue) → ((d : List ℕ) → Holds v d → IsEnvelope d) → IsValueReadOneWay v
 enveloped_one_way v env = record {
-  either = value_by_nested v (λ sort d h. decided sort d (env d h));
+  either = value_decided v (λ sort d h. counted sort d (env d h));
   not_both = λ t fault. tree_or_fault_of_value v t fault;
   one_tree = λ t other r s. one_tree_of_value v other t s r;
   one_fault = λ fault other r s. one_first_fault_of_value v other fault s r;

@@ -21,7 +21,7 @@ use Rattle.raw_view.specs.declared.element_type.ElementType.{ElementType}
 use Rattle.raw_view.specs.declared.element_type.ElementType.TheVariants as kind
 use Rattle.raw_view.proofs.Face.{AreBytes-rest}
 use Rattle.raw_tree.specs.Reading.{Sort, as_document, as_array, tree_of_pairs, leaf_in_order, StandsFor, StandForEach, ReadsUpTo, ReadsAs}
-use Rattle.raw_tree.proofs.Decides.{nested_envelope}
+use Rattle.raw_tree.proofs.Loops.{nested_envelope}
 
 -- bytes
 

@@ -22,7 +22,7 @@ use Rattle.raw_view.proofs.Face.{length-framed, AreBytes-leaf, AreBytes-scoped, 
 use Rattle.raw_tree.specs.Canonical.{AreDecimalsFrom, AreKeysCanonical, IsValueCanonical, AreFramesCanonical, IsCanonicalUpTo, IsCanonicalAs}
 use Rattle.raw_tree.specs.Encoding.{kind_of_tree, tree_payload, items_bytes, entries_bytes, encoding, encoded_len, items_len, entries_len}
 use Rattle.raw_tree.specs.Reading.{Sort, as_document, as_array, tree_of_pairs, leaf_in_order, StandsFor, StandForEach, ReadsAs}
-use Rattle.raw_tree.proofs.Decides.{reads_of}
+use Rattle.raw_tree.proofs.Loops.{reads_of}
 use Rattle.raw_tree.proofs.Encodings.{length-entries_bytes, length-items_bytes}
 
 -- levels

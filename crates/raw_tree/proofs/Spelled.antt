@@ -22,7 +22,7 @@ use Rattle.raw_tree.specs.Canonical.{AreDecimalsFrom, AreKeysCanonical, IsValueC
 use Rattle.raw_tree.specs.Encoding.{kind_of_tree, tree_payload, items_bytes, entries_bytes, encoding}
 use Rattle.raw_tree.specs.Payload.{payload_of}
 use Rattle.raw_tree.specs.Reading.{Sort, as_document, as_array, tree_of_pairs, leaf_in_order, StandsFor, StandForEach, ReadsUpTo, ReadsAs}
-use Rattle.raw_tree.proofs.Decides.{nested_envelope}
+use Rattle.raw_tree.proofs.Loops.{nested_envelope}
 use Rattle.raw_tree.proofs.OneTree.{one_value_of}
 
 -- payloads

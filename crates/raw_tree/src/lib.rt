@@ -2,14 +2,20 @@
 #![tactic(auto)]
 
 mod judging;
+mod levels;
 mod payload;
 mod put;
 mod reading;
+mod steps;
 mod total;
 mod writing;
 
+pub use levels::copied_pointer;
 pub use payload::{is_nul_free, is_value_nul_free, payload_len};
 pub use put::{put_element, set_len};
-pub use reading::{bson_from_element, bson_from_raw, document_from_raw, list_from_raw};
+pub use reading::{
+    bson_from_element, bson_from_raw, document_from_raw, document_from_raw_counted, list_from_raw,
+};
+pub use steps::Steps;
 pub use total::total_len;
 pub use writing::{encode, encode_list};

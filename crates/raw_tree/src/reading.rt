@@ -1,161 +1,85 @@
 //! The trees that bytes stand for.
 #![tactic(auto, using(std::proofs::lemmas::Grind::common_steps, bson_model::proofs::Trees::tree_laws))]
 
-ghost use Rattle.std.specs.Prelude.{◌≡◌, IfOk, IfErr, OnOk};
-ghost use Rattle.std.specs.String.{string_bytes};
-ghost use Rattle.bson_model.specs.Leaf.{regular_expression, db_pointer};
-ghost use Rattle.bson_model.specs.Options.{sorted_options};
-ghost use Rattle.bson_model.specs.Pairs.{with_pair};
-ghost use Rattle.bson_model.specs.Tree.{leaf, tree_of, tree_of_document, tree_of_list, pairs_of, with_trees};
+ghost use Rattle.std.specs.Prelude.{◌≡◌, ◌≤◌, ◌-◌, ◌/◌, length, IfOk, IfErr};
+ghost use Rattle.bson_model.specs.Tree.{tree_of, tree_of_document, tree_of_list};
 ghost use Rattle.raw_tree.specs.CanonicalForm.{AllAreSpelledOneWay};
+ghost use Rattle.raw_tree.specs.FrameCount.{AllAreCountedOneWay, AllHaveOneFrameCount, TellsFrames};
+ghost use Rattle.raw_tree.specs.Levels.{AreRead};
 ghost use Rattle.raw_tree.specs.Reading.{as_array, as_document, AllAreReadOneWay, FrameStandsFor, IsFrameReadOneWay, IsValueReadOneWay, Reads, ReadsAs, StandsFor, TellsFirstFault, TellsFirstFaultOfFrame, TellsFirstFaultOfValue};
 ghost use Rattle.raw_view.specs.Document.{bytes_of};
 ghost use Rattle.raw_view.specs.ElementSteps.{frame_of};
-ghost use Rattle.raw_view.specs.Errors.{IsOutOfMemory};
-ghost use Rattle.raw_view.specs.Meaning.{scoped};
-ghost use Rattle.raw_view.specs.Value.{array_bytes_of, id_of, namespace_of, value_of};
+ghost use Rattle.raw_view.specs.Value.{array_bytes_of, value_of};
 
-use bson_model::{Bson, DbPointer, Document, JavaScriptCodeWithScope, Regex};
-use raw_view::{
-    Error, ErrorKind, RawArray, RawBsonRef, RawDbPointerRef, RawDocument, RawElement,
-    RawJavaScriptCodeWithScopeRef, RawRegexRef, Result,
-};
+use crate::levels::{Contents, Holder, Nested, Opened, Waiting, begin, close, open, put};
+use crate::steps::Steps;
+use bson_model::{Bson, Document};
+use raw_view::{Error, RawArray, RawBsonRef, RawDocument, RawElement, Result};
 use std::alloc::Global;
 
-fn out_of_memory() -> Error
-    ensures { IsOutOfMemory result }
+/// What these bytes are read as. Those that are nested in them are read as a level of their own, whose result
+/// goes to the level that waits for it.
+fn read<'a>(alloc: Global, nested: Nested<'a>, steps: &mut Steps) -> Result<Contents<'a>>
+    requires fresh { steps.old ≡ 0 }
+    ensures tree { IfOk result (AreRead nested.entry.holder (bytes_of nested.entry.document)) }
+    ensures fault { IfErr result (TellsFirstFault (bytes_of nested.entry.document)) }
+    ensures count { TellsFrames (bytes_of nested.entry.document) result steps.new }
 {
-    Error::new(ErrorKind::OutOfMemory)
-}
-
-/// A text of its own.
-fn copied(alloc: Global, text: &str) -> Result<String>
-    ensures copied { IfOk result (λ copy. string_bytes copy ≡ text.now) }
-    ensures err { IfErr result IsOutOfMemory }
-{
-    match String::from_str(alloc, text) {
-        Ok(copy) => Ok(copy),
-        Err(_) => Err(out_of_memory()),
+    let mut waiting: Vec<Waiting<'a>> = Vec::new(alloc);
+    let mut level = begin(alloc, nested);
+    'levels: loop {
+        let (key, value) = match steps.frame(&mut level.elements) {
+            Some(element) => {
+                let element = element?;
+                let value = element.value(alloc)?;
+                match open(alloc, value)? {
+                    Opened::Whole(value) => (element.key(), value),
+                    Opened::Nested(nested) => {
+                        let key = element.key();
+                        if waiting.push(Waiting { level, key }).is_err() {
+                            return Err(Error::out_of_memory());
+                        }
+                        level = begin(alloc, nested);
+                        continue 'levels;
+                    }
+                }
+            }
+            None => match waiting.pop() {
+                Some(outer) => {
+                    let value = close(alloc, level.contents)?;
+                    level = outer.level;
+                    (outer.key, value)
+                }
+                None => return Ok(level.contents),
+            },
+        };
+        put(alloc, &mut level.contents, key, value)?;
     }
 }
 
-/// The regular expression with its options in order.
-fn regex_from(alloc: Global, regex: RawRegexRef<'_>) -> Result<Bson>
-    ensures tree { IfOk result
-        (λ t. tree_of t
-        ≡ leaf
-        (regular_expression regex.entry.pattern.now (sorted_options regex.entry.options.now))) }
-    ensures err { IfErr result IsOutOfMemory }
-{
-    match Regex::new(alloc, regex.pattern, regex.options) {
-        Ok(regex) => Ok(Bson::RegularExpression(regex)),
-        Err(_) => Err(out_of_memory()),
-    }
-}
-
-fn pointer_from(alloc: Global, pointer: RawDbPointerRef<'_>) -> Result<Bson>
-    ensures tree { IfOk result
-        (λ t. tree_of t ≡ leaf (db_pointer (namespace_of pointer.entry) (id_of pointer.entry))) }
-    ensures err { IfErr result IsOutOfMemory }
-{
-    Ok(Bson::DbPointer(DbPointer {
-        namespace: copied(alloc, pointer.namespace())?,
-        id: pointer.id(),
-    }))
-}
-
-/// Puts a pair last, or where its key stands; the only error is want of memory.
-fn put_pair(alloc: Global, tree: &mut Document, key: &str, value: Bson) -> Result<()>
-    ensures put { OnOk result (with_trees (pairs_of tree.new)
-        ≡ with_pair key.now (tree_of value) (with_trees (pairs_of tree.old))) }
-    ensures err { IfErr result IsOutOfMemory }
-{
-    match tree.insert(copied(alloc, key)?, value) {
-        Ok(_) => Ok(()),
-        Err(_) => Err(out_of_memory()),
-    }
-}
-
-/// The code and the tree of its scope.
-#[cycle(reading)]
-fn read_code(alloc: Global, code: RawJavaScriptCodeWithScopeRef<'_>) -> Result<Bson>
-    ensures tree { IfOk result
-        (λ t. StandsFor ReadsAs
-        (scoped code.entry.code.now (bytes_of code.entry.scope)) (tree_of t)) }
-    ensures fault { IfErr result (TellsFirstFault (bytes_of code.entry.scope)) }
-{
-    let scope = read_document(alloc, code.scope)?;
-    let code = copied(alloc, code.code)?;
-    Ok(Bson::JavaScriptCodeWithScope(JavaScriptCodeWithScope { code, scope }))
-}
-
-#[cycle(reading)]
-fn read_value(alloc: Global, value: RawBsonRef<'_>) -> Result<Bson>
-    ensures tree { IfOk result (λ t. StandsFor ReadsAs (value_of value.entry) (tree_of t)) }
-    ensures fault { IfErr result (TellsFirstFaultOfValue (value_of value.entry)) }
-{
-    match value {
-        RawBsonRef::Double(x) => Ok(Bson::Double(x)),
-        RawBsonRef::String(x) => Ok(Bson::String(copied(alloc, x)?)),
-        RawBsonRef::Array(x) => Ok(Bson::Array(read_list(alloc, x)?)),
-        RawBsonRef::Document(x) => Ok(Bson::Document(read_document(alloc, x)?)),
-        RawBsonRef::Boolean(x) => Ok(Bson::Boolean(x)),
-        RawBsonRef::Null => Ok(Bson::Null),
-        RawBsonRef::RegularExpression(x) => regex_from(alloc, x),
-        RawBsonRef::JavaScriptCode(x) => Ok(Bson::JavaScriptCode(copied(alloc, x)?)),
-        RawBsonRef::JavaScriptCodeWithScope(x) => read_code(alloc, x),
-        RawBsonRef::Int32(x) => Ok(Bson::Int32(x)),
-        RawBsonRef::Int64(x) => Ok(Bson::Int64(x)),
-        RawBsonRef::Timestamp(x) => Ok(Bson::Timestamp(x)),
-        RawBsonRef::Binary(x) => Ok(Bson::Binary(x.to_binary(alloc)?)),
-        RawBsonRef::ObjectId(x) => Ok(Bson::ObjectId(x)),
-        RawBsonRef::DateTime(x) => Ok(Bson::DateTime(x)),
-        RawBsonRef::Symbol(x) => Ok(Bson::Symbol(copied(alloc, x)?)),
-        RawBsonRef::Decimal128(x) => Ok(Bson::Decimal128(x)),
-        RawBsonRef::Undefined => Ok(Bson::Undefined),
-        RawBsonRef::MaxKey => Ok(Bson::MaxKey),
-        RawBsonRef::MinKey => Ok(Bson::MinKey),
-        RawBsonRef::DbPointer(x) => pointer_from(alloc, x),
-    }
-}
-
-#[cycle(reading)]
-fn read_element(alloc: Global, element: RawElement<'_>) -> Result<Bson>
-    ensures tree { IfOk result (λ t. FrameStandsFor (frame_of element.entry) (tree_of t)) }
-    ensures fault { IfErr result (TellsFirstFaultOfFrame (frame_of element.entry)) }
-{
-    let value = element.value(alloc)?;
-    read_value(alloc, value)
-}
-
-#[cycle(reading)]
-fn read_document(alloc: Global, document: RawDocument<'_>) -> Result<Document>
-    ensures tree { IfOk result (λ d. Reads (bytes_of document.entry) (tree_of_document d)) }
-    ensures fault { IfErr result (TellsFirstFault (bytes_of document.entry)) }
-{
-    let mut tree = Document::new(alloc);
-    for element in document.iter_elements(alloc) {
-        let element = element?;
-        let value = read_element(alloc, element)?;
-        put_pair(alloc, &mut tree, element.key(), value)?;
-    }
-    Ok(tree)
-}
-
-#[cycle(reading)]
 fn read_list(alloc: Global, array: RawArray<'_>) -> Result<Vec<Bson>>
     ensures tree { IfOk result
         (λ list. ReadsAs as_array (array_bytes_of array.entry) (tree_of_list list.items)) }
     ensures fault { IfErr result (TellsFirstFault (array_bytes_of array.entry)) }
 {
-    let mut list = Vec::new(alloc);
-    for element in array.as_doc().iter_elements(alloc) {
-        let value = read_element(alloc, element?)?;
-        if list.push(value).is_err() {
-            return Err(out_of_memory());
-        }
+    let nested = Nested {
+        document: array.as_doc(),
+        holder: Holder::Array,
+    };
+    match read(alloc, nested, &mut Steps::new())? {
+        Contents::Array(list) => Ok(list),
+        _ => unreachable!(),
     }
-    Ok(list)
+}
+
+fn read_value(alloc: Global, value: RawBsonRef<'_>) -> Result<Bson>
+    ensures tree { IfOk result (λ t. StandsFor ReadsAs (value_of value.entry) (tree_of t)) }
+    ensures fault { IfErr result (TellsFirstFaultOfValue (value_of value.entry)) }
+{
+    match open(alloc, value)? {
+        Opened::Whole(value) => Ok(value),
+        Opened::Nested(nested) => close(alloc, read(alloc, nested, &mut Steps::new())?),
+    }
 }
 
 /// The tree of a document: its pairs in order, a repeated key in the place of its first occurrence with the
@@ -169,7 +93,37 @@ pub fn document_from_raw(alloc: Global, document: RawDocument<'_>) -> Result<Doc
     ensures one_reading { AllAreReadOneWay as_document }
     ensures one_spelling { AllAreSpelledOneWay as_document }
 {
-    read_document(alloc, document)
+    let (tree, _) = document_from_raw_counted(alloc, document);
+    tree
+}
+
+/// The answer of `document_from_raw`, and how many elements were framed for it, at all levels: on success as
+/// many as the document has; on a fault those up to it, with the element that has it, if it is no stop;
+/// where memory ran out, no more than that. Of n bytes never more than (n - 4) / 2.
+pub fn document_from_raw_counted(
+    alloc: Global,
+    document: RawDocument<'_>,
+) -> (Result<Document>, Steps)
+    ensures tree { IfOk result.0 (λ d. Reads (bytes_of document.entry) (tree_of_document d)) }
+    ensures fault { IfErr result.0 (TellsFirstFault (bytes_of document.entry)) }
+    ensures one_reading { AllAreReadOneWay as_document }
+    ensures one_spelling { AllAreSpelledOneWay as_document }
+    ensures count { TellsFrames (bytes_of document.entry) result.0 result.1 }
+    ensures one_frame_count { AllHaveOneFrameCount }
+    ensures one_count { AllAreCountedOneWay }
+    ensures bound { result.1 ≤ (length (bytes_of document.entry) - 4) / 2 }
+{
+    let mut steps = Steps::new();
+    let nested = Nested {
+        document,
+        holder: Holder::Document,
+    };
+    let tree = match read(alloc, nested, &mut steps) {
+        Ok(Contents::Document(_, tree)) => Ok(tree),
+        Ok(_) => unreachable!(),
+        Err(error) => Err(error),
+    };
+    (tree, steps)
 }
 
 /// The values of an array in order; its keys are left away. It refuses what `document_from_raw` does, and
@@ -203,5 +157,5 @@ pub fn bson_from_element(alloc: Global, element: RawElement<'_>) -> Result<Bson>
     ensures one_reading { IsFrameReadOneWay (frame_of element.entry) }
 {
     let value = element.value(alloc)?;
-    read_value(alloc, value)
+    bson_from_raw(alloc, value)
 }

@@ -74,6 +74,15 @@ pub const THREE_INT32: &[u8] =
 /// The numbers 1 and 2, both under the key `a`.
 pub const REPEATED_KEY: &[u8] = b"\x13\0\0\0\x10a\0\x01\0\0\0\x10a\0\x02\0\0\0\0";
 
+/// An array of one null, whose key is empty, under the key `a`.
+pub const ARRAY_WITH_AN_EMPTY_KEY: &[u8] = b"\x0F\0\0\0\x04a\0\x07\0\0\0\x0A\0\0\0";
+
+/// The empty code with the empty scope, under the key `c`.
+pub const LEAST_CODE_WITH_SCOPE: &[u8] = b"\x16\0\0\0\x0Fc\0\x0E\0\0\0\x01\0\0\0\0\x05\0\0\0\0\0";
+
+/// Under the key `a` a document whose last 0 is the key of a null, so that its iteration stops.
+pub const NESTED_STOP: &[u8] = b"\x0E\0\0\0\x03a\0\x06\0\0\0\x0A\0\0";
+
 /// A document of one null, under the empty key.
 pub const NULL_DOCUMENT: &[u8] = b"\x07\0\0\0\x0A\0\0";
 

@@ -1,4 +1,4 @@
-use Rattle.std.proofs.Common.{◌≡◌, ◌-◌, ◌++◌, length, take, vec_len, append_assoc, arith}
+use Rattle.std.proofs.Common.{◌≡◌, ◌-◌, length, take, vec_len, append_assoc, arith}
 use Rattle.raw_bson.proofs.appending.put_at_end.Goals as goal
 
 pub returns : goal.returns
