@@ -1,3 +1,4 @@
+pub mod NulSearch
 pub mod Numbers
 pub mod Payloads
 pub mod Texts

@@ -1,25 +1,41 @@
 ghost use Rattle.std.specs.Prelude.{◌≡◌, ◌++◌, ◌∷◌, IfSome, IfNone, IfOk, IfErr};
 ghost use Rattle.std.specs.Str.{IsUtf8};
+ghost use Rattle.memchr.specs.Find.{IsFirstByte, is_byte};
 ghost use Rattle.raw_view.specs.Errors.{IsReadingKind};
 ghost use Rattle.bson_model.specs.Bytes.{NulFree};
 ghost use Rattle.raw_view.specs.Front.{IsTextFault};
 
 use crate::error::{ErrorKind, Reason};
+use crate::utf8::text_from;
+
+/// How many bytes are searched first: most C strings are short.
+const NEAR: usize = 32;
+
+/// The place of the first 0.
+#[inline(always)]
+fn first_nul(bytes: &[u8]) -> Option<usize>
+    ensures { IsFirstByte (is_byte 0) bytes.now result }
+{
+    if NEAR <= bytes.len() {
+        if let Some(at) = memchr::memchr(0, &bytes[..NEAR]) {
+            return Some(at);
+        }
+    }
+    memchr::memchr(0, bytes)
+}
 
 /// What stands before the first 0, and what stands behind it; `None` where there is no 0.
+#[inline(always)]
 pub(crate) fn split_at_nul(bytes: &[u8]) -> Option<(&[u8], &[u8])>
     ensures found { IfSome result (λ x. (bytes.now ≡ x.0.now ++ 0 ∷ x.1.now) × NulFree x.0.now) }
     ensures none { IfNone result (NulFree bytes.now) }
 {
-    for (at, byte) in bytes.iter().enumerate() {
-        if *byte == 0 {
-            return Some((bytes.split_at(at).0, bytes.split_at(at + 1).1));
-        }
-    }
-    None
+    let at = first_nul(bytes)?;
+    Some((bytes.split_at(at).0, bytes.split_at(at + 1).1))
 }
 
 /// The text up to the first 0, and what stands behind that 0.
+#[inline(always)]
 pub(crate) fn split_text(bytes: &[u8]) -> Result<(&str, &[u8]), ErrorKind>
     ensures found { IfOk result
         (λ x. (bytes.now ≡ x.0.now ++ 0 ∷ x.1.now) × NulFree x.0.now × IsUtf8 x.0.now) }
@@ -31,7 +47,7 @@ pub(crate) fn split_text(bytes: &[u8]) -> Result<(&str, &[u8]), ErrorKind>
             reason: Reason::NoTerminator,
         });
     };
-    match std::str::from_utf8(text) {
+    match text_from(text) {
         Ok(text) => Ok((text, behind)),
         Err(error) => Err(ErrorKind::Utf8EncodingError(error)),
     }

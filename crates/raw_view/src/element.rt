@@ -55,6 +55,7 @@ impl<'a> RawElement<'a> {
     ghost use Rattle.raw_view.specs.Value.{value_of};
 
     /// The value of a kind whose payloads all mean one; `None` for the kinds whose payload can be at fault.
+    #[inline(always)]
     fn faultless_value(self) -> Option<RawBsonRef<'a>>
         ensures value { IfSome result (λ v. Means (frame_of self.entry) (value (value_of v))) }
         ensures none { IfNone result (CanBeAtFault self.entry.kind) }
@@ -92,6 +93,7 @@ impl<'a> RawElement<'a> {
     }
 
     /// What the payload means; a fault borrows its key. Nothing is copied.
+    #[inline(always)]
     pub(crate) fn resolve(self) -> std::result::Result<RawBsonRef<'a>, BorrowedError<'a>>
         ensures value { IfOk result (λ v. Means (frame_of self.entry) (value (value_of v))) }
         ensures fault { IfErr result
@@ -128,6 +130,7 @@ impl<'a> RawElement<'a> {
     /// The value that the payload means, with its parts borrowed from the document; or its fault, with a
     /// copy of the key where it carries one. Where that copy finds no memory, the error says so instead.
     /// The kind, the key and the payload alone determine what is meant.
+    #[inline(always)]
     pub fn value(self, alloc: Global) -> Result<RawBsonRef<'a>>
         ensures meaning { (m : Meaning) × Means (frame_of self.entry) m × TellsMeaning result m }
         ensures one_meaning { (m : Meaning) × IsTheMeaning (frame_of self.entry) m }
@@ -147,6 +150,7 @@ impl<'a> RawElement<'a> {
     }
 
     /// The key with the value, or the value's fault.
+    #[inline(always)]
     pub(crate) fn keyed_value(self, alloc: Global) -> Result<(&'a str, RawBsonRef<'a>)>
         ensures { (m : Meaning) × Means (frame_of self.entry) m
             × TellsItem result (entry (frame_of self.entry).key m) }

@@ -51,6 +51,7 @@ pub enum ElementType {
 
 impl ElementType {
     /// The kind that a tag stands for; `None` for a byte that is no tag.
+    #[inline(always)]
     pub fn from(tag: u8) -> Option<ElementType>
         ensures of_its_tag { (kind : ElementType) → (result ≡ Some kind) ↔ (tag ≡ tag_of kind) }
         ensures cases { MatchOption result ((kind : ElementType) → tag ≢ tag_of kind)

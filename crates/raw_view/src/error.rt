@@ -257,6 +257,8 @@ impl<'a> BorrowedError<'a> {
     }
 
     /// The error with a copy of the key. Where the copy finds no memory, it says that and has no key.
+    #[cold]
+    #[inline(never)]
     pub(crate) fn into_error(self, alloc: Global) -> Error
         ensures { HasKeyCopy self.entry.kind (option_copied self.entry.key) result }
     {

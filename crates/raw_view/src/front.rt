@@ -18,6 +18,7 @@ pub(crate) enum Front<'a> {
 }
 
 /// What stands at the front of the bytes that are left of a document. Nothing is copied.
+#[inline(always)]
 pub(crate) fn front_of<'a>(rest: &'a [u8]) -> Front<'a>
     requires { 0 < length rest.now → slice_get rest.now (length rest.now - 1) ≡ Some 0 }
     ensures { IsFront rest.now result }

@@ -46,6 +46,7 @@ impl<'a> Iterator for RawIter<'a> {
 
     ghost remaining = { items_left };
 
+    #[inline(always)]
     fn next(&mut self) -> Option<Result<RawElement<'a>>> {
         match self.elements.next() {
             None => None,
@@ -95,6 +96,7 @@ impl<'a> Iterator for Iter<'a> {
 
     ghost remaining = { items_left };
 
+    #[inline(always)]
     fn next(&mut self) -> Option<Result<(&'a str, RawBsonRef<'a>)>> {
         match self.elements.next() {
             None => None,
@@ -143,6 +145,7 @@ impl<'a> Iterator for RawArrayIter<'a> {
 
     ghost remaining = { items_left };
 
+    #[inline(always)]
     fn next(&mut self) -> Option<Result<RawBsonRef<'a>>> {
         match self.elements.next() {
             None => None,

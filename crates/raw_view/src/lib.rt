@@ -20,6 +20,7 @@ pub mod laws;
 mod number;
 mod payload;
 mod typed;
+mod utf8;
 mod value;
 
 pub use access::{ValueAccessError, ValueAccessErrorKind, ValueAccessResult};

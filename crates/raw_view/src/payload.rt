@@ -12,6 +12,7 @@ use crate::element_type::ElementType;
 use crate::error::{ErrorKind, Reason};
 use crate::number::front_i32;
 
+#[inline(always)]
 fn fixed_len(size: usize, rest: &[u8]) -> Result<usize, Reason>
     ensures found { IfOk result (λ n. (n ≡ size) × (size ≤ length rest.now)) }
     ensures none { OnErr result (length rest.now < size) }
@@ -25,6 +26,7 @@ fn fixed_len(size: usize, rest: &[u8]) -> Result<usize, Reason>
 }
 
 /// The length that the four bytes at the front declare.
+#[inline(always)]
 fn declared_len(rest: &[u8]) -> Result<usize, Reason>
     requires { 4 ≤ length rest.now }
     ensures found { IfOk result (λ n. IsLe32 (take 4 rest.now) (pos n)) }
@@ -38,6 +40,7 @@ fn declared_len(rest: &[u8]) -> Result<usize, Reason>
     Ok(declared as usize)
 }
 
+#[inline(always)]
 pub(crate) fn front_string_len(rest: &[u8]) -> Result<usize, Reason>
     ensures within { IfOk result (λ n. n ≤ length rest.now) }
     ensures found { IfOk result (λ n. HasText (take n rest.now)) }
@@ -61,6 +64,7 @@ pub(crate) fn front_string_len(rest: &[u8]) -> Result<usize, Reason>
     Ok(size)
 }
 
+#[inline(always)]
 fn document_len(rest: &[u8]) -> Result<usize, Reason>
     ensures within { IfOk result (λ n. n ≤ length rest.now) }
     ensures found { IfOk result (λ n. IsEnvelope (take n rest.now)) }
@@ -83,6 +87,7 @@ fn document_len(rest: &[u8]) -> Result<usize, Reason>
     Ok(size)
 }
 
+#[inline(always)]
 fn binary_len(rest: &[u8]) -> Result<usize, Reason>
     ensures within { IfOk result (λ n. n ≤ length rest.now) }
     ensures found { IfOk result (λ n. HasShape Binary (take n rest.now) (drop n rest.now)) }
@@ -143,6 +148,7 @@ fn regex_len(rest: &[u8]) -> Result<usize, ErrorKind>
 }
 
 /// How many bytes the payload of a kind without C strings takes; else why none stands at the front.
+#[inline(always)]
 fn sized_len(kind: ElementType, rest: &[u8]) -> Result<usize, Reason>
     requires { kind ≢ RegularExpression }
     ensures within { IfOk result (λ n. n ≤ length rest.now) }
@@ -172,6 +178,7 @@ fn sized_len(kind: ElementType, rest: &[u8]) -> Result<usize, Reason>
 }
 
 /// How many bytes the payload at the front takes; else why none of this kind stands there.
+#[inline(always)]
 pub(crate) fn front_len(kind: ElementType, rest: &[u8]) -> Result<usize, ErrorKind>
     ensures within { IfOk result (λ n. n ≤ length rest.now) }
     ensures found { IfOk result (λ n. HasShape kind (take n rest.now) (drop n rest.now)) }

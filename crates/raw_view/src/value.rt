@@ -18,9 +18,11 @@ use crate::element_type::ElementType;
 use crate::error::{BorrowedError, ErrorKind, Reason};
 use crate::number::{array_of, front_i32, u32_of};
 use crate::payload::front_string_len;
+use crate::utf8::text_from;
 use bson_model::{BinarySubtype, ObjectId, Timestamp};
 
 /// The text of a string.
+#[inline(always)]
 pub(crate) fn text_of(string: &[u8]) -> Result<&str, BorrowedError<'_>>
     requires { HasText string.now }
     ensures text { IfOk result (λ text. SpellsText string.now text.now) }
@@ -28,7 +30,7 @@ pub(crate) fn text_of(string: &[u8]) -> Result<&str, BorrowedError<'_>>
         (λ e. (fault : KeyedFault) × (SpellsNoText string.now × (fault ≡ not_text))
         × TellsBorrowed e fault) }
 {
-    match std::str::from_utf8(&string[4..string.len() - 1]) {
+    match text_from(&string[4..string.len() - 1]) {
         Ok(text) => Ok(text),
         Err(error) => Err(BorrowedError {
             kind: ErrorKind::Utf8EncodingError(error),
@@ -38,6 +40,7 @@ pub(crate) fn text_of(string: &[u8]) -> Result<&str, BorrowedError<'_>>
 }
 
 /// The boolean of one byte.
+#[inline(always)]
 pub(crate) fn boolean_of<'a>(key: &'a str, payload: &'a [u8]) -> Result<bool, BorrowedError<'a>>
     requires { length payload.now ≡ 1 }
     ensures value { IfOk result
@@ -54,6 +57,7 @@ pub(crate) fn boolean_of<'a>(key: &'a str, payload: &'a [u8]) -> Result<bool, Bo
 }
 
 /// The increment and the time of a timestamp.
+#[inline(always)]
 pub(crate) fn timestamp_of(payload: &[u8]) -> Timestamp
     requires { length payload.now ≡ 8 }
     ensures { IsTimestamp payload.now result.time result.increment }
