@@ -5,6 +5,8 @@
 #[cfg(test)]
 mod arrays;
 #[cfg(test)]
+mod c_strings;
+#[cfg(test)]
 mod calls;
 #[cfg(test)]
 mod debug_texts;
