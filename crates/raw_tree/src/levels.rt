@@ -58,7 +58,7 @@ pub(crate) enum Opened<'a> {
     Nested(Nested<'a>),
 }
 
-/// The pointer with a namespace of its own; the only error is want of memory.
+/// The pointer with a namespace of its own; the only error is want of memory. BSON 1.1, `element`, DBPointer.
 pub fn copied_pointer(alloc: Global, pointer: RawDbPointerRef<'_>) -> Result<DbPointer>
     ensures namespace { IfOk result
         (λ p. string_bytes p.namespace ≡ namespace_of pointer.entry) }

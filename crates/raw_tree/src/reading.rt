@@ -99,7 +99,7 @@ pub fn document_from_raw(alloc: Global, document: RawDocument<'_>) -> Result<Doc
 
 /// The answer of `document_from_raw`, and how many elements were framed for it, at all levels: on success as
 /// many as the document has; on a fault those up to it, with the element that has it, if it is no stop;
-/// where memory ran out, no more than that. Of n bytes never more than (n - 4) / 2.
+/// where memory ran out, no more than that. Of n bytes never more than (n - 4) / 2. BSON 1.1, `document`.
 pub fn document_from_raw_counted(
     alloc: Global,
     document: RawDocument<'_>,
