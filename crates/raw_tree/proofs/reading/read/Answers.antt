@@ -110,6 +110,20 @@ returns-then-is_err-clause-count c =
     let step : StepsElement level.elements (Some (Ok e)) c.frame.new.elements = subst (λ (x : Result RawElement Error). StepsElement level.elements (Some x) c.frame.new.elements) c.in_ok-element-in-Some.was c.in-Some.ensures.steps in
     rw (c.frame.ensures.counted, c.in-Some.is, c.in_ok-element-in-Some.was, inv.6) (memory_frames {X = Contents} b (sort_of holder) (Err c.out_of_memory.result) c.out_of_memory.result (inv.2 + inv.3 + 1) refl c.out_of_memory.ensures (element_counted b holder ws inv.0 inv.1 level inv.2 inv.3 inv.4 inv.5 env e c.frame.new.elements step))
 
+-- the step to the element, and that its value holds the bytes of the next level
+nested_element : (c : goal.After-begin-level-in-Nested) → StepsElement c.levels.level.elements (Some (Ok c.in_ok-element-in-Some.element)) c.frame.new.elements × Means (frame_of c.in_ok-element-in-Some.element) (value (holding c.in-Nested.nested.holder (bytes_of c.in-Nested.nested.document)))
+nested_element c =
+    let level = c.levels.level in
+    let e = c.in_ok-element-in-Some.element in
+    let u = c.in-Nested.nested in
+    let d = bytes_of u.document in
+    let step : StepsElement level.elements (Some (Ok e)) c.frame.new.elements = subst (λ (x : Result RawElement Error). StepsElement level.elements (Some x) c.frame.new.elements) c.in_ok-element-in-Some.was c.in-Some.ensures.steps in
+    let v = value_of c.in_ok-value-in-Some.value in
+    let means : Means (frame_of e) (value v) = told_value (frame_of e) c.in_ok-value-in-Some.value c.in_ok-value-in-Some.ensures.meaning in
+    let holds : v ≡ holding u.holder d = subst (λ (o : Opened). Opens v o) c.in-Nested.is c.in_ok-value-in-Some-2.ensures.opened in
+    let held : Means (frame_of e) (value (holding u.holder d)) = rw (sym holds) means in
+    (step, held)
+
 pub levels-smaller-in-Nested : goal.levels-smaller-in-Nested
 levels-smaller-in-Nested c =
     let b = bytes_of c.args.nested.document in
@@ -120,14 +134,10 @@ levels-smaller-in-Nested c =
     let e = c.in_ok-element-in-Some.element in
     let u = c.in-Nested.nested in
     let d = bytes_of u.document in
-    let step : StepsElement level.elements (Some (Ok e)) c.frame.new.elements = subst (λ (x : Result RawElement Error). StepsElement level.elements (Some x) c.frame.new.elements) c.in_ok-element-in-Some.was c.in-Some.ensures.steps in
-    let v = value_of c.in_ok-value-in-Some.value in
-    let means : Means (frame_of e) (value v) = told_value (frame_of e) c.in_ok-value-in-Some.value c.in_ok-value-in-Some.ensures.meaning in
-    let holds : v ≡ holding u.holder d = subst (λ (o : Opened). Opens v o) c.in-Nested.is c.in_ok-value-in-Some-2.ensures.opened in
-    let held : Means (frame_of e) (value (holding u.holder d)) = rw (sym holds) means in
+    let at = nested_element c in
     let outer : Waiting = record { level = record { elements = c.frame.new.elements; contents = level.contents }; key = c.key-key.result } in
     let grown : c.push.new.self.items ≡ ws ++ outer ∷ [] = search rules in
-    inward_smaller level c.begin-level-in-Nested.result ws c.push.new.self.items outer d grown c.begin-level-in-Nested.ensures.elements (step_inward level.elements c.frame.new.elements e d u.holder step held)
+    inward_smaller level c.begin-level-in-Nested.result ws c.push.new.self.items outer d grown c.begin-level-in-Nested.ensures.elements (step_inward level.elements c.frame.new.elements e d u.holder at.0 at.1)
 
 pub levels-preserved-in-Nested : goal.levels-preserved-in-Nested
 levels-preserved-in-Nested c =
@@ -139,14 +149,10 @@ levels-preserved-in-Nested c =
     let e = c.in_ok-element-in-Some.element in
     let u = c.in-Nested.nested in
     let d = bytes_of u.document in
-    let step : StepsElement level.elements (Some (Ok e)) c.frame.new.elements = subst (λ (x : Result RawElement Error). StepsElement level.elements (Some x) c.frame.new.elements) c.in_ok-element-in-Some.was c.in-Some.ensures.steps in
-    let v = value_of c.in_ok-value-in-Some.value in
-    let means : Means (frame_of e) (value v) = told_value (frame_of e) c.in_ok-value-in-Some.value c.in_ok-value-in-Some.ensures.meaning in
-    let holds : v ≡ holding u.holder d = subst (λ (o : Opened). Opens v o) c.in-Nested.is c.in_ok-value-in-Some-2.ensures.opened in
-    let held : Means (frame_of e) (value (holding u.holder d)) = rw (sym holds) means in
+    let at = nested_element c in
     let outer : Waiting = record { level = record { elements = c.frame.new.elements; contents = level.contents }; key = c.key-key.result } in
     let grown : c.push.new.self.items ≡ ws ++ outer ∷ [] = search rules in
-    let waits : IsWaiting inv.0 inv.1 outer d u.holder (inv.3 + 1) = level_waits inv.0 inv.1 level inv.3 outer e d u.holder inv.5 step refl c.key-key.ensures held in (
+    let waits : IsWaiting inv.0 inv.1 outer d u.holder (inv.3 + 1) = level_waits inv.0 inv.1 level inv.3 outer e d u.holder inv.5 at.0 refl c.key-key.ensures at.1 in (
       d,
       u.holder,
       inv.2 + (inv.3 + 1),
