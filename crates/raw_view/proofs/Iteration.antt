@@ -1,6 +1,5 @@
 -- Steps of the iterator.
-use Rattle.std.proofs.Common.{◌≡◌, ℕ, List, [], ◌∷◌, ◌++◌, ◌-◌, ◌+◌, length, take, drop, ap, sym, ◌∙◌, subst, refl, Option, Some, None, Result, Ok, Err, arith, length-append, append_assoc, inl, inr}
-use Rattle.std.proofs.lemmas.List.{take-append-drop, drop_at}
+use Rattle.std.proofs.Common.{◌≡◌, ℕ, List, [], ◌∷◌, ◌++◌, ap, sym, ◌∙◌, subst, refl, Option, Some, None, Result, Ok, Err, append_assoc, inl, inr}
 use Rattle.raw_view.specs.declared.element.RawElement.{RawElement}
 use Rattle.raw_view.specs.declared.error.Error.{Error}
 use Rattle.raw_view.specs.declared.error.ErrorKind.{ErrorKind}
@@ -16,22 +15,8 @@ use Rattle.raw_view.specs.Errors.{HasKeyCopy, IsReadingKind, Tells, TellsFault, 
 use Rattle.raw_view.specs.ElementSteps.{StepsElement, frame_of, ListsWalk}
 use Rattle.raw_view.specs.Kind.{tag_of}
 
--- the bytes behind a front, counted from the end
-pub drop_to : (bs front r : List ℕ) (n : ℕ) → drop n bs ≡ front ++ r → drop (length bs - length r) bs ≡ r
-drop_to bs front r n e =
-    let whole : bs ≡ (take n bs ++ front) ++ r = sym (take-append-drop n bs) ∙ ap (λ x. take n bs ++ x) e ∙ sym (append_assoc (take n bs) front r) in
-    let len : length bs ≡ length (take n bs ++ front) + length r = ap length whole ∙ length-append (take n bs ++ front) r in
-    let size : length bs - length r ≡ length (take n bs ++ front) = omega arith in
-    rw size (ap (drop (length (take n bs ++ front))) whole ∙ drop_at (take n bs ++ front) r (length (take n bs ++ front)) refl)
-
 pub front_and_rest : (s : List ℕ) (f : Frame) (r : List ℕ) → IsFrame s f r → s ≡ (tag_of f.kind ∷ (f.key ++ 0 ∷ f.payload)) ++ r
 front_and_rest s f r b = b.spelled ∙ ap (λ x. tag_of f.kind ∷ x) (sym (append_assoc f.key (0 ∷ f.payload) r))
-
-pub rest_from_end : (bs s : List ℕ) (f : Frame) (r : List ℕ) (n : ℕ) → s ≡ drop n bs → IsFrame s f r → drop (length bs - length r) bs ≡ r
-rest_from_end bs s f r n e b = drop_to bs (tag_of f.kind ∷ (f.key ++ 0 ∷ f.payload)) r n (sym e ∙ front_and_rest s f r b)
-
-pub step_element : (old new : Option (List ℕ)) (s : List ℕ) (e : RawElement) (r : List ℕ) → old ≡ Some s → IsFrame s (frame_of e) r → new ≡ Some r → StepsFront old (Some (Ok e)) new
-step_element old new s e r o b n = subst (λ (x : Option (List ℕ)). StepsFront x (Some (Ok e)) new) (sym o) (r, b, n)
 
 -- an error with a copy of its key says the fault
 pub told_kind : (k : ErrorKind) (key : Option (List ℕ)) (fault : Fault) (e : Error) → IsReadingKind k → SaysFault k fault → HasKeyCopy k key e → TellsFault e fault key

@@ -1,3 +1,4 @@
+pub mod AsciiLanes
 pub mod NulSearch
 pub mod Numbers
 pub mod Payloads

@@ -9,16 +9,13 @@ use Rattle.raw_view.specs.Envelope.{IsEnvelope}
 use Rattle.raw_view.specs.Kind.{tag_of}
 use Rattle.raw_view.specs.declared.element_type.ElementType.TheVariants as kind
 use Rattle.raw_view.specs.Frame.{Frame, IsFrame, HasNoFrame, Fault, Malformed, Utf8, HasKey, IsStop, End, Done, Stopped, IsWalk}
+use Rattle.raw_view.specs.Front.{EndsWithNul}
 use Rattle.raw_view.proofs.DecidedTexts.{front_text_or_not, bad_regex_or_not}
 use Rattle.raw_view.proofs.Decided.{both_or_not, kind_or_not, payload_or_not}
 use Rattle.bson_model.proofs.Face.{AreBytes-back, AreBytes-drop}
 use Rattle.raw_view.proofs.Frames.{no_frame, no_nul_ends, tag_stop}
 use Rattle.raw_view.proofs.Loops.{IsFrame-shorter}
 use Rattle.raw_view.proofs.Iteration.{front_and_rest}
-
--- if there is a last byte, it is 0
-abbrev pub EndsWithNul : List ℕ → Type 0
-EndsWithNul s = 0 < length s → slice_get s (length s - 1) ≡ Some 0
 
 -- the last byte of the back is the last of the whole
 EndsWithNul-back : (front back : List ℕ) → EndsWithNul (front ++ back) → EndsWithNul back

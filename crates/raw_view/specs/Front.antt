@@ -1,5 +1,5 @@
 -- What stands at the front of the bytes that are left, as the core step answers it.
-use Rattle.std.specs.Prelude.{◌≡◌, ℕ, List, [], ◌∷◌, Option, None, Some, Result, Ok, Err}
+use Rattle.std.specs.Prelude.{◌≡◌, ◌<◌, ◌-◌, ℕ, length, slice_get, List, [], ◌∷◌, Option, None, Some, Result, Ok, Err}
 use Rattle.raw_view.specs.declared.element.RawElement.{RawElement}
 use Rattle.raw_view.specs.declared.error.BorrowedError.{BorrowedError}
 use Rattle.std.specs.Option.{option_copied}
@@ -11,6 +11,10 @@ use Rattle.bson_model.specs.Bytes.{NulFree}
 use Rattle.raw_view.specs.Frame.{IsFrame, Fault, Malformed, Utf8, IsStop, BeginsWithBadText, HasBadText}
 use Rattle.raw_view.specs.ElementSteps.{frame_of}
 use Rattle.raw_view.specs.Meaning.{KeyedFault}
+
+-- where bytes are left, the last is 0
+abbrev pub EndsWithNul : List ℕ → Type 0
+EndsWithNul s = 0 < length s → slice_get s (length s - 1) ≡ Some 0
 
 -- s stops with a fault of this kind
 abbrev pub StopsWith : ErrorKind → Option (List ℕ) → List ℕ → Type 0

@@ -6,7 +6,7 @@ ghost use Rattle.bson_model.specs.Bytes.{NulFree};
 ghost use Rattle.raw_view.specs.Front.{IsTextFault};
 
 use crate::error::{ErrorKind, Reason};
-use crate::utf8::text_from;
+use crate::utf8::front_text;
 
 /// How many bytes are searched first: most C strings are short.
 const NEAR: usize = 32;
@@ -24,16 +24,6 @@ fn first_nul(bytes: &[u8]) -> Option<usize>
     memchr::memchr(0, bytes)
 }
 
-/// What stands before the first 0, and what stands behind it; `None` where there is no 0.
-#[inline(always)]
-pub(crate) fn split_at_nul(bytes: &[u8]) -> Option<(&[u8], &[u8])>
-    ensures found { IfSome result (λ x. (bytes.now ≡ x.0.now ++ 0 ∷ x.1.now) × NulFree x.0.now) }
-    ensures none { IfNone result (NulFree bytes.now) }
-{
-    let at = first_nul(bytes)?;
-    Some((bytes.split_at(at).0, bytes.split_at(at + 1).1))
-}
-
 /// The text up to the first 0, and what stands behind that 0.
 #[inline(always)]
 pub(crate) fn split_text(bytes: &[u8]) -> Result<(&str, &[u8]), ErrorKind>
@@ -42,13 +32,13 @@ pub(crate) fn split_text(bytes: &[u8]) -> Result<(&str, &[u8]), ErrorKind>
     ensures fault { IfErr result (IsTextFault bytes.now) }
     ensures reading { IfErr result IsReadingKind }
 {
-    let Some((text, behind)) = split_at_nul(bytes) else {
+    let Some(at) = first_nul(bytes) else {
         return Err(ErrorKind::MalformedValue {
             reason: Reason::NoTerminator,
         });
     };
-    match text_from(text) {
-        Ok(text) => Ok((text, behind)),
+    match front_text(bytes, at) {
+        Ok(text) => Ok((text, bytes.split_at(at + 1).1)),
         Err(error) => Err(ErrorKind::Utf8EncodingError(error)),
     }
 }

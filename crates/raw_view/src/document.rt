@@ -7,6 +7,7 @@ use crate::access::ValueAccessResult;
 use crate::array::RawArray;
 use crate::bson_ref::{RawBinaryRef, RawBsonRef, RawRegexRef};
 use crate::element::RawElement;
+use crate::elements::Elements;
 use crate::error::{Error, Reason, Result};
 use crate::hex_digits::HexDigits;
 use crate::iter::{Iter, RawIter};
@@ -134,8 +135,11 @@ impl<'a> RawDocument<'a> {
         ensures one_answer { (found : Option Meaning)
             × IsTheAnswer (bytes_of self.entry) key.now found }
     {
-        for element in self.iter_elements(alloc) {
-            let element = element?;
+        for element in Elements::new(self) {
+            let element = match element {
+                Ok(element) => element,
+                Err(error) => return Err(error.into_error(alloc)),
+            };
             if has_key(element, key) {
                 return match element.value(alloc) {
                     Ok(value) => Ok(Some(value)),

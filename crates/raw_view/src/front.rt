@@ -1,5 +1,4 @@
-ghost use Rattle.std.specs.Prelude.{◌≡◌, ◌<◌, ◌-◌, length, slice_get, Some};
-ghost use Rattle.raw_view.specs.Front.{IsFront};
+ghost use Rattle.raw_view.specs.Front.{EndsWithNul, IsFront};
 
 use crate::c_string::split_text;
 use crate::element::RawElement;
@@ -20,7 +19,7 @@ pub(crate) enum Front<'a> {
 /// What stands at the front of the bytes that are left of a document. Nothing is copied.
 #[inline(always)]
 pub(crate) fn front_of<'a>(rest: &'a [u8]) -> Front<'a>
-    requires { 0 < length rest.now → slice_get rest.now (length rest.now - 1) ≡ Some 0 }
+    requires { EndsWithNul rest.now }
     ensures { IsFront rest.now result }
 {
     let Some((tag, behind)) = rest.split_first() else {

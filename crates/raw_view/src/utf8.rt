@@ -1,12 +1,41 @@
 //! UTF-8: texts from bytes, as `std::str::from_utf8` answers.
 
-ghost use Rattle.std.specs.Prelude.{◌≡◌, IfOk, OnErr};
-ghost use Rattle.std.specs.Str.{IsUtf8};
+ghost use Rattle.std.specs.Prelude.{◌≡◌, ◌≤◌, length, take, IsTrue, IfOk, OnErr};
+ghost use Rattle.std.specs.Str.{IsAscii, IsUtf8};
 
+use std::simd::prelude::*;
 use std::str::Utf8Error;
 
 /// How many bytes make a text long: from so many on, 64 are judged in a step.
 const LONG: usize = 64;
+
+/// How many bytes are tested in one step.
+const LANES: usize = 16;
+
+/// The text of bytes under 128.
+#[inline(always)]
+fn ascii_text(bytes: &[u8]) -> &str
+    requires { IsAscii bytes.now }
+    ensures text { result.now ≡ bytes.now }
+    ensures utf8 { IsUtf8 bytes.now }
+{
+    // bytes under 128 are UTF-8 as they stand
+    unsafe { std::str::from_utf8_unchecked(bytes) }
+}
+
+/// Whether the first so many bytes are under 128, told in one step; or false, where it takes more.
+#[inline(always)]
+fn begins_ascii(bytes: &[u8], len: usize) -> bool
+    ensures { IsTrue result → IsAscii (take len bytes.now) }
+{
+    if LANES < len || bytes.len() < LANES {
+        return false;
+    }
+    let wide = u8x16::from_slice(bytes)
+        .simd_ge(u8x16::splat(128))
+        .to_bitmask();
+    wide == 0 || len <= wide.trailing_zeros() as usize
+}
 
 /// The text of bytes that aren't all ASCII. A fault in a long one is told by `std`, which reads it once more.
 #[inline(never)]
@@ -29,8 +58,21 @@ pub(crate) fn text_from(bytes: &[u8]) -> Result<&str, Utf8Error>
     ensures fault { OnErr result (¬ IsUtf8 bytes.now) }
 {
     if bytes.is_ascii() {
-        // bytes under 128 are UTF-8 as they stand
-        return Ok(unsafe { std::str::from_utf8_unchecked(bytes) });
+        return Ok(ascii_text(bytes));
     }
     wide_text(bytes)
+}
+
+/// The text of the first so many bytes, or how they fail to be UTF-8.
+#[inline(always)]
+pub(crate) fn front_text(bytes: &[u8], len: usize) -> Result<&str, Utf8Error>
+    requires { len ≤ length bytes.now }
+    ensures text { IfOk result (λ text. (text.now ≡ take len bytes.now) × IsUtf8 text.now) }
+    ensures fault { OnErr result (¬ IsUtf8 (take len bytes.now)) }
+{
+    let text = bytes.split_at(len).0;
+    if begins_ascii(bytes, len) {
+        return Ok(ascii_text(text));
+    }
+    text_from(text)
 }
