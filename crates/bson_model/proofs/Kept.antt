@@ -1,9 +1,9 @@
 -- What pairs that are kept as keys beside values answer, by the place of a key.
-use Rattle.std.proofs.Common.{◌≡◌, ℕ, zero, suc, ◌+◌, ◌<◌, Bool, true, false, cond, ◌||◌, List, [], ◌∷◌, ◌++◌, length, map, Option, Some, None, slice_get, slice_set, slice_index_or, refl, ap, sym, ◌∙◌, arith}
+use Rattle.std.proofs.Common.{◌≡◌, ℕ, zero, suc, ◌+◌, ◌<◌, Bool, true, false, cond, not, ◌||◌, List, [], ◌∷◌, ◌++◌, length, map, Option, Some, None, slice_get, slice_set, slice_index_or, refl, ap, sym, ◌∙◌, arith}
 use Rattle.std.proofs.Common.{ltb, is_some, IfSome, option_copied, Bor}
 use Rattle.std.proofs.lemmas.Bool.Decides.{nat_tests}
 use Rattle.std.proofs.lemmas.Option.{slice_get_past, slice_get-get_or}
-use Rattle.std.specs.List.{zip, position, position_from, list_any, IsDistinct, AllByRecursion}
+use Rattle.std.specs.List.{zip, position, position_from, position_or_len, list_any, IsDistinct, AllByRecursion}
 use Rattle.std.specs.Str.{bytes_eq}
 use Rattle.std.proofs.lemmas.Iterator.Adapters.{position_from-zero}
 use Rattle.bson_model.specs.Pairs.{value_at, with_pair}
@@ -18,33 +18,24 @@ module _ {K T : Type 0} (f : K → List ℕ) (q : List ℕ) where
   abbrev pub Found : T → Option T → List (List ℕ × T) → List K → List T → ℕ → Type 0
   Found w o ps ks vs j = (o ≡ slice_get vs j) × (ps ≡ pairs_by f ks (slice_set vs j w)) × (j < length vs)
 
-  found_from : (w : T) (n i : ℕ) (ks : List K) (vs : List T) → length vs ≡ length ks → position_from (test f q) n ks ≡ Some i → (j : ℕ) × ((i ≡ n + j) × Found w (value_at q (pairs_by f ks vs)) (with_pair q w (pairs_by f ks vs)) ks vs j)
-  found_from w n i [] vs e p = cc
-  found_from w n i (k ∷ ks) [] e p = absurd (omega arith)
-  found_from w n i (k ∷ ks) (v ∷ vs) e p =
-      elim (test f q k) as (λ b. cond b (Some n) (position_from (test f q) (n + 1) ks) ≡ Some i → (j : ℕ) × ((i ≡ n + j) × Found w (cond b (Some v) (value_at q (pairs_by f ks vs))) (cond b ((f k, w) ∷ pairs_by f ks vs) ((f k, v) ∷ with_pair q w (pairs_by f ks vs))) (k ∷ ks) (v ∷ vs) j)) [
-        | true ↦ λ h. let at : n ≡ i = cc in (0, (omega arith, (refl, refl, omega arith)))
-        | false ↦ λ h. let r = found_from w (n + 1) i ks vs (omega arith) h in (suc r.0, (omega (arith, r.1.0), (r.1.1.0, ap (λ l. (f k, v) ∷ l) r.1.1.1, omega (arith, r.1.1.2))))
+  pub found : (w : T) (ks : List K) (vs : List T) → length vs ≡ length ks → list_any (test f q) ks ≡ true → Found w (value_at q (pairs_by f ks vs)) (with_pair q w (pairs_by f ks vs)) ks vs (position_or_len (test f q) ks)
+  found w [] vs e p = cc
+  found w (k ∷ ks) [] e p = absurd (omega arith)
+  found w (k ∷ ks) (v ∷ vs) e p =
+      elim (test f q k) as (λ b. (b || list_any (test f q) ks) ≡ true → Found w (cond b (Some v) (value_at q (pairs_by f ks vs))) (cond b ((f k, w) ∷ pairs_by f ks vs) ((f k, v) ∷ with_pair q w (pairs_by f ks vs))) (k ∷ ks) (v ∷ vs) (cond (not b) (1 + position_or_len (test f q) ks) 0)) [
+        | true ↦ λ h. (refl, refl, omega arith)
+        | false ↦ λ h. let r = found w ks vs (omega arith) h in let next : 1 + position_or_len (test f q) ks ≡ suc (position_or_len (test f q) ks) = omega arith in rw next (r.0, ap (λ l. (f k, v) ∷ l) r.1, omega (arith, r.2))
       ] p
 
-  pub found : (w : T) (i : ℕ) (ks : List K) (vs : List T) → length vs ≡ length ks → position (test f q) ks ≡ Some i → Found w (value_at q (pairs_by f ks vs)) (with_pair q w (pairs_by f ks vs)) ks vs i
-  found w i ks vs e p =
-      let r = found_from w 0 i ks vs e (sym (position_from-zero (test f q) ks) ∙ p) in
-      let at : r.0 ≡ i = omega (arith, r.1.0) in
-      rw (← at) r.1.1
-
-  lost_from : (w : T) (n : ℕ) (ks : List K) (vs : List T) → length vs ≡ length ks → position_from (test f q) n ks ≡ None → (value_at q (pairs_by f ks vs) ≡ None) × (list_any (test f q) ks ≡ false) × ((k : K) → f k ≡ q → with_pair q w (pairs_by f ks vs) ≡ pairs_by f (ks ++ k ∷ []) (vs ++ w ∷ []))
-  lost_from w n [] [] e p = (refl, refl, λ k h. ap (λ x. (x, w) ∷ []) (sym h))
-  lost_from w n [] (v ∷ vs) e p = absurd (omega arith)
-  lost_from w n (k ∷ ks) [] e p = absurd (omega arith)
-  lost_from w n (k ∷ ks) (v ∷ vs) e p =
-      elim (test f q k) as (λ b. cond b (Some n) (position_from (test f q) (n + 1) ks) ≡ None → (cond b (Some v) (value_at q (pairs_by f ks vs)) ≡ None) × ((b || list_any (test f q) ks) ≡ false) × ((l : K) → f l ≡ q → cond b ((f k, w) ∷ pairs_by f ks vs) ((f k, v) ∷ with_pair q w (pairs_by f ks vs)) ≡ pairs_by f ((k ∷ ks) ++ l ∷ []) ((v ∷ vs) ++ w ∷ []))) [
+  pub lost : (w : T) (ks : List K) (vs : List T) → length vs ≡ length ks → list_any (test f q) ks ≡ false → (value_at q (pairs_by f ks vs) ≡ None) × ((k : K) → f k ≡ q → with_pair q w (pairs_by f ks vs) ≡ pairs_by f (ks ++ k ∷ []) (vs ++ w ∷ []))
+  lost w [] [] e p = (refl, λ k h. ap (λ x. (x, w) ∷ []) (sym h))
+  lost w [] (v ∷ vs) e p = absurd (omega arith)
+  lost w (k ∷ ks) [] e p = absurd (omega arith)
+  lost w (k ∷ ks) (v ∷ vs) e p =
+      elim (test f q k) as (λ b. (b || list_any (test f q) ks) ≡ false → (cond b (Some v) (value_at q (pairs_by f ks vs)) ≡ None) × ((l : K) → f l ≡ q → cond b ((f k, w) ∷ pairs_by f ks vs) ((f k, v) ∷ with_pair q w (pairs_by f ks vs)) ≡ pairs_by f ((k ∷ ks) ++ l ∷ []) ((v ∷ vs) ++ w ∷ []))) [
         | true ↦ λ h. cc
-        | false ↦ λ h. let r = lost_from w (n + 1) ks vs (omega arith) h in (r.0, r.1, λ l s. ap (λ x. (f k, v) ∷ x) (r.2 l s))
+        | false ↦ λ h. let r = lost w ks vs (omega arith) h in (r.0, λ l s. ap (λ x. (f k, v) ∷ x) (r.1 l s))
       ] p
-
-  pub lost : (w : T) (ks : List K) (vs : List T) → length vs ≡ length ks → position (test f q) ks ≡ None → (value_at q (pairs_by f ks vs) ≡ None) × (list_any (test f q) ks ≡ false) × ((k : K) → f k ≡ q → with_pair q w (pairs_by f ks vs) ≡ pairs_by f (ks ++ k ∷ []) (vs ++ w ∷ []))
-  lost w ks vs e p = lost_from w 0 ks vs e (sym (position_from-zero (test f q) ks) ∙ p)
 
 pub pair_at : {K T : Type 0} (f : K → List ℕ) (i : ℕ) (k : K) (v : T) (ks : List K) (vs : List T) → slice_get ks i ≡ Some k → slice_get vs i ≡ Some v → slice_get (pairs_by f ks vs) i ≡ Some (f k, v)
 pair_at f i k v [] vs e h = cc

@@ -8,6 +8,7 @@ pub mod laws;
 mod numbers;
 mod object_id;
 mod pairs;
+mod parts;
 mod ranges;
 mod regexes;
 mod times;

@@ -1,4 +1,4 @@
-ghost use Rattle.std.specs.Prelude.{◌≡◌, ◌&&◌, [], length, nat_eq, All, IsSome, IsOk, IfOk, OnOk};
+ghost use Rattle.std.specs.Prelude.{◌≡◌, ◌&&◌, [], ◌∷◌, length, nat_eq, All, IsSome, IsOk, IfOk, OnOk};
 ghost use Rattle.std.specs.Prelude.{OnErr, option_copied, option_map, slice_get};
 ghost use Rattle.std.specs.Cmp.Lexicographic.{pointwise, lists_per, lists_equiv};
 ghost use Rattle.std.specs.Cmp.{on_per, and_per, on_equiv, and_equiv, nat_eq_equiv, partial_equiv_from_equiv};
@@ -7,28 +7,26 @@ ghost use Rattle.bson_model.specs.Pairs.{keys_of, value_at, with_pair, HasDistin
 ghost use Rattle.std.specs.Str.{IsUtf8};
 
 use crate::errors::NoMemory;
-use indexmap::IndexSet;
+use crate::parts::Parts;
 use std::alloc::Global;
+use std::fmt;
 use std::marker::Model;
-use std::{fmt, mem};
 
-/// Pairs of a key and a value in the order in which the keys came, no key twice.
+/// Pairs of a key and a value in the order in which the keys came, no key twice. The parts are one
+/// pointer away, which is made when the first pair comes.
 #[derive(Drop)]
 pub struct Pairs<T> {
-    keys: IndexSet<String>,
-    values: Vec<T>,
+    alloc: Global,
+    parts: Option<Box<Parts<T>>>,
 }
 
 impl<T> Model for Pairs<T> {
-    ghost use Rattle.std.specs.Prelude.{◌≡◌, ℕ, List, length, map};
-    ghost use Rattle.std.specs.List.{zip};
-    ghost use Rattle.std.specs.String.{string_bytes};
+    ghost use Rattle.std.specs.Prelude.{ℕ, List, []};
+    ghost use Rattle.std.specs.Option.{option_map_or};
 
     ghost Value = { List (List ℕ × T) };
 
-    ghost view = { λ a. zip (map string_bytes a.keys.keys) a.values.items };
-
-    ghost invariant = { λ a. length a.values.items ≡ length a.keys.keys };
+    ghost view = { λ a. option_map_or (λ b. b.value) a.parts [] };
 }
 
 impl<T> Pairs<T> {
@@ -36,10 +34,7 @@ impl<T> Pairs<T> {
     pub fn new(alloc: Global) -> Pairs<T>
         ensures { result ≡ [] }
     {
-        Pairs {
-            keys: IndexSet::new(alloc),
-            values: Vec::new(alloc),
-        }
+        Pairs { alloc, parts: None }
     }
 
     /// How many pairs there are.
@@ -48,24 +43,30 @@ impl<T> Pairs<T> {
         ensures distinct { HasDistinctKeys self.now }
         ensures texts { All IsUtf8 (keys_of self.now) }
     {
-        self.keys.len()
+        match &self.parts {
+            Some(parts) => parts.len(),
+            None => 0,
+        }
     }
 
     /// The value of a key.
     pub fn get(&self, key: &str) -> Option<&T>
         ensures { option_copied result ≡ value_at key.now self.now }
     {
-        let index = self.keys.get_index_of(key)?;
-        self.values.get(index)
+        match &self.parts {
+            Some(parts) => parts.get(key),
+            None => None,
+        }
     }
 
     /// The pair at a place, counted from 0.
     pub fn pair_at(&self, index: usize) -> Option<(&str, &T)>
         ensures { option_map (λ p. (p.0.now, p.1.now)) result ≡ slice_get self.now index }
     {
-        let key = self.keys.get_index(index)?;
-        let value = self.values.get(index)?;
-        Some((key.as_str(), value))
+        match &self.parts {
+            Some(parts) => parts.pair_at(index),
+            None => None,
+        }
     }
 
     /// Puts a pair last, or where its key stands, and answers the value that stood there. It fails only
@@ -78,24 +79,31 @@ impl<T> Pairs<T> {
         ensures present { IsSome (value_at (string_bytes key) self.old) → IsOk result }
         ensures err { OnErr result (self.new ≡ self.old) }
     {
-        if let Some(index) = self.keys.get_index_of(key.as_str()) {
-            let old = mem::replace(&mut self.values[index], value);
-            return Ok(Some(old));
+        match &mut self.parts {
+            Some(parts) => parts.insert(key, value),
+            None => {
+                self.parts = Some(of_first(self.alloc, key, value)?);
+                Ok(None)
+            }
         }
-        self.values.reserve(1)?;
-        self.keys.insert(key)?;
-        self.values.push_reserved(value);
-        Ok(None)
     }
+}
+
+/// The parts of one pair.
+fn of_first<T: Drop>(alloc: Global, key: String, value: T) -> Result<Box<Parts<T>>, NoMemory>
+    ensures { IfOk result (λ parts. parts.value ≡ (string_bytes key, value) ∷ []) }
+{
+    let mut parts = Box::new(alloc, Parts::new(alloc))?;
+    parts.insert(key, value)?;
+    Ok(parts)
 }
 
 impl<T: fmt::Debug> fmt::Debug for Pairs<T> {
     fn fmt<W: fmt::Write>(&self, f: &mut fmt::Formatter<W>) -> fmt::Result {
-        let mut map = f.debug_map();
-        for (key, value) in self.keys.iter().zip(self.values.iter()) {
-            map.entry(key, value);
+        match &self.parts {
+            Some(parts) => parts.fmt(f),
+            None => f.debug_map().finish(),
         }
-        map.finish()
     }
 }
 
@@ -107,8 +115,11 @@ impl<T: PartialEq> PartialEq for Pairs<T> {
         (on_per (λ p. p.1) T.laws)) };
 
     fn eq(&self, other: &Pairs<T>) -> bool {
-        self.keys.as_slice() == other.keys.as_slice()
-            && self.values.as_slice() == other.values.as_slice()
+        match (&self.parts, &other.parts) {
+            (Some(parts), Some(others)) => parts == others,
+            (Some(parts), None) | (None, Some(parts)) => parts.len() == 0,
+            (None, None) => true,
+        }
     }
 }
 

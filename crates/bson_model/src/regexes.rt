@@ -1,6 +1,6 @@
-ghost use Rattle.std.specs.Prelude.{◌≡◌, IfOk};
+ghost use Rattle.std.specs.Prelude.{◌≡◌, IsTrue, IfOk};
 ghost use Rattle.std.specs.String.{string_bytes};
-ghost use Rattle.bson_model.specs.Options.{sorted_options, OrdersOptions};
+ghost use Rattle.bson_model.specs.Options.{sorted_options, OptionsAscend, OrdersOptions};
 
 use crate::errors::NoMemory;
 use std::alloc::Global;
@@ -22,11 +22,28 @@ impl Regex {
         ensures sorted { IfOk result (λ r. string_bytes r.options ≡ sorted_options options.now) }
         ensures ordered { IfOk result (λ r. OrdersOptions options.now (string_bytes r.options)) }
     {
-        let mut chars: Vec<char> = options.chars().collect(alloc)?;
-        chars.sort_unstable();
         Ok(Regex {
             pattern: String::from_str(alloc, pattern)?,
-            options: chars.into_iter().collect(alloc)?,
+            options: in_order(alloc, options)?,
         })
     }
+}
+
+/// The options, with their characters in ascending order, repeats kept.
+fn in_order(alloc: Global, options: &str) -> Result<String, NoMemory>
+    ensures { IfOk result (λ text. string_bytes text ≡ sorted_options options.now) }
+{
+    if is_ascending(options) {
+        return Ok(String::from_str(alloc, options)?);
+    }
+    let mut chars: Vec<char> = options.chars().collect(alloc)?;
+    chars.sort_unstable();
+    Ok(chars.into_iter().collect(alloc)?)
+}
+
+/// Whether the characters of the options never descend.
+fn is_ascending(options: &str) -> bool
+    ensures { IsTrue result → OptionsAscend options.now }
+{
+    options.chars().is_sorted()
 }

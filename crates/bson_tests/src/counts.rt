@@ -1,6 +1,8 @@
 use crate::asserts::assert_refused;
+use crate::trees_fixtures::assert_bytes;
 use raw_bson::{
-    Document, RawDocument, Reason, Result, document_from_raw, document_from_raw_counted,
+    Document, RawDocument, Reason, Result, canonical_bytes, document_from_raw,
+    document_from_raw_counted,
 };
 use std::alloc::Global;
 use std::process::Abort;
@@ -58,12 +60,39 @@ fn elements_are_counted(rt: HostRuntime) -> std::result::Result<(), Fail> {
     Ok(())
 }
 
+/// What five hundred levels are held in, how many bytes they are, and their header.
+const LEVELS: &[(Holder, usize, &[u8])] = &[
+    (Holder::Document, 3498, b"\xAA\x0D\0\0"),
+    (Holder::Array, 3997, b"\x9D\x0F\0\0"),
+    (Holder::CodeWithScope, 7989, b"\x35\x1F\0\0"),
+];
+
+/// So many elements are framed, and the canonical form is these bytes.
+fn assert_comes_back(
+    rt: &impl Abort,
+    alloc: Global,
+    bytes: &[u8],
+    count: usize,
+) -> std::result::Result<(), Fail> {
+    assert_count(rt, alloc, bytes, count)?;
+    assert_bytes(rt, canonical_bytes(alloc, bytes), bytes);
+    Ok(())
+}
+
+#[test]
+fn five_hundred_levels_come_back(rt: HostRuntime) -> std::result::Result<(), Fail> {
+    for (holder, len, header) in LEVELS {
+        let bytes = nested(rt.alloc(), *holder, 499, EMPTY)?;
+        assert_eq!(rt; bytes.len(), *len, "{holder:?}");
+        assert!(rt; bytes.starts_with(header), "{holder:?}");
+        assert_comes_back(&rt, rt.alloc(), &bytes, 499)?;
+    }
+    Ok(())
+}
+
 #[test]
 fn five_hundred_levels_are_read(rt: HostRuntime) -> std::result::Result<(), Fail> {
-    let bytes = nested(rt.alloc(), 499, EMPTY)?;
-    assert_eq!(rt; bytes.len(), 3498);
-    assert!(rt; bytes.starts_with(b"\xAA\x0D\0\0"));
-    assert_count(&rt, rt.alloc(), &bytes, 499)?;
+    let bytes = nested(rt.alloc(), Holder::Document, 499, EMPTY)?;
     let tree = document_from_raw(rt.alloc(), RawDocument::from_bytes(&bytes)?)?;
     assert!(rt; has_levels(&tree, 499));
     Ok(())
@@ -71,7 +100,7 @@ fn five_hundred_levels_are_read(rt: HostRuntime) -> std::result::Result<(), Fail
 
 #[test]
 fn a_million_levels_have_a_fault(rt: HostRuntime) -> std::result::Result<(), Fail> {
-    let bytes = nested(rt.alloc(), 999_999, SWALLOWED_TERMINATOR)?;
+    let bytes = nested(rt.alloc(), Holder::Document, 999_999, SWALLOWED_TERMINATOR)?;
     let view = RawDocument::from_bytes(&bytes)?;
     let (answer, steps) = document_from_raw_counted(rt.alloc(), view);
     assert_eq!(rt; steps.count(), 1_000_000);

@@ -16,11 +16,15 @@ mod copies;
 #[cfg(test)]
 mod counts;
 #[cfg(test)]
+mod damage;
+#[cfg(test)]
 mod encodings;
 #[cfg(test)]
 mod example;
 #[cfg(test)]
 mod fixtures;
+#[cfg(test)]
+mod readings;
 #[cfg(test)]
 mod texts;
 #[cfg(test)]

@@ -6,8 +6,7 @@ use crate::trees_fixtures::{
 };
 use raw_bson::{
     Binary, BinarySubtype, Bson, Document, RawBson, RawBsonRef, RawDocument, RawDocumentBuf,
-    RawRegexRef, Reason, bson_from_element, bson_from_raw, canonical_bytes, document_from_raw,
-    encode, list_from_raw,
+    RawRegexRef, Reason, bson_from_raw, canonical_bytes, document_from_raw, encode,
 };
 use std::alloc::Global;
 use std::process::Abort;
@@ -258,34 +257,5 @@ fn a_code_is_written_and_read_back(rt: HostRuntime) -> Result<(), Fail> {
     assert_owned(&rt, rt.alloc(), empty_code(rt.alloc()), owned);
     let owned = RawBson::from(code_of(rt.alloc(), "", EMPTY)?);
     assert_read(&rt, rt.alloc(), owned, &empty_code(rt.alloc()));
-    Ok(())
-}
-
-#[test]
-fn an_array_is_read(rt: HostRuntime) -> Result<(), Fail> {
-    // list_from_raw
-    let holder = document_of(rt.alloc(), b"\x0F\0\0\0\x04a\0\x07\0\0\0\x0A\0\0\0")?;
-    let list = list_from_raw(rt.alloc(), holder.get_array("a")?)?;
-    assert!(rt; list.as_slice() == [Bson::Null].as_slice());
-    Ok(())
-}
-
-#[test]
-fn an_element_is_read(rt: HostRuntime) -> Result<(), Fail> {
-    // bson_from_element
-    for element in document_of(rt.alloc(), ONE)?.iter_elements() {
-        let answer = bson_from_element(rt.alloc(), element?);
-        assert_value(&rt, answer, &Bson::Int32(1));
-    }
-    Ok(())
-}
-
-#[test]
-fn the_fault_of_an_element_is_answered(rt: HostRuntime) -> Result<(), Fail> {
-    // bson_from_element
-    for element in document_of(rt.alloc(), BOOLEAN_TWO)?.iter_elements() {
-        let answer = bson_from_element(rt.alloc(), element?);
-        assert_fault(&rt, answer, Reason::BadBoolean(2), "a");
-    }
     Ok(())
 }

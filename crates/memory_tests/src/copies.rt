@@ -75,7 +75,7 @@ fn is_value_cloned(value: &RawBson, want: RawBsonRef<'_>, kind: ElementType) -> 
 
 #[test]
 fn clones_of_values_or_want_of_memory(rt: HostRuntime) -> Result<(), Fail> {
-    for (_, kind) in KINDS {
+    for &(_, kind) in KINDS.iter() {
         let want = borrowed(kind)?;
         if let Some(value) = answered(&rt, want.to_raw_bson(rt.alloc())) {
             assert!(rt; is_value_cloned(&value, want, kind));
@@ -141,7 +141,7 @@ fn is_copy(answer: raw_bson::Result<RawBson>, want: RawBsonRef<'_>, kind: Elemen
 #[test]
 fn to_raw_bson_or_want_of_memory(rt: HostRuntime) -> Result<(), Fail> {
     let mut elements = RawDocument::from_bytes(ALL_KINDS)?.iter_elements(rt.alloc());
-    for (key, kind) in KINDS {
+    for &(key, kind) in KINDS.iter() {
         let want = borrowed(kind)?;
         let Some(Ok(element)) = elements.next() else {
             assert!(rt; false, "{key}");

@@ -30,7 +30,7 @@ fn elements_until_a_fault_or_want_of_memory(rt: HostRuntime) -> Result<(), Fail>
 
 #[test]
 fn elements_of_five_hundred_levels_or_want_of_memory(rt: HostRuntime) -> Result<(), Fail> {
-    let Ok(bytes) = nested(rt.alloc(), 499, EMPTY) else {
+    let Ok(bytes) = nested(rt.alloc(), Holder::Document, 499, EMPTY) else {
         return Ok(());
     };
     let view = RawDocument::from_bytes(&bytes)?;

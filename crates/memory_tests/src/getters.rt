@@ -45,12 +45,27 @@ fn check_array(checks: Checks, alloc: Global, kind: ElementType) -> Result<(), F
 #[test]
 fn getters_or_want_of_memory(rt: HostRuntime) -> Result<(), Fail> {
     let checks = Checks::refusable(rt.alloc());
-    for (index, (key, kind)) in KINDS.into_iter().enumerate() {
+    for (index, &(key, kind)) in KINDS.iter().enumerate() {
         if has_getter(kind) {
             assert!(rt; is_got(rt.alloc(), kind, key, index)?, "{key}");
             check_document(checks, rt.alloc(), kind)?;
             check_array(checks, rt.alloc(), kind)?;
         }
     }
+    Ok(())
+}
+
+/// A getter that finds another kind, nothing, or a fault whose key stands again behind it.
+#[test]
+fn typed_look_ups_or_want_of_memory(rt: HostRuntime) -> Result<(), Fail> {
+    let checks = Checks::refusable(rt.alloc());
+    let numbers = RawDocument::from_bytes(BOOL_AND_INT32)?;
+    let unexpected = NoValue::Unexpected(ElementType::Int32, ElementType::Boolean);
+    checks.no_value(numbers.get_i32(rt.alloc(), "bool"), unexpected, "bool")?;
+    let unknown = numbers.get_i32(rt.alloc(), "unknown");
+    checks.no_value(unknown, NoValue::NotPresent, "unknown")?;
+    let fault = RawDocument::from_bytes(FAULT_UNDER_A_LATER_GOOD_KEY)?;
+    let invalid = NoValue::Invalid(TWO_AT_A);
+    checks.no_value(fault.get_bool(rt.alloc(), "a"), invalid, "a")?;
     Ok(())
 }

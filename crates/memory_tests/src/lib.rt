@@ -20,6 +20,10 @@ mod getters;
 #[cfg(test)]
 mod kinds;
 #[cfg(test)]
+mod no_memory;
+#[cfg(test)]
+mod requests;
+#[cfg(test)]
 mod trees;
 #[cfg(test)]
 mod views;

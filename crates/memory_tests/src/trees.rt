@@ -1,10 +1,12 @@
 use crate::asserts::{answered, is_document, is_list, is_want_of_memory};
 use raw_bson::{
     Bson, Document, Error, RawBson, RawBsonRef, RawDocument, RawDocumentBuf, ToRawDocumentBuf,
-    bson_from_element, bson_from_raw, canonical_bytes, document_from_raw, list_from_raw,
+    bson_from_element, bson_from_raw, canonical_bytes, document_from_raw, encode, list_from_raw,
 };
 use std::alloc::Global;
+use std::process::Abort;
 use std::test::Fail;
+use test_fixtures::*;
 
 // `bin/test` runs these with each request for memory refused in turn, alone: each call answers what it answers with
 // ample memory, or want of memory without a key. What is looked at of a tree takes no memory.
@@ -147,7 +149,6 @@ fn goes_and_comes_back(alloc: Global, key: &str, tree: Bson, value: RawBsonRef<'
     }
 }
 
-/// A value that is moved takes no memory, so that none can be refused to it.
 #[test]
 fn owned_values_or_want_of_memory(rt: HostRuntime) -> Result<(), Fail> {
     for element in RawDocument::from_bytes(PARTS)?.iter_elements(rt.alloc()) {
@@ -158,7 +159,62 @@ fn owned_values_or_want_of_memory(rt: HostRuntime) -> Result<(), Fail> {
             assert!(rt; goes_and_comes_back(rt.alloc(), key, tree, value));
         }
     }
-    assert!(rt; RawBson::Int32(7).into_bson(rt.alloc()) == Ok(Bson::Int32(7)));
-    assert!(rt; RawBson::try_from_bson(rt.alloc(), Bson::Int32(7)) == Ok(RawBson::Int32(7)));
     Ok(())
+}
+
+/// Documents, and their canonical forms.
+const FORMS: &[(&[u8], &[u8])] = &[
+    (REPEATED_KEY, b"\x0C\0\0\0\x10a\0\x02\0\0\0\0"),
+    (
+        ARRAY_WITH_AN_EMPTY_KEY,
+        b"\x10\0\0\0\x04a\0\x08\0\0\0\x0A0\0\0\0",
+    ),
+    (LEAST_CODE_WITH_SCOPE, LEAST_CODE_WITH_SCOPE),
+    (OPTIONS_OUT_OF_ORDER, b"\x0D\0\0\0\x0Br\0a\0im\0\0"),
+];
+
+/// Whether the tree is written as the form; where memory is wanted, it is so when it is written again.
+fn has_form(alloc: Global, tree: &Document, form: &[u8]) -> bool {
+    match encode(alloc, tree) {
+        Ok(written) => written.as_slice() == form,
+        Err(error) => {
+            is_want_of_memory(&error)
+                && encode(alloc, tree).is_ok_and(|written| written.as_slice() == form)
+        }
+    }
+}
+
+/// Whether the buffer becomes a tree with the form, or memory is wanted; and the buffer has its bytes.
+fn becomes(alloc: Global, buffer: &RawDocumentBuf, bytes: &[u8], form: &[u8]) -> bool {
+    let is_tree = match buffer.to_document() {
+        Ok(tree) => has_form(alloc, &tree, form),
+        Err(error) => is_want_of_memory(&error),
+    };
+    is_tree && buffer.as_bytes() == bytes
+}
+
+/// By way of a buffer and a tree the bytes become the form, or memory is wanted.
+fn assert_becomes(rt: &impl Abort, alloc: Global, bytes: &[u8], form: &[u8]) -> Result<(), Fail> {
+    let view = RawDocument::from_bytes(bytes)?;
+    if let Some(buffer) = answered(rt, view.to_raw_document_buf(alloc)) {
+        assert!(rt; becomes(alloc, &buffer, bytes, form), "{bytes:?}");
+    }
+    Ok(())
+}
+
+#[test]
+fn forms_or_want_of_memory(rt: HostRuntime) -> Result<(), Fail> {
+    for (bytes, form) in FORMS {
+        assert_becomes(&rt, rt.alloc(), bytes, form)?;
+        assert!(rt; is_list(canonical_bytes(rt.alloc(), bytes), form));
+    }
+    Ok(())
+}
+
+#[test]
+fn form_of_five_hundred_levels_or_want_of_memory(rt: HostRuntime) -> Result<(), Fail> {
+    match nested(rt.alloc(), Holder::Document, 499, EMPTY) {
+        Ok(bytes) => assert_becomes(&rt, rt.alloc(), &bytes, &bytes),
+        Err(_) => Ok(()),
+    }
 }

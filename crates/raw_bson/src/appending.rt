@@ -12,6 +12,7 @@ use raw_tree::{is_nul_free, is_value_nul_free, payload_len, put_element, set_len
 use raw_view::{Error, RawBsonRef, Reason, Result};
 
 /// Puts an element in place of the last byte, and a 0 behind it, where there is room for them.
+#[inline(always)]
 fn put_at_end(bytes: &mut Vec<u8>, key: &str, value: RawBsonRef<'_>)
     requires some { 0 < vec_len bytes.old }
     requires fits { length (element_bytes key.now (value_of value)) ≤ max_length }
@@ -27,6 +28,7 @@ fn put_at_end(bytes: &mut Vec<u8>, key: &str, value: RawBsonRef<'_>)
 
 /// Appends an element to a document's bytes, with the old content unexamined. It judges the 0s, then the new
 /// length, then reserves the whole growth, and only then writes.
+#[inline(always)]
 pub(crate) fn append_element(bytes: &mut Vec<u8>, key: &str, value: RawBsonRef<'_>) -> Result<()>
     requires { IsEnvelope bytes.old.items }
     ensures appends { Appends bytes.old.items key.now (value_of value.entry) result bytes.new.items }

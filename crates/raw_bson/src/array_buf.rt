@@ -85,6 +85,7 @@ impl RawArrayBuf {
 
     /// Appends a value under the decimal of the count, and adds one to the count. It refuses what an append
     /// refuses, and then the bytes and the count are as they were. The value is dropped.
+    #[inline(always)]
     pub fn push(&mut self, value: RawBson) -> Result<()>
         ensures pushes { Pushes self.old (owned_value value) result self.new }
         ensures walk { OnOk result

@@ -199,6 +199,7 @@ impl RawBson {
     ghost use Rattle.raw_bson.specs.declared.bson.RawBson.TheVariants as own;
 
     /// A view of the value. Nothing is copied.
+    #[inline(always)]
     pub fn as_raw_bson_ref(&self) -> RawBsonRef<'_>
         ensures { value_of result ≡ owned_value self.now }
     {

@@ -101,6 +101,7 @@ impl RawDocumentBuf {
     /// Appends a value under a key, with the old content unexamined. It refuses, in this order: a 0 in the
     /// key, in a pattern or in options; a new length over 2147483647; want of memory. These errors have no
     /// key, and the bytes are then as they were. The value is dropped.
+    #[inline(always)]
     pub fn append(&mut self, key: &str, value: RawBson) -> Result<()>
         ensures appends { Appends self.old key.now (owned_value value) result self.new }
         ensures walk { OnOk result (KeepsWalk self.old key.now (owned_value value) self.new) }
@@ -110,6 +111,7 @@ impl RawDocumentBuf {
 
     /// Appends a value that borrows its parts, with the old content unexamined. It copies no part of it on the
     /// way, and refuses what `append` does, in the same order.
+    #[inline(always)]
     pub fn append_ref(&mut self, key: &str, value: RawBsonRef<'_>) -> Result<()>
         ensures appends { Appends self.old key.now (value_of value.entry) result self.new }
         ensures walk { OnOk result (KeepsWalk self.old key.now (value_of value.entry) self.new) }

@@ -13,7 +13,9 @@ use Rattle.raw_view.specs.Number.{le32}
 use Rattle.raw_view.specs.declared.element_type.ElementType.{ElementType}
 use Rattle.raw_view.proofs.Face.{length-framed, length-scoped_payload}
 use Rattle.raw_tree.specs.Encoding.{kind_of_tree, tree_payload, items_bytes, entries_bytes, encoded_len, items_len, entries_len}
-use Rattle.raw_tree.specs.Judging.{Judges}
+use Rattle.raw_tree.specs.Judging.{Judges, Shows}
+use Rattle.raw_tree.specs.Payload.{element_bytes}
+use Rattle.raw_view.specs.Meaning.{RawValue, single, document as document_value, array as array_value, scoped}
 
 -- the members of a list are free of 0s, and so are the pairs of a document
 abbrev pub AreNulFree : List Tree → Type 0
@@ -160,8 +162,18 @@ pub pair_fits : (ps : List (List ℕ × Bson)) (i : ℕ) (key : List ℕ) (v : B
 pair_fits ps i key v e = let s = entries_len-step ps i key v e in let h = entries_len-taken (i + 1) ps in omega arith
 
 -- an element that is put behind others in two parts
-pub behind : (before others key payload : List ℕ) (tag : ℕ) → ((before ++ others) ++ tag ∷ (key ++ 0 ∷ [])) ++ payload ≡ before ++ (others ++ tag ∷ (key ++ 0 ∷ payload))
-behind before others key payload tag = simp append_assoc
+pub behind : (before key payload : List ℕ) (tag : ℕ) → (before ++ tag ∷ (key ++ 0 ∷ [])) ++ payload ≡ before ++ tag ∷ (key ++ 0 ∷ payload)
+behind before key payload tag = simp append_assoc
+
+-- the element of a value that shows a tree
+pub shown_element : (t : Tree) (v : RawValue) (key : List ℕ) → Shows t v → element_bytes key v ≡ element_of (kind_of_tree t) key (tree_payload t)
+shown_element t (single l) key e = ap (λ (x : Tree). element_of (kind_of_tree x) key (tree_payload x)) (sym e)
+shown_element t (document_value d) key e = absurd e
+shown_element t (array_value d) key e = absurd e
+shown_element t (scoped code d) key e = absurd e
+
+pub length-shown : (t : Tree) (v : RawValue) (key : List ℕ) → Shows t v → length (element_bytes key v) ≡ 2 + length key + encoded_len t
+length-shown t v key e = ap length (shown_element t v key e) ∙ omega (arith, length-append key (0 ∷ tree_payload t), length-tree_payload t)
 
 -- four bytes that are set to how many bytes there are from them on
 pub set_head : (before body whole : List ℕ) (start n : ℕ) → whole ≡ before ++ 0 ∷ 0 ∷ 0 ∷ 0 ∷ body → start ≡ length before → n ≡ length whole → take start whole ++ (le32 (pos (n - start)) ++ drop (start + 4) whole) ≡ before ++ (le32 (pos (4 + length body)) ++ body)

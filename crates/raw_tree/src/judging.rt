@@ -10,10 +10,10 @@ ghost use Rattle.raw_view.specs.Value.{value_of};
 
 use crate::payload::{is_nul_free, is_value_nul_free, payload_len};
 use bson_model::{Bson, Document};
-use itoa::Buffer;
 use raw_view::{RawBsonRef, RawDbPointerRef, RawRegexRef};
 
 /// A view of a value that holds no other values; `None` for a document, an array and a code with scope.
+#[inline(always)]
 pub(crate) fn leaf_ref(value: &Bson) -> Option<RawBsonRef<'_>>
     ensures some { IfSome result (λ v. Shows (tree_of value.now) (value_of v)) }
     ensures none { IfNone result (HoldsOthers value.now) }
@@ -48,15 +48,22 @@ pub(crate) fn leaf_ref(value: &Bson) -> Option<RawBsonRef<'_>>
 }
 
 /// How many bytes the decimal of a number takes.
+#[inline(always)]
 fn decimal_len(number: usize) -> usize
     ensures len { result ≡ length (decimal number) }
-    ensures short { result ≤ 40 }
+    ensures short { result ≤ 20 }
 {
-    let mut buffer = Buffer::new();
-    buffer.format(number).len()
+    let mut len = 1;
+    let mut rest = number;
+    while rest >= 10 {
+        rest /= 10;
+        len += 1;
+    }
+    len
 }
 
 /// How many bytes the payload of the view takes, or `None` where it holds a 0 that it may not.
+#[inline(always)]
 fn judged_leaf(value: RawBsonRef<'_>) -> Option<usize>
     ensures { (l : Leaf) → value_of value.entry ≡ single l → Judges (leaf l) result }
 {

@@ -10,6 +10,7 @@ use bson_model::BinarySubtype;
 use raw_view::{RawBinaryRef, RawBsonRef};
 
 /// Whether a text holds no 0, so that it can be a C string. BSON 1.1, `cstring`.
+#[inline(always)]
 pub fn is_nul_free(text: &str) -> bool
     ensures { IsTrue result ↔ NulFree text.now }
 {
@@ -17,6 +18,7 @@ pub fn is_nul_free(text: &str) -> bool
 }
 
 /// Whether the pattern and the options of the value hold no 0.
+#[inline(always)]
 pub fn is_value_nul_free(value: RawBsonRef<'_>) -> bool
     ensures { IsTrue result ↔ IsValueNulFree (value_of value.entry) }
 {
@@ -28,12 +30,14 @@ pub fn is_value_nul_free(value: RawBsonRef<'_>) -> bool
     }
 }
 
+#[inline(always)]
 pub(crate) fn string_len(text: &str) -> usize
     ensures { result ≡ length (string_payload text.now) }
 {
     text.len() + 5
 }
 
+#[inline(always)]
 fn binary_len(binary: RawBinaryRef<'_>) -> usize
     ensures { result ≡ length (binary_payload binary.entry.subtype binary.entry.bytes.now) }
 {
@@ -44,6 +48,7 @@ fn binary_len(binary: RawBinaryRef<'_>) -> usize
 }
 
 /// How many bytes the payload of the value takes; the greatest `usize` where that is more.
+#[inline(always)]
 pub fn payload_len(value: RawBsonRef<'_>) -> usize
     ensures { result ≡ min (length (payload_of (value_of value.entry))) (2 ^ 64 - 1) }
 {

@@ -14,6 +14,7 @@ use raw_view::{
 };
 
 /// Puts the bytes at the end, where there is room for them.
+#[inline(always)]
 pub(crate) fn put(out: &mut Vec<u8>, bytes: &[u8])
     requires { vec_len out.old + length bytes.now ≤ vec_capacity out.old }
     ensures items { out.new.items ≡ out.old.items ++ bytes.now }
@@ -25,6 +26,7 @@ pub(crate) fn put(out: &mut Vec<u8>, bytes: &[u8])
     };
 }
 
+#[inline(always)]
 fn put_len(out: &mut Vec<u8>, len: usize)
     requires room { vec_len out.old + 4 ≤ vec_capacity out.old }
     requires fits { len ≤ max_length }
@@ -35,6 +37,7 @@ fn put_len(out: &mut Vec<u8>, len: usize)
     put(out, &(len as i32).to_le_bytes()[..]);
 }
 
+#[inline(always)]
 pub(crate) fn put_string(out: &mut Vec<u8>, text: &str)
     requires room { vec_len out.old + length (string_payload text.now) ≤ vec_capacity out.old }
     requires fits { length (string_payload text.now) ≤ max_length }
@@ -44,9 +47,10 @@ pub(crate) fn put_string(out: &mut Vec<u8>, text: &str)
 {
     put_len(out, text.len() + 1);
     put(out, text.as_bytes());
-    put(out, &[0]);
+    out.push_reserved(0);
 }
 
+#[inline(always)]
 pub(crate) fn put_c_string(out: &mut Vec<u8>, text: &str)
     requires room { vec_len out.old + (length text.now + 1) ≤ vec_capacity out.old }
     ensures items { out.new.items ≡ out.old.items ++ c_string text.now [] }
@@ -54,9 +58,10 @@ pub(crate) fn put_c_string(out: &mut Vec<u8>, text: &str)
     ensures capacity { vec_capacity out.old ≤ vec_capacity out.new }
 {
     put(out, text.as_bytes());
-    put(out, &[0]);
+    out.push_reserved(0);
 }
 
+#[inline(always)]
 fn put_plain_binary(out: &mut Vec<u8>, subtype: u8, len: usize)
     requires room { vec_len out.old + 5 ≤ vec_capacity out.old }
     requires fits { len ≤ max_length }
@@ -65,9 +70,10 @@ fn put_plain_binary(out: &mut Vec<u8>, subtype: u8, len: usize)
     ensures capacity { vec_capacity out.old ≤ vec_capacity out.new }
 {
     put_len(out, len);
-    put(out, &[subtype]);
+    out.push_reserved(subtype);
 }
 
+#[inline(always)]
 fn put_binary(out: &mut Vec<u8>, binary: RawBinaryRef<'_>)
     requires room { vec_len out.old + length (binary_payload binary.subtype binary.bytes.now)
         ≤ vec_capacity out.old }
@@ -134,6 +140,7 @@ fn put_regex(out: &mut Vec<u8>, regex: RawRegexRef<'_>)
 }
 
 /// Puts the payload of the value at the end, where there is room for it.
+#[inline(always)]
 pub(crate) fn put_payload(out: &mut Vec<u8>, value: RawBsonRef<'_>)
     requires room { vec_len out.old + length (payload_of (value_of value)) ≤ vec_capacity out.old }
     requires fits { length (payload_of (value_of value)) ≤ max_length }
@@ -143,7 +150,7 @@ pub(crate) fn put_payload(out: &mut Vec<u8>, value: RawBsonRef<'_>)
 {
     match value {
         RawBsonRef::Undefined | RawBsonRef::Null | RawBsonRef::MaxKey | RawBsonRef::MinKey => {}
-        RawBsonRef::Boolean(value) => put(out, &[if value { 1 } else { 0 }]),
+        RawBsonRef::Boolean(value) => out.push_reserved(if value { 1 } else { 0 }),
         RawBsonRef::Int32(number) => put(out, &number.to_le_bytes()[..]),
         RawBsonRef::Int64(number) => put(out, &number.to_le_bytes()[..]),
         RawBsonRef::Double(bits) => put(out, &bits.0.to_le_bytes()[..]),
@@ -166,17 +173,19 @@ pub(crate) fn put_payload(out: &mut Vec<u8>, value: RawBsonRef<'_>)
 }
 
 /// Puts a tag, a key and its 0 at the end, where there is room for them.
+#[inline(always)]
 pub(crate) fn put_head(out: &mut Vec<u8>, tag: u8, key: &str)
     requires { vec_len out.old + (length key.now + 2) ≤ vec_capacity out.old }
     ensures items { out.new.items ≡ out.old.items ++ tagged tag key.now [] }
     ensures len { vec_len out.new ≡ vec_len out.old + (length key.now + 2) }
     ensures capacity { vec_capacity out.old ≤ vec_capacity out.new }
 {
-    put(out, &[tag]);
+    out.push_reserved(tag);
     put_c_string(out, key);
 }
 
 /// Puts the element of the value under the key at the end, where there is room for it.
+#[inline(always)]
 pub fn put_element(out: &mut Vec<u8>, key: &str, value: RawBsonRef<'_>)
     requires room { vec_len out.old + length (element_bytes key.now (value_of value))
         ≤ vec_capacity out.old }
@@ -191,6 +200,7 @@ pub fn put_element(out: &mut Vec<u8>, key: &str, value: RawBsonRef<'_>)
 }
 
 /// Sets the four bytes at `start` to how many bytes there are from there on.
+#[inline(always)]
 pub fn set_len(out: &mut Vec<u8>, start: usize)
     requires header { start + 4 ≤ vec_len out.old }
     requires fits { vec_len out.old ≤ start + max_length }

@@ -3,6 +3,7 @@ ghost use Rattle.raw_view.specs.Number.{max_length};
 
 /// The length of a document of so many bytes to which so many more are added; `None` where that is over
 /// 2147483647, the greatest length that a header can say. BSON 1.1, `document`.
+#[inline(always)]
 pub fn total_len(len: usize, added: usize) -> Option<i32>
     ensures some { IfSome result
         (λ total. (total ≡ pos (len + added)) × (len + added ≤ max_length)) }

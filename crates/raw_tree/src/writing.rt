@@ -1,66 +1,47 @@
 //! Trees of values as bytes.
 #![tactic(auto, using(std::proofs::lemmas::Grind::common_steps, bson_model::proofs::Trees::tree_laws))]
 
-ghost use Rattle.std.specs.Prelude.{◌≡◌, ◌≤◌, ◌+◌, ◌++◌, [], length, decimal, vec_len, vec_capacity, IfOk, IfErr};
+ghost use Rattle.std.specs.Prelude.{◌≡◌, ◌≤◌, ◌+◌, ◌++◌, [], length, vec_len, vec_capacity, IfOk, IfErr};
 ghost use Rattle.bson_model.specs.Bytes.{AreBytes};
 ghost use Rattle.bson_model.specs.Tree.{Tree, tree_of, tree_of_document, tree_of_list};
 ghost use Rattle.raw_tree.specs.CanonicalForm.{DocumentsComeBack, ListsComeBack};
 ghost use Rattle.raw_tree.specs.Encoding.{encoded_len, tree_payload, kind_of_tree, IsEncoded, IsRefused};
 ghost use Rattle.raw_tree.specs.Judging.{HasRoomFor, Judges};
 ghost use Rattle.raw_view.specs.Envelope.{IsEnvelope};
-ghost use Rattle.raw_view.specs.Format.{tagged};
-ghost use Rattle.raw_view.specs.Kind as kind;
+ghost use Rattle.raw_view.specs.Format.{element_of};
 ghost use Rattle.raw_view.specs.Number.{max_length};
 
 use crate::judging::{judged_document, judged_list, leaf_ref};
-use crate::put::{put, put_head, put_payload, put_string, set_len};
+use crate::put::{put, put_element, put_head, put_string, set_len};
 use crate::total::total_len;
 use bson_model::{Bson, Document};
 use itoa::Buffer;
 use raw_view::{ElementType, Error, Reason, Result};
 use std::alloc::Global;
 
-/// The tag of a value.
-fn tag(value: &Bson) -> u8
-    ensures { result ≡ kind.tag_of (kind_of_tree (tree_of value.now)) }
-{
-    match value {
-        Bson::Array(_) => ElementType::Array.to_tag(),
-        Bson::Document(_) => ElementType::EmbeddedDocument.to_tag(),
-        Bson::JavaScriptCodeWithScope(_) => ElementType::JavaScriptCodeWithScope.to_tag(),
-        _ => {
-            let Some(leaf) = leaf_ref(value) else {
-                unreachable!()
-            };
-            leaf.element_type().to_tag()
-        }
-    }
-}
-
-/// The same under the decimal of a number.
-fn put_decimal_head(out: &mut Vec<u8>, tag: u8, number: usize)
-    requires { vec_len out.old + (length (decimal number) + 2) ≤ vec_capacity out.old }
-    ensures items { out.new.items ≡ out.old.items ++ tagged tag (decimal number) [] }
-    ensures len { vec_len out.new ≡ vec_len out.old + (length (decimal number) + 2) }
-    ensures capacity { vec_capacity out.old ≤ vec_capacity out.new }
-{
-    let mut buffer = Buffer::new();
-    put_head(out, tag, buffer.format(number));
-}
-
-/// Puts the payload of the value at the end, where there is room for it.
+/// Puts the element of the value under the key at the end, where there is room for it.
 #[cycle(write)]
-fn put_value(out: &mut Vec<u8>, value: &Bson)
-    requires room { vec_len out.old + encoded_len (tree_of value.now) ≤ vec_capacity out.old }
-    requires fits { encoded_len (tree_of value.now) ≤ max_length }
-    ensures items { out.new.items ≡ out.old.items ++ tree_payload (tree_of value.now) }
-    ensures len { vec_len out.new ≡ vec_len out.old + encoded_len (tree_of value.now) }
+fn put_value(out: &mut Vec<u8>, key: &str, value: &Bson)
+    requires room { vec_len out.old + (2 + length key.now + encoded_len (tree_of value.now))
+        ≤ vec_capacity out.old }
+    requires fits { 2 + length key.now + encoded_len (tree_of value.now) ≤ max_length }
+    ensures items { out.new.items ≡ out.old.items
+        ++ element_of (kind_of_tree (tree_of value.now)) key.now (tree_payload (tree_of value.now)) }
+    ensures len { vec_len out.new
+        ≡ vec_len out.old + (2 + length key.now + encoded_len (tree_of value.now)) }
     ensures capacity { vec_capacity out.old ≤ vec_capacity out.new }
 {
     match value {
-        Bson::Array(values) => put_list(out, values),
-        Bson::Document(document) => put_document(out, document),
+        Bson::Array(values) => {
+            put_head(out, ElementType::Array.to_tag(), key);
+            put_list(out, values);
+        }
+        Bson::Document(document) => {
+            put_head(out, ElementType::EmbeddedDocument.to_tag(), key);
+            put_document(out, document);
+        }
         Bson::JavaScriptCodeWithScope(code) => {
+            put_head(out, ElementType::JavaScriptCodeWithScope.to_tag(), key);
             let start = out.len();
             put(out, &[0; 4]);
             put_string(out, &code.code);
@@ -71,12 +52,12 @@ fn put_value(out: &mut Vec<u8>, value: &Bson)
             let Some(leaf) = leaf_ref(value) else {
                 unreachable!()
             };
-            put_payload(out, leaf);
+            put_element(out, key, leaf);
         }
     }
 }
 
-/// The same of a list, its keys the decimals from 0.
+/// Puts the payload of a list at the end, where there is room for it; its keys are the decimals from 0.
 #[cycle(write)]
 fn put_list(out: &mut Vec<u8>, values: &[Bson])
     requires room { vec_len out.old + encoded_len (tree_of_list values.now) ≤ vec_capacity out.old }
@@ -88,11 +69,11 @@ fn put_list(out: &mut Vec<u8>, values: &[Bson])
 {
     let start = out.len();
     put(out, &[0; 4]);
+    let mut key = Buffer::new();
     for (index, value) in values.iter().enumerate() {
-        put_decimal_head(out, tag(value), index);
-        put_value(out, value);
+        put_value(out, key.format(index), value);
     }
-    put(out, &[0]);
+    out.push_reserved(0);
     set_len(out, start);
 }
 
@@ -113,10 +94,9 @@ fn put_document(out: &mut Vec<u8>, document: &Document)
         let Some((key, value)) = document.pair_at(index) else {
             unreachable!()
         };
-        put_head(out, tag(value), key);
-        put_value(out, value);
+        put_value(out, key, value);
     }
-    put(out, &[0]);
+    out.push_reserved(0);
     set_len(out, start);
 }
 

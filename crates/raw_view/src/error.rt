@@ -154,6 +154,8 @@ impl Error {
     }
 
     /// Malformed for this reason, without a key.
+    #[cold]
+    #[inline(never)]
     pub fn malformed(reason: Reason) -> Error
         ensures kind { result.kind ≡ ErrorKind.MalformedValue reason }
         ensures no_key { key_of result ≡ None }
@@ -162,6 +164,8 @@ impl Error {
     }
 
     /// No memory was left; without a key.
+    #[cold]
+    #[inline(never)]
     pub fn out_of_memory() -> Error
         ensures { IsOutOfMemory result }
     {

@@ -77,6 +77,9 @@ pub const REPEATED_KEY: &[u8] = b"\x13\0\0\0\x10a\0\x01\0\0\0\x10a\0\x02\0\0\0\0
 /// An array of one null, whose key is empty, under the key `a`.
 pub const ARRAY_WITH_AN_EMPTY_KEY: &[u8] = b"\x0F\0\0\0\x04a\0\x07\0\0\0\x0A\0\0\0";
 
+/// A regular expression with the options `mi`.
+pub const OPTIONS_OUT_OF_ORDER: &[u8] = b"\x0D\0\0\0\x0Br\0a\0mi\0\0";
+
 /// The empty code with the empty scope, under the key `c`.
 pub const LEAST_CODE_WITH_SCOPE: &[u8] = b"\x16\0\0\0\x0Fc\0\x0E\0\0\0\x01\0\0\0\0\x05\0\0\0\0\0";
 

@@ -9,6 +9,8 @@ mod c_strings;
 #[cfg(test)]
 mod calls;
 #[cfg(test)]
+mod damage;
+#[cfg(test)]
 mod debug_texts;
 #[cfg(test)]
 mod getters;

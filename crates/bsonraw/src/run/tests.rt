@@ -72,22 +72,41 @@ impl Write for SlowWriter {
     }
 }
 
-#[test]
-fn lists_what_it_reads(rt: HostRuntime) {
-    let mut reader: &[u8] = GREETING;
-    let mut writer: Vec<u8> = Vec::new(rt.alloc());
-    assert_eq!(rt; run(rt.alloc(), "list", &mut reader, &mut writer), 0);
-    assert_eq!(rt; writer.as_slice(), LISTING);
-    assert_eq!(rt; reader.len(), 0);
+/// Whether the command on this reader gives this status and writes just this.
+fn has_run<R: Read>(
+    alloc: Global,
+    command: &str,
+    reader: &mut R,
+    status: u8,
+    output: &[u8],
+) -> bool {
+    let mut writer: Vec<u8> = Vec::new(alloc);
+    run(alloc, command, reader, &mut writer) == status && writer.as_slice() == output
+}
+
+/// The same where the writer fails after so many calls.
+fn has_written<R: Read>(
+    alloc: Global,
+    command: &str,
+    reader: &mut R,
+    calls: usize,
+    status: u8,
+    output: &[u8],
+) -> bool {
+    let mut writer = SlowWriter::new(alloc, calls);
+    run(alloc, command, reader, &mut writer) == status && writer.taken.as_slice() == output
 }
 
 #[test]
-fn writes_the_canonical_form_of_what_it_reads(rt: HostRuntime) {
-    let mut reader: &[u8] = GREETING;
-    let mut writer: Vec<u8> = Vec::new(rt.alloc());
-    assert_eq!(rt; run(rt.alloc(), "canon", &mut reader, &mut writer), 0);
-    assert_eq!(rt; writer.as_slice(), FORM);
-    assert_eq!(rt; reader.len(), 0);
+fn answers_what_it_reads(rt: HostRuntime) {
+    for (command, output) in [("list", LISTING), ("canon", FORM)] {
+        let mut reader: &[u8] = GREETING;
+        assert!(rt;
+            has_run(rt.alloc(), command, &mut reader, 0, output),
+            "{command}"
+        );
+        assert_eq!(rt; reader.len(), 0);
+    }
 }
 
 #[test]
@@ -96,9 +115,7 @@ fn goes_byte_by_byte(rt: HostRuntime) {
         left: GREETING,
         reads: usize::MAX,
     };
-    let mut writer = SlowWriter::new(rt.alloc(), usize::MAX);
-    assert_eq!(rt; run(rt.alloc(), "list", &mut reader, &mut writer), 0);
-    assert_eq!(rt; writer.taken.as_slice(), LISTING);
+    assert!(rt; has_written(rt.alloc(), "list", &mut reader, usize::MAX, 0, LISTING));
 }
 
 #[test]
@@ -108,9 +125,10 @@ fn writes_nothing_after_a_failed_read(rt: HostRuntime) {
             left: GREETING,
             reads,
         };
-        let mut writer: Vec<u8> = Vec::new(rt.alloc());
-        assert_eq!(rt; run(rt.alloc(), "list", &mut reader, &mut writer), 5);
-        assert!(rt; writer.is_empty());
+        assert!(rt;
+            has_run(rt.alloc(), "list", &mut reader, 5, b""),
+            "after {reads} reads"
+        );
     }
 }
 
@@ -118,9 +136,11 @@ fn writes_nothing_after_a_failed_read(rt: HostRuntime) {
 fn tells_a_failed_write(rt: HostRuntime) {
     for calls in 0..=LISTING.len() {
         let mut reader: &[u8] = GREETING;
-        let mut writer = SlowWriter::new(rt.alloc(), calls);
-        assert_eq!(rt; run(rt.alloc(), "list", &mut reader, &mut writer), 5);
-        assert_eq!(rt; writer.taken.as_slice(), &LISTING[..calls]);
+        let taken = &LISTING[..calls];
+        assert!(rt;
+            has_written(rt.alloc(), "list", &mut reader, calls, 5, taken),
+            "after {calls} calls"
+        );
     }
 }
 
@@ -130,17 +150,18 @@ fn answers_an_unknown_command_without_a_read(rt: HostRuntime) {
         left: GREETING,
         reads: 0,
     };
-    let mut writer: Vec<u8> = Vec::new(rt.alloc());
-    assert_eq!(rt; run(rt.alloc(), "show", &mut reader, &mut writer), 3);
-    assert_eq!(rt; writer.as_slice(), USAGE_LINE);
+    assert!(rt; has_run(rt.alloc(), "show", &mut reader, 3, USAGE_LINE));
 }
 
 #[test]
 fn tells_that_the_usage_was_not_written(rt: HostRuntime) {
     for calls in 0..=USAGE_LINE.len() {
         let mut reader: &[u8] = GREETING;
-        let mut writer = SlowWriter::new(rt.alloc(), calls);
-        assert_eq!(rt; run(rt.alloc(), "show", &mut reader, &mut writer), 5);
+        let taken = &USAGE_LINE[..calls];
+        assert!(rt;
+            has_written(rt.alloc(), "show", &mut reader, calls, 5, taken),
+            "after {calls} calls"
+        );
         assert_eq!(rt; reader.len(), GREETING.len());
     }
 }

@@ -1,111 +1,139 @@
--- `Pairs` as a type that may hold the type that holds it, by its values.
-use Rattle.std.specs.Prelude.{◌≡◌, ℕ, List, [], ◌∷◌, map, length, String, nat_eq, ◌&&◌}
-use Rattle.std.specs.List.{zip}
+-- `Pairs` as a type that may hold the type that holds it: by its parts, behind a pointer that may be absent.
+use Rattle.std.specs.Prelude.{◌≡◌, ℕ, List, [], map, nat_eq, ◌&&◌}
 use Rattle.std.specs.declared.cmp.PartialEq as eq
-use Rattle.std.specs.Cmp.Derive.Mapped.{pointwise-map}
 use Rattle.std.specs.Cmp.Lexicographic.{pointwise}
-use Rattle.std.specs.String.{string_bytes}
-use mathlib.Core.Path.{refl, sym, ap, ◌∙◌}
-use mathlib.Core.Former.{Former, one_more, this, const, pair, list, via}
-use native.Mathlib.Nat.{ℕ_set}
-use native.Mathlib.Omega.{arith}
-use lib.ListN.{length-map}
-use base.Stored.{code_map, coded_ℕ, coded_list, coded×, gcons}
+use mathlib.Core.Path.{refl}
+use mathlib.Core.Logic.{◌⊎◌, inl, inr}
+use mathlib.Core.Former.{Former, this, const, pair, or, via, children}
+use base.Stored.{gnil}
+use base.Fml.{ftrue}
 use denote.RattleType.{RattleType}
 use denote.HoleLaws.{Alike}
-use denote.HolePlaces.{Recodes, struct_places, laid}
-use denote.Hole.Fix.{over}
-use mathlib.Core.Former.{children}
+use denote.HolePlaces.{Recodes, struct_places, enum_places, eachs, laid, one_value}
 use denote.Hole.Carrier.{listed}
-use mathlib.Core.Former.{Count, Row, list_count, list_put}
-use Rattle.std.specs.Prelude.{max}
-use denote.Param.Nested.{deepest}
-use denote.Param.Weighed.{Weighed, most, none_max, List-puts, w_pair, w_const}
-use denote.Model.Placed.{held, view_places_where}
-use Rattle.std.specs.formers.vec.Vec as vec
+use denote.Hole.Fix.{over}
+use denote.Memory.{part_of}
+use denote.Model.Placed.{held, view_places}
+use denote.Param.Weighed.{Weighed}
+use denote.RawPtr.{Ptr}
+use denote.Sharing.{nothing}
 use Rattle.std.specs.declared.alloc.Global.{Global}
 use Rattle.std.specs.contracts.alloc.Global as heap
 use Rattle.std.specs.contracts.impls.GlobalAllocator.TheImpl.{ghosts}
-use Rattle.std.specs.declared.hash.FoldHasher.{FoldHasher}
-use Rattle.std.specs.declared.hash.BuildHasherDefault.{BuildHasherDefault}
-use Rattle.indexmap.specs.IndexSet.{IndexSet}
+use Rattle.std.specs.declared.boxed.Box.{Box}
+use Rattle.std.specs.contracts.boxed.Box as box
+use Rattle.std.specs.declared.option.Option.{Option}
+use Rattle.std.specs.declared.option.Option.TheVariants.{None, Some}
+use Rattle.std.specs.contracts.option.Option as option
+use Rattle.bson_model.specs.formers.parts.Parts as parts
+use Rattle.bson_model.specs.contracts.parts.Parts as P
 use Rattle.bson_model.specs.declared.pairs.Pairs.TheInside.{Inside}
 use Rattle.bson_model.specs.declared.pairs.Pairs.TheView.{view, invariant}
 use Rattle.bson_model.specs.contracts.pairs.Pairs as C
 use Rattle.bson_model.specs.contracts.pairs.Pairs.TheInside as I
 
-abbrev Keys : Type 0
-Keys = IndexSet (String Global) (BuildHasherDefault FoldHasher)
-
-abbrev entry : Former {0} → Former {0}
-entry g = pair (const (List ℕ)) g
-
-abbrev pub values : {X : Type 0} → List (List ℕ × X) → List X
-values d = map (λ p. p.1) d
-
-most_values : {Y : Type 0} (f : Y → ℕ) (es : List (List ℕ × Y)) → most (λ p. max 0 (f p.1)) es ≡ most f (values es)
-most_values f [] = refl
-most_values f (e ∷ es) = λ i. max (sym (none_max (f e.1)) i) (most_values f es i)
-
-pub entries_puts : {g : Former {0}} (w : Weighed g) (X : Type 0) (μ : X → ℕ) (es : List (List ℕ × g.Of X)) (n : Count) (t : Row X n)
-    → deepest μ (list_count (entry g) (map ((entry g).shape X) es) n) (list_put (entry g) X es n t) ≡ max (most (w.weight X μ) (values es)) (deepest μ n t)
-entries_puts w X μ es n t = List-puts (w_pair (w_const (List ℕ)) w) X μ es n t ∙ ap (λ a. max a (deepest μ n t)) (most_values (w.weight X μ) es)
-
-values_listed : (X : Type 0) (es : List (List ℕ × X)) → listed _ (children (list (entry this)) X es) ≡ values es
-values_listed X [] = refl
-values_listed X (e ∷ es) = ap (λ l. e.1 ∷ l) (values_listed X es)
-
 abbrev pub the_former : Former {0} → Former {0}
-the_former g = list (entry g)
+the_former g = parts.the_former g
 
 abbrev pub the_weighed : {g : Former {0}} → Weighed g → Weighed (the_former g)
-the_weighed w = record { weight = λ X μ d. most (w.weight X μ) (values d); puts = λ X μ d. entries_puts w X μ d }
+the_weighed w = parts.the_weighed w
 
 pub the_empty : List (List ℕ × ⊥)
 the_empty = []
 
 abbrev pub the_items : (X : Type 0) → List (List ℕ × X) → List X
-the_items X d = values d
+the_items X d = parts.values d
 
 pub the_items_listed : (X : Type 0) (d : List (List ℕ × X)) → listed _ (children (the_former this) X d) ≡ the_items X d
-the_items_listed X d = values_listed X d
+the_items_listed X d = parts.the_items_listed X d
+
+abbrev Boxed : Type 0 → Type 0
+Boxed X = Box (List (List ℕ × X)) Global
+
+abbrev with_value : {A B : Type 0} → Box A Global → B → Box B Global
+with_value b y = record { ptr = b.ptr; alloc = b.alloc; value = y }
+
+abbrev box_over : {X Y : Type 0} → (X → Y) → Boxed X → Boxed Y
+box_over h b = with_value b (map (parts.on_value h) b.value)
+
+abbrev option_over : {X Y : Type 0} → (X → Y) → Option (Boxed X) → Option (Boxed Y)
+option_over h None = None
+option_over h (Some b) = Some (box_over h b)
+
+module _ {X : Type 0} where
+  abbrev split : Option (Boxed X) → Unit {0} ⊎ ((Ptr × Global) × List (List ℕ × X))
+  split None = inl tt
+  split (Some b) = inr ((b.ptr, b.alloc), b.value)
+
+  abbrev join : Unit {0} ⊎ ((Ptr × Global) × List (List ℕ × X)) → Option (Boxed X)
+  join (inl u) = None
+  join (inr v) = Some (record { ptr = v.0.0; alloc = v.0.1; value = v.1 })
+
+  join-split : (o : Option (Boxed X)) → join (split o) ≡ o
+  join-split None = refl
+  join-split (Some b) = refl
+
+  split-join : (v : Unit {0} ⊎ ((Ptr × Global) × List (List ℕ × X))) → split (join v) ≡ v
+  split-join (inl u) = refl
+  split-join (inr v) = refl
+
+abbrev optional : Former {0}
+optional = via (or (const (Unit {0})) (pair (const (Ptr × Global)) (parts.the_former this))) (λ X. Option (Boxed X)) (λ X. split) (λ X. join) (λ X. join-split) (λ X. split-join)
 
 abbrev fields : Former {0}
-fields = via (pair (const Keys) (vec.the_former this Global)) Inside (λ X a. (a.keys, a.values)) (λ X v. record { keys = v.0; values = v.1 }) (λ X a. refl) (λ X v. refl)
+fields = via (pair (const Global) optional) Inside (λ X a. (a.alloc, a.parts)) (λ X v. record { alloc = v.0; parts = v.1 }) (λ X a. refl) (λ X v. refl)
 
-abbrev on_value : {K X Y : Type 0} → (X → Y) → K × X → K × Y
-on_value h p = (p.0, h p.1)
+module _ (X : Type 0) where
+  abbrev with_parts : Inside X → Option (Boxed X) → Inside X
+  with_parts u o = record { alloc = u.alloc; parts = o }
 
-zip-map : {K X Y : Type 0} (h : X → Y) (ks : List K) (vs : List X) → zip ks (map h vs) ≡ map (on_value h) (zip ks vs)
-zip-map h [] vs = refl
-zip-map h (k ∷ ks) [] = refl
-zip-map h (k ∷ ks) (v ∷ vs) = ap (λ l. (k, h v) ∷ l) (zip-map h ks vs)
+  keeps : (u : Inside X) (o : Option (Boxed X)) → held (the_former this) X (view X (with_parts u o)) ≡ held fields X (with_parts u o)
+  keeps u None = refl
+  keeps u (Some b) = refl
 
-zip-held : (X : Type 0) (ks : List (List ℕ)) (vs : List X) → length ks ≡ length vs → held (list (entry this)) X (zip ks vs) ≡ held (list this) X vs
-zip-held X [] [] e = refl
-zip-held X [] (v ∷ vs) e = absurd (omega arith)
-zip-held X (k ∷ ks) [] e = absurd (omega arith)
-zip-held X (k ∷ ks) (v ∷ vs) e = λ i. (one_more (zip-held X ks vs (omega arith) i).0, (v, (zip-held X ks vs (omega arith) i).1))
+  module _ (Y : Type 0) (h : X → Y) where
+    mapped : (o : Option (Boxed X)) → optional.map X Y h o ≡ option_over h o
+    mapped None = refl
+    mapped (Some b) = refl
+
+    natural : (u : Inside X) (o : Option (Boxed X)) → view Y (fields.map X Y h (with_parts u o)) ≡ (the_former this).map X Y h (view X (with_parts u o))
+    natural u None = refl
+    natural u (Some b) = refl
+
+abbrev box_of : RattleType → RattleType
+box_of R = box.the_row R heap.the_row ghosts
 
 module _ (R S : RattleType) (h : R.Denot → S.Denot) where
+  box_places : Alike R S h → Alike (box_of R) (box_of S) (λ b. with_value b (h b.value))
+  unfolding part_of
+  box_places a = record {
+    mir_same = λ i. (box_of (one_value R (a.mir_same i) (λ _. ftrue) (λ _ _. nothing) gnil)).mir;
+    own_same = λ b i. (box_of (one_value R (a.mir_same i) (a.own_same b.value i) (a.shr_same b.value i) gnil)).own_val (with_value b tt);
+    shr_same = λ b i. (box_of (one_value R (a.mir_same i) (a.own_same b.value i) (a.shr_same b.value i) gnil)).shr_at (with_value b tt);
+  }
+
+module _ (R S : RattleType) (h : R.Denot → S.Denot) where
+  variant : (o : Option (Boxed R.Denot))
+      → (option.enum (box_of (P.the_row S))).as_values (option_over h o)
+      ≡ eachs (option.enum (box_of (P.the_row R))).parts (option.enum (box_of (P.the_row S))).parts (tt, ((box_over h, tt), tt)) ((option.enum (box_of (P.the_row R))).as_values o)
+  variant None = refl
+  variant (Some b) = refl
+
   pub the_places : Alike R S h → Alike (C.the_row R) (C.the_row S) ((the_former this).map R.Denot S.Denot h)
-  the_places a = view_places_where fields (the_former this) view
-      (λ X Y k u. zip-map k (map string_bytes u.keys.keys) u.values.items)
-      (λ X u. length u.values.items ≡ length u.keys.keys)
-      (λ X Y k u e. sym (length-map u.values.items k) ∙ e)
-      (λ X u e. zip-held X (map string_bytes u.keys.keys) u.values.items (length-map u.keys.keys string_bytes ∙ sym e))
+  the_places a =
+      let below = box_places (P.the_row R) (P.the_row S) (map (parts.on_value h)) (parts.the_places R S h a) in
+      let top = enum_places (option.enum (box_of (P.the_row R))) (option.enum (box_of (P.the_row S))) (tt, ((box_over h, tt), tt)) (option_over h) variant refl (tt, ((laid _ _ _ below, tt), tt)) in
+      view_places fields (the_former this) view (λ X Y k u. natural X Y k u u.parts) (λ X u. keeps X u u.parts)
       R.Denot S.Denot h (C.the_row R).coded (C.the_row S).coded
-      (invariant R.Denot) (invariant S.Denot) (λ u. ℕ_set _ _) (λ u. ℕ_set _ _)
-      (λ u e. length-map u.values.items h ∙ e) (λ u e. sym (length-map u.values.items h) ∙ e) (λ u e. e)
+      (invariant R.Denot) (invariant S.Denot) (λ u p q. refl) (λ u p q. refl) (λ u e. tt) (λ u e. tt)
       (over (I.the_row R)) (over (I.the_row S))
-      (struct_places (I.the_type R) (I.the_type S) (λ n. n, (vec.mapped h, tt)) _ (λ d. refl) refl
-      ((refl, (λ n. refl, λ n. refl)), (laid _ _ _ (vec.the_places heap.the_row ghosts R S h a), tt)))
+      (struct_places (I.the_type R) (I.the_type S) ((λ g. g), (option_over h, tt)) _ (λ d i. (d.alloc, (mapped R.Denot S.Denot h d.parts i, tt))) refl
+      ((refl, (λ n. refl, λ n. refl)), (laid _ _ _ top, tt)))
 
   pub the_codes_placed : Recodes R S h → Recodes (C.the_row R) (C.the_row S) ((the_former this).map R.Denot S.Denot h)
-  the_codes_placed e d = sym (code_map (coded× (coded_list coded_ℕ) R.coded).code (coded× (coded_list coded_ℕ) S.coded).code (on_value h) (λ x i. gcons ((coded_list coded_ℕ).code x.0) (sym (e x.1) i)) d)
+  the_codes_placed e d = parts.the_codes_placed R S h e d
 
--- `==` looks at the values through a map as it would at what they are mapped to
 pub the_eq_natural : (X Y : Type 0) (h : X → Y) (V : eq.Ghosts Y) (m n : List (List ℕ × X))
-    → pointwise (λ p q. pointwise nat_eq p.0 q.0 && V.eq p.1 q.1) (map (on_value h) m) (map (on_value h) n)
+    → pointwise (λ p q. pointwise nat_eq p.0 q.0 && V.eq p.1 q.1) (map (parts.on_value h) m) (map (parts.on_value h) n)
     ≡ pointwise (λ p q. pointwise nat_eq p.0 q.0 && V.eq (h p.1) (h q.1)) m n
-the_eq_natural X Y h V m n = pointwise-map (on_value h) (λ p q. pointwise nat_eq p.0 q.0 && V.eq p.1 q.1) m n
+the_eq_natural X Y h V m n = parts.the_eq_natural X Y h V m n

@@ -1,7 +1,7 @@
 use Rattle.std.proofs.Common.{sym, ◌∙◌}
 use Rattle.std.specs.String.{string_bytes}
 use Rattle.bson_model.proofs.Kept.{value_found, value_missed, looked_up}
-use Rattle.bson_model.proofs.pairs.Pairs.get.Goals as goal
+use Rattle.bson_model.proofs.parts.Parts.get.Goals as goal
 
 pub returns-in_err-index : goal.returns-in_err-index
 returns-in_err-index g c =

@@ -4,7 +4,7 @@ use Rattle.std.specs.Cmp.Derive.Mapped.{pointwise-map}
 use Rattle.std.specs.Cmp.Lexicographic.{pointwise}
 use Rattle.std.specs.String.{string_bytes}
 use Rattle.bson_model.proofs.Zips.{zip_eq}
-use Rattle.bson_model.proofs.pairs.PairsPartialEq.eq.Goals as goal
+use Rattle.bson_model.proofs.parts.PartsPartialEq.eq.Goals as goal
 
 pub returns-then-eq : goal.returns-then-eq
 returns-then-eq g c =

@@ -1,7 +1,7 @@
 use Rattle.std.proofs.Common.{Some, sym}
 use Rattle.std.specs.String.{string_bytes}
 use Rattle.bson_model.proofs.Kept.{pair_at, no_pair_at, looked_up}
-use Rattle.bson_model.proofs.pairs.Pairs.pair_at.Goals as goal
+use Rattle.bson_model.proofs.parts.Parts.pair_at.Goals as goal
 
 pub returns-in_err-key : goal.returns-in_err-key
 returns-in_err-key g c =

@@ -1,0 +1,136 @@
+ghost use Rattle.std.specs.Prelude.{◌≡◌, ◌&&◌, ◌<◌, false, [], length, nat_eq, All, IsSome, IsOk, IfOk, OnOk};
+ghost use Rattle.std.specs.Prelude.{OnErr, option_copied, option_map, slice_get};
+ghost use Rattle.std.specs.Cmp.Lexicographic.{pointwise, lists_per, lists_equiv};
+ghost use Rattle.std.specs.Cmp.{on_per, and_per, on_equiv, and_equiv, nat_eq_equiv, partial_equiv_from_equiv};
+ghost use Rattle.std.specs.String.{string_bytes};
+ghost use Rattle.bson_model.specs.Pairs.{keys_of, value_at, with_pair, HasDistinctKeys};
+ghost use Rattle.std.specs.Str.{IsUtf8};
+ghost use Rattle.std.specs.Vec.{vec_capacity, vec_len};
+ghost use Rattle.indexmap.specs.IndexSet.{contains_text};
+
+use crate::errors::NoMemory;
+use indexmap::IndexSet;
+use std::alloc::Global;
+use std::marker::Model;
+use std::{fmt, mem};
+
+/// The keys in the order in which they came, no key twice, and beside them the values.
+#[derive(Drop)]
+pub struct Parts<T> {
+    keys: IndexSet<String>,
+    values: Vec<T>,
+}
+
+impl<T> Model for Parts<T> {
+    ghost use Rattle.std.specs.Prelude.{◌≡◌, ℕ, List, length, map};
+    ghost use Rattle.std.specs.List.{zip};
+    ghost use Rattle.std.specs.String.{string_bytes};
+
+    ghost Value = { List (List ℕ × T) };
+
+    ghost view = { λ a. zip (map string_bytes a.keys.keys) a.values.items };
+
+    ghost invariant = { λ a. length a.values.items ≡ length a.keys.keys };
+}
+
+impl<T> Parts<T> {
+    /// No pairs. It takes no memory.
+    pub fn new(alloc: Global) -> Parts<T>
+        ensures { result ≡ [] }
+    {
+        Parts {
+            keys: IndexSet::new(alloc),
+            values: Vec::new(alloc),
+        }
+    }
+
+    /// How many pairs there are.
+    pub fn len(&self) -> usize
+        ensures len { result ≡ length self.now }
+        ensures distinct { HasDistinctKeys self.now }
+        ensures texts { All IsUtf8 (keys_of self.now) }
+    {
+        self.keys.len()
+    }
+
+    /// The value of a key.
+    pub fn get(&self, key: &str) -> Option<&T>
+        ensures { option_copied result ≡ value_at key.now self.now }
+    {
+        let index = self.keys.get_index_of(key)?;
+        self.values.get(index)
+    }
+
+    /// The pair at a place, counted from 0.
+    pub fn pair_at(&self, index: usize) -> Option<(&str, &T)>
+        ensures { option_map (λ p. (p.0.now, p.1.now)) result ≡ slice_get self.now index }
+    {
+        let key = self.keys.get_index(index)?;
+        let value = self.values.get(index)?;
+        Some((key.as_str(), value))
+    }
+
+    /// Puts a pair last, or where its key stands, and answers the value that stood there. It fails only
+    /// for a key that is not there, and then changes nothing and drops the pair.
+    pub fn insert(&mut self, key: String, value: T) -> Result<Option<T>, NoMemory>
+    where
+        T: Drop,
+        ensures inserted { OnOk result (self.new ≡ with_pair (string_bytes key) value self.old) }
+        ensures old { IfOk result (λ old. old ≡ value_at (string_bytes key) self.old) }
+        ensures present { IsSome (value_at (string_bytes key) self.old) → IsOk result }
+        ensures err { OnErr result (self.new ≡ self.old) }
+    {
+        make_room(&self.keys, &mut self.values, key.as_str())?;
+        let (index, is_new) = self.keys.insert_full(key)?;
+        if is_new {
+            self.values.push_reserved(value);
+            return Ok(None);
+        }
+        let old = mem::replace(&mut self.values[index], value);
+        Ok(Some(old))
+    }
+}
+
+/// Makes room for one more value, unless there is room or the key is there. The key is looked up only
+/// where there is no room.
+fn make_room<T>(keys: &IndexSet<String>, values: &mut Vec<T>, key: &str) -> Result<(), NoMemory>
+    ensures items { values.new.items ≡ values.old.items }
+    ensures room { OnOk result (contains_text keys.now key.now ≡ false
+        → vec_len values.new < vec_capacity values.new) }
+    ensures err { OnErr result (contains_text keys.now key.now ≡ false) }
+{
+    let is_full = values.len() == values.capacity();
+    if is_full && !keys.contains(key) {
+        values.reserve(1)?;
+    }
+    Ok(())
+}
+
+impl<T: fmt::Debug> fmt::Debug for Parts<T> {
+    fn fmt<W: fmt::Write>(&self, f: &mut fmt::Formatter<W>) -> fmt::Result {
+        let mut map = f.debug_map();
+        for (key, value) in self.keys.iter().zip(self.values.iter()) {
+            map.entry(key, value);
+        }
+        map.finish()
+    }
+}
+
+impl<T: PartialEq> PartialEq for Parts<T> {
+    ghost eq = { pointwise (λ p q. pointwise nat_eq p.0 q.0 && T.eq p.1 q.1) };
+
+    ghost laws = { lists_per (and_per
+        (on_per (λ p. p.0) (lists_per (partial_equiv_from_equiv nat_eq_equiv)))
+        (on_per (λ p. p.1) T.laws)) };
+
+    fn eq(&self, other: &Parts<T>) -> bool {
+        self.keys.as_slice() == other.keys.as_slice()
+            && self.values.as_slice() == other.values.as_slice()
+    }
+}
+
+impl<T: Eq> Eq for Parts<T> {
+    ghost laws = { lists_equiv (and_equiv
+        (on_equiv (λ p. p.0) (lists_equiv nat_eq_equiv))
+        (on_equiv (λ p. p.1) T.Eq.laws)) };
+}
