@@ -24,6 +24,8 @@ mod example;
 #[cfg(test)]
 mod fixtures;
 #[cfg(test)]
+mod limits;
+#[cfg(test)]
 mod readings;
 #[cfg(test)]
 mod texts;

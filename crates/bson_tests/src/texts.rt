@@ -82,10 +82,15 @@ fn an_owned_array_has_a_debug_text(rt: HostRuntime) -> Result<(), Fail> {
 }
 
 #[test]
-fn refusals_of_writing_are_printed(rt: HostRuntime) -> Result<(), Fail> {
+fn refusals_of_writing_and_of_limits_are_printed(rt: HostRuntime) -> Result<(), Fail> {
     for (reason, text) in [
         (Reason::InteriorNul, "malformed value: \"interior NUL\""),
         (Reason::TooLong, "malformed value: \"document too long\""),
+        (
+            Reason::TooManyBytes,
+            "malformed value: \"more bytes than allowed\"",
+        ),
+        (Reason::TooDeep, "malformed value: \"deeper than allowed\""),
     ] {
         let error = Error::new(ErrorKind::MalformedValue { reason });
         assert_text(&rt, rt.alloc(), &error, text)?;

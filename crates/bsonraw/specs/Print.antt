@@ -8,10 +8,10 @@ use Rattle.raw_bson.specs.Encoding.{encoding, encoded_len}
 use Rattle.raw_bson.specs.Envelope.{IsEnvelope, Refuses}
 use Rattle.raw_bson.specs.Frame.{Frame, Fault, Malformed, Utf8, End, Done, Stopped, IsWalk}
 use Rattle.raw_bson.specs.Kind.{tag_of}
-use Rattle.raw_bson.specs.Meaning.{KeyedFault}
+use Rattle.raw_bson.specs.Limits.{Limits}
 use Rattle.raw_bson.specs.Number.{max_length}
-use Rattle.raw_bson.specs.Reading.{FirstFault, Reads}
 use Rattle.raw_bson.specs.Tree.{Tree}
+use Rattle.raw_bson.specs.WithinLimits.{Barrier, too_many_bytes, too_deep, fault_of, ReadsWithin, FirstBarrier}
 use Rattle.bsonraw.specs.declared.command.Command.{Command}
 use Rattle.bsonraw.specs.declared.command.Command.TheVariants as command
 use Rattle.raw_bson.specs.Reason.{Reason}
@@ -86,13 +86,23 @@ pub record PrintsRefusal (b : List ℕ) (status : ℕ) (output : List ℕ) : Typ
   pub status_is : status ≡ 1
   pub output_is : output ≡ refusal_line reason
 
+-- the limits within which a document is converted
+abbrev pub form_limits : Limits
+form_limits = record { bytes = 16777216; depth = 500 }
+
+-- why a document isn't converted: it has too many bytes, it is too deep, or it has this fault
+abbrev pub barrier_line : Barrier → List ℕ
+barrier_line too_many_bytes = codes "refused 6\n"
+barrier_line too_deep = codes "refused 7\n"
+barrier_line (fault_of fault) = end_line (Stopped fault.fault fault.key)
+
 -- The canonical form of a document: the encoding of its tree in hex, or that this would be too long; or, where it has
--- no tree, its first fault.
+-- no tree within the limits, its first barrier.
 abbrev pub PrintsForm : List ℕ → ℕ → List ℕ → Type 0
 PrintsForm b status output =
-    ((t : Tree) × Reads b t × (encoded_len t ≤ max_length) × (status ≡ 0) × (output ≡ encode_lower (encoding t) ++ codes "\n"))
-    ⊎ ((t : Tree) × Reads b t × (max_length < encoded_len t) × (status ≡ 1) × (output ≡ codes "refused 5\n"))
-    ⊎ ((fault : KeyedFault) × FirstFault b fault × (status ≡ 1) × (output ≡ end_line (Stopped fault.fault fault.key)))
+    ((t : Tree) × ReadsWithin form_limits b t × (encoded_len t ≤ max_length) × (status ≡ 0) × (output ≡ encode_lower (encoding t) ++ codes "\n"))
+    ⊎ ((t : Tree) × ReadsWithin form_limits b t × (max_length < encoded_len t) × (status ≡ 1) × (output ≡ codes "refused 5\n"))
+    ⊎ ((x : Barrier) × FirstBarrier form_limits b x × (status ≡ 1) × (output ≡ barrier_line x))
 
 -- what a command prints of a document
 abbrev pub PrintsDocument : Command → List ℕ → ℕ → List ℕ → Type 0

@@ -1,32 +1,48 @@
-ghost use Rattle.std.specs.Prelude.{◌≡◌, ◌↔◌, ℕ, List, IfOk, IsTrue};
+ghost use Rattle.std.specs.Prelude.{◌≡◌, ℕ, List, IfOk, IfErr};
+ghost use Rattle.std.specs.Option.{option_copied};
 ghost use Rattle.std.specs.String.{string_bytes};
-ghost use Rattle.raw_bson.specs.CanonicalForm.{IsCanonicalForm};
-ghost use Rattle.raw_bson.specs.Conversion.{RefusesForm};
 ghost use Rattle.raw_bson.specs.Document.{bytes_of};
-ghost use Rattle.raw_bson.specs.Envelope.{IsEnvelope};
+ghost use Rattle.bsonraw.specs.Form.{HasForm, LacksForm, limit_text};
 ghost use Rattle.bsonraw.specs.Print.{PrintsForm};
 ghost use Rattle.bsonraw.specs.Status.{code_of};
 
 use crate::fault::push_fault;
 use crate::printed::{Printed, one_line};
 use crate::status::Status;
-use raw_bson::{Error, ErrorKind, RawDocument, Reason, canonical_bytes};
+use raw_bson::{
+    Error, ErrorKind, Limits, RawDocument, RawDocumentBuf, Reason, document_from_raw_within,
+};
 use std::alloc::{AllocError, Global};
+
+/// What a document may cost whose canonical form is asked for.
+const LIMITS: Limits = Limits {
+    bytes: 16_777_216,
+    depth: 500,
+};
 
 /// The canonical form of a document in hex, or why there is none.
 pub fn canon_document(alloc: Global, document: RawDocument<'_>) -> Result<Printed, AllocError>
     ensures { IfOk result
         (λ p. PrintsForm (bytes_of document.entry) (code_of p.status) (string_bytes p.output)) }
 {
-    match canonical_bytes(alloc, document.as_bytes()) {
-        Ok(form) => form_line(alloc, &form),
+    match canonical_form(alloc, document) {
+        Ok(form) => form_line(alloc, form.as_bytes()),
         Err(error) => without_form(alloc, &error),
     }
 }
 
+/// The canonical form of a document that keeps to the limits.
+fn canonical_form(alloc: Global, document: RawDocument<'_>) -> raw_bson::Result<RawDocumentBuf>
+    ensures form { IfOk result (HasForm (bytes_of document.entry)) }
+    ensures refused { IfErr result (LacksForm (bytes_of document.entry)) }
+{
+    let tree = document_from_raw_within(alloc, document, LIMITS)?;
+    RawDocumentBuf::from_document(alloc, &tree)
+}
+
 /// The line of a canonical form, in hex.
 fn form_line(alloc: Global, form: &[u8]) -> Result<Printed, AllocError>
-    ensures { (b : List ℕ) → IsCanonicalForm b form.now → IfOk result
+    ensures { (b : List ℕ) → HasForm b form.now → IfOk result
         (λ p. PrintsForm b (code_of p.status) (string_bytes p.output)) }
 {
     let mut output = hex::encode(alloc, form)?;
@@ -35,25 +51,31 @@ fn form_line(alloc: Global, form: &[u8]) -> Result<Printed, AllocError>
     Ok(Printed { status, output })
 }
 
-/// Whether the error says that bytes would be too long.
-fn is_too_long(error: &Error) -> bool
-    ensures { IsTrue result ↔ (error.now.kind ≡ ErrorKind.MalformedValue Reason.TooLong) }
+/// The line of an error that says a limit: of writing, of bytes, or of depth.
+fn limit_line(error: &Error) -> Option<&'static str>
+    ensures { option_copied result ≡ limit_text error.now.kind }
 {
-    matches!(
-        error.kind,
+    match error.kind {
         ErrorKind::MalformedValue {
-            reason: Reason::TooLong
-        }
-    )
+            reason: Reason::TooLong,
+        } => Some("refused 5\n"),
+        ErrorKind::MalformedValue {
+            reason: Reason::TooManyBytes,
+        } => Some("refused 6\n"),
+        ErrorKind::MalformedValue {
+            reason: Reason::TooDeep,
+        } => Some("refused 7\n"),
+        _ => None,
+    }
 }
 
-/// Why a document has no canonical form that can be answered: its first fault, or the form's length.
+/// Why a document has no canonical form that can be answered: a limit, or its first fault.
 fn without_form(alloc: Global, error: &Error) -> Result<Printed, AllocError>
-    ensures { (b : List ℕ) → IsEnvelope b → RefusesForm b error.now →
-        IfOk result (λ p. PrintsForm b (code_of p.status) (string_bytes p.output)) }
+    ensures { (b : List ℕ) → LacksForm b error.now → IfOk result
+        (λ p. PrintsForm b (code_of p.status) (string_bytes p.output)) }
 {
-    if is_too_long(error) {
-        return one_line(alloc, Status::Fault, "refused 5\n");
+    if let Some(line) = limit_line(error) {
+        return one_line(alloc, Status::Fault, line);
     }
     let mut output = String::new(alloc);
     push_fault(alloc, &mut output, error)?;

@@ -21,6 +21,7 @@ pub use Rattle.raw_tree.specs.CanonicalForm
 pub use Rattle.raw_tree.specs.Encoding
 pub use Rattle.raw_tree.specs.Payload
 pub use Rattle.raw_tree.specs.Reading
+pub use Rattle.raw_tree.specs.WithinLimits
 pub use Rattle.raw_view.specs.Access
 pub use Rattle.raw_view.specs.Accessors
 pub use Rattle.raw_view.specs.Answers
@@ -39,6 +40,7 @@ pub use Rattle.raw_view.specs.OneReading
 pub use Rattle.raw_view.specs.Typed
 pub use Rattle.raw_view.specs.Value
 -- types of the crates below that clauses speak of
+pub use Rattle.raw_tree.specs.declared.limits.Limits
 pub use Rattle.raw_view.specs.declared.element.RawElement
 pub use Rattle.raw_view.specs.declared.element_type.ElementType
 pub use Rattle.raw_view.specs.declared.error.Error

@@ -6,6 +6,7 @@ ghost use Rattle.std.specs.String.{string_bytes};
 ghost use Rattle.bson_model.specs.Tree.{tree_of, tree_of_document, tree_of_list, code_with_scope, entries, with_trees, pairs_of};
 ghost use Rattle.raw_tree.specs.CanonicalForm.{AllAreSpelledOneWay, DocumentsComeBack};
 ghost use Rattle.raw_tree.specs.Encoding.{IsEncoded, IsRefused};
+ghost use Rattle.raw_tree.specs.WithinLimits.{AllAreAnsweredOneWay, AllHaveOneDepth, ReadsWithin, TellsFirstBarrier};
 ghost use Rattle.raw_tree.specs.Reading.{AllAreReadOneWay, Reads, TellsFirstFault, as_document};
 ghost use Rattle.raw_bson.specs.Conversion.{BecomesBson, BecomesOneTree, BecomesRawBson};
 ghost use Rattle.raw_bson.specs.Owned.{owned_value};
@@ -15,7 +16,9 @@ use crate::bson::{RawBson, RawJavaScriptCodeWithScope};
 use crate::document_buf::RawDocumentBuf;
 use crate::laws::attest_one_tree;
 use bson_model::{Bson, Document, JavaScriptCodeWithScope};
-use raw_tree::{document_from_raw, encode, encode_list, list_from_raw};
+use raw_tree::{
+    Limits, document_from_raw, document_from_raw_within, encode, encode_list, list_from_raw,
+};
 use raw_view::Result;
 use std::alloc::Global;
 
@@ -48,6 +51,17 @@ impl RawDocumentBuf {
         ensures one_spelling { AllAreSpelledOneWay as_document }
     {
         document_from_raw(self.alloc(), self.as_ref())
+    }
+
+    /// The tree of the document within limits, as `document_from_raw_within` gives it.
+    pub fn to_document_within(&self, limits: Limits) -> Result<Document>
+        ensures tree { IfOk result (λ d. ReadsWithin limits self.now (tree_of_document d)) }
+        ensures fault { IfErr result (TellsFirstBarrier limits self.now) }
+        ensures one_answer { AllAreAnsweredOneWay limits }
+        ensures one_spelling { AllAreSpelledOneWay as_document }
+        ensures one_depth { AllHaveOneDepth }
+    {
+        document_from_raw_within(self.alloc(), self.as_ref(), limits)
     }
 
     /// The tree of the document, as `document_from_raw` gives it. The buffer is dropped.

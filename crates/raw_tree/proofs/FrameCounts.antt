@@ -106,7 +106,7 @@ passed_small N small s (f ∷ fs) r n l h =
     omega (arith, h.6, meaning_small N small s f l.0 h.0 h.1 l.1 h.3 h.4, passed_small N small l.0 fs r h.2 l.2 h.5)
 
 -- a walk leads to its end
-leads_to_end : (s : List ℕ) (fs : List Frame) (end : End) → IsWalk s fs end → (r : List ℕ) × LeadsTo s fs r
+pub leads_to_end : (s : List ℕ) (fs : List Frame) (end : End) → IsWalk s fs end → (r : List ℕ) × LeadsTo s fs r
 leads_to_end s [] end w = (s, refl)
 leads_to_end s (f ∷ fs) end w = let on = leads_to_end w.0 fs end w.2 in (on.0, (w.0, w.1, on.1))
 

@@ -1,6 +1,6 @@
 -- The steps of a loop over levels: an element is put, or its level waits for it; a level is read and goes to the
 -- one that waits; a fault, want of memory or the end is answered; and what is left shrinks.
-use Rattle.std.proofs.Common.{◌≡◌, inl, inr, ◌<◌, ◌≤◌, ◌+◌, ◌-◌, ◌*◌, take, length-take, ◌++◌, ◌∷◌, [], ℕ, List, Option, None, Some, Result, Ok, Err, length, drop, arith, ap, refl, sym, ◌∙◌, subst, length-drop, length-append}
+use Rattle.std.proofs.Common.{◌≡◌, inl, inr, ◌<◌, ◌≤◌, ◌+◌, ◌-◌, ◌*◌, take, length-take, ◌++◌, ◌∷◌, [], ℕ, suc, List, Option, None, Some, Result, Ok, Err, length, drop, arith, ap, refl, sym, ◌∙◌, subst, length-drop, length-append}
 use Rattle.std.specs.List.{sum_by}
 use Rattle.std.proofs.lemmas.List.Sums.{sum_by_push}
 use Rattle.std.proofs.lemmas.Option.{none-some}
@@ -20,22 +20,24 @@ use Rattle.raw_view.specs.declared.element.RawElement.{RawElement}
 use Rattle.raw_view.specs.declared.error.Error.{Error}
 use Rattle.raw_view.proofs.Face.{HasRead-more, HasRead-end, LeadsTo-more, IsFrame-shorter}
 use Rattle.raw_tree.specs.FrameCount.{CountsIn, CountsFrames, HasFrameCount, HasFramesToFault, TellsFrames}
-use Rattle.raw_tree.specs.Levels.{sort_of, holding, holder_of, tree_of_contents, AreContents, IsEmpty, IsOneMore, HoldsNone, Closes}
-use Rattle.raw_tree.specs.Reading.{Sort, tree_of_pairs, StandsFor, StandForEach, ReadsAs, FirstFault, TellsFirstFault}
+use Rattle.raw_tree.specs.Levels.{sort_of, holding, holder_of, tree_of_contents, AreContents, IsEmpty, IsOneMore, HoldsNone, Closes, TellsFramesWithin}
+use Rattle.raw_tree.specs.WithinLimits.{Barrier, fault_of, too_deep, FirstFaultWithin, TellsFirstFaultWithin}
+use Rattle.raw_tree.specs.Reading.{Sort, tree_of_pairs, StandsFor, StandForEach, ReadsUpTo, ReadsAs}
 use Rattle.raw_tree.specs.declared.levels.Contents.{Contents}
 use Rattle.raw_tree.specs.declared.levels.Holder.{Holder}
 use Rattle.raw_tree.specs.declared.levels.Level.{Level}
 use Rattle.raw_tree.specs.declared.levels.Waiting.{Waiting}
 use Rattle.raw_tree.proofs.Decides.{IsCountedFrom, counted_until, counted_from, counted_from_frame}
 use Rattle.raw_tree.proofs.FrameCounts.{count_of_walk, counts_more, to_stop, to_frame, until_small}
-use Rattle.raw_tree.proofs.Stacks.{contents_tree, held_counts, held_holds, IsReading, IsWaiting, AreWaiting, fault_outward, to_fault_outward, counted_outward, envelope_inward}
-use Rattle.raw_tree.proofs.Loops.{stand_more, reads_of, nested_beside, fault_at_stop, fault_at_frame}
+use Rattle.raw_tree.proofs.Stacks.{contents_tree, none_stands, held_within, held_counts, held_holds, IsReading, IsWaiting, AreWaiting, barrier_outward, to_fault_outward, counted_outward, envelope_inward}
+use Rattle.raw_tree.proofs.Loops.{each_read, stand_more, nested_beside}
 use Rattle.raw_tree.proofs.OneTree.{tree_or_fault}
+use Rattle.raw_tree.proofs.Within.{first_fault}
 
 -- elements
 
-pub level_begins : (b : List ℕ) (holder : Holder) (level : Level) → level.elements ≡ Some (drop 4 b) → holder_of level.contents ≡ holder → IsEmpty level.contents → IsReading b holder level 0
-level_begins b holder level e held empty = record {
+pub level_begins : (inside : ℕ) (b : List ℕ) (holder : Holder) (level : Level) → level.elements ≡ Some (drop 4 b) → holder_of level.contents ≡ holder → IsEmpty level.contents → IsReading inside b holder level 0
+level_begins inside b holder level e held empty = record {
   frames = [];
   pairs = [];
   passed = rw e refl;
@@ -53,22 +55,22 @@ none_counted (raw.array d) h = absurd h
 none_counted (raw.scoped code d) h = absurd h
 
 -- an element whose value holds no nested bytes is put
-pub level_more : (b : List ℕ) (holder : Holder) (level new : Level) (n : ℕ) (e : RawElement) (v : RawValue) (key : List ℕ) (t : Tree) → IsReading b holder level n → StepsElement level.elements (Some (Ok e)) new.elements → Means (frame_of e) (value v) → HoldsNone v × StandsFor ReadsAs v t → key ≡ (frame_of e).key → IsOneMore level.contents key t new.contents → IsReading b holder new (n + 1)
-level_more b holder level new n e v key t is st m whole k more = record {
+pub level_more : (inside : ℕ) (b : List ℕ) (holder : Holder) (level new : Level) (n : ℕ) (e : RawElement) (v : RawValue) (key : List ℕ) (t : Tree) → IsReading inside b holder level n → StepsElement level.elements (Some (Ok e)) new.elements → Means (frame_of e) (value v) → HoldsNone v × StandsFor ReadsAs v t → key ≡ (frame_of e).key → IsOneMore level.contents key t new.contents → IsReading inside b holder new (n + 1)
+level_more inside b holder level new n e v key t is st m whole k more = record {
   frames = is.frames ++ frame_of e ∷ [];
   pairs = is.pairs ++ ((frame_of e).key, t) ∷ [];
   passed = HasRead-more (drop 4 b) is.frames level.elements new.elements e is.passed st;
-  each = stand_more ReadsAs is.frames is.pairs (frame_of e) v t is.each m whole.1;
+  each = stand_more (ReadsUpTo inside) is.frames is.pairs (frame_of e) v t is.each m (none_stands inside v t whole.0 whole.1);
   counts = subst (λ (c : ℕ). CountsFrames HasFrameCount (is.frames ++ frame_of e ∷ []) c) (omega arith) (counts_more is.frames n (frame_of e) (value v) 0 is.counts m (none_counted v whole.0));
   contains = subst (λ (x : List ℕ). AreContents new.contents (is.pairs ++ (x, t) ∷ [])) k (more.1 is.pairs is.contains);
   held = more.0 ∙ is.held;
 }
 
 -- where the element's value holds bytes, the level waits for them
-level_waits_at : (old : Option (List ℕ)) (b : List ℕ) (holder : Holder) (contents : Contents) (n : ℕ) (w : Waiting) (e : RawElement) (d : List ℕ) (nested : Holder) (frames : List Frame) (pairs : List (List ℕ × Tree)) → HasRead (drop 4 b) frames old → StandForEach ReadsAs frames pairs → CountsFrames HasFrameCount frames n → AreContents contents pairs → holder_of contents ≡ holder
-    → StepsElement old (Some (Ok e)) w.level.elements → w.level.contents ≡ contents → w.key.now ≡ (frame_of e).key → Means (frame_of e) (value (holding nested d)) → IsWaiting b holder w d nested (n + 1)
-level_waits_at None b holder contents n w e d nested frames pairs l each counts has held st c k m = absurd l
-level_waits_at (Some s) b holder contents n w e d nested frames pairs l each counts has held st c k m = record {
+level_waits_at : (old : Option (List ℕ)) (inside : ℕ) (b : List ℕ) (holder : Holder) (contents : Contents) (n : ℕ) (w : Waiting) (e : RawElement) (d : List ℕ) (nested : Holder) (frames : List Frame) (pairs : List (List ℕ × Tree)) → HasRead (drop 4 b) frames old → StandForEach (ReadsUpTo inside) frames pairs → CountsFrames HasFrameCount frames n → AreContents contents pairs → holder_of contents ≡ holder
+    → StepsElement old (Some (Ok e)) w.level.elements → w.level.contents ≡ contents → w.key.now ≡ (frame_of e).key → Means (frame_of e) (value (holding nested d)) → IsWaiting inside b holder w d nested (n + 1)
+level_waits_at None inside b holder contents n w e d nested frames pairs l each counts has held st c k m = absurd l
+level_waits_at (Some s) inside b holder contents n w e d nested frames pairs l each counts has held st c k m = record {
   frames = frames;
   pairs = pairs;
   before = n;
@@ -87,26 +89,28 @@ level_waits_at (Some s) b holder contents n w e d nested frames pairs l each cou
   total = refl;
 }
 
-pub level_waits : (b : List ℕ) (holder : Holder) (level : Level) (n : ℕ) (w : Waiting) (e : RawElement) (d : List ℕ) (nested : Holder) → IsReading b holder level n → StepsElement level.elements (Some (Ok e)) w.level.elements → w.level.contents ≡ level.contents → w.key.now ≡ (frame_of e).key → Means (frame_of e) (value (holding nested d)) → IsWaiting b holder w d nested (n + 1)
-level_waits b holder level n w e d nested is st c k m =
-    level_waits_at level.elements b holder level.contents n w e d nested is.frames is.pairs is.passed is.each is.counts is.contains is.held st c k m
+pub level_waits : (inside : ℕ) (b : List ℕ) (holder : Holder) (level : Level) (n : ℕ) (w : Waiting) (e : RawElement) (d : List ℕ) (nested : Holder) → IsReading inside b holder level n → StepsElement level.elements (Some (Ok e)) w.level.elements → w.level.contents ≡ level.contents → w.key.now ≡ (frame_of e).key → Means (frame_of e) (value (holding nested d)) → IsWaiting inside b holder w d nested (n + 1)
+level_waits inside b holder level n w e d nested is st c k m =
+    level_waits_at level.elements inside b holder level.contents n w e d nested is.frames is.pairs is.passed is.each is.counts is.contains is.held st c k m
 
 -- the bytes of a level are read to their end
-pub level_end : (b : List ℕ) (holder : Holder) (level : Level) (n : ℕ) (new : Option (List ℕ)) → IsReading b holder level n → StepsElement level.elements None new → ReadsAs (sort_of holder) b (tree_of_contents level.contents) × HasFrameCount b n
-level_end b holder level n new is st =
+pub level_end : (inside : ℕ) (b : List ℕ) (holder : Holder) (level : Level) (n : ℕ) (new : Option (List ℕ)) → IsReading inside b holder level n → StepsElement level.elements None new → ReadsUpTo (suc inside) (sort_of holder) b (tree_of_contents level.contents) × HasFrameCount b n
+level_end inside b holder level n new is st =
     let walk = HasRead-end (drop 4 b) is.frames level.elements new is.passed st in
     let same : tree_of_contents level.contents ≡ tree_of_pairs (sort_of holder) is.pairs = contents_tree level.contents is.pairs is.contains ∙ ap (λ h. tree_of_pairs (sort_of h) is.pairs) is.held in
-    (rw same (reads_of (sort_of holder) b is.frames is.pairs walk is.each), count_of_walk b is.frames _ n walk is.counts)
+    ((is.pairs, (is.frames, walk, is.each), same), count_of_walk b is.frames _ n walk is.counts)
 
 -- and with the value of those bytes the level that waits reads on
-pub level_resumes : (b : List ℕ) (holder : Holder) (w : Waiting) (d : List ℕ) (nested : Holder) (here n : ℕ) (c : Contents) (t : Bson) (new : Level) → IsWaiting b holder w d nested here → holder_of c ≡ nested → ReadsAs (sort_of nested) d (tree_of_contents c) × HasFrameCount d n → Closes c t → IsOneMore w.level.contents w.key.now (tree_of t) new.contents → new.elements ≡ w.level.elements → IsReading b holder new (here + n)
-level_resumes b holder w d nested here n c t new is held read closes more same =
-    let stands : StandsFor ReadsAs (holding nested d) (tree_of t) = subst (λ (h : Holder). StandsFor ReadsAs (holding h d) (tree_of t)) held (closes d (rw held read.0)) in
+pub level_resumes : (inside : ℕ) (b : List ℕ) (holder : Holder) (w : Waiting) (d : List ℕ) (nested : Holder) (here n : ℕ) (c : Contents) (t : Bson) (new : Level) → IsWaiting inside b holder w d nested here → holder_of c ≡ nested → ReadsUpTo inside (sort_of nested) d (tree_of_contents c) × HasFrameCount d n → Closes c t → IsOneMore w.level.contents w.key.now (tree_of t) new.contents → new.elements ≡ w.level.elements → IsReading inside b holder new (here + n)
+level_resumes inside b holder w d nested here n c t new is held read closes more same =
+    let whole : ReadsAs (sort_of nested) d (tree_of_contents c) = (inside, read.0) in
+    let stands : StandsFor ReadsAs (holding nested d) (tree_of t) = subst (λ (h : Holder). StandsFor ReadsAs (holding h d) (tree_of t)) held (closes d (rw held whole)) in
+    let within : StandsFor (ReadsUpTo inside) (holding nested d) (tree_of t) = held_within inside nested d (tree_of_contents c) (tree_of t) read.0 stands in
     record {
       frames = is.frames ++ is.f ∷ [];
       pairs = is.pairs ++ (is.f.key, tree_of t) ∷ [];
       passed = rw (same ∙ is.left) (LeadsTo-more (drop 4 b) is.frames is.s is.f is.r is.passed is.frame);
-      each = stand_more ReadsAs is.frames is.pairs is.f (holding nested d) (tree_of t) is.each is.means stands;
+      each = stand_more (ReadsUpTo inside) is.frames is.pairs is.f (holding nested d) (tree_of t) is.each is.means within;
       counts = rw is.total (counts_more is.frames is.before is.f (value (holding nested d)) n is.counts is.means (held_counts nested d n read.1));
       contains = subst (λ (x : List ℕ). AreContents new.contents (is.pairs ++ (x, tree_of t) ∷ [])) is.key (more.1 is.pairs is.contains);
       held = more.0 ∙ is.held;
@@ -114,20 +118,22 @@ level_resumes b holder w d nested here n c t new is held read closes more same =
 
 -- answers
 
--- the error says the first fault of the bytes, until which so many frames stand
-abbrev pub EndsWith : List ℕ → Error → ℕ → Type 0
-EndsWith b e n = (fault : KeyedFault) × FirstFault b fault × Says e fault × HasFramesToFault b n
+-- the error says the first fault of the bytes, which stands within the depth, and until which so many frames stand
+abbrev pub EndsWith : ℕ → List ℕ → Error → ℕ → Type 0
+EndsWith depth b e n = (fault : KeyedFault) × FirstFaultWithin depth b (fault_of fault) × Says e fault × HasFramesToFault b n
 
-pub ends_tells : (b : List ℕ) (e : Error) (n : ℕ) → EndsWith b e n → TellsFirstFault b e
-ends_tells b e n h = inr (h.0, h.1, h.2)
+pub ends_tells : (depth : ℕ) (b : List ℕ) (e : Error) (n : ℕ) → EndsWith depth b e n → TellsFirstFaultWithin depth b e
+ends_tells depth b e n h = inr (fault_of h.0, h.1, h.2)
 
-module _ {X : Type 0} (b : List ℕ) where
-  pub ends_frames : (result : Result X Error) (e : Error) (n : ℕ) → result ≡ Err e → EndsWith b e n → TellsFrames b result n
-  ends_frames result e n is h = rw is (n, inr h.3, omega arith, inr refl)
+module _ {X : Type 0} (depth : ℕ) (b : List ℕ) where
+  pub ends_frames : (result : Result X Error) (e : Error) (n : ℕ) → result ≡ Err e → EndsWith depth b e n → TellsFramesWithin depth b result n
+  ends_frames result e n is h = let told : TellsFrames b result n = rw is (n, inr h.3, omega arith, inr refl) in inr told
 
   -- where memory ran out
-  pub memory_frames : (sort : Sort) (result : Result X Error) (e : Error) (n : ℕ) → result ≡ Err e → IsOutOfMemory e → IsCountedFrom sort b n → TellsFrames b result n
-  memory_frames sort result e n is memory from = rw is (from.0, counted_until sort b from.0 from.2, from.1, inl memory)
+  pub memory_frames : (sort : Sort) (result : Result X Error) (e : Error) (n : ℕ) → result ≡ Err e → IsOutOfMemory e → IsCountedFrom sort b n → TellsFramesWithin depth b result n
+  memory_frames sort result e n is memory from =
+      let told : TellsFrames b result n = rw is (from.0, counted_until sort b from.0 from.2, from.1, inl memory) in
+      inr told
 
 -- at most half of the bytes, so that one more can be counted
 pub few_frames : (sort : Sort) (b : List ℕ) (n : ℕ) → IsEnvelope b → IsCountedFrom sort b n → n < max_length
@@ -138,50 +144,65 @@ pub tells_small : {X : Type 0} (b : List ℕ) (result : Result X Error) (n : ℕ
 tells_small b (Ok x) n h = until_small b n h.0
 tells_small b (Err e) n h = omega (arith, until_small b h.0 h.1, h.2)
 
-stop_ends : (old new : Option (List ℕ)) (d : List ℕ) (frames : List Frame) (pairs : List (List ℕ × Tree)) (n : ℕ) (e : Error) → HasRead (drop 4 d) frames old → StandForEach ReadsAs frames pairs → CountsFrames HasFrameCount frames n → StepsElement old (Some (Err e)) new → EndsWith d e n
-stop_ends None new d frames pairs n e l each counts st = absurd l
-stop_ends (Some s) new d frames pairs n e l each counts st =
+stop_ends : (old new : Option (List ℕ)) (inside : ℕ) (d : List ℕ) (frames : List Frame) (pairs : List (List ℕ × Tree)) (n : ℕ) (e : Error) → HasRead (drop 4 d) frames old → StandForEach (ReadsUpTo inside) frames pairs → CountsFrames HasFrameCount frames n → StepsElement old (Some (Err e)) new → EndsWith (suc inside) d e n
+stop_ends None new inside d frames pairs n e l each counts st = absurd l
+stop_ends (Some s) new inside d frames pairs n e l each counts st =
     let fault : KeyedFault = record { fault = st.0; key = st.1 } in
-    (fault, fault_at_stop d frames pairs s fault l each st.2, st.3, to_stop d frames pairs s n l each counts fault st.2)
+    (fault, (frames, pairs, s, l, each, inl st.2), st.3, to_stop d frames pairs s n l (each_read inside frames pairs each) counts fault st.2)
 
-frame_ends : (old new : Option (List ℕ)) (d : List ℕ) (frames : List Frame) (pairs : List (List ℕ × Tree)) (n : ℕ) (e : RawElement) (err : Error) (fault : KeyedFault) → HasRead (drop 4 d) frames old → StandForEach ReadsAs frames pairs → CountsFrames HasFrameCount frames n → StepsElement old (Some (Ok e)) new → Means (frame_of e) (faulty fault) → Says err fault → EndsWith d err (n + 1)
-frame_ends None new d frames pairs n e err fault l each counts st m says = absurd l
-frame_ends (Some s) new d frames pairs n e err fault l each counts st m says =
-    (fault, fault_at_frame d frames pairs s (frame_of e) st.0 fault l each st.1 m, says, to_frame d frames pairs s n l each counts (frame_of e) st.0 fault st.1 m)
+frame_ends : (old new : Option (List ℕ)) (inside : ℕ) (d : List ℕ) (frames : List Frame) (pairs : List (List ℕ × Tree)) (n : ℕ) (e : RawElement) (err : Error) (fault : KeyedFault) → HasRead (drop 4 d) frames old → StandForEach (ReadsUpTo inside) frames pairs → CountsFrames HasFrameCount frames n → StepsElement old (Some (Ok e)) new → Means (frame_of e) (faulty fault) → Says err fault → EndsWith (suc inside) d err (n + 1)
+frame_ends None new inside d frames pairs n e err fault l each counts st m says = absurd l
+frame_ends (Some s) new inside d frames pairs n e err fault l each counts st m says =
+    (fault, (frames, pairs, s, l, each, inr (frame_of e, st.0, st.1, inl m)), says, to_frame d frames pairs s n l (each_read inside frames pairs each) counts (frame_of e) st.0 fault st.1 m)
 
-read_counted : (old : Option (List ℕ)) (sort : Sort) (d : List ℕ) (frames : List Frame) (pairs : List (List ℕ × Tree)) (n : ℕ) → IsEnvelope d → HasRead (drop 4 d) frames old → StandForEach ReadsAs frames pairs → CountsFrames HasFrameCount frames n → IsCountedFrom sort d n
-read_counted None sort d frames pairs n env l each counts = absurd l
-read_counted (Some s) sort d frames pairs n env l each counts = counted_from sort d env frames pairs n s l each counts
+deep_ends : (old new : Option (List ℕ)) (inside : ℕ) (d : List ℕ) (frames : List Frame) (pairs : List (List ℕ × Tree)) (e : RawElement) (c : List ℕ) (inner : Holder) → HasRead (drop 4 d) frames old → StandForEach (ReadsUpTo inside) frames pairs → StepsElement old (Some (Ok e)) new → Means (frame_of e) (value (holding inner c)) → FirstFaultWithin inside c too_deep → FirstFaultWithin (suc inside) d too_deep
+deep_ends None new inside d frames pairs e c inner l each st m entered = absurd l
+deep_ends (Some s) new inside d frames pairs e c inner l each st m entered =
+    (frames, pairs, s, l, each, inr (frame_of e, st.0, st.1, inr (holding inner c, c, m, held_holds inner c, entered)))
 
-frame_counted : (old new : Option (List ℕ)) (sort : Sort) (d : List ℕ) (frames : List Frame) (pairs : List (List ℕ × Tree)) (n : ℕ) (e : RawElement) → IsEnvelope d → HasRead (drop 4 d) frames old → StandForEach ReadsAs frames pairs → CountsFrames HasFrameCount frames n → StepsElement old (Some (Ok e)) new → IsCountedFrom sort d (n + 1)
-frame_counted None new sort d frames pairs n e env l each counts st = absurd l
-frame_counted (Some s) new sort d frames pairs n e env l each counts st = counted_from_frame sort d env frames pairs n s l each counts (frame_of e) st.0 st.1
+read_counted : (old : Option (List ℕ)) (inside : ℕ) (sort : Sort) (d : List ℕ) (frames : List Frame) (pairs : List (List ℕ × Tree)) (n : ℕ) → IsEnvelope d → HasRead (drop 4 d) frames old → StandForEach (ReadsUpTo inside) frames pairs → CountsFrames HasFrameCount frames n → IsCountedFrom sort d n
+read_counted None inside sort d frames pairs n env l each counts = absurd l
+read_counted (Some s) inside sort d frames pairs n env l each counts = counted_from sort d env frames pairs n s l (each_read inside frames pairs each) counts
 
--- the state of the loop: levels wait from the bytes b inward to the bytes d, which the level reads
-module _ (b : List ℕ) (holder : Holder) (ws : List Waiting) (d : List ℕ) (nested : Holder) (level : Level) (n k : ℕ) (h : AreWaiting b holder ws d nested n) (is : IsReading d nested level k) where
-  outward : (e : Error) (m : ℕ) → EndsWith d e m → EndsWith b e (n + m)
-  outward e m at = (at.0, fault_outward b holder ws d nested n at.0 h at.1, at.2, to_fault_outward b holder ws d nested n at.0 m h at.1 at.3)
+frame_counted : (old new : Option (List ℕ)) (inside : ℕ) (sort : Sort) (d : List ℕ) (frames : List Frame) (pairs : List (List ℕ × Tree)) (n : ℕ) (e : RawElement) → IsEnvelope d → HasRead (drop 4 d) frames old → StandForEach (ReadsUpTo inside) frames pairs → CountsFrames HasFrameCount frames n → StepsElement old (Some (Ok e)) new → IsCountedFrom sort d (n + 1)
+frame_counted None new inside sort d frames pairs n e env l each counts st = absurd l
+frame_counted (Some s) new inside sort d frames pairs n e env l each counts st = counted_from_frame sort d env frames pairs n s l (each_read inside frames pairs each) counts (frame_of e) st.0 st.1
 
-  pub stopped : (e : Error) (new : Option (List ℕ)) → StepsElement level.elements (Some (Err e)) new → EndsWith b e (n + k)
-  stopped e new st = outward e k (stop_ends level.elements new d is.frames is.pairs k e is.passed is.each is.counts st)
+-- the state of the loop: levels wait from the bytes b inward to the bytes d, which the level reads; with the
+-- levels that may stand inside d they are as many as the depth
+module _ (inside depth : ℕ) (b : List ℕ) (holder : Holder) (ws : List Waiting) (d : List ℕ) (nested : Holder) (level : Level) (n k : ℕ) (h : AreWaiting inside b holder ws d nested n) (is : IsReading inside d nested level k) (whole : suc (length ws + inside) ≡ depth) where
+  within_outward : (x : Barrier) → FirstFaultWithin (suc inside) d x → FirstFaultWithin depth b x
+  within_outward x bars = subst (λ (levels : ℕ). FirstFaultWithin levels b x) whole (barrier_outward inside b holder ws d nested n x h bars)
 
-  failed_as : (e : RawElement) (err : Error) (new : Option (List ℕ)) (m : Meaning) → StepsElement level.elements (Some (Ok e)) new → Means (frame_of e) m → TellsMeaning (Err err) m → EndsWith b err (n + k + 1)
+  outward : (e : Error) (m : ℕ) → EndsWith (suc inside) d e m → EndsWith depth b e (n + m)
+  outward e m at = (at.0, within_outward (fault_of at.0) at.1, at.2, to_fault_outward inside b holder ws d nested n at.0 m h (first_fault (suc inside) d at.0 at.1) at.3)
+
+  -- a value that holds nested bytes, where no level may stand inside
+  pub too_deep_inside : (e : RawElement) (c : List ℕ) (inner : Holder) (new : Option (List ℕ)) → inside ≡ 0 → StepsElement level.elements (Some (Ok e)) new → Means (frame_of e) (value (holding inner c)) → FirstFaultWithin depth b too_deep
+  too_deep_inside e c inner new none st m =
+      let entered : FirstFaultWithin inside c too_deep = rw none refl in
+      within_outward too_deep (deep_ends level.elements new inside d is.frames is.pairs e c inner is.passed is.each st m entered)
+
+  pub stopped : (e : Error) (new : Option (List ℕ)) → StepsElement level.elements (Some (Err e)) new → EndsWith depth b e (n + k)
+  stopped e new st = outward e k (stop_ends level.elements new inside d is.frames is.pairs k e is.passed is.each is.counts st)
+
+  failed_as : (e : RawElement) (err : Error) (new : Option (List ℕ)) (m : Meaning) → StepsElement level.elements (Some (Ok e)) new → Means (frame_of e) m → TellsMeaning (Err err) m → EndsWith depth b err (n + k + 1)
   failed_as e err new (value v) st m told = absurd told
   failed_as e err new (faulty fault) st m told =
       let same : n + (k + 1) ≡ n + k + 1 = omega arith in
-      subst (EndsWith b err) same (outward err (k + 1) (frame_ends level.elements new d is.frames is.pairs k e err fault is.passed is.each is.counts st m told))
+      subst (EndsWith depth b err) same (outward err (k + 1) (frame_ends level.elements new inside d is.frames is.pairs k e err fault is.passed is.each is.counts st m told))
 
-  pub failed : (e : RawElement) (err : Error) (new : Option (List ℕ)) → StepsElement level.elements (Some (Ok e)) new → ((m : Meaning) × Means (frame_of e) m × TellsMeaning (Err err) m) → EndsWith b err (n + k + 1)
+  pub failed : (e : RawElement) (err : Error) (new : Option (List ℕ)) → StepsElement level.elements (Some (Ok e)) new → ((m : Meaning) × Means (frame_of e) m × TellsMeaning (Err err) m) → EndsWith depth b err (n + k + 1)
   failed e err new st told = failed_as e err new told.0 st told.1 told.2
 
   -- what has been read is counted
   pub level_counted : IsEnvelope b → IsCountedFrom (sort_of holder) b (n + k)
-  level_counted env = counted_outward b holder ws d nested n k env h (read_counted level.elements (sort_of nested) d is.frames is.pairs k (envelope_inward b holder ws d nested n env h) is.passed is.each is.counts)
+  level_counted env = counted_outward inside b holder ws d nested n k env h (read_counted level.elements inside (sort_of nested) d is.frames is.pairs k (envelope_inward inside b holder ws d nested n env h) is.passed is.each is.counts)
 
   -- and so is the element behind it
   pub element_counted : IsEnvelope b → (e : RawElement) (new : Option (List ℕ)) → StepsElement level.elements (Some (Ok e)) new → IsCountedFrom (sort_of holder) b (n + k + 1)
   element_counted env e new st =
-      let on = counted_outward b holder ws d nested n (k + 1) env h (frame_counted level.elements new (sort_of nested) d is.frames is.pairs k e (envelope_inward b holder ws d nested n env h) is.passed is.each is.counts st) in
+      let on = counted_outward inside b holder ws d nested n (k + 1) env h (frame_counted level.elements new inside (sort_of nested) d is.frames is.pairs k e (envelope_inward inside b holder ws d nested n env h) is.passed is.each is.counts st) in
       (on.0, omega (arith, on.1), on.2)
 
 -- where nothing is popped, nothing waits
@@ -190,15 +211,19 @@ no_more n [] new l e f = refl
 no_more n (w ∷ ws) new l e f = absurd (omega (arith, l, ap length e, ap length f, length-append new [], length-take (n - 1) (w ∷ ws)))
 
 -- the outermost level is read
-pub all_read : (b : List ℕ) (holder : Holder) (ws : List Waiting) (d : List ℕ) (nested : Holder) (level : Level) (n k : ℕ) (new : Option (List ℕ)) → ws ≡ [] → AreWaiting b holder ws d nested n → IsReading d nested level k → StepsElement level.elements None new → (holder_of level.contents ≡ holder) × ReadsAs (sort_of holder) b (tree_of_contents level.contents) × HasFrameCount b (n + k)
-all_read b holder [] d nested level n k new e h is st =
-    let end = level_end d nested level k new is st in
+pub all_read : (inside depth : ℕ) (b : List ℕ) (holder : Holder) (ws : List Waiting) (d : List ℕ) (nested : Holder) (level : Level) (n k : ℕ) (new : Option (List ℕ)) → ws ≡ [] → suc (length ws + inside) ≡ depth → AreWaiting inside b holder ws d nested n → IsReading inside d nested level k → StepsElement level.elements None new → (holder_of level.contents ≡ holder) × ReadsUpTo depth (sort_of holder) b (tree_of_contents level.contents) × HasFrameCount b (n + k)
+all_read inside depth b holder [] d nested level n k new e whole h is st =
+    let end = level_end inside d nested level k new is st in
     let same : n + k ≡ k = omega (arith, h.2) in
-    (is.held ∙ sym h.1, rw (h.0, h.1) end.0, rw (h.0, same) end.1)
-all_read b holder (w ∷ ws) d nested level n k new e h is st = absurd (omega (arith, ap length e))
+    let levels : suc inside ≡ depth = omega (arith, whole) in
+    let read : ReadsUpTo depth (sort_of nested) d (tree_of_contents level.contents) = subst (λ (x : ℕ). ReadsUpTo x (sort_of nested) d (tree_of_contents level.contents)) levels end.0 in
+    (is.held ∙ sym h.1, rw (h.0, h.1) read, rw (h.0, same) end.1)
+all_read inside depth b holder (w ∷ ws) d nested level n k new e whole h is st = absurd (omega (arith, ap length e))
 
-pub read_frames : {X : Type 0} (sort : Sort) (b : List ℕ) (result : Result X Error) (x : X) (t : Tree) (n : ℕ) → result ≡ Ok x → ReadsAs sort b t → HasFrameCount b n → TellsFrames b result n
-read_frames sort b result x t n is read count = rw is (inl (λ fault bad. tree_or_fault sort b t fault read bad, count), count)
+pub read_frames : {X : Type 0} (depth : ℕ) (sort : Sort) (b : List ℕ) (result : Result X Error) (x : X) (t : Tree) (n : ℕ) → result ≡ Ok x → ReadsUpTo depth sort b t → HasFrameCount b n → TellsFramesWithin depth b result n
+read_frames depth sort b result x t n is read count =
+    let told : TellsFrames b result n = rw is (inl (λ fault bad. tree_or_fault sort b t fault (depth, read) bad, count), count) in
+    inr told
 
 -- the value that a call answers
 pub told_value : (f : Frame) (v : RawBsonRef) → ((m : Meaning) × Means f m × TellsMeaning (Ok v) m) → Means f (value (value_of v))

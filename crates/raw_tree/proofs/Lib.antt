@@ -2,6 +2,9 @@ pub mod Decides
 pub mod FrameCounts
 pub mod LevelSteps
 pub mod Stacks
+pub mod Within
+pub mod Depths
+pub mod Limited
 pub mod Loops
 pub mod Encodings
 pub mod OneTree

@@ -93,6 +93,10 @@ reads_up_to (suc n) zero l sort b t h = absurd (omega arith)
 reads_up_to (suc n) (suc m) l sort b t h =
     (h.0, (h.1.0, h.1.1, stand_each_on (ReadsUpTo n) (ReadsUpTo m) (reads_up_to n m (omega arith)) h.1.0 h.0 h.1.2), h.2)
 
+-- frames that are read within some levels are read
+pub each_read : (n : ℕ) (fs : List Frame) (pairs : List (List ℕ × Tree)) → StandForEach (ReadsUpTo n) fs pairs → StandForEach ReadsAs fs pairs
+each_read n fs pairs h = stand_each_on (ReadsUpTo n) ReadsAs (λ sort b t read. (n, read)) fs pairs h
+
 -- a value that stands for a tree does so within some levels
 stands_level : (v : RawValue) (t : Tree) → StandsFor ReadsAs v t → (n : ℕ) × StandsFor (ReadsUpTo n) v t
 stands_level (raw.single l) t h = (0, h)

@@ -1,6 +1,6 @@
 -- What a loop over levels knows of the bytes: each level has passed frames that stand for the pairs of its
 -- contents, and each but the innermost waits for the value of the frame behind them.
-use Rattle.std.proofs.Common.{◌≡◌, Option, None, Some, inl, inr, ◌+◌, ◌++◌, ◌∷◌, [], ℕ, List, Some, drop, arith, ap, refl, sym, ◌∙◌, subst, map, Vec, Global}
+use Rattle.std.proofs.Common.{◌≡◌, Option, None, Some, inl, inr, ◌+◌, ◌++◌, ◌∷◌, [], ℕ, suc, List, length, Some, drop, arith, ap, refl, sym, ◌∙◌, subst, map, length-append, Vec, Global}
 use Rattle.std.proofs.lemmas.List.{map-append}
 use denote.Ref.{Bor}
 use Rattle.bson_model.specs.Pairs.{with_pair}
@@ -11,11 +11,13 @@ use Rattle.bson_model.proofs.Face.{keep-last}
 use Rattle.raw_view.specs.ElementSteps.{HasRead}
 use Rattle.raw_view.specs.Envelope.{IsEnvelope}
 use Rattle.raw_view.specs.Frame.{Frame, IsFrame, LeadsTo}
-use Rattle.raw_view.specs.Meaning.{KeyedFault, Means, value}
+use Rattle.raw_view.specs.Meaning.{RawValue, KeyedFault, Means, value}
+use Rattle.raw_view.specs.Meaning as raw
 use Rattle.raw_view.proofs.Face.{LeadsTo-more}
 use Rattle.raw_tree.specs.FrameCount.{CountsIn, CountsFrames, HasFrameCount, HasFramesToFault}
-use Rattle.raw_tree.specs.Levels.{sort_of, holding, holder_of, tree_of_contents, AreContents, IsOneMore, Closes}
-use Rattle.raw_tree.specs.Reading.{tree_of_pairs, StandsFor, StandForEach, ReadsAs, Holds, FirstFault}
+use Rattle.raw_tree.specs.Levels.{sort_of, holding, holder_of, tree_of_contents, AreContents, IsOneMore, HoldsNone, Closes}
+use Rattle.raw_tree.specs.WithinLimits.{Barrier, FirstFaultWithin}
+use Rattle.raw_tree.specs.Reading.{Sort, as_document, as_array, tree_of_pairs, StandsFor, StandForEach, ReadsUpTo, ReadsAs, Holds, FirstFault}
 use Rattle.raw_tree.specs.declared.levels.Contents.{Contents}
 use Rattle.raw_tree.specs.declared.levels.Contents.TheVariants as contents
 use Rattle.raw_tree.specs.declared.levels.Holder.{Holder}
@@ -24,7 +26,8 @@ use Rattle.raw_tree.specs.declared.levels.Level.{Level}
 use Rattle.raw_tree.specs.declared.levels.Waiting.{Waiting}
 use Rattle.raw_tree.proofs.Decides.{IsCountedFrom, counted_from, document_read}
 use Rattle.raw_tree.proofs.FrameCounts.{counts_more, to_inside}
-use Rattle.raw_tree.proofs.Loops.{stand_more, nested_envelope, fault_inside}
+use Rattle.raw_tree.proofs.Loops.{each_read, stand_more, nested_envelope, fault_inside}
+use Rattle.raw_tree.proofs.OneTree.{one_tree}
 
 -- contents
 
@@ -70,21 +73,38 @@ held_holds of.Document d = refl
 held_holds of.Array d = refl
 held_holds (of.Code code) d = refl
 
+-- a value that holds no nested bytes stands for the same tree to any depth
+pub none_stands : (inside : ℕ) (v : RawValue) (t : Tree) → HoldsNone v → StandsFor ReadsAs v t → StandsFor (ReadsUpTo inside) v t
+none_stands inside (raw.single l) t none h = h
+none_stands inside (raw.document d) t none h = absurd none
+none_stands inside (raw.array d) t none h = absurd none
+none_stands inside (raw.scoped code d) t none h = absurd none
+
+-- bytes that are read within some levels are read as their one tree within these
+read_within : (levels : ℕ) (sort : Sort) (d : List ℕ) (t u : Tree) → ReadsUpTo levels sort d t → ReadsAs sort d u → ReadsUpTo levels sort d u
+read_within levels sort d t u read other = subst (λ (x : Tree). ReadsUpTo levels sort d x) (one_tree sort d t u (levels, read) other) read
+
+-- so what holds them stands for its one tree within them
+pub held_within : (levels : ℕ) (h : Holder) (d : List ℕ) (t u : Tree) → ReadsUpTo levels (sort_of h) d t → StandsFor ReadsAs (holding h d) u → StandsFor (ReadsUpTo levels) (holding h d) u
+held_within levels of.Document d t u read stands = read_within levels as_document d t u read stands
+held_within levels of.Array d t u read stands = read_within levels as_array d t u read stands
+held_within levels (of.Code code) d t u read stands = (stands.0, read_within levels as_document d t (document stands.0) read stands.1, stands.2)
+
 -- a level
 
--- the frames of b that the level has passed stand for the pairs of its contents, and are so many with those
--- that stand in them
-pub record IsReading (b : List ℕ) (holder : Holder) (level : Level) (n : ℕ) : Type 0 where
+-- the frames of b that the level has passed stand for the pairs of its contents, with at most so many levels
+-- inside, and are so many with those that stand in them
+pub record IsReading (inside : ℕ) (b : List ℕ) (holder : Holder) (level : Level) (n : ℕ) : Type 0 where
   pub frames : List Frame
   pub pairs : List (List ℕ × Tree)
   pub passed : HasRead (drop 4 b) frames level.elements
-  pub each : StandForEach ReadsAs frames pairs
+  pub each : StandForEach (ReadsUpTo inside) frames pairs
   pub counts : CountsFrames HasFrameCount frames n
   pub contains : AreContents level.contents pairs
   pub held : holder_of level.contents ≡ holder
 
 -- and the value of the frame behind them, which is counted, holds the bytes d
-pub record IsWaiting (b : List ℕ) (holder : Holder) (w : Waiting) (d : List ℕ) (nested : Holder) (n : ℕ) : Type 0 where
+pub record IsWaiting (inside : ℕ) (b : List ℕ) (holder : Holder) (w : Waiting) (d : List ℕ) (nested : Holder) (n : ℕ) : Type 0 where
   pub frames : List Frame
   pub pairs : List (List ℕ × Tree)
   pub before : ℕ
@@ -94,7 +114,7 @@ pub record IsWaiting (b : List ℕ) (holder : Holder) (w : Waiting) (d : List �
   pub passed : LeadsTo (drop 4 b) frames s
   pub frame : IsFrame s f r
   pub left : w.level.elements ≡ Some r
-  pub each : StandForEach ReadsAs frames pairs
+  pub each : StandForEach (ReadsUpTo inside) frames pairs
   pub counts : CountsFrames HasFrameCount frames before
   pub contains : AreContents w.level.contents pairs
   pub held : holder_of w.level.contents ≡ holder
@@ -102,43 +122,59 @@ pub record IsWaiting (b : List ℕ) (holder : Holder) (w : Waiting) (d : List �
   pub means : Means f (value (holding nested d))
   pub total : n ≡ before + 1
 
--- levels that wait, the outermost first: from the bytes b inward to the bytes d, with so many frames counted
-abbrev pub AreWaiting : List ℕ → Holder → List Waiting → List ℕ → Holder → ℕ → Type 0
-AreWaiting b holder [] d nested n = (b ≡ d) × (holder ≡ nested) × (n ≡ 0)
-AreWaiting b holder (w ∷ ws) d nested n = (e : List ℕ) × (inner : Holder) × (here : ℕ) × (others : ℕ) × IsWaiting b holder w e inner here × AreWaiting e inner ws d nested others × (n ≡ here + others)
+-- levels that wait, the outermost first: from the bytes b inward to the bytes d, with so many frames counted; at
+-- most so many levels may stand inside d
+abbrev pub AreWaiting : ℕ → List ℕ → Holder → List Waiting → List ℕ → Holder → ℕ → Type 0
+AreWaiting inside b holder [] d nested n = (b ≡ d) × (holder ≡ nested) × (n ≡ 0)
+AreWaiting inside b holder (w ∷ ws) d nested n = (e : List ℕ) × (inner : Holder) × (here : ℕ) × (others : ℕ) × IsWaiting (suc (length ws + inside)) b holder w e inner here × AreWaiting inside e inner ws d nested others × (n ≡ here + others)
 
 -- one more, innermost
-pub waiting_more : (b : List ℕ) (holder : Holder) (ws : List Waiting) (d : List ℕ) (nested : Holder) (n : ℕ) (w : Waiting) (e : List ℕ) (inner : Holder) (here : ℕ) → AreWaiting b holder ws d nested n → IsWaiting d nested w e inner here → AreWaiting b holder (ws ++ w ∷ []) e inner (n + here)
-waiting_more b holder [] d nested n w e inner here h is = (e, inner, here, 0, rw (h.0, h.1) is, (refl, refl, refl), omega (arith, h.2))
-waiting_more b holder (x ∷ ws) d nested n w e inner here h is =
-    (h.0, h.1, h.2, h.3 + here, h.4, waiting_more h.0 h.1 ws d nested h.3 w e inner here h.5 is, omega (arith, h.6))
+pub waiting_more : (inside : ℕ) (b : List ℕ) (holder : Holder) (ws : List Waiting) (d : List ℕ) (nested : Holder) (n : ℕ) (w : Waiting) (e : List ℕ) (inner : Holder) (here : ℕ) → AreWaiting (suc inside) b holder ws d nested n → IsWaiting (suc inside) d nested w e inner here → AreWaiting inside b holder (ws ++ w ∷ []) e inner (n + here)
+waiting_more inside b holder [] d nested n w e inner here h is =
+    let same : suc inside ≡ suc (0 + inside) = omega arith in
+    let waits : IsWaiting (suc (0 + inside)) d nested w e inner here = subst (λ (i : ℕ). IsWaiting i d nested w e inner here) same is in
+    (e, inner, here, 0, rw (h.0, h.1) waits, (refl, refl, refl), omega (arith, h.2))
+waiting_more inside b holder (x ∷ ws) d nested n w e inner here h is =
+    let same : suc (length ws + suc inside) ≡ suc (length (ws ++ w ∷ []) + inside) = omega (arith, length-append ws (w ∷ [])) in
+    (h.0, h.1, h.2, h.3 + here, subst (λ (i : ℕ). IsWaiting i b holder x h.0 h.1 h.2) same h.4, waiting_more inside h.0 h.1 ws d nested h.3 w e inner here h.5 is, omega (arith, h.6))
 
 -- one less
-pub waiting_less : (b : List ℕ) (holder : Holder) (ws : List Waiting) (w : Waiting) (e : List ℕ) (inner : Holder) (n : ℕ) → AreWaiting b holder (ws ++ w ∷ []) e inner n → (d : List ℕ) × (nested : Holder) × (others : ℕ) × (here : ℕ) × AreWaiting b holder ws d nested others × IsWaiting d nested w e inner here × (n ≡ others + here)
-waiting_less b holder [] w e inner n h =
-    (b, holder, 0, h.2, (refl, refl, refl), rw (sym h.5.0, sym h.5.1) h.4, omega (arith, h.5.2, h.6))
-waiting_less b holder (x ∷ ws) w e inner n h =
-    let less = waiting_less h.0 h.1 ws w e inner h.3 h.5 in
-    (less.0, less.1, h.2 + less.2, less.3, (h.0, h.1, h.2, less.2, h.4, less.4, refl), less.5, omega (arith, h.6, less.6))
+pub waiting_less : (inside : ℕ) (b : List ℕ) (holder : Holder) (ws : List Waiting) (w : Waiting) (e : List ℕ) (inner : Holder) (n : ℕ) → AreWaiting inside b holder (ws ++ w ∷ []) e inner n → (d : List ℕ) × (nested : Holder) × (others : ℕ) × (here : ℕ) × AreWaiting (suc inside) b holder ws d nested others × IsWaiting (suc inside) d nested w e inner here × (n ≡ others + here)
+waiting_less inside b holder [] w e inner n h =
+    let same : suc (0 + inside) ≡ suc inside = omega arith in
+    let waits : IsWaiting (suc inside) b holder w h.0 h.1 h.2 = subst (λ (i : ℕ). IsWaiting i b holder w h.0 h.1 h.2) same h.4 in
+    (b, holder, 0, h.2, (refl, refl, refl), rw (sym h.5.0, sym h.5.1) waits, omega (arith, h.5.2, h.6))
+waiting_less inside b holder (x ∷ ws) w e inner n h =
+    let less = waiting_less inside h.0 h.1 ws w e inner h.3 h.5 in
+    let same : suc (length (ws ++ w ∷ []) + inside) ≡ suc (length ws + suc inside) = omega (arith, length-append ws (w ∷ [])) in
+    (less.0, less.1, h.2 + less.2, less.3, (h.0, h.1, h.2, less.2, subst (λ (i : ℕ). IsWaiting i b holder x h.0 h.1 h.2) same h.4, less.4, refl), less.5, omega (arith, h.6, less.6))
 
 -- outward
 
-module _ (b : List ℕ) (holder : Holder) (w : Waiting) (d : List ℕ) (nested : Holder) (n : ℕ) (is : IsWaiting b holder w d nested n) where
+module _ (inside : ℕ) (b : List ℕ) (holder : Holder) (w : Waiting) (d : List ℕ) (nested : Holder) (n : ℕ) (is : IsWaiting inside b holder w d nested n) where
   inner_holds : Holds (holding nested d) d
   inner_holds = held_holds nested d
+
+  -- the frames that are passed are read
+  inner_each : StandForEach ReadsAs is.frames is.pairs
+  inner_each = each_read inside is.frames is.pairs is.each
 
   -- the bytes that are waited for have an envelope
   inner_envelope : IsEnvelope d
   inner_envelope = nested_envelope is.s is.f is.r (holding nested d) d is.frame is.means inner_holds
 
+  -- their first fault within a depth is that of the bytes where the level stands within one more
+  inner_barrier : (x : Barrier) → FirstFaultWithin inside d x → FirstFaultWithin (suc inside) b x
+  inner_barrier x bars = (is.frames, is.pairs, is.s, is.passed, is.each, inr (is.f, is.r, is.frame, inr (holding nested d, d, is.means, inner_holds, bars)))
+
   -- their first fault is that of the bytes where the level stands
   inner_fault : (fault : KeyedFault) → FirstFault d fault → FirstFault b fault
-  inner_fault fault bad = fault_inside b is.frames is.pairs is.s is.f is.r (holding nested d) fault is.passed is.each is.frame is.means (d, inner_holds, bad)
+  inner_fault fault bad = fault_inside b is.frames is.pairs is.s is.f is.r (holding nested d) fault is.passed inner_each is.frame is.means (d, inner_holds, bad)
 
   -- and so are the frames until there
   inner_to_fault : (fault : KeyedFault) (m : ℕ) → FirstFault d fault → HasFramesToFault d m → HasFramesToFault b (n + m)
   inner_to_fault fault m bad to =
-      rw is.total (to_inside b is.frames is.pairs is.s is.before is.passed is.each is.counts is.f is.r (holding nested d) d fault m is.frame is.means inner_holds bad to)
+      rw is.total (to_inside b is.frames is.pairs is.s is.before is.passed inner_each is.counts is.f is.r (holding nested d) d fault m is.frame is.means inner_holds bad to)
 
   -- where they are counted, these are
   inner_counted : (m : ℕ) → IsEnvelope b → IsCountedFrom (sort_of nested) d m → IsCountedFrom (sort_of holder) b (n + m)
@@ -147,7 +183,7 @@ module _ (b : List ℕ) (holder : Holder) (w : Waiting) (d : List ℕ) (nested :
         | inl all ↦ (
             let stands = held_stands nested d all.0 all.1 in
             let lead : LeadsTo (drop 4 b) (is.frames ++ is.f ∷ []) is.r = LeadsTo-more (drop 4 b) is.frames is.s is.f is.r is.passed is.frame in
-            let each = stand_more ReadsAs is.frames is.pairs is.f (holding nested d) stands.0 is.each is.means stands.1 in
+            let each = stand_more ReadsAs is.frames is.pairs is.f (holding nested d) stands.0 inner_each is.means stands.1 in
             let more = counts_more is.frames is.before is.f (value (holding nested d)) from.0 is.counts is.means (held_counts nested d from.0 all.2) in
             let on = counted_from (sort_of holder) b env (is.frames ++ is.f ∷ []) (is.pairs ++ (is.f.key, stands.0) ∷ []) (is.before + 1 + from.0) is.r lead each more in
             (on.0, omega (arith, on.1, from.1, is.total), on.2))
@@ -155,33 +191,44 @@ module _ (b : List ℕ) (holder : Holder) (w : Waiting) (d : List ℕ) (nested :
       ]
 
 -- the first fault of the innermost bytes is that of the outermost
-pub fault_outward : (b : List ℕ) (holder : Holder) (ws : List Waiting) (d : List ℕ) (nested : Holder) (n : ℕ) (fault : KeyedFault) → AreWaiting b holder ws d nested n → FirstFault d fault → FirstFault b fault
-fault_outward b holder [] d nested n fault h bad = rw h.0 bad
-fault_outward b holder (w ∷ ws) d nested n fault h bad =
-    inner_fault b holder w h.0 h.1 h.2 h.4 fault (fault_outward h.0 h.1 ws d nested h.3 fault h.5 bad)
+pub fault_outward : (inside : ℕ) (b : List ℕ) (holder : Holder) (ws : List Waiting) (d : List ℕ) (nested : Holder) (n : ℕ) (fault : KeyedFault) → AreWaiting inside b holder ws d nested n → FirstFault d fault → FirstFault b fault
+fault_outward inside b holder [] d nested n fault h bad = rw h.0 bad
+fault_outward inside b holder (w ∷ ws) d nested n fault h bad =
+    inner_fault (suc (length ws + inside)) b holder w h.0 h.1 h.2 h.4 fault (fault_outward inside h.0 h.1 ws d nested h.3 fault h.5 bad)
+
+-- and their first fault within a depth
+pub barrier_outward : (inside : ℕ) (b : List ℕ) (holder : Holder) (ws : List Waiting) (d : List ℕ) (nested : Holder) (n : ℕ) (x : Barrier) → AreWaiting inside b holder ws d nested n → FirstFaultWithin (suc inside) d x → FirstFaultWithin (suc (length ws + inside)) b x
+barrier_outward inside b holder [] d nested n x h bars =
+    let same : suc inside ≡ suc (0 + inside) = omega arith in
+    let here : FirstFaultWithin (suc (0 + inside)) d x = subst (λ (depth : ℕ). FirstFaultWithin depth d x) same bars in
+    rw h.0 here
+barrier_outward inside b holder (w ∷ ws) d nested n x h bars =
+    let here = inner_barrier (suc (length ws + inside)) b holder w h.0 h.1 h.2 h.4 x (barrier_outward inside h.0 h.1 ws d nested h.3 x h.5 bars) in
+    let same : suc (suc (length ws + inside)) ≡ suc (length (w ∷ ws) + inside) = omega arith in
+    subst (λ (depth : ℕ). FirstFaultWithin depth b x) same here
 
 -- and so are the frames until there
-pub to_fault_outward : (b : List ℕ) (holder : Holder) (ws : List Waiting) (d : List ℕ) (nested : Holder) (n : ℕ) (fault : KeyedFault) (m : ℕ) → AreWaiting b holder ws d nested n → FirstFault d fault → HasFramesToFault d m → HasFramesToFault b (n + m)
-to_fault_outward b holder [] d nested n fault m h bad to =
+pub to_fault_outward : (inside : ℕ) (b : List ℕ) (holder : Holder) (ws : List Waiting) (d : List ℕ) (nested : Holder) (n : ℕ) (fault : KeyedFault) (m : ℕ) → AreWaiting inside b holder ws d nested n → FirstFault d fault → HasFramesToFault d m → HasFramesToFault b (n + m)
+to_fault_outward inside b holder [] d nested n fault m h bad to =
     let same : n + m ≡ m = omega (arith, h.2) in
     rw (h.0, same) to
-to_fault_outward b holder (w ∷ ws) d nested n fault m h bad to =
-    let inside = to_fault_outward h.0 h.1 ws d nested h.3 fault m h.5 bad to in
-    let here = inner_to_fault b holder w h.0 h.1 h.2 h.4 fault (h.3 + m) (fault_outward h.0 h.1 ws d nested h.3 fault h.5 bad) inside in
+to_fault_outward inside b holder (w ∷ ws) d nested n fault m h bad to =
+    let within = to_fault_outward inside h.0 h.1 ws d nested h.3 fault m h.5 bad to in
+    let here = inner_to_fault (suc (length ws + inside)) b holder w h.0 h.1 h.2 h.4 fault (h.3 + m) (fault_outward inside h.0 h.1 ws d nested h.3 fault h.5 bad) within in
     subst (λ (k : ℕ). HasFramesToFault b k) (omega (arith, h.6)) here
 
 -- where the innermost bytes are counted, the outermost are
-pub counted_outward : (b : List ℕ) (holder : Holder) (ws : List Waiting) (d : List ℕ) (nested : Holder) (n m : ℕ) → IsEnvelope b → AreWaiting b holder ws d nested n → IsCountedFrom (sort_of nested) d m → IsCountedFrom (sort_of holder) b (n + m)
-counted_outward b holder [] d nested n m env h from =
+pub counted_outward : (inside : ℕ) (b : List ℕ) (holder : Holder) (ws : List Waiting) (d : List ℕ) (nested : Holder) (n m : ℕ) → IsEnvelope b → AreWaiting inside b holder ws d nested n → IsCountedFrom (sort_of nested) d m → IsCountedFrom (sort_of holder) b (n + m)
+counted_outward inside b holder [] d nested n m env h from =
     let same : n + m ≡ m = omega (arith, h.2) in
     rw (h.0, h.1, same) from
-counted_outward b holder (w ∷ ws) d nested n m env h from =
-    let inside = counted_outward h.0 h.1 ws d nested h.3 m (inner_envelope b holder w h.0 h.1 h.2 h.4) h.5 from in
-    let here = inner_counted b holder w h.0 h.1 h.2 h.4 (h.3 + m) env inside in
+counted_outward inside b holder (w ∷ ws) d nested n m env h from =
+    let within = counted_outward inside h.0 h.1 ws d nested h.3 m (inner_envelope (suc (length ws + inside)) b holder w h.0 h.1 h.2 h.4) h.5 from in
+    let here = inner_counted (suc (length ws + inside)) b holder w h.0 h.1 h.2 h.4 (h.3 + m) env within in
     (here.0, omega (arith, here.1, h.6), here.2)
 
 -- the innermost bytes have an envelope
-pub envelope_inward : (b : List ℕ) (holder : Holder) (ws : List Waiting) (d : List ℕ) (nested : Holder) (n : ℕ) → IsEnvelope b → AreWaiting b holder ws d nested n → IsEnvelope d
-envelope_inward b holder [] d nested n env h = rw (sym h.0) env
-envelope_inward b holder (w ∷ ws) d nested n env h =
-    envelope_inward h.0 h.1 ws d nested h.3 (inner_envelope b holder w h.0 h.1 h.2 h.4) h.5
+pub envelope_inward : (inside : ℕ) (b : List ℕ) (holder : Holder) (ws : List Waiting) (d : List ℕ) (nested : Holder) (n : ℕ) → IsEnvelope b → AreWaiting inside b holder ws d nested n → IsEnvelope d
+envelope_inward inside b holder [] d nested n env h = rw (sym h.0) env
+envelope_inward inside b holder (w ∷ ws) d nested n env h =
+    envelope_inward inside h.0 h.1 ws d nested h.3 (inner_envelope (suc (length ws + inside)) b holder w h.0 h.1 h.2 h.4) h.5

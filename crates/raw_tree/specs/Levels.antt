@@ -1,6 +1,6 @@
 -- The helpers of the converter: what is read so far of a document, of an array or of a scope, and how a value
 -- is made of it. No public contract cites this file.
-use Rattle.std.specs.Prelude.{◌≡◌, ℕ, ◌+◌, List, [], ◌∷◌, ◌++◌, Option, None, Some, Result, Ok, Err, map}
+use Rattle.std.specs.Prelude.{◌≡◌, ◌⊎◌, ℕ, ◌+◌, List, [], ◌∷◌, ◌++◌, Option, None, Some, Result, Ok, Err, map}
 use Rattle.bson_model.specs.Pairs.{keep}
 use Rattle.bson_model.specs.Tree.{Tree, tree_of, tree_of_document, tree_of_list, pairs_of, with_trees}
 use Rattle.bson_model.specs.declared.bson.Bson.{Bson}
@@ -9,7 +9,9 @@ use Rattle.raw_view.specs.Meaning.{RawValue}
 use Rattle.raw_view.specs.Meaning as raw
 use Rattle.raw_view.specs.declared.element.RawElement.{RawElement}
 use Rattle.raw_view.specs.declared.error.Error.{Error}
-use Rattle.raw_tree.specs.Reading.{Sort, as_document, as_array, StandsFor, ReadsAs}
+use Rattle.raw_tree.specs.FrameCount.{TellsFrames}
+use Rattle.raw_tree.specs.WithinLimits.{FirstFaultWithin, too_deep}
+use Rattle.raw_tree.specs.Reading.{Sort, as_document, as_array, StandsFor, ReadsUpTo, ReadsAs}
 use Rattle.raw_tree.specs.declared.levels.Contents.{Contents}
 use Rattle.raw_tree.specs.declared.levels.Contents.TheVariants as contents
 use Rattle.raw_tree.specs.declared.levels.Holder.{Holder}
@@ -73,6 +75,14 @@ Closes c t = (d : List ℕ) → ReadsAs (sort_of (holder_of c)) d (tree_of_conte
 -- the bytes that this holds are read as the contents
 abbrev pub AreRead : Holder → List ℕ → Contents → Type 0
 AreRead h b c = (holder_of c ≡ h) × ReadsAs (sort_of h) b (tree_of_contents c)
+
+-- and have at most so many levels
+abbrev pub AreReadUpTo : ℕ → Holder → List ℕ → Contents → Type 0
+AreReadUpTo levels h b c = (holder_of c ≡ h) × ReadsUpTo levels (sort_of h) b (tree_of_contents c)
+
+-- what an answer of reading b to a depth says of the frames that were counted, unless a level was too deep
+abbrev pub TellsFramesWithin : {X : Type 0} → ℕ → List ℕ → Result X Error → ℕ → Type 0
+TellsFramesWithin depth b result n = FirstFaultWithin depth b too_deep ⊎ TellsFrames b result n
 
 -- a count after a call for the next element: one more for an element, the same for a stop and for the end
 abbrev pub counted : ℕ → Option (Result RawElement Error) → ℕ

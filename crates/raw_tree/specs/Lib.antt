@@ -2,6 +2,7 @@ pub mod Encoding
 pub mod FrameCount
 pub mod Judging
 pub mod Levels
+pub mod WithinLimits
 pub mod Payload
 pub mod Reading
 pub mod Canonical

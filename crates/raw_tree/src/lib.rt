@@ -3,6 +3,7 @@
 
 mod judging;
 mod levels;
+mod limits;
 mod payload;
 mod put;
 mod reading;
@@ -11,6 +12,7 @@ mod total;
 mod writing;
 
 pub use levels::copied_pointer;
+pub use limits::{Limits, document_from_raw_within};
 pub use payload::{is_nul_free, is_value_nul_free, payload_len};
 pub use put::{put_element, set_len};
 pub use reading::{

@@ -5,7 +5,8 @@ ghost use Rattle.std.specs.Prelude.{◌≡◌, ◌≤◌, ◌-◌, ◌/◌, leng
 ghost use Rattle.bson_model.specs.Tree.{tree_of, tree_of_document, tree_of_list};
 ghost use Rattle.raw_tree.specs.CanonicalForm.{AllAreSpelledOneWay};
 ghost use Rattle.raw_tree.specs.FrameCount.{AllAreCountedOneWay, AllHaveOneFrameCount, TellsFrames};
-ghost use Rattle.raw_tree.specs.Levels.{AreRead};
+ghost use Rattle.raw_tree.specs.Levels.{AreRead, AreReadUpTo, TellsFramesWithin};
+ghost use Rattle.raw_tree.specs.WithinLimits.{TellsFirstFaultWithin};
 ghost use Rattle.raw_tree.specs.Reading.{as_array, as_document, AllAreReadOneWay, FrameStandsFor, IsFrameReadOneWay, IsValueReadOneWay, Reads, ReadsAs, StandsFor, TellsFirstFault, TellsFirstFaultOfFrame, TellsFirstFaultOfValue};
 ghost use Rattle.raw_view.specs.Document.{bytes_of};
 ghost use Rattle.raw_view.specs.ElementSteps.{frame_of};
@@ -14,17 +15,26 @@ ghost use Rattle.raw_view.specs.Value.{array_bytes_of, value_of};
 use crate::levels::{Contents, Holder, Nested, Opened, Waiting, begin, close, open, put};
 use crate::steps::Steps;
 use bson_model::{Bson, Document};
-use raw_view::{Error, RawArray, RawBsonRef, RawDocument, RawElement, Result};
+use raw_view::{Error, RawArray, RawBsonRef, RawDocument, RawElement, Reason, Result};
 use std::alloc::Global;
 
 /// What these bytes are read as. Those that are nested in them are read as a level of their own, whose result
-/// goes to the level that waits for it.
-fn read<'a>(alloc: Global, nested: Nested<'a>, steps: &mut Steps) -> Result<Contents<'a>>
+/// goes to the level that waits for it. A level deeper than `depth` isn't entered, and no memory is asked for it.
+pub(crate) fn read<'a>(
+    alloc: Global,
+    nested: Nested<'a>,
+    depth: usize,
+    steps: &mut Steps,
+) -> Result<Contents<'a>>
     requires fresh { steps.old ≡ 0 }
-    ensures tree { IfOk result (AreRead nested.entry.holder (bytes_of nested.entry.document)) }
-    ensures fault { IfErr result (TellsFirstFault (bytes_of nested.entry.document)) }
-    ensures count { TellsFrames (bytes_of nested.entry.document) result steps.new }
+    ensures tree { IfOk result
+        (AreReadUpTo depth nested.entry.holder (bytes_of nested.entry.document)) }
+    ensures fault { IfErr result (TellsFirstFaultWithin depth (bytes_of nested.entry.document)) }
+    ensures count { TellsFramesWithin depth (bytes_of nested.entry.document) result steps.new }
 {
+    let Some(most_waiting) = depth.checked_sub(1) else {
+        return Err(Error::malformed(Reason::TooDeep));
+    };
     let mut waiting: Vec<Waiting<'a>> = Vec::new(alloc);
     let mut level = begin(alloc, nested);
     'levels: loop {
@@ -35,6 +45,9 @@ fn read<'a>(alloc: Global, nested: Nested<'a>, steps: &mut Steps) -> Result<Cont
                 match open(alloc, value)? {
                     Opened::Whole(value) => (element.key(), value),
                     Opened::Nested(nested) => {
+                        if waiting.len() >= most_waiting {
+                            return Err(Error::malformed(Reason::TooDeep));
+                        }
                         let key = element.key();
                         if waiting.push(Waiting { level, key }).is_err() {
                             return Err(Error::out_of_memory());
@@ -57,6 +70,16 @@ fn read<'a>(alloc: Global, nested: Nested<'a>, steps: &mut Steps) -> Result<Cont
     }
 }
 
+/// What these bytes are read as, however deep they are: no document has so many levels as `usize::MAX`.
+fn read_all<'a>(alloc: Global, nested: Nested<'a>, steps: &mut Steps) -> Result<Contents<'a>>
+    requires fresh { steps.old ≡ 0 }
+    ensures tree { IfOk result (AreRead nested.entry.holder (bytes_of nested.entry.document)) }
+    ensures fault { IfErr result (TellsFirstFault (bytes_of nested.entry.document)) }
+    ensures count { TellsFrames (bytes_of nested.entry.document) result steps.new }
+{
+    read(alloc, nested, usize::MAX, steps)
+}
+
 fn read_list(alloc: Global, array: RawArray<'_>) -> Result<Vec<Bson>>
     ensures tree { IfOk result
         (λ list. ReadsAs as_array (array_bytes_of array.entry) (tree_of_list list.items)) }
@@ -66,7 +89,7 @@ fn read_list(alloc: Global, array: RawArray<'_>) -> Result<Vec<Bson>>
         document: array.as_doc(),
         holder: Holder::Array,
     };
-    match read(alloc, nested, &mut Steps::new())? {
+    match read_all(alloc, nested, &mut Steps::new())? {
         Contents::Array(list) => Ok(list),
         _ => unreachable!(),
     }
@@ -78,7 +101,7 @@ fn read_value(alloc: Global, value: RawBsonRef<'_>) -> Result<Bson>
 {
     match open(alloc, value)? {
         Opened::Whole(value) => Ok(value),
-        Opened::Nested(nested) => close(alloc, read(alloc, nested, &mut Steps::new())?),
+        Opened::Nested(nested) => close(alloc, read_all(alloc, nested, &mut Steps::new())?),
     }
 }
 
@@ -118,7 +141,7 @@ pub fn document_from_raw_counted(
         document,
         holder: Holder::Document,
     };
-    let tree = match read(alloc, nested, &mut steps) {
+    let tree = match read_all(alloc, nested, &mut steps) {
         Ok(Contents::Document(_, tree)) => Ok(tree),
         Ok(_) => unreachable!(),
         Err(error) => Err(error),

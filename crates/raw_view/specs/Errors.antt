@@ -32,16 +32,16 @@ pub record TellsRefusal (b : List ℕ) (e : Error) : Type 0 where
   pub reason : IsMalformed e.kind (Refuses b)
   pub key : key_of e ≡ None
 
--- a reason that reading has, and none of the two of writing
+-- a reason that reading has: none of the two of writing, and none of the two of limits
 abbrev pub IsReadingReason : Reason → Type 0
-IsReadingReason r = (r ≢ reason.InteriorNul) × (r ≢ reason.TooLong)
+IsReadingReason r = (r ≢ reason.InteriorNul) × (r ≢ reason.TooLong) × (r ≢ reason.TooManyBytes) × (r ≢ reason.TooDeep)
 
 -- a kind of error whose reason, if it has one, is one that reading has
 abbrev pub IsReadingKind : ErrorKind → Type 0
 IsReadingKind k = (r : Reason) → k ≡ kind.MalformedValue r → IsReadingReason r
 
 -- an error of this kind that carries this key says the fault with its key. For a fault that has a key,
--- it may say instead, without a key, that memory ran out. No reading fault has a reason of writing.
+-- it may say instead, without a key, that memory ran out. No reading fault has a reason of writing or of limits.
 abbrev pub Tells : ErrorKind → Option (List ℕ) → Fault → Option (List ℕ) → Type 0
 Tells (kind.MalformedValue r) carried fault key = (fault ≡ Malformed) × (carried ≡ key) × IsReadingReason r
 Tells (kind.Utf8EncodingError _) carried fault key = (fault ≡ Utf8) × (carried ≡ key)

@@ -57,6 +57,10 @@ pub enum Reason {
     InteriorNul,
     /// A document that is to be written would have over 2147483647 bytes.
     TooLong,
+    /// A document has more bytes than the caller allows.
+    TooManyBytes,
+    /// Documents, arrays and scopes stand deeper in one another than the caller allows.
+    TooDeep,
 }
 
 impl Reason {
@@ -84,6 +88,8 @@ impl Reason {
             Reason::CodeTooSmall => Some("code with scope length too small"),
             Reason::InteriorNul => Some("interior NUL"),
             Reason::TooLong => Some("document too long"),
+            Reason::TooManyBytes => Some("more bytes than allowed"),
+            Reason::TooDeep => Some("deeper than allowed"),
             _ => None,
         }
     }

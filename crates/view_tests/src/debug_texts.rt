@@ -135,6 +135,8 @@ const REASONS: &[(Reason, &str)] = &[
     (Reason::CodeTooSmall, "CodeTooSmall"),
     (Reason::InteriorNul, "InteriorNul"),
     (Reason::TooLong, "TooLong"),
+    (Reason::TooManyBytes, "TooManyBytes"),
+    (Reason::TooDeep, "TooDeep"),
 ];
 
 #[test]

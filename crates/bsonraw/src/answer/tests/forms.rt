@@ -58,8 +58,9 @@ fn levels(alloc: Global, count: u32) -> Result<String, AllocError> {
     let mut text = String::new(alloc);
     for level in (1..count).rev() {
         let len = level.saturating_mul(7).saturating_add(5);
-        let [low, high, ..] = len.to_le_bytes();
-        write!(text, "{low:02x}{high:02x}00000300")?;
+        let header = hex::encode(alloc, len.to_le_bytes())?;
+        text.push_str(&header)?;
+        text.push_str("0300")?;
     }
     text.push_str("0500000000")?;
     for _ in 1..count {
@@ -74,5 +75,13 @@ fn five_hundred_levels_come_back(rt: HostRuntime) -> Result<(), Fail> {
     let text = levels(rt.alloc(), 500)?;
     assert!(rt; text.starts_with("aa0d00000300"));
     assert_answer(&rt, rt.alloc(), "canon", &text, 0, &text);
+    Ok(())
+}
+
+#[test]
+fn five_hundred_and_one_levels_are_refused(rt: HostRuntime) -> Result<(), Fail> {
+    let text = levels(rt.alloc(), 501)?;
+    assert!(rt; text.starts_with("b10d00000300"));
+    assert_answer(&rt, rt.alloc(), "canon", &text, 1, "refused 7\n");
     Ok(())
 }

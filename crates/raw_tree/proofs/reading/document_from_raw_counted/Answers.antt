@@ -20,4 +20,4 @@ pub returns-clause-one_count : goal.returns-clause-one_count
 returns-clause-one_count c = counted_one_way
 
 pub returns-clause-bound : goal.returns-clause-bound
-returns-clause-bound c = omega (arith, tells_small (bytes_of c.args.document) c.read.result c.read.new.steps c.read.ensures.count)
+returns-clause-bound c = omega (arith, tells_small (bytes_of c.args.document) c.read_all.result c.read_all.new.steps c.read_all.ensures.count)

@@ -1,0 +1,75 @@
+#!/bin/sh
+# Documents of very many levels, each but the innermost holding the next under the empty key: what the program prints of
+# them on a stack of 8 MB, and that canon asks for as much memory for 2,000,000 levels as for 501, beside what list asks
+# for to read the text. It takes the program as it was built last, by bin/test or by `rt run`.
+set -u
+cd "$(dirname "$(realpath "$0")")/.." || exit 1
+program=crates/bsonraw/out/bsonraw
+if [ ! -x "$program" ]; then
+    echo "deep: $program isn't built" >&2
+    exit 1
+fi
+ulimit -s 8192 || exit 1
+ulimit -c 0 # a program that fills its stack is killed, and leaves no core file
+work=$(mktemp -d) || exit 1
+trap 'rm -rf "$work"' EXIT
+kit=$(dirname "$(rt doc)")
+"$kit/toolchain/bin/clang" -shared -fPIC -O1 -nostdlib -fuse-ld=lld -o "$work/count.so" checks/refuse.c || exit 1
+failed=0
+
+# levels N: the document in hex. A level has a header, a tag and an empty key, seven bytes with its final 0; the
+# innermost has five.
+levels() {
+    awk -v n="$1" 'BEGIN {
+        for (inside = n - 1; inside >= 0; inside--) {
+            size = 5 + 7 * inside
+            printf "%02x%02x%02x%02x", size % 256, int(size / 256) % 256, int(size / 65536) % 256, int(size / 16777216)
+            printf inside ? "0300" : "00"
+        }
+        for (inside = 1; inside < n; inside++) printf "00"
+    }' >"$work/text"
+}
+
+# prints COMMAND STATUS LINE..: the program's answer to the document, and how often it asked for memory, in $requests
+prints() {
+    command=$1
+    shift
+    {
+        echo "status $1"
+        shift
+        printf '%s\n' "$@"
+    } >"$work/wanted"
+    LD_PRELOAD=$work/count.so "$program" "$command" <"$work/text" 3>"$work/requests" >"$work/said"
+    {
+        echo "status $?"
+        cat "$work/said"
+    } >"$work/output"
+    requests=$(cat "$work/requests")
+    diff "$work/wanted" "$work/output" >"$work/difference" && return
+    echo "deep: $command of $n levels:" >&2
+    head -c 300 "$work/difference" >&2
+    failed=1
+}
+
+# converts N LENGTH: the first element has a payload of this length; canon refuses the depth, with so many requests more
+# than list makes, in $more
+converts() {
+    n=$1
+    levels "$n"
+    prints list 0 "03 - $2" end
+    listed=$requests
+    prints canon 1 "refused 7"
+    more=$((requests - listed))
+}
+
+converts 501 3498
+few=$more
+converts 2000000 13999991
+if [ "$more" -gt "$few" ]; then
+    echo "deep: canon asks $more times more than list for 2000000 levels, and $few times for 501" >&2
+    failed=1
+fi
+n=2400000
+levels "$n"
+prints canon 1 "refused 6"
+exit "$failed"

@@ -1,0 +1,57 @@
+//! Trees of documents from outside, which cost no more than the caller allows.
+#![tactic(auto)]
+
+ghost use Rattle.std.specs.Prelude.{◌≡◌, IfOk, IfErr};
+ghost use Rattle.bson_model.specs.Tree.{tree_of_document};
+ghost use Rattle.raw_tree.specs.CanonicalForm.{AllAreSpelledOneWay};
+ghost use Rattle.raw_tree.specs.WithinLimits.{AllAreAnsweredOneWay, AllHaveOneDepth, ReadsWithin, TellsFirstBarrier};
+ghost use Rattle.raw_tree.specs.Reading.{as_document};
+ghost use Rattle.raw_view.specs.Document.{bytes_of};
+
+use crate::levels::{Contents, Holder, Nested};
+use crate::reading::read;
+use crate::steps::Steps;
+use bson_model::Document;
+use raw_view::{Error, RawDocument, Reason, Result};
+use std::alloc::Global;
+
+/// What a document from outside may cost: so many bytes at most, and so many levels. The document is the first
+/// level; a document, an array or a scope that stands in a level is one deeper.
+#[derive(Clone, Copy, Debug, PartialEq, Eq)]
+pub struct Limits {
+    /// how many bytes it may have
+    pub bytes: usize,
+    /// how many levels it may have
+    pub depth: usize,
+}
+
+/// The tree of a document that keeps to these limits. It refuses one of more bytes as too many, before anything
+/// is read; else it answers the first, depth first in byte order, of a fault at any level, with the key that this
+/// fault itself carries, and of the entry into a level that is too deep, which has no key; or memory runs out. No
+/// level that is too deep is entered, and no memory is asked for one. Every document is read as no more than one
+/// tree within the limits, and either that or it is refused for one reason. Its tree is written back as its own
+/// bytes exactly where it is canonical. BSON 1.1, `document`.
+pub fn document_from_raw_within(
+    alloc: Global,
+    document: RawDocument<'_>,
+    limits: Limits,
+) -> Result<Document>
+    ensures tree { IfOk result
+        (λ d. ReadsWithin limits (bytes_of document.entry) (tree_of_document d)) }
+    ensures fault { IfErr result (TellsFirstBarrier limits (bytes_of document.entry)) }
+    ensures one_answer { AllAreAnsweredOneWay limits }
+    ensures one_spelling { AllAreSpelledOneWay as_document }
+    ensures one_depth { AllHaveOneDepth }
+{
+    if document.as_bytes().len() > limits.bytes {
+        return Err(Error::malformed(Reason::TooManyBytes));
+    }
+    let nested = Nested {
+        document,
+        holder: Holder::Document,
+    };
+    match read(alloc, nested, limits.depth, &mut Steps::new())? {
+        Contents::Document(_, tree) => Ok(tree),
+        _ => unreachable!(),
+    }
+}
