@@ -5,7 +5,7 @@
 # of the file a case (checks/must-not-compile.txt says how they are written). A misuse fails for just the error that its
 # case names, so for the reason that it is meant to. And what a page shows of a definition is what stands in `specs/`.
 #
-# For the first two a crate of tests that lists `raw_bson`, made in a copy of the tracked files, is compiled: once with
+# For the first two a crate of tests that lists `raw_bson` and `raw_shelf`, made in a copy of the tracked files, is compiled: once with
 # all that has to compile, and once with all misuses.
 set -u
 list=$(realpath "$1")
@@ -15,7 +15,7 @@ trap 'rm -rf "$work"' EXIT
 crate=$work/copy/crates/shown
 mkdir -p "$crate" || exit 1
 git ls-files -z crates crates.txt HANDLES | xargs -0 cp --parents -t "$work/copy" || exit 1
-echo "shown: raw_bson" >>"$work/copy/crates.txt"
+echo "shown: raw_bson raw_shelf" >>"$work/copy/crates.txt"
 pages='README.md CONTRIBUTING.md docs/*.md examples/*.md'
 sed '/^#/d; /^$/d' "$list" >"$work/cases"
 count=$(wc -l <"$work/cases")

@@ -1,7 +1,7 @@
 #!/bin/sh
 # Documents of very many levels, each but the innermost holding the next under the empty key: what the program prints of
-# them on a stack of 8 MB, and that canon asks for as much memory for 2,000,000 levels as for 501, beside what list asks
-# for to read the text. It takes the program as it was built last, by bin/test or by `rt run`.
+# them on a stack of 8 MB, and that canon asks for memory no more often for 2,000,000 levels than for 501, beside what
+# list asks for to read the text. It takes the program as it was built last, by bin/test or by `rt run`.
 set -u
 cd "$(dirname "$(realpath "$0")")/.." || exit 1
 program=crates/bsonraw/out/bsonraw
@@ -69,6 +69,7 @@ if [ "$more" -gt "$few" ]; then
     echo "deep: canon asks $more times more than list for 2000000 levels, and $few times for 501" >&2
     failed=1
 fi
+prints check 0 canonical
 n=2400000
 levels "$n"
 prints canon 1 "refused 6"

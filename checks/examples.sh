@@ -1,6 +1,6 @@
 #!/bin/sh
-# What bsonraw prints of each document in examples/, by `list` and by `canon`, and its exit status, are those that lie
-# beside it, as is what it prints of the greeting given with blanks between the bytes.
+# What bsonraw prints of each document in examples/, by `list`, `canon` and `check`, and its exit status, are those that
+# lie beside it, as is what it prints of the greeting given with blanks between the bytes.
 #
 # examples.sh             runs the proved program
 # examples.sh --unproved  compiles the program once, without a proof, and runs it on each document; then the same for
@@ -25,7 +25,7 @@ add() {
 
 for document in examples/*.hex; do
     name=$(basename "$document" .hex)
-    for command in list canon; do
+    for command in list canon check; do
         add "$name-$command" "$command" "$document" "examples/$name.$command"
     done
 done

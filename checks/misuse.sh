@@ -37,5 +37,4 @@ refuses "a command in upper case" LIST
 refuses "the empty argument" ""
 refuses "an unknown command" show
 refuses "another two arguments" canon list
-refuses "check" check
 exit "$failed"

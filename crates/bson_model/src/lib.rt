@@ -18,7 +18,7 @@ pub use bson::{Bson, Document, JavaScriptCodeWithScope};
 pub use errors::NoMemory;
 pub use numbers::{Decimal128, DoubleBits};
 pub use object_id::{DbPointer, ObjectId};
-pub use regexes::Regex;
+pub use regexes::{Regex, do_options_ascend};
 pub use times::{DateTime, Timestamp};
 
 #[cfg(test)]

@@ -1,4 +1,4 @@
-ghost use Rattle.std.specs.Prelude.{◌≡◌, IsTrue, IfOk};
+ghost use Rattle.std.specs.Prelude.{◌≡◌, ◌↔◌, IsTrue, IfOk};
 ghost use Rattle.std.specs.String.{string_bytes};
 ghost use Rattle.bson_model.specs.Options.{sorted_options, OptionsAscend, OrdersOptions};
 
@@ -33,7 +33,7 @@ impl Regex {
 fn in_order(alloc: Global, options: &str) -> Result<String, NoMemory>
     ensures { IfOk result (λ text. string_bytes text ≡ sorted_options options.now) }
 {
-    if is_ascending(options) {
+    if do_options_ascend(options) {
         return Ok(String::from_str(alloc, options)?);
     }
     let mut chars: Vec<char> = options.chars().collect(alloc)?;
@@ -41,9 +41,9 @@ fn in_order(alloc: Global, options: &str) -> Result<String, NoMemory>
     Ok(chars.into_iter().collect(alloc)?)
 }
 
-/// Whether the characters of the options never descend.
-fn is_ascending(options: &str) -> bool
-    ensures { IsTrue result → OptionsAscend options.now }
+/// Whether the characters of a regular expression's options never descend, by their Unicode scalar values.
+pub fn do_options_ascend(options: &str) -> bool
+    ensures { IsTrue result ↔ OptionsAscend options.now }
 {
     options.chars().is_sorted()
 }

@@ -34,4 +34,6 @@ mod trees;
 #[cfg(test)]
 mod trees_fixtures;
 #[cfg(test)]
+mod validation;
+#[cfg(test)]
 mod values;

@@ -82,9 +82,13 @@ fn the_greeting_is_read_and_written(rt: HostRuntime) -> Result<(), Fail> {
 #[test]
 fn the_fault_of_an_element_is_answered(rt: HostRuntime) -> Result<(), Fail> {
     // bson_from_element
-    for element in document_of(rt.alloc(), BOOLEAN_TWO)?.iter_elements() {
-        let answer = bson_from_element(rt.alloc(), element?);
-        assert_fault(&rt, answer, Reason::BadBoolean(2), "a");
+    let buffer = document_of(rt.alloc(), BOOLEAN_TWO)?;
+    match buffer.iter_elements().next() {
+        Some(Ok(element)) => {
+            let answer = bson_from_element(rt.alloc(), element);
+            assert_fault(&rt, answer, Reason::BadBoolean(2), "a");
+        }
+        _ => assert!(rt; false),
     }
     Ok(())
 }

@@ -1,15 +1,20 @@
 -- What the program prints, and its exit status: a relation on a command and a text, through the bytes that the text
--- stands for, their envelope, their walk, and the tree that they are read as or their first fault.
+-- stands for, their envelope, their walk, the tree that they are read as or their first fault, and their first breach.
 use Rattle.std.specs.Prelude.{◌≡◌, ◌<◌, ◌≤◌, ℕ, ◌==◌, ◌||◌, Bool, not, List, [], ◌∷◌, ◌++◌, ◌⊎◌, length, drop, filter, codes, Option, None, Some, Result, Ok, Err}
 use Rattle.std.specs.Fmt.{decimal}
+use Rattle.std.specs.List.{join_by}
 use Rattle.hex.specs.Hex.{encode_lower, decode_of}
 use Rattle.hex.specs.declared.error.FromHexError.{FromHexError}
+use Rattle.raw_bson.specs.Breaches.{HasBreachAs, cause_text}
+use Rattle.raw_bson.specs.Canonical.{IsCanonical}
+use Rattle.raw_bson.specs.Cause.{Cause}
 use Rattle.raw_bson.specs.Encoding.{encoding, encoded_len}
 use Rattle.raw_bson.specs.Envelope.{IsEnvelope, Refuses}
 use Rattle.raw_bson.specs.Frame.{Frame, Fault, Malformed, Utf8, End, Done, Stopped, IsWalk}
 use Rattle.raw_bson.specs.Kind.{tag_of}
 use Rattle.raw_bson.specs.Limits.{Limits}
 use Rattle.raw_bson.specs.Number.{max_length}
+use Rattle.raw_bson.specs.Reading.{as_document}
 use Rattle.raw_bson.specs.Tree.{Tree}
 use Rattle.raw_bson.specs.WithinLimits.{Barrier, too_many_bytes, too_deep, fault_of, ReadsWithin, FirstBarrier}
 use Rattle.bsonraw.specs.declared.command.Command.{Command}
@@ -104,10 +109,25 @@ PrintsForm b status output =
     ⊎ ((t : Tree) × ReadsWithin form_limits b t × (max_length < encoded_len t) × (status ≡ 1) × (output ≡ codes "refused 5\n"))
     ⊎ ((x : Barrier) × FirstBarrier form_limits b x × (status ≡ 1) × (output ≡ barrier_line x))
 
+-- the numbers of a path, joined by dots
+abbrev pub path_text : List ℕ → List ℕ
+path_text path = join_by decimal (codes ".") path
+
+-- the line of a breach: why, and where
+abbrev pub breach_line : List ℕ → Cause → List ℕ
+breach_line path why = codes "breach " ++ cause_text why ++ codes " " ++ path_text path ++ codes "\n"
+
+-- whether a document is canonical, or its first breach
+abbrev pub PrintsBreach : List ℕ → ℕ → List ℕ → Type 0
+PrintsBreach b status output =
+    (IsCanonical b × (status ≡ 0) × (output ≡ codes "canonical\n"))
+    ⊎ ((path : List ℕ) × (why : Cause) × HasBreachAs as_document b path why × (status ≡ 1) × (output ≡ breach_line path why))
+
 -- what a command prints of a document
 abbrev pub PrintsDocument : Command → List ℕ → ℕ → List ℕ → Type 0
 PrintsDocument command.List b status output = PrintsWalk b status output
 PrintsDocument command.Canon b status output = PrintsForm b status output
+PrintsDocument command.Check b status output = PrintsBreach b status output
 
 -- of bytes: of a document, or why they are none
 abbrev pub PrintsBytes : Command → List ℕ → ℕ → List ℕ → Type 0
@@ -130,6 +150,7 @@ usage_line = codes "usage: bsonraw list|canon|check\n"
 abbrev pub name_of : Command → List ℕ
 name_of command.List = codes "list"
 name_of command.Canon = codes "canon"
+name_of command.Check = codes "check"
 
 -- the program has a command of this name
 abbrev pub IsCommand : List ℕ → Type 0

@@ -4,6 +4,7 @@ ghost use Rattle.bsonraw.specs.Print.{IsRefusal, LacksMemory, Prints, PrintsByte
 ghost use Rattle.bsonraw.specs.Status.{code_of};
 
 use crate::canon::canon_document;
+use crate::check::check_document;
 use crate::command::{Command, USAGE};
 use crate::digits::without_blanks;
 use crate::list::list_document;
@@ -60,6 +61,7 @@ fn of_bytes(alloc: Global, command: Command, bytes: &[u8]) -> Result<Printed, Al
         Ok(document) => match command {
             Command::List => list_document(alloc, document),
             Command::Canon => canon_document(alloc, document),
+            Command::Check => check_document(alloc, document),
         },
         Err(error) => match error.kind {
             ErrorKind::MalformedValue { reason } => refused(alloc, reason),

@@ -11,6 +11,8 @@ pub enum Command {
     List,
     /// the canonical form of a document
     Canon,
+    /// whether a document is canonical
+    Check,
 }
 
 impl Command {
@@ -22,6 +24,7 @@ impl Command {
         match name {
             "list" => Some(Command::List),
             "canon" => Some(Command::Canon),
+            "check" => Some(Command::Check),
             _ => None,
         }
     }

@@ -1,9 +1,10 @@
-//! Lists the elements of one raw BSON document, or writes it in its canonical form. The document is given as hex text
-//! on standard input.
+//! Lists the elements of one raw BSON document, writes it in its canonical form, or says whether it is canonical and
+//! where it isn't. The document is given as hex text on standard input.
 #![tactic(auto)]
 
 mod answer;
 mod canon;
+mod check;
 mod command;
 mod digits;
 mod fault;

@@ -26,6 +26,8 @@ mod requests;
 #[cfg(test)]
 mod trees;
 #[cfg(test)]
+mod validation;
+#[cfg(test)]
 mod views;
 #[cfg(test)]
 mod writing;

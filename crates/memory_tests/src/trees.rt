@@ -1,7 +1,8 @@
 use crate::asserts::{answered, is_document, is_list, is_want_of_memory};
 use raw_bson::{
-    Bson, Document, Error, RawBson, RawBsonRef, RawDocument, RawDocumentBuf, ToRawDocumentBuf,
-    bson_from_element, bson_from_raw, canonical_bytes, document_from_raw, encode, list_from_raw,
+    Bson, Document, Error, Limits, RawBson, RawBsonRef, RawDocument, RawDocumentBuf,
+    ToRawDocumentBuf, bson_from_element, bson_from_raw, canonical_bytes, document_from_raw,
+    document_from_raw_within, encode, list_from_raw,
 };
 use std::alloc::Global;
 use std::process::Abort;
@@ -76,6 +77,23 @@ fn trees_of_documents_or_want_of_memory(rt: HostRuntime) -> Result<(), Fail> {
         assert!(rt; is_tree(buffer.to_document()));
         assert!(rt; buffer.as_bytes() == OTHER_SPELLING);
         assert!(rt; is_tree(buffer.into_document()));
+    }
+    Ok(())
+}
+
+/// The bytes of that document, and its levels.
+const LIMITS: Limits = Limits {
+    bytes: 61,
+    depth: 2,
+};
+
+#[test]
+fn trees_within_limits_or_want_of_memory(rt: HostRuntime) -> Result<(), Fail> {
+    let view = RawDocument::from_bytes(OTHER_SPELLING)?;
+    assert!(rt; is_tree(document_from_raw_within(rt.alloc(), view, LIMITS)));
+    if let Some(buffer) = answered(&rt, view.to_raw_document_buf(rt.alloc())) {
+        assert!(rt; is_tree(buffer.to_document_within(LIMITS)));
+        assert!(rt; buffer.as_bytes() == OTHER_SPELLING);
     }
     Ok(())
 }

@@ -16,6 +16,7 @@ pub use Rattle.bson_model.specs.Proper
 pub use Rattle.bson_model.specs.Scalars
 pub use Rattle.bson_model.specs.Subtype
 pub use Rattle.bson_model.specs.Tree
+pub use Rattle.raw_tree.specs.Breaches
 pub use Rattle.raw_tree.specs.Canonical
 pub use Rattle.raw_tree.specs.CanonicalForm
 pub use Rattle.raw_tree.specs.Encoding
@@ -40,6 +41,8 @@ pub use Rattle.raw_view.specs.OneReading
 pub use Rattle.raw_view.specs.Typed
 pub use Rattle.raw_view.specs.Value
 -- types of the crates below that clauses speak of
+pub use Rattle.raw_tree.specs.declared.breach.Breach
+pub use Rattle.raw_tree.specs.declared.breach.Cause
 pub use Rattle.raw_tree.specs.declared.limits.Limits
 pub use Rattle.raw_view.specs.declared.element.RawElement
 pub use Rattle.raw_view.specs.declared.element_type.ElementType

@@ -26,8 +26,9 @@ pub use copies::{ToRawArrayBuf, ToRawBson, ToRawDocumentBuf};
 pub use cow::{CowRawArray, CowRawDocument};
 pub use document_buf::RawDocumentBuf;
 pub use raw_tree::{
-    Limits, Steps, bson_from_element, bson_from_raw, document_from_raw, document_from_raw_counted,
-    document_from_raw_within, encode, encode_list, list_from_raw, total_len,
+    Breach, Cause, Limits, Steps, bson_from_element, bson_from_raw, document_from_raw,
+    document_from_raw_counted, document_from_raw_within, encode, encode_list, list_from_raw,
+    total_len, validate,
 };
 pub use raw_view::{
     ElementType, Error, ErrorKind, Iter, RawArray, RawArrayIter, RawBinaryRef, RawBsonRef,

@@ -13,4 +13,7 @@ pub mod ReadTrees
 pub mod Spelled
 pub mod Returns
 pub mod Forms
+pub mod LevelKeys
+pub mod Judgement
+pub mod OneBreach
 pub mod Face

@@ -35,7 +35,7 @@ value_canonical_on N M on (raw.array d) h = on as_array d h
 value_canonical_on N M on (raw.scoped code d) h = on as_document d h
 
 -- so do the values of frames
-frames_canonical_on : (N M : Sort → List ℕ → Type 0) → ((sort : Sort) (b : List ℕ) → N sort b → M sort b) → (fs : List Frame) → AreFramesCanonical N fs → AreFramesCanonical M fs
+pub frames_canonical_on : (N M : Sort → List ℕ → Type 0) → ((sort : Sort) (b : List ℕ) → N sort b → M sort b) → (fs : List Frame) → AreFramesCanonical N fs → AreFramesCanonical M fs
 frames_canonical_on N M on [] h = h
 frames_canonical_on N M on (f ∷ fs) h = (h.0, h.1, value_canonical_on N M on h.0 h.2, frames_canonical_on N M on fs h.3)
 

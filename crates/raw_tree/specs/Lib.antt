@@ -4,6 +4,8 @@ pub mod Judging
 pub mod Levels
 pub mod WithinLimits
 pub mod Payload
+pub mod Validating
 pub mod Reading
+pub mod Breaches
 pub mod Canonical
 pub mod CanonicalForm

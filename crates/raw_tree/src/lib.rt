@@ -1,7 +1,9 @@
 //! Trees of BSON values from bytes, and the bytes that values and trees are written as.
 #![tactic(auto)]
 
+mod breach;
 mod judging;
+mod keys;
 mod levels;
 mod limits;
 mod payload;
@@ -9,8 +11,10 @@ mod put;
 mod reading;
 mod steps;
 mod total;
+mod validation;
 mod writing;
 
+pub use breach::{Breach, Cause};
 pub use levels::copied_pointer;
 pub use limits::{Limits, document_from_raw_within};
 pub use payload::{is_nul_free, is_value_nul_free, payload_len};
@@ -20,4 +24,5 @@ pub use reading::{
 };
 pub use steps::Steps;
 pub use total::total_len;
+pub use validation::validate;
 pub use writing::{encode, encode_list};

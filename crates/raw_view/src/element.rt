@@ -92,9 +92,10 @@ impl<'a> RawElement<'a> {
         }
     }
 
-    /// What the payload means; a fault borrows its key. Nothing is copied.
+    /// What the payload means, as `value` gives it, but a fault borrows its key: nothing is copied, and no memory is
+    /// taken.
     #[inline(always)]
-    pub(crate) fn resolve(self) -> std::result::Result<RawBsonRef<'a>, BorrowedError<'a>>
+    pub fn resolve(self) -> std::result::Result<RawBsonRef<'a>, BorrowedError<'a>>
         ensures value { IfOk result (λ v. Means (frame_of self.entry) (value (value_of v))) }
         ensures fault { IfErr result
             (λ e. (fault : KeyedFault)

@@ -227,11 +227,13 @@ impl Clone for Error {
     }
 }
 
-/// An error that borrows the key: what a step answers that copies nothing.
+/// An error that borrows the key: what a step answers that copies nothing. It is never want of memory.
 #[derive(Drop)]
-pub(crate) struct BorrowedError<'a> {
-    pub(crate) kind: ErrorKind,
-    pub(crate) key: Option<&'a str>,
+pub struct BorrowedError<'a> {
+    /// how the step failed
+    pub kind: ErrorKind,
+    /// the key of the element at which it failed, if the fault has one
+    pub key: Option<&'a str>,
     ghost reading: { IsReadingKind kind },
 }
 

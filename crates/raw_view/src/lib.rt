@@ -31,6 +31,7 @@ pub use bson_ref::{
 pub use document::RawDocument;
 pub use element::RawElement;
 pub use element_type::ElementType;
-pub use error::{Error, ErrorKind, Reason, Result};
+pub use elements::Elements;
+pub use error::{BorrowedError, Error, ErrorKind, Reason, Result};
 pub use hex_digits::HexDigits;
 pub use iter::{Iter, RawArrayIter, RawIter};

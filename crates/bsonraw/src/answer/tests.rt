@@ -2,6 +2,7 @@ use super::*;
 use crate::answer::tests::documents::GREETING;
 use std::process::Abort;
 
+mod breaches;
 mod damage;
 mod documents;
 mod forms;
@@ -54,7 +55,7 @@ const REFUSALS: &[Row] = &[
 
 #[test]
 fn refuses_what_is_no_document(rt: HostRuntime) {
-    for command in ["list", "canon"] {
+    for command in ["list", "canon", "check"] {
         assert_rows(&rt, rt.alloc(), command, REFUSALS);
     }
 }
@@ -73,7 +74,7 @@ fn reads_hex_in_either_case(rt: HostRuntime) {
 
 #[test]
 fn answers_unknown_commands(rt: HostRuntime) {
-    for command in ["show", "check", "LIST", "list ", "Canon", ""] {
+    for command in ["show", "checks", "LIST", "list ", "Canon", ""] {
         let usage = "usage: bsonraw list|canon|check\n";
         assert_answer(&rt, rt.alloc(), command, GREETING, 3, usage);
     }

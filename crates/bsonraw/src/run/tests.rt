@@ -7,6 +7,8 @@ const FORM: &[u8] = b"1300000002686900060000007927616c6c0000\n";
 
 const LISTING: &[u8] = b"02 6869 10\nend\n";
 
+const CANONICAL: &[u8] = b"canonical\n";
+
 const USAGE_LINE: &[u8] = b"usage: bsonraw list|canon|check\n";
 
 /// Gives one byte a read, and fails once so many reads were answered.
@@ -99,7 +101,7 @@ fn has_written<R: Read>(
 
 #[test]
 fn answers_what_it_reads(rt: HostRuntime) {
-    for (command, output) in [("list", LISTING), ("canon", FORM)] {
+    for (command, output) in [("list", LISTING), ("canon", FORM), ("check", CANONICAL)] {
         let mut reader: &[u8] = GREETING;
         assert!(rt;
             has_run(rt.alloc(), command, &mut reader, 0, output),

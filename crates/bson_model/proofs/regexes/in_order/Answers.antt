@@ -9,9 +9,9 @@ use Rattle.bson_model.proofs.Ascending.{ascending_unique}
 use Rattle.bson_model.proofs.OptionOrder.{sorted_options-same}
 use Rattle.bson_model.proofs.regexes.in_order.Goals as goal
 
-pub returns-then-is_ascending : goal.returns-then-is_ascending
-returns-then-is_ascending c =
-    c.in_ok-from_str.ensures.ok ∙ sym (sorted_options-same c.args.options.now c.utf8.options (c.if-is_ascending.ensures refl))
+pub returns-then-do_options_ascend : goal.returns-then-do_options_ascend
+returns-then-do_options_ascend c =
+    c.in_ok-from_str.ensures.ok ∙ sym (sorted_options-same c.args.options.now c.utf8.options (c.if-do_options_ascend.ensures.0 refl))
 
 pub returns : goal.returns
 returns c =

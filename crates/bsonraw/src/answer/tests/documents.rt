@@ -10,6 +10,12 @@ pub(super) const GREETING: &str = "13 00 00 00 02 68 69 00 06 00 00 00 79 27 61 
 /// A null whose key ends in the document's final 0.
 pub(super) const SWALLOWED_TERMINATOR: &str = "06 00 00 00 0A 00";
 
+/// The same as an array, with one more null pushed: the key is a line end and a 2.
+pub(super) const SWALLOWED_TERMINATOR_PUSHED: &str = "09 00 00 00 0A 0A 32 00 00";
+
+/// Under the key `a` a document whose last 0 is the key of a null.
+pub(super) const NESTED_STOP: &str = "0E 00 00 00 03 61 00 06 00 00 00 0A 00 00";
+
 /// An element of no kind, under the empty key.
 pub(super) const TAG_ZERO: &str = "06 00 00 00 00 00";
 

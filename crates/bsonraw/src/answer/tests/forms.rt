@@ -33,11 +33,7 @@ const FIRST_FAULTS: &[Row] = &[
     (SCOPE_WITH_A_WRONG_HEADER, 1, "fault malformed none\n"),
     (FAULT_UNDER_A_LATER_GOOD_KEY, 1, "fault malformed 61\n"),
     // a nested stop has its own key, here none
-    (
-        "0E 00 00 00 03 61 00 06 00 00 00 0A 00 00",
-        1,
-        "fault malformed none\n",
-    ),
+    (NESTED_STOP, 1, "fault malformed none\n"),
     // a user-defined subtype two is read as the old one, which has an inner length
     (
         "11 00 00 00 05 62 00 04 00 00 00 02 01 02 03 04 00",
@@ -54,7 +50,7 @@ fn tells_the_first_fault(rt: HostRuntime) {
 }
 
 /// The text of so many levels of documents, each but the innermost holding the next under the empty key.
-fn levels(alloc: Global, count: u32) -> Result<String, AllocError> {
+pub(super) fn levels(alloc: Global, count: u32) -> Result<String, AllocError> {
     let mut text = String::new(alloc);
     for level in (1..count).rev() {
         let len = level.saturating_mul(7).saturating_add(5);

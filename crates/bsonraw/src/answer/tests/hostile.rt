@@ -1,4 +1,5 @@
-//! Damaged documents: `list` against the slow lister, and `canon` against itself.
+//! Damaged documents: `list` against the slow lister, `canon` against itself, and `check` against `canon`. All are far
+//! within the limits of `canon`, so that it refuses none of them for a limit.
 
 use super::documents::{DOCUMENTS, bytes_of};
 use super::lister::{Listing, listing_of, refusal_of};
@@ -8,7 +9,7 @@ use std::process::Abort;
 use std::test::Fail;
 
 /// `list` prints of the bytes what the slow lister does; `canon` prints the same refusal, or a form of which it prints
-/// just that again, or a fault.
+/// just that again, or a fault; `check` prints the same refusal, or says whether `canon` prints the bytes as they are.
 pub(super) fn assert_answered(
     rt: &impl Abort,
     alloc: Global,
@@ -29,6 +30,7 @@ fn assert_text_answered(
 ) {
     assert!(rt; is_listed(alloc, text, listing), "list {text}");
     assert!(rt; is_canonized(alloc, text, refusal, listing), "canon {text}");
+    assert!(rt; is_checked(alloc, text, refusal), "check {text}");
 }
 
 fn is_listed(alloc: Global, text: &str, listing: &Listing) -> bool {
@@ -45,6 +47,23 @@ fn is_canonized(alloc: Global, text: &str, refusal: Option<&str>, listing: &List
         (0, None) => listing.status == 0 && is_form(alloc, &output),
         _ => false,
     }
+}
+
+/// A document is canonical exactly where `canon` prints it as it is, and has a breach elsewhere.
+fn is_checked(alloc: Global, text: &str, refusal: Option<&str>) -> bool {
+    let (status, output) = answer(alloc, "check", text.as_bytes());
+    match (status, refusal) {
+        (1, Some(refusal)) => output.as_slice() == refusal.as_bytes(),
+        (1, None) => output.starts_with(b"breach ") && !is_unchanged(alloc, text),
+        (0, None) => output.as_slice() == b"canonical\n".as_slice() && is_unchanged(alloc, text),
+        _ => false,
+    }
+}
+
+/// Whether `canon` prints these digits as they are, and a line end.
+fn is_unchanged(alloc: Global, digits: &str) -> bool {
+    let (status, output) = answer(alloc, "canon", digits.as_bytes());
+    status == 0 && output.strip_suffix(b"\n") == Some(digits.as_bytes())
 }
 
 /// Whether `canon` prints a form of the bytes.

@@ -117,7 +117,7 @@ const APPENDED: &[Row] = &[
     ),
     (DECLARED_LENGTH_THREE_APPENDED, 1, "fault malformed 61\n"),
     // a null pushed onto the swallowed terminator, the negative document length and the text that isn't UTF-8
-    ("09 00 00 00 0A 0A 32 00 00", 0, "0a 0a32 0\nend\n"),
+    (SWALLOWED_TERMINATOR_PUSHED, 0, "0a 0a32 0\nend\n"),
     (
         "0F 00 00 00 03 61 00 FF FF FF FF 0A 31 00 00",
         1,

@@ -19,6 +19,13 @@ const FORMS_AND_FAULTS: &[Row] = &[
     (NEGATIVE_DOCUMENT_LENGTH, 1, "fault malformed 61\n"),
 ];
 
+const BREACHES: &[Row] = &[
+    (GREETING, 0, "canonical\n"),
+    (REPEATED_KEY, 1, "breach repeated-key 1\n"),
+    // a breach in an inner level, for which the outer one waits
+    (ARRAY_WITH_AN_EMPTY_KEY, 1, "breach array-key 0.0\n"),
+];
+
 /// Whether the answer is the ample one, or status 4 and nothing.
 fn is_answer_or_nothing(
     alloc: Global,
@@ -44,6 +51,7 @@ fn assert_rows_or_nothing(rt: &impl Abort, alloc: Global, command: &str, rows: &
 fn answers_or_want_of_memory(rt: HostRuntime) {
     assert_rows_or_nothing(&rt, rt.alloc(), "list", LISTINGS);
     assert_rows_or_nothing(&rt, rt.alloc(), "canon", FORMS_AND_FAULTS);
+    assert_rows_or_nothing(&rt, rt.alloc(), "check", BREACHES);
     for (text, form) in FORMS {
         let is_answered = is_answer_or_nothing(rt.alloc(), "canon", text, 0, form);
         assert!(rt; is_answered, "canon {text}");

@@ -1,0 +1,404 @@
+use raw_bson::{Breach, Cause, RawDocument, validate};
+use std::alloc::{AllocError, Global};
+use std::process::Abort;
+use std::test::Fail;
+use test_fixtures::*;
+
+/// A document, the path to its first breach, and why it is one.
+type Row = (&'static [u8], &'static [usize], Cause);
+
+/// Breaches of the document itself, behind a null.
+const AT_THE_ROOT: &[Row] = &[
+    // an element of no kind
+    (b"\x0B\0\0\0\x0An\0\0b\0\0", &[1], Cause::Stop),
+    // a boolean of the byte 2
+    (b"\x0C\0\0\0\x0An\0\x08b\0\x02\0", &[1], Cause::Value),
+    (b"\x0B\0\0\0\x0An\0\x0An\0\0", &[1], Cause::RepeatedKey),
+    (b"\x10\0\0\0\x0An\0\x0Bb\0a\0mi\0\0", &[1], Cause::Options),
+];
+
+/// Breaches behind a null in an array, which stands behind a null.
+const IN_AN_ARRAY: &[Row] = &[
+    // an element of no kind, whose key is no number, too
+    (
+        b"\x16\0\0\0\x0An\0\x04l\0\x0B\0\0\0\x0A0\0\0x\0\0\0",
+        &[1, 1],
+        Cause::Stop,
+    ),
+    (
+        b"\x17\0\0\0\x0An\0\x04l\0\x0C\0\0\0\x0A0\0\x081\0\x02\0\0",
+        &[1, 1],
+        Cause::Value,
+    ),
+    // two nulls under one key, in a document that the array holds
+    (
+        b"\x21\0\0\0\x0An\0\x04l\0\x16\0\0\0\x0A0\0\x031\0\x0B\0\0\0\x0Aa\0\x0Aa\0\0\0\0",
+        &[1, 1, 1],
+        Cause::RepeatedKey,
+    ),
+    (
+        b"\x16\0\0\0\x0An\0\x04l\0\x0B\0\0\0\x0A0\0\x0A2\0\0\0",
+        &[1, 1],
+        Cause::ArrayKey,
+    ),
+    (
+        b"\x1B\0\0\0\x0An\0\x04l\0\x10\0\0\0\x0A0\0\x0B1\0a\0mi\0\0\0",
+        &[1, 1],
+        Cause::Options,
+    ),
+];
+
+/// Breaches behind a null in the scope of the empty code, which stands behind a null.
+const IN_A_SCOPE: &[Row] = &[
+    (
+        b"\x1F\0\0\0\x0An\0\x0Fc\0\x14\0\0\0\x01\0\0\0\0\x0B\0\0\0\x0Aa\0\0b\0\0\0",
+        &[1, 1],
+        Cause::Stop,
+    ),
+    (
+        b"\x20\0\0\0\x0An\0\x0Fc\0\x15\0\0\0\x01\0\0\0\0\x0C\0\0\0\x0Aa\0\x08b\0\x02\0\0",
+        &[1, 1],
+        Cause::Value,
+    ),
+    (
+        b"\x1F\0\0\0\x0An\0\x0Fc\0\x14\0\0\0\x01\0\0\0\0\x0B\0\0\0\x0Aa\0\x0Aa\0\0\0",
+        &[1, 1],
+        Cause::RepeatedKey,
+    ),
+    // a null under the key `1`, in an array that the scope holds
+    (
+        b"\x27\0\0\0\x0An\0\x0Fc\0\x1C\0\0\0\x01\0\0\0\0\x13\0\0\0\x0Aa\0\x04l\0\x08\0\0\0\x0A1\0\0\0\0",
+        &[1, 1, 0],
+        Cause::ArrayKey,
+    ),
+    (
+        b"\x24\0\0\0\x0An\0\x0Fc\0\x19\0\0\0\x01\0\0\0\0\x10\0\0\0\x0Aa\0\x0Bb\0a\0mi\0\0\0",
+        &[1, 1],
+        Cause::Options,
+    ),
+];
+
+/// Breaches behind a null in a document or an array, which stands behind a null in another document.
+const TWO_LEVELS_DOWN: &[Row] = &[
+    (
+        b"\x1E\0\0\0\x03d\0\x16\0\0\0\x0An\0\x03e\0\x0B\0\0\0\x0Aa\0\0b\0\0\0\0",
+        &[0, 1, 1],
+        Cause::Stop,
+    ),
+    (
+        b"\x1F\0\0\0\x03d\0\x17\0\0\0\x0An\0\x03e\0\x0C\0\0\0\x0Aa\0\x08b\0\x02\0\0\0",
+        &[0, 1, 1],
+        Cause::Value,
+    ),
+    (
+        b"\x1E\0\0\0\x03d\0\x16\0\0\0\x0An\0\x03e\0\x0B\0\0\0\x0Aa\0\x0Aa\0\0\0\0",
+        &[0, 1, 1],
+        Cause::RepeatedKey,
+    ),
+    // the key `0` twice: in an array it is the number that counts
+    (
+        b"\x1E\0\0\0\x03d\0\x16\0\0\0\x0An\0\x04e\0\x0B\0\0\0\x0A0\0\x0A0\0\0\0\0",
+        &[0, 1, 1],
+        Cause::ArrayKey,
+    ),
+    (
+        b"\x23\0\0\0\x03d\0\x1B\0\0\0\x0An\0\x03e\0\x10\0\0\0\x0Aa\0\x0Bb\0a\0mi\0\0\0\0",
+        &[0, 1, 1],
+        Cause::Options,
+    ),
+];
+
+/// Documents with more than one breach, or with levels before it.
+const FIRST_OF_TWO: &[Row] = &[
+    (REPEATED_KEY, &[1], Cause::RepeatedKey),
+    // a repeated key, over a document with a stop
+    (
+        b"\x11\0\0\0\x0Aa\0\x03a\0\x06\0\0\0\x0A\0\0",
+        &[1],
+        Cause::RepeatedKey,
+    ),
+    // a repeated key in a document, before a boolean of the byte 2
+    (
+        b"\x17\0\0\0\x03a\0\x0B\0\0\0\x0Ab\0\x0Ab\0\0\x08c\0\x02\0",
+        &[0, 1],
+        Cause::RepeatedKey,
+    ),
+    // an empty document, an empty array and an empty scope, before a repeated key
+    (
+        b"\x29\0\0\0\x03a\0\x05\0\0\0\0\x04b\0\x05\0\0\0\0\x0Fc\0\x0E\0\0\0\x01\0\0\0\0\x05\0\0\0\0\x0Aa\0\0",
+        &[3],
+        Cause::RepeatedKey,
+    ),
+    // a number of an array with a 0 before it
+    (
+        b"\x11\0\0\0\x04a\0\x09\0\0\0\x0A00\0\0\0",
+        &[0, 0],
+        Cause::ArrayKey,
+    ),
+    (
+        b"\x14\0\0\0\x04a\0\x0C\0\0\0\x0A0\0\x0A01\0\0\0",
+        &[0, 1],
+        Cause::ArrayKey,
+    ),
+];
+
+/// Documents that are canonical.
+const CANONICAL: &[&[u8]] = &[
+    EMPTY,
+    GREETING,
+    LEAST_CODE_WITH_SCOPE,
+    SWALLOWED_TERMINATOR_PUSHED,
+    ALL_KINDS,
+    // a key of the outer document in the inner one
+    b"\x10\0\0\0\x03a\0\x08\0\0\0\x0Aa\0\0\0",
+    // a key of the inner document in the outer one, behind it
+    b"\x13\0\0\0\x03a\0\x08\0\0\0\x0Ab\0\0\x0Ab\0\0",
+    // the same key in two documents
+    b"\x1B\0\0\0\x03a\0\x08\0\0\0\x0Ac\0\0\x03b\0\x08\0\0\0\x0Ac\0\0\0",
+];
+
+/// Where there is no breach wanted, the document is canonical; else its first breach is this one.
+fn assert_validated(
+    rt: &impl Abort,
+    alloc: Global,
+    bytes: &[u8],
+    wanted: Option<&Breach>,
+) -> Result<(), Fail> {
+    let found = validate(alloc, RawDocument::from_bytes(bytes)?)?;
+    assert_eq!(rt; found.as_ref(), wanted, "{bytes:?}");
+    Ok(())
+}
+
+fn breach(alloc: Global, path: &[usize], cause: Cause) -> Result<Breach, AllocError> {
+    let path = Vec::from_slice(alloc, path)?;
+    Ok(Breach { path, cause })
+}
+
+fn assert_rows(rt: &impl Abort, alloc: Global, rows: &[Row]) -> Result<(), Fail> {
+    for (bytes, path, cause) in rows {
+        let wanted = breach(alloc, path, *cause)?;
+        assert_validated(rt, alloc, bytes, Some(&wanted))?;
+    }
+    Ok(())
+}
+
+#[test]
+fn the_first_breach_is_told(rt: HostRuntime) -> Result<(), Fail> {
+    for rows in [
+        AT_THE_ROOT,
+        IN_AN_ARRAY,
+        IN_A_SCOPE,
+        TWO_LEVELS_DOWN,
+        FIRST_OF_TWO,
+    ] {
+        assert_rows(&rt, rt.alloc(), rows)?;
+    }
+    Ok(())
+}
+
+#[test]
+fn documents_are_canonical(rt: HostRuntime) -> Result<(), Fail> {
+    for bytes in CANONICAL {
+        assert_validated(&rt, rt.alloc(), bytes, None)?;
+    }
+    Ok(())
+}
+
+/// Thirty-two nulls, under the keys `00` to `31`.
+const THIRTY_TWO: &[u8] = b"\
+\x0A00\0\x0A01\0\x0A02\0\x0A03\0\x0A04\0\x0A05\0\x0A06\0\x0A07\0\
+\x0A08\0\x0A09\0\x0A10\0\x0A11\0\x0A12\0\x0A13\0\x0A14\0\x0A15\0\
+\x0A16\0\x0A17\0\x0A18\0\x0A19\0\x0A20\0\x0A21\0\x0A22\0\x0A23\0\
+\x0A24\0\x0A25\0\x0A26\0\x0A27\0\x0A28\0\x0A29\0\x0A30\0\x0A31\0";
+
+/// Eight more, under the keys `32` to `39`.
+const EIGHT: &[u8] = b"\x0A32\0\x0A33\0\x0A34\0\x0A35\0\x0A36\0\x0A37\0\x0A38\0\x0A39\0";
+
+/// Ten nulls, under the keys `0` to `9`.
+const TEN: &[u8] = b"\x0A0\0\x0A1\0\x0A2\0\x0A3\0\x0A4\0\x0A5\0\x0A6\0\x0A7\0\x0A8\0\x0A9\0";
+
+/// How a document of 165 bytes begins under the key `d`: it holds thirty-two nulls, eight more, and a 0.
+const FORTY_UNDER_D: &[u8] = b"\x03d\0\xA5\0\0\0";
+
+/// How an array of 43 bytes begins under the key `l`: it holds ten nulls, two more under keys of two digits, and a 0.
+const TWELVE_UNDER_L: &[u8] = b"\x04l\0\x2B\0\0\0";
+
+/// What stands between the header of a document and its final 0; the path to its first breach, and why it is one.
+type LongRow = (&'static [&'static [u8]], &'static [usize], Cause);
+
+/// Breaches behind many elements, or behind a level of many.
+const LONG_BREACHES: &[LongRow] = &[
+    // the key of the first element, and of the one before
+    (&[THIRTY_TWO, b"\x0A00\0"], &[32], Cause::RepeatedKey),
+    (&[THIRTY_TWO, b"\x0A31\0"], &[32], Cause::RepeatedKey),
+    (
+        &[THIRTY_TWO, b"\x0A32\0\x0A00\0"],
+        &[33],
+        Cause::RepeatedKey,
+    ),
+    (
+        &[THIRTY_TWO, b"\x0A32\0\x0A32\0"],
+        &[33],
+        Cause::RepeatedKey,
+    ),
+    (&[THIRTY_TWO, EIGHT, b"\x0A00\0"], &[40], Cause::RepeatedKey),
+    (&[THIRTY_TWO, EIGHT, b"\x0A39\0"], &[40], Cause::RepeatedKey),
+    // forty keys in a document of forty, and behind it a key of the outer document
+    (
+        &[
+            THIRTY_TWO,
+            EIGHT,
+            FORTY_UNDER_D,
+            THIRTY_TWO,
+            EIGHT,
+            b"\0",
+            b"\x0A00\0",
+        ],
+        &[41],
+        Cause::RepeatedKey,
+    ),
+    // forty keys and a repeated one, in a document of 169 bytes in one of forty
+    (
+        &[
+            THIRTY_TWO,
+            EIGHT,
+            b"\x03d\0\xA9\0\0\0",
+            THIRTY_TWO,
+            EIGHT,
+            b"\x0A00\0",
+            b"\0",
+        ],
+        &[40, 40],
+        Cause::RepeatedKey,
+    ),
+    // one key in a document of forty
+    (
+        &[
+            THIRTY_TWO,
+            EIGHT,
+            b"\x03d\0\x09\0\0\0\x0A00\0\0",
+            b"\x0A00\0",
+        ],
+        &[41],
+        Cause::RepeatedKey,
+    ),
+    // forty keys in a document of two
+    (
+        &[
+            b"\x0Aa\0",
+            FORTY_UNDER_D,
+            THIRTY_TWO,
+            EIGHT,
+            b"\0",
+            b"\x0Aa\0",
+        ],
+        &[2],
+        Cause::RepeatedKey,
+    ),
+    // thirty-two keys in a document of nine, 133 bytes
+    (
+        &[EIGHT, b"\x03d\0\x85\0\0\0", THIRTY_TWO, b"\0", b"\x0A32\0"],
+        &[9],
+        Cause::RepeatedKey,
+    ),
+    // an array of twelve elements, the last two exchanged
+    (
+        &[TWELVE_UNDER_L, TEN, b"\x0A11\0\x0A10\0", b"\0"],
+        &[0, 10],
+        Cause::ArrayKey,
+    ),
+];
+
+/// What stands between the header of a canonical document and its final 0.
+const LONG_CANONICAL: &[&[&[u8]]] = &[
+    &[THIRTY_TWO],
+    &[THIRTY_TWO, b"\x0A32\0"],
+    &[THIRTY_TWO, EIGHT],
+    &[
+        THIRTY_TWO,
+        EIGHT,
+        FORTY_UNDER_D,
+        THIRTY_TWO,
+        EIGHT,
+        b"\0",
+        b"\x0A40\0",
+    ],
+    // keys of the inner document behind it
+    &[
+        b"\x0Aa\0",
+        FORTY_UNDER_D,
+        THIRTY_TWO,
+        EIGHT,
+        b"\0",
+        THIRTY_TWO,
+        EIGHT,
+    ],
+    &[TWELVE_UNDER_L, TEN, b"\x0A10\0\x0A11\0", b"\0"],
+];
+
+/// Sets the header to the length.
+fn set_header(bytes: &mut [u8]) {
+    let len = bytes.len();
+    if let Some(header) = bytes.get_mut(..4) {
+        header.copy_from_slice(&len.to_le_bytes()[..4]);
+    }
+}
+
+/// The document of these elements.
+fn document_of_parts(alloc: Global, parts: &[&[u8]]) -> Result<Vec<u8>, AllocError> {
+    let mut bytes = Vec::from_slice(alloc, &[0; 4])?;
+    for part in parts {
+        bytes.extend_from_slice(part)?;
+    }
+    bytes.extend_from_slice(b"\0")?;
+    set_header(&mut bytes);
+    Ok(bytes)
+}
+
+/// The same of a document of these elements.
+fn assert_parts_validated(
+    rt: &impl Abort,
+    alloc: Global,
+    parts: &[&[u8]],
+    wanted: Option<&Breach>,
+) -> Result<(), Fail> {
+    let bytes = document_of_parts(alloc, parts)?;
+    assert_validated(rt, alloc, &bytes, wanted)
+}
+
+#[test]
+fn the_first_breach_of_many_elements_is_told(rt: HostRuntime) -> Result<(), Fail> {
+    for (parts, path, cause) in LONG_BREACHES {
+        let wanted = breach(rt.alloc(), path, *cause)?;
+        assert_parts_validated(&rt, rt.alloc(), parts, Some(&wanted))?;
+    }
+    Ok(())
+}
+
+#[test]
+fn documents_of_many_elements_are_canonical(rt: HostRuntime) -> Result<(), Fail> {
+    for parts in LONG_CANONICAL {
+        assert_parts_validated(&rt, rt.alloc(), parts, None)?;
+    }
+    Ok(())
+}
+
+/// The breach differs from one with another path and from one with another cause.
+fn assert_differs(rt: &impl Abort, alloc: Global, found: &Breach) -> Result<(), Fail> {
+    assert!(rt; *found != breach(alloc, &[1], Cause::RepeatedKey)?);
+    assert!(rt; *found != breach(alloc, &[1, 0], Cause::ArrayKey)?);
+    assert!(rt; *found == breach(alloc, &[1, 0], Cause::RepeatedKey)?);
+    Ok(())
+}
+
+#[test]
+fn breaches_are_compared_and_printed(rt: HostRuntime) -> Result<(), Fail> {
+    let found = breach(rt.alloc(), &[1, 0], Cause::RepeatedKey)?;
+    assert_differs(&rt, rt.alloc(), &found)?;
+    let text = format!(in rt.alloc(); "{found:?}")?;
+    assert_eq!(rt;
+        text.as_str(),
+        "Breach { path: [1, 0], cause: RepeatedKey }"
+    );
+    Ok(())
+}

@@ -1,0 +1,65 @@
+use crate::asserts::is_want_of_memory;
+use raw_bson::{Breach, Cause, RawDocument, validate};
+use std::test::Fail;
+use test_fixtures::*;
+
+// `bin/test` runs these with each request for memory refused in turn, alone: the answer is the one with ample memory,
+// or want of memory without a key.
+
+/// Whether the answer is this breach, or want of memory.
+fn is_breach(answer: raw_bson::Result<Option<Breach>>, path: &[usize], cause: Cause) -> bool {
+    match answer {
+        Ok(Some(breach)) => breach.path.as_slice() == path && breach.cause == cause,
+        Ok(None) => false,
+        Err(error) => is_want_of_memory(&error),
+    }
+}
+
+/// Whether the answer is that the document is canonical, or want of memory.
+fn is_canonical(answer: raw_bson::Result<Option<Breach>>) -> bool {
+    match answer {
+        Ok(found) => found.is_none(),
+        Err(error) => is_want_of_memory(&error),
+    }
+}
+
+#[test]
+fn a_repeated_key_or_want_of_memory(rt: HostRuntime) -> Result<(), Fail> {
+    let view = RawDocument::from_bytes(REPEATED_KEY)?;
+    assert!(rt; is_breach(validate(rt.alloc(), view), &[1], Cause::RepeatedKey));
+    Ok(())
+}
+
+#[test]
+fn an_array_with_an_empty_key_or_want_of_memory(rt: HostRuntime) -> Result<(), Fail> {
+    let view = RawDocument::from_bytes(ARRAY_WITH_AN_EMPTY_KEY)?;
+    assert!(rt; is_breach(validate(rt.alloc(), view), &[0, 0], Cause::ArrayKey));
+    Ok(())
+}
+
+/// Forty nulls, under the keys `00` to `39`, and one more under the key `40`.
+const DISTINCT_KEYS: &[u8] = b"\xA9\0\0\0\
+\x0A00\0\x0A01\0\x0A02\0\x0A03\0\x0A04\0\x0A05\0\x0A06\0\x0A07\0\x0A08\0\x0A09\0\
+\x0A10\0\x0A11\0\x0A12\0\x0A13\0\x0A14\0\x0A15\0\x0A16\0\x0A17\0\x0A18\0\x0A19\0\
+\x0A20\0\x0A21\0\x0A22\0\x0A23\0\x0A24\0\x0A25\0\x0A26\0\x0A27\0\x0A28\0\x0A29\0\
+\x0A30\0\x0A31\0\x0A32\0\x0A33\0\x0A34\0\x0A35\0\x0A36\0\x0A37\0\x0A38\0\x0A39\0\
+\x0A40\0\
+\0";
+
+/// The same, but that the last key is the first.
+const FIRST_KEY_LAST: &[u8] = b"\xA9\0\0\0\
+\x0A00\0\x0A01\0\x0A02\0\x0A03\0\x0A04\0\x0A05\0\x0A06\0\x0A07\0\x0A08\0\x0A09\0\
+\x0A10\0\x0A11\0\x0A12\0\x0A13\0\x0A14\0\x0A15\0\x0A16\0\x0A17\0\x0A18\0\x0A19\0\
+\x0A20\0\x0A21\0\x0A22\0\x0A23\0\x0A24\0\x0A25\0\x0A26\0\x0A27\0\x0A28\0\x0A29\0\
+\x0A30\0\x0A31\0\x0A32\0\x0A33\0\x0A34\0\x0A35\0\x0A36\0\x0A37\0\x0A38\0\x0A39\0\
+\x0A00\0\
+\0";
+
+#[test]
+fn many_keys_or_want_of_memory(rt: HostRuntime) -> Result<(), Fail> {
+    let distinct = RawDocument::from_bytes(DISTINCT_KEYS)?;
+    assert!(rt; is_canonical(validate(rt.alloc(), distinct)));
+    let repeated = RawDocument::from_bytes(FIRST_KEY_LAST)?;
+    assert!(rt; is_breach(validate(rt.alloc(), repeated), &[40], Cause::RepeatedKey));
+    Ok(())
+}

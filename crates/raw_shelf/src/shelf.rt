@@ -1,0 +1,87 @@
+ghost use Rattle.std.specs.Prelude.{◌≡◌, ◌↔◌, [], length, IsTrue, option_map, slice_get};
+ghost use Rattle.raw_bson.specs.Document.{bytes_of};
+ghost use Rattle.raw_shelf.specs.Shelves.{IsShelf, Puts, Stores, items};
+
+use crate::put_error::PutError;
+use indexmap::IndexSet;
+use raw_bson::{RawDocument, RawDocumentBuf, validate};
+use std::alloc::Global;
+use std::marker::Model;
+
+/// Canonical documents, each once, in the order in which they first came. A clause sees the list of their bytes.
+#[derive(Drop)]
+pub struct Shelf {
+    documents: IndexSet<Vec<u8>>,
+}
+
+impl Model for Shelf {
+    ghost use Rattle.std.specs.Prelude.{ℕ, List};
+    ghost use Rattle.raw_shelf.specs.Shelves.{IsShelf, items};
+
+    ghost Value = { List (List ℕ) };
+
+    ghost view = { λ s. items s.documents.keys };
+
+    ghost invariant = { λ s. IsShelf (items s.documents.keys) };
+}
+
+/// Puts bytes last, unless they are there: whether they weren't. The only error is want of memory.
+fn store(documents: &mut IndexSet<Vec<u8>>, bytes: Vec<u8>) -> Result<bool, PutError>
+    ensures { Stores (items documents.old.keys) bytes.items result (items documents.new.keys) }
+{
+    match documents.insert(bytes) {
+        Ok(is_new) => Ok(is_new),
+        Err(_) => Err(PutError::OutOfMemory),
+    }
+}
+
+impl Shelf {
+    /// A shelf without documents. It takes no memory.
+    pub fn new(alloc: Global) -> Shelf
+        ensures { result ≡ [] }
+    {
+        Shelf {
+            documents: IndexSet::new(alloc),
+        }
+    }
+
+    /// Puts a canonical document last, unless it is there: whether it wasn't. One that isn't canonical is refused with
+    /// its first breach. A refusal, for want of memory too, leaves the shelf as it was.
+    pub fn put(&mut self, document: RawDocumentBuf) -> Result<bool, PutError>
+        ensures { Puts self.old document result self.new }
+    {
+        let alloc = *self.documents.allocator();
+        match validate(alloc, document.as_ref()) {
+            Ok(None) => {}
+            Ok(Some(breach)) => return Err(PutError::Breach(breach)),
+            Err(_) => return Err(PutError::OutOfMemory),
+        }
+        store(&mut self.documents, document.into_bytes())
+    }
+
+    /// How many documents there are.
+    pub fn len(&self) -> usize
+        ensures len { result ≡ length self.now }
+        ensures shelf { IsShelf self.now }
+    {
+        self.documents.len()
+    }
+
+    /// Whether there are no documents.
+    pub fn is_empty(&self) -> bool
+        ensures { IsTrue result ↔ (self.now ≡ []) }
+    {
+        self.documents.is_empty()
+    }
+
+    /// A view of the document with this number, counted from 0 in the order in which they came.
+    pub fn at(&self, index: usize) -> Option<RawDocument<'_>>
+        ensures { option_map bytes_of result ≡ slice_get self.now index }
+    {
+        let bytes = self.documents.get_index(index)?;
+        match RawDocument::from_bytes(bytes) {
+            Ok(document) => Some(document),
+            Err(_) => unreachable!(),
+        }
+    }
+}
