@@ -1,4 +1,4 @@
-ghost use Rattle.std.specs.Prelude.{◌≡◌, length, IfOk};
+ghost use Rattle.std.specs.Prelude.{◌≡◌, length, IfOk, Some};
 ghost use Rattle.std.specs.String.{string_bytes};
 ghost use Rattle.hex.specs.Hex.{encode_lower};
 ghost use Rattle.bson_model.specs.Bytes.{AreBytesOf};
@@ -7,6 +7,7 @@ ghost use Rattle.bson_model.specs.Scalars.{bytes_of_object_id};
 use crate::errors::NoMemory;
 use crate::ranges::attest_bytes;
 use std::alloc::Global;
+use std::{fmt, str};
 
 /// Twelve bytes that name an object (BSON 1.1, element of type ObjectId).
 #[derive(Clone, Copy, Debug, PartialEq, Eq)]
@@ -38,6 +39,24 @@ impl ObjectId {
         ensures length { IfOk result (λ text. length (string_bytes text) ≡ 24) }
     {
         Ok(hex::encode(alloc, &self.bytes()[..])?)
+    }
+}
+
+/// Its bytes as 24 lower case hexadecimal digits, as `to_hex` has them; it takes no memory.
+impl fmt::Display for ObjectId {
+    ghost output = { λ id. Some (encode_lower (bytes_of_object_id id)) };
+
+    fn fmt<W: fmt::Write>(&self, f: &mut fmt::Formatter<W>) -> fmt::Result {
+        let id = *self;
+        let bytes = id.bytes();
+        let mut digits = [0u8; 24];
+        let Ok(()) = hex::encode_to_slice(&bytes[..], &mut digits) else {
+            unreachable!();
+        };
+        let Ok(text) = str::from_utf8(&digits) else {
+            unreachable!();
+        };
+        f.write_str(text)
     }
 }
 

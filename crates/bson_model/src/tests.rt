@@ -20,10 +20,12 @@ fn assert_debug<T: Debug>(
     Ok(())
 }
 
-// The object id has these hexadecimal digits.
+// The object id has these hexadecimal digits, and is printed as them.
 fn assert_hex(rt: &impl Abort, alloc: Global, id: ObjectId, digits: &str) -> Result<(), Fail> {
     let found = id.to_hex(alloc)?;
     assert_eq!(rt; found.as_str(), digits);
+    let printed = id.to_string(alloc)?;
+    assert_eq!(rt; printed.as_str(), digits);
     Ok(())
 }
 

@@ -121,3 +121,41 @@ fn push_onto_a_swallowed_terminator_in_a_value(rt: HostRuntime) -> Result<(), Fa
     assert_eq!(rt; format!(in rt.alloc(); "{value:?}")?.as_str(), text);
     Ok(())
 }
+
+/// The array has this count, a null as its first item, and no second one.
+fn assert_one_null(rt: &impl Abort, array: &RawArrayBuf, count: usize) {
+    assert_eq!(rt; array.count(), count);
+    assert!(rt; array.get(0) == Ok(Some(RawBsonRef::Null)));
+    assert!(rt; array.get(1) == Ok(None));
+}
+
+/// Onto damage a count isn't the number of items: the push ends the stop that was counted.
+#[test]
+fn a_count_is_told(rt: HostRuntime) -> Result<(), Fail> {
+    assert_eq!(rt; RawArrayBuf::new(rt.alloc())?.count(), 0);
+    let mut array = array_of(rt.alloc(), SWALLOWED_TERMINATOR)?;
+    assert_eq!(rt; array.count(), 2);
+    array.push(RawBson::Null)?;
+    assert_one_null(&rt, &array, 3);
+    Ok(())
+}
+
+/// Whether the key stands in a buffer of these bytes is answered as it is wanted.
+fn check_key(
+    alloc: Global,
+    bytes: &[u8],
+    key: &str,
+    want: Result<bool, Fault<'_>>,
+) -> Result<(), Fail> {
+    let document = document_of(alloc, bytes)?;
+    Checks::ample(alloc).has_key(document.contains_key(key), want, bytes)?;
+    Ok(())
+}
+
+#[test]
+fn a_key_stands_in_a_buffer_as_in_its_view(rt: HostRuntime) -> Result<(), Fail> {
+    for (bytes, key, want) in KEY_ANSWERS.iter() {
+        check_key(rt.alloc(), bytes, key, *want)?;
+    }
+    Ok(())
+}

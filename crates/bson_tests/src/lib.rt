@@ -4,6 +4,8 @@
 #![tactic(auto)]
 
 #[cfg(test)]
+mod any_errors;
+#[cfg(test)]
 mod arrays;
 #[cfg(test)]
 mod asserts;

@@ -97,6 +97,16 @@ fn look_ups_or_want_of_memory(rt: HostRuntime) -> Result<(), Fail> {
     Ok(())
 }
 
+#[test]
+fn keys_or_want_of_memory(rt: HostRuntime) -> Result<(), Fail> {
+    let checks = Checks::refusable(rt.alloc());
+    for (bytes, key, want) in KEY_ANSWERS.iter() {
+        let answer = RawDocument::from_bytes(bytes)?.contains_key(rt.alloc(), key);
+        checks.has_key(answer, *want, bytes)?;
+    }
+    Ok(())
+}
+
 /// Documents, each with the answer of its first element.
 const FIRST_VALUES: [(&[u8], Want<'static>); 3] = [
     (GREETING, Want::Value(RawBsonRef::String("y'all"))),

@@ -1,3 +1,4 @@
+pub mod AnyErrors
 pub mod Append
 pub mod Conversion
 pub mod Copies
@@ -41,9 +42,30 @@ pub use Rattle.raw_view.specs.OneReading
 pub use Rattle.raw_view.specs.Typed
 pub use Rattle.raw_view.specs.Value
 -- types of the crates below that clauses speak of
+pub use Rattle.bson_model.specs.declared.binaries.Binary
+pub use Rattle.bson_model.specs.declared.binaries.BinarySubtype
+pub use Rattle.bson_model.specs.declared.bson.Bson
+pub use Rattle.bson_model.specs.declared.bson.JavaScriptCodeWithScope
+pub use Rattle.bson_model.specs.declared.errors.NoMemory
+pub use Rattle.bson_model.specs.declared.numbers.Decimal128
+pub use Rattle.bson_model.specs.declared.numbers.DoubleBits
+pub use Rattle.bson_model.specs.declared.object_id.DbPointer
+pub use Rattle.bson_model.specs.declared.object_id.ObjectId
+pub use Rattle.bson_model.specs.declared.regexes.Regex
+pub use Rattle.bson_model.specs.declared.times.DateTime
+pub use Rattle.bson_model.specs.declared.times.Timestamp
 pub use Rattle.raw_tree.specs.declared.breach.Breach
 pub use Rattle.raw_tree.specs.declared.breach.Cause
 pub use Rattle.raw_tree.specs.declared.limits.Limits
+pub use Rattle.raw_view.specs.declared.access.ValueAccessError
+pub use Rattle.raw_view.specs.declared.access.ValueAccessErrorKind
+pub use Rattle.raw_view.specs.declared.array.RawArray
+pub use Rattle.raw_view.specs.declared.bson_ref.RawBinaryRef
+pub use Rattle.raw_view.specs.declared.bson_ref.RawBsonRef
+pub use Rattle.raw_view.specs.declared.bson_ref.RawDbPointerRef
+pub use Rattle.raw_view.specs.declared.bson_ref.RawJavaScriptCodeWithScopeRef
+pub use Rattle.raw_view.specs.declared.bson_ref.RawRegexRef
+pub use Rattle.raw_view.specs.declared.document.RawDocument
 pub use Rattle.raw_view.specs.declared.element.RawElement
 pub use Rattle.raw_view.specs.declared.element_type.ElementType
 pub use Rattle.raw_view.specs.declared.error.Error

@@ -83,6 +83,13 @@ impl RawArrayBuf {
         RawArray::from_doc(self.document.as_ref())
     }
 
+    /// The count under whose decimal the next value is pushed. Onto damage it isn't the number of items.
+    pub fn count(&self) -> usize
+        ensures { result ≡ self.now.count }
+    {
+        self.len
+    }
+
     /// Appends a value under the decimal of the count, and adds one to the count. It refuses what an append
     /// refuses, and then the bytes and the count are as they were. The value is dropped.
     #[inline(always)]

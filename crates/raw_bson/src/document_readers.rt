@@ -13,11 +13,11 @@ impl RawDocumentBuf {
     ghost use denote.Ref.{Bor};
     ghost use Rattle.std.specs.Iterator.{Drains};
     ghost use Rattle.raw_view.specs.Access.{GetsByKey};
-    ghost use Rattle.raw_view.specs.Answers.{StepsItems, TellsEach, TellsFound, TellsItem};
+    ghost use Rattle.raw_view.specs.Answers.{StepsItems, TellsEach, TellsFound, TellsItem, TellsKey};
     ghost use Rattle.raw_view.specs.ElementSteps.{StepsElement, ListsWalk};
     ghost use Rattle.raw_view.specs.Frame.{Frame, End};
     ghost use Rattle.raw_view.specs.Item.{Item, AreItems};
-    ghost use Rattle.raw_view.specs.LookUp.{LooksUp};
+    ghost use Rattle.raw_view.specs.LookUp.{FindsKey, KeyAnswer, LooksUp};
     ghost use Rattle.raw_view.specs.Meaning.{Meaning};
     ghost use Rattle.raw_view.specs.OneReading.{IsTheWalk};
     ghost use Rattle.raw_view.specs.Typed as typed;
@@ -65,6 +65,15 @@ impl RawDocumentBuf {
             × TellsFound result found }
     {
         self.as_ref().get(self.alloc(), key)
+    }
+
+    /// Whether an element with this key stands in the document. Where none does, the fault at which the
+    /// elements stop, if there is one, as `get` answers it. No value is looked into, and nothing behind the
+    /// element that is found.
+    pub fn contains_key(&self, key: &str) -> Result<bool>
+        ensures { (answer : KeyAnswer) × FindsKey self.now key.now answer × TellsKey result answer }
+    {
+        self.as_ref().contains_key(self.alloc(), key)
     }
 
     /// The 64 bits of a double under this key; else why there is none, with the key.

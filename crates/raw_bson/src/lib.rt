@@ -3,6 +3,7 @@
 #![tactic(auto)]
 
 mod accessors;
+mod any_error;
 mod appending;
 mod array_buf;
 mod bson;
@@ -15,6 +16,7 @@ mod document_readers;
 mod from;
 pub mod laws;
 
+pub use any_error::AnyError;
 pub use array_buf::RawArrayBuf;
 pub use bson::{RawBson, RawJavaScriptCodeWithScope};
 pub use bson_model::{

@@ -54,7 +54,7 @@ fn indexed<'a>(alloc: Global, keys: &[&'a str], last: &'a str) -> Result<Box<Ind
     ensures keys { IfOk result (λ set. texts set.value.keys ≡ texts keys.now ++ last.now ∷ []) }
     ensures err { IfErr result IsOutOfMemory }
 {
-    let mut set = IndexSet::with_capacity(alloc, 2 * MOST_LISTED)?;
+    let mut set = IndexSet::with_capacity(alloc, 2 * keys.len())?;
     for key in keys {
         insert(&mut set, *key)?;
     }

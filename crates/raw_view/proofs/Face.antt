@@ -14,3 +14,5 @@ pub use Rattle.raw_view.proofs.UniqueMeanings.{one_meaning}
 pub use Rattle.raw_view.proofs.Payloads.{counted_whole, document_framed}
 -- what is written by the format
 pub use Rattle.raw_view.proofs.Written.{length-framed, length-scoped_payload, AreBytes-leaf, AreBytes-scoped, AreBytes-framed, AreBytes-element, leaf_shape, declared_shape, framed_is_envelope, leaf_means, scoped_means}
+-- the document at the front of bytes
+pub use Rattle.raw_view.proofs.Headers.{first_four, header_of_front}

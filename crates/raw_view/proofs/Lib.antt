@@ -21,4 +21,5 @@ pub mod UniquePayloads
 pub mod Unique
 pub mod UniqueMeanings
 pub mod UniqueItems
+pub mod Headers
 pub mod Face

@@ -1,10 +1,10 @@
 -- The items of a document are determined, and what a look-up finds there.
-use Rattle.std.proofs.Common.{◌≡◌, ◌≢◌, ◌⊎◌, inl, inr, ℕ, suc, List, [], ◌∷◌, ◌+◌, ◌<◌, ◌≤◌, length, drop, ap, sym, ◌∙◌, subst, arith, Option, Some}
-use Rattle.raw_view.specs.Frame.{Frame, IsFrame, End, Done, Stopped, LeadsTo}
+use Rattle.std.proofs.Common.{refl, ◌≡◌, ◌≢◌, ◌⊎◌, inl, inr, ℕ, suc, List, [], ◌∷◌, ◌+◌, ◌<◌, ◌≤◌, length, drop, ap, sym, ◌∙◌, subst, arith, Option, Some}
+use Rattle.raw_view.specs.Frame.{Frame, IsFrame, End, Done, Stopped, IsWalk, LeadsTo}
 use Rattle.raw_view.specs.Meaning.{Meaning, Means}
 use Rattle.raw_view.specs.Item.{Item, ItemsOf, AreItems}
-use Rattle.raw_view.specs.LookUp.{FindsFrame, found_at_end, Finds, FindsNothing, HasThisKey, HasNoKey, LooksUp, IsAny, IsAt}
-use Rattle.raw_view.specs.OneReading.{AreTheItems, IsTheAnswer, IsTheAnswerAt}
+use Rattle.raw_view.specs.LookUp.{FindsFrame, found_at_end, Finds, FindsNothing, HasThisKey, HasNoKey, LooksUp, KeyAnswer, present, absent, FindsKey, IsAny, IsAt}
+use Rattle.raw_view.specs.OneReading.{AreTheItems, IsTheAnswer, IsTheKeyAnswer, IsTheAnswerAt}
 use Rattle.raw_view.proofs.Unique.{one_frame, one_end, one_walk, no_frame_at_end}
 use Rattle.raw_view.proofs.UniqueMeanings.{one_meaning}
 
@@ -61,6 +61,24 @@ one_found s key (f ∷ fs) (g ∷ gs) r q a c x y m n h k =
 pub one_look_up : (b key : List ℕ) (a c : Option Meaning) → LooksUp b key a → LooksUp b key c → a ≡ c
 one_look_up b key a c x y = one_found (drop 4 b) key x.0 y.0 x.1 y.1 a c x.2 y.2 x.3 y.3 x.4 y.4
 
+-- whether a key stands there
+
+-- no frame of a walk without the key has it
+no_such_frame : (s key : List ℕ) (fs gs : List Frame) (end : End) (r q : List ℕ) (g : Frame) → IsWalk s fs end → HasNoKey key fs → LeadsTo s gs r → IsFrame r g q → g.key ≢ key
+no_such_frame s key [] [] end r q g w none l b k = no_frame_at_end s end w g q (rw l b)
+no_such_frame s key [] (h ∷ gs) end r q g w none l b k = no_frame_at_end s end w h l.0 l.1
+no_such_frame s key (f ∷ fs) [] end r q g w none l b k = none.0 (ap (λ (x : Frame). x.key) (one_frame s f g w.0 q w.1 (rw l b)).0 ∙ k)
+no_such_frame s key (f ∷ fs) (h ∷ gs) end r q g w none l b k =
+    let same = one_frame s f h w.0 l.0 w.1 l.1 in
+    no_such_frame w.0 key fs gs end r q g w.2 none.1 (rw same.1 l.2) b k
+
+-- a document has a key or hasn't, and its walk has one end
+pub one_key_answer : (b key : List ℕ) (a c : KeyAnswer) → FindsKey b key a → FindsKey b key c → a ≡ c
+one_key_answer b key present present x y = refl
+one_key_answer b key present (absent end) x y = absurd (no_such_frame (drop 4 b) key y.0 x.0 end x.1 x.3 x.2 y.1 y.2 x.4 x.5 x.6)
+one_key_answer b key (absent end) present x y = absurd (no_such_frame (drop 4 b) key x.0 y.0 end y.1 y.3 y.2 x.1 x.2 y.4 y.5 y.6)
+one_key_answer b key (absent end) (absent last) x y = ap absent (one_walk (drop 4 b) x.0 y.0 end last x.1 y.1).1
+
 -- by position
 
 -- what is found at s behind so many frames
@@ -113,6 +131,9 @@ the_items b items a = (a, λ other o. one_items b other items o a)
 
 pub the_answer : (b key : List ℕ) (found : Option Meaning) → LooksUp b key found → IsTheAnswer b key found
 the_answer b key found a = (a, λ other o. one_look_up b key other found o a)
+
+pub the_key_answer : (b key : List ℕ) (answer : KeyAnswer) → FindsKey b key answer → IsTheKeyAnswer b key answer
+the_key_answer b key answer a = (a, λ other o. one_key_answer b key other answer o a)
 
 pub the_answer_at : (b : List ℕ) (index : ℕ) (found : Option Meaning) → IsAt b index found → IsTheAnswerAt b index found
 the_answer_at b index found a = (a, λ other o. one_at b index other found o a)

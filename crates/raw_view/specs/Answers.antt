@@ -1,12 +1,13 @@
 -- What calls answer, against what the definitions say.
-use Rattle.std.specs.Prelude.{◌≡◌, ◌⊎◌, ℕ, List, [], ◌∷◌, Option, None, Some, Result, Ok, Err}
+use Rattle.std.specs.Prelude.{◌≡◌, ◌⊎◌, ℕ, Bool, true, false, List, [], ◌∷◌, Option, None, Some, Result, Ok, Err}
 use denote.Ref.{Bor}
 use Rattle.raw_view.specs.declared.bson_ref.RawBsonRef.{RawBsonRef}
 use Rattle.raw_view.specs.declared.error.Error.{Error}
-use Rattle.raw_view.specs.Frame.{Frame, IsFrame, IsStop}
+use Rattle.raw_view.specs.Frame.{Frame, IsFrame, IsStop, Done, Stopped}
 use Rattle.raw_view.specs.Errors.{TellsFault}
 use Rattle.raw_view.specs.Meaning.{KeyedFault, Meaning, value, faulty, Means}
 use Rattle.raw_view.specs.Item.{Item, entry, stopped}
+use Rattle.raw_view.specs.LookUp.{KeyAnswer, present, absent}
 use Rattle.raw_view.specs.Value.{value_of}
 
 -- the error says the fault with its key; for a fault that has a key, it may say that memory ran out
@@ -27,6 +28,14 @@ TellsFound (Ok (Some v)) found = found ≡ Some (value (value_of v))
 TellsFound (Err e) None = ⊥
 TellsFound (Err e) (Some (value w)) = ⊥
 TellsFound (Err e) (Some (faulty fault)) = Says e fault
+
+-- whether a key stands there: it does; or it doesn't, and the walk ends at the final 0; or the stop
+abbrev pub TellsKey : Result Bool Error → KeyAnswer → Type 0
+TellsKey (Ok true) answer = answer ≡ present
+TellsKey (Ok false) answer = answer ≡ absent Done
+TellsKey (Err e) present = ⊥
+TellsKey (Err e) (absent Done) = ⊥
+TellsKey (Err e) (absent (Stopped fault key)) = TellsFault e fault key
 
 -- a key and its value, or the fault
 abbrev pub TellsItem : Result (Bor (List ℕ) × RawBsonRef) Error → Item → Type 0

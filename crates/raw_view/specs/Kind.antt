@@ -1,5 +1,5 @@
 -- The kinds of element and their tags. BSON 1.1, `element`.
-use Rattle.std.specs.Prelude.{ℕ}
+use Rattle.std.specs.Prelude.{ℕ, List, codes}
 use Rattle.bson_model.specs.Leaf.{Leaf, double, string, binary, undefined, object_id, boolean, date_time, null, regular_expression, db_pointer, javascript_code, symbol, int32, timestamp, int64, decimal128, max_key, min_key}
 use Rattle.raw_view.specs.declared.element_type.ElementType.{ElementType}
 use Rattle.raw_view.specs.declared.element_type.ElementType.TheVariants as kind
@@ -26,6 +26,30 @@ tag_of kind.Int64 = 0x12
 tag_of kind.Decimal128 = 0x13
 tag_of kind.MaxKey = 0x7F
 tag_of kind.MinKey = 0xFF
+
+-- the kind's name, as it is printed
+abbrev pub kind_text : ElementType → List ℕ
+kind_text kind.Double = codes "Double"
+kind_text kind.String = codes "String"
+kind_text kind.EmbeddedDocument = codes "EmbeddedDocument"
+kind_text kind.Array = codes "Array"
+kind_text kind.Binary = codes "Binary"
+kind_text kind.Undefined = codes "Undefined"
+kind_text kind.ObjectId = codes "ObjectId"
+kind_text kind.Boolean = codes "Boolean"
+kind_text kind.DateTime = codes "DateTime"
+kind_text kind.Null = codes "Null"
+kind_text kind.RegularExpression = codes "RegularExpression"
+kind_text kind.DbPointer = codes "DbPointer"
+kind_text kind.JavaScriptCode = codes "JavaScriptCode"
+kind_text kind.Symbol = codes "Symbol"
+kind_text kind.JavaScriptCodeWithScope = codes "JavaScriptCodeWithScope"
+kind_text kind.Int32 = codes "Int32"
+kind_text kind.Timestamp = codes "Timestamp"
+kind_text kind.Int64 = codes "Int64"
+kind_text kind.Decimal128 = codes "Decimal128"
+kind_text kind.MaxKey = codes "MaxKey"
+kind_text kind.MinKey = codes "MinKey"
 
 -- some payload of this kind means a fault and no value
 abbrev pub CanBeAtFault : ElementType → Type 0

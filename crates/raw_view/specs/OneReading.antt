@@ -3,7 +3,7 @@ use Rattle.std.specs.Prelude.{◌≡◌, ℕ, List, Option}
 use Rattle.raw_view.specs.Frame.{Frame, IsFrame, End, IsWalk}
 use Rattle.raw_view.specs.Meaning.{Meaning, Means}
 use Rattle.raw_view.specs.Item.{Item, AreItems}
-use Rattle.raw_view.specs.LookUp.{LooksUp, IsAt}
+use Rattle.raw_view.specs.LookUp.{LooksUp, KeyAnswer, FindsKey, IsAt}
 
 -- at most one first frame stands at the front of any byte list
 abbrev pub OneFirstFrame : Type 0
@@ -24,6 +24,10 @@ AreTheItems b items = AreItems b items × ((other : List Item) → AreItems b ot
 -- a look-up of the key in the document b finds this, and nothing else
 abbrev pub IsTheAnswer : List ℕ → List ℕ → Option Meaning → Type 0
 IsTheAnswer b key found = LooksUp b key found × ((other : Option Meaning) → LooksUp b key other → other ≡ found)
+
+-- this is whether the key stands in the document b, and nothing else is
+abbrev pub IsTheKeyAnswer : List ℕ → List ℕ → KeyAnswer → Type 0
+IsTheKeyAnswer b key answer = FindsKey b key answer × ((other : KeyAnswer) → FindsKey b key other → other ≡ answer)
 
 -- a look-up of the position in the document b finds this, and nothing else
 abbrev pub IsTheAnswerAt : List ℕ → ℕ → Option Meaning → Type 0

@@ -37,18 +37,18 @@ impl<'a> RawDocument<'a> {
     ghost use Rattle.std.specs.Prelude.{ℕ, List, Option, Result};
     ghost use denote.Ref.{Bor};
     ghost use Rattle.raw_view.specs.Access.{GetsByKey};
-    ghost use Rattle.raw_view.specs.Answers.{StepsItems, TellsEach, TellsFound, TellsItem};
+    ghost use Rattle.raw_view.specs.Answers.{StepsItems, TellsEach, TellsFound, TellsItem, TellsKey};
     ghost use Rattle.raw_view.specs.Typed as typed;
     ghost use Rattle.raw_view.specs.declared.element_type.ElementType.TheVariants as variants;
     ghost use Rattle.raw_view.specs.Item.{Item, AreItems};
-    ghost use Rattle.raw_view.specs.LookUp.{LooksUp};
+    ghost use Rattle.raw_view.specs.LookUp.{FindsKey, KeyAnswer, LooksUp};
     ghost use Rattle.raw_view.specs.Meaning.{Meaning};
     ghost use Rattle.raw_view.specs.declared.bson_ref.RawBsonRef.{RawBsonRef};
     ghost use Rattle.std.specs.Iterator.{Drains};
     ghost use Rattle.raw_view.specs.Document.{bytes_of};
     ghost use Rattle.raw_view.specs.ElementSteps.{StepsElement, ListsWalk};
     ghost use Rattle.raw_view.specs.Frame.{Frame, End};
-    ghost use Rattle.raw_view.specs.OneReading.{OneFirstFrame, IsTheWalk, AreTheItems, IsTheAnswer};
+    ghost use Rattle.raw_view.specs.OneReading.{OneFirstFrame, IsTheWalk, AreTheItems, IsTheAnswer, IsTheKeyAnswer};
     ghost use Rattle.raw_view.specs.declared.element.RawElement.{RawElement};
     ghost use Rattle.raw_view.specs.declared.error.Error.{Error};
 
@@ -148,6 +148,27 @@ impl<'a> RawDocument<'a> {
             }
         }
         Ok(None)
+    }
+
+    /// Whether an element with this key stands in the document. Where none does, the fault at which the
+    /// elements stop, if there is one, as `get` answers it. No value is looked into, and nothing behind the
+    /// element that is found. The bytes and the key alone determine the answer.
+    pub fn contains_key(self, alloc: Global, key: &str) -> Result<bool>
+        ensures found { (answer : KeyAnswer) × FindsKey (bytes_of self.entry) key.now answer
+            × TellsKey result answer }
+        ensures one_answer { (answer : KeyAnswer)
+            × IsTheKeyAnswer (bytes_of self.entry) key.now answer }
+    {
+        for step in Elements::new(self) {
+            let candidate = match step {
+                Ok(candidate) => candidate,
+                Err(stop) => return Err(stop.into_error(alloc)),
+            };
+            if has_key(candidate, key) {
+                return Ok(true);
+            }
+        }
+        Ok(false)
     }
 
     /// What a typed getter answers.

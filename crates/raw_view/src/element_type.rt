@@ -1,6 +1,8 @@
 ghost use Rattle.std.specs.Prelude.{◌≡◌, ◌≢◌, ◌↔◌, MatchOption, Some};
-ghost use Rattle.raw_view.specs.Kind.{tag_of};
+ghost use Rattle.raw_view.specs.Kind.{kind_text, tag_of};
 ghost use Rattle.raw_view.specs.declared.element_type.ElementType.{ElementType};
+
+use std::fmt;
 
 /// The kinds of element. BSON 1.1, `element`.
 #[derive(Clone, Copy, Debug, PartialEq, Eq)]
@@ -110,5 +112,36 @@ impl ElementType {
             ElementType::MaxKey => 0x7F,
             ElementType::MinKey => 0xFF,
         }
+    }
+}
+
+/// The kind's name, as access errors print it.
+impl fmt::Display for ElementType {
+    ghost output = { λ kind. Some (kind_text kind) };
+
+    fn fmt<W: fmt::Write>(&self, f: &mut fmt::Formatter<W>) -> fmt::Result {
+        f.write_str(match self {
+            ElementType::Double => "Double",
+            ElementType::String => "String",
+            ElementType::EmbeddedDocument => "EmbeddedDocument",
+            ElementType::Array => "Array",
+            ElementType::Binary => "Binary",
+            ElementType::Undefined => "Undefined",
+            ElementType::ObjectId => "ObjectId",
+            ElementType::Boolean => "Boolean",
+            ElementType::DateTime => "DateTime",
+            ElementType::Null => "Null",
+            ElementType::RegularExpression => "RegularExpression",
+            ElementType::DbPointer => "DbPointer",
+            ElementType::JavaScriptCode => "JavaScriptCode",
+            ElementType::Symbol => "Symbol",
+            ElementType::JavaScriptCodeWithScope => "JavaScriptCodeWithScope",
+            ElementType::Int32 => "Int32",
+            ElementType::Timestamp => "Timestamp",
+            ElementType::Int64 => "Int64",
+            ElementType::Decimal128 => "Decimal128",
+            ElementType::MaxKey => "MaxKey",
+            ElementType::MinKey => "MinKey",
+        })
     }
 }

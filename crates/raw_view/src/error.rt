@@ -3,7 +3,7 @@ ghost use Rattle.std.specs.Option.{option_copied};
 ghost use Rattle.raw_view.specs.Errors.{IsReadingKind, IsReadingReason};
 
 use bson_model::NoMemory;
-use std::alloc::{AllocError, Global};
+use std::alloc::{AllocError, AllocFailed, Global};
 use std::fmt;
 use std::str::Utf8Error;
 
@@ -318,6 +318,16 @@ impl From<NoMemory> for Error {
     ghost from_gives = { λ _ e. IsOutOfMemory e };
 
     fn from(_error: NoMemory) -> Error {
+        Error::out_of_memory()
+    }
+}
+
+impl<T: Drop> From<AllocFailed<T>> for Error {
+    ghost use Rattle.raw_view.specs.Errors.{IsOutOfMemory};
+
+    ghost from_gives = { λ _ e. IsOutOfMemory e };
+
+    fn from(_failed: AllocFailed<T>) -> Error {
         Error::out_of_memory()
     }
 }

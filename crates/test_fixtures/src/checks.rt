@@ -137,6 +137,23 @@ impl Checks {
         self.holds(is_wanted, &answer, &want, &bytes)
     }
 
+    /// Whether a key stands in these bytes is answered as it is wanted, or by want of memory for the key of the stop.
+    pub fn has_key(
+        self,
+        answer: raw_view::Result<bool>,
+        want: Result<bool, Fault<'_>>,
+        bytes: &[u8],
+    ) -> Result<(), Mismatch> {
+        let is_wanted = match (&answer, want) {
+            (Ok(found), Ok(want)) => *found == want,
+            (Err(error), Err(want)) => {
+                self.is_fault(error, want) || self.is_want_of_memory(error, want)
+            }
+            _ => false,
+        };
+        self.holds(is_wanted, &answer, &want, &bytes)
+    }
+
     /// Iteration over the document yields just these keys and answers, and iteration over its array just these answers.
     pub fn items(
         self,

@@ -7,6 +7,7 @@ mod checks;
 mod documents;
 mod faults;
 mod getters;
+mod keys;
 mod levels;
 mod values;
 
@@ -25,6 +26,7 @@ pub use faults::{
     PAST_END_AT_A, SCOPE_LENGTH, STRING_PAST_END_AT_A, TWO_AT_0, TWO_AT_A, ZERO_IS_NO_TAG,
 };
 pub use getters::{get_of_array, get_of_document, has_getter};
+pub use keys::KEY_ANSWERS;
 pub use levels::{Holder, has_levels, nested};
 pub use values::{
     HALF_MORE_THAN_ONE, KINDS, MOMENT, array_view, borrowed, decimal, has_accessor, id, pointed,

@@ -1,6 +1,6 @@
 use raw_view::{RawDocument, Reason};
 use std::test::Fail;
-use test_fixtures::{Checks, Fault, Want};
+use test_fixtures::{Checks, Fault, KEY_ANSWERS, Want};
 
 /// The greeting, whose text declares one byte more.
 const SEVEN_BYTES: &[u8] = b"\x13\0\0\0\x02hi\0\x07\0\0\0y'all\0\0";
@@ -48,6 +48,16 @@ fn damage_is_told_with_its_key(rt: HostRuntime) -> Result<(), Fail> {
     for (bytes, fault) in STOPS {
         let answer = RawDocument::from_bytes(bytes)?.get(rt.alloc(), "x");
         checks.answer(answer, Want::Fault(*fault), bytes)?;
+    }
+    Ok(())
+}
+
+#[test]
+fn a_key_stands_there_whatever_its_value(rt: HostRuntime) -> Result<(), Fail> {
+    let checks = Checks::ample(rt.alloc());
+    for (bytes, key, want) in KEY_ANSWERS.iter() {
+        let answer = RawDocument::from_bytes(bytes)?.contains_key(rt.alloc(), key);
+        checks.has_key(answer, *want, bytes)?;
     }
     Ok(())
 }

@@ -1,5 +1,5 @@
 use bson_model::NoMemory;
-use raw_view::{Error, ErrorKind, RawDocument, Reason};
+use raw_view::{ElementType, Error, ErrorKind, RawDocument, Reason};
 use std::alloc::{AllocError, Global};
 use std::process::Abort;
 use std::test::Fail;
@@ -41,6 +41,14 @@ fn assert_kind_text(rt: &impl Abort, alloc: Global, key: &str, name: &str) -> Re
         Ok(_) => assert!(rt; false, "{key}"),
         Err(error) => assert_text(rt, alloc, &error, text.as_str())?,
     }
+    Ok(())
+}
+
+/// The kind is printed by this name, and its `Debug` text is the same.
+fn assert_name(rt: &impl Abort, alloc: Global, kind: ElementType, name: &str) -> Result<(), Fail> {
+    let found = format!(in alloc; "{kind} {kind:?}")?;
+    let wanted = format!(in alloc; "{name} {name}")?;
+    assert_eq!(rt; found.as_str(), wanted.as_str());
     Ok(())
 }
 
@@ -113,36 +121,48 @@ fn an_index_is_printed_in_decimal(rt: HostRuntime) -> Result<(), Fail> {
     Ok(())
 }
 
-/// The key of each kind but the boolean in the document of all kinds, with the name of the kind.
-const NAMES: &[(&str, &str)] = &[
-    ("a", "Double"),
-    ("b", "String"),
-    ("c", "EmbeddedDocument"),
-    ("d", "Array"),
-    ("e", "Binary"),
-    ("f", "Undefined"),
-    ("g", "ObjectId"),
-    ("i", "DateTime"),
-    ("j", "Null"),
-    ("k", "RegularExpression"),
-    ("l", "DbPointer"),
-    ("m", "JavaScriptCode"),
-    ("n", "Symbol"),
-    ("o", "JavaScriptCodeWithScope"),
-    ("p", "Int32"),
-    ("q", "Timestamp"),
-    ("r", "Int64"),
-    ("s", "Decimal128"),
-    ("t", "MaxKey"),
-    ("u", "MinKey"),
+/// The key of each kind but the boolean in the document of all kinds, with the kind and its name.
+const NAMES: &[(&str, ElementType, &str)] = &[
+    ("a", ElementType::Double, "Double"),
+    ("b", ElementType::String, "String"),
+    ("c", ElementType::EmbeddedDocument, "EmbeddedDocument"),
+    ("d", ElementType::Array, "Array"),
+    ("e", ElementType::Binary, "Binary"),
+    ("f", ElementType::Undefined, "Undefined"),
+    ("g", ElementType::ObjectId, "ObjectId"),
+    ("i", ElementType::DateTime, "DateTime"),
+    ("j", ElementType::Null, "Null"),
+    ("k", ElementType::RegularExpression, "RegularExpression"),
+    ("l", ElementType::DbPointer, "DbPointer"),
+    ("m", ElementType::JavaScriptCode, "JavaScriptCode"),
+    ("n", ElementType::Symbol, "Symbol"),
+    (
+        "o",
+        ElementType::JavaScriptCodeWithScope,
+        "JavaScriptCodeWithScope",
+    ),
+    ("p", ElementType::Int32, "Int32"),
+    ("q", ElementType::Timestamp, "Timestamp"),
+    ("r", ElementType::Int64, "Int64"),
+    ("s", ElementType::Decimal128, "Decimal128"),
+    ("t", ElementType::MaxKey, "MaxKey"),
+    ("u", ElementType::MinKey, "MinKey"),
 ];
 
 #[test]
 fn every_kind_has_its_name_in_a_text(rt: HostRuntime) -> Result<(), Fail> {
-    for (key, name) in NAMES {
+    for (key, _, name) in NAMES {
         assert_kind_text(&rt, rt.alloc(), key, name)?;
     }
     Ok(())
+}
+
+#[test]
+fn every_kind_is_printed_by_its_name(rt: HostRuntime) -> Result<(), Fail> {
+    for (_, kind, name) in NAMES {
+        assert_name(&rt, rt.alloc(), *kind, name)?;
+    }
+    assert_name(&rt, rt.alloc(), ElementType::Boolean, "Boolean")
 }
 
 /// Whether the error says that no memory was left, and has no key.

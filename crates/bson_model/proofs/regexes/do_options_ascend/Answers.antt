@@ -32,13 +32,12 @@ unfolding YieldsRun
 returns c =
     let run = c.is_sorted.ensures.runs in
     let items = c.chars.ensures.runs run.0 run.0.seen in
-    let told = non_decreasing_from_is_sorted run.0.items c.is_sorted.result run.2.1.0 in
-    (
+    let told = non_decreasing_from_is_sorted run.0.items c.is_sorted.result run.2.1.0 in (
       λ t. (
-        let text = rw (run.1, c.chars.ensures.rest) at (items.1 (rw t at run.2).0) in
-        rw (← chars_from_encodes run.0.items c.args.options.now c.utf8.options text) (rw t at told)),
+          let text = rw (run.1, c.chars.ensures.rest) at (items.1 (rw t at run.2).0) in
+          rw (← chars_from_encodes run.0.items c.args.options.now c.utf8.options text) (rw t at told)),
       λ h. (
-        let spelled : encodes (chars c.args.options.now) ≡ run.0.from.rest.now = rw (run.1, c.chars.ensures.rest) (encodes-chars c.args.options.now c.utf8.options) in
-        let front = gave_front spells run.0.items (chars c.args.options.now) run.0.from run.0.gave.0.0 run.0.gave.0.1 (Chars-gives (chars c.args.options.now) run.0.from spelled) in
-        told_ascending run.0.items front.0 c.is_sorted.result told (subst IsNonDecreasing front.1 h)),
+          let spelled : encodes (chars c.args.options.now) ≡ run.0.from.rest.now = rw (run.1, c.chars.ensures.rest) (encodes-chars c.args.options.now c.utf8.options) in
+          let front = gave_front spells run.0.items (chars c.args.options.now) run.0.from run.0.gave.0.0 run.0.gave.0.1 (Chars-gives (chars c.args.options.now) run.0.from spelled) in
+          told_ascending run.0.items front.0 c.is_sorted.result told (subst IsNonDecreasing front.1 h)),
     )

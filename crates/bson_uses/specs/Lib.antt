@@ -1,0 +1,4 @@
+pub mod Dump
+pub mod Keeping
+pub mod Outside
+pub mod Path

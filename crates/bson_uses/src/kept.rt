@@ -1,0 +1,19 @@
+ghost use Rattle.std.specs.Prelude.{◌≡◌, IfOk, OnErr};
+ghost use Rattle.bson_uses.specs.Keeping.{IsKept};
+
+use raw_bson::{Error, RawDocumentBuf, Result, canonical_bytes};
+use raw_shelf::{PutError, Shelf};
+use std::alloc::Global;
+
+/// Keeps a document in its canonical form, unless a document of the same tree is there: whether none was.
+pub fn keep(alloc: Global, shelf: &mut Shelf, bytes: &[u8]) -> Result<bool>
+    ensures kept { IfOk result (λ is_new. IsKept shelf.old bytes.now is_new shelf.new) }
+    ensures left { OnErr result (shelf.new ≡ shelf.old) }
+{
+    let form = RawDocumentBuf::from_bytes(canonical_bytes(alloc, bytes)?)?;
+    match shelf.put(form) {
+        Ok(is_new) => Ok(is_new),
+        Err(PutError::OutOfMemory) => Err(Error::out_of_memory()),
+        Err(PutError::Breach(_)) => unreachable!(),
+    }
+}

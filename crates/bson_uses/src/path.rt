@@ -1,0 +1,30 @@
+ghost use Rattle.std.specs.Prelude.{Option};
+ghost use Rattle.raw_bson.specs.Answers.{TellsFound};
+ghost use Rattle.raw_bson.specs.Meaning.{Meaning};
+ghost use Rattle.raw_bson.specs.Value.{value_of};
+ghost use Rattle.bson_uses.specs.Path.{GoesDown, keys_of};
+
+use raw_bson::{RawBsonRef, Result};
+use std::alloc::Global;
+
+/// The value under these keys, one below the other; without a key it is this value itself. Below a value that is no
+/// document there is none.
+pub fn find_path<'a>(
+    alloc: Global,
+    here: RawBsonRef<'a>,
+    path: &[&str],
+) -> Result<Option<RawBsonRef<'a>>>
+    ensures { (found : Option Meaning) × GoesDown (value_of here.entry) (keys_of path.now) found
+        × TellsFound result found }
+{
+    let Some((key, keys)) = path.split_first() else {
+        return Ok(Some(here));
+    };
+    let RawBsonRef::Document(document) = here else {
+        return Ok(None);
+    };
+    match document.get(alloc, key)? {
+        Some(below) => find_path(alloc, below, keys),
+        None => Ok(None),
+    }
+}
