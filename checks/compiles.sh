@@ -5,8 +5,9 @@
 # of the file a case (checks/must-not-compile.txt says how they are written). A misuse fails for just the error that its
 # case names, so for the reason that it is meant to. And what a page shows of a definition is what stands in `specs/`.
 #
-# For the first two a crate of tests that lists `raw_bson` and `raw_shelf`, made in a copy of the tracked files, is compiled: once with
-# all that has to compile, and once with all misuses.
+# For the first two a crate of tests that lists `raw_bson` and `raw_shelf`, made in a copy of the tracked files, is
+# compiled: once with all that has to compile, and once with all misuses. A block that has a `main` is a program of its
+# own, which is run on the greeting, and the page says what it prints.
 set -u
 list=$(realpath "$1")
 cd "$(dirname "$(realpath "$0")")/.." || exit 1
@@ -15,13 +16,14 @@ trap 'rm -rf "$work"' EXIT
 crate=$work/copy/crates/shown
 mkdir -p "$crate" || exit 1
 git ls-files -z crates crates.txt HANDLES | xargs -0 cp --parents -t "$work/copy" || exit 1
-echo "shown: raw_bson raw_shelf" >>"$work/copy/crates.txt"
+mkdir -p "$work/copy/crates/reader/src" "$work/programs" || exit 1
+printf 'shown: raw_bson raw_shelf\nreader: raw_bson\n' >>"$work/copy/crates.txt"
 pages='README.md CONTRIBUTING.md docs/*.md examples/*.md'
 sed '/^#/d; /^$/d' "$list" >"$work/cases"
 count=$(wc -l <"$work/cases")
 failed=0
 
-# blocks FOLDER: writes each block of Rust of the pages into a file of its own
+# blocks FOLDER: writes each block of Rust of the pages into a file of its own; one with a main into a folder of its own
 blocks() {
     for page in $pages; do
         name=$(basename "$page" .md | tr '[:upper:]' '[:lower:]')
@@ -30,6 +32,10 @@ blocks() {
             /^```/ { file = ""; next }
             file { print > file }
         ' "$page"
+        for block in "$1/${name}_"*.rt; do
+            [ -e "$block" ] && grep -q '^fn main(' "$block" || continue
+            mkdir -p "$work/programs/$page" && mv "$block" "$work/programs/$page" || return 1
+        done
     done
 }
 
@@ -59,6 +65,23 @@ if ! compile blocks "snippets twin"; then
     failed=1
 fi
 echo "$(wc -l <"$work/modules") blocks and twins were compiled"
+
+# The programs that pages show, of which README has one.
+programs=0
+for page in $pages; do
+    for program in "$work/programs/$page"/*.rt; do
+        [ -e "$program" ] || continue
+        programs=$((programs + 1))
+        cp "$program" "$crate/../reader/src/main.rt" || exit 1
+        said=$(printf '\23\0\0\0\2hi\0\6\0\0\0y\47all\0\0' | (cd "$crate/../reader" && rt try) 2>"$work/said")
+        [ -n "$said" ] && grep -qF "prints \`$said\`" "$page" && continue
+        cat "$work/said" >&2
+        echo "$page: it doesn't say that its program prints this of the greeting: $said" >&2
+        failed=1
+    done
+done
+echo "$programs programs were run"
+[ "$programs" -gt 0 ] || failed=1
 
 if compile "snippets misuse" || [ "$(grep -c ': error' "$work/said")" != "$count" ]; then
     cat "$work/said" >&2

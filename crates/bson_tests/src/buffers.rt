@@ -1,8 +1,8 @@
 use crate::asserts::{assert_malformed, assert_one_pair, assert_pair, assert_refused, assert_text};
 use crate::fixtures::document_of;
 use raw_bson::{
-    Binary, BinarySubtype, ElementType, RawBson, RawBsonRef, RawDocumentBuf, RawElement,
-    RawRegexRef, Reason, Regex, total_len,
+    Binary, BinarySubtype, ElementType, RawBson, RawBsonRef, RawDocument, RawDocumentBuf,
+    RawElement, RawRegexRef, Reason, Regex, total_len,
 };
 use std::alloc::Global;
 use std::process::Abort;
@@ -264,5 +264,28 @@ fn from_an_iterator_with_a_bad_key(rt: HostRuntime) -> Result<(), Fail> {
     ];
     let answer = RawDocumentBuf::from_iter(rt.alloc(), pairs.into_iter());
     assert_refused(&rt, answer, Reason::InteriorNul);
+    Ok(())
+}
+
+/// Each element appended as it stands gives the document again.
+fn assert_copied(rt: &impl Abort, alloc: Global, bytes: &[u8]) -> Result<(), Fail> {
+    let mut copy = RawDocumentBuf::new(alloc)?;
+    for element in RawDocument::from_bytes(bytes)?.iter_elements(alloc) {
+        copy.append_element(element?)?;
+    }
+    assert_eq!(rt; copy.as_bytes(), bytes);
+    Ok(())
+}
+
+#[test]
+fn elements_appended_as_they_stand(rt: HostRuntime) -> Result<(), Fail> {
+    let alloc = rt.alloc();
+    // a boolean that is 2, and a number
+    assert_copied(&rt, alloc, b"\x10\0\0\0\x080\0\x02\x101\0\x07\0\0\0\0")?;
+    // codes with scope of declared length 3, which takes in the final 0, and 4
+    assert_copied(&rt, alloc, b"\x0B\0\0\0\x0Fa\0\x03\0\0\0")?;
+    assert_copied(&rt, alloc, b"\x0C\0\0\0\x0Fa\0\x04\0\0\0\0")?;
+    // options that don't ascend stay as they are
+    assert_copied(&rt, alloc, b"\x0C\0\0\0\x0B\0a\0mi\0\0")?;
     Ok(())
 }

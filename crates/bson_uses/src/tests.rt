@@ -1,4 +1,7 @@
-use crate::{MOST, are_equal, find_path, keep, normalised_twice, received, split_dump};
+use crate::{
+    MOST, are_equal, copy_without, count_nulls, find_path, keep, normalised_twice, received,
+    split_dump,
+};
 use raw_bson::{RawBson, RawBsonRef, RawDocument, RawDocumentBuf, Reason, Result};
 use raw_shelf::Shelf;
 use std::alloc::Global;
@@ -117,5 +120,45 @@ fn a_dump_is_cut_into_documents(rt: HostRuntime) -> std::result::Result<(), Fail
     assert!(rt; dump.error == Some(raw_bson::Error::malformed(Reason::TooShort)));
     let whole = split_dump(alloc, REPEATED_KEY)?;
     assert!(rt; whole.documents.len() == 1 && whole.rest.is_empty() && whole.error.is_none());
+    Ok(())
+}
+
+/// The boolean 2 under `0`, which means no value, and a number under `1`.
+const BOOLEAN_TWO: &[u8] = b"\x10\0\0\0\x080\0\x02\x101\0\x07\0\0\0\0";
+
+#[test]
+fn nulls_are_counted_up_to_a_fault(rt: HostRuntime) -> std::result::Result<(), Fail> {
+    let alloc = rt.alloc();
+    assert!(rt; count_nulls(alloc, b"\x0B\0\0\0\x0Aa\0\x0Ab\0\0")? == 2);
+    assert!(rt; count_nulls(alloc, NESTED)? == 0);
+    match count_nulls(alloc, BOOLEAN_TWO) {
+        Ok(_) => assert!(rt; false),
+        Err(error) => assert!(rt; error.key() == Some("0")),
+    }
+    Ok(())
+}
+
+/// What is left of the document without this key.
+fn assert_left(
+    rt: &impl Abort,
+    alloc: Global,
+    bytes: &[u8],
+    key: &str,
+    left: &[u8],
+) -> std::result::Result<(), Fail> {
+    let copy = copy_without(alloc, RawDocument::from_bytes(bytes)?, key)?;
+    assert!(rt; copy.as_bytes() == left);
+    Ok(())
+}
+
+#[test]
+fn a_copy_has_all_but_one_key(rt: HostRuntime) -> std::result::Result<(), Fail> {
+    let alloc = rt.alloc();
+    let around = b"\x1A\0\0\0\x10a\0\x01\0\0\0\x10b\0\x02\0\0\0\x10a\0\x03\0\0\0\0".as_slice();
+    let b_alone = b"\x0C\0\0\0\x10b\0\x02\0\0\0\0".as_slice();
+    assert_left(&rt, alloc, around, "a", b_alone)?;
+    assert_left(&rt, alloc, b_alone, "b", EMPTY_DOCUMENT)?;
+    assert_left(&rt, alloc, b_alone, "c", b_alone)?;
+    assert_left(&rt, alloc, BOOLEAN_TWO, "1", b"\x09\0\0\0\x080\0\x02\0")?;
     Ok(())
 }

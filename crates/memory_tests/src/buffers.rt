@@ -112,6 +112,26 @@ fn append_ref_or_want_of_memory(rt: HostRuntime) -> std::result::Result<(), Fail
     Ok(())
 }
 
+/// One number.
+const NUMBER: &[u8] = b"\x0C\0\0\0\x10b\0\x02\0\0\0\0";
+
+/// An element is appended as it stands, or memory was wanted and nothing changed; then it is appended when it is tried
+/// again.
+#[test]
+fn append_element_or_want_of_memory(rt: HostRuntime) -> std::result::Result<(), Fail> {
+    for element in RawDocument::from_bytes(NUMBER)?.iter_elements(rt.alloc()) {
+        let element = element?;
+        if let Some(mut document) = buffer(&rt, rt.alloc(), EMPTY)? {
+            if let Err(error) = document.append_element(element) {
+                assert!(rt; is_want_of_memory(&error) && document.as_bytes() == EMPTY);
+                document.append_element(element)?;
+            }
+            assert!(rt; document.as_bytes() == NUMBER);
+        }
+    }
+    Ok(())
+}
+
 /// Whether the error is that a 0 stands in the key.
 fn is_interior_nul(error: &Error) -> bool {
     *error

@@ -1,9 +1,13 @@
 -- Filling a buffer, one item after the other.
 use Rattle.std.proofs.Common.{◌≡◌, List, [], ◌∷◌, ◌++◌, Option, Some, None, Result, Ok, Err, refl, subst, inr}
-use Rattle.std.specs.Iterator.{Yields}
+use Rattle.std.specs.Iterator.{Yields, Drains}
 use Rattle.std.proofs.iter.Next.{Yields-more}
 use Rattle.raw_view.specs.declared.error.Error.{Error}
 use Rattle.raw_bson.specs.Fills.{TakesEach, Fills}
+
+-- all items came; the iterator's state was made from the one that was handed in
+pub drained : {A S : Type 0} (gives : S → Option A → S → Type 0) (start s last after : S) (xs : List A) → s ≡ start → Yields gives s xs last → gives last None after → Drains gives start xs
+drained gives start s last after xs from ran none = (after, (last, subst (λ q. Yields gives q xs last) from ran, none))
 
 module _ {X A : Type 0} (Takes : X → A → Result (Unit {0}) Error → X → Type 0) where
   -- one more item
@@ -11,9 +15,9 @@ module _ {X A : Type 0} (Takes : X → A → Result (Unit {0}) Error → X → T
   takes_more b [] mid x left h t = (left, subst (λ (y : X). Takes y x (Ok tt) left) h t, refl)
   takes_more b (y ∷ xs) mid x left h t = (h.0, h.1, takes_more h.0 xs mid x left h.2 t)
 
-  -- all items were taken; the iterator's state was made from the one that was handed in
+  -- all items were taken
   pub filled : {S : Type 0} (empty full : X) (gives : S → Option A → S → Type 0) (start s last after : S) (xs : List A) → s ≡ start → Yields gives s xs last → gives last None after → TakesEach Takes empty xs full → Fills Takes empty gives start (Ok full)
-  filled empty full gives start s last after xs from ran none taken = (xs, (after, (last, subst (λ q. Yields gives q xs last) from ran, none)), taken)
+  filled empty full gives start s last after xs from ran none taken = (xs, drained gives start s last after xs from ran none, taken)
 
   -- one more item came and was refused
   pub refused : {S : Type 0} (empty mid : X) (gives : S → Option A → S → Type 0) (start s last after : S) (xs : List A) (x : A) (e : Error) → s ≡ start → Yields gives s xs last → gives last (Some x) after → TakesEach Takes empty xs mid → Takes mid x (Err e) mid → Fills Takes empty gives start (Err e)

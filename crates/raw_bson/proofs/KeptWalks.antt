@@ -6,45 +6,54 @@ use Rattle.std.proofs.lemmas.Bool.{cases_lt}
 use Rattle.bson_model.specs.Bytes.{AreBytes}
 use Rattle.raw_view.specs.Envelope.{IsEnvelope}
 use Rattle.raw_view.specs.Format.{string_payload, inside_of}
-use Rattle.raw_view.specs.Frame.{HasDeclaredLength, HasShape, Frame, IsFrame, IsWalk, Done}
+use Rattle.raw_view.specs.Frame.{HasDeclaredLength, HasShape, Frame, IsFrame, IsWalk, Done, StandsAnywhere}
 use Rattle.raw_view.specs.Kind.{tag_of}
 use Rattle.raw_view.specs.Meaning.{RawValue, single, document, array, scoped, kind_of_raw}
 use Rattle.raw_view.specs.Number.{max_length, IsLe32, le32}
 use Rattle.raw_view.specs.declared.element_type.ElementType.{ElementType}
 use Rattle.raw_view.specs.declared.element_type.ElementType.TheVariants as kind
 use Rattle.raw_view.proofs.Face.{document_framed, the_walk, length-framed, leaf_shape, declared_shape, framed_is_envelope}
-use Rattle.raw_tree.specs.Payload.{payload_of, element_bytes, IsValueNulFree}
-use Rattle.raw_bson.specs.Append.{appended_bytes, IsNulFreeElement, HasRoom, value_frame, EndsInShortScope, KeepsWalk, IsRawInRange}
+use Rattle.raw_tree.specs.Payload.{payload_of, IsValueNulFree}
+use Rattle.raw_bson.specs.Append.{frame_bytes, appended_bytes, IsNulFreeElement, HasRoom, value_frame, EndsInShortScope, KeepsWalk, IsRawInRange}
 
 -- lengths
 
 -- the tag and the key's 0 are two
-pub length-element_bytes : (key : List ℕ) (v : RawValue) → length (element_bytes key v) ≡ length key + (2 + length (payload_of v))
-length-element_bytes key v = omega (arith, length-append key (0 ∷ payload_of v))
+pub length-frame_bytes : (f : Frame) → length (frame_bytes f) ≡ length f.key + (2 + length f.payload)
+length-frame_bytes f = omega (arith, length-append f.key (0 ∷ f.payload))
 
 -- all but five
 pub length-inside : (b : List ℕ) → 5 ≤ length b → length (inside_of b) ≡ length b - 5
 length-inside b five = length-take-le (length b - 5) (drop 4 b) (omega (arith, length-drop 4 b))
 
 -- the new element is added
-pub length-appended_bytes : (b key : List ℕ) (v : RawValue) → 5 ≤ length b → length (appended_bytes b key v) ≡ length b + (length key + (2 + length (payload_of v)))
-length-appended_bytes b key v five =
-    omega (arith, length-framed (inside_of b ++ element_bytes key v), length-append (inside_of b) (element_bytes key v), length-inside b five, length-element_bytes key v)
+pub length-appended_bytes : (b : List ℕ) (f : Frame) → 5 ≤ length b → length (appended_bytes b f) ≡ length b + (length f.key + (2 + length f.payload))
+length-appended_bytes b f five =
+    omega (arith, length-framed (inside_of b ++ frame_bytes f), length-append (inside_of b) (frame_bytes f), length-inside b five, length-frame_bytes f)
 
 -- the envelope
 
 -- a document with one element more has its envelope
-pub appended_is_envelope : (b key : List ℕ) (v : RawValue) → IsEnvelope b → AreBytes (appended_bytes b key v) → HasRoom b key v → IsEnvelope (appended_bytes b key v)
-appended_is_envelope b key v _ bytes room = framed_is_envelope (inside_of b ++ element_bytes key v) bytes (omega (arith, length-framed (inside_of b ++ element_bytes key v), room))
+pub appended_is_envelope : (b : List ℕ) (f : Frame) → AreBytes (appended_bytes b f) → HasRoom b f → IsEnvelope (appended_bytes b f)
+appended_is_envelope b f bytes room = framed_is_envelope (inside_of b ++ frame_bytes f) bytes (omega (arith, length-framed (inside_of b ++ frame_bytes f), room))
 
 -- the shape of what is written
 
 -- a written value
-pub value_has_shape : (v : RawValue) (r : List ℕ) → IsRawInRange v → IsValueNulFree v → length (payload_of v) ≤ max_length → HasShape (kind_of_raw v) (payload_of v) r
+value_has_shape : (v : RawValue) (r : List ℕ) → IsRawInRange v → IsValueNulFree v → length (payload_of v) ≤ max_length → HasShape (kind_of_raw v) (payload_of v) r
 value_has_shape (single leaf) r h n l = leaf_shape leaf r h n l
 value_has_shape (document bytes) r h n l = h
 value_has_shape (array bytes) r h n l = h
 value_has_shape (scoped code scope) r h n l = declared_shape (string_payload code ++ scope) r (omega arith)
+
+-- the frame of a value stands before any bytes
+pub value_stands : (key : List ℕ) (v : RawValue) → IsUtf8 key → IsNulFreeElement key v → IsRawInRange v → length (payload_of v) ≤ max_length → StandsAnywhere (value_frame key v)
+value_stands key v text nul_free in_range l r = record {
+  spelled = refl;
+  key_nul_free = nul_free.0;
+  key_text = text;
+  payload_is = value_has_shape v r in_range nul_free.1 l;
+}
 
 -- walks and their last byte
 
@@ -116,7 +125,7 @@ shape_on _ p r t on h = h
 frame_on : (m t e : List ℕ) (f : Frame) (frames : List Frame) → IsFrame (m ++ 0 ∷ []) f (t ++ 0 ∷ []) → IsWalk (t ++ 0 ∷ []) frames Done → ¬ EndsInShortScope (f ∷ frames) → IsFrame (m ++ e) f (t ++ e)
 frame_on m t e f frames b w none =
     let front : m ≡ tag_of f.kind ∷ (f.key ++ 0 ∷ (f.payload ++ t)) = (same_from_push m _ 0 0 (b.spelled ∙ sym (frame-append (tag_of f.kind) f.key f.payload t (0 ∷ [])))).0 in
-    let other : f.kind ≡ kind.JavaScriptCodeWithScope → frames ≡ [] → length f.payload ≢ 3 = λ scoped last three. none ([], f, ap (λ x. f ∷ x) last, scoped, three) in
+    let other : f.kind ≡ kind.JavaScriptCodeWithScope → frames ≡ [] → length f.payload ≢ 3 = λ scoped last three. none ([], f, ap (λ x. f ∷ x) last, (scoped, omega (arith, three))) in
     let declared : f.kind ≡ kind.JavaScriptCodeWithScope → HasDeclaredLength f.payload (t ++ 0 ∷ []) → HasDeclaredLength f.payload (t ++ e) = λ scoped d. declared_on f.payload t (0 ∷ []) e (length_before_end f.payload t frames w (other scoped) d) d in
     record {
       spelled = ap (λ x. x ++ e) front ∙ frame-append (tag_of f.kind) f.key f.payload t e;
@@ -134,7 +143,7 @@ walk_on m e (g ∷ frames) f b w none =
     let rest = last_of_walk w.0 frames w.2 in
     let here : IsFrame (m ++ 0 ∷ []) g (rest.0 ++ 0 ∷ []) = subst (λ (x : List ℕ). IsFrame (m ++ 0 ∷ []) g x) rest.1 w.1 in
     let behind : IsWalk (rest.0 ++ 0 ∷ []) frames Done = subst (λ (x : List ℕ). IsWalk x frames Done) rest.1 w.2 in
-    let others : ¬ EndsInShortScope frames = λ short. none (g ∷ short.0, short.1, ap (λ x. g ∷ x) short.2, short.3, short.4) in
+    let others : ¬ EndsInShortScope frames = λ short. none (g ∷ short.0, short.1, ap (λ x. g ∷ x) short.2, short.3) in
     (rest.0 ++ e, frame_on m rest.0 e g frames here behind none, walk_on rest.0 e frames f b behind others)
 
 -- the append
@@ -143,21 +152,14 @@ walk_on m e (g ∷ frames) f b w none =
 inside_and_end : (b : List ℕ) → IsEnvelope b → drop 4 b ≡ inside_of b ++ 0 ∷ []
 inside_and_end b envelope = ap (drop 4) (document_framed b envelope)
 
--- the new element is a frame, whatever stands behind it
-element_is_frame : (key : List ℕ) (v : RawValue) (r : List ℕ) → IsUtf8 key → IsNulFreeElement key v → IsRawInRange v → length (payload_of v) ≤ max_length → IsFrame (element_bytes key v ++ r) (value_frame key v) r
-element_is_frame key v r text nul_free in_range l = record {
-  spelled = ap (λ x. tag_of (kind_of_raw v) ∷ x) (append_assoc key (0 ∷ payload_of v) r);
-  key_nul_free = nul_free.0;
-  key_text = text;
-  payload_is = value_has_shape v r in_range nul_free.1 l;
-}
+-- behind the new element stands the final 0
+stands_last : (f : Frame) → StandsAnywhere f → IsFrame (frame_bytes f ++ 0 ∷ []) f (0 ∷ [])
+stands_last f stands = subst (λ (x : List ℕ). IsFrame (tag_of f.kind ∷ x) f (0 ∷ [])) (sym (append_assoc f.key (0 ∷ f.payload) (0 ∷ []))) (stands (0 ∷ []))
 
 -- the walk of the old content goes on with the new element
-pub keeps_walk : (b key : List ℕ) (v : RawValue) → IsEnvelope b → IsUtf8 key → IsNulFreeElement key v → IsRawInRange v → HasRoom b key v → KeepsWalk b key v (appended_bytes b key v)
-keeps_walk b key v envelope text nul_free in_range room frames w none =
-    let size : length (payload_of v) ≤ max_length = omega (arith, length-appended_bytes b key v envelope.enough) in
-    let new : IsFrame (element_bytes key v ++ 0 ∷ []) (value_frame key v) (0 ∷ []) = element_is_frame key v (0 ∷ []) text nul_free in_range size in
+pub keeps_walk : (b : List ℕ) (f : Frame) → IsEnvelope b → StandsAnywhere f → KeepsWalk b f (appended_bytes b f)
+keeps_walk b f envelope stands frames w none =
     let old : IsWalk (inside_of b ++ 0 ∷ []) frames Done = subst (λ (x : List ℕ). IsWalk x frames Done) (inside_and_end b envelope) w in
-    let after : inside_of b ++ (element_bytes key v ++ 0 ∷ []) ≡ drop 4 (appended_bytes b key v) = sym (append_assoc (inside_of b) (element_bytes key v) (0 ∷ [])) in
-    let on : IsWalk (drop 4 (appended_bytes b key v)) (frames ++ value_frame key v ∷ []) Done = subst (λ (x : List ℕ). IsWalk x (frames ++ value_frame key v ∷ []) Done) after (walk_on (inside_of b) (element_bytes key v ++ 0 ∷ []) frames (value_frame key v) new old none) in
-    the_walk (drop 4 (appended_bytes b key v)) (frames ++ value_frame key v ∷ []) Done on
+    let after : inside_of b ++ (frame_bytes f ++ 0 ∷ []) ≡ drop 4 (appended_bytes b f) = sym (append_assoc (inside_of b) (frame_bytes f) (0 ∷ [])) in
+    let on : IsWalk (drop 4 (appended_bytes b f)) (frames ++ f ∷ []) Done = subst (λ (x : List ℕ). IsWalk x (frames ++ f ∷ []) Done) after (walk_on (inside_of b) (frame_bytes f ++ 0 ∷ []) frames f (stands_last f stands) old none) in
+    the_walk (drop 4 (appended_bytes b f)) (frames ++ f ∷ []) Done on

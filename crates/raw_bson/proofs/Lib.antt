@@ -3,6 +3,7 @@ pub mod Converted
 pub mod Counts
 pub mod Filling
 pub mod KeptWalks
+pub mod HeldFrames
 pub mod SameValues
 pub mod Appended
 pub mod Face

@@ -5,55 +5,78 @@ use Rattle.bson_model.specs.Bytes.{NulFree}
 use Rattle.bson_model.specs.Proper.{IsLeafInRange}
 use Rattle.raw_view.specs.Envelope.{IsEnvelope}
 use Rattle.raw_view.specs.Errors.{key_of}
-use Rattle.raw_view.specs.Format.{framed, inside_of}
-use Rattle.raw_view.specs.Frame.{Frame, IsWalk, Done}
+use Rattle.raw_view.specs.Format.{framed, inside_of, element_of}
+use Rattle.raw_view.specs.Frame.{Frame, IsWalk, Done, IsShortScope}
 use Rattle.raw_view.specs.Meaning.{RawValue, single, document, array, scoped, kind_of_raw}
 use Rattle.raw_view.specs.Number.{max_length}
 use Rattle.raw_view.specs.OneReading.{IsTheWalk}
-use Rattle.raw_view.specs.declared.element_type.ElementType.TheVariants.{JavaScriptCodeWithScope}
 use Rattle.raw_view.specs.declared.error.Error.{Error}
 use Rattle.raw_view.specs.declared.error.ErrorKind.{ErrorKind}
 use Rattle.raw_view.specs.declared.error.ErrorKind.TheVariants as kind
 use Rattle.raw_view.specs.declared.error.Reason.TheVariants as reason
-use Rattle.raw_tree.specs.Payload.{payload_of, element_bytes, IsValueNulFree}
-
--- the document b with one element more, in place of the final 0; the old content isn't looked into
-abbrev pub appended_bytes : List ℕ → List ℕ → RawValue → List ℕ
-appended_bytes b key v = framed (inside_of b ++ element_bytes key v)
-
--- neither the key nor a pattern nor options hold a 0
-abbrev pub IsNulFreeElement : List ℕ → RawValue → Type 0
-IsNulFreeElement key v = NulFree key × IsValueNulFree v
-
--- the document with one element more is no longer than the greatest length
-abbrev pub HasRoom : List ℕ → List ℕ → RawValue → Type 0
-HasRoom b key v = length (appended_bytes b key v) ≤ max_length
-
--- Why an append is refused: first a 0, then the length, then want of memory.
-abbrev pub RefusesAppend : List ℕ → List ℕ → RawValue → ErrorKind → Type 0
-RefusesAppend b key v (kind.MalformedValue reason.InteriorNul) = ¬ IsNulFreeElement key v
-RefusesAppend b key v (kind.MalformedValue reason.TooLong) = IsNulFreeElement key v × ¬ HasRoom b key v
-RefusesAppend b key v kind.OutOfMemory = IsNulFreeElement key v × HasRoom b key v
-RefusesAppend b key v _ = ⊥
-
--- What an append to the document b answers and leaves: one element more; or a refusal without a key, and b
--- as it was.
-abbrev pub Appends : List ℕ → List ℕ → RawValue → Result (Unit {0}) Error → List ℕ → Type 0
-Appends b key v (Ok _) left = IsNulFreeElement key v × HasRoom b key v × (left ≡ appended_bytes b key v)
-Appends b key v (Err e) left = RefusesAppend b key v e.kind × (key_of e ≡ None) × (left ≡ b)
+use Rattle.raw_tree.specs.Payload.{payload_of, IsValueNulFree}
 
 -- the frame of a value under a key
 abbrev pub value_frame : List ℕ → RawValue → Frame
 value_frame key v = record { kind = kind_of_raw v; key = key; payload = payload_of v }
 
--- the last frame is a code with scope of declared length 3, whose length takes in the final 0
+-- the element that a frame stands as
+abbrev pub frame_bytes : Frame → List ℕ
+frame_bytes f = element_of f.kind f.key f.payload
+
+-- the document b with one element more, in place of the final 0; the old content isn't looked into
+abbrev pub appended_bytes : List ℕ → Frame → List ℕ
+appended_bytes b f = framed (inside_of b ++ frame_bytes f)
+
+-- the document with one element more is no longer than the greatest length
+abbrev pub HasRoom : List ℕ → Frame → Type 0
+HasRoom b f = length (appended_bytes b f) ≤ max_length
+
+-- Why a document of so many bytes isn't made: their number, else want of memory.
+abbrev pub RefusesLength : ℕ → ErrorKind → Type 0
+RefusesLength n (kind.MalformedValue reason.TooLong) = ¬ (n ≤ max_length)
+RefusesLength n kind.OutOfMemory = n ≤ max_length
+RefusesLength n _ = ⊥
+
+-- What an append of an element as it stands answers and leaves: one element more; or a refusal without a key,
+-- and b as it was.
+abbrev pub AppendsFrame : List ℕ → Frame → Result (Unit {0}) Error → List ℕ → Type 0
+AppendsFrame b f (Ok _) left = HasRoom b f × (left ≡ appended_bytes b f)
+AppendsFrame b f (Err e) left = RefusesLength (length (appended_bytes b f)) e.kind × (key_of e ≡ None) × (left ≡ b)
+
+-- neither the key nor a pattern nor options hold a 0
+abbrev pub IsNulFreeElement : List ℕ → RawValue → Type 0
+IsNulFreeElement key v = NulFree key × IsValueNulFree v
+
+-- Why an append of a value is refused: first a 0, then the length, then want of memory.
+abbrev pub RefusesAppend : List ℕ → List ℕ → RawValue → ErrorKind → Type 0
+RefusesAppend b key v (kind.MalformedValue reason.InteriorNul) = ¬ IsNulFreeElement key v
+RefusesAppend b key v e = IsNulFreeElement key v × RefusesLength (length (appended_bytes b (value_frame key v))) e
+
+-- What an append of a value to the document b answers and leaves: one element more; or a refusal without a key,
+-- and b as it was.
+abbrev pub Appends : List ℕ → List ℕ → RawValue → Result (Unit {0}) Error → List ℕ → Type 0
+Appends b key v (Ok _) left = IsNulFreeElement key v × HasRoom b (value_frame key v) × (left ≡ appended_bytes b (value_frame key v))
+Appends b key v (Err e) left = RefusesAppend b key v e.kind × (key_of e ≡ None) × (left ≡ b)
+
+-- the last frame is a code with scope whose declared length, of three bytes, takes in the final 0
 abbrev pub EndsInShortScope : List Frame → Type 0
-EndsInShortScope frames = (before : List Frame) × (last : Frame) × (frames ≡ before ++ last ∷ []) × (last.kind ≡ JavaScriptCodeWithScope) × (length last.payload ≡ 3)
+EndsInShortScope frames = (before : List Frame) × (last : Frame) × (frames ≡ before ++ last ∷ []) × IsShortScope last
 
 -- What is read after an append: where the walk of the old content ends at its final 0, and its last frame isn't
 -- such a code with scope, it goes on with the new frame and ends at the final 0.
-abbrev pub KeepsWalk : List ℕ → List ℕ → RawValue → List ℕ → Type 0
-KeepsWalk b key v left = (frames : List Frame) → IsWalk (drop 4 b) frames Done → ¬ EndsInShortScope frames → IsTheWalk (drop 4 left) (frames ++ value_frame key v ∷ []) Done
+abbrev pub KeepsWalk : List ℕ → Frame → List ℕ → Type 0
+KeepsWalk b f left = (frames : List Frame) → IsWalk (drop 4 b) frames Done → ¬ EndsInShortScope frames → IsTheWalk (drop 4 left) (frames ++ f ∷ []) Done
+
+-- none of the frames is a short code with scope
+abbrev pub HaveNoShortScope : List Frame → Type 0
+HaveNoShortScope [] = Unit {0}
+HaveNoShortScope (f ∷ fs) = (¬ IsShortScope f) × HaveNoShortScope fs
+
+-- The walk of the document b is these frames, up to its final 0, and none is a short code with scope. So it is of
+-- every document that was made by appends of values to one without elements.
+abbrev pub HoldsFrames : List ℕ → List Frame → Type 0
+HoldsFrames b frames = IsWalk (drop 4 b) frames Done × HaveNoShortScope frames
 
 -- what holds of every value that is handed to an append: numbers and bytes in range, texts UTF-8, nested
 -- documents, arrays and scopes with their envelopes

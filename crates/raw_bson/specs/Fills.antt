@@ -1,10 +1,11 @@
 -- Buffers that are filled from iterators, one append or push an item.
-use Rattle.std.specs.Prelude.{◌≡◌, ◌⊎◌, ℕ, List, [], ◌∷◌, ◌++◌, Option, Result, Ok, Err}
+use Rattle.std.specs.Prelude.{◌≡◌, ◌⊎◌, ℕ, ◌+◌, List, [], ◌∷◌, ◌++◌, Option, Result, Ok, Err, decimal}
 use Rattle.std.specs.Iterator.{Yields, Drains}
 use denote.Ref.{Bor}
 use Rattle.raw_view.specs.Errors.{IsOutOfMemory}
+use Rattle.raw_view.specs.Frame.{Frame}
 use Rattle.raw_view.specs.declared.error.Error.{Error}
-use Rattle.raw_bson.specs.Append.{Appends}
+use Rattle.raw_bson.specs.Append.{Appends, value_frame}
 use Rattle.raw_bson.specs.Count.{ArrayBytes, Pushes}
 use Rattle.raw_bson.specs.Owned.{owned_value}
 use Rattle.raw_bson.specs.declared.bson.RawBson.{RawBson}
@@ -40,3 +41,13 @@ TakesPair b pair result left = Appends b pair.0.now (owned_value pair.1) result 
 -- a push of a value
 abbrev pub TakesValue : ArrayBytes → RawBson → Result (Unit {0}) Error → ArrayBytes → Type 0
 TakesValue a v result left = Pushes a (owned_value v) result left
+
+-- the frames of these pairs
+abbrev pub frames_of_pairs : List (Bor (List ℕ) × RawBson) → List Frame
+frames_of_pairs [] = []
+frames_of_pairs (pair ∷ pairs) = value_frame pair.0.now (owned_value pair.1) ∷ frames_of_pairs pairs
+
+-- the frames of these values under the decimals from n on
+abbrev pub frames_from : ℕ → List RawBson → List Frame
+frames_from n [] = []
+frames_from n (v ∷ values) = value_frame (decimal n) (owned_value v) ∷ frames_from (n + 1) values

@@ -45,6 +45,7 @@ pub use Rattle.raw_view.specs.Value
 pub use Rattle.bson_model.specs.declared.binaries.Binary
 pub use Rattle.bson_model.specs.declared.binaries.BinarySubtype
 pub use Rattle.bson_model.specs.declared.bson.Bson
+pub use Rattle.bson_model.specs.declared.bson.Document as TreeDocument
 pub use Rattle.bson_model.specs.declared.bson.JavaScriptCodeWithScope
 pub use Rattle.bson_model.specs.declared.errors.NoMemory
 pub use Rattle.bson_model.specs.declared.numbers.Decimal128

@@ -10,12 +10,17 @@ use raw_view::{
 };
 
 impl RawBson {
+    ghost use Rattle.raw_bson.specs.Owned.{owned_value};
     ghost use Rattle.raw_bson.specs.OwnedAccessors as accessors;
+    ghost use Rattle.raw_view.specs.Access.{Shows};
+    ghost use Rattle.raw_view.specs.Typed as typed;
+    ghost use Rattle.raw_view.specs.declared.element_type.ElementType.TheVariants as variants;
     ghost use Rattle.raw_bson.specs.OwnedAccessors.{binary_parts, regex_parts, pointer_parts, scope_parts};
 
     /// The value of this kind: the double; `None` for every other kind.
     pub fn as_f64(&self) -> Option<DoubleBits>
-        ensures { result ≡ accessors.as_f64 self.now }
+        ensures part { result ≡ accessors.as_f64 self.now }
+        ensures meaning { Shows typed.f64_value variants.Double (owned_value self.now) result }
     {
         match self {
             RawBson::Double(x) => Some(*x),
@@ -25,7 +30,8 @@ impl RawBson {
 
     /// The value of this kind: the text; `None` for every other kind.
     pub fn as_str(&self) -> Option<&str>
-        ensures { option_copied result ≡ accessors.as_str self.now }
+        ensures part { option_copied result ≡ accessors.as_str self.now }
+        ensures meaning { Shows typed.str_value variants.String (owned_value self.now) result }
     {
         match self {
             RawBson::String(x) => Some(x.as_str()),
@@ -35,7 +41,8 @@ impl RawBson {
 
     /// The value of this kind: the array; `None` for every other kind.
     pub fn as_array(&self) -> Option<RawArray<'_>>
-        ensures { option_map array_bytes_of result ≡ accessors.as_array self.now }
+        ensures part { option_map array_bytes_of result ≡ accessors.as_array self.now }
+        ensures meaning { Shows typed.array_value variants.Array (owned_value self.now) result }
     {
         match self {
             RawBson::Array(x) => Some(x.as_ref()),
@@ -45,7 +52,8 @@ impl RawBson {
 
     /// The value of this kind: the nested document; `None` for every other kind.
     pub fn as_document(&self) -> Option<RawDocument<'_>>
-        ensures { option_map bytes_of result ≡ accessors.as_document self.now }
+        ensures part { option_map bytes_of result ≡ accessors.as_document self.now }
+        ensures meaning { Shows typed.document_value variants.EmbeddedDocument (owned_value self.now) result }
     {
         match self {
             RawBson::Document(x) => Some(x.as_ref()),
@@ -55,7 +63,8 @@ impl RawBson {
 
     /// The value of this kind: the boolean; `None` for every other kind.
     pub fn as_bool(&self) -> Option<bool>
-        ensures { result ≡ accessors.as_bool self.now }
+        ensures part { result ≡ accessors.as_bool self.now }
+        ensures meaning { Shows typed.bool_value variants.Boolean (owned_value self.now) result }
     {
         match self {
             RawBson::Boolean(x) => Some(*x),
@@ -65,7 +74,8 @@ impl RawBson {
 
     /// The value of this kind: the number; `None` for every other kind.
     pub fn as_i32(&self) -> Option<i32>
-        ensures { result ≡ accessors.as_i32 self.now }
+        ensures part { result ≡ accessors.as_i32 self.now }
+        ensures meaning { Shows typed.i32_value variants.Int32 (owned_value self.now) result }
     {
         match self {
             RawBson::Int32(x) => Some(*x),
@@ -75,7 +85,8 @@ impl RawBson {
 
     /// The value of this kind: the number; `None` for every other kind.
     pub fn as_i64(&self) -> Option<i64>
-        ensures { result ≡ accessors.as_i64 self.now }
+        ensures part { result ≡ accessors.as_i64 self.now }
+        ensures meaning { Shows typed.i64_value variants.Int64 (owned_value self.now) result }
     {
         match self {
             RawBson::Int64(x) => Some(*x),
@@ -85,7 +96,8 @@ impl RawBson {
 
     /// The value of this kind: the identifier; `None` for every other kind.
     pub fn as_object_id(&self) -> Option<ObjectId>
-        ensures { result ≡ accessors.as_object_id self.now }
+        ensures part { result ≡ accessors.as_object_id self.now }
+        ensures meaning { Shows typed.object_id_value variants.ObjectId (owned_value self.now) result }
     {
         match self {
             RawBson::ObjectId(x) => Some(*x),
@@ -95,7 +107,8 @@ impl RawBson {
 
     /// The value of this kind: the bytes and their subtype; `None` for every other kind.
     pub fn as_binary(&self) -> Option<RawBinaryRef<'_>>
-        ensures { option_map binary_parts result ≡ accessors.as_binary self.now }
+        ensures part { option_map binary_parts result ≡ accessors.as_binary self.now }
+        ensures meaning { Shows typed.binary_value variants.Binary (owned_value self.now) result }
     {
         match self {
             RawBson::Binary(x) => Some(binary_ref(x)),
@@ -105,7 +118,8 @@ impl RawBson {
 
     /// The value of this kind: the pattern and the options; `None` for every other kind.
     pub fn as_regex(&self) -> Option<RawRegexRef<'_>>
-        ensures { option_map regex_parts result ≡ accessors.as_regex self.now }
+        ensures part { option_map regex_parts result ≡ accessors.as_regex self.now }
+        ensures meaning { Shows typed.regex_value variants.RegularExpression (owned_value self.now) result }
     {
         match self {
             RawBson::RegularExpression(x) => Some(regex_ref(x)),
@@ -115,7 +129,8 @@ impl RawBson {
 
     /// The value of this kind: the time; `None` for every other kind.
     pub fn as_datetime(&self) -> Option<DateTime>
-        ensures { result ≡ accessors.as_datetime self.now }
+        ensures part { result ≡ accessors.as_datetime self.now }
+        ensures meaning { Shows typed.datetime_value variants.DateTime (owned_value self.now) result }
     {
         match self {
             RawBson::DateTime(x) => Some(*x),
@@ -125,7 +140,8 @@ impl RawBson {
 
     /// The value of this kind: the symbol's text; `None` for every other kind.
     pub fn as_symbol(&self) -> Option<&str>
-        ensures { option_copied result ≡ accessors.as_symbol self.now }
+        ensures part { option_copied result ≡ accessors.as_symbol self.now }
+        ensures meaning { Shows typed.symbol_value variants.Symbol (owned_value self.now) result }
     {
         match self {
             RawBson::Symbol(x) => Some(x.as_str()),
@@ -135,7 +151,8 @@ impl RawBson {
 
     /// The value of this kind: the timestamp; `None` for every other kind.
     pub fn as_timestamp(&self) -> Option<Timestamp>
-        ensures { result ≡ accessors.as_timestamp self.now }
+        ensures part { result ≡ accessors.as_timestamp self.now }
+        ensures meaning { Shows typed.timestamp_value variants.Timestamp (owned_value self.now) result }
     {
         match self {
             RawBson::Timestamp(x) => Some(*x),
@@ -145,7 +162,8 @@ impl RawBson {
 
     /// `Some` exactly for null.
     pub fn as_null(&self) -> Option<()>
-        ensures { result ≡ accessors.as_null self.now }
+        ensures part { result ≡ accessors.as_null self.now }
+        ensures meaning { Shows typed.null_value variants.Null (owned_value self.now) result }
     {
         match self {
             RawBson::Null => Some(()),
@@ -155,7 +173,8 @@ impl RawBson {
 
     /// The value of this kind: the pointer; `None` for every other kind.
     pub fn as_db_pointer(&self) -> Option<RawDbPointerRef<'_>>
-        ensures { option_map pointer_parts result ≡ accessors.as_db_pointer self.now }
+        ensures part { option_map pointer_parts result ≡ accessors.as_db_pointer self.now }
+        ensures meaning { Shows typed.db_pointer_value variants.DbPointer (owned_value self.now) result }
     {
         match self {
             RawBson::DbPointer(x) => Some(pointer_ref(x)),
@@ -165,7 +184,8 @@ impl RawBson {
 
     /// The value of this kind: the code; `None` for every other kind.
     pub fn as_javascript(&self) -> Option<&str>
-        ensures { option_copied result ≡ accessors.as_javascript self.now }
+        ensures part { option_copied result ≡ accessors.as_javascript self.now }
+        ensures meaning { Shows typed.javascript_value variants.JavaScriptCode (owned_value self.now) result }
     {
         match self {
             RawBson::JavaScriptCode(x) => Some(x.as_str()),
@@ -175,7 +195,8 @@ impl RawBson {
 
     /// The value of this kind: the code and its scope; `None` for every other kind.
     pub fn as_javascript_with_scope(&self) -> Option<RawJavaScriptCodeWithScopeRef<'_>>
-        ensures { option_map scope_parts result ≡ accessors.as_javascript_with_scope self.now }
+        ensures part { option_map scope_parts result ≡ accessors.as_javascript_with_scope self.now }
+        ensures meaning { Shows typed.javascript_with_scope_value variants.JavaScriptCodeWithScope (owned_value self.now) result }
     {
         match self {
             RawBson::JavaScriptCodeWithScope(x) => Some(x.as_ref()),

@@ -1,9 +1,10 @@
-ghost use Rattle.std.specs.Prelude.{◌≡◌, ◌≤◌, ◌+◌, ◌-◌, ◌/◌, ◌↔◌, ◌∷◌, [], decimal, IfOk, IfErr, OnOk, IsTrue, length};
-ghost use Rattle.raw_bson.specs.Append.{KeepsWalk};
+ghost use Rattle.std.specs.Prelude.{◌≡◌, ◌≤◌, ◌+◌, ◌-◌, ◌/◌, ◌↔◌, ◌∷◌, [], decimal, IfOk, IfErr, OnOk, IsTrue, List, length};
+ghost use Rattle.raw_bson.specs.Append.{HoldsFrames, KeepsWalk, value_frame};
 ghost use Rattle.raw_bson.specs.Count.{Pushes};
-ghost use Rattle.std.specs.Iterator.{IsFinite};
-ghost use Rattle.raw_bson.specs.Fills.{Fills, TakesValue, empty_array};
+ghost use Rattle.std.specs.Iterator.{Drains, IsFinite};
+ghost use Rattle.raw_bson.specs.Fills.{Fills, TakesValue, empty_array, frames_from};
 ghost use Rattle.raw_bson.specs.Owned.{owned_value};
+ghost use Rattle.raw_bson.specs.declared.bson.RawBson.{RawBson};
 ghost use Rattle.raw_view.specs.Envelope.{IsEnvelope};
 ghost use Rattle.raw_view.specs.Errors.{IsOutOfMemory};
 ghost use Rattle.raw_view.specs.Value.{array_bytes_of};
@@ -58,7 +59,9 @@ impl RawArrayBuf {
     ) -> Result<RawArrayBuf>
         requires can { I.can_next values }
         requires ends { IsFinite (I.remaining values) }
-        ensures { Fills TakesValue empty_array I.next_gives values result }
+        ensures fills { Fills TakesValue empty_array I.next_gives values result }
+        ensures walk { IfOk result (λ a. (given : List RawBson)
+            × Drains I.next_gives values given × HoldsFrames a.bytes (frames_from 0 given)) }
     {
         let mut array = RawArrayBuf::new(alloc)?;
         for value in values {
@@ -96,7 +99,7 @@ impl RawArrayBuf {
     pub fn push(&mut self, value: RawBson) -> Result<()>
         ensures pushes { Pushes self.old (owned_value value) result self.new }
         ensures walk { OnOk result
-            (KeepsWalk self.old.bytes (decimal self.old.count) (owned_value value) self.new.bytes) }
+            (KeepsWalk self.old.bytes (value_frame (decimal self.old.count) (owned_value value)) self.new.bytes) }
     {
         let mut key = Buffer::new();
         self.document.append(key.format(self.len), value)?;

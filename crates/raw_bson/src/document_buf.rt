@@ -1,16 +1,20 @@
-ghost use Rattle.std.specs.Prelude.{◌≡◌, ◌↔◌, IsOk, IfOk, IfErr, OnOk};
-ghost use Rattle.raw_bson.specs.Append.{Appends, KeepsWalk};
-ghost use Rattle.std.specs.Iterator.{IsFinite};
-ghost use Rattle.raw_bson.specs.Fills.{Fills, TakesPair, empty_document};
+ghost use Rattle.std.specs.Prelude.{◌≡◌, ◌↔◌, ℕ, List, IsOk, IfOk, IfErr, OnOk};
+ghost use denote.Ref.{Bor};
+ghost use Rattle.raw_bson.specs.Append.{Appends, AppendsFrame, HoldsFrames, KeepsWalk, value_frame};
+ghost use Rattle.std.specs.Iterator.{Drains, IsFinite};
+ghost use Rattle.raw_bson.specs.Fills.{Fills, TakesPair, empty_document, frames_of_pairs};
 ghost use Rattle.raw_bson.specs.Owned.{owned_value};
+ghost use Rattle.raw_bson.specs.declared.bson.RawBson.{RawBson};
 ghost use Rattle.raw_view.specs.Document.{bytes_of};
+ghost use Rattle.raw_view.specs.ElementSteps.{frame_of};
 ghost use Rattle.raw_view.specs.Envelope.{IsEnvelope};
 ghost use Rattle.raw_view.specs.Errors.{IsOutOfMemory, TellsRefusal};
+ghost use Rattle.raw_view.specs.Frame.{IsShortScope};
 ghost use Rattle.raw_view.specs.Value.{value_of};
 
-use crate::appending::append_element;
+use crate::appending::{append_raw_element, append_value};
 use crate::bson::RawBson;
-use raw_view::{HexDigits, RawBsonRef, RawDocument, Result};
+use raw_view::{HexDigits, RawBsonRef, RawDocument, RawElement, Result};
 use std::alloc::{AllocError, Global};
 use std::fmt;
 use std::marker::Model;
@@ -51,7 +55,9 @@ impl RawDocumentBuf {
     ) -> Result<RawDocumentBuf>
         requires can { I.can_next pairs }
         requires ends { IsFinite (I.remaining pairs) }
-        ensures { Fills TakesPair empty_document I.next_gives pairs result }
+        ensures fills { Fills TakesPair empty_document I.next_gives pairs result }
+        ensures walk { IfOk result (λ d. (given : List (Bor (List ℕ) × RawBson))
+            × Drains I.next_gives pairs given × HoldsFrames d (frames_of_pairs given)) }
     {
         let mut document = RawDocumentBuf::new(alloc)?;
         for (key, value) in pairs {
@@ -104,7 +110,7 @@ impl RawDocumentBuf {
     #[inline(always)]
     pub fn append(&mut self, key: &str, value: RawBson) -> Result<()>
         ensures appends { Appends self.old key.now (owned_value value) result self.new }
-        ensures walk { OnOk result (KeepsWalk self.old key.now (owned_value value) self.new) }
+        ensures walk { OnOk result (KeepsWalk self.old (value_frame key.now (owned_value value)) self.new) }
     {
         self.append_ref(key, value.as_raw_bson_ref())
     }
@@ -114,9 +120,21 @@ impl RawDocumentBuf {
     #[inline(always)]
     pub fn append_ref(&mut self, key: &str, value: RawBsonRef<'_>) -> Result<()>
         ensures appends { Appends self.old key.now (value_of value.entry) result self.new }
-        ensures walk { OnOk result (KeepsWalk self.old key.now (value_of value.entry) self.new) }
+        ensures walk { OnOk result (KeepsWalk self.old (value_frame key.now (value_of value.entry)) self.new) }
     {
-        append_element(&mut self.bytes, key, value)
+        append_value(&mut self.bytes, key, value)
+    }
+
+    /// Appends an element as it stands, its key, its kind and its payload's bytes, with the old content and the
+    /// element's value unexamined: a value at fault is appended too. It refuses, in this order: a new length over
+    /// 2147483647; want of memory. These errors have no key, and the bytes are then as they were.
+    #[inline(always)]
+    pub fn append_element(&mut self, element: RawElement<'_>) -> Result<()>
+        ensures appends { AppendsFrame self.old (frame_of element.entry) result self.new }
+        ensures walk { OnOk result
+            (¬ IsShortScope (frame_of element.entry) → KeepsWalk self.old (frame_of element.entry) self.new) }
+    {
+        append_raw_element(&mut self.bytes, element)
     }
 
     /// The allocator of the bytes.

@@ -17,7 +17,7 @@ pub use bson_model::laws::{
     is_same_document, is_same_tree,
 };
 use raw_view::RawBsonRef;
-pub use raw_view::laws::{is_same_array_view, is_same_view};
+pub use raw_view::laws::{attest_element, is_same_array_view, is_same_view};
 
 /// Whether two buffers are `==`: they are exactly where they have the same bytes. Programs never need it; proofs do.
 pub fn is_same_document_buf(document: &RawDocumentBuf, other: &RawDocumentBuf) -> bool

@@ -2,3 +2,4 @@
 
 pub use Rattle.raw_tree.proofs.Encodings.{length-tree_payload}
 pub use Rattle.raw_tree.proofs.OneWay.{enveloped_one_way}
+pub use Rattle.raw_tree.proofs.Spelled.{value_spelled}

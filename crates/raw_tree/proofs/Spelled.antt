@@ -103,7 +103,7 @@ single_spelled k p r v l x m e =
     subst (λ (w : RawValue). IsValueSpelled k p w) (sym e) (s.0, s.1)
 
 -- a payload that means a value is the value's
-value_spelled : (k : ElementType) (p r : List ℕ) (v : RawValue) → HasShape k p r → MeansValue k p v → IsValueSpelled k p v
+pub value_spelled : (k : ElementType) (p r : List ℕ) (v : RawValue) → HasShape k p r → MeansValue k p v → IsValueSpelled k p v
 value_spelled k p r (raw.single l) x m = single_spelled k p r (raw.single l) l x m refl
 value_spelled kind.EmbeddedDocument p r v x m = subst (λ (w : RawValue). IsValueSpelled kind.EmbeddedDocument p w) (sym m) (refl, refl)
 value_spelled kind.Array p r v x m = subst (λ (w : RawValue). IsValueSpelled kind.Array p w) (sym m) (refl, refl)

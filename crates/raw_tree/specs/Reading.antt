@@ -135,8 +135,10 @@ IsFrameReadOneWay f = HasOneReading (FrameStandsFor f) (FirstFaultOfFrame f)
 abbrev pub TellsFirstFault : List ℕ → Error → Type 0
 TellsFirstFault b e = IsOutOfMemory e ⊎ ((fault : KeyedFault) × FirstFault b fault × Says e fault)
 
+-- the same of a value
 abbrev pub TellsFirstFaultOfValue : RawValue → Error → Type 0
 TellsFirstFaultOfValue v e = IsOutOfMemory e ⊎ ((fault : KeyedFault) × FirstFaultOfValue v fault × Says e fault)
 
+-- the same of a frame
 abbrev pub TellsFirstFaultOfFrame : Frame → Error → Type 0
 TellsFirstFaultOfFrame f e = IsOutOfMemory e ⊎ ((fault : KeyedFault) × FirstFaultOfFrame f fault × Says e fault)

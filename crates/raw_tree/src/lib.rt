@@ -18,7 +18,7 @@ pub use breach::{Breach, Cause};
 pub use levels::copied_pointer;
 pub use limits::{Limits, document_from_raw_within};
 pub use payload::{is_nul_free, is_value_nul_free, payload_len};
-pub use put::{put_element, set_len};
+pub use put::{put_element, put_raw_element, set_len};
 pub use reading::{
     bson_from_element, bson_from_raw, document_from_raw, document_from_raw_counted, list_from_raw,
 };

@@ -3,14 +3,16 @@
 ghost use Rattle.std.specs.Prelude.{◌≡◌, ◌≤◌, ◌+◌, ◌-◌, ◌++◌, ◌∷◌, [], pos, length, take, drop, vec_len, vec_capacity};
 ghost use Rattle.raw_tree.specs.Payload.{payload_of, element_bytes};
 ghost use Rattle.raw_view.specs.Document.{bytes_of};
-ghost use Rattle.raw_view.specs.Format.{c_string, string_payload, binary_payload, pointer_payload, regex_payload, scoped_payload, tagged};
+ghost use Rattle.raw_view.specs.ElementSteps.{frame_of};
+ghost use Rattle.raw_view.specs.Format.{c_string, string_payload, binary_payload, pointer_payload, regex_payload, scoped_payload, tagged, element_of};
 ghost use Rattle.raw_view.specs.Number.{max_length, le32};
 ghost use Rattle.raw_view.specs.Value.{value_of, namespace_of, id_of};
 
 use crate::payload::string_len;
 use bson_model::BinarySubtype;
 use raw_view::{
-    RawBinaryRef, RawBsonRef, RawDbPointerRef, RawJavaScriptCodeWithScopeRef, RawRegexRef,
+    RawBinaryRef, RawBsonRef, RawDbPointerRef, RawElement, RawJavaScriptCodeWithScopeRef,
+    RawRegexRef,
 };
 
 /// Puts the bytes at the end, where there is room for them.
@@ -197,6 +199,21 @@ pub fn put_element(out: &mut Vec<u8>, key: &str, value: RawBsonRef<'_>)
 {
     put_head(out, value.element_type().to_tag(), key);
     put_payload(out, value);
+}
+
+/// Puts an element as it stands at the end, where there is room for it.
+#[inline(always)]
+pub fn put_raw_element(out: &mut Vec<u8>, element: RawElement<'_>)
+    requires { vec_len out.old + (length (frame_of element).key + (2 + length (frame_of element).payload))
+        ≤ vec_capacity out.old }
+    ensures items { out.new.items
+        ≡ out.old.items ++ element_of (frame_of element.entry).kind (frame_of element.entry).key (frame_of element.entry).payload }
+    ensures len { vec_len out.new
+        ≡ vec_len out.old + (length (frame_of element.entry).key + (2 + length (frame_of element.entry).payload)) }
+    ensures capacity { vec_capacity out.old ≤ vec_capacity out.new }
+{
+    put_head(out, element.element_type().to_tag(), element.key());
+    put(out, element.payload());
 }
 
 /// Sets the four bytes at `start` to how many bytes there are from there on.

@@ -2,6 +2,8 @@
 
 -- loops over elements
 pub use Rattle.raw_view.proofs.Loops.{LeadsTo-walk, LeadsTo-more, LeadsTo-bound, IsFrame-shorter, HasRead-more, HasRead-end, HasRead-stop, HasRead-bound}
+-- loops over keys and values, and over the values of arrays
+pub use Rattle.raw_view.proofs.ItemLoops.{HasReadItems-none, HasReadItems-bound, HasReadItems-pair, HasReadItems-value, HasReadItems-end, HasReadItems-pair_fault, HasReadItems-value_fault}
 -- every document has a walk, every frame a meaning
 pub use Rattle.raw_view.proofs.Iteration.{front_and_rest}
 pub use Rattle.raw_view.proofs.Walks.{AreBytes-rest, document_has_walk}

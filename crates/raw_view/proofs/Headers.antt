@@ -1,5 +1,5 @@
 -- The document at the front of bytes has the length that they begin with.
-use Rattle.std.proofs.Common.{◌≡◌, ◌++◌, ◌∷◌, [], ℕ, ℤ, pos, w32, to_z, List, length, get_or, arith, ap, sym, ◌∙◌}
+use Rattle.std.proofs.Common.{◌≡◌, ◌++◌, ◌∷◌, [], ℕ, ℤ, pos, w32, to_z, List, length, get_or, arith, ap, ◌∙◌}
 use Rattle.std.proofs.lemmas.List.{get_or_append_left}
 use Rattle.std.specs.Int.{from_le_bytes}
 use Rattle.raw_view.specs.Envelope.{IsEnvelope}

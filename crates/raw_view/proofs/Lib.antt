@@ -12,6 +12,7 @@ pub mod LookUps
 pub mod Places
 pub mod Accessed
 pub mod Loops
+pub mod ItemLoops
 pub mod DecidedTexts
 pub mod Decided
 pub mod Walks
@@ -22,4 +23,5 @@ pub mod Unique
 pub mod UniqueMeanings
 pub mod UniqueItems
 pub mod Headers
+pub mod Standing
 pub mod Face

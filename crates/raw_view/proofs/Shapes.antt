@@ -26,7 +26,7 @@ use Rattle.raw_view.proofs.Numbers.{le32_of, length_fits}
 use Rattle.raw_view.proofs.Cuts.{cut}
 use Rattle.raw_view.proofs.Texts.{pattern_fault_no_regex, options_fault_no_regex, options_of}
 
-whole : (p : List ℕ) → p ≡ p ++ []
+pub whole : (p : List ℕ) → p ≡ p ++ []
 whole p = sym (append-nil p)
 
 take_whole : (p : List ℕ) (n : ℕ) → n ≡ length p → take n p ≡ p

@@ -77,3 +77,8 @@ module _ {T : Type 0} where
   abbrev pub Accesses : (T → RawValue) → ElementType → List ℕ → Result (Option RawBsonRef) Error → Result T ValueAccessError → Type 0
   Accesses value_as expected key answer (Ok x) = (v : RawBsonRef) × (answer ≡ Ok (Some v)) × (value_of v ≡ value_as x)
   Accesses value_as expected key answer (Err e) = (kind : ValueAccessErrorKind) × IsTypedFault expected answer kind × ((e.kind ≡ kind) ⊎ (e.kind ≡ access.OutOfMemory)) × HasKeyAsked e.kind key (key_asked e)
+
+  -- What an accessor for this kind shows of the value v: v itself where it is of the kind, else nothing.
+  abbrev pub Shows : (T → RawValue) → ElementType → RawValue → Option T → Type 0
+  Shows value_as kind v (Some x) = v ≡ value_as x
+  Shows value_as kind v None = kind_of_raw v ≢ kind

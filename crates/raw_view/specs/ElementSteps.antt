@@ -5,6 +5,7 @@ use Rattle.raw_view.specs.declared.element.RawElement.{RawElement}
 use Rattle.raw_view.specs.declared.error.Error.{Error}
 use Rattle.raw_view.specs.Errors.{TellsFault}
 use Rattle.raw_view.specs.Frame.{Frame, IsFrame, Fault, IsStop, End, Done, Stopped, LeadsTo}
+use Rattle.raw_view.specs.Item.{Item, ItemsOf, AreValues}
 
 -- the frame that an element views
 abbrev pub frame_of : RawElement → Frame
@@ -38,3 +39,10 @@ ListsWalk (Err e ∷ _ ∷ _) fs end = ⊥
 abbrev pub HasRead : List ℕ → List Frame → Option (List ℕ) → Type 0
 HasRead s fs None = ⊥
 HasRead s fs (Some r) = LeadsTo s fs r
+
+-- these items of s have been read, each a value, and their frames lead to what is left
+pub record HasReadItems (s : List ℕ) (items : List Item) (left : Option (List ℕ)) : Type 0 where
+  pub frames : List Frame
+  pub read : HasRead s frames left
+  pub items_are : ItemsOf frames Done items
+  pub values : AreValues items

@@ -48,6 +48,7 @@ Tells (kind.Utf8EncodingError _) carried fault key = (fault ≡ Utf8) × (carrie
 Tells kind.OutOfMemory carried fault None = ⊥
 Tells kind.OutOfMemory carried fault (Some _) = carried ≡ None
 
+-- so does this error
 abbrev pub TellsFault : Error → Fault → Option (List ℕ) → Type 0
 TellsFault e fault key = Tells e.kind (key_of e) fault key
 

@@ -87,6 +87,15 @@ pub record IsFrame (s : List ℕ) (f : Frame) (r : List ℕ) : Type 0 where
   pub key_text : IsUtf8 f.key
   pub payload_is : HasShape f.kind f.payload r
 
+-- a code with scope whose declared length takes in fewer bytes than the length itself has
+abbrev pub IsShortScope : Frame → Type 0
+IsShortScope f = (f.kind ≡ kind.JavaScriptCodeWithScope) × (length f.payload < 4)
+
+-- the frame stands as an element, whatever stands behind it
+abbrev pub StandsAnywhere : Frame → Type 0
+StandsAnywhere f = (r : List ℕ) → IsFrame (element_of f.kind f.key (f.payload ++ r)) f r
+
+-- no frame stands at the front of s
 abbrev pub HasNoFrame : List ℕ → Type 0
 HasNoFrame s = (f : Frame) (r : List ℕ) → ¬ IsFrame s f r
 
@@ -127,6 +136,7 @@ pub data End : Type 0 where
   Done : End
   Stopped : Fault → Option (List ℕ) → End
 
+-- what is left, s, is such an end
 abbrev pub EndsIn : List ℕ → End → Type 0
 EndsIn s Done = s ≡ 0 ∷ []
 EndsIn s (Stopped fault key) = IsStop s fault key

@@ -4,6 +4,7 @@ use Rattle.bson_model.specs.Leaf.{Leaf, double, string, binary, undefined, objec
 use Rattle.raw_view.specs.declared.element_type.ElementType.{ElementType}
 use Rattle.raw_view.specs.declared.element_type.ElementType.TheVariants as kind
 
+-- the tag byte of each kind
 abbrev pub tag_of : ElementType → ℕ
 tag_of kind.Double = 0x01
 tag_of kind.String = 0x02

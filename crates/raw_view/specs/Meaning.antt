@@ -140,6 +140,7 @@ pub data Meaning : Type 0 where
   value : RawValue → Meaning
   faulty : KeyedFault → Meaning
 
+-- what this frame means
 abbrev pub Means : Frame → Meaning → Type 0
 Means f (value v) = MeansValue f.kind f.payload v
 Means f (faulty fault) = MeansFault f.kind f.key f.payload fault

@@ -8,11 +8,16 @@ use crate::document::RawDocument;
 use bson_model::{DateTime, DoubleBits, ObjectId, Timestamp};
 
 impl<'a> RawBsonRef<'a> {
+    ghost use Rattle.raw_view.specs.Access.{Shows};
     ghost use Rattle.raw_view.specs.Accessors as accessors;
+    ghost use Rattle.raw_view.specs.Typed as typed;
+    ghost use Rattle.raw_view.specs.Value.{value_of};
+    ghost use Rattle.raw_view.specs.declared.element_type.ElementType.TheVariants as variants;
 
     /// The value of this kind: the double; `None` for every other kind.
     pub fn as_f64(self) -> Option<DoubleBits>
-        ensures { result ≡ accessors.as_f64 self.entry }
+        ensures part { result ≡ accessors.as_f64 self.entry }
+        ensures meaning { Shows typed.f64_value variants.Double (value_of self.entry) result }
     {
         match self {
             RawBsonRef::Double(x) => Some(x),
@@ -22,7 +27,8 @@ impl<'a> RawBsonRef<'a> {
 
     /// The value of this kind: the text; `None` for every other kind.
     pub fn as_str(self) -> Option<&'a str>
-        ensures { result ≡ accessors.as_str self.entry }
+        ensures part { result ≡ accessors.as_str self.entry }
+        ensures meaning { Shows typed.str_value variants.String (value_of self.entry) result }
     {
         match self {
             RawBsonRef::String(x) => Some(x),
@@ -32,7 +38,8 @@ impl<'a> RawBsonRef<'a> {
 
     /// The value of this kind: the array; `None` for every other kind.
     pub fn as_array(self) -> Option<RawArray<'a>>
-        ensures { result ≡ accessors.as_array self.entry }
+        ensures part { result ≡ accessors.as_array self.entry }
+        ensures meaning { Shows typed.array_value variants.Array (value_of self.entry) result }
     {
         match self {
             RawBsonRef::Array(x) => Some(x),
@@ -42,7 +49,8 @@ impl<'a> RawBsonRef<'a> {
 
     /// The value of this kind: the nested document; `None` for every other kind.
     pub fn as_document(self) -> Option<RawDocument<'a>>
-        ensures { result ≡ accessors.as_document self.entry }
+        ensures part { result ≡ accessors.as_document self.entry }
+        ensures meaning { Shows typed.document_value variants.EmbeddedDocument (value_of self.entry) result }
     {
         match self {
             RawBsonRef::Document(x) => Some(x),
@@ -52,7 +60,8 @@ impl<'a> RawBsonRef<'a> {
 
     /// The value of this kind: the boolean; `None` for every other kind.
     pub fn as_bool(self) -> Option<bool>
-        ensures { result ≡ accessors.as_bool self.entry }
+        ensures part { result ≡ accessors.as_bool self.entry }
+        ensures meaning { Shows typed.bool_value variants.Boolean (value_of self.entry) result }
     {
         match self {
             RawBsonRef::Boolean(x) => Some(x),
@@ -62,7 +71,8 @@ impl<'a> RawBsonRef<'a> {
 
     /// The value of this kind: the number; `None` for every other kind.
     pub fn as_i32(self) -> Option<i32>
-        ensures { result ≡ accessors.as_i32 self.entry }
+        ensures part { result ≡ accessors.as_i32 self.entry }
+        ensures meaning { Shows typed.i32_value variants.Int32 (value_of self.entry) result }
     {
         match self {
             RawBsonRef::Int32(x) => Some(x),
@@ -72,7 +82,8 @@ impl<'a> RawBsonRef<'a> {
 
     /// The value of this kind: the number; `None` for every other kind.
     pub fn as_i64(self) -> Option<i64>
-        ensures { result ≡ accessors.as_i64 self.entry }
+        ensures part { result ≡ accessors.as_i64 self.entry }
+        ensures meaning { Shows typed.i64_value variants.Int64 (value_of self.entry) result }
     {
         match self {
             RawBsonRef::Int64(x) => Some(x),
@@ -82,7 +93,8 @@ impl<'a> RawBsonRef<'a> {
 
     /// The value of this kind: the identifier; `None` for every other kind.
     pub fn as_object_id(self) -> Option<ObjectId>
-        ensures { result ≡ accessors.as_object_id self.entry }
+        ensures part { result ≡ accessors.as_object_id self.entry }
+        ensures meaning { Shows typed.object_id_value variants.ObjectId (value_of self.entry) result }
     {
         match self {
             RawBsonRef::ObjectId(x) => Some(x),
@@ -92,7 +104,8 @@ impl<'a> RawBsonRef<'a> {
 
     /// The value of this kind: the bytes and their subtype; `None` for every other kind.
     pub fn as_binary(self) -> Option<RawBinaryRef<'a>>
-        ensures { result ≡ accessors.as_binary self.entry }
+        ensures part { result ≡ accessors.as_binary self.entry }
+        ensures meaning { Shows typed.binary_value variants.Binary (value_of self.entry) result }
     {
         match self {
             RawBsonRef::Binary(x) => Some(x),
@@ -102,7 +115,8 @@ impl<'a> RawBsonRef<'a> {
 
     /// The value of this kind: the regular expression; `None` for every other kind.
     pub fn as_regex(self) -> Option<RawRegexRef<'a>>
-        ensures { result ≡ accessors.as_regex self.entry }
+        ensures part { result ≡ accessors.as_regex self.entry }
+        ensures meaning { Shows typed.regex_value variants.RegularExpression (value_of self.entry) result }
     {
         match self {
             RawBsonRef::RegularExpression(x) => Some(x),
@@ -112,7 +126,8 @@ impl<'a> RawBsonRef<'a> {
 
     /// The value of this kind: the time; `None` for every other kind.
     pub fn as_datetime(self) -> Option<DateTime>
-        ensures { result ≡ accessors.as_datetime self.entry }
+        ensures part { result ≡ accessors.as_datetime self.entry }
+        ensures meaning { Shows typed.datetime_value variants.DateTime (value_of self.entry) result }
     {
         match self {
             RawBsonRef::DateTime(x) => Some(x),
@@ -122,7 +137,8 @@ impl<'a> RawBsonRef<'a> {
 
     /// The value of this kind: the symbol's text; `None` for every other kind.
     pub fn as_symbol(self) -> Option<&'a str>
-        ensures { result ≡ accessors.as_symbol self.entry }
+        ensures part { result ≡ accessors.as_symbol self.entry }
+        ensures meaning { Shows typed.symbol_value variants.Symbol (value_of self.entry) result }
     {
         match self {
             RawBsonRef::Symbol(x) => Some(x),
@@ -132,7 +148,8 @@ impl<'a> RawBsonRef<'a> {
 
     /// The value of this kind: the timestamp; `None` for every other kind.
     pub fn as_timestamp(self) -> Option<Timestamp>
-        ensures { result ≡ accessors.as_timestamp self.entry }
+        ensures part { result ≡ accessors.as_timestamp self.entry }
+        ensures meaning { Shows typed.timestamp_value variants.Timestamp (value_of self.entry) result }
     {
         match self {
             RawBsonRef::Timestamp(x) => Some(x),
@@ -142,7 +159,8 @@ impl<'a> RawBsonRef<'a> {
 
     /// `Some` exactly for null.
     pub fn as_null(self) -> Option<()>
-        ensures { result ≡ accessors.as_null self.entry }
+        ensures part { result ≡ accessors.as_null self.entry }
+        ensures meaning { Shows typed.null_value variants.Null (value_of self.entry) result }
     {
         match self {
             RawBsonRef::Null => Some(()),
@@ -152,7 +170,8 @@ impl<'a> RawBsonRef<'a> {
 
     /// The value of this kind: the pointer; `None` for every other kind.
     pub fn as_db_pointer(self) -> Option<RawDbPointerRef<'a>>
-        ensures { result ≡ accessors.as_db_pointer self.entry }
+        ensures part { result ≡ accessors.as_db_pointer self.entry }
+        ensures meaning { Shows typed.db_pointer_value variants.DbPointer (value_of self.entry) result }
     {
         match self {
             RawBsonRef::DbPointer(x) => Some(x),
@@ -162,7 +181,8 @@ impl<'a> RawBsonRef<'a> {
 
     /// The value of this kind: the code; `None` for every other kind.
     pub fn as_javascript(self) -> Option<&'a str>
-        ensures { result ≡ accessors.as_javascript self.entry }
+        ensures part { result ≡ accessors.as_javascript self.entry }
+        ensures meaning { Shows typed.javascript_value variants.JavaScriptCode (value_of self.entry) result }
     {
         match self {
             RawBsonRef::JavaScriptCode(x) => Some(x),
@@ -172,7 +192,8 @@ impl<'a> RawBsonRef<'a> {
 
     /// The value of this kind: the code and its scope; `None` for every other kind.
     pub fn as_javascript_with_scope(self) -> Option<RawJavaScriptCodeWithScopeRef<'a>>
-        ensures { result ≡ accessors.as_javascript_with_scope self.entry }
+        ensures part { result ≡ accessors.as_javascript_with_scope self.entry }
+        ensures meaning { Shows typed.javascript_with_scope_value variants.JavaScriptCodeWithScope (value_of self.entry) result }
     {
         match self {
             RawBsonRef::JavaScriptCodeWithScope(x) => Some(x),

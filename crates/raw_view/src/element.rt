@@ -1,4 +1,5 @@
 ghost use Rattle.std.specs.Prelude.{◌≡◌, length, IfOk, IfErr, IfSome, IfNone};
+ghost use Rattle.bson_model.specs.Bytes.{NulFree};
 ghost use Rattle.raw_view.specs.Frame.{HasPayload};
 
 use crate::array::RawArray;
@@ -19,6 +20,7 @@ pub struct RawElement<'a> {
     pub(crate) key: &'a str,
     pub(crate) kind: ElementType,
     pub(crate) payload: &'a [u8],
+    ghost named: { NulFree key.now },
     ghost framed: { ∥ HasPayload kind payload.now ∥₁ },
 }
 
@@ -37,6 +39,13 @@ impl<'a> RawElement<'a> {
         ensures { result ≡ length (frame_of self.entry).payload }
     {
         self.payload.len()
+    }
+
+    /// The bytes of the payload as they stand, unexamined.
+    pub fn payload(self) -> &'a [u8]
+        ensures { result.now ≡ (frame_of self.entry).payload }
+    {
+        self.payload
     }
 
     /// The kind that the element's tag stands for.

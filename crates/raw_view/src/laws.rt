@@ -1,11 +1,15 @@
-//! What `==` of views answers, as calls whose contracts say it. Programs never need them; proofs do.
+//! What `==` of views answers, and what holds of elements by their type, as calls whose contracts say it. Programs never
+//! need them; proofs do.
 
 ghost use Rattle.std.specs.Prelude.{◌≡◌, ◌↔◌, IsTrue};
 ghost use Rattle.raw_view.specs.Document.{bytes_of};
+ghost use Rattle.raw_view.specs.ElementSteps.{frame_of};
+ghost use Rattle.raw_view.specs.Frame.{IsShortScope, StandsAnywhere};
 ghost use Rattle.raw_view.specs.Value.{array_bytes_of};
 
 use crate::array::RawArray;
 use crate::document::RawDocument;
+use crate::element::RawElement;
 
 /// Whether two documents are `==`: they are exactly where they have the same bytes. Programs never need it; proofs
 /// do.
@@ -20,4 +24,12 @@ pub fn is_same_array_view(first: RawArray<'_>, second: RawArray<'_>) -> bool
     ensures { IsTrue result ↔ (array_bytes_of first.entry ≡ array_bytes_of second.entry) }
 {
     first == second
+}
+
+/// An element stands as one whatever stands behind it, unless it is a code with scope whose declared length takes in
+/// fewer bytes than the length itself has. Programs never need it; proofs do.
+pub fn attest_element(element: RawElement<'_>)
+    ensures { ¬ IsShortScope (frame_of element.entry) → StandsAnywhere (frame_of element.entry) }
+{
+    let _key = element.key();
 }

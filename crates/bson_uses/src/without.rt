@@ -1,0 +1,21 @@
+ghost use Rattle.std.specs.Prelude.{IfOk};
+ghost use Rattle.raw_bson.specs.Document.{bytes_of};
+ghost use Rattle.bson_uses.specs.Without.{IsWithout};
+
+use raw_bson::{RawDocument, RawDocumentBuf, Result};
+use std::alloc::Global;
+
+/// A copy of the document without the elements of this key, whose values aren't looked into; or where the document
+/// stops, or want of memory.
+pub fn copy_without(alloc: Global, document: RawDocument<'_>, key: &str) -> Result<RawDocumentBuf>
+    ensures { IfOk result (IsWithout key.now (bytes_of document.entry)) }
+{
+    let mut copy = RawDocumentBuf::new(alloc)?;
+    for element in document.iter_elements(alloc) {
+        let element = element?;
+        if element.key() != key {
+            copy.append_element(element)?;
+        }
+    }
+    Ok(copy)
+}
