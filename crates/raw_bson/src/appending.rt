@@ -89,7 +89,11 @@ pub(crate) fn append_raw_element(bytes: &mut Vec<u8>, element: RawElement<'_>) -
         → KeepsWalk bytes.old.items (frame_of element.entry) bytes.new.items) }
     ensures envelope { IsEnvelope bytes.new.items }
 {
-    make_room(bytes, element.payload().len().saturating_add(element.key().len() + 2))?;
+    let len = element
+        .payload()
+        .len()
+        .saturating_add(element.key().len() + 2);
+    make_room(bytes, len)?;
     attest_element(element);
     put_raw_at_end(bytes, element);
     set_len(bytes, 0);

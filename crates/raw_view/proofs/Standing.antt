@@ -23,14 +23,17 @@ regex_had p h =
       | inl a ↦ elim (front_text_or_not a.1) [
         | inl b ↦
             let end : b.1 ≡ [] = regex_ends p a.0 a.1 b.0 b.1 h a.2 a.3 b.2 b.3 in
-            let behind : a.1 ≡ b.0 ++ 0 ∷ [] = b.2 ∙ ap (λ z. b.0 ++ 0 ∷ z) end in
-            (a.0, b.0, record {
-              spelled = a.2 ∙ ap (λ z. a.0 ++ 0 ∷ z) behind;
-              pattern_nul_free = a.3;
-              pattern_text = a.4;
-              options_nul_free = b.3;
-              options_text = b.4;
-            })
+            let behind : a.1 ≡ b.0 ++ 0 ∷ [] = b.2 ∙ ap (λ z. b.0 ++ 0 ∷ z) end in (
+              a.0,
+              b.0,
+              record {
+                spelled = a.2 ∙ ap (λ z. a.0 ++ 0 ∷ z) behind;
+                pattern_nul_free = a.3;
+                pattern_text = a.4;
+                options_nul_free = b.3;
+                options_text = b.4;
+              },
+            )
         | inr none ↦ absurd (∥∥₁_elim h (hlevel props) (λ t. no_front_text a.1 t.1.1 [] (options_of p a.0 a.1 p [] a.2 a.3 (whole p) t.1) t.1.2.options_nul_free t.1.2.options_text none))
       ]
       | inr none ↦ absurd (∥∥₁_elim h (hlevel props) (λ t. no_front_text p t.1.0 (t.1.1 ++ 0 ∷ []) t.1.2.spelled t.1.2.pattern_nul_free t.1.2.pattern_text none))

@@ -26,8 +26,8 @@ loop-element-preserved-in-Continue-branch-3 c =
     let f = frame_of c.in_ok-element.element in
     let other : bytes_eq f.key c.args.key.now ≡ false = search rules in
     let held : HaveNoShortScope (inv.0 ++ f ∷ []) → HoldsFrames c.append_element.new.self (filter (has_other_key c.args.key.now) (inv.0 ++ f ∷ [])) = λ all.
-      let long = HaveNoShortScope-last inv.0 f all in
-      subst (λ (fs : List Frame). HoldsFrames c.append_element.new.self fs) (sym (kept c.args.key.now inv.0 f false other)) (HoldsFrames-element c.loop-element.copy _ f c.append_element.new.self (inv.2 long.0) long.1 (c.in_ok-append_element.ensures.walk long.1)) in
+    let long = HaveNoShortScope-last inv.0 f all in
+    subst (λ (fs : List Frame). HoldsFrames c.append_element.new.self fs) (sym (kept c.args.key.now inv.0 f false other)) (HoldsFrames-element c.loop-element.copy _ f c.append_element.new.self (inv.2 long.0) long.1 (c.in_ok-append_element.ensures.walk long.1)) in
     (inv.0 ++ f ∷ [], read_more _ inv.0 _ _ _ c.in_ok-element.element inv.1 c.in-Some.ensures.steps c.in_ok-element.was, held)
 
 pub loop-element-preserved : goal.loop-element-preserved
@@ -36,7 +36,7 @@ loop-element-preserved c =
     let f = frame_of c.in_ok-element.element in
     let same : bytes_eq f.key c.args.key.now ≡ true = search rules in
     let held : HaveNoShortScope (inv.0 ++ f ∷ []) → HoldsFrames c.loop-element.copy (filter (has_other_key c.args.key.now) (inv.0 ++ f ∷ [])) = λ all.
-      subst (λ (fs : List Frame). HoldsFrames c.loop-element.copy fs) (sym (kept c.args.key.now inv.0 f true same ∙ append-nil _)) (inv.2 (HaveNoShortScope-last inv.0 f all).0) in
+    subst (λ (fs : List Frame). HoldsFrames c.loop-element.copy fs) (sym (kept c.args.key.now inv.0 f true same ∙ append-nil _)) (inv.2 (HaveNoShortScope-last inv.0 f all).0) in
     (inv.0 ++ f ∷ [], read_more _ inv.0 _ _ _ c.in_ok-element.element inv.1 c.in-Some.ensures.steps c.in_ok-element.was, held)
 
 pub returns : goal.returns
