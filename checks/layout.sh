@@ -1,0 +1,41 @@
+#!/bin/sh
+# Whether each file is laid out as `rt fmt` writes it, and whether each edit of must-fail/ applies to its file: what
+# `rt ci` would refuse only after minutes. It works on a copy of the sources, and first sees that a file out of layout
+# and an edit that doesn't apply are found. It prints what isn't right, and gives 0 where all is.
+set -u
+
+cd "$(dirname "$(dirname "$(realpath "$0")")")" || exit 1
+work=$(mktemp -d) || exit 1
+trap 'rm -rf "$work"' EXIT
+mkdir "$work/all" "$work/all/.git"
+tar -c --exclude=out crates.txt crates | tar -x -C "$work/all" || exit 1
+
+# said FOLDER: what rt fmt says of the crates of the folder; nothing where it leaves every file as it is
+said() {
+    for crate in "$1"/crates/*/; do
+        (cd "$crate" && rt fmt 2>&1) | sed "s|^|$(basename "$crate"): |"
+    done
+}
+
+mkdir -p "$work/tried/.git" "$work/tried/crates/bson_uses"
+cp crates.txt "$work/tried"
+cp -r "$work/all/crates/bson_uses/src" "$work/tried/crates/bson_uses"
+mkdir "$work/tried/crates/bson_uses/must-fail"
+printf 'file: src/lib.rt\nold: no such text\nnew: another\n' >"$work/tried/crates/bson_uses/must-fail/tried.edit"
+printf '\nfn  tried( ) { }\n' >>"$work/tried/crates/bson_uses/src/lib.rt"
+tried=$(said "$work/tried")
+for word in 'formatted src/lib.rt' 'tried.edit cannot be applied'; do
+    case $tried in
+    *"$word"*) ;;
+    *)
+        echo "layout.sh: it doesn't find what isn't right ($word)" >&2
+        exit 1
+        ;;
+    esac
+done
+
+found=$(said "$work/all")
+[ -z "$found" ] && exit 0
+printf '%s\n' "$found"
+echo "layout.sh: run rt fmt in the crates that are named, and mend the edits" >&2
+exit 1
