@@ -89,6 +89,7 @@ function end_header(name, item) {
     link(item, clauses_of("\n" header))
     text = (owner == "" ? "### " : "#### ") item "\n\n" as_text(comment) block(header) words_of(item)
     if (owner == "") functions[name] = text; else calls[owner] = calls[owner] text
+    if (owner != "") index_of[owner] = index_of[owner] (index_of[owner] == "" ? "" : ", ") "[`" name "`](#" tolower(owner) name ")"
     forget()
 }
 
@@ -217,7 +218,7 @@ function types_of(crate, i, name, text) {
     for (i = 1; i <= passed; i++) {
         name = order[i]
         if (passed_on[name] != crate || !(name in types)) continue
-        text = text types[name] calls[name]
+        text = text types[name] (index_of[name] == "" ? "" : "Calls: " index_of[name] ".\n\n") calls[name]
         if (traits[name] != "") text = text "#### Traits of " name "\n\n" block(traits[name]) words_of("traits of " name)
         stands[name]
         contents[crate] = contents[crate] (contents[crate] == "" ? "" : ", ") "[`" name "`](#" tolower(name) ")"

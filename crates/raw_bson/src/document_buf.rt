@@ -105,8 +105,10 @@ impl RawDocumentBuf {
     }
 
     /// Appends a value under a key, with the old content unexamined. It refuses, in this order: a 0 in the
-    /// key, in a pattern or in options; a new length over 2147483647; want of memory. These errors have no
-    /// key, and the bytes are then as they were. The value is dropped.
+    /// key, in a pattern or in options (`InteriorNul`); a new length over 2147483647 (`TooLong`); want of memory
+    /// (`OutOfMemory`). These errors have no key, and the bytes are then as they were. The value is dropped. The
+    /// walk is then the old one and the element, unless the old content ends in a code with scope whose length
+    /// is under 4.
     #[inline(always)]
     pub fn append(&mut self, key: &str, value: RawBson) -> Result<()>
         ensures appends { Appends self.old key.now (owned_value value) result self.new }
@@ -116,7 +118,8 @@ impl RawDocumentBuf {
     }
 
     /// Appends a value that borrows its parts, with the old content unexamined. It copies no part of it on the
-    /// way, and refuses what `append` does, in the same order.
+    /// way. It refuses what `append` does, in the same order: `InteriorNul`, `TooLong`, `OutOfMemory`; the walk is
+    /// then as `append` leaves it.
     #[inline(always)]
     pub fn append_ref(&mut self, key: &str, value: RawBsonRef<'_>) -> Result<()>
         ensures appends { Appends self.old key.now (value_of value.entry) result self.new }
