@@ -22,7 +22,7 @@ written c =
 has_room : (c : goal.After-set_len) → HasRoom c.args.bytes.now.items (frame_of c.args.element)
 has_room c =
     let fits = c.in_ok-make_room.ensures.fits in
-    omega (arith, length-appended_bytes c.args.bytes.now.items (frame_of c.args.element) c.requires.enough, fits, ap length c.payload.ensures, ap length c.key.ensures, c.saturating_add.ensures)
+    omega (arith, length-appended_bytes c.args.bytes.now.items (frame_of c.args.element) c.requires.enough, fits, ap length c.payload.ensures, ap length c.key.ensures, c.saturating_add-len.ensures)
 
 pub returns-clause-walk : goal.returns-clause-walk
 returns-clause-walk c = λ long. rw (written c) (keeps_walk c.args.bytes.now.items (frame_of c.args.element) c.requires (c.attest_element.ensures long))
