@@ -2,7 +2,7 @@ ghost use Rattle.std.specs.Prelude.{◌≡◌, ◌≤◌, ◌+◌, ◌-◌, ◌/
 ghost use Rattle.raw_bson.specs.Append.{HoldsFrames, KeepsWalk, value_frame};
 ghost use Rattle.raw_bson.specs.Count.{Pushes};
 ghost use Rattle.std.specs.Iterator.{Drains, IsFinite};
-ghost use Rattle.raw_bson.specs.Fills.{Fills, TakesValue, empty_array, frames_from};
+ghost use Rattle.raw_bson.specs.Fills.{Fills, TakesEach, TakesValue, empty_array, frames_from};
 ghost use Rattle.raw_bson.specs.Owned.{owned_value};
 ghost use Rattle.raw_bson.specs.declared.bson.RawBson.{RawBson};
 ghost use Rattle.raw_view.specs.Envelope.{IsEnvelope};
@@ -61,7 +61,8 @@ impl RawArrayBuf {
         requires ends { IsFinite (I.remaining values) }
         ensures fills { Fills TakesValue empty_array I.next_gives values result }
         ensures walk { IfOk result (λ a. (given : List RawBson)
-            × Drains I.next_gives values given × HoldsFrames a.bytes (frames_from 0 given)) }
+            × Drains I.next_gives values given × TakesEach TakesValue empty_array given a
+            × HoldsFrames a.bytes (frames_from 0 given)) }
     {
         let mut array = RawArrayBuf::new(alloc)?;
         for value in values {

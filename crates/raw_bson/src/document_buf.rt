@@ -2,7 +2,7 @@ ghost use Rattle.std.specs.Prelude.{◌≡◌, ◌↔◌, ℕ, List, IsOk, IfOk,
 ghost use denote.Ref.{Bor};
 ghost use Rattle.raw_bson.specs.Append.{Appends, AppendsFrame, HoldsFrames, KeepsWalk, value_frame};
 ghost use Rattle.std.specs.Iterator.{Drains, IsFinite};
-ghost use Rattle.raw_bson.specs.Fills.{Fills, TakesPair, empty_document, frames_of_pairs};
+ghost use Rattle.raw_bson.specs.Fills.{Fills, TakesEach, TakesPair, empty_document, frames_of_pairs};
 ghost use Rattle.raw_bson.specs.Owned.{owned_value};
 ghost use Rattle.raw_bson.specs.declared.bson.RawBson.{RawBson};
 ghost use Rattle.raw_view.specs.Document.{bytes_of};
@@ -57,7 +57,8 @@ impl RawDocumentBuf {
         requires ends { IsFinite (I.remaining pairs) }
         ensures fills { Fills TakesPair empty_document I.next_gives pairs result }
         ensures walk { IfOk result (λ d. (given : List (Bor (List ℕ) × RawBson))
-            × Drains I.next_gives pairs given × HoldsFrames d (frames_of_pairs given)) }
+            × Drains I.next_gives pairs given × TakesEach TakesPair empty_document given d
+            × HoldsFrames d (frames_of_pairs given)) }
     {
         let mut document = RawDocumentBuf::new(alloc)?;
         for (key, value) in pairs {

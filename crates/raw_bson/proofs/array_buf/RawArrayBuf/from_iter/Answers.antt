@@ -35,4 +35,4 @@ pub returns-clause-fills : goal.returns-clause-fills
 returns-clause-fills g c = filled TakesValue empty_array c.loop-value.array g.I.Iterator.next_gives c.args.values c.into_iter-value-iterator.result c.loop-value.value-iterator c.next.new.self c.loop-value.yielded c.into_iter-value-iterator.ensures.into_iter_gives c.loop-value.yielded_by c.in-None.ensures.steps c.loop-value.invariant.0
 
 pub returns-clause-walk : goal.returns-clause-walk
-returns-clause-walk g c = (c.loop-value.yielded, drained g.I.Iterator.next_gives c.args.values c.into_iter-value-iterator.result c.loop-value.value-iterator c.next.new.self c.loop-value.yielded c.into_iter-value-iterator.ensures.into_iter_gives c.loop-value.yielded_by c.in-None.ensures.steps, c.loop-value.invariant.1)
+returns-clause-walk g c = (c.loop-value.yielded, drained g.I.Iterator.next_gives c.args.values c.into_iter-value-iterator.result c.loop-value.value-iterator c.next.new.self c.loop-value.yielded c.into_iter-value-iterator.ensures.into_iter_gives c.loop-value.yielded_by c.in-None.ensures.steps, c.loop-value.invariant.0, c.loop-value.invariant.1)

@@ -29,4 +29,4 @@ pub returns-clause-fills : goal.returns-clause-fills
 returns-clause-fills g c = filled TakesPair empty_document c.loop-key.document g.I.Iterator.next_gives c.args.pairs c.into_iter-key-iterator.result c.loop-key.key-iterator c.next.new.self c.loop-key.yielded c.into_iter-key-iterator.ensures.into_iter_gives c.loop-key.yielded_by c.in-None.ensures.steps c.loop-key.invariant.0
 
 pub returns-clause-walk : goal.returns-clause-walk
-returns-clause-walk g c = (c.loop-key.yielded, drained g.I.Iterator.next_gives c.args.pairs c.into_iter-key-iterator.result c.loop-key.key-iterator c.next.new.self c.loop-key.yielded c.into_iter-key-iterator.ensures.into_iter_gives c.loop-key.yielded_by c.in-None.ensures.steps, c.loop-key.invariant.1)
+returns-clause-walk g c = (c.loop-key.yielded, drained g.I.Iterator.next_gives c.args.pairs c.into_iter-key-iterator.result c.loop-key.key-iterator c.next.new.self c.loop-key.yielded c.into_iter-key-iterator.ensures.into_iter_gives c.loop-key.yielded_by c.in-None.ensures.steps, c.loop-key.invariant.0, c.loop-key.invariant.1)
