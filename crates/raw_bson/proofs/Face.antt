@@ -10,3 +10,6 @@ pub use Rattle.raw_bson.proofs.HeldFrames.{HoldsFrames-empty, HoldsFrames-value,
 pub use Rattle.raw_view.proofs.Face.{one_frame, one_walk, one_meaning}
 -- the document at the front of bytes
 pub use Rattle.raw_view.proofs.Face.{first_four, header_of_front}
+-- the canonical form of a tree that is read
+pub use Rattle.raw_tree.proofs.Face.{bytes_one_way}
+pub use Rattle.raw_bson.proofs.CanonicalForms.{canonical_form}

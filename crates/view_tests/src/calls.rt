@@ -1,6 +1,6 @@
 use bson_model::{Binary, BinarySubtype, DateTime, ObjectId};
 use raw_view::{
-    ElementType, Error, ErrorKind, RawArray, RawBinaryRef, RawBsonRef, RawDbPointerRef,
+    ElementType, Elements, Error, ErrorKind, RawArray, RawBinaryRef, RawBsonRef, RawDbPointerRef,
     RawDocument, RawJavaScriptCodeWithScopeRef, RawRegexRef, Reason, ValueAccessError,
     ValueAccessErrorKind,
 };
@@ -275,6 +275,36 @@ fn access_errors_have_equal_copies(rt: HostRuntime) -> Result<(), Fail> {
             Ok(_) => assert!(rt; false, "{key}"),
             Err(error) => assert!(rt; is_access_copied(&error, key)?, "{key}"),
         }
+    }
+    Ok(())
+}
+
+/// The key of the first element from this offset on: nothing where no walk begins there, and `None` in it where the walk
+/// comes to no element.
+fn key_from<'a>(document: RawDocument<'a>, offset: usize) -> Option<Option<&'a str>> {
+    match Elements::from_offset(document, offset)?.next() {
+        Some(Ok(element)) => Some(Some(element.key())),
+        _ => Some(None),
+    }
+}
+
+#[test]
+fn a_walk_begins_at_any_offset_behind_the_header(rt: HostRuntime) -> Result<(), Fail> {
+    let document = RawDocument::from_bytes(THREE_INT32)?;
+    let rows = [
+        (3, None),
+        (4, Some(Some("a"))),
+        (11, Some(Some("b"))),
+        (18, Some(Some("c"))),
+        // inside an element, at the final 0, and behind it
+        (5, Some(None)),
+        (25, Some(None)),
+        (26, Some(None)),
+        (27, None),
+        (usize::MAX, None),
+    ];
+    for (offset, key) in rows {
+        assert_eq!(rt; key_from(document, offset), key, "{offset}");
     }
     Ok(())
 }

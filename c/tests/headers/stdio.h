@@ -1,0 +1,20 @@
+#ifndef STDIO_H
+#define STDIO_H
+
+#include <stddef.h>
+
+typedef struct _IO_FILE FILE;
+extern FILE *stdin;
+extern FILE *stdout;
+extern FILE *stderr;
+#define EOF (-1)
+
+int printf(const char *format, ...);
+int fprintf(FILE *to, const char *format, ...);
+int putchar(int byte);
+int puts(const char *line);
+int getchar(void);
+size_t fread(void *items, size_t size, size_t count, FILE *from);
+size_t fwrite(const void *items, size_t size, size_t count, FILE *to);
+
+#endif

@@ -1,0 +1,11 @@
+#ifndef STDLIB_H
+#define STDLIB_H
+
+#include <stddef.h>
+
+void *malloc(size_t size);
+void *realloc(void *old, size_t size);
+void free(void *block);
+_Noreturn void abort(void);
+
+#endif

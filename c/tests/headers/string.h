@@ -1,0 +1,12 @@
+#ifndef STRING_H
+#define STRING_H
+
+#include <stddef.h>
+
+void *memcpy(void *to, const void *from, size_t len);
+void *memset(void *to, int byte, size_t len);
+int memcmp(const void *one, const void *other, size_t len);
+int strcmp(const char *one, const char *other);
+size_t strlen(const char *text);
+
+#endif

@@ -1,0 +1,328 @@
+#!/bin/sh
+# The C library as bin/install puts it into a folder, used from C. It takes the archive as it was built last, by bin/test
+# or by `rt lib`; the compiler and the C library are the kit's, with headers of the tests' own, so that nothing else has
+# to be there. Where the machine has a compiler and headers, pkg-config or a formatter of manual pages, it is tried with
+# these too; what was left out for want of one is said in the last line.
+#
+#   - the libraries export the functions of the header and nothing else, and need the C library alone; the header's numbers
+#     are the crate's;
+#   - the header compiles as each C and C++ with all warnings on, and so do its examples and the blocks `c` of the pages;
+#     a block with a `main` is run on the greeting, and the page says what it prints;
+#   - c/tests/print.c prints what stands beside each example, and what bsonraw prints of each document of the tests;
+#   - the programs of c/tests: every buffer at its edges, each request for memory refused in turn, threads, reasons.
+set -u
+cd "$(dirname "$(realpath "$0")")/.." || exit 1
+work=$(mktemp -d) || exit 1
+trap 'rm -rf "$work"' EXIT
+ulimit -c 0 # a test that fails may abort, and leaves no core file
+kit=$(dirname "$(rt doc)")/toolchain
+prefix=$work/prefix
+pages='README.md CONTRIBUTING.md docs/*.md examples/*.md'
+warnings='-Wall -Wextra -Wpedantic -Wconversion -Wshadow -Wstrict-prototypes -Wmissing-prototypes -Werror'
+skipped=
+failed=0
+
+fails() {
+    echo "c: $*" >&2
+    failed=1
+}
+
+skip() {
+    skipped="$skipped${skipped:+, }$1"
+}
+
+# compile FLAGS..: the kit's compiler with the tests' headers
+compile() {
+    "$kit/bin/clang" -nostdinc -isystem c/tests/headers "-I$prefix/include" "$@"
+}
+
+# link LIBRARY PROGRAM OBJECT..: links with this library of the prefix, against the kit's C library
+link() {
+    library=$1
+    program=$2
+    shift 2
+    "$kit/bin/ld.lld" -pie -dynamic-linker /lib64/ld-linux-x86-64.so.2 -rpath "$prefix/lib" -o "$program" \
+        "$kit/lib/Scrt1.o" "$kit/lib/crti.o" "$kit/lib/crtbeginS.o" "$@" "$prefix/lib/$library" \
+        "$kit/lib/libc.so.6" "$kit/lib/libc_nonshared.a" "$kit/lib/crtendS.o" "$kit/lib/crtn.o"
+}
+
+# The functions that the header declares, one a line.
+declared() {
+    sed -n 's/^[a-z].* \(bsonraw_[a-z_]*\)(.*/\1/p' c/bsonraw.h | sort
+}
+
+# exports FILE DYNAMIC: the names that a library defines for others; DYNAMIC is -D for the shared one
+exports() {
+    "$work/llvm-nm" ${2:+"$2"} --defined-only --extern-only -j "$prefix/lib/$1" | grep -v ':$' | grep . | sort
+}
+
+look_at_libraries() {
+    ln -s "$kit/bin/clang" "$work/llvm-nm" && ln -s "$kit/bin/clang" "$work/llvm-readelf" || return 1
+    declared >"$work/declared"
+    [ "$(wc -l <"$work/declared")" = 6 ] || fails "the header doesn't declare six functions"
+    exports libbsonraw.a "" | diff "$work/declared" - >&2 || fails "the static library has other names than the header"
+    exports libbsonraw.so -D | diff "$work/declared" - >&2 || fails "the shared library has other names than the header"
+    needed=$("$work/llvm-readelf" -d "$prefix/lib/libbsonraw.so" | sed -n 's/.*(NEEDED).*\[\(.*\)\]/\1/p')
+    [ "$needed" = libc.so.6 ] || fails "the shared library needs $needed"
+}
+
+# header_compiles FILE: by each standard and compiler
+header_compiles() {
+    printf '#include "%s"\n' "$1" >"$work/includes.c"
+    for standard in c99 c11 c17 c23; do
+        compile -std=$standard -Weverything -Wno-pre-c23-compat -Werror -fsyntax-only "$work/includes.c" || return 1
+    done
+    for standard in c++98 c++11 c++17 c++20 c++23; do
+        compile -x c++ -std=$standard -Weverything -Wno-c++98-compat-pedantic -Werror -fsyntax-only "$work/includes.c" || return 1
+    done
+    if [ -n "$has_cc" ]; then
+        cc -std=c99 "-I$prefix/include" -Wall -Wextra -Wpedantic -Werror -fsyntax-only "$work/includes.c" || return 1
+    fi
+    if [ -n "$has_cxx" ]; then
+        c++ -x c++ -std=c++11 "-I$prefix/include" -Wall -Wextra -Wpedantic -Werror -fsyntax-only "$work/includes.c" || return 1
+    fi
+}
+
+# The numbers of statuses, reasons and causes that the header gives, one a line.
+header_numbers() {
+    awk '
+        /^enum bsonraw_/ { sort = $2; sub(/bsonraw_/, "", sort) }
+        sort != "kind" && /^    BSONRAW_/ { sub(/,/, "", $3); sub(/BSONRAW_/, "", $1); print sort, $1, $3 }
+    ' "$1" | sort
+}
+
+# Those that the crate is proved to give. The reasons of writing and of limits, behind 20, have statuses.
+crate_numbers() {
+    sed -n 's/^ *\(Status\|Reason\|Cause\)::\([A-Za-z0-9]*\)[^=]*=> \([0-9]*\),$/\1 \2 \3/p' crates/bsonraw_c/src/codes.rt | awk '
+        $2 == "Done" { $2 = "OK" }
+        $2 == "Nothing" { $2 = "NONE" }
+        $2 != "OK" && $2 != "NONE" { gsub(/[A-Z]/, "_&", $2); sub(/^_/, "", $2) }
+        $1 != "Reason" || $3 <= 20 { print tolower($1), toupper($2), $3 }
+    ' | sort
+}
+
+look_at_numbers() {
+    crate_numbers >"$work/numbers"
+    sed 's/BSONRAW_TOO_DEEP = 6/BSONRAW_TOO_DEEP = 7/' c/bsonraw.h >"$work/wrong.h"
+    header_numbers "$work/wrong.h" | cmp -s "$work/numbers" - && fails "a header with another number passes"
+    header_numbers c/bsonraw.h | diff "$work/numbers" - >&2 || fails "the header's numbers aren't the crate's"
+    [ "$(wc -l <"$work/numbers")" = 36 ] || fails "there aren't 36 numbers"
+}
+
+look_at_header() {
+    sed 's/^    size_t next;/    size_t next/' c/bsonraw.h >"$work/wrong.h"
+    header_compiles "$work/wrong.h" 2>/dev/null && fails "a header with a mistake compiles"
+    header_compiles bsonraw.h || fails "the header doesn't compile"
+}
+
+# examples: each example of the header as a function
+examples() {
+    cat <<'END'
+#include <bsonraw.h>
+#include <stdio.h>
+#include <stdlib.h>
+END
+    awk '
+        /^ \*     / && (is_behind || inside) {
+            if (!inside) {
+                head = "void example_" ++count "(const uint8_t *bytes, size_t len)"
+                print head ";\n" head " {\n(void)bytes, (void)len;"
+            }
+            inside = 1
+            print substr($0, 8)
+            next
+        }
+        inside { print "}"; inside = 0 }
+        { is_behind = /^ \*$/ }
+    ' "$1"
+}
+
+# blocks PAGE: writes each block of C into a file NUMBER.c of $work/blocks
+blocks() {
+    rm -rf "$work/blocks" && mkdir "$work/blocks" || exit 1
+    awk -v out="$work/blocks/" '
+        /^```c$/ { file = out (++count) ".c"; next }
+        /^```/ { file = ""; next }
+        file { print >file }
+    ' "$1"
+}
+
+# page PAGE: whether its blocks compile, and print what the page says; leaves how many there were in $count
+page() {
+    blocks "$1"
+    good=0
+    count=0
+    for block in "$work"/blocks/*.c; do
+        [ -e "$block" ] || continue
+        count=$((count + 1))
+        # shellcheck disable=SC2086 # a list of flags
+        compile -std=c99 $warnings -O1 -fPIE -c -o "$work/block.o" "$block" || { good=1; continue; }
+        grep -q '^int main(' "$block" || continue
+        link libbsonraw.a "$work/block" "$work/block.o" || { good=1; continue; }
+        said=$("$work/block" <"$work/greeting")
+        [ -n "$said" ] && grep -qF "prints \`$said\`" "$1" && continue
+        echo "c: $1 doesn't say that its program prints this of the greeting: $said" >&2
+        good=1
+    done
+    return "$good"
+}
+
+look_at_examples() {
+    examples c/bsonraw.h >"$work/examples.c"
+    [ "$(grep -c '^void example_.*{$' "$work/examples.c")" = 6 ] || fails "the header doesn't have an example of each call"
+    # shellcheck disable=SC2086
+    compile -std=c99 $warnings -Wno-unused-variable -Wno-shadow -c -o "$work/examples.o" "$work/examples.c" || fails "an example of the header doesn't compile"
+
+    printf '\23\0\0\0\2hi\0\6\0\0\0y\47all\0\0' >"$work/greeting"
+    { echo 'It prints `02 hi`.'; echo '```c'; cat c/tests/greeting.c; echo '```'; } >"$work/right.md"
+    sed 's/02 hi/02 ho/' "$work/right.md" >"$work/wrong.md"
+    sed 's/size_t len =/size_t length =/' "$work/right.md" >"$work/broken.md"
+    page "$work/right.md" || fails "a right page is refused"
+    page "$work/wrong.md" 2>/dev/null && fails "a page that says another output passes"
+    page "$work/broken.md" 2>/dev/null && fails "a page with a mistake in a block passes"
+    for name in $pages; do
+        page "$name" || failed=1
+        [ "$count" = 0 ] || echo "$name: $count blocks of C were compiled"
+    done
+}
+
+# levels N: a document of so many levels, each but the innermost holding the next under the empty key
+levels() {
+    awk -v n="$1" 'BEGIN {
+        printf "levels:%d ", n
+        for (inside = n - 1; inside >= 0; inside--) {
+            size = 5 + 7 * inside
+            printf "%02x%02x0000%s", size % 256, int(size / 256), inside ? "0300" : "00"
+        }
+        for (inside = 1; inside < n; inside++) printf "00"
+        print ""
+    }'
+}
+
+# The documents that tests in Rattle share, the examples, and some of many levels: a name and hex digits a line.
+documents() {
+    levels 40
+    levels 500
+    levels 501
+    LC_ALL=C awk -f c/tests/documents.awk crates/test_fixtures/src/documents.rt crates/view_tests/src/reasons.rt
+    for document in examples/*.hex; do
+        echo "$(basename "$document") $(tr -d ' \r\n' <"$document" | tr '[:upper:]' '[:lower:]')"
+    done
+}
+
+# prints COMMAND HEX WANTED: whether the library's answer is what stands in this file, with the status as its last line
+prints() {
+    { printf '%s' "$2" | "$work/print" "$1"; echo "status $?"; } >"$work/output"
+    cmp -s "$3" "$work/output"
+}
+
+look_at_output() {
+    prints list 0500000000 examples/greeting.list && fails "a wrong output passes for another"
+    for document in examples/*.hex; do
+        for command in list canon check; do
+            prints "$command" "$(tr -d ' \r\n' <"$document")" "${document%.hex}.$command" || fails "$command of $document: $(cat "$work/output")"
+        done
+    done
+    while read -r name hex; do
+        for command in list canon check; do
+            { echo "$hex" | crates/bsonraw/out/bsonraw "$command"; echo "status $?"; } >"$work/program"
+            prints "$command" "$hex" "$work/program" || fails "$command of $name: $(cat "$work/output")"
+        done
+    done <"$work/documents"
+    echo "$(wc -l <"$work/documents") documents are printed as by the program"
+}
+
+# build FILE..: compiles and links the programs of c/tests with both libraries, as NAME and NAME.shared
+build() {
+    for name in "$@"; do
+        # shellcheck disable=SC2086
+        compile -std=c99 $warnings -O1 -fPIE -c -o "$work/$name.o" "c/tests/$name.c" || return 1
+    done
+    for name in buffers memory reasons threads; do
+        link libbsonraw.a "$work/$name" "$work/$name.o" "$work/documents.o" || return 1
+        link libbsonraw.so "$work/$name.shared" "$work/$name.o" "$work/documents.o" || return 1
+    done
+    link libbsonraw.a "$work/print" "$work/print.o"
+}
+
+# The tests notice each mistake of c/tests/wrong.c, which calls the right functions under other names.
+notices_mistakes() {
+    ln -s "$kit/bin/clang" "$work/llvm-objcopy" && cp "$prefix/lib/libbsonraw.a" "$prefix/lib/wrong.a" || return 1
+    for name in $(declared); do
+        "$work/llvm-objcopy" --redefine-sym "$name=right_${name#bsonraw_}" "$prefix/lib/wrong.a" || return 1
+    done
+    mistake=0
+    for name in buffers threads buffers buffers memory reasons memory; do
+        mistake=$((mistake + 1))
+        # shellcheck disable=SC2086
+        compile -std=c99 $warnings -DMISTAKE=$mistake -O1 -fPIE -c -o "$work/wrong.o" c/tests/wrong.c &&
+            link wrong.a "$work/wrong" "$work/$name.o" "$work/documents.o" "$work/wrong.o" || return 1
+        "$work/wrong" <"$work/documents" >/dev/null 2>&1 && fails "$name doesn't notice mistake $mistake of c/tests/wrong.c"
+    done
+    rm "$prefix/lib/wrong.a"
+}
+
+run_tests() {
+    for name in buffers memory reasons threads; do
+        for program in "$name" "$name.shared"; do
+            "$work/$program" <"$work/documents" >"$work/said" || fails "$program ends with status $?"
+            cat "$work/said"
+        done
+    done
+}
+
+# As a user builds: the machine's compilers and headers, and what pkg-config says.
+use_machine() {
+    [ -n "$has_cc" ] || return 0
+    export LD_LIBRARY_PATH="$prefix/lib"
+    flags="-I$prefix/include -L$prefix/lib -lbsonraw"
+    if command -v pkg-config >/dev/null; then
+        flags=$(PKG_CONFIG_PATH=$prefix/lib/pkgconfig pkg-config --cflags --libs bsonraw) || fails "pkg-config doesn't find the library"
+    else
+        skip pkg-config
+    fi
+    # shellcheck disable=SC2086
+    cc -std=c99 -o "$work/machine" c/tests/reasons.c c/tests/documents.c $flags || fails "the tests don't compile with the machine's headers"
+    "$work/machine" <"$work/documents" || fails "the tests don't pass as the machine's compiler builds them"
+    [ -n "$has_cxx" ] || return 0
+    # shellcheck disable=SC2086
+    c++ -x c++ -o "$work/machine" c/tests/greeting.c -x none $flags || fails "the greeting doesn't compile as C++"
+    [ "$("$work/machine" <"$work/greeting")" = "02 hi" ] || fails "the greeting's elements aren't printed from C++"
+}
+
+look_at_manual() {
+    for name in $(declared); do
+        grep -q "$name(" man/bsonraw.3 || fails "the manual page doesn't have $name"
+    done
+    if ! command -v groff >/dev/null; then
+        skip "groff for the manual pages"
+        return
+    fi
+    for manual in man/bsonraw.1 man/bsonraw.3; do
+        groff -man -ww -Tutf8 -z "$manual" 2>"$work/said" || fails "$manual isn't formatted"
+        [ ! -s "$work/said" ] || fails "$manual: $(cat "$work/said")"
+    done
+}
+
+has_cc= has_cxx=
+printf '#include <stdio.h>\nint main(void) { return 0; }\n' >"$work/probe.c"
+if cc -o "$work/probe" "$work/probe.c" 2>/dev/null; then has_cc=yes; else skip "the machine's C compiler and headers"; fi
+if c++ -x c++ -o "$work/probe" "$work/probe.c" 2>/dev/null; then has_cxx=yes; else skip "the machine's C++ compiler and headers"; fi
+
+bin/install "$prefix" || exit 1
+documents >"$work/documents"
+look_at_libraries
+look_at_numbers
+look_at_header
+look_at_examples
+if build documents buffers memory reasons threads print; then
+    look_at_output
+    notices_mistakes || fails "the tests don't compile with a mistake"
+    run_tests
+    use_machine
+else
+    fails "the tests don't compile"
+fi
+look_at_manual
+echo "c: skipped: ${skipped:-nothing}"
+exit "$failed"

@@ -1,0 +1,3 @@
+mod LookingUp
+mod Placing
+mod Telling
