@@ -1,0 +1,277 @@
+"""Worked documents, whose answers are written out, and the documents of examples/ with the listings beside them."""
+
+import unittest
+from pathlib import Path
+
+import bsonraw
+from bsonraw import BsonError, ElementType, ErrorKind, Reason
+
+EXAMPLES = Path(__file__).resolve().parents[2] / "examples"
+
+# A document; the lines of list; the form in hex, or the line that says why there is none; the line of check.
+# fmt: off
+WORKED = [
+    ("0500000000", ["end"], "0500000000", "canonical"),
+    ("13000000 02686900 06000000 7927616c6c00 00", ["02 6869 10", "end"],
+     "1300000002686900060000007927616c6c0000", "canonical"),
+    ("06000000 0a00", ["0a - 0", "fault malformed none"], "fault malformed none", "breach stop 1"),
+    ("06000000 0000", ["fault malformed -"], "fault malformed -", "breach stop 0"),
+    ("11000000 0b2464617465 00 6f706500 0400", ["0b 2464617465 6", "fault malformed none"],
+     "fault malformed none", "breach stop 1"),
+    ("13000000 106100 01000000 106100 02000000 00", ["10 61 4", "10 61 4", "end"],
+     "0c0000001061000200000000", "breach repeated-key 1"),
+    ("0b000000 0f6100 03000000", ["0f 61 3", "end"], "fault malformed 61", "breach value 0"),
+    ("0c000000 036100 ffffffff 00", ["fault malformed 61"], "fault malformed 61", "breach stop 0"),
+    ("09000000 086100 02 00", ["08 61 1", "end"], "fault malformed 61", "breach value 0"),
+    ("11000000 056200 04000000 02 ffffffff 00", ["05 62 9", "end"], "fault malformed none", "breach value 0"),
+    ("0f000000 046100 07000000 0a00 00 00", ["04 61 7", "end"], "10000000046100080000000a30000000",
+     "breach array-key 0.0"),
+    ("13000000 046100 0b000000 0a7800 0a3100 00 00", ["04 61 11", "end"],
+     "130000000461000b0000000a30000a31000000", "breach array-key 0.0"),
+    ("0d000000 0b7200 6100 6d6900 00", ["0b 72 5", "end"], "0d0000000b72006100696d0000", "breach options 0"),
+    ("0d000000 0b7200 6100 696d00 00", ["0b 72 5", "end"], "0d0000000b72006100696d0000", "canonical"),
+    ("16000000 0f6300 0e000000 0100000000 0500000000 00", ["0f 63 14", "end"],
+     "160000000f63000e0000000100000000050000000000", "canonical"),
+    ("17000000 0f6300 0f000000 0100000000 050000000000 00", ["0f 63 15", "end"], "fault malformed none",
+     "breach value 0"),
+    ("", ["refused 1"], "refused 1", "refused 1"),
+    ("05000000", ["refused 1"], "refused 1", "refused 1"),
+    ("0600000001", ["refused 2"], "refused 2", "refused 2"),
+    ("0500000001", ["refused 3"], "refused 3", "refused 3"),
+    ("0d000000 086100 02 086100 01 00", ["08 61 1", "08 61 1", "end"], "fault malformed 61", "breach value 0"),
+    ("07000000 0aff00", ["fault utf8 none"], "fault utf8 none", "breach stop 0"),
+    ("0a000000 0b6100 ff00 00", ["fault utf8 61"], "fault utf8 61", "breach stop 0"),
+    ("0c000000 026100 06000000 00", ["fault malformed 61"], "fault malformed 61", "breach stop 0"),
+]
+
+# fmt: on
+
+# Documents that aren't canonical: the cause, and the path to the first breach.
+BREACHES = [
+    ("0b0000000a6e0000620000", "stop 1"),
+    ("0c0000000a6e000862000200", "value 1"),
+    ("0b0000000a6e000a6e0000", "repeated-key 1"),
+    ("100000000a6e000b620061006d690000", "options 1"),
+    ("160000000a6e00046c000b0000000a30000078000000", "stop 1.1"),
+    ("170000000a6e00046c000c0000000a3000083100020000", "value 1.1"),
+    ("210000000a6e00046c00160000000a30000331000b0000000a61000a6100000000", "repeated-key 1.1.1"),
+    ("160000000a6e00046c000b0000000a30000a32000000", "array-key 1.1"),
+    ("1b0000000a6e00046c00100000000a30000b310061006d69000000", "options 1.1"),
+    ("1f0000000a6e000f63001400000001000000000b0000000a61000062000000", "stop 1.1"),
+    ("200000000a6e000f63001500000001000000000c0000000a6100086200020000", "value 1.1"),
+    ("1f0000000a6e000f63001400000001000000000b0000000a61000a61000000", "repeated-key 1.1"),
+    ("270000000a6e000f63001c0000000100000000130000000a6100046c00080000000a3100000000", "array-key 1.1.0"),
+    ("240000000a6e000f6300190000000100000000100000000a61000b620061006d69000000", "options 1.1"),
+    ("1e000000036400160000000a6e000365000b0000000a6100006200000000", "stop 0.1.1"),
+    ("1f000000036400170000000a6e000365000c0000000a610008620002000000", "value 0.1.1"),
+    ("1e000000036400160000000a6e000365000b0000000a61000a6100000000", "repeated-key 0.1.1"),
+    ("1e000000036400160000000a6e000465000b0000000a30000a3000000000", "array-key 0.1.1"),
+    ("230000000364001b0000000a6e00036500100000000a61000b620061006d6900000000", "options 0.1.1"),
+    ("110000000a6100036100060000000a0000", "repeated-key 1"),
+    ("170000000361000b0000000a62000a6200000863000200", "repeated-key 0.1"),
+    ("29000000036100050000000004620005000000000f63000e000000010000000005000000000a610000", "repeated-key 3"),
+    ("11000000046100090000000a3030000000", "array-key 0.0"),
+    ("140000000461000c0000000a30000a3031000000", "array-key 0.1"),
+]
+
+# Documents that stop at their first element, whose key is k: the reason, and its text.
+STOPS = [
+    ("07000000146b00", "INVALID_TAG", "invalid tag: 20"),
+    (
+        "07000000026b00",
+        "STRING_HEAD_SHORT",
+        "expected buffer with string to contain at least 4 bytes, but it only has 0",
+    ),
+    (
+        "0a0000000d6b00010000",
+        "STRING_HEAD_SHORT",
+        "expected buffer with string to contain at least 4 bytes, but it only has 3",
+    ),
+    ("0c000000026b00ffffffff00", "NEGATIVE_LENGTH", "lengths can't be negative"),
+    (
+        "0b0000000e6b0000000000",
+        "STRING_TOO_SMALL",
+        "BSON length encoded string needs to be at least 5 bytes, instead got 4",
+    ),
+    ("0b000000026b0001000000", "STRING_PAST_END", "expected buffer to contain at least 5 bytes, but it only has 4"),
+    ("0d000000026b00010000000100", "STRING_NOT_TERMINATED", "expected string to be null-terminated"),
+    ("0c0000000c6b000100000000", "PAST_END", "length exceeds remaining length of buffer: 17 vs 5"),
+    ("0b000000046b0005000000", "PAST_END", "length exceeds remaining length of buffer: 5 vs 4"),
+    ("0c000000046b00ffffffff00", "NEGATIVE_LENGTH", "lengths can't be negative"),
+    ("0c000000036b000400000000", "DOCUMENT_TOO_SMALL", "document too small: 4 bytes"),
+    ("0c000000036b000600000000", "PAST_END", "length exceeds remaining length of buffer: 6 vs 5"),
+    ("0d000000036b00050000000100", "NESTED_NOT_TERMINATED", "not null terminated"),
+    ("07000000056b00", "LENGTH_HEAD_SHORT", "expected 4 bytes to read i32, instead got 0"),
+    ("0a0000000f6b00010000", "LENGTH_HEAD_SHORT", "expected 4 bytes to read i32, instead got 3"),
+    ("0c000000056b00ffffffff00", "NEGATIVE_LENGTH", "lengths can't be negative"),
+    ("0c0000000f6b00ffffffff00", "NEGATIVE_LENGTH", "lengths can't be negative"),
+    ("0b000000056b0000000000", "PAST_END", "length exceeds remaining length of buffer: 5 vs 4"),
+    ("0b0000000f6b0005000000", "PAST_END", "length exceeds remaining length of buffer: 5 vs 4"),
+    ("07000000086b00", "PAST_END", "length exceeds remaining length of buffer: 1 vs 0"),
+    ("0a000000106b00000000", "PAST_END", "length exceeds remaining length of buffer: 4 vs 3"),
+    ("07000000016b00", "PAST_END", "length exceeds remaining length of buffer: 8 vs 0"),
+    ("07000000076b00", "PAST_END", "length exceeds remaining length of buffer: 12 vs 0"),
+    ("07000000136b00", "PAST_END", "length exceeds remaining length of buffer: 16 vs 0"),
+    ("070000000b6b00", "NO_TERMINATOR", "expected null terminator"),
+    ("080000000b6b0000", "NO_TERMINATOR", "expected null terminator"),
+]
+
+# Documents whose element k has a payload that is no value: the reason, the key that the fault carries, and its text.
+FAULTS = [
+    ("09000000086b00ff00", "BAD_BOOLEAN", "k", "boolean must be stored as 0 or 1, got 255"),
+    ("0d000000056b00000000000200", "OLD_NO_INNER", "k", "old binary subtype has no inner declared length"),
+    ("11000000056b000400000002fcffffff00", "ADD_OVERFLOW", None, "attempted to add with overflow"),
+    (
+        "11000000056b000400000002fbffffff00",
+        "OLD_WRONG_INNER",
+        "k",
+        "old binary subtype has wrong inner declared length",
+    ),
+    (
+        "11000000056b0004000000020100000000",
+        "OLD_WRONG_INNER",
+        "k",
+        "old binary subtype has wrong inner declared length",
+    ),
+    ("0e0000000d6b0002000000ff0000", None, None, "not UTF-8"),
+    ("0f0000000e6b000300000061c30000", None, None, "not UTF-8"),
+    ("150000000f6b000d00000001000000000400000000", "CODE_TOO_SMALL", "k", "code with scope length too small"),
+    ("160000000f6b000e000000ffffffff00000000000000", "NEGATIVE_LENGTH", None, "lengths can't be negative"),
+    (
+        "160000000f6b000e0000000000000000050000000000",
+        "STRING_TOO_SMALL",
+        None,
+        "BSON length encoded string needs to be at least 5 bytes, instead got 4",
+    ),
+    (
+        "160000000f6b000e0000000700000000050000000000",
+        "STRING_PAST_END",
+        None,
+        "expected buffer to contain at least 11 bytes, but it only has 10",
+    ),
+    (
+        "160000000f6b000e0000000100000063050000000000",
+        "STRING_NOT_TERMINATED",
+        None,
+        "expected string to be null-terminated",
+    ),
+    ("170000000f6b000f00000002000000ff00050000000000", None, None, "not UTF-8"),
+    ("160000000f6b000e0000000200000063000400000000", "TOO_SHORT", None, "document too short"),
+    ("160000000f6b000e0000000100000000050000000100", "NOT_TERMINATED", None, "document not null-terminated"),
+]
+
+
+def canon(data: bytes) -> str:
+    try:
+        return bsonraw.canonical(data).hex()
+    except BsonError as error:
+        return bsonraw._line(error)
+
+
+def of_levels(count: int) -> bytes:
+    """So many documents, each but the innermost holding the next under the empty key."""
+    data = bytes.fromhex("0500000000")
+    for _ in range(count - 1):
+        data = (len(data) + 7).to_bytes(4, "little") + b"\x03\0" + data + b"\0"
+    return data
+
+
+class Worked(unittest.TestCase):
+    def test_each_answer_is_the_one_written_here(self) -> None:
+        for text, lines, form, verdict in WORKED:
+            data = bytes.fromhex(text)
+            with self.subTest(text):
+                self.assertEqual(list(bsonraw.list_lines(data)), lines)
+                self.assertEqual(canon(data), form)
+                self.assertEqual(bsonraw.check_line(data), verdict)
+
+    def test_stops_say_why(self) -> None:
+        for text, reason, said in STOPS:
+            data = bytes.fromhex(text)
+            with self.subTest(text):
+                with self.assertRaises(BsonError) as caught:
+                    list(bsonraw.elements(data))
+                error = caught.exception
+                self.assertEqual((error.kind, error.reason, error.key), (ErrorKind.MALFORMED, Reason[reason], "k"))
+                self.assertEqual(str(error), f"at offset 4: at key 'k': {said}")
+                with self.assertRaises(BsonError) as caught:
+                    bsonraw.get(data, "x")
+                self.assertEqual(str(caught.exception), f"at key 'k': {said}")
+
+    def test_faults_say_why(self) -> None:
+        for text, reason, key, said in FAULTS:
+            data = bytes.fromhex(text)
+            kind = ErrorKind.NOT_UTF8 if reason is None else ErrorKind.MALFORMED
+            name = None if reason is None else Reason[reason]
+            with self.subTest(text):
+                self.assertEqual([item.key for item in bsonraw.elements(data)], ["k"])
+                with self.assertRaises(BsonError) as caught:
+                    bsonraw.canonical(data)
+                error = caught.exception
+                self.assertEqual((error.kind, error.reason, error.key), (kind, name, key))
+                self.assertEqual(str(error), said if key is None else f"at key 'k': {said}")
+                self.assertEqual(str(bsonraw.first_fault(data)), str(error))
+                with self.assertRaises(BsonError) as caught:
+                    bsonraw.get(data, "k")
+                self.assertEqual(str(caught.exception), f"at key 'k': {said}")
+
+    def test_breaches(self) -> None:
+        for text, breach in BREACHES:
+            self.assertEqual(bsonraw.check_line(bytes.fromhex(text)), f"breach {breach}", text)
+
+    def test_look_up(self) -> None:
+        data = bytes.fromhex("15000000 08626f6f6c00 01 1069333200 40420f00 00")
+        found = bsonraw.get(data, "i32")
+        self.assertEqual(
+            (found.key, found.kind, int.from_bytes(found.payload, "little")), ("i32", ElementType.INT32, 10**6)
+        )
+        self.assertEqual(bsonraw.get(data, "bool").kind, ElementType.BOOLEAN)
+        self.assertIsNone(bsonraw.get(data, "unknown"))
+        self.assertIsNone(bsonraw.get(data, "i32\0"))
+        stopping = bytes.fromhex("06000000 0a00")
+        self.assertEqual(bsonraw.get(stopping, "").kind, ElementType.NULL)
+        with self.assertRaises(BsonError) as caught:
+            bsonraw.get(stopping, "x")
+        self.assertEqual((caught.exception.reason, caught.exception.key), (Reason.OVERFLOWED, None))
+        # a code with scope of length 3: what stands behind it begins inside its length
+        swallowing = bytes.fromhex("0f000000 0f6100 03000008 6200 01 00")
+        with self.assertRaises(BsonError) as caught:
+            bsonraw.get(swallowing, "a")
+        self.assertEqual(str(caught.exception), "at key 'a': length exceeds remaining length of buffer: 134217731 vs 8")
+
+    def test_levels(self) -> None:
+        data = of_levels(500)
+        self.assertEqual((len(data), data[:4].hex()), (3498, "aa0d0000"))
+        self.assertEqual(bsonraw.canonical(data), data)
+        self.assertIsNone(bsonraw.check(data))
+        self.assertEqual(canon(of_levels(501)), "refused 7")
+        self.assertIsNone(bsonraw.check(of_levels(501)))
+
+    def test_a_breach_far_down_has_its_whole_path(self) -> None:
+        inside = bytes.fromhex("0d000000 086100 02 086100 01 00")
+        for levels in (1, 63, 64, 65, 300):
+            data = inside
+            for _ in range(levels - 1):
+                data = (len(data) + 7).to_bytes(4, "little") + b"\x03\0" + data + b"\0"
+            self.assertEqual(bsonraw.check(data), (bsonraw.Cause.VALUE, (0,) * levels))
+
+
+class Examples(unittest.TestCase):
+    def test_each_has_the_listing_beside_it(self) -> None:
+        paths = sorted(EXAMPLES.glob("*.hex"))
+        self.assertGreaterEqual(len(paths), 7)
+        for path in paths:
+            data = bytes.fromhex(path.read_text())
+            answers = {
+                "list": list(bsonraw.list_lines(data)),
+                "canon": [canon(data)],
+                "check": [bsonraw.check_line(data)],
+            }
+            for command, lines in answers.items():
+                with self.subTest(path.name, command=command):
+                    wanted = path.with_suffix("." + command).read_text().splitlines()
+                    self.assertEqual(lines, wanted[:-1])
+
+
+if __name__ == "__main__":
+    unittest.main()
