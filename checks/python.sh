@@ -35,7 +35,7 @@ export BSONRAW_LIBRARY PYTHONDONTWRITEBYTECODE=1
 tests() {
     modules=$1
     shift
-    PYTHONPATH="$modules:python/tests:examples" "$python" -m unittest "$@" >"$work/said" 2>&1
+    PYTHONPATH="$modules:python/tests:examples" timeout 900 "$python" -m unittest "$@" >"$work/said" 2>&1
 }
 
 # A module whose walk begins a byte too late, or that takes a cause or a limit for another, fails its tests.
