@@ -20,9 +20,9 @@ is_stale() {
     [ -n "$(find "$root/crates.txt" "$root"/crates/*/* -name out -prune -o -newer "$root/crates/$1/out/built" -print)" ]
 }
 
-# The crates that a crate stands on, and itself, in the order of crates.txt: the lowest first.
+# The crates that these crates stand on, and themselves, in the order of crates.txt: the lowest first.
 crates() {
-    awk -F: -v top="$1" '
+    awk -F: -v tops="$*" '
         function mark(crate, names, count, i) {
             if (crate in marked || !(crate in below)) return
             marked[crate] = 1
@@ -30,7 +30,11 @@ crates() {
             for (i = 1; i <= count; i++) mark(names[i])
         }
         /^[a-z]/ { split($1, words, " "); below[words[1]] = $2; order[++lines] = words[1] }
-        END { mark(top); for (i = 1; i <= lines; i++) if (order[i] in marked) print order[i] }
+        END {
+            count = split(tops, each, " ")
+            for (i = 1; i <= count; i++) mark(each[i])
+            for (i = 1; i <= lines; i++) if (order[i] in marked) print order[i]
+        }
     ' "$root/crates.txt"
 }
 
@@ -61,29 +65,30 @@ prove() {
     fi
 }
 
-# Proves and builds a crate and what it stands on, in the folder for the log and the status.
+# build FOLDER CRATE..: proves and builds the crates and what they stand on; the log and the status are left in the folder
 build() {
-    names=$(crates "$1")
+    folder=$1
+    shift
+    names=$(crates "$@")
     count=$(echo "$names" | wc -l)
     say "it proves $count crates, once: about $minutes minutes on 4 processors (here are $(nproc)); later what changed"
     number=0
     for name in $names; do
         number=$((number + 1))
-        { prove "$name" 2>&1; echo "$?" >"$2/status"; } | tee -a "$2/log" | show_share "$number of $count: $name"
-        [ "$(cat "$2/status")" = 0 ] || return 1
+        { prove "$name" 2>&1; echo "$?" >"$folder/status"; } | tee -a "$folder/log" | show_share "$number of $count: $name"
+        [ "$(cat "$folder/status")" = 0 ] || return 1
     done
 }
 
-# make_proved CRATE FILE: builds the crate where the file that it makes is out of date; the log is shown where that fails
+# make_proved CRATE..: proves and builds these crates, in one run; the log is shown where that fails
 make_proved() {
-    is_stale "$1" "$2" || return 0
-    need_rt "the build of $1"
+    need_rt "the build of $*"
     work=$(mktemp -d) || return 1
     touch "$work/begun"
-    build "$1" "$work"
+    build "$work" "$@"
     status=$?
     if [ "$status" = 0 ]; then
-        mv -f "$work/begun" "$root/crates/$1/out/built"
+        for crate in "$@"; do touch -r "$work/begun" "$root/crates/$crate/out/built"; done
     else
         cat "$work/log" >&2
         say "the build failed"

@@ -83,12 +83,21 @@ header_compiles() {
     fi
 }
 
-# The numbers of statuses, reasons and causes that the header gives, one a line.
+# The numbers of statuses, reasons, causes and tags that the header gives, one a line.
 header_numbers() {
     awk '
         /^enum bsonraw_/ { sort = $2; sub(/bsonraw_/, "", sort) }
-        sort != "kind" && /^    BSONRAW_/ { sub(/,/, "", $3); sub(/BSONRAW_/, "", $1); print sort, $1, $3 }
+        sort != "kind" && /^    BSONRAW_/ { sub(/,/, "", $3); sub(/BSONRAW_(TAG_)?/, "", $1); print sort, $1, $3 }
     ' "$1" | sort
+}
+
+# The tags of the crates, by the header's names.
+crate_tags() {
+    sed -n 's/^ *ElementType::\([A-Za-z0-9]*\) => \(0x..\),$/\1 \2/p' crates/raw_view/src/element_type.rt |
+        sed 's/^EmbeddedDocument/Document/; s/^RegularExpression/Regex/; s/^JavaScriptCode/Javascript/; s/^DateTime/Datetime/' |
+        while read -r name tag; do
+            echo "tag $(echo "$name" | sed 's/\(.\)\([A-Z]\)/\1_\2/g' | tr '[:lower:]' '[:upper:]') $((tag))"
+        done
 }
 
 # Those that the crate is proved to give. The reasons of writing and of limits, behind 20, have statuses.
@@ -102,11 +111,11 @@ crate_numbers() {
 }
 
 look_at_numbers() {
-    crate_numbers >"$work/numbers"
+    { crate_numbers; crate_tags; } | sort >"$work/numbers"
     sed 's/BSONRAW_TOO_DEEP = 6/BSONRAW_TOO_DEEP = 7/' c/bsonraw.h >"$work/wrong.h"
     header_numbers "$work/wrong.h" | cmp -s "$work/numbers" - && fails "a header with another number passes"
     header_numbers c/bsonraw.h | diff "$work/numbers" - >&2 || fails "the header's numbers aren't the crate's"
-    [ "$(wc -l <"$work/numbers")" = 36 ] || fails "there aren't 36 numbers"
+    [ "$(wc -l <"$work/numbers")" = 57 ] || fails "there aren't 57 numbers"
 }
 
 look_at_header() {
@@ -169,7 +178,7 @@ page() {
 
 look_at_examples() {
     examples c/bsonraw.h >"$work/examples.c"
-    [ "$(grep -c '^void example_.*{$' "$work/examples.c")" = 6 ] || fails "the header doesn't have an example of each call"
+    [ "$(grep -c '^void example_.*{$' "$work/examples.c")" = 8 ] || fails "the header doesn't have an example of each call, and two more"
     # shellcheck disable=SC2086
     compile -std=c99 $warnings -Wno-unused-variable -Wno-shadow -c -o "$work/examples.o" "$work/examples.c" || fails "an example of the header doesn't compile"
 
@@ -271,9 +280,24 @@ run_tests() {
     done
 }
 
+# The lines by which README compiles its first block of C make programs that run, with the prefix in place of ~/.local.
+compile_as_shown() {
+    command -v pkg-config >/dev/null || return 0
+    blocks README.md
+    cp "$work/blocks/1.c" "$work/keys.c"
+    sed -n "s|~/.local|$prefix|g; /^cc keys\.c/p" README.md >"$work/lines"
+    [ "$(wc -l <"$work/lines")" = 2 ] || fails "README doesn't have two lines that compile keys.c"
+    while read -r line; do
+        rm -f "$work/a.out"
+        (cd "$work" && PKG_CONFIG_PATH=$prefix/lib/pkgconfig sh -c "$line" </dev/null) || fails "this doesn't compile: $line"
+        [ "$("$work/a.out" <"$work/greeting")" = "02 hi" ] || fails "the greeting's elements aren't printed after: $line"
+    done <"$work/lines"
+}
+
 # As a user builds: the machine's compilers and headers, and what pkg-config says.
 use_machine() {
     [ -n "$has_cc" ] || return 0
+    compile_as_shown
     export LD_LIBRARY_PATH="$prefix/lib"
     flags="-I$prefix/include -L$prefix/lib -lbsonraw"
     if command -v pkg-config >/dev/null; then

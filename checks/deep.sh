@@ -1,14 +1,19 @@
 #!/bin/sh
 # Documents of very many levels, each but the innermost holding the next under the empty key: what the program prints of
 # them on a stack of 8 MB, and that canon asks for memory no more often for 2,000,000 levels than for 501, beside what
-# list asks for to read the text. It takes the program as it was built last, by bin/test or by `rt run`.
+# list asks for to read the text. Then the tests of deep trees, on such a stack: all that they were given is released,
+# and to drop a tree asks for nothing. It takes the program and the tests as they were built last, by bin/test or by
+# `rt run` and `rt test`.
 set -u
 cd "$(dirname "$(realpath "$0")")/.." || exit 1
 program=crates/bsonraw/out/bsonraw
-if [ ! -x "$program" ]; then
-    echo "deep: $program isn't built" >&2
-    exit 1
-fi
+tests=crates/tree_tests/out/tree_tests_tests
+for built in "$program" "$tests"; do
+    if [ ! -x "$built" ]; then
+        echo "deep: $built isn't built" >&2
+        exit 1
+    fi
+done
 ulimit -s 8192 || exit 1
 ulimit -c 0 # a program that fills its stack is killed, and leaves no core file
 work=$(mktemp -d) || exit 1
@@ -44,7 +49,7 @@ prints() {
         echo "status $?"
         cat "$work/said"
     } >"$work/output"
-    requests=$(cat "$work/requests")
+    read -r requests _ <"$work/requests"
     diff "$work/wanted" "$work/output" >"$work/difference" && return
     echo "deep: $command of $n levels:" >&2
     head -c 300 "$work/difference" >&2
@@ -62,6 +67,26 @@ converts() {
     more=$((requests - listed))
 }
 
+# tried TEST: the test of that name passes; how often it asked for memory, in $requests, and how many blocks it never
+# released, in $held
+tried() {
+    requests= held=
+    if ! LD_PRELOAD=$work/count.so "$tests" "depth::$1" 3>"$work/requests" >"$work/said" 2>&1; then
+        echo "deep: the test $1 failed" >&2
+        head -c 300 "$work/said" >&2
+        failed=1
+    fi
+    read -r requests held <"$work/requests"
+}
+
+# lets_go TEST: and it has released all
+lets_go() {
+    tried "$1"
+    [ "$held" = 0 ] && return
+    echo "deep: $1: not released: ${held:-unknown}" >&2
+    failed=1
+}
+
 converts 501 3498
 few=$more
 converts 2000000 13999991
@@ -73,4 +98,18 @@ prints check 0 canonical
 n=2400000
 levels "$n"
 prints canon 1 "refused 6"
+
+lets_go a_million_documents_come_back
+lets_go a_million_arrays_come_back
+lets_go a_million_scopes_come_back
+lets_go a_list_of_deep_documents_comes_back
+lets_go a_deep_branch_among_others_is_let_go
+lets_go a_million_owned_levels_are_compared_and_printed
+lets_go a_million_levels_in_turn_come_back
+dropped=$requests
+tried a_million_levels_in_turn_are_forgotten
+if [ "$dropped" != "$requests" ]; then
+    echo "deep: $dropped requests where a tree is dropped, and $requests where it is forgotten" >&2
+    failed=1
+fi
 exit "$failed"

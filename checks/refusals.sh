@@ -6,7 +6,8 @@
 #
 # A program gives the ample answer, or status 4 or 5 and nothing: 5 where memory was wanted for what is read, 4 where
 # it was wanted for anything else, which comes at least once. The run that meets no refusal gives the ample answer. A
-# test passes in each run.
+# test passes in each run. Whatever was refused, each block of memory that a run was given has been released at its end,
+# and none twice.
 set -u
 script=$(realpath "$0")
 case $1 in --one) ;; *) list=$(realpath "$1") ;; esac
@@ -14,13 +15,15 @@ cd "$(dirname "$script")/.." || exit 1
 
 ulimit -c 0 # a test that fails aborts, and leaves no core file
 
-# refused N PROGRAM ARGS..: runs the program with its request N refused; leaves its output and the number of requests.
+# refused N PROGRAM ARGS..: runs the program with its request N refused; leaves its output, the number of requests, and
+# how many blocks of memory it never released.
 refused() {
     n=$1
     shift
     REFUSE=$n LD_PRELOAD=$shim "$@" 3>"$work/requests" >"$work/output" 2>"$work/error"
     status=$?
-    requests=$(cat "$work/requests")
+    requests= held=
+    read -r requests held <"$work/requests"
     echo "status $status" >>"$work/output"
 }
 
@@ -53,6 +56,10 @@ each_refused() {
         refused "$n" "$@" <"$input"
         if ! "$answered"; then
             echo "$scenario: request $n refused: $(cat "$work/output" "$work/error")" >&2
+            return 1
+        fi
+        if [ "$held" != 0 ]; then
+            echo "$scenario: request $n refused: not released: ${held:-unknown}" >&2
             return 1
         fi
         [ "${requests:-0}" -ge "$n" ] || break

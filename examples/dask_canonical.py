@@ -10,8 +10,9 @@ the same name for each, and report.json: how many documents there are, how many 
 earlier one of any dump, and each fault with its file and offset. The result is the same, byte for byte, however many
 workers there are and whichever of them die.
 
-The module bsonraw has to be installed where the workers run (pip install ./python), and workers on several machines see
-DUMP and FOLDER under the same paths. Each worker loads the library once.
+The module bsonraw and the library have to be on each machine where workers run: copy libbsonraw.so beside bsonraw.py, or set
+BSONRAW_LIBRARY to its path there. Workers on several machines see DUMP and FOLDER under the same paths. Each worker loads the
+library once.
 
 1. A dump is cut into partitions at the ends of documents, for which only the documents' lengths are read.
 2. Partitions are independent: each is brought to its canonical forms, which go to a file of their own, with the SHA-256 of

@@ -27,6 +27,7 @@ from __future__ import annotations
 import argparse
 import array
 import ctypes
+import io
 import mmap
 import os
 import stat
@@ -59,11 +60,8 @@ __version__ = "1.0.0"
 MAX_BYTES = 16_777_216
 """How many bytes `canonical` and `first_fault` take, unless told otherwise: 16 MiB."""
 MAX_DEPTH = 500
-"""How many levels of documents, arrays and scopes they take, the outermost counted, unless told otherwise."""
-DEEPEST = 10_000
-"""The largest max_depth that may be asked for. A level takes up to 400 bytes of the thread's stack, and a thread of 8 MB, as
-Linux makes them, has enough for so many; where threads have less (threading.stack_size, musl), ask for no more levels than
-fit."""
+"""How many levels of documents, arrays and scopes they take, the outermost counted, unless told otherwise. A level takes
+memory, and no stack; but where memory runs out, the levels that are still to be measured take stack, too."""
 
 
 class ElementType(IntEnum):
@@ -181,7 +179,8 @@ class BsonError(ValueError):
     kind: what kind of fault it is.
     reason: which one, or None for a text that isn't UTF-8.
     key: the key that the fault carries, or None where it has none.
-    offset: where in the data it stands, where the call knows that (`elements`, `documents`); else None.
+    offset: how many bytes stand before it: of `elements` from the document's first byte on, of `documents` from the first
+    byte that was read of the file, or the buffer's; of the other calls None.
     """
 
     kind: ErrorKind
@@ -290,28 +289,31 @@ _SIGNATURES = {
 """The result of each call, and how many spans (pointer and length), then numbers, then spans it takes."""
 
 
-def _candidates() -> Iterator[str]:
-    """Where the library may be, the first place first."""
+def _folders() -> List[str]:
+    """The folders that the library may be in, the first one first."""
     here = Path(__file__).resolve().parent
-    yield str(here / "libbsonraw.so")
-    folders = [folder for folder in here.parents if folder.name == "lib"]
+    folders = [here, *(folder for folder in here.parents if folder.name == "lib")]
     folders += [Path(sys.prefix, "lib"), Path(os.path.expanduser("~/.local/lib")), Path("/usr/local/lib")]
-    for folder in folders:
-        yield str(folder / "libbsonraw.so")
+    return list(dict.fromkeys(map(str, folders)))
 
 
 def _open_library() -> ctypes.CDLL:
     """Opens the library that is found first."""
     named = os.environ.get("BSONRAW_LIBRARY")
-    found = [named] if named else list(filter(os.path.exists, _candidates()))[:1]
+    places = [os.path.join(folder, "libbsonraw.so") for folder in _folders()]
+    found = [named] if named else list(filter(os.path.exists, places))[:1]
     for path in found or ["libbsonraw.so.1", "libbsonraw.so"]:
         try:
             return ctypes.CDLL(path)
         except OSError as error:
-            why = error
+            why = str(error)
+    if named:
+        where = ", which the environment variable BSONRAW_LIBRARY names,"
+    else:
+        where = "" if found else f", looked for in {', '.join(_folders())} and by the system's loader,"
     raise ImportError(
-        f"bsonraw: the library libbsonraw.so can't be loaded ({why}): run bin/install PREFIX in a clone of Foyeranise"
-        " and set the environment variable BSONRAW_LIBRARY to PREFIX/lib/libbsonraw.so"
+        f"bsonraw: the library {found[0] if found else 'libbsonraw.so'}{where} can't be loaded ({why}): run bin/install"
+        " PREFIX in a clone of Foyeranise and set the environment variable BSONRAW_LIBRARY to PREFIX/lib/libbsonraw.so"
     )
 
 
@@ -334,13 +336,14 @@ def _load() -> ctypes.CDLL:
     return library
 
 
+_missing: Optional[ImportError] = None
+"""Why the command line has no library; a module without it isn't imported."""
 try:
     _library = _load()
-except ImportError as missing:
+except ImportError as error:
     if __name__ != "__main__":
         raise
-    print(missing, file=sys.stderr)
-    sys.exit(6)
+    _missing = error
 
 
 # ---- memory ----------------------------------------------------------------------------------------------------------
@@ -410,8 +413,8 @@ def _limits(max_bytes: int, max_depth: int) -> None:
     """Refuses limits that the library can't be handed."""
     if not 0 <= max_bytes <= sys.maxsize:
         raise ValueError(f"max_bytes is {max_bytes}, and not from 0 to {sys.maxsize}")
-    if not 0 <= max_depth <= DEEPEST:
-        raise ValueError(f"max_depth is {max_depth}, and not from 0 to {DEEPEST}")
+    if not 0 <= max_depth <= sys.maxsize:
+        raise ValueError(f"max_depth is {max_depth}, and not from 0 to {sys.maxsize}")
 
 
 # ---- errors ----------------------------------------------------------------------------------------------------------
@@ -468,6 +471,8 @@ def get(data: Buffer, key: str) -> Optional[Element]:
     Raises BsonError where its payload is no value of its kind, or where the elements stop before one has the key. No value
     of another key is judged, nor anything behind the element.
     """
+    if not isinstance(key, str):
+        raise TypeError(f"key is of type {type(key).__name__}, and not str")
     name = key.encode()
     with memoryview(data).cast("B") as view:
         place = _place(data, view)
@@ -585,11 +590,18 @@ def documents(source: Union[BinaryIO, Buffer]) -> Iterator[Tuple[int, Buffer]]:
 
     They are cut by their length alone: what is inside, and the 0 at the end, is for who reads them. Raises BsonError, with
     the offset, where no document can stand: its length is under 5 or more than what is left. Nothing says then where a
-    next document would begin.
+    next document would begin. A path, or a file that is open for text, raises TypeError at the call.
     """
+    if isinstance(source, (str, os.PathLike)):
+        raise TypeError("source is a path, and not an open file: use open(path, 'rb')")
+    if isinstance(source, io.TextIOBase):
+        raise TypeError("source is a file that is open for text, and not for bytes: use open(path, 'rb')")
     try:
         view = memoryview(source)  # type: ignore[arg-type]
     except TypeError:
+        if not hasattr(source, "read"):
+            name = type(source).__name__
+            raise TypeError(f"source is of type {name}, and neither an open file nor bytes-like") from None
         return _documents_of_file(source)  # type: ignore[arg-type]
     return _documents_of_view(view.cast("B").toreadonly())
 
@@ -660,8 +672,8 @@ Reads dump files of BSON documents, one behind the other, as mongodump writes th
   check   where each document that isn't canonical first fails to be
 
 A document goes by its offset in the file. list and check print a line `document OFFSET FILE` and then the lines of
-docs/PROGRAM.md; check leaves canonical documents out, but for --all. canon leaves damaged documents out and names them on
-standard error. A damaged document stops nothing: reading goes on behind it. Where the length itself is unsound (under 5,
+docs/PROGRAM.md; check leaves canonical documents out, but for --all, and says behind a stop or a value which fault it is.
+canon leaves damaged documents out and names them on standard error. A damaged document stops nothing: reading goes on behind it. Where the length itself is unsound (under 5,
 or more than the file has), nothing says where the next document begins, and the rest of that file isn't read.
 """
 
@@ -763,8 +775,8 @@ class _Run:
         self._options = options
         self._out = out
         self._answer = {"list": self._list, "canon": self._canon, "check": self._check}[options.command]
-        self._bad = {"list": "with a fault", "canon": "left out", "check": "not canonical"}[options.command]
         self._name = ""
+        self._damaged = 0
         self._bar = _Progress("", None, sys.stderr)
         self._is_out_terminal = out.isatty()
         self.status = 0
@@ -783,7 +795,7 @@ class _Run:
             self._complain(4, "no memory to read on")
 
     def _dump(self, file: BinaryIO) -> None:
-        count = bad = 0
+        count = bad = self._damaged = 0
         try:
             for offset, data in documents(file):
                 count += 1
@@ -793,8 +805,10 @@ class _Run:
             self._stopped(error)
         finally:
             self._bar.clear()
-        if self._options.command != "list":
-            self._say(f"documents: {count}, {self._bad}: {bad}")
+        if self._options.command == "canon":
+            self._say(f"documents: {count}, left out: {bad}")
+        if self._options.command == "check":
+            self._say(f"documents: {count}, not canonical: {bad - self._damaged}, damaged: {self._damaged}")
 
     def _document(self, offset: int, data: Buffer) -> bool:
         try:
@@ -813,9 +827,19 @@ class _Run:
     def _check(self, offset: int, data: Buffer) -> bool:
         line = check_line(data)
         is_good = line == "canonical"
+        if not is_good:
+            line = self._with_fault(line, data)
         if self._options.all or not is_good:
             self._write_lines(offset, [line])
         return is_good
+
+    def _with_fault(self, line: str, data: Buffer) -> str:
+        """Counts a document that is damaged; behind a breach by a fault the line gets the error's text."""
+        is_fault = line.startswith(("breach stop", "breach value"))
+        error = first_fault(data, len(data), self._options.max_depth)
+        is_known = error is not None and error.kind is not ErrorKind.REFUSED
+        self._damaged += is_fault or is_known
+        return f"{line} ({error})" if is_fault and is_known else line
 
     def _canon(self, offset: int, data: Buffer) -> bool:
         try:
@@ -866,18 +890,44 @@ def _run(options: argparse.Namespace, out: BinaryIO) -> int:
 
 
 def _run_into(options: argparse.Namespace, path: str) -> int:
-    """Runs a command into a file, which stands there once all is written; until then it is FILE.part."""
-    part = path + ".part"
+    """Runs a command into a file, which is replaced where the status is under 3, and else left as it was. Until the end
+    what is written is in a file of its own beside it. A device or a pipe is written as it is."""
+    if os.path.exists(path) and not os.path.isfile(path):
+        with _opened(path, "wb") as out:
+            return _run(options, out)
+    path = os.path.realpath(path)
+    part = f"{path}.{os.getpid()}.part"
+    out = _opened(part, "xb")
     try:
-        with open(part, "wb") as out:
+        with out:
             status = _run(options, out)
-        os.replace(part, path)
+        if status < 3:
+            os.replace(part, path)
     except OSError as error:
         raise _Unwritten(error) from None
     finally:
         if os.path.exists(part):
             os.remove(part)
+    if status >= 3:
+        print(f"bsonraw: {options.out}: left as it was, since the exit status is {status}", file=sys.stderr)
     return status
+
+
+def _opened(path: str, mode: str) -> BinaryIO:
+    """A file that is open for writing bytes."""
+    try:
+        return open(path, mode)  # type: ignore[return-value]
+    except OSError as error:
+        raise _Unwritten(error) from None
+
+
+def _is_same_file(name: str, out: str) -> bool:
+    """Whether an input is the file that the output goes to."""
+    try:
+        given = os.fstat(0) if name == "-" else os.stat(name)
+        return os.path.isfile(out) and os.path.samestat(given, os.stat(out))
+    except OSError:
+        return False
 
 
 def _options(arguments: Optional[Sequence[str]]) -> argparse.Namespace:
@@ -889,7 +939,12 @@ def _options(arguments: Optional[Sequence[str]]) -> argparse.Namespace:
     )
     parser.add_argument("command", choices=["list", "canon", "check"])
     parser.add_argument("files", nargs="+", metavar="FILE")
-    parser.add_argument("-o", dest="out", metavar="FILE", help="write to this file, which is replaced at the end")
+    parser.add_argument(
+        "-o",
+        dest="out",
+        metavar="FILE",
+        help="write to this file, which is replaced at the end where the exit status is under 3, and else left as it was"
+    )
     parser.add_argument("--all", action="store_true", help="check: say of canonical documents too that they are")
     limits = (("--max-bytes", MAX_BYTES, "bytes"), ("--max-depth", MAX_DEPTH, "levels"))
     for name, limit, what in limits:
@@ -901,6 +956,8 @@ def _options(arguments: Optional[Sequence[str]]) -> argparse.Namespace:
         _limits(options.max_bytes, options.max_depth)
     except ValueError as error:
         parser.error(str(error))
+    if options.out and any(_is_same_file(name, options.out) for name in options.files):
+        parser.exit(2, f"bsonraw: {options.out} is an input too: give -o another file\n")
     if options.command == "canon" and not options.out and sys.stdout.isatty():
         parser.error("canon writes bytes, which are nothing for a terminal: give -o FILE, or a pipe")
     return options
@@ -911,10 +968,13 @@ def main(arguments: Optional[Sequence[str]] = None) -> int:
 
     0 every document ended well; 1 a document has a fault, isn't canonical or was refused; 2 the command line is wrong (by
     SystemExit, as argparse does); 3 a length is unsound, and the rest of its file wasn't read; 4 no memory was left for a
-    document; 5 a file couldn't be read or the output not written; 6 the library isn't there (before this is called); 130
-    interrupted. Where several apply, the highest.
+    document; 5 a file couldn't be read or the output not written; 6 the library isn't there; 130 interrupted. Where several
+    apply, the highest.
     """
     options = _options(arguments)
+    if _missing is not None:
+        print(_missing, file=sys.stderr)
+        return 6
     try:
         if options.out:
             return _run_into(options, options.out)

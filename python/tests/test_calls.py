@@ -91,6 +91,12 @@ class Buffers(unittest.TestCase):
         for call in CALLS:
             self.assertRaises((BufferError, TypeError), call, memoryview(b"x" * 40)[::2])
 
+    def test_a_key_that_is_no_text_is_refused(self) -> None:
+        for key, name in ((b"hi", "bytes"), (None, "NoneType"), (1, "int")):
+            with self.assertRaises(TypeError) as caught:
+                bsonraw.get(GREETING, key)
+            self.assertEqual(str(caught.exception), f"key is of type {name}, and not str")
+
     def test_payloads_are_no_copies_and_read_only(self) -> None:
         data = bytearray(GREETING)
         (item,) = bsonraw.elements(data)
@@ -159,20 +165,26 @@ class Limits(unittest.TestCase):
             {"max_bytes": -1},
             {"max_depth": -1},
             {"max_bytes": 1 << 63},
-            {"max_depth": bsonraw.DEEPEST + 1},
+            {"max_depth": 1 << 63},
         ):
             self.assertRaises(ValueError, bsonraw.canonical, GREETING, **limits)
             self.assertRaises(ValueError, bsonraw.first_fault, GREETING, **limits)
 
-    def test_the_deepest_is_taken_in_a_thread_too(self) -> None:
-        data = framed(b"")
-        for _ in range(bsonraw.DEEPEST - 1):
-            data = framed(b"\x03\0" + data)
-        forms = [bsonraw.canonical(data, max_depth=bsonraw.DEEPEST)]
-        thread = threading.Thread(target=lambda: forms.append(bsonraw.canonical(data, max_depth=bsonraw.DEEPEST)))
+    def test_no_depth_fills_the_stack(self) -> None:
+        count = 200_000
+
+        def inside_of_levels(document: bytes) -> bytes:
+            lengths = range(len(document) + 7 * count, len(document), -7)
+            opened = b"".join(length.to_bytes(4, "little") + b"\x03\0" for length in lengths)
+            return opened + document + b"\0" * count
+
+        data = inside_of_levels(framed(b"\x0aa\0\x0aa\0"))
+        form = inside_of_levels(framed(b"\x0aa\0"))
+        forms = [bsonraw.canonical(data, max_depth=count + 1)]
+        thread = threading.Thread(target=lambda: forms.append(bsonraw.canonical(data, max_depth=count + 1)))
         thread.start()
         thread.join()
-        self.assertEqual(forms, [data, data])
+        self.assertTrue(forms == [form, form])
 
     def test_a_form_longer_than_its_document(self) -> None:
         values = b"\x0a\0" * 50_000

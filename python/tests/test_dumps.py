@@ -81,8 +81,21 @@ class Documents(unittest.TestCase):
         self.assertEqual(found, [(0, 19), (19, 19), (38, 12), (50, 5), (55, 19), (74, len(big))])
 
     def test_what_is_neither_file_nor_bytes(self) -> None:
-        for source in ("dump.bson", 7, None):
-            self.assertRaises((TypeError, AttributeError), lambda: list(bsonraw.documents(source)))
+        path = "source is a path, and not an open file: use open(path, 'rb')"
+        text = "source is a file that is open for text, and not for bytes: use open(path, 'rb')"
+        for source, wanted in (
+            ("dump.bson", path),
+            (Path("dump.bson"), path),
+            (io.StringIO("5"), text),
+            (7, "source is of type int, and neither an open file nor bytes-like"),
+            (None, "source is of type NoneType, and neither an open file nor bytes-like"),
+        ):
+            with self.assertRaises(TypeError) as caught:
+                bsonraw.documents(source)
+            self.assertEqual(str(caught.exception), wanted)
+        with open(MODULE) as file, self.assertRaises(TypeError) as caught:
+            bsonraw.documents(file)
+        self.assertEqual(str(caught.exception), text)
 
 
 def run(*arguments: str, given: bytes = b"", **options: Any) -> Tuple[int, bytes, str]:
@@ -136,11 +149,31 @@ end""".splitlines(),
         status, out, said = run("check", name)
         self.assertEqual(
             out.decode(),
-            f"document 19 {name}\nbreach repeated-key 1\ndocument 38 {name}\nbreach stop 0\ndocument 50 {name}\nrefused 3\n",
+            f"document 19 {name}\nbreach repeated-key 1\ndocument 38 {name}\nbreach stop 0 (at key 'a': expected buffer to"
+            f" contain at least 10 bytes, but it only has 5)\ndocument 50 {name}\nrefused 3\n",
         )
-        self.assertEqual((status, said), (1, f"bsonraw: {name}: documents: 5, not canonical: 3\n"))
+        self.assertEqual((status, said), (1, f"bsonraw: {name}: documents: 5, not canonical: 1, damaged: 2\n"))
         status, out, said = run("check", "--all", self.file("b.bson", GREETING), self.file("c.bson", ITS_FORM * 2))
         self.assertEqual((status, out.count(b"canonical\n"), out.count(b"document ")), (0, 3, 3))
+
+    def test_check_counts_what_is_damaged(self) -> None:
+        boolean = bytes.fromhex("09000000 086200 02 00")
+        nested = framed(b"\x03d\0" + boolean)
+        # the first breach is a repeated key, and a boolean behind it is neither 0 nor 1
+        both = framed(b"\x0aa\0\x0aa\0\x08b\0\2")
+        deep = framed(b"\x03a\0" + framed(b"\x03a\0" + TRUNCATED))
+        status, out, said = run("check", "--max-depth", "2", "-", given=boolean + nested + both + deep + REPEATED)
+        self.assertEqual(
+            [line for line in out.decode().splitlines() if line.startswith("breach")],
+            [
+                "breach value 0 (at key 'b': boolean must be stored as 0 or 1, got 2)",
+                "breach value 0.0 (at key 'b': boolean must be stored as 0 or 1, got 2)",
+                "breach repeated-key 1",
+                "breach stop 0.0.0",
+                "breach repeated-key 1",
+            ],
+        )
+        self.assertEqual((status, said), (1, "bsonraw: -: documents: 5, not canonical: 1, damaged: 4\n"))
 
     def test_canon(self) -> None:
         name = self.file("a.bson", DUMP)
@@ -159,12 +192,61 @@ end""".splitlines(),
 
     def test_canon_into_a_file(self) -> None:
         name = self.file("a.bson", GREETING + REPEATED)
-        status, out, _ = run("canon", name, "-o", name)
-        self.assertEqual((status, out, Path(name).read_bytes()), (0, b"", GREETING + ITS_FORM))
-        self.assertEqual([path.name for path in self.folder.iterdir()], ["a.bson"])
+        target = self.file("b.bson", b"old")
+        status, out, _ = run("canon", name, "-o", target)
+        self.assertEqual((status, out, Path(target).read_bytes()), (0, b"", GREETING + ITS_FORM))
+        Path(name).write_bytes(TRUNCATED + REPEATED)
+        status, _, said = run("canon", name, "-o", target)
+        self.assertEqual((status, Path(target).read_bytes()), (1, ITS_FORM))
+        self.assertEqual(sorted(path.name for path in self.folder.iterdir()), ["a.bson", "b.bson"])
         status, _, said = run("canon", name, "-o", str(self.folder / "no" / "such.bson"))
         self.assertEqual(status, 5)
         self.assertIn("can't be written", said)
+
+    def test_an_output_is_left_where_not_all_was_read(self) -> None:
+        target = self.file("out.bson", ITS_FORM)
+        good = self.file("a.bson", GREETING)
+        unsound = self.file("b.bson", GREETING + b"\4\0\0\0")
+        for name, wanted in ((str(self.folder / "none.bson"), 5), (unsound, 3)):
+            with self.subTest(wanted):
+                status, out, said = run("canon", good, name, "-o", target)
+                self.assertEqual((status, out, Path(target).read_bytes()), (wanted, b"", ITS_FORM))
+                self.assertEqual(
+                    said.splitlines()[-1], f"bsonraw: {target}: left as it was, since the exit status is {wanted}"
+                )
+                self.assertEqual(run("canon", good, name, "-o", str(self.folder / "new.bson"))[0], wanted)
+        self.assertEqual(sorted(path.name for path in self.folder.iterdir()), ["a.bson", "b.bson", "out.bson"])
+
+    def test_an_output_that_is_an_input_is_refused(self) -> None:
+        data = TRUNCATED + REPEATED
+        name = self.file("a.bson", data)
+        other = self.file("b.bson", GREETING)
+        link = self.folder / "link.bson"
+        link.symlink_to(name)
+        for inputs, target in (((name,), name), ((other, name), str(link)), ((str(link),), name)):
+            with self.subTest(inputs, target=target):
+                status, out, said = run("canon", *inputs, "-o", target)
+                self.assertEqual((status, out), (2, b""))
+                self.assertEqual(said, f"bsonraw: {target} is an input too: give -o another file\n")
+        with open(name, "rb") as given:
+            command = [sys.executable, str(MODULE), "canon", "-", "-o", name]
+            done = subprocess.run(command, stdin=given, stderr=subprocess.PIPE)
+        self.assertEqual((done.returncode, Path(name).read_bytes()), (2, data))
+
+    def test_an_output_by_a_link_or_a_device(self) -> None:
+        target = self.file("out.bson", b"old")
+        link = self.folder / "link.bson"
+        link.symlink_to(target)
+        self.assertEqual(run("canon", "-", "-o", str(link), given=REPEATED)[0], 0)
+        self.assertEqual((link.is_symlink(), Path(target).read_bytes()), (True, ITS_FORM))
+        pipe = self.folder / "pipe"
+        os.mkfifo(pipe)
+        got: List[bytes] = []
+        reader = threading.Thread(target=lambda: got.append(pipe.read_bytes()), daemon=True)
+        reader.start()
+        self.assertEqual(run("canon", "-", "-o", str(pipe), given=REPEATED)[0], 0)
+        reader.join(60)
+        self.assertEqual((got, pipe.is_fifo()), ([ITS_FORM], True))
 
     def test_limits(self) -> None:
         status, out, said = run("canon", "--max-bytes", "18", "-", given=GREETING + ITS_FORM)
@@ -218,9 +300,9 @@ end""".splitlines(),
         self.assertIn(b"can't be written", done.stderr)
 
     def test_an_interrupt_leaves_nothing_behind(self) -> None:
-        part = self.folder / "out.bson.part"
+        target = Path(self.file("out.bson", ITS_FORM))
         with subprocess.Popen(
-            [sys.executable, str(MODULE), "canon", "-", "-o", str(self.folder / "out.bson")],
+            [sys.executable, str(MODULE), "canon", "-", "-o", str(target)],
             stdin=subprocess.PIPE,
             stderr=subprocess.PIPE,
             # a job of a shell's background ignores interrupts, and so would its children
@@ -228,13 +310,13 @@ end""".splitlines(),
         ) as process:
             self.addCleanup(process.kill)
             for _ in range(1000):
-                if part.exists():
+                if list(self.folder.glob("*.part")):
                     break
                 time.sleep(0.01)
             process.send_signal(signal.SIGINT)
             self.assertEqual(process.wait(timeout=60), 130)
             self.assertEqual(process.stderr.read(), b"bsonraw: interrupted\n")
-        self.assertEqual(list(self.folder.iterdir()), [])
+        self.assertEqual([path.read_bytes() for path in self.folder.iterdir()], [ITS_FORM])
 
     def test_usage(self) -> None:
         for arguments in ((), ("show", "-"), ("list",)):
@@ -274,7 +356,8 @@ end""".splitlines(),
         self.assertIn(b"% ", said.replace(b"%,", b"% "))
         self.assertIn(b"MB/s [", said)
         self.assertTrue(
-            said.endswith(b"\r\x1b[K" + f"bsonraw: {name}: documents: 200000, not canonical: 0\r\n".encode()), said
+            said.endswith(b"\r\x1b[K" + f"bsonraw: {name}: documents: 200000, not canonical: 0, damaged: 0\r\n".encode()),
+            said,
         )
 
 

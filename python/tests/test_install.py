@@ -80,17 +80,33 @@ class Install(unittest.TestCase):
         shutil.copy(LIBRARY, self.modules / "libbsonraw.so")
         shutil.copy(LIBRARY, self.prefix / "named.so")
         self.assertEqual(self.found(BSONRAW_LIBRARY=str(self.prefix / "named.so")), str(self.prefix / "named.so"))
-        self.assertIn("bin/install PREFIX", self.found(BSONRAW_LIBRARY=str(self.prefix / "none.so")))
+        none = str(self.prefix / "none.so")
+        self.assertEqual(
+            self.found(BSONRAW_LIBRARY=none),
+            f"ImportError: bsonraw: the library {none}, which the environment variable BSONRAW_LIBRARY names, can't be"
+            f" loaded ({none}: cannot open shared object file: No such file or directory): run bin/install PREFIX in a"
+            " clone of Foyeranise and set the environment variable BSONRAW_LIBRARY to PREFIX/lib/libbsonraw.so",
+        )
+
+    def test_what_is_found_and_no_library(self) -> None:
+        broken = self.modules / "libbsonraw.so"
+        broken.write_bytes(b"")
+        self.assertRegex(self.found(), f"^ImportError: bsonraw: the library {broken} can't be loaded .*: file too short")
 
     @unittest.skipIf(os.path.exists("/usr/local/lib/libbsonraw.so"), "the library is installed in /usr/local")
     def test_one_line_says_what_to_do(self) -> None:
         said = self.found()
         self.assertRegex(
-            said, r"^ImportError: bsonraw: the library libbsonraw.so can't be loaded .*: run bin/install PREFIX"
+            said,
+            f"^ImportError: bsonraw: the library libbsonraw.so, looked for in {self.modules}, {self.prefix}/lib, .*,"
+            f" {self.prefix}/home/.local/lib, /usr/local/lib and by the system's loader, can't be loaded .*: run bin/install",
         )
-        done = self.run_python("-m", "bsonraw", "--help")
+        done = self.run_python("-m", "bsonraw", "check", "-")
         self.assertEqual((done.returncode, done.stdout), (6, ""))
         self.assertEqual(f"ImportError: {done.stderr}", said + "\n")
+        done = self.run_python("-m", "bsonraw", "--help")
+        self.assertEqual((done.returncode, done.stderr), (0, ""))
+        self.assertIn("exit status:", done.stdout)
 
     def test_another_library_is_named(self) -> None:
         said = self.found(BSONRAW_LIBRARY="libc.so.6")
@@ -124,13 +140,15 @@ class Header(unittest.TestCase):
     def test_numbers(self) -> None:
         header = (FOLDER.parent / "c" / "bsonraw.h").read_text()
         pairs = re.findall(r"BSONRAW_(\w+) = (\d+)", header)
-        self.assertGreater(len(pairs), 30)
+        self.assertGreater(len(pairs), 50)
         for name, number in pairs:
             known = [
                 getattr(enum, name)
                 for enum in (bsonraw.ErrorKind, bsonraw.Reason, bsonraw.Cause)
                 if name in enum.__members__ and not (enum is bsonraw.ErrorKind and name == "NO_DOCUMENT")
             ]
+            if name.startswith("TAG_"):
+                known = [bsonraw.ElementType[name[4:]]]
             status = getattr(bsonraw, f"_{name}", None)
             with self.subTest(name):
                 self.assertTrue(int(number) in known or status == int(number) or name == "BAD_OFFSET", (known, status))

@@ -1,5 +1,6 @@
 pub mod Ascending
 pub mod Bytes
+pub mod LeftTrees
 pub mod Equality
 pub mod Keep
 pub mod Kept

@@ -1,4 +1,5 @@
 pub mod Bytes
+pub mod LeftTrees
 pub mod Leaf
 pub mod Options
 pub mod Pairs

@@ -1,11 +1,13 @@
-ghost use Rattle.std.specs.Prelude.{◌≡◌, ◌↔◌, [], length, All, IsTrue, IsSome, IsOk, IfOk, OnOk};
-ghost use Rattle.std.specs.Prelude.{OnErr, option_copied, option_map, slice_get};
+ghost use Rattle.std.specs.Prelude.{◌≡◌, ◌↔◌, ◌<◌, ◌+◌, ◌^◌, [], length, All, IsTrue, IsSome, IsOk, IfOk, OnOk};
+ghost use Rattle.std.specs.Prelude.{OnErr, IfSome, map, option_copied, option_map, slice_get};
 ghost use Rattle.std.specs.Str.{IsUtf8};
 ghost use Rattle.std.specs.String.{string_bytes};
 ghost use Rattle.bson_model.specs.Pairs.{keys_of, value_at, with_pair, HasDistinctKeys};
+ghost use Rattle.bson_model.specs.LeftTrees.{members};
 ghost use Rattle.bson_model.specs.Tree.{tree_of, pairs_of, with_trees};
 
 use crate::binaries::Binary;
+use crate::drops::drop_values;
 use crate::errors::NoMemory;
 use crate::numbers::{Decimal128, DoubleBits};
 use crate::object_id::{DbPointer, ObjectId};
@@ -14,8 +16,9 @@ use crate::regexes::Regex;
 use crate::times::{DateTime, Timestamp};
 use std::alloc::Global;
 
-/// A value of BSON (BSON 1.1, element).
-#[derive(Debug, PartialEq, Eq, Drop)]
+/// A value of BSON (BSON 1.1, element). However deep it is, it is dropped by a loop, which takes no memory. `==` and
+/// `Debug` call themselves for each level: on a stack of 8 MB `==` bears at least 40,000 levels, and `Debug` 15,000.
+#[derive(Debug, PartialEq, Eq)]
 #[cycle(tree)]
 pub enum Bson {
     /// A 64-bit binary floating point number, by its bits (tag 01).
@@ -62,8 +65,8 @@ pub enum Bson {
     MinKey,
 }
 
-/// Pairs of a key and a value, in order, no key twice (BSON 1.1, document).
-#[derive(Debug, PartialEq, Eq, Drop)]
+/// Pairs of a key and a value, in order, no key twice (BSON 1.1, document). What `Bson` says of depth holds of it.
+#[derive(Debug, PartialEq, Eq)]
 #[cycle(tree)]
 pub struct Document {
     pairs: Pairs<Bson>,
@@ -79,7 +82,88 @@ pub struct JavaScriptCodeWithScope {
     pub scope: Document,
 }
 
+impl Drop for Bson {
+    fn drop(self) {
+        if let Some(values) = self.into_values() {
+            drop_values(values);
+        }
+    }
+}
+
+impl Drop for Document {
+    fn drop(self) {
+        if let Some(values) = self.into_values() {
+            drop_values(values);
+        }
+    }
+}
+
+impl Bson {
+    /// The value, unless all of it stands in its own place, so that nothing is to be let go.
+    #[inline(always)]
+    pub(crate) fn unless_plain(self) -> Option<Bson>
+        ensures { IfSome result (λ value. value ≡ self) }
+    {
+        match self {
+            Bson::Double(_)
+            | Bson::Undefined
+            | Bson::ObjectId(_)
+            | Bson::Boolean(_)
+            | Bson::DateTime(_)
+            | Bson::Null
+            | Bson::Int32(_)
+            | Bson::Timestamp(_)
+            | Bson::Int64(_)
+            | Bson::Decimal128(_)
+            | Bson::MaxKey
+            | Bson::MinKey => None,
+            value => Some(value),
+        }
+    }
+
+    /// The values right inside the value in order; the rest of it is let go.
+    #[inline(always)]
+    pub(crate) fn into_values(self) -> Option<Vec<Bson>>
+        ensures { IfSome result (λ values. members (tree_of self) ≡ map tree_of values.items) }
+    {
+        match self {
+            Bson::Array(values) => Some(values),
+            Bson::Document(document) => document.into_values(),
+            Bson::JavaScriptCodeWithScope(code) => {
+                let JavaScriptCodeWithScope { code: _, scope } = code;
+                scope.into_values()
+            }
+            Bson::String(_)
+            | Bson::Binary(_)
+            | Bson::RegularExpression(_)
+            | Bson::DbPointer(_)
+            | Bson::JavaScriptCode(_)
+            | Bson::Symbol(_) => None,
+            Bson::Double(_)
+            | Bson::Undefined
+            | Bson::ObjectId(_)
+            | Bson::Boolean(_)
+            | Bson::DateTime(_)
+            | Bson::Null
+            | Bson::Int32(_)
+            | Bson::Timestamp(_)
+            | Bson::Int64(_)
+            | Bson::Decimal128(_)
+            | Bson::MaxKey
+            | Bson::MinKey => None,
+        }
+    }
+}
+
 impl Document {
+    /// The values in order, if there was ever a pair; the keys are let go.
+    fn into_values(self) -> Option<Vec<Bson>>
+        ensures { IfSome result (λ values. values.items ≡ map (λ p. p.1) (pairs_of self)) }
+    {
+        let Document { pairs } = self;
+        pairs.into_values()
+    }
+
     /// A document with no pairs, which keeps `alloc`. It takes no memory.
     pub fn new(alloc: Global) -> Document
         ensures { pairs_of result ≡ [] }
@@ -114,8 +198,9 @@ impl Document {
 
     /// The pair at a place, counted from 0.
     pub fn pair_at(&self, index: usize) -> Option<(&str, &Bson)>
-        ensures { option_map (λ p. (p.0.now, p.1.now)) result
+        ensures pair { option_map (λ p. (p.0.now, p.1.now)) result
             ≡ slice_get (pairs_of self.now) index }
+        ensures below { IfSome result (λ p. index + 1 < 2 ^ 64) }
     {
         self.pairs.pair_at(index)
     }
@@ -132,5 +217,16 @@ impl Document {
         ensures err { OnErr result (self.new ≡ self.old) }
     {
         self.pairs.insert(key, value)
+    }
+    /// Puts a pair last, or where its key stands, as `insert` does; the value that stood there is let go.
+    pub fn put(&mut self, key: String, value: Bson) -> Result<(), NoMemory>
+        ensures put { OnOk result (pairs_of self.new
+            ≡ with_pair (string_bytes key) value (pairs_of self.old)) }
+        ensures trees { OnOk result (with_trees (pairs_of self.new) ≡
+            with_pair (string_bytes key) (tree_of value) (with_trees (pairs_of self.old))) }
+        ensures present { IsSome (value_at (string_bytes key) (pairs_of self.old)) → IsOk result }
+        ensures err { OnErr result (self.new ≡ self.old) }
+    {
+        self.pairs.put(key, value)
     }
 }

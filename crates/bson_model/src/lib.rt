@@ -3,6 +3,7 @@
 
 mod binaries;
 mod bson;
+mod drops;
 mod errors;
 pub mod laws;
 mod numbers;

@@ -1,5 +1,5 @@
-ghost use Rattle.std.specs.Prelude.{◌≡◌, ◌&&◌, [], ◌∷◌, length, nat_eq, All, IsSome, IsOk, IfOk, OnOk};
-ghost use Rattle.std.specs.Prelude.{OnErr, option_copied, option_map, slice_get};
+ghost use Rattle.std.specs.Prelude.{◌≡◌, ◌&&◌, ◌<◌, ◌+◌, ◌^◌, [], ◌∷◌, length, nat_eq, All, IsSome, IsOk, IfOk, OnOk};
+ghost use Rattle.std.specs.Prelude.{OnErr, IfSome, map, option_copied, option_map, slice_get};
 ghost use Rattle.std.specs.Cmp.Lexicographic.{pointwise, lists_per, lists_equiv};
 ghost use Rattle.std.specs.Cmp.{on_per, and_per, on_equiv, and_equiv, nat_eq_equiv, partial_equiv_from_equiv};
 ghost use Rattle.std.specs.String.{string_bytes};
@@ -61,7 +61,8 @@ impl<T> Pairs<T> {
 
     /// The pair at a place, counted from 0.
     pub fn pair_at(&self, index: usize) -> Option<(&str, &T)>
-        ensures { option_map (λ p. (p.0.now, p.1.now)) result ≡ slice_get self.now index }
+        ensures pair { option_map (λ p. (p.0.now, p.1.now)) result ≡ slice_get self.now index }
+        ensures below { IfSome result (λ p. index + 1 < 2 ^ 64) }
     {
         match &self.parts {
             Some(parts) => parts.pair_at(index),
@@ -71,6 +72,7 @@ impl<T> Pairs<T> {
 
     /// Puts a pair last, or where its key stands, and answers the value that stood there. It fails only
     /// for a key that is not there, and then changes nothing and drops the pair.
+    #[inline(never)]
     pub fn insert(&mut self, key: String, value: T) -> Result<Option<T>, NoMemory>
     where
         T: Drop,
@@ -87,6 +89,34 @@ impl<T> Pairs<T> {
             }
         }
     }
+
+    /// The same, but that the value that stood there is let go.
+    pub fn put(&mut self, key: String, value: T) -> Result<(), NoMemory>
+    where
+        T: Drop,
+        ensures put { OnOk result (self.new ≡ with_pair (string_bytes key) value self.old) }
+        ensures present { IsSome (value_at (string_bytes key) self.old) → IsOk result }
+        ensures err { OnErr result (self.new ≡ self.old) }
+    {
+        match &mut self.parts {
+            Some(parts) => parts.put(key, value),
+            None => {
+                self.parts = Some(of_first(self.alloc, key, value)?);
+                Ok(())
+            }
+        }
+    }
+
+    /// The values in order, if there was ever a pair; the keys are let go.
+    pub fn into_values(self) -> Option<Vec<T>>
+        ensures { IfSome result (λ values. values.items ≡ map (λ p. p.1) self) }
+    {
+        let Pairs { alloc: _, parts } = self;
+        match parts {
+            Some(parts) => Some(Box::into_inner(parts).into_values()),
+            None => None,
+        }
+    }
 }
 
 /// The parts of one pair.
@@ -94,7 +124,7 @@ fn of_first<T: Drop>(alloc: Global, key: String, value: T) -> Result<Box<Parts<T
     ensures { IfOk result (λ parts. parts.value ≡ (string_bytes key, value) ∷ []) }
 {
     let mut parts = Box::new(alloc, Parts::new(alloc))?;
-    parts.insert(key, value)?;
+    parts.put(key, value)?;
     Ok(parts)
 }
 

@@ -1,5 +1,5 @@
-ghost use Rattle.std.specs.Prelude.{◌≡◌, ◌&&◌, ◌<◌, false, [], length, nat_eq, All, IsSome, IsOk, IfOk, OnOk};
-ghost use Rattle.std.specs.Prelude.{OnErr, option_copied, option_map, slice_get};
+ghost use Rattle.std.specs.Prelude.{◌≡◌, ◌&&◌, ◌<◌, ◌+◌, ◌^◌, false, [], length, nat_eq, All, IsSome, IfSome, IsOk, IfOk, OnOk};
+ghost use Rattle.std.specs.Prelude.{OnErr, map, option_copied, option_map, slice_get};
 ghost use Rattle.std.specs.Cmp.Lexicographic.{pointwise, lists_per, lists_equiv};
 ghost use Rattle.std.specs.Cmp.{on_per, and_per, on_equiv, and_equiv, nat_eq_equiv, partial_equiv_from_equiv};
 ghost use Rattle.std.specs.String.{string_bytes};
@@ -62,16 +62,23 @@ impl<T> Parts<T> {
     }
 
     /// The pair at a place, counted from 0.
+    #[inline(always)]
     pub fn pair_at(&self, index: usize) -> Option<(&str, &T)>
-        ensures { option_map (λ p. (p.0.now, p.1.now)) result ≡ slice_get self.now index }
+        ensures pair { option_map (λ p. (p.0.now, p.1.now)) result ≡ slice_get self.now index }
+        ensures below { IfSome result (λ p. index + 1 < 2 ^ 64) }
     {
-        let key = self.keys.get_index(index)?;
-        let value = self.values.get(index)?;
-        Some((key.as_str(), value))
+        if index >= self.values.len() {
+            return None;
+        }
+        let Some(key) = self.keys.get_index(index) else {
+            unreachable!()
+        };
+        Some((key.as_str(), &self.values[index]))
     }
 
     /// Puts a pair last, or where its key stands, and answers the value that stood there. It fails only
     /// for a key that is not there, and then changes nothing and drops the pair.
+    #[inline(always)]
     pub fn insert(&mut self, key: String, value: T) -> Result<Option<T>, NoMemory>
     where
         T: Drop,
@@ -88,6 +95,27 @@ impl<T> Parts<T> {
         }
         let old = mem::replace(&mut self.values[index], value);
         Ok(Some(old))
+    }
+
+    /// The same, but that the value that stood there is let go.
+    #[inline(never)]
+    pub fn put(&mut self, key: String, value: T) -> Result<(), NoMemory>
+    where
+        T: Drop,
+        ensures put { OnOk result (self.new ≡ with_pair (string_bytes key) value self.old) }
+        ensures present { IsSome (value_at (string_bytes key) self.old) → IsOk result }
+        ensures err { OnErr result (self.new ≡ self.old) }
+    {
+        self.insert(key, value)?;
+        Ok(())
+    }
+
+    /// The values in order; the keys are let go.
+    pub fn into_values(self) -> Vec<T>
+        ensures { result.items ≡ map (λ p. p.1) self }
+    {
+        let Parts { keys: _, values } = self;
+        values
     }
 }
 
@@ -116,6 +144,14 @@ impl<T: fmt::Debug> fmt::Debug for Parts<T> {
     }
 }
 
+/// Whether the keys are the same in the same order. It is kept apart, so that a comparison takes less stack for a level.
+#[inline(never)]
+fn have_same_keys(left: &IndexSet<String>, right: &IndexSet<String>) -> bool
+    ensures { result ≡ pointwise (pointwise nat_eq) (map string_bytes left.now.keys) (map string_bytes right.now.keys) }
+{
+    left.as_slice() == right.as_slice()
+}
+
 impl<T: PartialEq> PartialEq for Parts<T> {
     ghost eq = { pointwise (λ p q. pointwise nat_eq p.0 q.0 && T.eq p.1 q.1) };
 
@@ -124,8 +160,7 @@ impl<T: PartialEq> PartialEq for Parts<T> {
         (on_per (λ p. p.1) T.laws)) };
 
     fn eq(&self, other: &Parts<T>) -> bool {
-        self.keys.as_slice() == other.keys.as_slice()
-            && self.values.as_slice() == other.values.as_slice()
+        have_same_keys(&self.keys, &other.keys) && self.values.as_slice() == other.values.as_slice()
     }
 }
 

@@ -164,16 +164,10 @@ fn text(alloc: Global, content: &str) -> Result<String, AllocError> {
     String::from_str(alloc, content)
 }
 
-// What the insert answers is let go.
-fn put(document: &mut Document, key: String, value: Bson) -> Result<(), NoMemory> {
-    document.insert(key, value)?;
-    Ok(())
-}
-
 fn document_of(alloc: Global, pairs: &[(&str, i32)]) -> Result<Document, NoMemory> {
     let mut document = Document::new(alloc);
     for (key, number) in pairs {
-        put(&mut document, text(alloc, key)?, Bson::Int32(*number))?;
+        document.put(text(alloc, key)?, Bson::Int32(*number))?;
     }
     Ok(document)
 }
@@ -355,7 +349,7 @@ fn nested(alloc: Global, innermost: i32) -> Result<Document, NoMemory> {
 fn holding(alloc: Global, value: Bson) -> Result<Document, NoMemory> {
     let key = text(alloc, "key")?;
     let mut document = Document::new(alloc);
-    put(&mut document, key, value)?;
+    document.put(key, value)?;
     Ok(document)
 }
 

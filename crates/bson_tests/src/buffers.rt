@@ -1,5 +1,6 @@
-use crate::asserts::{assert_malformed, assert_one_pair, assert_pair, assert_refused, assert_text};
-use crate::fixtures::document_of;
+use bson_fixtures::{
+    assert_malformed, assert_one_pair, assert_pair, assert_refused, assert_text, document_of,
+};
 use raw_bson::{
     Binary, BinarySubtype, ElementType, RawBson, RawBsonRef, RawDocument, RawDocumentBuf,
     RawElement, RawRegexRef, Reason, Regex, total_len,

@@ -1,5 +1,4 @@
-use crate::asserts::{assert_pair, assert_refused};
-use crate::fixtures::{document_of, owned};
+use bson_fixtures::{assert_pair, assert_refused, document_of, owned};
 use raw_bson::laws::is_same_document_buf;
 use raw_bson::{
     ElementType, Error, ErrorKind, RawBson, RawBsonRef, RawDocumentBuf, RawElement, Reason,

@@ -1,6 +1,4 @@
-use crate::asserts::{assert_array_text, assert_same};
-use crate::fixtures::{array_of, document_of, owned};
-use crate::trees_fixtures::assert_fault;
+use bson_fixtures::{array_of, assert_array_text, assert_fault, assert_same, document_of, owned};
 use raw_bson::{
     Binary, BinarySubtype, CowRawArray, CowRawDocument, ElementType, RawBinaryRef, RawBson,
     RawBsonRef, RawDocument, RawElement, RawRegexRef, Reason, Regex, ToRawArrayBuf, ToRawBson,

@@ -1,7 +1,7 @@
 -- What is printed of a document without a canonical form.
 use Rattle.std.proofs.Common.{◌≡◌, ◌≢◌, inl, inr, List, ℕ, Option, None, Some, Result, Ok, Err, IfOk, IfErr, codes, refl, sym, ◌∙◌, subst, ap}
 use Rattle.std.proofs.lemmas.Option.{none-some}
-use Rattle.raw_bson.specs.Encoding.{IsRefused, RefusesTree}
+use Rattle.raw_bson.specs.Encoding.{IsEncoded, IsRefused, RefusesTree}
 use Rattle.raw_bson.specs.Envelope.{IsEnvelope}
 use Rattle.raw_bson.specs.Error.{Error}
 use Rattle.raw_bson.specs.ErrorKind.{ErrorKind}
@@ -13,7 +13,7 @@ use Rattle.raw_bson.specs.Reason.{Reason}
 use Rattle.raw_bson.specs.Reason.TheVariants as reason
 use Rattle.raw_bson.specs.Tree.{Tree}
 use Rattle.raw_bson.specs.WithinLimits.{Barrier, too_many_bytes, too_deep, fault_of, ReadsWithin, FirstBarrier, SaysBarrier, TellsFirstBarrier}
-use Rattle.bsonraw.specs.Form.{LacksForm, limit_text}
+use Rattle.bsonraw.specs.Form.{HasForm, LacksForm, limit_text}
 use Rattle.std.specs.String.{string_bytes}
 use Rattle.bsonraw.specs.Print.{form_limits, PrintsForm, PrintsBytes, barrier_line, end_line}
 use Rattle.bsonraw.specs.Status.{code_of}
@@ -71,6 +71,10 @@ fault_form b e output (inl (inr told)) is some line = fault_of_barrier b e told.
 fault_form b e output (inr long) is some line = absurd (none-some _ (sym is ∙ ap limit_text long.2.1))
 
 -- and so where a result is at hand
+
+pub written_forms : (b : List ℕ) (t : Tree) (result : Result (List ℕ) Error) → ReadsWithin form_limits b t → IfOk result (IsEncoded t) → IfOk result (HasForm b)
+written_forms b t (Ok form) read is = (t, read, is.1, is.2)
+written_forms b t (Err e) read is = tt
 
 pub refused_forms : {X : Type 0} (b : List ℕ) (t : Tree) (result : Result X Error) → ReadsWithin form_limits b t → IsProper t → IfErr result (IsRefused t) → IfErr result (LacksForm b)
 refused_forms b t (Ok x) read proper refused = tt

@@ -42,7 +42,7 @@ fn is_made(alloc: Global, value: Bson, want: RawBsonRef<'_>) -> bool {
 
 /// Whether an owned 7 becomes a 7.
 fn is_seven(alloc: Global) -> bool {
-    matches!(RawBson::Int32(7).into_bson(alloc), Ok(Bson::Int32(7)))
+    matches!(&RawBson::Int32(7).into_bson(alloc), Ok(Bson::Int32(7)))
 }
 
 #[test]

@@ -15,12 +15,13 @@ use crate::array_buf::RawArrayBuf;
 use crate::bson::{RawBson, RawJavaScriptCodeWithScope};
 use crate::document_buf::RawDocumentBuf;
 use crate::laws::attest_one_tree;
-use bson_model::{Bson, Document, JavaScriptCodeWithScope};
+use bson_model::{Binary, Bson, DbPointer, Document, JavaScriptCodeWithScope, Regex};
 use raw_tree::{
     Limits, document_from_raw, document_from_raw_within, encode, encode_list, list_from_raw,
 };
 use raw_view::Result;
 use std::alloc::Global;
+use std::mem;
 
 impl RawDocumentBuf {
     /// The bytes of a document. It refuses, without a key, first where a key, a pattern or options at any
@@ -86,28 +87,36 @@ fn array_of(alloc: Global, values: &[Bson]) -> Result<RawArrayBuf>
     Ok(RawArrayBuf::counted(document, values.len()))
 }
 
-/// The array of a list, which is dropped.
-fn owned_array(alloc: Global, values: Vec<Bson>) -> Result<RawBson>
-    ensures { BecomesRawBson (tree_of_list values.items) result }
+/// The array of a list.
+fn owned_array(alloc: Global, values: &[Bson]) -> Result<RawBson>
+    ensures { BecomesRawBson (tree_of_list values.now) result }
 {
-    Ok(RawBson::Array(array_of(alloc, &values)?))
+    Ok(RawBson::Array(array_of(alloc, values)?))
 }
 
-/// The bytes of a document, which is dropped.
-fn owned_document(alloc: Global, document: Document) -> Result<RawBson>
-    ensures { BecomesRawBson (tree_of_document document) result }
+/// The bytes of a document.
+fn owned_document(alloc: Global, document: &Document) -> Result<RawBson>
+    ensures { BecomesRawBson (tree_of_document document.now) result }
 {
-    Ok(RawBson::Document(RawDocumentBuf::from_document(alloc, &document)?))
+    Ok(RawBson::Document(RawDocumentBuf::from_document(alloc, document)?))
 }
 
-/// The code with the bytes of its scope, which is dropped.
-fn owned_code(alloc: Global, code: JavaScriptCodeWithScope) -> Result<RawBson>
+/// The text, which is left empty. It takes no memory.
+fn taken(alloc: Global, text: &mut String) -> String
+    ensures { result ≡ text.old }
+{
+    mem::replace(text, String::new(alloc))
+}
+
+/// The code, of which nothing is left, with the bytes of its scope.
+fn owned_code(alloc: Global, code: &mut JavaScriptCodeWithScope) -> Result<RawBson>
     ensures { BecomesRawBson
-        (code_with_scope (string_bytes code.code) (entries (with_trees (pairs_of code.scope))))
+        (code_with_scope (string_bytes code.old.code)
+        (entries (with_trees (pairs_of code.old.scope))))
         result }
 {
     let scope = RawDocumentBuf::from_document(alloc, &code.scope)?;
-    let code = code.code;
+    let code = taken(alloc, &mut code.code);
     Ok(RawBson::JavaScriptCodeWithScope(RawJavaScriptCodeWithScope { code, scope }))
 }
 
@@ -153,31 +162,40 @@ impl RawBson {
     /// A tree as a value that owns its bytes. A document, a list and a scope are written, and refused as by
     /// `encode`; the value is then dropped. The count of an array is the length of the list. Every other
     /// value is moved as it is and takes no memory.
-    pub fn try_from_bson(alloc: Global, value: Bson) -> Result<RawBson>
+    pub fn try_from_bson(alloc: Global, mut value: Bson) -> Result<RawBson>
         ensures { BecomesRawBson (tree_of value) result }
     {
-        match value {
-            Bson::Double(x) => Ok(RawBson::Double(x)),
-            Bson::String(x) => Ok(RawBson::String(x)),
+        match &mut value {
+            Bson::Double(x) => Ok(RawBson::Double(*x)),
+            Bson::String(x) => Ok(RawBson::String(taken(alloc, x))),
             Bson::Array(x) => owned_array(alloc, x),
             Bson::Document(x) => owned_document(alloc, x),
-            Bson::Boolean(x) => Ok(RawBson::Boolean(x)),
+            Bson::Boolean(x) => Ok(RawBson::Boolean(*x)),
             Bson::Null => Ok(RawBson::Null),
-            Bson::RegularExpression(x) => Ok(RawBson::RegularExpression(x)),
-            Bson::JavaScriptCode(x) => Ok(RawBson::JavaScriptCode(x)),
+            Bson::RegularExpression(x) => Ok(RawBson::RegularExpression(Regex {
+                pattern: taken(alloc, &mut x.pattern),
+                options: taken(alloc, &mut x.options),
+            })),
+            Bson::JavaScriptCode(x) => Ok(RawBson::JavaScriptCode(taken(alloc, x))),
             Bson::JavaScriptCodeWithScope(x) => owned_code(alloc, x),
-            Bson::Int32(x) => Ok(RawBson::Int32(x)),
-            Bson::Int64(x) => Ok(RawBson::Int64(x)),
-            Bson::Timestamp(x) => Ok(RawBson::Timestamp(x)),
-            Bson::Binary(x) => Ok(RawBson::Binary(x)),
-            Bson::ObjectId(x) => Ok(RawBson::ObjectId(x)),
-            Bson::DateTime(x) => Ok(RawBson::DateTime(x)),
-            Bson::Symbol(x) => Ok(RawBson::Symbol(x)),
-            Bson::Decimal128(x) => Ok(RawBson::Decimal128(x)),
+            Bson::Int32(x) => Ok(RawBson::Int32(*x)),
+            Bson::Int64(x) => Ok(RawBson::Int64(*x)),
+            Bson::Timestamp(x) => Ok(RawBson::Timestamp(*x)),
+            Bson::Binary(x) => Ok(RawBson::Binary(Binary {
+                subtype: x.subtype,
+                bytes: mem::replace(&mut x.bytes, Vec::new(alloc)),
+            })),
+            Bson::ObjectId(x) => Ok(RawBson::ObjectId(*x)),
+            Bson::DateTime(x) => Ok(RawBson::DateTime(*x)),
+            Bson::Symbol(x) => Ok(RawBson::Symbol(taken(alloc, x))),
+            Bson::Decimal128(x) => Ok(RawBson::Decimal128(*x)),
             Bson::Undefined => Ok(RawBson::Undefined),
             Bson::MaxKey => Ok(RawBson::MaxKey),
             Bson::MinKey => Ok(RawBson::MinKey),
-            Bson::DbPointer(x) => Ok(RawBson::DbPointer(x)),
+            Bson::DbPointer(x) => Ok(RawBson::DbPointer(DbPointer {
+                namespace: taken(alloc, &mut x.namespace),
+                id: x.id,
+            })),
         }
     }
 }

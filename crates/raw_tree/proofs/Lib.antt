@@ -7,6 +7,9 @@ pub mod Depths
 pub mod Limited
 pub mod Loops
 pub mod Encodings
+pub mod MemberSteps
+pub mod JudgedMembers
+pub mod WrittenMembers
 pub mod OneTree
 pub mod OneWay
 pub mod ReadTrees

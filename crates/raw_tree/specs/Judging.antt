@@ -1,25 +1,10 @@
--- What is known of a tree before it is written, and the leaves that a value is or isn't.
+-- What is known of a tree before it is written.
 use Rattle.std.specs.Prelude.{◌≡◌, ◌≤◌, ◌-◌, ◌^◌, ℕ, [], min, Option, None, Some, Vec, vec_len, vec_capacity}
 use Rattle.std.specs.Global.{Global}
 use Rattle.bson_model.specs.Proper.{IsNulFree}
-use Rattle.bson_model.specs.Tree.{Tree, leaf}
-use Rattle.bson_model.specs.declared.bson.Bson as b
-use Rattle.bson_model.specs.declared.bson.Bson.{Bson}
-use Rattle.raw_view.specs.Meaning.{RawValue, single}
+use Rattle.bson_model.specs.Tree.{Tree}
 use Rattle.raw_view.specs.Number.{max_length}
 use Rattle.raw_tree.specs.Encoding.{encoded_len}
-
--- the value is an array, a document or a code with scope
-abbrev pub HoldsOthers : Bson → Type 0
-HoldsOthers (b.Array' shape row) = Unit {0}
-HoldsOthers (b.Document' shape row) = Unit {0}
-HoldsOthers (b.JavaScriptCodeWithScope' code shape row) = Unit {0}
-HoldsOthers _ = ⊥
-
--- the value that is viewed holds no others, and is what the tree stands for
-abbrev pub Shows : Tree → RawValue → Type 0
-Shows t (single l) = t ≡ leaf l
-Shows t _ = ⊥
 
 -- what is answered of a tree before it is written: its length, the greatest number of 64 bits where that is
 -- more; nothing exactly where a key, a pattern or options hold a 0

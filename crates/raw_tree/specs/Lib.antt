@@ -1,6 +1,7 @@
 pub mod Encoding
 pub mod FrameCount
 pub mod Judging
+pub mod Members
 pub mod Levels
 pub mod WithinLimits
 pub mod Payload

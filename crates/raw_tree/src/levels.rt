@@ -160,7 +160,7 @@ fn put_pair(alloc: Global, document: &mut Document, key: &str, value: Bson) -> R
         ≡ with_pair key.now (tree_of value) (with_trees (pairs_of document.old))) }
     ensures err { IfErr result IsOutOfMemory }
 {
-    document.insert(String::from_str(alloc, key)?, value)?;
+    document.put(String::from_str(alloc, key)?, value)?;
     Ok(())
 }
 

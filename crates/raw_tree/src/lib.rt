@@ -6,6 +6,7 @@ mod judging;
 mod keys;
 mod levels;
 mod limits;
+mod members;
 mod payload;
 mod put;
 mod reading;

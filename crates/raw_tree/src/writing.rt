@@ -1,17 +1,20 @@
 //! Trees of values as bytes.
 #![tactic(auto, using(std::proofs::lemmas::Grind::common_steps, bson_model::proofs::Trees::tree_laws))]
 
-ghost use Rattle.std.specs.Prelude.{◌≡◌, ◌≤◌, ◌+◌, ◌++◌, [], length, vec_len, vec_capacity, IfOk, IfErr};
+ghost use Rattle.std.specs.Prelude.{◌≡◌, ◌≤◌, ◌+◌, ◌++◌, ◌∷◌, [], vec_len, vec_capacity, IfOk, IfErr, OnOk};
 ghost use Rattle.bson_model.specs.Bytes.{AreBytes};
 ghost use Rattle.bson_model.specs.Tree.{Tree, tree_of, tree_of_document, tree_of_list};
 ghost use Rattle.raw_tree.specs.CanonicalForm.{DocumentsComeBack, ListsComeBack};
 ghost use Rattle.raw_tree.specs.Encoding.{encoded_len, tree_payload, kind_of_tree, IsEncoded, IsRefused};
 ghost use Rattle.raw_tree.specs.Judging.{HasRoomFor, Judges};
+ghost use Rattle.raw_tree.specs.Members.{end_of_opening, ended, key_bytes, key_of, left_of, members, opening, opening_len, tree_of_container};
 ghost use Rattle.raw_view.specs.Envelope.{IsEnvelope};
-ghost use Rattle.raw_view.specs.Format.{element_of};
+ghost use Rattle.raw_view.specs.Errors.{IsOutOfMemory};
+ghost use Rattle.raw_view.specs.Kind.{tag_of};
 ghost use Rattle.raw_view.specs.Number.{max_length};
 
-use crate::judging::{judged_document, judged_list, leaf_ref};
+use crate::judging::judged;
+use crate::members::{Container, Key, Members, Shown, show};
 use crate::put::{put, put_element, put_head, put_string, set_len};
 use crate::total::total_len;
 use bson_model::{Bson, Document};
@@ -19,85 +22,129 @@ use itoa::Buffer;
 use raw_view::{ElementType, Error, Reason, Result};
 use std::alloc::Global;
 
-/// Puts the element of the value under the key at the end, where there is room for it.
-#[cycle(write)]
-fn put_value(out: &mut Vec<u8>, key: &str, value: &Bson)
-    requires room { vec_len out.old + (2 + length key.now + encoded_len (tree_of value.now))
-        ≤ vec_capacity out.old }
-    requires fits { 2 + length key.now + encoded_len (tree_of value.now) ≤ max_length }
-    ensures items { out.new.items ≡ out.old.items
-        ++ element_of (kind_of_tree (tree_of value.now)) key.now (tree_payload (tree_of value.now)) }
-    ensures len { vec_len out.new
-        ≡ vec_len out.old + (2 + length key.now + encoded_len (tree_of value.now)) }
+/// The tag of a container.
+#[inline(always)]
+fn tag(container: Container<'_>) -> u8
+    ensures { result ≡ tag_of (kind_of_tree (tree_of_container container.entry)) }
+{
+    let kind = match container {
+        Container::Document(_) => ElementType::EmbeddedDocument,
+        Container::Array(_) => ElementType::Array,
+        Container::Code(_) => ElementType::JavaScriptCodeWithScope,
+    };
+    kind.to_tag()
+}
+
+/// A container that is being written: its members that are left, and where its payload starts.
+#[derive(Clone, Copy)]
+struct Level<'a> {
+    members: Members<'a>,
+    start: usize,
+}
+
+/// Puts what the payload of a container begins with at the end, where there is room for the whole; its lengths
+/// aren't set.
+#[inline(always)]
+fn put_opening(out: &mut Vec<u8>, container: Container<'_>)
+    requires room { vec_len out.old + encoded_len (tree_of_container container) ≤ vec_capacity out.old }
+    requires fits { encoded_len (tree_of_container container) ≤ max_length }
+    ensures items { out.new.items ≡ out.old.items ++ opening (tree_of_container container.entry) }
+    ensures len { vec_len out.new ≡ vec_len out.old + opening_len (tree_of_container container.entry) }
     ensures capacity { vec_capacity out.old ≤ vec_capacity out.new }
 {
-    match value {
-        Bson::Array(values) => {
-            put_head(out, ElementType::Array.to_tag(), key);
-            put_list(out, values);
-        }
-        Bson::Document(document) => {
-            put_head(out, ElementType::EmbeddedDocument.to_tag(), key);
-            put_document(out, document);
-        }
-        Bson::JavaScriptCodeWithScope(code) => {
-            put_head(out, ElementType::JavaScriptCodeWithScope.to_tag(), key);
-            let start = out.len();
+    match container {
+        Container::Document(_) | Container::Array(_) => put(out, &[0; 4]),
+        Container::Code(code) => {
             put(out, &[0; 4]);
             put_string(out, &code.code);
-            put_document(out, &code.scope);
-            set_len(out, start);
+            put(out, &[0; 4]);
         }
-        _ => {
-            let Some(leaf) = leaf_ref(value) else {
-                unreachable!()
+    }
+}
+
+/// Begins the payload of a container at the end, where there is room for it.
+#[inline(always)]
+fn begin<'a>(out: &mut Vec<u8>, container: Container<'a>) -> Level<'a>
+    requires room { vec_len out.old + encoded_len (tree_of_container container) ≤ vec_capacity out.old }
+    requires fits { encoded_len (tree_of_container container) ≤ max_length }
+    ensures items { out.new.items ≡ out.old.items ++ opening (tree_of_container container.entry) }
+    ensures len { vec_len out.new ≡ vec_len out.old + opening_len (tree_of_container container.entry) }
+    ensures capacity { vec_capacity out.old ≤ vec_capacity out.new }
+    ensures container { result.members.container ≡ container.entry }
+    ensures members { left_of result.members ≡ members (tree_of_container container.entry) }
+    ensures start { result.start ≡ vec_len out.old }
+{
+    let start = out.len();
+    put_opening(out, container);
+    Level {
+        members: Members::of(container),
+        start,
+    }
+}
+
+/// Ends the payload of a container, all of whose members are put, and sets its lengths.
+#[inline(always)]
+fn end(out: &mut Vec<u8>, level: Level<'_>)
+    requires begun { end_of_opening level ≤ vec_len out.old }
+    requires room { vec_len out.old + 1 ≤ vec_capacity out.old }
+    requires fits { vec_len out.old + 1 ≤ max_length }
+    ensures items { out.new.items ≡ ended (tree_of_container level.entry.members.container) level.entry.start (out.old.items ++ 0 ∷ []) }
+    ensures bytes { AreBytes out.new.items }
+    ensures len { vec_len out.new ≡ vec_len out.old + 1 }
+    ensures capacity { vec_capacity out.old ≤ vec_capacity out.new }
+{
+    out.push_reserved(0);
+    if let Container::Code(code) = level.members.container {
+        set_len(out, level.start + 9 + code.code.len());
+    }
+    set_len(out, level.start);
+}
+
+/// The text of a key, that of a number in the buffer.
+#[inline(always)]
+fn text<'a>(key: Key<'a>, buffer: &'a mut Buffer) -> &'a str
+    ensures { result.now ≡ key_bytes (key_of key.entry) }
+{
+    match key {
+        Key::Text(text) => text,
+        Key::Number(number) => buffer.format(number),
+    }
+}
+
+/// Puts the payload of a container into these empty bytes, which have room for it. The containers round the one
+/// whose members are put wait in memory; the only error is want of it.
+fn write(alloc: Global, out: &mut Vec<u8>, container: Container<'_>) -> Result<()>
+    requires empty { out.old.items ≡ [] }
+    requires room { encoded_len (tree_of_container container) ≤ vec_capacity out.old }
+    requires fits { encoded_len (tree_of_container container) ≤ max_length }
+    ensures items { OnOk result (out.new.items ≡ tree_payload (tree_of_container container.entry)) }
+    ensures bytes { OnOk result (AreBytes out.new.items) }
+    ensures err { IfErr result IsOutOfMemory }
+{
+    let mut buffer = Buffer::new();
+    let mut waiting: Vec<Level<'_>> = Vec::new(alloc);
+    let mut level = begin(out, container);
+    'levels: loop {
+        let Some((key, value)) = level.members.next() else {
+            end(out, level);
+            let Some(outer) = waiting.pop() else {
+                return Ok(());
             };
-            put_element(out, key, leaf);
+            level = outer;
+            continue 'levels;
+        };
+        let key = text(key, &mut buffer);
+        match show(value) {
+            Shown::Leaf(leaf) => put_element(out, key, leaf),
+            Shown::Container(inner) => {
+                if waiting.push(level).is_err() {
+                    return Err(Error::out_of_memory());
+                }
+                put_head(out, tag(inner), key);
+                level = begin(out, inner);
+            }
         }
     }
-}
-
-/// Puts the payload of a list at the end, where there is room for it; its keys are the decimals from 0.
-#[cycle(write)]
-fn put_list(out: &mut Vec<u8>, values: &[Bson])
-    requires room { vec_len out.old + encoded_len (tree_of_list values.now) ≤ vec_capacity out.old }
-    requires fits { encoded_len (tree_of_list values.now) ≤ max_length }
-    ensures items { out.new.items ≡ out.old.items ++ tree_payload (tree_of_list values.now) }
-    ensures len { vec_len out.new ≡ vec_len out.old + encoded_len (tree_of_list values.now) }
-    ensures bytes { AreBytes out.new.items }
-    ensures capacity { vec_capacity out.old ≤ vec_capacity out.new }
-{
-    let start = out.len();
-    put(out, &[0; 4]);
-    let mut key = Buffer::new();
-    for (index, value) in values.iter().enumerate() {
-        put_value(out, key.format(index), value);
-    }
-    out.push_reserved(0);
-    set_len(out, start);
-}
-
-/// The same of a document.
-#[cycle(write)]
-fn put_document(out: &mut Vec<u8>, document: &Document)
-    requires room { vec_len out.old + encoded_len (tree_of_document document.now)
-        ≤ vec_capacity out.old }
-    requires fits { encoded_len (tree_of_document document.now) ≤ max_length }
-    ensures items { out.new.items ≡ out.old.items ++ tree_payload (tree_of_document document.now) }
-    ensures len { vec_len out.new ≡ vec_len out.old + encoded_len (tree_of_document document.now) }
-    ensures bytes { AreBytes out.new.items }
-    ensures capacity { vec_capacity out.old ≤ vec_capacity out.new }
-{
-    let start = out.len();
-    put(out, &[0; 4]);
-    for index in 0..document.len() {
-        let Some((key, value)) = document.pair_at(index) else {
-            unreachable!()
-        };
-        put_value(out, key, value);
-    }
-    out.push_reserved(0);
-    set_len(out, start);
 }
 
 /// No bytes yet, with room for the tree of which this is judged; or why the tree isn't written.
@@ -125,8 +172,9 @@ pub fn encode(alloc: Global, document: &Document) -> Result<Vec<u8>>
     ensures comes_back { DocumentsComeBack }
     ensures err { IfErr result (IsRefused (tree_of_document document.now)) }
 {
-    let mut out = room_for(alloc, judged_document(document))?;
-    put_document(&mut out, document);
+    let container = Container::Document(document);
+    let mut out = room_for(alloc, judged(alloc, container))?;
+    write(alloc, &mut out, container)?;
     Ok(out)
 }
 
@@ -138,7 +186,8 @@ pub fn encode_list(alloc: Global, values: &[Bson]) -> Result<Vec<u8>>
     ensures comes_back { ListsComeBack }
     ensures err { IfErr result (IsRefused (tree_of_list values.now)) }
 {
-    let mut out = room_for(alloc, judged_list(values))?;
-    put_list(&mut out, values);
+    let container = Container::Array(values);
+    let mut out = room_for(alloc, judged(alloc, container))?;
+    write(alloc, &mut out, container)?;
     Ok(out)
 }

@@ -1,6 +1,6 @@
-//! What `view_tests`, `bson_tests` and `memory_tests` share: bytes and the faults that stand in them, a value of each
-//! kind, the getters by kind, and checks of answers. A check answers a `Mismatch`, which `?` makes the failure of a
-//! test.
+//! What `view_tests`, `bson_tests`, `tree_tests` and `memory_tests` share: bytes and the faults that stand in them, a
+//! value of each kind, the getters by kind, and checks of answers. A check answers a `Mismatch`, which `?` makes the
+//! failure of a test.
 #![tactic(auto)]
 
 mod checks;
@@ -27,7 +27,7 @@ pub use faults::{
 };
 pub use getters::{get_of_array, get_of_document, has_getter};
 pub use keys::KEY_ANSWERS;
-pub use levels::{Holder, has_levels, nested};
+pub use levels::{Holder, has_levels, levels_inside, nested, nested_in_turn};
 pub use values::{
     HALF_MORE_THAN_ONE, KINDS, MOMENT, array_view, borrowed, decimal, has_accessor, id, pointed,
 };

@@ -41,7 +41,7 @@ attest_value-returns-in-RegularExpression t c =
 
 pub attest_document-attest_value-requires : goal.attest_document-attest_value-requires
 attest_document-attest_value-requires t c =
-    let below = value_smaller c.args.document.now c.loop-index.index c.in-Some._key.now c.in-Some.value.now (sym c.in-Some.ensures) in
+    let below = value_smaller c.args.document.now c.loop-index.index c.in-Some._key.now c.in-Some.value.now (sym c.in-Some.ensures.pair) in
     let here = c.decreases in (omega arith, tt)
 
 pub attest_document-loop-index-preserved : goal.attest_document-loop-index-preserved
@@ -50,8 +50,8 @@ attest_document-loop-index-preserved t c =
     let i = c.loop-index.index in
     let more : ArePairsWellFormed (take (i + 1) ps) =
     elim c.match-pair_at.branch [
-      | attest_document-in-Some w ↦ ArePairsWellFormed-more ps i w.in-Some._key.now w.in-Some.value.now (sym w.in-Some.ensures) c.loop-index.invariant.1 (text_at ps c.len-index-end.ensures.texts i w.in-Some._key.now w.in-Some.value.now (sym w.in-Some.ensures)) w.attest_value.ensures
-      | attest_document-in_default w ↦ absurd (not_past ps i (let h = c.loop-index-test.true in let e = c.len-index-end.ensures.len in omega arith) (sym w.in_default.ensures))
+      | attest_document-in-Some w ↦ ArePairsWellFormed-more ps i w.in-Some._key.now w.in-Some.value.now (sym w.in-Some.ensures.pair) c.loop-index.invariant.1 (text_at ps c.len-index-end.ensures.texts i w.in-Some._key.now w.in-Some.value.now (sym w.in-Some.ensures.pair)) w.attest_value.ensures
+      | attest_document-in_default w ↦ absurd (not_past ps i (let h = c.loop-index-test.true in let e = c.len-index-end.ensures.len in omega arith) (sym w.in_default.ensures.pair))
     ] in
     (c.loop-index.invariant.0, more)
 

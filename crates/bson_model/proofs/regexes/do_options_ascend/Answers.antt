@@ -1,4 +1,4 @@
-use Rattle.std.proofs.Common.{◌≡◌, ◌++◌, ◌∷◌, [], ◌<◌, ◌≤◌, ◌+◌, Bool, true, false, List, ℕ, Option, Some, arith, refl, sym, subst, length, length-append}
+use Rattle.std.proofs.Common.{◌≡◌, ◌++◌, ◌∷◌, [], ◌<◌, ◌+◌, Bool, true, false, List, ℕ, Option, arith, refl, sym, subst, length, length-append}
 use Rattle.std.specs.Bool.{IsTrue, MatchBool}
 use Rattle.std.specs.Iterator.{AlwaysYields, Yields}
 use Rattle.std.specs.Iterator.Runs.{YieldsRun}

@@ -1,7 +1,7 @@
 use Rattle.std.proofs.lemmas.Result.{err_from_is_err_and}
 use Rattle.raw_bson.specs.Document.{bytes_of}
 use Rattle.raw_bson.specs.Tree.{tree_of_document}
-use Rattle.bsonraw.proofs.Forms.{refused_first, refused_forms}
+use Rattle.bsonraw.proofs.Forms.{refused_first, refused_forms, written_forms}
 use Rattle.bsonraw.proofs.canon.canonical_form.Goals as goal
 
 pub returns-in_err-tree-clause-refused : goal.returns-in_err-tree-clause-refused
@@ -16,3 +16,7 @@ returns-clause-refused c =
     let read = c.in_ok-tree.ensures.tree in
     let proper = (c.in_ok-tree.ensures.one_spelling b c.args.document.envelope).proper t read.read in
     refused_forms b t c.from_document.result read proper c.from_document.ensures.err
+
+pub returns-clause-form : goal.returns-clause-form
+returns-clause-form c =
+    written_forms (bytes_of c.args.document) (tree_of_document c.in_ok-tree.tree) c.from_document.result c.in_ok-tree.ensures.tree c.from_document.ensures.ok

@@ -6,8 +6,8 @@ use Rattle.raw_bson.proofs.conversions.owned_array.Goals as goal
 
 pub returns : goal.returns
 returns c =
-    let vs = c.args.values.items in
+    let vs = c.args.values.now in
     let a = c.in_ok-array_of.field-0 in
     let us = map tree_of vs in
-    let count : a.count ≡ length (items_in (trees us)) = c.in_ok-array_of.ensures.count ∙ ap length c.deref.ensures.value ∙ sym (length-map vs tree_of) ∙ ap length (sym (items_in-trees us)) in
-    (a.bytes, rw c.deref.ensures.value at c.in_ok-array_of.ensures.ok, refl, ap Some count)
+    let count : a.count ≡ length (items_in (trees us)) = c.in_ok-array_of.ensures.count ∙ sym (length-map vs tree_of) ∙ ap length (sym (items_in-trees us)) in
+    (a.bytes, c.in_ok-array_of.ensures.ok, refl, ap Some count)

@@ -4,5 +4,5 @@ use Rattle.view_tests.proofs.trees.+count.Goals as goal
 
 pub leaves_of_document-leaves_of_value-requires : goal.leaves_of_document-leaves_of_value-requires
 leaves_of_document-leaves_of_value-requires t c =
-    let below = value_smaller c.args.document.now c.loop-index.index c.in-Some._key.now c.in-Some.value.now (sym c.in-Some.ensures) in
+    let below = value_smaller c.args.document.now c.loop-index.index c.in-Some._key.now c.in-Some.value.now (sym c.in-Some.ensures.pair) in
     let here = c.decreases in (omega arith, tt)

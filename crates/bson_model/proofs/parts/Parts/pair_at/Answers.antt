@@ -1,17 +1,18 @@
-use Rattle.std.proofs.Common.{Some, sym}
+use Rattle.std.proofs.Common.{◌≡◌, ◌<◌, ◌≤◌, Some, length, slice_get, ap, sym, ◌∙◌, arith}
 use Rattle.std.specs.String.{string_bytes}
-use Rattle.bson_model.proofs.Kept.{pair_at, no_pair_at, looked_up}
+use Rattle.std.proofs.lemmas.Option.{slice_get-get_or, slice_get_past}
+use Rattle.bson_model.proofs.Kept.{pair_at, no_pair_at}
 use Rattle.bson_model.proofs.parts.Parts.pair_at.Goals as goal
 
-pub returns-in_err-key : goal.returns-in_err-key
-returns-in_err-key g c =
+pub returns-then-index-len-clause-pair : goal.returns-then-index-len-clause-pair
+returns-then-index-len-clause-pair g c =
     let a = c.self.inside in
-    rw (c.from_residual.ensures, ← c.self.view_is) (sym (no_pair_at string_bytes c.args.index a.keys.keys a.values.items (sym c.in_err-key.ensures.key)))
+    let h : length a.keys.keys ≤ c.args.index = omega (arith, c.len.ensures, a.values.ok.0, c.self.invariant) in
+    rw (← c.self.view_is) (sym (no_pair_at string_bytes c.args.index a.keys.keys a.values.items (slice_get_past a.keys.keys c.args.index h)))
 
-pub returns : goal.returns
-returns g c =
+pub returns-clause-pair : goal.returns-clause-pair
+returns-clause-pair g c =
     let a = c.self.inside in
-    let l = rw c.deref.ensures.value at c.in_ok-value.ensures.lookup in
-    let v = looked_up (Some c.in_ok-value.value) a.values.items c.args.index (l.0, l.1) in
-    let k = c.in_ok-key.ensures.key in
-    rw (c.as_str.ensures.value, ← c.self.view_is) (sym (pair_at string_bytes c.args.index c.in_ok-key.key.now c.in_ok-value.value.now a.keys.keys a.values.items (sym k) (sym v)))
+    let h : c.args.index < length a.values.items = omega (arith, c.len.ensures, a.values.ok.0) in
+    let v : slice_get a.values.items c.args.index ≡ Some c.index.result.now = slice_get-get_or a.values.items c.args.index c.index.result.now h ∙ ap Some (sym c.index.ensures) in
+    rw (c.as_str.ensures.value, ← c.self.view_is) (sym (pair_at string_bytes c.args.index c.in-Some.key.now c.index.result.now a.keys.keys a.values.items (sym c.in-Some.ensures.key) v))

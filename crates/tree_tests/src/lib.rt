@@ -1,0 +1,20 @@
+//! Tests of what `raw_bson` does with trees: reading them, writing them, counts, limits and the validator. They stand
+//! apart from `bson_tests`, so that both are proved side by side.
+#![tactic(auto)]
+
+#[cfg(test)]
+mod counts;
+#[cfg(test)]
+mod deep_encodings;
+#[cfg(test)]
+mod depth;
+#[cfg(test)]
+mod encodings;
+#[cfg(test)]
+mod limits;
+#[cfg(test)]
+mod readings;
+#[cfg(test)]
+mod trees;
+#[cfg(test)]
+mod validation;
