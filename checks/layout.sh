@@ -1,7 +1,8 @@
 #!/bin/sh
-# Whether each file is laid out as `rt fmt` writes it, and whether each edit of must-fail/ applies to its file: what
-# `rt ci` would refuse only after minutes. It works on a copy of the sources, and first sees that a file out of layout
-# and an edit that doesn't apply are found. It prints what isn't right, and gives 0 where all is.
+# Whether each file is laid out as `rt fmt` writes it, whether each edit of must-fail/ applies to its file, and whether
+# tests alone may end the process: what `rt ci` would refuse only after minutes, and the last `rt check` never. It works
+# on a copy of the sources, and first sees that each of the three is found. It prints what isn't right, and gives 0 where
+# all is.
 set -u
 
 cd "$(dirname "$(dirname "$(realpath "$0")")")" || exit 1
@@ -17,14 +18,28 @@ said() {
     done
 }
 
+# aborting FOLDER: the files outside of tests that may end the process. A test's file is, or is below, a module under
+# cfg(test).
+aborting() {
+    grep -rl --include='*.rt' 'process::Abort' "$1"/crates/*/src | while IFS= read -r file; do
+        crate=${file%%/src/*}
+        path=/${file#*/src/}
+        for module in $(grep -rhA1 '^#\[cfg(test)\]' "$crate/src" | sed -n 's/^mod \(.*\);$/\1/p'); do
+            case $path in */"$module".rt | */"$module"/*) continue 2 ;; esac
+        done
+        echo "$(basename "$crate"): src$path may end the process, and is no test"
+    done
+}
+
 mkdir -p "$work/tried/.git" "$work/tried/crates/bson_uses"
 cp crates.txt "$work/tried"
 cp -r "$work/all/crates/bson_uses/src" "$work/tried/crates/bson_uses"
 mkdir "$work/tried/crates/bson_uses/must-fail"
 printf 'file: src/lib.rt\nold: no such text\nnew: another\n' >"$work/tried/crates/bson_uses/must-fail/tried.edit"
-printf '\nfn  tried( ) { }\n' >>"$work/tried/crates/bson_uses/src/lib.rt"
-tried=$(said "$work/tried")
-for word in 'formatted src/lib.rt' 'tried.edit cannot be applied'; do
+printf '\nmod  tried;\n' >>"$work/tried/crates/bson_uses/src/lib.rt"
+echo 'use std::process::Abort;' >"$work/tried/crates/bson_uses/src/tried.rt"
+tried=$(said "$work/tried" && aborting "$work/tried")
+for word in 'formatted src/lib.rt' 'tried.edit cannot be applied' 'src/tried.rt may end the process'; do
     case $tried in
     *"$word"*) ;;
     *)
@@ -34,8 +49,8 @@ for word in 'formatted src/lib.rt' 'tried.edit cannot be applied'; do
     esac
 done
 
-found=$(said "$work/all")
+found=$(said "$work/all" && aborting "$work/all")
 [ -z "$found" ] && exit 0
 printf '%s\n' "$found"
-echo "layout.sh: run rt fmt in the crates that are named, and mend the edits" >&2
+echo "layout.sh: run rt fmt in the crates that are named, and mend the edits; a library answers whether a check holds" >&2
 exit 1

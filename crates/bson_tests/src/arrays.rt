@@ -1,4 +1,5 @@
-use bson_fixtures::{array_of, assert_array_text, assert_one_pair, assert_refused, owned};
+use crate::asserts::{assert_array_text, assert_one_pair, assert_refused};
+use bson_fixtures::{array_of, owned};
 use raw_bson::laws::is_same_array_buf;
 use raw_bson::{ElementType, RawArrayBuf, RawBson, RawBsonRef, Reason, Regex, ValueAccessResult};
 use std::alloc::Global;

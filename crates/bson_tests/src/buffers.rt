@@ -1,6 +1,5 @@
-use bson_fixtures::{
-    assert_malformed, assert_one_pair, assert_pair, assert_refused, assert_text, document_of,
-};
+use crate::asserts::{assert_one_pair, assert_pair, assert_refused, assert_text};
+use bson_fixtures::{document_of, is_malformed, is_refused};
 use raw_bson::{
     Binary, BinarySubtype, ElementType, RawBson, RawBsonRef, RawDocument, RawDocumentBuf,
     RawElement, RawRegexRef, Reason, Regex, total_len,
@@ -18,10 +17,8 @@ fn assert_value_malformed(
     reason: Reason,
     key: &str,
 ) {
-    match element.value(alloc) {
-        Ok(_) => assert!(rt; false, "{key}"),
-        Err(error) => assert_malformed(rt, &error, reason, Some(key)),
-    }
+    let answer = element.value(alloc);
+    assert!(rt; is_refused(&answer, reason, Some(key)), "{key}");
 }
 
 /// The one element is of this kind and key and has so many bytes, and its value is malformed at that key.
@@ -48,7 +45,7 @@ fn assert_one_is_malformed(
 fn assert_stops(rt: &impl Abort, document: &RawDocumentBuf, reason: Reason, key: &str) {
     let mut iter = document.iter();
     match iter.next() {
-        Some(Err(error)) => assert_malformed(rt, &error, reason, Some(key)),
+        Some(Err(error)) => assert!(rt; is_malformed(&error, reason, Some(key)), "{error}"),
         _ => assert!(rt; false, "{key}"),
     }
     assert!(rt; iter.next().is_none(), "{key}");

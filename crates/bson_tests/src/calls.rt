@@ -1,4 +1,5 @@
-use bson_fixtures::{assert_pair, assert_refused, document_of, owned};
+use crate::asserts::{assert_pair, assert_refused};
+use bson_fixtures::{document_of, owned};
 use raw_bson::laws::is_same_document_buf;
 use raw_bson::{
     ElementType, Error, ErrorKind, RawBson, RawBsonRef, RawDocumentBuf, RawElement, Reason,

@@ -1,6 +1,7 @@
 //! Appends and pushes onto damaged documents: what is there isn't looked at, and a refused one leaves it.
 
-use bson_fixtures::{array_of, assert_array_text, assert_refused, document_of};
+use crate::asserts::{assert_array_text, assert_refused};
+use bson_fixtures::{array_of, document_of};
 use raw_bson::{RawArrayBuf, RawBson, RawBsonRef, RawDocumentBuf, Reason, Regex};
 use std::alloc::Global;
 use std::process::Abort;

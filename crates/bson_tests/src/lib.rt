@@ -8,6 +8,8 @@ mod any_errors;
 #[cfg(test)]
 mod arrays;
 #[cfg(test)]
+mod asserts;
+#[cfg(test)]
 mod buffers;
 #[cfg(test)]
 mod calls;

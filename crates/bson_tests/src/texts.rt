@@ -1,4 +1,5 @@
-use bson_fixtures::{array_of, assert_array_text, assert_text, code_of, document_of};
+use crate::asserts::{assert_array_text, assert_text};
+use bson_fixtures::{array_of, code_of, document_of};
 use raw_bson::{Error, ErrorKind, RawArrayBuf, RawBson, RawDocumentBuf, Reason};
 use std::alloc::Global;
 use std::fmt::Debug;

@@ -1,6 +1,5 @@
-use bson_fixtures::{
-    all_owned, array_of, assert_one_pair, assert_same, code_of, document_of, owned,
-};
+use crate::asserts::{assert_one_pair, assert_same};
+use bson_fixtures::{all_owned, array_of, code_of, document_of, owned};
 use raw_bson::laws::{is_same_code, is_same_value};
 use raw_bson::{
     Binary, BinarySubtype, DateTime, DoubleBits, ElementType, RawBson, RawBsonRef,

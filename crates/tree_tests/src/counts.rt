@@ -1,4 +1,4 @@
-use bson_fixtures::{assert_bytes, assert_refused};
+use crate::asserts::{assert_bytes, assert_refused};
 use raw_bson::{
     Document, RawDocument, Reason, Result, canonical_bytes, document_from_raw,
     document_from_raw_counted,

@@ -1,6 +1,7 @@
 //! Trees so deep that a writer which calls itself once a level would fill the stack.
 
-use bson_fixtures::{assert_bytes, assert_refused, one_pair, put};
+use crate::asserts::{assert_bytes, assert_refused};
+use crate::trees_fixtures::{one_pair, put};
 use raw_bson::{Bson, RawDocument, Reason, encode, encode_list, list_from_raw};
 use std::test::Fail;
 use test_fixtures::*;

@@ -1,4 +1,5 @@
-use bson_fixtures::{document_of, one_and_two, put, text};
+use crate::trees_fixtures::{one_and_two, put, text};
+use bson_fixtures::document_of;
 use raw_bson::{
     Bson, Document, RawArrayBuf, RawBson, RawDocument, document_from_raw, encode, encode_list,
     list_from_raw,

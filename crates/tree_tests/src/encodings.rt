@@ -1,4 +1,5 @@
-use bson_fixtures::{assert_bytes, assert_refused, one_pair, text};
+use crate::asserts::{assert_bytes, assert_refused};
+use crate::trees_fixtures::{one_pair, text};
 use raw_bson::{Binary, BinarySubtype, Bson, Reason, encode, encode_list};
 use std::test::Fail;
 

@@ -3,6 +3,8 @@
 #![tactic(auto)]
 
 #[cfg(test)]
+mod asserts;
+#[cfg(test)]
 mod counts;
 #[cfg(test)]
 mod deep_encodings;
@@ -16,5 +18,7 @@ mod limits;
 mod readings;
 #[cfg(test)]
 mod trees;
+#[cfg(test)]
+mod trees_fixtures;
 #[cfg(test)]
 mod validation;

@@ -1,4 +1,5 @@
-use bson_fixtures::{assert_malformed, assert_refused, document_of};
+use crate::asserts::{assert_fault, assert_refused};
+use bson_fixtures::document_of;
 use raw_bson::{
     Document, Limits, RawDocument, Reason, document_from_raw, document_from_raw_within,
 };
@@ -50,14 +51,6 @@ fn assert_refused_within(
     Ok(())
 }
 
-/// The answer is the fault of the boolean 2 under `a`.
-fn assert_two_at_a(rt: &impl Abort, answer: raw_bson::Result<Document>) {
-    match answer {
-        Ok(_) => assert!(rt; false),
-        Err(error) => assert_malformed(rt, &error, Reason::BadBoolean(2), Some("a")),
-    }
-}
-
 #[test]
 fn array_with_an_empty_key_within_limits(rt: HostRuntime) -> Result<(), Fail> {
     // array with an empty key
@@ -79,10 +72,8 @@ fn array_with_an_empty_key_within_limits(rt: HostRuntime) -> Result<(), Fail> {
 fn a_fault_comes_before_a_level_behind_it(rt: HostRuntime) -> Result<(), Fail> {
     // fault before a level that is too deep
     let view = RawDocument::from_bytes(FAULT_BEFORE_A_LEVEL)?;
-    assert_two_at_a(
-        &rt,
-        document_from_raw_within(rt.alloc(), view, limits(17, 1)),
-    );
+    let answer = document_from_raw_within(rt.alloc(), view, limits(17, 1));
+    assert_fault(&rt, answer, Reason::BadBoolean(2), "a");
     Ok(())
 }
 
@@ -92,10 +83,8 @@ fn a_level_comes_before_a_fault_behind_it(rt: HostRuntime) -> Result<(), Fail> {
     let view = RawDocument::from_bytes(FAULT_BEHIND_A_LEVEL)?;
     let too_deep = document_from_raw_within(rt.alloc(), view, limits(17, 1));
     assert_refused(&rt, too_deep, Reason::TooDeep);
-    assert_two_at_a(
-        &rt,
-        document_from_raw_within(rt.alloc(), view, limits(17, 2)),
-    );
+    let answer = document_from_raw_within(rt.alloc(), view, limits(17, 2));
+    assert_fault(&rt, answer, Reason::BadBoolean(2), "a");
     Ok(())
 }
 

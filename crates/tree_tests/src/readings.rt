@@ -1,7 +1,6 @@
-use bson_fixtures::{
-    assert_buffer, assert_fault, assert_owned, assert_tree, assert_value, document_of, one_pair,
-    text,
-};
+use crate::asserts::{assert_buffer, assert_fault, assert_owned, assert_tree, assert_value};
+use crate::trees_fixtures::{one_pair, text};
+use bson_fixtures::document_of;
 use raw_bson::{
     Bson, Document, RawArray, RawArrayBuf, RawBson, RawDocument, RawDocumentBuf, Reason,
     bson_from_element, bson_from_raw, list_from_raw,

@@ -1,8 +1,9 @@
-use bson_fixtures::{
-    assert_array_text, assert_buffer, assert_bytes, assert_fault, assert_owned, assert_read,
-    assert_refused, assert_tree, assert_value, code_of, document_of, empty_code, one_and_two,
-    one_pair, put, regex, text,
+use crate::asserts::{
+    assert_buffer, assert_bytes, assert_fault, assert_owned, assert_read, assert_refused,
+    assert_tree, assert_value,
 };
+use crate::trees_fixtures::{empty_code, one_and_two, one_pair, put, regex, text};
+use bson_fixtures::{code_of, document_of};
 use raw_bson::{
     Binary, BinarySubtype, Bson, Document, RawBson, RawBsonRef, RawDocument, RawDocumentBuf,
     RawRegexRef, Reason, bson_from_raw, canonical_bytes, document_from_raw, encode,
@@ -223,12 +224,10 @@ fn two_written(alloc: Global) -> Result<RawBson, Fail> {
 fn a_list_of_two_is_written(rt: HostRuntime) -> Result<(), Fail> {
     // try_from_bson of an array of two
     match two_written(rt.alloc())? {
-        RawBson::Array(array) => assert_array_text(
-            &rt,
-            rt.alloc(),
-            &array,
-            "RawArrayBuf { data: \"13000000103000010000001031000200000000\", len: 2 }",
-        )?,
+        RawBson::Array(array) => assert_eq!(rt;
+            format!(in rt.alloc(); "{array:?}")?.as_str(),
+            "RawArrayBuf { data: \"13000000103000010000001031000200000000\", len: 2 }"
+        ),
         _ => assert!(rt; false),
     }
     Ok(())

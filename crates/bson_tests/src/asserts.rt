@@ -1,27 +1,16 @@
-use raw_bson::{Error, ErrorKind, RawArrayBuf, RawBson, RawBsonRef, RawDocument, Reason, Result};
+use bson_fixtures::is_refused;
+use raw_bson::{Error, RawArrayBuf, RawBson, RawBsonRef, RawDocument, Reason, Result};
 use std::alloc::Global;
 use std::process::Abort;
 use std::test::Fail;
 
-/// The error is malformed for this reason, and has this key.
-pub fn assert_malformed(rt: &impl Abort, error: &Error, reason: Reason, key: Option<&str>) {
-    assert!(rt;
-        error.kind == ErrorKind::MalformedValue { reason },
-        "{reason:?}"
-    );
-    assert_eq!(rt; error.key(), key, "{reason:?}");
-}
-
 /// The call is refused for this reason, without a key.
-pub fn assert_refused<T: Drop>(rt: &impl Abort, answer: Result<T>, reason: Reason) {
-    match answer {
-        Ok(_) => assert!(rt; false, "{reason:?}"),
-        Err(error) => assert_malformed(rt, &error, reason, None),
-    }
+pub(crate) fn assert_refused<T: Drop>(rt: &impl Abort, answer: Result<T>, reason: Reason) {
+    assert!(rt; is_refused(&answer, reason, None), "{reason:?}");
 }
 
 /// The item is this key and value.
-pub fn assert_pair(
+pub(crate) fn assert_pair(
     rt: &impl Abort,
     item: Option<Result<(&str, RawBsonRef<'_>)>>,
     key: &str,
@@ -37,7 +26,7 @@ pub fn assert_pair(
 }
 
 /// The document is this one value under this key, and then the end.
-pub fn assert_one_pair(
+pub(crate) fn assert_one_pair(
     rt: &impl Abort,
     alloc: Global,
     document: RawDocument<'_>,
@@ -50,12 +39,12 @@ pub fn assert_one_pair(
 }
 
 /// The owned value is the wanted one.
-pub fn assert_same(rt: &impl Abort, value: RawBson, wanted: RawBson) {
+pub(crate) fn assert_same(rt: &impl Abort, value: RawBson, wanted: RawBson) {
     assert!(rt; value == wanted, "{value:?}");
 }
 
 /// The error has this Display text.
-pub fn assert_text(
+pub(crate) fn assert_text(
     rt: &impl Abort,
     alloc: Global,
     error: &Error,
@@ -66,7 +55,7 @@ pub fn assert_text(
 }
 
 /// The array has this Debug text, which shows its bytes and its count.
-pub fn assert_array_text(
+pub(crate) fn assert_array_text(
     rt: &impl Abort,
     alloc: Global,
     array: &RawArrayBuf,
