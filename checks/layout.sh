@@ -1,8 +1,8 @@
 #!/bin/sh
-# Whether each file is laid out as `rt fmt` writes it, whether each edit of must-fail/ applies to its file, and whether
-# tests alone may end the process: what `rt ci` would refuse only after minutes, and the last `rt check` never. It works
-# on a copy of the sources, and first sees that each of the three is found. It prints what isn't right, and gives 0 where
-# all is.
+# Whether each file is laid out as `rt fmt` writes it, whether each edit of must-fail/ and edits/ applies to its file, and
+# whether tests alone may end the process: what the gate would refuse only after minutes, and the last `rt check` never.
+# It works on a copy of the sources, and first sees that what it looks for is found. It prints what isn't right, and gives
+# 0 where all is.
 set -u
 
 cd "$(dirname "$(dirname "$(realpath "$0")")")" || exit 1
@@ -50,7 +50,8 @@ for word in 'formatted src/lib.rt' 'tried.edit cannot be applied' 'src/tried.rt 
 done
 
 found=$(said "$work/all" && aborting "$work/all")
+applying=$(checks/edits.sh --applies) || found=$found$applying
 [ -z "$found" ] && exit 0
 printf '%s\n' "$found"
-echo "layout.sh: run rt fmt in the crates that are named, and mend the edits; a library answers whether a check holds" >&2
+echo "layout.sh: run rt fmt in the crates that are named, and mend the edits; a library returns whether a check holds" >&2
 exit 1

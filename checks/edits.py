@@ -1,0 +1,434 @@
+"""Sees that the prover refuses each edit in crates/NAME/edits/, many edits in one check.
+
+An edit is a wrong body, and a contract that lets it through is too weak. It is a text file:
+
+    fn: document::RawDocument::get       the function that it changes, as the prover names it, and whose proof has to fail;
+                                         of functions that share one proof, since they call one another, all, and `+CYCLE`
+    file: src/document.rt                a file of the crate
+    old: TEXT                            a line's text that is in this file once
+    new: TEXT                            what is put in its place; further pairs of lines change what the earlier ones made
+
+Edits of different functions go into one copy of the crate, which is checked once. A contract is all that a caller knows of
+a function, so an edit of one body disturbs no other proof, and the prover's complaints about each edited function are that
+edit's own. Where a function's proof waits for one that is edited, too, its edit is tried again without the other. An edit
+without a line `fn` changes no body alone (an import, say): it is tried by itself, and the whole crate has to be refused.
+
+What each edit came to:
+
+    refused             the prover complains of a goal of the edited function
+    only for a name     it complains only that a proof names what the edit took away, which says nothing of the contract
+    not refused         the function is still proved
+    bad                 the edit can't be applied or read, or the check ended without a verdict
+
+The first is well, and the others fail the run. Verdicts are kept in ~/.cache/foyeranise by checksums of all that they rest
+on, and --anew ignores these. --applies proves nothing: it sees that each edit applies.
+"""
+
+import argparse
+import concurrent.futures
+import dataclasses
+import hashlib
+import json
+import os
+import pathlib
+import re
+import resource
+import shutil
+import subprocess
+import sys
+import tempfile
+import threading
+import time
+
+TOP = pathlib.Path(__file__).resolve().parent.parent
+KEPT = pathlib.Path.home() / ".cache" / "foyeranise" / "edits"
+# what a proof rests on, of a crate
+PARTS = ("src", "specs", "proofs")
+
+REFUSED, NAME_ALONE, NOT_REFUSED, BAD = "refused", "only for a name", "not refused", "bad"
+
+# complaints that a proof names what isn't there any more
+NAMES_LOST = re.compile(r"has no field|is not in scope|has no `|was not admitted|is no name")
+
+
+def libraries(top):
+    """Returns the repository's crates, and of each the crates of the repository that it is over, lowest first."""
+    listed = {}
+    for line in (top / "crates.txt").read_text().splitlines():
+        head, colon, tail = line.partition("#")[0].partition(":")
+        if colon:
+            listed[head.split()[0]] = tail.split()
+
+    def below(name):
+        found = {}
+        for it in listed[name]:
+            if it in listed:
+                found.update(dict.fromkeys([*below(it), it]))
+        return list(found)
+
+    return {name: below(name) for name in listed}
+
+
+@dataclasses.dataclass(eq=False)
+class Edit:
+    crate: str
+    name: str
+    text: str
+    functions: set[str] = dataclasses.field(default_factory=set)
+    changes: list[tuple[str, str, str]] = dataclasses.field(default_factory=list)
+    # functions that no other edit of a round may change, since the proof of this one waits for theirs
+    waits_for: set[str] = dataclasses.field(default_factory=set)
+    verdict: str = ""
+    why: str = ""
+
+    @classmethod
+    def read(cls, crate, path):
+        edit = cls(crate, path.stem, path.read_text())
+        file = old = None
+        for line in edit.text.splitlines():
+            word, colon, rest = line.partition(":")
+            rest = rest.removeprefix(" ")
+            match word:
+                case "fn":
+                    edit.functions = {f"{crate}::{it}" for it in rest.split()}
+                case "file":
+                    file = rest.strip()
+                case "old":
+                    old = rest
+                case "new":
+                    edit.changes.append((file, old, rest))
+        return edit
+
+    def applied(self, folder, texts):
+        """Returns the texts of the crate's files by their paths, with this edit over those given, or None where it doesn't apply."""
+        texts = dict(texts)
+        for file, old, new in self.changes:
+            if not file or not old:
+                return None
+            if file not in texts:
+                if file.split("/")[0] not in PARTS or not (folder / file).is_file():
+                    return None
+                texts[file] = (folder / file).read_text()
+            if texts[file].count(old) != 1:
+                return None
+            texts[file] = texts[file].replace(old, new)
+        return texts if self.changes else None
+
+    def settle(self, verdict, why=""):
+        self.verdict, self.why = verdict, why
+
+
+class Said:
+    """What a check said of each function."""
+
+    def __init__(self, crate, output):
+        self.lines = output.rstrip("\n").split("\n")
+        self.states, self.complaints, self.calls = {}, {}, {}
+        notes = []
+        for line in self.lines:
+            if at := re.match(r"(?:\./)?proofs/(\S+)/[\w+]+\.antt:\d+:\d+: error: (.*)", line):
+                self.complain("::".join([crate, *at[1].split("/")]), at[2])
+            elif at := re.match(r"note: (src/\S+?:\d+):\d+: (it is not proved .*)", line):
+                notes.append(f"{at[1]}: {at[2]}")
+            elif at := re.match(r"fn (\S+): (.*)", line):
+                self.states[at[1]] = at[2]
+                called = " ".join(re.findall(r"it (?:calls|passes the block|waits for the proof of) ([^;]*)", at[2]))
+                self.calls[at[1]] = set(re.findall(r"`([^`]*)`", called))
+                for it in notes:
+                    self.complain(at[1], it)
+                if "`search` did not prove" in at[2]:
+                    self.complain(at[1], at[2])
+                notes = []
+            elif re.match(r"(struct|enum|impl|trait) ", line):
+                notes = []
+
+    def complain(self, function, complaint):
+        self.complaints.setdefault(function, []).append(complaint)
+
+    def parts_of(self, functions):
+        """Returns these functions and their closures, as lines may name them."""
+        named = [*self.states, *self.complaints]
+        heads = ["{}::fn::{}::".format(*it.rpartition("::")[::2]) for it in functions]
+        return functions | {it for it in named if it.startswith(tuple(heads))}
+
+    def complaints_of(self, functions):
+        return [it for part in sorted(self.parts_of(functions)) for it in self.complaints.get(part, [])]
+
+    def are_proved(self, functions):
+        own = [self.states[it] for it in self.parts_of(functions) if it in self.states]
+        return bool(own) and all(it in ("proved", "no holes") for it in own)
+
+    def waited_for(self, functions):
+        """Returns the functions whose proofs those of these wait for, at first hand or through others."""
+        found, left = set(), self.parts_of(functions)
+        while left:
+            called = self.calls.get(left.pop(), set()) - found
+            found |= called
+            left |= called
+        return found
+
+    def beyond(self, functions):
+        """Returns what the prover complains of in another function than these, or None."""
+        others = sorted(set(self.complaints) - self.parts_of(functions))
+        return f"{others[0]} is refused, of which it isn't: {self.complaints[others[0]][0]}" if others else None
+
+    def unreadable(self):
+        """Returns why nothing was proved, or None where the check reached the prover."""
+        if self.states:
+            return None
+        return next((it for it in self.lines if "error" in it), self.lines[-1])
+
+
+class Prover:
+    """Checks copies of the repository, each crate over what the check of the crate as it is left."""
+
+    def __init__(self, top, jobs):
+        self.top, self.jobs, self.checks = top, jobs, 0
+        self.counting = threading.Lock()
+        self.room = pathlib.Path(tempfile.mkdtemp(prefix="edits-"))
+        self.proved = self.copy("proved")
+
+    def copy(self, name):
+        """Returns a new copy of what is proved of the repository."""
+        to = self.room / name
+        for crate in libraries(self.top):
+            for part in PARTS:
+                if (self.top / "crates" / crate / part).is_dir():
+                    shutil.copytree(self.top / "crates" / crate / part, to / "crates" / crate / part)
+        for file in ("crates.txt", "HANDLES"):
+            if (self.top / file).is_file():
+                shutil.copy(self.top / file, to)
+        (to / ".git").mkdir()
+        return to
+
+    def check(self, copy, crate, *flags):
+        with self.counting:
+            self.checks += 1
+        words = ["rt", "check", "--jobs", str(self.jobs), *flags]
+        return subprocess.run(
+            words,
+            cwd=copy / "crates" / crate,
+            stdin=subprocess.DEVNULL,
+            stdout=subprocess.PIPE,
+            stderr=subprocess.STDOUT,
+            text=True,
+            errors="replace",
+        )
+
+    def prove(self, crate):
+        """Proves the crate as it is, and returns whether that went well."""
+        ran = self.check(self.proved, crate)
+        if ran.returncode or not ran.stdout.splitlines()[-1].startswith("logic=proved"):
+            print(ran.stdout, f"edits: {crate} isn't proved as it is", sep="\n", flush=True)
+            return False
+        return True
+
+    def check_edited(self, crate, texts, *flags):
+        """Checks the crate with these texts, over what its own proof left."""
+        copy = self.room / f"edited-{crate}"
+        if not copy.exists():
+            self.copy(copy.name)
+        folder = copy / "crates" / crate
+        # (rt check then begins with what was kept in the other copy)
+        shutil.rmtree(folder / "out" / "incremental", ignore_errors=True)
+        for file, text in texts.items():
+            (folder / file).write_text(text)
+        ran = self.check(copy, crate, *flags)
+        for file in texts:
+            shutil.copyfile(self.top / "crates" / crate / file, folder / file)
+        return ran
+
+
+def round_of(edits, folder):
+    """Returns the edits, from the first on, that can share a check, and the texts with them."""
+    taken, kept_off, texts, now = set(), set(), {}, []
+    for edit in edits:
+        if edit.functions & (taken | kept_off) or edit.waits_for & taken:
+            continue
+        # (its old texts have to be there once beside the others' new ones)
+        with_this = edit.applied(folder, texts)
+        if with_this is not None:
+            texts = with_this
+            taken |= edit.functions
+            kept_off |= edit.waits_for
+            now.append(edit)
+    return now, texts
+
+
+def judge(edit, said, edited):
+    """Settles the edit by what the check of a round said, or has it wait for the functions edited beside it."""
+    complaints = said.complaints_of(edit.functions)
+    strong = [it for it in complaints if not NAMES_LOST.search(it)]
+    waited_for = said.waited_for(edit.functions) & edited - edit.functions
+    unknown = [it for it in edit.functions if it not in said.states and not it.rpartition("::")[2].startswith("+")]
+    if unknown:
+        edit.settle(BAD, f"the prover knows no function {unknown[0]}")
+    elif strong:
+        edit.settle(REFUSED, strong[0])
+    elif waited_for - edit.waits_for:
+        edit.waits_for |= waited_for
+    elif complaints:
+        edit.settle(NAME_ALONE, complaints[0])
+    elif said.are_proved(edit.functions):
+        edit.settle(NOT_REFUSED, "the function is still proved")
+    else:
+        edit.settle(BAD, f"no verdict: {[said.states.get(it) for it in edit.functions]}")
+
+
+def try_round(prover, crate, now, texts):
+    """Checks these edits at once, and judges each."""
+    ran = prover.check_edited(crate, texts, "--allow-holes")
+    said = Said(crate, ran.stdout)
+    edited = set().union(*[it.functions for it in now])
+    why = said.unreadable() or said.beyond(edited)
+    if why and len(now) == 1:
+        now[0].settle(BAD, why)
+    elif why:
+        # one of them is bad
+        folder = prover.top / "crates" / crate
+        for half in (now[: len(now) // 2], now[len(now) // 2 :]):
+            try_rounds(prover, crate, half, folder)
+    else:
+        for edit in now:
+            judge(edit, said, edited)
+
+
+def try_rounds(prover, crate, edits, folder):
+    while left := [it for it in edits if not it.verdict]:
+        now, texts = round_of(left, folder)
+        begun = time.monotonic()
+        try_round(prover, crate, now, texts)
+        done = sum(bool(it.verdict) for it in now)
+        print(f"    {crate}: {len(now)} edits in a check of {time.monotonic() - begun:.0f} s, {done} settled", flush=True)
+
+
+def try_alone(prover, crate, edit, folder):
+    """Settles an edit that is of no one function: the whole crate has to be refused."""
+    ran = prover.check_edited(crate, edit.applied(folder, {}))
+    said = Said(crate, ran.stdout)
+    complaints = [it for each in said.complaints.values() for it in each]
+    strong = [it for it in complaints if not NAMES_LOST.search(it)]
+    if ran.returncode == 0:
+        edit.settle(NOT_REFUSED, "the crate is still proved")
+    elif said.unreadable() or ran.returncode != 1 or not said.lines[-1].startswith(("logic=not-proved", "rt: ")):
+        edit.settle(BAD, said.unreadable() or said.lines[-1])
+    else:
+        edit.settle(*((REFUSED, strong[0]) if strong else (NAME_ALONE, complaints[0] if complaints else said.lines[-1])))
+
+
+def try_crate(prover, crate, edits):
+    """Tries the crate's edits, once the crate as it is has been proved."""
+    folder = prover.top / "crates" / crate
+    try_rounds(prover, crate, [it for it in edits if it.functions], folder)
+    for edit in edits:
+        if not edit.functions:
+            try_alone(prover, crate, edit, folder)
+
+
+class Store:
+    """Verdicts of earlier runs, each under a checksum of all that it rests on."""
+
+    def __init__(self, top, is_read):
+        self.top, self.is_read, self.below, self.sums = top, is_read, libraries(top), {}
+        self.kit = subprocess.run(["rt", "version"], stdout=subprocess.PIPE, check=True).stdout
+
+    def sum_of(self, crate):
+        """Returns a checksum of the crate's own files."""
+        if crate not in self.sums:
+            sum = hashlib.sha256()
+            files = [it for part in PARTS for it in (self.top / "crates" / crate / part).rglob("*") if it.is_file()]
+            for file in sorted(files):
+                sum.update(f"{file.relative_to(self.top)}\0{file.stat().st_size}\0".encode() + file.read_bytes())
+            self.sums[crate] = sum.hexdigest()
+        return self.sums[crate]
+
+    def place(self, edit):
+        crates = [*self.below[edit.crate], edit.crate]
+        lines = [it for it in (self.top / "crates.txt").read_text().splitlines() if re.split(r"[\s:]", it)[0] in crates]
+        script = pathlib.Path(__file__).read_bytes()
+        rests_on = (self.kit, script, lines, [self.sum_of(it) for it in crates], edit.name, edit.text)
+        return KEPT / hashlib.sha256(repr(rests_on).encode()).hexdigest()
+
+    def recall(self, edit):
+        if self.is_read and self.place(edit).is_file():
+            edit.settle(*json.loads(self.place(edit).read_text()))
+
+    def keep(self, edit):
+        KEPT.mkdir(parents=True, exist_ok=True)
+        new = self.place(edit).with_suffix(f".{os.getpid()}")
+        new.write_text(json.dumps([edit.verdict, edit.why]))
+        new.rename(self.place(edit))
+
+
+def edits_of(top, crates):
+    """Returns the crates' edits; one that can't be applied is settled."""
+    found = []
+    for crate in crates:
+        for path in sorted((top / "crates" / crate / "edits").glob("*.edit")):
+            edit = Edit.read(crate, path)
+            texts = edit.applied(top / "crates" / crate, {})
+            if texts is None:
+                edit.settle(BAD, "an old text isn't in its file once")
+            found.append(edit)
+    return found
+
+
+def try_all(top, edits, jobs, at_once):
+    """Proves each crate that has edits to try, and those below, and tries the edits as soon as their crate is proved."""
+    below, prover = libraries(top), Prover(top, jobs)
+    wanted = [it for it in below if any(edit.crate == it for edit in edits)]
+    with concurrent.futures.ThreadPoolExecutor(at_once) as pool:
+        tried = []
+        # (a crate's check builds the libraries below it)
+        for crate in sorted({it for name in wanted for it in [*below[name], name]}, key=lambda it: len(below[it])):
+            if not prover.prove(crate):
+                for edit in edits:
+                    if crate in [*below[edit.crate], edit.crate] and not edit.verdict:
+                        edit.settle(BAD, f"{crate} isn't proved as it is")
+                break
+            own = [it for it in edits if it.crate == crate]
+            tried.append(pool.submit(try_crate, prover, crate, own))
+        for it in tried:
+            it.result()
+    shutil.rmtree(prover.room)
+    return prover.checks
+
+
+def main():
+    words = argparse.ArgumentParser(description=__doc__, formatter_class=argparse.RawDescriptionHelpFormatter)
+    words.add_argument("crates", nargs="*", metavar="CRATE", help="only the edits of these crates")
+    words.add_argument("--anew", action="store_true", help="try each edit, whatever earlier runs kept")
+    words.add_argument("--applies", action="store_true", help="prove nothing, and see that each edit applies")
+    words.add_argument("--jobs", type=int, default=1, help="what rt check is given (default: 1)")
+    words.add_argument("--at-once", type=int, default=os.cpu_count(), help="crates whose edits are tried side by side")
+    words.add_argument("--top", type=pathlib.Path, default=TOP, help=argparse.SUPPRESS)
+    given = words.parse_args()
+
+    begun = time.monotonic()
+    edits = edits_of(given.top, given.crates or libraries(given.top))
+    checks = 0
+    if not given.applies:
+        store = Store(given.top, is_read=not given.anew)
+        for edit in edits:
+            if not edit.verdict:
+                store.recall(edit)
+        left = [it for it in edits if not it.verdict]
+        print(f"edits: {len(edits)}, of which {len(edits) - len(left)} were settled before", flush=True)
+        if left:
+            checks = try_all(given.top, left, given.jobs, given.at_once)
+        for edit in left:
+            if edit.verdict != BAD:
+                store.keep(edit)
+    wrong = [it for it in edits if it.verdict != REFUSED and (it.verdict or not given.applies)]
+    for edit in wrong:
+        print(f"{edit.crate}/{edit.name}: {edit.verdict.upper()}: {edit.why[:300]}")
+    spent = resource.getrusage(resource.RUSAGE_CHILDREN)
+    print(
+        f"edits: {len(edits) - len(wrong)} of {len(edits)} {'apply' if given.applies else 'are refused'}; {checks} checks,"
+        f" {time.monotonic() - begun:.0f} s, {(spent.ru_utime + spent.ru_stime) / 60:.1f} processor minutes"
+    )
+    return 1 if wrong else 0
+
+
+if __name__ == "__main__":
+    sys.exit(main())

@@ -1,0 +1,104 @@
+"""Tests of edits.py, on a crate of two functions of which one calls the other. Each check takes some ten seconds."""
+
+import pathlib
+import shutil
+import subprocess
+import sys
+import tempfile
+import unittest
+
+SCRIPT = pathlib.Path(__file__).resolve().parent / "edits.py"
+
+SOURCE = """//! Two functions, one over the other.
+
+#![tactic(auto)]
+
+ghost use Rattle.std.specs.Prelude.{◌≡◌, ◌+◌};
+
+/// The number behind this one.
+pub fn next(x: u8) -> u16
+    ensures { result ≡ x + 1 }
+{
+    x as u16 + 1
+}
+
+/// The number behind that.
+pub fn after_next(x: u8) -> u16
+    ensures { result ≡ x + 2 }
+{
+    next(x) + 1
+}
+"""
+
+NEXT_IS_WRONG = ("x as u16 + 1", "x as u16 + 2")
+
+
+def edit(*changes, functions=None):
+    lines = [f"fn: {functions}"] if functions else []
+    lines.append("file: src/lib.rt")
+    for old, new in changes:
+        lines += [f"old: {old}", f"new: {new}"]
+    return "\n".join(lines) + "\n"
+
+
+class Edits(unittest.TestCase):
+    def setUp(self):
+        self.top = pathlib.Path(tempfile.mkdtemp(prefix="edits-test-"))
+        self.addCleanup(shutil.rmtree, self.top)
+        (self.top / "crates/tiny/src").mkdir(parents=True)
+        (self.top / "crates/tiny/edits").mkdir()
+        (self.top / "crates.txt").write_text("tiny:\n")
+        (self.top / "crates/tiny/src/lib.rt").write_text(SOURCE)
+
+    def tried(self, edits, *flags):
+        """Returns the run of these edits by name: its status, and what it printed."""
+        for name, text in edits.items():
+            (self.top / f"crates/tiny/edits/{name}.edit").write_text(text)
+        words = [sys.executable, str(SCRIPT), "--anew", "--top", str(self.top), *flags]
+        ran = subprocess.run(words, stdout=subprocess.PIPE, stderr=subprocess.STDOUT, text=True)
+        return ran.returncode, ran.stdout
+
+    def test_wrong_bodies_are_refused(self):
+        status, printed = self.tried({
+            "next_is_wrong": edit(NEXT_IS_WRONG, functions="next"),
+            "after_next_is_wrong": edit(("next(x) + 1", "next(x) + 2"), functions="after_next"),
+            "the_file_is_wrong": edit(NEXT_IS_WRONG),
+        })
+        self.assertEqual(status, 0, printed)
+        self.assertIn("edits: 3 of 3 are refused", printed)
+
+    def test_what_proves_nothing_fails(self):
+        status, printed = self.tried({
+            # a wrong callee says nothing of the caller, which is as it was
+            "next_is_wrong": edit(NEXT_IS_WRONG, functions="next"),
+            "after_next_is_the_same": edit(("next(x) + 1", "1 + next(x)"), functions="after_next"),
+            "the_file_is_the_same": edit(("x as u16 + 1", "1 + x as u16")),
+            "it_is_another_function's": edit(("x as u16 + 1", "x as u16 + 3"), functions="after_next"),
+            "there_is_no_such_function": edit(("x as u16 + 1", "x as u16 + 4"), functions="nothing"),
+            "there_is_no_such_text": edit(("x as u32", "x as u64"), functions="next"),
+            "it_is_no_rattle": edit(("next(x) + 1", "next(x) +"), functions="after_next"),
+        })
+        self.assertEqual(status, 1, printed)
+        self.assertIn("tiny/after_next_is_the_same: NOT REFUSED: ", printed)
+        self.assertIn("tiny/the_file_is_the_same: NOT REFUSED: ", printed)
+        for name in ("it_is_another_function's", "there_is_no_such_function", "there_is_no_such_text", "it_is_no_rattle"):
+            self.assertIn(f"tiny/{name}: BAD: ", printed)
+        self.assertNotIn("tiny/next_is_wrong: ", printed)
+        self.assertIn("edits: 1 of 7 are refused", printed)
+
+    def test_each_edit_applies(self):
+        status, printed = self.tried({"next_is_wrong": edit(NEXT_IS_WRONG, functions="next")}, "--applies")
+        self.assertEqual((status, printed.split(";")[0]), (0, "edits: 1 of 1 apply"))
+        status, printed = self.tried({"there_is_no_such_text": edit(("x as u32", "x as u64"))}, "--applies")
+        self.assertEqual(status, 1)
+        self.assertIn("tiny/there_is_no_such_text: BAD: ", printed)
+
+    def test_a_crate_that_is_not_proved_settles_nothing(self):
+        (self.top / "crates/tiny/src/lib.rt").write_text(SOURCE.replace("x + 2 }", "x + 3 }"))
+        status, printed = self.tried({"next_is_wrong": edit(NEXT_IS_WRONG, functions="next")})
+        self.assertEqual(status, 1)
+        self.assertIn("tiny/next_is_wrong: BAD: tiny isn't proved as it is", printed)
+
+
+if __name__ == "__main__":
+    unittest.main()
