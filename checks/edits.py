@@ -179,6 +179,15 @@ class Said:
         return next((it for it in self.lines if "error" in it), self.lines[-1])
 
 
+@dataclasses.dataclass
+class Checked:
+    """A check's status, what it printed, and how many seconds it took for each function (the first with what is read before)."""
+
+    returncode: int
+    stdout: str
+    took: dict[str, float]
+
+
 class Prover:
     """Checks copies of the repository, each crate over what the check of the crate as it is left."""
 
@@ -205,15 +214,14 @@ class Prover:
         with self.counting:
             self.checks += 1
         words = ["rt", "check", "--jobs", str(self.jobs), *flags]
-        return subprocess.run(
-            words,
-            cwd=copy / "crates" / crate,
-            stdin=subprocess.DEVNULL,
-            stdout=subprocess.PIPE,
-            stderr=subprocess.STDOUT,
-            text=True,
-            errors="replace",
-        )
+        how = {"cwd": copy / "crates" / crate, "text": True, "errors": "replace", "stdin": subprocess.DEVNULL}
+        with subprocess.Popen(words, stdout=subprocess.PIPE, stderr=subprocess.STDOUT, **how) as ran:
+            lines, took, begun = [], {}, time.monotonic()
+            for line in ran.stdout:
+                lines.append(line)
+                if at := re.match(r"checked (\S+), \d+ of \d+", line):
+                    took[at[1]], begun = time.monotonic() - begun, time.monotonic()
+        return Checked(ran.returncode, "".join(lines), took)
 
     def prove(self, crate):
         """Proves the crate as it is, and returns whether that went well."""
@@ -277,7 +285,14 @@ def judge(edit, said, edited):
 
 def try_round(prover, crate, now, texts):
     """Checks these edits at once, and judges each."""
+    begun = time.monotonic()
     ran = prover.check_edited(crate, texts, "--allow-holes")
+    dearest = sorted(ran.took, key=ran.took.get)[:-4:-1]
+    print(
+        f"    {crate}: {len(now)} edits in a check of {time.monotonic() - begun:.0f} s, most in",
+        ", ".join(f"{it.removeprefix(crate + '::')} {ran.took[it]:.0f}" for it in dearest),
+        flush=True,
+    )
     said = Said(crate, ran.stdout)
     edited = set().union(*[it.functions for it in now])
     why = said.unreadable() or said.beyond(edited)
@@ -296,10 +311,7 @@ def try_round(prover, crate, now, texts):
 def try_rounds(prover, crate, edits, folder):
     while left := [it for it in edits if not it.verdict]:
         now, texts = round_of(left, folder)
-        begun = time.monotonic()
         try_round(prover, crate, now, texts)
-        done = sum(bool(it.verdict) for it in now)
-        print(f"    {crate}: {len(now)} edits in a check of {time.monotonic() - begun:.0f} s, {done} settled", flush=True)
 
 
 def try_alone(prover, crate, edit, folder):
