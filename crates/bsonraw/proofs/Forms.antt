@@ -27,7 +27,7 @@ use Rattle.bsonraw.specs.declared.status.Status.TheVariants as status
 refused_kind : (b : List ℕ) (t : Tree) (e : Error) (k : ErrorKind) → e.kind ≡ k → ReadsWithin form_limits b t → IsProper t → IsRefused t e → RefusesTree t k → LacksForm b e
 refused_kind b t e (kind.MalformedValue reason.InteriorNul) same read proper r refusal = absurd (refusal proper.nul_free)
 refused_kind b t e (kind.MalformedValue reason.TooLong) same read proper r refusal = inr (t, read, (refusal.1, same, r.1))
-refused_kind b t e kind.OutOfMemory same read proper r refusal = inl (inl (record { kind_is = same; no_key = r.1 }))
+refused_kind b t e kind.OutOfMemory same read proper r refusal = inl (inl (read.few_bytes, record { kind_is = same; no_key = r.1 }))
 refused_kind b t e _ same read proper r refusal = absurd refusal
 
 pub refused_form : (b : List ℕ) (t : Tree) (e : Error) → ReadsWithin form_limits b t → IsProper t → IsRefused t e → LacksForm b e
@@ -52,7 +52,7 @@ limit_of_barrier e too_deep line says is = let same : Some (codes "refused 7\n")
 limit_of_barrier e (fault_of fault) line says is = absurd (none-some line (sym (fault_text_of e.kind _ fault.fault fault.key says) ∙ is))
 
 pub limit_form : (b : List ℕ) (e : Error) (line : List ℕ) → LacksForm b e → limit_text e.kind ≡ Some line → PrintsForm b 1 line
-limit_form b e line (inl (inl memory)) is = absurd (none-some line (sym (ap limit_text memory.kind_is) ∙ is))
+limit_form b e line (inl (inl memory)) is = absurd (none-some line (sym (ap limit_text memory.1.kind_is) ∙ is))
 limit_form b e line (inl (inr told)) is = inr (inr (told.0, told.1, refl, limit_of_barrier e told.0 line told.2 is))
 limit_form b e line (inr long) is =
     let same : Some (codes "refused 5\n") ≡ Some line = sym (ap limit_text long.2.1) ∙ is in
@@ -66,7 +66,7 @@ fault_of_barrier b e too_deep output first says is line = absurd (none-some _ (s
 fault_of_barrier b e (fault_of fault) output first says is line = inr (inr (fault_of fault, first, refl, line fault.fault fault.key says))
 
 pub fault_form : (b : List ℕ) (e : Error) (output : List ℕ) → LacksForm b e → limit_text e.kind ≡ None → e.kind ≢ kind.OutOfMemory → ((fault : Fault) (key : Option (List ℕ)) → TellsFault e fault key → output ≡ end_line (Stopped fault key)) → PrintsForm b 1 output
-fault_form b e output (inl (inl memory)) is some line = absurd (some memory.kind_is)
+fault_form b e output (inl (inl memory)) is some line = absurd (some memory.1.kind_is)
 fault_form b e output (inl (inr told)) is some line = fault_of_barrier b e told.0 output told.1 told.2 is line
 fault_form b e output (inr long) is some line = absurd (none-some _ (sym is ∙ ap limit_text long.2.1))
 

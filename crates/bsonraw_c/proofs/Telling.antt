@@ -1,6 +1,6 @@
 -- What an answer says of the error of a conversion within limits.
 use Rattle.std.proofs.Common.{◌≡◌, ◌⊎◌, ℕ, List, Option, None, Some, Result, Ok, Err, IfOk, IfErr, ap, sym, ◌∙◌, inl, inr, refl, subst}
-use Rattle.raw_bson.proofs.Face.{bytes_one_way, canonical_form}
+use Rattle.raw_bson.proofs.Face.{canonical_form}
 use Rattle.raw_bson.specs.CanonicalForm.{AllAreSpelledOneWay, DocumentsComeBack}
 use Rattle.raw_bson.specs.Encoding.{IsEncoded, IsRefused, RefusesTree}
 use Rattle.raw_bson.specs.Envelope.{IsEnvelope}
@@ -12,7 +12,7 @@ use Rattle.raw_bson.specs.Frame.{Fault}
 use Rattle.raw_bson.specs.Limits.{Limits}
 use Rattle.raw_bson.specs.Meaning.{KeyedFault}
 use Rattle.raw_bson.specs.Proper.{IsProper}
-use Rattle.raw_bson.specs.Reading.{as_document}
+use Rattle.raw_bson.specs.Reading.{AllAreReadOneWay, as_document}
 use Rattle.raw_bson.specs.Reason.{Reason}
 use Rattle.raw_bson.specs.Reason.TheVariants as reason
 use Rattle.raw_bson.specs.Tree.{Tree}
@@ -29,7 +29,7 @@ use Rattle.bsonraw_c.specs.declared.codes.Status.TheVariants as status
 refused_kind : (limits : Limits) (b : List ℕ) (t : Tree) (e : Error) (k : ErrorKind) → e.kind ≡ k → ReadsWithin limits b t → IsProper t → IsRefused t e → RefusesTree t k → LacksForm limits b e
 refused_kind limits b t e (kind.MalformedValue reason.InteriorNul) same read proper r refusal = absurd (refusal proper.nul_free)
 refused_kind limits b t e (kind.MalformedValue reason.TooLong) same read proper r refusal = inr (t, read, (refusal.1, same, r.1))
-refused_kind limits b t e kind.OutOfMemory same read proper r refusal = inl (inl (record { kind_is = same; no_key = r.1 }))
+refused_kind limits b t e kind.OutOfMemory same read proper r refusal = inl (inl (read.few_bytes, record { kind_is = same; no_key = r.1 }))
 refused_kind limits b t e _ same read proper r refusal = absurd refusal
 
 pub refused_forms : {X : Type 0} (limits : Limits) (b : List ℕ) (t : Tree) (result : Result X Error) → ReadsWithin limits b t → IsProper t → IfErr result (IsRefused t) → IfErr result (LacksForm limits b)
@@ -42,12 +42,12 @@ refused_first {X} limits b e was result is same told =
     subst (λ (r : Result X Error). IfErr r (LacksForm limits b)) (sym is) (inl here)
 
 -- and where there is one, it is the canonical form
-pub formed : {E : Type 0} (limits : Limits) (b : List ℕ) (t : Tree) (result : Result (List ℕ) E) → DocumentsComeBack → AllAreSpelledOneWay as_document → IsEnvelope b → ReadsWithin limits b t → IfOk result (IsEncoded t) → IfOk result (IsFormWithin limits b)
-formed limits b t (Err e) back spelling env read written = tt
-formed limits b t (Ok form) back spelling env read written = record {
+pub formed : {E : Type 0} (limits : Limits) (b : List ℕ) (t : Tree) (result : Result (List ℕ) E) → DocumentsComeBack → AllAreReadOneWay as_document → AllAreSpelledOneWay as_document → IsEnvelope b → ReadsWithin limits b t → IfOk result (IsEncoded t) → IfOk result (IsFormWithin limits b)
+formed limits b t (Err e) back reading spelling env read written = tt
+formed limits b t (Ok form) back reading spelling env read written = record {
   tree = t;
   read = read;
-  form_is = canonical_form back (bytes_one_way as_document) spelling b form t env read.read (written.1, sym written.2);
+  form_is = canonical_form back reading spelling b form t env read.read (written.1, sym written.2);
 }
 
 -- what is said of an error
@@ -91,7 +91,7 @@ module _ (limits : Limits) (b : List ℕ) (e : Error) (before : List ℕ) (answe
 
   -- without a form
   pub lacks_form : LacksForm limits b e → FormsIn limits b before before answer
-  lacks_form (inl (inl memory)) = inr (inr (inr (of_kind e _ answer memory.kind_is is says, bare, refl)))
+  lacks_form (inl (inl memory)) = inr (inr (inr (of_kind e _ answer memory.1.kind_is is says, bare, refl)))
   lacks_form (inl (inr told)) = barrier_of_form told.0 told.1 told.2
   lacks_form (inr long) = inr (inl (long.0, long.1, long.2.0, of_kind e _ answer long.2.1 is says, bare, refl))
 
@@ -116,6 +116,6 @@ module _ (limits : Limits) (b : List ℕ) (e : Error) (before after : List ℕ) 
 
   pub gives_barrier : TellsFirstBarrier limits b e → FaultsIn limits b before after answer
   gives_barrier (inl memory) =
-      let kept = keyless (key_of e) before after answer memory.no_key gives.key_is in
-      inr (inr (of_kind e _ answer memory.kind_is gives.status_is gives.fault_is, kept.0, kept.1))
+      let kept = keyless (key_of e) before after answer memory.1.no_key gives.key_is in
+      inr (inr (of_kind e _ answer memory.1.kind_is gives.status_is gives.fault_is, kept.0, kept.1))
   gives_barrier (inr told) = barrier_of_fault told.0 told.1 told.2

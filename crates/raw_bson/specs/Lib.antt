@@ -21,6 +21,7 @@ pub use Rattle.raw_tree.specs.Breaches
 pub use Rattle.raw_tree.specs.Canonical
 pub use Rattle.raw_tree.specs.CanonicalForm
 pub use Rattle.raw_tree.specs.Encoding
+pub use Rattle.raw_tree.specs.FrameCount
 pub use Rattle.raw_tree.specs.Payload
 pub use Rattle.raw_tree.specs.Reading
 pub use Rattle.raw_tree.specs.WithinLimits
@@ -33,6 +34,7 @@ pub use Rattle.raw_view.specs.Envelope
 pub use Rattle.raw_view.specs.Errors
 pub use Rattle.raw_view.specs.Format
 pub use Rattle.raw_view.specs.Frame
+pub use Rattle.raw_view.specs.Front
 pub use Rattle.raw_view.specs.Item
 pub use Rattle.raw_view.specs.Kind
 pub use Rattle.raw_view.specs.LookUp
@@ -69,6 +71,7 @@ pub use Rattle.raw_view.specs.declared.bson_ref.RawRegexRef
 pub use Rattle.raw_view.specs.declared.document.RawDocument
 pub use Rattle.raw_view.specs.declared.element.RawElement
 pub use Rattle.raw_view.specs.declared.element_type.ElementType
+pub use Rattle.raw_view.specs.declared.error.BorrowedError
 pub use Rattle.raw_view.specs.declared.error.Error
 pub use Rattle.raw_view.specs.declared.error.ErrorKind
 pub use Rattle.raw_view.specs.declared.error.Reason

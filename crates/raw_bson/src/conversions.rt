@@ -59,6 +59,7 @@ impl RawDocumentBuf {
         ensures tree { IfOk result (λ d. ReadsWithin limits self.now (tree_of_document d)) }
         ensures fault { IfErr result (TellsFirstBarrier limits self.now) }
         ensures one_answer { AllAreAnsweredOneWay limits }
+        ensures one_reading { AllAreReadOneWay as_document }
         ensures one_spelling { AllAreSpelledOneWay as_document }
         ensures one_depth { AllHaveOneDepth }
     {

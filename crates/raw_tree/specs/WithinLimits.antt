@@ -106,6 +106,6 @@ SaysBarrier e (fault_of fault) = Says e fault
 abbrev pub TellsFirstFaultWithin : ℕ → List ℕ → Error → Type 0
 TellsFirstFaultWithin depth b e = IsOutOfMemory e ⊎ ((x : Barrier) × FirstFaultWithin depth b x × SaysBarrier e x)
 
--- an error of reading these bytes within limits: their first barrier, or want of memory
+-- an error of reading these bytes within limits: their first barrier; or out of memory, where they aren't too many
 abbrev pub TellsFirstBarrier : Limits → List ℕ → Error → Type 0
-TellsFirstBarrier limits b e = IsOutOfMemory e ⊎ ((x : Barrier) × FirstBarrier limits b x × SaysBarrier e x)
+TellsFirstBarrier limits b e = ((length b ≤ limits.bytes) × IsOutOfMemory e) ⊎ ((x : Barrier) × FirstBarrier limits b x × SaysBarrier e x)

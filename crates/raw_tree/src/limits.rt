@@ -5,7 +5,7 @@ ghost use Rattle.std.specs.Prelude.{◌≡◌, IfOk, IfErr};
 ghost use Rattle.bson_model.specs.Tree.{tree_of_document};
 ghost use Rattle.raw_tree.specs.CanonicalForm.{AllAreSpelledOneWay};
 ghost use Rattle.raw_tree.specs.WithinLimits.{AllAreAnsweredOneWay, AllHaveOneDepth, ReadsWithin, TellsFirstBarrier};
-ghost use Rattle.raw_tree.specs.Reading.{as_document};
+ghost use Rattle.raw_tree.specs.Reading.{AllAreReadOneWay, as_document};
 ghost use Rattle.raw_view.specs.Document.{bytes_of};
 
 use crate::levels::{Contents, Holder, Nested};
@@ -40,6 +40,7 @@ pub fn document_from_raw_within(
         (λ d. ReadsWithin limits (bytes_of document.entry) (tree_of_document d)) }
     ensures fault { IfErr result (TellsFirstBarrier limits (bytes_of document.entry)) }
     ensures one_answer { AllAreAnsweredOneWay limits }
+    ensures one_reading { AllAreReadOneWay as_document }
     ensures one_spelling { AllAreSpelledOneWay as_document }
     ensures one_depth { AllHaveOneDepth }
 {

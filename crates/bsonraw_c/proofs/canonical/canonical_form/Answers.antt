@@ -13,7 +13,7 @@ pub returns-clause-form : goal.returns-clause-form
 returns-clause-form c =
     let t = tree_of_document c.in_ok-tree.tree in
     let law = c.from_document.ensures in
-    formed c.args.limits (bytes_of c.args.document) t c.from_document.result law.comes_back c.in_ok-tree.ensures.one_spelling c.args.document.envelope c.in_ok-tree.ensures.tree law.ok
+    formed c.args.limits (bytes_of c.args.document) t c.from_document.result law.comes_back c.in_ok-tree.ensures.one_reading c.in_ok-tree.ensures.one_spelling c.args.document.envelope c.in_ok-tree.ensures.tree law.ok
 
 pub returns-clause-refused : goal.returns-clause-refused
 returns-clause-refused c =
