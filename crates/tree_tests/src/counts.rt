@@ -1,60 +1,76 @@
-use crate::asserts::{assert_bytes, assert_refused};
+use crate::checks::check_written;
+use crate::trees_fixtures::{empty_code, levels_by_hand, one_null, one_pair, text};
+use bson_fixtures::{check_answer, check_equal, check_malformed, check_refused, holds};
 use raw_bson::{
-    Document, RawDocument, Reason, Result, canonical_bytes, document_from_raw,
+    Bson, Document, RawDocument, Reason, canonical_bytes, document_from_raw,
     document_from_raw_counted,
 };
 use std::alloc::Global;
-use std::process::Abort;
 use std::test::Fail;
 use test_fixtures::*;
 
-/// Bytes, and how many elements are framed to convert them.
-const COUNTS: &[(&[u8], usize)] = &[
-    // empty document
-    (EMPTY, 0),
-    // greeting
-    (GREETING, 1),
-    // repeated key
-    (REPEATED_KEY, 2),
-    // array with an empty key
-    (ARRAY_WITH_AN_EMPTY_KEY, 2),
-    // least code with scope
-    (LEAST_CODE_WITH_SCOPE, 1),
-    // fault under a later good key
-    (FAULT_UNDER_A_LATER_GOOD_KEY, 1),
-    // swallowed terminator
-    (SWALLOWED_TERMINATOR, 1),
-    // nested stop
-    (NESTED_STOP, 2),
-];
-
-/// Whether both calls answered the same.
-fn is_same_answer(one: &Result<Document>, other: &Result<Document>) -> bool {
-    match (one, other) {
-        (Ok(tree), Ok(same)) => tree == same,
-        (Err(error), Err(same)) => error == same,
-        _ => false,
-    }
-}
-
-/// So many elements are framed, and the answer is that of `document_from_raw`.
-fn assert_count(
-    rt: &impl Abort,
-    alloc: Global,
-    bytes: &[u8],
-    count: usize,
-) -> std::result::Result<(), Fail> {
+/// So many elements are framed, and the answer is this tree, as it is where nothing is counted.
+fn check_count(alloc: Global, bytes: &[u8], count: usize, wanted: &Document) -> Result<(), Fail> {
     let view = RawDocument::from_bytes(bytes)?;
     let (answer, steps) = document_from_raw_counted(alloc, view);
-    assert_eq!(rt; steps.count(), count);
-    assert!(rt; is_same_answer(&answer, &document_from_raw(alloc, view)));
-    Ok(())
+    check_answer(answer, wanted, "counted")?;
+    check_equal(&steps.count(), &count, "elements framed")?;
+    check_answer(document_from_raw(alloc, view), wanted, "not counted")
+}
+
+/// The same of a tree of its own.
+fn check_count_of(alloc: Global, bytes: &[u8], count: usize, wanted: Document) -> Result<(), Fail> {
+    check_count(alloc, bytes, count, &wanted)
 }
 
 #[test]
-fn elements_are_counted(rt: HostRuntime) -> std::result::Result<(), Fail> {
-    for (bytes, count) in COUNTS.iter() {
-        assert_count(&rt, rt.alloc(), bytes, *count)?;
+fn elements_are_counted(rt: HostRuntime) -> Result<(), Fail> {
+    let alloc = rt.alloc();
+    check_count_of(alloc, EMPTY, 0, Document::new(alloc))?;
+    let greeting = one_pair(alloc, "hi", text(alloc, "y'all")?)?;
+    check_count_of(alloc, GREETING, 1, greeting)?;
+    let once = one_pair(alloc, "a", Bson::Int32(2))?;
+    check_count_of(alloc, REPEATED_KEY, 2, once)?;
+    let list = one_pair(alloc, "a", one_null(alloc)?)?;
+    check_count_of(alloc, ARRAY_WITH_AN_EMPTY_KEY, 2, list)?;
+    let code = one_pair(alloc, "c", empty_code(alloc))?;
+    check_count_of(alloc, LEAST_CODE_WITH_SCOPE, 1, code)
+}
+
+/// Bytes with a fault, how many elements are framed until it is found, why it is one, and its key.
+const FAULTS: &[(&[u8], usize, Reason, Option<&str>)] = &[
+    // fault under a later good key
+    (
+        FAULT_UNDER_A_LATER_GOOD_KEY,
+        1,
+        Reason::BadBoolean(2),
+        Some("a"),
+    ),
+    // swallowed terminator
+    (SWALLOWED_TERMINATOR, 1, Reason::Overflowed, None),
+    // nested stop
+    (NESTED_STOP, 2, Reason::Overflowed, None),
+];
+
+/// So many elements are framed, and the answer is this fault, as it is where nothing is counted.
+fn check_count_of_fault(
+    alloc: Global,
+    bytes: &[u8],
+    count: usize,
+    reason: Reason,
+    key: Option<&str>,
+) -> Result<(), Fail> {
+    let view = RawDocument::from_bytes(bytes)?;
+    let (answer, steps) = document_from_raw_counted(alloc, view);
+    check_malformed(answer, reason, key)?;
+    check_equal(&steps.count(), &count, "elements framed")?;
+    check_malformed(document_from_raw(alloc, view), reason, key)
+}
+
+#[test]
+fn elements_are_counted_until_a_fault(rt: HostRuntime) -> Result<(), Fail> {
+    for (bytes, count, reason, key) in FAULTS.iter() {
+        check_count_of_fault(rt.alloc(), bytes, *count, *reason, *key)?;
     }
     Ok(())
 }
@@ -66,43 +82,41 @@ const LEVELS: &[(Holder, usize, &[u8])] = &[
     (Holder::CodeWithScope, 7989, b"\x35\x1F\0\0"),
 ];
 
-/// So many elements are framed, and the canonical form is these bytes.
-fn assert_comes_back(
-    rt: &impl Abort,
+/// The bytes are so many and begin so, so many elements are framed, and the canonical form is these bytes.
+fn check_levels(
     alloc: Global,
     bytes: &[u8],
-    count: usize,
-) -> std::result::Result<(), Fail> {
-    assert_count(rt, alloc, bytes, count)?;
-    assert_bytes(rt, canonical_bytes(alloc, bytes), bytes);
-    Ok(())
+    len: usize,
+    header: &[u8],
+    wanted: &Document,
+) -> Result<(), Fail> {
+    check_equal(&bytes.len(), &len, "length")?;
+    holds(bytes.starts_with(header), "header")?;
+    check_count(alloc, bytes, 499, wanted)?;
+    check_written(canonical_bytes(alloc, bytes), bytes)
 }
 
 #[test]
-fn five_hundred_levels_come_back(rt: HostRuntime) -> std::result::Result<(), Fail> {
-    for (holder, len, header) in LEVELS {
+fn five_hundred_levels_come_back(rt: HostRuntime) -> Result<(), Fail> {
+    for (holder, len, header) in LEVELS.iter() {
         let bytes = nested(rt.alloc(), *holder, 499, EMPTY)?;
-        assert_eq!(rt; bytes.len(), *len, "{holder:?}");
-        assert!(rt; bytes.starts_with(header), "{holder:?}");
-        assert_comes_back(&rt, rt.alloc(), &bytes, 499)?;
+        let wanted = levels_by_hand(rt.alloc(), *holder, 499)?;
+        check_levels(rt.alloc(), &bytes, *len, header, &wanted)?;
     }
     Ok(())
 }
 
 #[test]
-fn five_hundred_levels_are_read(rt: HostRuntime) -> std::result::Result<(), Fail> {
+fn five_hundred_levels_are_read(rt: HostRuntime) -> Result<(), Fail> {
     let bytes = nested(rt.alloc(), Holder::Document, 499, EMPTY)?;
     let tree = document_from_raw(rt.alloc(), RawDocument::from_bytes(&bytes)?)?;
-    assert!(rt; has_levels(&tree, 499));
-    Ok(())
+    holds(has_levels(&tree, 499), "499 levels")
 }
 
 #[test]
-fn a_million_levels_have_a_fault(rt: HostRuntime) -> std::result::Result<(), Fail> {
+fn a_million_levels_have_a_fault(rt: HostRuntime) -> Result<(), Fail> {
     let bytes = nested(rt.alloc(), Holder::Document, 999_999, SWALLOWED_TERMINATOR)?;
-    let view = RawDocument::from_bytes(&bytes)?;
-    let (answer, steps) = document_from_raw_counted(rt.alloc(), view);
-    assert_eq!(rt; steps.count(), 1_000_000);
-    assert_refused(&rt, answer, Reason::Overflowed);
-    Ok(())
+    let (answer, steps) = document_from_raw_counted(rt.alloc(), RawDocument::from_bytes(&bytes)?);
+    check_refused(answer, Reason::Overflowed)?;
+    check_equal(&steps.count(), &1_000_000, "elements framed")
 }

@@ -1,47 +1,55 @@
 //! Trees so deep that a writer which calls itself once a level would fill the stack.
 
-use crate::asserts::{assert_bytes, assert_refused};
+use crate::checks::check_written;
 use crate::trees_fixtures::{one_pair, put};
-use raw_bson::{Bson, RawDocument, Reason, encode, encode_list, list_from_raw};
+use bson_fixtures::check_refused;
+use raw_bson::{Bson, Document, RawDocument, Reason, encode, encode_list, list_from_raw};
+use std::alloc::Global;
 use std::test::Fail;
 use test_fixtures::*;
 
-#[test]
-fn a_list_of_a_hundred_thousand_levels(rt: HostRuntime) -> Result<(), Fail> {
-    let alloc = rt.alloc();
-    let outer = nested(alloc, Holder::Array, 100_001, EMPTY)?;
-    let list = list_from_raw(
-        alloc,
-        RawDocument::from_bytes(&outer)?.get_array(alloc, "0")?,
-    )?;
-    let bytes = nested(alloc, Holder::Array, 100_000, EMPTY)?;
-    assert!(rt; encode_list(alloc, &list).is_ok_and(|written| written == bytes));
-    Ok(())
+/// The list that the document of these bytes holds.
+fn list_of(alloc: Global, bytes: &[u8]) -> Result<Vec<Bson>, Fail> {
+    let array = RawDocument::from_bytes(bytes)?.get_array(alloc, "0")?;
+    Ok(list_from_raw(alloc, array)?)
 }
 
 #[test]
-fn nul_below_a_hundred_thousand_levels(rt: HostRuntime) -> Result<(), Fail> {
-    let alloc = rt.alloc();
+fn a_list_of_a_hundred_thousand_levels(rt: HostRuntime) -> Result<(), Fail> {
+    let outer = nested(rt.alloc(), Holder::Array, 100_001, EMPTY)?;
+    let bytes = nested(rt.alloc(), Holder::Array, 100_000, EMPTY)?;
+    let list = list_of(rt.alloc(), &outer)?;
+    check_written(encode_list(rt.alloc(), &list), &bytes)
+}
+
+/// A hundred thousand documents around one whose key holds a NUL.
+fn nul_below_levels(alloc: Global) -> Result<Document, Fail> {
     let mut tree = one_pair(alloc, "x\0", Bson::Null)?;
     for _ in 0..100_000 {
         tree = one_pair(alloc, "", Bson::Document(tree))?;
     }
-    assert_refused(&rt, encode(alloc, &tree), Reason::InteriorNul);
-    Ok(())
+    Ok(tree)
+}
+
+#[test]
+fn nul_below_a_hundred_thousand_levels(rt: HostRuntime) -> Result<(), Fail> {
+    let tree = nul_below_levels(rt.alloc())?;
+    check_refused(encode(rt.alloc(), &tree), Reason::InteriorNul)
+}
+
+/// A document of a document and the least key.
+fn least_behind_a_document(alloc: Global) -> Result<Document, Fail> {
+    let innermost = one_pair(alloc, "b", Bson::Null)?;
+    let mut inner = one_pair(alloc, "a", Bson::Document(innermost))?;
+    put(alloc, &mut inner, "c", Bson::MinKey)?;
+    Ok(inner)
 }
 
 #[test]
 fn values_behind_nested_ones(rt: HostRuntime) -> Result<(), Fail> {
-    let alloc = rt.alloc();
-    let mut inner = one_pair(
-        alloc,
-        "a",
-        Bson::Document(one_pair(alloc, "b", Bson::Null)?),
-    )?;
-    put(alloc, &mut inner, "c", Bson::MinKey)?;
-    let mut tree = one_pair(alloc, "d", Bson::Document(inner))?;
-    put(alloc, &mut tree, "e", Bson::MaxKey)?;
+    let inner = least_behind_a_document(rt.alloc())?;
+    let mut tree = one_pair(rt.alloc(), "d", Bson::Document(inner))?;
+    put(rt.alloc(), &mut tree, "e", Bson::MaxKey)?;
     let bytes = b"\x1E\0\0\0\x03d\0\x13\0\0\0\x03a\0\x08\0\0\0\x0Ab\0\0\xFFc\0\0\x7Fe\0\0";
-    assert_bytes(&rt, encode(alloc, &tree), bytes);
-    Ok(())
+    check_written(encode(rt.alloc(), &tree), bytes)
 }

@@ -1,48 +1,63 @@
-use crate::asserts::{assert_bytes, assert_refused};
-use crate::trees_fixtures::{one_pair, text};
-use raw_bson::{Binary, BinarySubtype, Bson, Reason, encode, encode_list};
+use crate::checks::{check_buffer, check_written};
+use crate::trees_fixtures::{binary, one_pair, text};
+use bson_fixtures::{check_fault, check_refused};
+use raw_bson::{
+    BinarySubtype, Bson, Document, RawBson, RawDocumentBuf, Reason, canonical_bytes, encode,
+    encode_list,
+};
+use std::alloc::Global;
 use std::test::Fail;
 
 #[test]
-fn hello_world_written(rt: HostRuntime) -> Result<(), Fail> {
-    let alloc = rt.alloc();
-    let document = one_pair(alloc, "hello", text(alloc, "world")?)?;
+fn hello_world_is_written(rt: HostRuntime) -> Result<(), Fail> {
+    let tree = one_pair(rt.alloc(), "hello", text(rt.alloc(), "world")?)?;
     let bytes = b"\x16\0\0\0\x02hello\0\x06\0\0\0world\0\0";
-    assert_bytes(&rt, encode(alloc, &document), bytes);
-    Ok(())
+    check_all_written(rt.alloc(), &tree, bytes)
+}
+
+/// Each call that writes a tree makes these bytes of it.
+fn check_all_written(alloc: Global, tree: &Document, bytes: &[u8]) -> Result<(), Fail> {
+    check_written(encode(alloc, tree), bytes)?;
+    check_buffer(RawDocumentBuf::from_document(alloc, tree), bytes)?;
+    check_buffer(RawDocumentBuf::try_from_document(alloc, tree), bytes)
 }
 
 #[test]
 fn a_list_is_written_under_decimals(rt: HostRuntime) -> Result<(), Fail> {
     let alloc = rt.alloc();
-    let mut values = Vec::new(alloc);
-    values.push(Bson::Null)?;
-    assert_bytes(&rt, encode_list(alloc, &values), b"\x08\0\0\0\x0A0\0\0");
-    assert_bytes(&rt, encode_list(alloc, &[]), b"\x05\0\0\0\0");
+    let mut values = vec![in alloc; Bson::Null]?;
+    check_written(encode_list(alloc, &values), b"\x08\0\0\0\x0A0\0\0")?;
+    check_written(encode_list(alloc, &[]), b"\x05\0\0\0\0")?;
     values.push(Bson::Array(Vec::new(alloc)))?;
     let bytes = b"\x10\0\0\0\x0A0\0\x041\0\x05\0\0\0\0\0";
-    assert_bytes(&rt, encode_list(alloc, &values), bytes);
-    Ok(())
+    check_written(encode_list(alloc, &values), bytes)
 }
 
 #[test]
 fn user_defined_subtype_two_has_no_inner_length(rt: HostRuntime) -> Result<(), Fail> {
     let alloc = rt.alloc();
-    let binary = Binary {
-        subtype: BinarySubtype::UserDefined(2),
-        bytes: Vec::from_slice(alloc, &[1, 2, 3, 4])?,
-    };
-    let document = one_pair(alloc, "b", Bson::Binary(binary))?;
+    let binary = binary(alloc, BinarySubtype::UserDefined(2), &[1, 2, 3, 4])?;
     let bytes = b"\x11\0\0\0\x05b\0\x04\0\0\0\x02\x01\x02\x03\x04\0";
-    assert_bytes(&rt, encode(alloc, &document), bytes);
-    Ok(())
+    // and so it isn't read back
+    check_fault(canonical_bytes(alloc, bytes), Reason::OldWrongInner, "b")?;
+    check_written(encode(alloc, &one_pair(alloc, "b", binary)?), bytes)
+}
+
+/// Each call that writes a tree refuses it for the NUL in a key.
+fn check_nul(alloc: Global, tree: &Document) -> Result<(), Fail> {
+    check_refused(encode(alloc, tree), Reason::InteriorNul)?;
+    let answer = RawDocumentBuf::from_document(alloc, tree);
+    check_refused(answer, Reason::InteriorNul)?;
+    let answer = RawDocumentBuf::try_from_document(alloc, tree);
+    check_refused(answer, Reason::InteriorNul)
 }
 
 #[test]
-fn nul_in_a_nested_key(rt: HostRuntime) -> Result<(), Fail> {
+fn a_nul_in_a_nested_key_is_refused(rt: HostRuntime) -> Result<(), Fail> {
     let alloc = rt.alloc();
-    let inner = one_pair(alloc, "x\0", Bson::Null)?;
-    let document = one_pair(alloc, "a", Bson::Document(inner))?;
-    assert_refused(&rt, encode(alloc, &document), Reason::InteriorNul);
-    Ok(())
+    let nested = one_pair(alloc, "x\0", Bson::Null)?;
+    let tree = one_pair(alloc, "a", Bson::Document(nested))?;
+    check_nul(alloc, &tree)?;
+    let answer = RawBson::try_from_bson(alloc, Bson::Document(tree));
+    check_refused(answer, Reason::InteriorNul)
 }

@@ -3,7 +3,7 @@
 #![tactic(auto)]
 
 #[cfg(test)]
-mod asserts;
+mod checks;
 #[cfg(test)]
 mod counts;
 #[cfg(test)]

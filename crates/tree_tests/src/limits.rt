@@ -1,10 +1,12 @@
-use crate::asserts::{assert_fault, assert_refused};
-use bson_fixtures::document_of;
+use crate::trees_fixtures::{binary, empty_code, levels_by_hand, one_null, one_pair};
+use bson_fixtures::{
+    check_answer, check_debug_text, check_equal, check_fault, check_refused, document_of, holds,
+};
 use raw_bson::{
-    Document, Limits, RawDocument, Reason, document_from_raw, document_from_raw_within,
+    BinarySubtype, Document, Limits, RawDocument, Reason, document_from_raw,
+    document_from_raw_within,
 };
 use std::alloc::Global;
-use std::process::Abort;
 use std::test::Fail;
 use test_fixtures::*;
 
@@ -18,83 +20,87 @@ fn limits(bytes: usize, depth: usize) -> Limits {
     Limits { bytes, depth }
 }
 
-/// Within these limits the call, and that of a buffer of the same bytes, answers what the call without limits does.
-fn assert_read_within(
-    rt: &impl Abort,
+/// Within these limits the call, and that of a buffer of the same bytes, answers this tree, as the call without limits.
+fn check_read_within(
     alloc: Global,
     bytes: &[u8],
     limits: Limits,
+    wanted: &Document,
 ) -> Result<(), Fail> {
     let view = RawDocument::from_bytes(bytes)?;
-    let wanted = document_from_raw(alloc, view)?;
-    assert!(rt;
-        document_from_raw_within(alloc, view, limits)? == wanted,
-        "{limits:?}"
-    );
-    let buffer = document_of(alloc, bytes)?;
-    assert!(rt; buffer.to_document_within(limits)? == wanted, "{limits:?}");
-    Ok(())
+    check_answer(document_from_raw(alloc, view), wanted, "no limits")?;
+    let answer = document_from_raw_within(alloc, view, limits);
+    check_answer(answer, wanted, "a view within limits")?;
+    let answer = document_of(alloc, bytes)?.to_document_within(limits);
+    check_answer(answer, wanted, "a buffer within limits")
+}
+
+/// The same of a tree of its own.
+fn check_read_within_as(
+    alloc: Global,
+    bytes: &[u8],
+    limits: Limits,
+    wanted: Document,
+) -> Result<(), Fail> {
+    check_read_within(alloc, bytes, limits, &wanted)
 }
 
 /// Within these limits both refuse for this reason, without a key.
-fn assert_refused_within(
-    rt: &impl Abort,
+fn check_refused_within(
     alloc: Global,
     bytes: &[u8],
     limits: Limits,
     reason: Reason,
 ) -> Result<(), Fail> {
     let view = RawDocument::from_bytes(bytes)?;
-    assert_refused(rt, document_from_raw_within(alloc, view, limits), reason);
-    let buffer = document_of(alloc, bytes)?;
-    assert_refused(rt, buffer.to_document_within(limits), reason);
-    Ok(())
+    check_refused(document_from_raw_within(alloc, view, limits), reason)?;
+    let answer = document_of(alloc, bytes)?.to_document_within(limits);
+    check_refused(answer, reason)
 }
 
 #[test]
-fn array_with_an_empty_key_within_limits(rt: HostRuntime) -> Result<(), Fail> {
-    // array with an empty key
+fn documents_are_read_within_limits(rt: HostRuntime) -> Result<(), Fail> {
     let alloc = rt.alloc();
-    let bytes = ARRAY_WITH_AN_EMPTY_KEY;
-    assert_read_within(&rt, alloc, bytes, limits(15, 2))?;
-    for (limits, reason) in [
-        (limits(14, 2), Reason::TooManyBytes),
-        (limits(15, 1), Reason::TooDeep),
-        (limits(14, 0), Reason::TooManyBytes),
-        (limits(15, 0), Reason::TooDeep),
-    ] {
-        assert_refused_within(&rt, alloc, bytes, limits, reason)?;
+    // array with an empty key
+    let list = one_pair(alloc, "a", one_null(alloc)?)?;
+    check_read_within_as(alloc, ARRAY_WITH_AN_EMPTY_KEY, limits(15, 2), list)?;
+    // least code with scope
+    let code = one_pair(alloc, "c", empty_code(alloc))?;
+    check_read_within_as(alloc, LEAST_CODE_WITH_SCOPE, limits(22, 2), code)
+}
+
+/// Documents, most bytes and levels, and why they are refused within these.
+const REFUSED: &[(&[u8], usize, usize, Reason)] = &[
+    // array with an empty key
+    (ARRAY_WITH_AN_EMPTY_KEY, 14, 2, Reason::TooManyBytes),
+    (ARRAY_WITH_AN_EMPTY_KEY, 15, 1, Reason::TooDeep),
+    (ARRAY_WITH_AN_EMPTY_KEY, 14, 0, Reason::TooManyBytes),
+    (ARRAY_WITH_AN_EMPTY_KEY, 15, 0, Reason::TooDeep),
+    // least code with scope: a scope is a level
+    (LEAST_CODE_WITH_SCOPE, 22, 1, Reason::TooDeep),
+];
+
+#[test]
+fn documents_beyond_limits_are_refused(rt: HostRuntime) -> Result<(), Fail> {
+    for (bytes, most, depth, reason) in REFUSED.iter() {
+        check_refused_within(rt.alloc(), bytes, limits(*most, *depth), *reason)?;
     }
     Ok(())
 }
 
 #[test]
-fn a_fault_comes_before_a_level_behind_it(rt: HostRuntime) -> Result<(), Fail> {
+fn the_first_of_a_fault_and_a_deep_level_is_told(rt: HostRuntime) -> Result<(), Fail> {
+    let alloc = rt.alloc();
     // fault before a level that is too deep
     let view = RawDocument::from_bytes(FAULT_BEFORE_A_LEVEL)?;
-    let answer = document_from_raw_within(rt.alloc(), view, limits(17, 1));
-    assert_fault(&rt, answer, Reason::BadBoolean(2), "a");
-    Ok(())
-}
-
-#[test]
-fn a_level_comes_before_a_fault_behind_it(rt: HostRuntime) -> Result<(), Fail> {
+    let answer = document_from_raw_within(alloc, view, limits(17, 1));
+    check_fault(answer, Reason::BadBoolean(2), "a")?;
     // fault behind a level that is too deep
     let view = RawDocument::from_bytes(FAULT_BEHIND_A_LEVEL)?;
-    let too_deep = document_from_raw_within(rt.alloc(), view, limits(17, 1));
-    assert_refused(&rt, too_deep, Reason::TooDeep);
-    let answer = document_from_raw_within(rt.alloc(), view, limits(17, 2));
-    assert_fault(&rt, answer, Reason::BadBoolean(2), "a");
-    Ok(())
-}
-
-#[test]
-fn a_scope_is_a_level(rt: HostRuntime) -> Result<(), Fail> {
-    // least code with scope
-    let alloc = rt.alloc();
-    let bytes = LEAST_CODE_WITH_SCOPE;
-    assert_refused_within(&rt, alloc, bytes, limits(22, 1), Reason::TooDeep)?;
-    assert_read_within(&rt, alloc, bytes, limits(22, 2))
+    let too_deep = document_from_raw_within(alloc, view, limits(17, 1));
+    check_refused(too_deep, Reason::TooDeep)?;
+    let answer = document_from_raw_within(alloc, view, limits(17, 2));
+    check_fault(answer, Reason::BadBoolean(2), "a")
 }
 
 /// One binary of so many bytes, all 0, under the empty key.
@@ -107,41 +113,54 @@ fn one_binary(alloc: Global, len: usize) -> Result<Vec<u8>, Fail> {
     Ok(bytes)
 }
 
+/// The tree of one such binary, whose bytes are all of the document's but the first ten, the subtype and the final 0.
+fn binary_of(alloc: Global, bytes: &[u8]) -> Result<Document, Fail> {
+    let zeros = bytes.get(11..16_777_215).ok_or("too few bytes")?;
+    one_pair(alloc, "", binary(alloc, BinarySubtype::Generic, zeros)?)
+}
+
 #[test]
 fn one_binary_fills_the_limit(rt: HostRuntime) -> Result<(), Fail> {
-    // one binary that fills the limit, and one a byte over
-    let alloc = rt.alloc();
-    let full = one_binary(alloc, 16_777_204)?;
-    assert!(rt; full.starts_with(b"\0\0\0\x01"));
-    assert_read_within(&rt, alloc, &full, limits(16_777_216, 1))?;
-    let over = one_binary(alloc, 16_777_205)?;
-    assert_refused_within(
-        &rt,
-        alloc,
+    // one binary that fills the limit
+    let full = one_binary(rt.alloc(), 16_777_204)?;
+    holds(full.starts_with(b"\0\0\0\x01"), "header")?;
+    let wanted = binary_of(rt.alloc(), &full)?;
+    check_read_within(rt.alloc(), &full, limits(16_777_216, 1), &wanted)
+}
+
+#[test]
+fn one_binary_is_a_byte_over_the_limit(rt: HostRuntime) -> Result<(), Fail> {
+    // one a byte over
+    let over = one_binary(rt.alloc(), 16_777_205)?;
+    check_refused_within(
+        rt.alloc(),
         &over,
         limits(16_777_216, 1),
         Reason::TooManyBytes,
     )
 }
 
+/// The bytes of five hundred and one documents, one in the other.
+fn check_five_hundred_and_one(alloc: Global, bytes: &[u8]) -> Result<(), Fail> {
+    check_equal(&bytes.len(), &3505, "length")?;
+    holds(bytes.starts_with(b"\xB1\x0D\0\0"), "header")?;
+    check_refused_within(alloc, bytes, limits(3505, 500), Reason::TooDeep)?;
+    let wanted = levels_by_hand(alloc, Holder::Document, 500)?;
+    check_read_within(alloc, bytes, limits(3505, 501), &wanted)
+}
+
 #[test]
 fn five_hundred_and_one_levels_are_too_deep_for_five_hundred(rt: HostRuntime) -> Result<(), Fail> {
-    let alloc = rt.alloc();
-    let bytes = nested(alloc, Holder::Document, 500, EMPTY)?;
-    assert_eq!(rt; bytes.len(), 3505);
-    assert!(rt; bytes.starts_with(b"\xB1\x0D\0\0"));
-    assert_refused_within(&rt, alloc, &bytes, limits(3505, 500), Reason::TooDeep)?;
-    assert_read_within(&rt, alloc, &bytes, limits(3505, 501))
+    let bytes = nested(rt.alloc(), Holder::Document, 500, EMPTY)?;
+    check_five_hundred_and_one(rt.alloc(), &bytes)
 }
 
 #[test]
 fn limits_are_compared_and_printed(rt: HostRuntime) -> Result<(), Fail> {
     let few = limits(15, 2);
     let same = few;
-    assert!(rt; few == same);
-    assert!(rt; few != limits(15, 1));
-    assert!(rt; few != limits(14, 2));
-    let text = format!(in rt.alloc(); "{few:?}")?;
-    assert_eq!(rt; text.as_str(), "Limits { bytes: 15, depth: 2 }");
-    Ok(())
+    holds(few == same, "the same")?;
+    holds(few != limits(15, 1), "another depth")?;
+    holds(few != limits(14, 2), "other bytes")?;
+    check_debug_text(rt.alloc(), &few, "Limits { bytes: 15, depth: 2 }")
 }

@@ -1,15 +1,14 @@
-use crate::asserts::{
-    assert_buffer, assert_bytes, assert_fault, assert_owned, assert_read, assert_refused,
-    assert_tree, assert_value,
+use crate::checks::{check_owned, check_read, check_written};
+use crate::trees_fixtures::{empty_code, one_and_two, one_pair, put, regex, text, tree_of};
+use bson_fixtures::{
+    check_answer, check_bytes, check_debug_text, check_equal, check_fault, check_refused, code_of,
+    document_of, holds,
 };
-use crate::trees_fixtures::{empty_code, one_and_two, one_pair, put, regex, text};
-use bson_fixtures::{code_of, document_of};
 use raw_bson::{
-    Binary, BinarySubtype, Bson, Document, RawBson, RawBsonRef, RawDocument, RawDocumentBuf,
-    RawRegexRef, Reason, bson_from_raw, canonical_bytes, document_from_raw, encode,
+    Bson, Document, RawBson, RawBsonRef, RawDocument, RawDocumentBuf, RawRegexRef, Reason,
+    bson_from_raw, canonical_bytes, document_from_raw,
 };
 use std::alloc::Global;
-use std::process::Abort;
 use std::test::Fail;
 use test_fixtures::*;
 
@@ -21,37 +20,46 @@ const A_THEN_B: &[u8] = b"\x13\0\0\0\x10a\0\x01\0\0\0\x10b\0\x02\0\0\0\0";
 
 const B_THEN_A: &[u8] = b"\x13\0\0\0\x10b\0\x02\0\0\0\x10a\0\x01\0\0\0\0";
 
+/// The document of one number is read as this tree, and a buffer of it by each of its calls.
+fn check_one_int32(alloc: Global, wanted: &Document) -> Result<(), Fail> {
+    let buffer = document_of(alloc, ONE)?;
+    let answer = document_from_raw(alloc, buffer.as_ref());
+    check_answer(answer, wanted, "a view")?;
+    check_answer(buffer.to_document(), wanted, "a buffer")?;
+    check_bytes(buffer.as_bytes(), ONE, "a buffer that was read")?;
+    check_answer(buffer.into_document(), wanted, "a buffer's own")
+}
+
 #[test]
 fn one_int32_is_read(rt: HostRuntime) -> Result<(), Fail> {
     // one int32
     let wanted = one_pair(rt.alloc(), "i", Bson::Int32(1))?;
-    let buffer = document_of(rt.alloc(), ONE)?;
-    assert_tree(&rt, document_from_raw(rt.alloc(), buffer.as_ref()), &wanted);
-    assert_tree(&rt, buffer.to_document(), &wanted);
-    assert_eq!(rt; buffer.as_bytes(), ONE);
-    assert_tree(&rt, buffer.into_document(), &wanted);
+    check_one_int32(rt.alloc(), &wanted)
+}
+
+/// Appends a text, a number and this document.
+fn append_three(
+    alloc: Global,
+    buffer: &mut RawDocumentBuf,
+    nested: RawDocumentBuf,
+) -> Result<(), Fail> {
+    buffer.append("a string", RawBson::from_str(alloc, "some string")?)?;
+    buffer.append("an integer", RawBson::from(12_i32))?;
+    buffer.append("a document", RawBson::from(nested))?;
     Ok(())
 }
 
-#[test]
-fn hello_world_is_written(rt: HostRuntime) -> Result<(), Fail> {
-    // hello world written
-    let alloc = rt.alloc();
-    let tree = one_pair(alloc, "hello", text(alloc, "world")?)?;
-    let bytes = b"\x16\0\0\0\x02hello\0\x06\0\0\0world\0\0";
-    assert_buffer(&rt, RawDocumentBuf::from_document(alloc, &tree), bytes);
-    assert_buffer(&rt, RawDocumentBuf::try_from_document(alloc, &tree), bytes);
-    Ok(())
+/// A document of one boolean.
+fn one_boolean(alloc: Global) -> Result<RawDocumentBuf, Fail> {
+    let mut buffer = RawDocumentBuf::new(alloc)?;
+    buffer.append("a key", RawBson::from(true))?;
+    Ok(buffer)
 }
 
 /// A text, a number and a document of one boolean, appended in this order.
 fn three_appended(alloc: Global) -> Result<RawDocumentBuf, Fail> {
-    let mut nested = RawDocumentBuf::new(alloc)?;
-    nested.append("a key", RawBson::from(true))?;
     let mut buffer = RawDocumentBuf::new(alloc)?;
-    buffer.append("a string", RawBson::from_str(alloc, "some string")?)?;
-    buffer.append("an integer", RawBson::from(12_i32))?;
-    buffer.append("a document", RawBson::from(nested))?;
+    append_three(alloc, &mut buffer, one_boolean(alloc)?)?;
     Ok(buffer)
 }
 
@@ -59,28 +67,40 @@ fn three_appended(alloc: Global) -> Result<RawDocumentBuf, Fail> {
 fn three_pairs_are_appended(rt: HostRuntime) -> Result<(), Fail> {
     // three pairs of three kinds
     let buffer = three_appended(rt.alloc())?;
-    assert_eq!(rt; buffer.as_bytes().len(), 72);
-    assert!(rt; buffer.as_bytes().starts_with(b"\x48\0\0\0"));
-    Ok(())
+    check_equal(&buffer.as_bytes().len(), &72, "length")?;
+    holds(buffer.as_bytes().starts_with(b"\x48\0\0\0"), "header")
+}
+
+/// Puts the same pairs.
+fn put_three(alloc: Global, tree: &mut Document) -> Result<(), Fail> {
+    put(alloc, tree, "a string", text(alloc, "some string")?)?;
+    put(alloc, tree, "an integer", Bson::Int32(12))?;
+    let nested = one_pair(alloc, "a key", Bson::Boolean(true))?;
+    put(alloc, tree, "a document", Bson::Document(nested))
 }
 
 /// The tree of the same pairs.
 fn three_put(alloc: Global) -> Result<Document, Fail> {
     let mut tree = Document::new(alloc);
-    put(alloc, &mut tree, "a string", text(alloc, "some string")?)?;
-    put(alloc, &mut tree, "an integer", Bson::Int32(12))?;
-    let nested = one_pair(alloc, "a key", Bson::Boolean(true))?;
-    put(alloc, &mut tree, "a document", Bson::Document(nested))?;
+    put_three(alloc, &mut tree)?;
     Ok(tree)
 }
 
 /// The tree is the wanted one, and has its three keys in this order.
-fn assert_three_pairs(rt: &impl Abort, tree: &Document, wanted: &Document) {
-    assert!(rt; tree == wanted);
-    assert_eq!(rt; tree.len(), 3);
+fn check_three_pairs(tree: &Document, wanted: &Document) -> Result<(), Fail> {
+    check_equal(tree, wanted, "three pairs")?;
+    check_equal(&tree.len(), &3, "pairs")?;
     for (index, key) in ["a string", "an integer", "a document"].iter().enumerate() {
-        let found = tree.pair_at(index).map(|(found, _)| found);
-        assert_eq!(rt; found, Some(*key));
+        holds(has_key_at(tree, index, key), key)?;
+    }
+    Ok(())
+}
+
+/// Whether the pair at this place has this key.
+fn has_key_at(tree: &Document, index: usize, key: &str) -> bool {
+    match tree.pair_at(index) {
+        Some((found, _)) => found == key,
+        None => false,
     }
 }
 
@@ -89,60 +109,41 @@ fn three_pairs_are_read_in_order(rt: HostRuntime) -> Result<(), Fail> {
     // three pairs of three kinds
     let wanted = three_put(rt.alloc())?;
     let tree = three_appended(rt.alloc())?.to_document()?;
-    assert_three_pairs(&rt, &tree, &wanted);
-    Ok(())
+    check_three_pairs(&tree, &wanted)
+}
+
+/// The pattern `p` with these options, as a value of a tree.
+fn regex_value(alloc: Global, options: &str) -> Result<Bson, Fail> {
+    Ok(Bson::RegularExpression(regex(alloc, options)?))
 }
 
 #[test]
 fn owned_options_are_kept(rt: HostRuntime) -> Result<(), Fail> {
     // owned regex kept
+    let kept = regex_value(rt.alloc(), "mi")?;
     let owned = RawBson::from(regex(rt.alloc(), "mi")?);
-    let kept = Bson::RegularExpression(regex(rt.alloc(), "mi")?);
-    assert_read(&rt, rt.alloc(), owned, &kept);
-    Ok(())
+    check_read(rt.alloc(), owned, &kept)
 }
 
 #[test]
 fn options_are_put_in_order_where_they_are_read(rt: HostRuntime) -> Result<(), Fail> {
     // owned regex kept
-    let ordered = Bson::RegularExpression(regex(rt.alloc(), "im")?);
+    let ordered = regex_value(rt.alloc(), "im")?;
     let borrowed = RawBsonRef::RegularExpression(RawRegexRef {
         pattern: "p",
         options: "mi",
     });
-    assert_value(&rt, bson_from_raw(rt.alloc(), borrowed), &ordered);
-    Ok(())
+    let answer = bson_from_raw(rt.alloc(), borrowed);
+    check_answer(answer, &ordered, "options")
 }
 
 #[test]
 fn options_are_put_in_order_in_a_nested_document(rt: HostRuntime) -> Result<(), Fail> {
     // owned regex kept
-    let ordered = Bson::RegularExpression(regex(rt.alloc(), "im")?);
-    let wanted = Bson::Document(one_pair(rt.alloc(), "r", ordered)?);
+    let ordered = one_pair(rt.alloc(), "r", regex_value(rt.alloc(), "im")?)?;
+    let wanted = Bson::Document(ordered);
     let nested = document_of(rt.alloc(), b"\x0D\0\0\0\x0Br\0p\0mi\0\0")?;
-    assert_read(&rt, rt.alloc(), RawBson::from(nested), &wanted);
-    Ok(())
-}
-
-/// The document `a` of one null, whose key holds a NUL.
-fn nul_in_a_nested_key(alloc: Global) -> Result<Document, Fail> {
-    let nested = one_pair(alloc, "x\0", Bson::Null)?;
-    one_pair(alloc, "a", Bson::Document(nested))
-}
-
-#[test]
-fn a_nul_in_a_nested_key_is_refused(rt: HostRuntime) -> Result<(), Fail> {
-    // NUL in a nested key
-    let alloc = rt.alloc();
-    let tree = nul_in_a_nested_key(alloc)?;
-    assert_refused(&rt, encode(alloc, &tree), Reason::InteriorNul);
-    let answer = RawDocumentBuf::from_document(alloc, &tree);
-    assert_refused(&rt, answer, Reason::InteriorNul);
-    let answer = RawDocumentBuf::try_from_document(alloc, &tree);
-    assert_refused(&rt, answer, Reason::InteriorNul);
-    let answer = RawBson::try_from_bson(alloc, Bson::Document(tree));
-    assert_refused(&rt, answer, Reason::InteriorNul);
-    Ok(())
+    check_read(rt.alloc(), RawBson::from(nested), &wanted)
 }
 
 #[test]
@@ -150,9 +151,8 @@ fn a_nested_stop_has_no_key(rt: HostRuntime) -> Result<(), Fail> {
     // nested stop's own key
     let stop = document_of(rt.alloc(), b"\x0E\0\0\0\x03a\0\x06\0\0\0\x0A\0\0")?;
     let answer = document_from_raw(rt.alloc(), stop.as_ref());
-    assert_refused(&rt, answer, Reason::Overflowed);
-    assert_refused(&rt, stop.into_document(), Reason::Overflowed);
-    Ok(())
+    check_refused(answer, Reason::Overflowed)?;
+    check_refused(stop.into_document(), Reason::Overflowed)
 }
 
 #[test]
@@ -160,10 +160,9 @@ fn a_fault_has_its_own_key(rt: HostRuntime) -> Result<(), Fail> {
     // fault under a later good key
     let bytes = b"\x0D\0\0\0\x08a\0\x02\x08a\0\x01\0";
     let answer = document_from_raw(rt.alloc(), RawDocument::from_bytes(bytes)?);
-    assert_fault(&rt, answer, Reason::BadBoolean(2), "a");
+    check_fault(answer, Reason::BadBoolean(2), "a")?;
     let answer = canonical_bytes(rt.alloc(), bytes);
-    assert_fault(&rt, answer, Reason::BadBoolean(2), "a");
-    Ok(())
+    check_fault(answer, Reason::BadBoolean(2), "a")
 }
 
 #[test]
@@ -171,21 +170,19 @@ fn a_tree_has_a_key_once(rt: HostRuntime) -> Result<(), Fail> {
     // repeated key
     let view = RawDocument::from_bytes(REPEATED_KEY)?;
     let wanted = one_pair(rt.alloc(), "a", Bson::Int32(2))?;
-    assert_tree(&rt, document_from_raw(rt.alloc(), view), &wanted);
-    Ok(())
+    check_answer(document_from_raw(rt.alloc(), view), &wanted, "a key once")
 }
 
 #[test]
 fn a_tree_keeps_the_order(rt: HostRuntime) -> Result<(), Fail> {
     // two orders of two keys
-    let tree = document_from_raw(rt.alloc(), RawDocument::from_bytes(A_THEN_B)?)?;
-    let other = document_from_raw(rt.alloc(), RawDocument::from_bytes(B_THEN_A)?)?;
-    assert!(rt; tree != other);
-    Ok(())
+    let tree = tree_of(rt.alloc(), A_THEN_B)?;
+    let other = tree_of(rt.alloc(), B_THEN_A)?;
+    holds(tree != other, "two orders of two keys")
 }
 
 #[test]
-fn a_canonical_form_is_its_own(rt: HostRuntime) {
+fn a_canonical_form_is_its_own(rt: HostRuntime) -> Result<(), Fail> {
     let once = b"\x0C\0\0\0\x10a\0\x02\0\0\0\0".as_slice();
     for (bytes, form) in [
         // repeated key
@@ -195,65 +192,49 @@ fn a_canonical_form_is_its_own(rt: HostRuntime) {
         (A_THEN_B, A_THEN_B),
         (B_THEN_A, B_THEN_A),
     ] {
-        assert_bytes(&rt, canonical_bytes(rt.alloc(), bytes), form);
+        check_written(canonical_bytes(rt.alloc(), bytes), form)?;
     }
-}
-
-#[test]
-fn user_defined_subtype_two_is_no_proper_one(rt: HostRuntime) -> Result<(), Fail> {
-    // user-defined subtype two isn't proper
-    let binary = Binary {
-        subtype: BinarySubtype::UserDefined(2),
-        bytes: Vec::from_slice(rt.alloc(), &[1, 2, 3, 4])?,
-    };
-    let tree = one_pair(rt.alloc(), "b", Bson::Binary(binary))?;
-    let bytes = b"\x11\0\0\0\x05b\0\x04\0\0\0\x02\x01\x02\x03\x04\0";
-    assert_bytes(&rt, encode(rt.alloc(), &tree), bytes);
-    let answer = canonical_bytes(rt.alloc(), bytes);
-    assert_fault(&rt, answer, Reason::OldWrongInner, "b");
     Ok(())
 }
 
 /// The owned value of the list of the numbers 1 and 2.
 fn two_written(alloc: Global) -> Result<RawBson, Fail> {
-    let list = Bson::Array(one_and_two(alloc)?);
-    Ok(RawBson::try_from_bson(alloc, list)?)
+    Ok(RawBson::try_from_bson(alloc, one_and_two(alloc)?)?)
 }
 
 #[test]
 fn a_list_of_two_is_written(rt: HostRuntime) -> Result<(), Fail> {
     // try_from_bson of an array of two
-    match two_written(rt.alloc())? {
-        RawBson::Array(array) => assert_eq!(rt;
-            format!(in rt.alloc(); "{array:?}")?.as_str(),
-            "RawArrayBuf { data: \"13000000103000010000001031000200000000\", len: 2 }"
-        ),
-        _ => assert!(rt; false),
-    }
-    Ok(())
+    check_debug_text(
+        rt.alloc(),
+        &two_written(rt.alloc())?,
+        "Array(RawArrayBuf { data: \"13000000103000010000001031000200000000\", len: 2 })",
+    )
 }
 
 #[test]
 fn a_list_of_two_is_read_back(rt: HostRuntime) -> Result<(), Fail> {
     // try_from_bson of an array of two
-    let list = Bson::Array(one_and_two(rt.alloc())?);
-    assert_read(&rt, rt.alloc(), two_written(rt.alloc())?, &list);
-    Ok(())
+    let list = one_and_two(rt.alloc())?;
+    check_read(rt.alloc(), two_written(rt.alloc())?, &list)
 }
 
 #[test]
-fn a_number_is_written_and_read_back(rt: HostRuntime) {
+fn a_number_is_written_and_read_back(rt: HostRuntime) -> Result<(), Fail> {
     // try_from_bson of a number
-    assert_owned(&rt, rt.alloc(), Bson::Int32(1), RawBson::Int32(1));
-    assert_read(&rt, rt.alloc(), RawBson::Int32(1), &Bson::Int32(1));
+    check_owned(rt.alloc(), Bson::Int32(1), &RawBson::Int32(1))?;
+    check_read(rt.alloc(), RawBson::Int32(1), &Bson::Int32(1))
+}
+
+/// The empty code with the empty scope, owned.
+fn code_owned(alloc: Global) -> Result<RawBson, Fail> {
+    Ok(RawBson::from(code_of(alloc, "", EMPTY)?))
 }
 
 #[test]
 fn a_code_is_written_and_read_back(rt: HostRuntime) -> Result<(), Fail> {
     // try_from_bson of a code with scope
-    let owned = RawBson::from(code_of(rt.alloc(), "", EMPTY)?);
-    assert_owned(&rt, rt.alloc(), empty_code(rt.alloc()), owned);
-    let owned = RawBson::from(code_of(rt.alloc(), "", EMPTY)?);
-    assert_read(&rt, rt.alloc(), owned, &empty_code(rt.alloc()));
-    Ok(())
+    let owned = code_owned(rt.alloc())?;
+    check_owned(rt.alloc(), empty_code(rt.alloc()), &owned)?;
+    check_read(rt.alloc(), owned, &empty_code(rt.alloc()))
 }

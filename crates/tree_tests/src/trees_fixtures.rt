@@ -1,8 +1,12 @@
 //! Trees.
 
-use raw_bson::{Bson, Document, JavaScriptCodeWithScope, Regex};
+use raw_bson::{
+    Binary, BinarySubtype, Bson, Document, JavaScriptCodeWithScope, RawDocument, Regex,
+    document_from_raw,
+};
 use std::alloc::Global;
 use std::test::Fail;
+use test_fixtures::Holder;
 
 /// Puts a pair last.
 pub(crate) fn put(alloc: Global, tree: &mut Document, key: &str, value: Bson) -> Result<(), Fail> {
@@ -30,15 +34,72 @@ pub(crate) fn regex(alloc: Global, options: &str) -> Result<Regex, Fail> {
     })
 }
 
-/// The empty code with the empty scope.
-pub(crate) fn empty_code(alloc: Global) -> Bson {
+/// A binary of these bytes.
+pub(crate) fn binary(alloc: Global, subtype: BinarySubtype, bytes: &[u8]) -> Result<Bson, Fail> {
+    Ok(Bson::Binary(Binary {
+        subtype,
+        bytes: Vec::from_slice(alloc, bytes)?,
+    }))
+}
+
+/// The empty code with this scope.
+fn code_around(alloc: Global, scope: Document) -> Bson {
     Bson::JavaScriptCodeWithScope(JavaScriptCodeWithScope {
         code: String::new(alloc),
-        scope: Document::new(alloc),
+        scope,
     })
 }
 
+/// The empty code with the empty scope.
+pub(crate) fn empty_code(alloc: Global) -> Bson {
+    code_around(alloc, Document::new(alloc))
+}
+
 /// The list of the numbers 1 and 2.
-pub(crate) fn one_and_two(alloc: Global) -> Result<Vec<Bson>, Fail> {
-    Ok(vec![in alloc; Bson::Int32(1), Bson::Int32(2)]?)
+pub(crate) fn one_and_two(alloc: Global) -> Result<Bson, Fail> {
+    Ok(Bson::Array(vec![in alloc; Bson::Int32(1), Bson::Int32(2)]?))
+}
+
+/// The list of one null.
+pub(crate) fn one_null(alloc: Global) -> Result<Bson, Fail> {
+    Ok(Bson::Array(vec![in alloc; Bson::Null]?))
+}
+
+/// The tree of these bytes.
+pub(crate) fn tree_of(alloc: Global, bytes: &[u8]) -> Result<Document, Fail> {
+    Ok(document_from_raw(alloc, RawDocument::from_bytes(bytes)?)?)
+}
+
+/// The innermost of levels that are held so.
+fn empty_level(alloc: Global, holder: Holder) -> Bson {
+    match holder {
+        Holder::Document => Bson::Document(Document::new(alloc)),
+        Holder::Array => Bson::Array(Vec::new(alloc)),
+        Holder::CodeWithScope => empty_code(alloc),
+    }
+}
+
+/// A level that holds this one.
+fn level_around(alloc: Global, holder: Holder, inner: Bson) -> Result<Bson, Fail> {
+    match holder {
+        Holder::Document => Ok(Bson::Document(one_pair(alloc, "", inner)?)),
+        Holder::Array => Ok(Bson::Array(vec![in alloc; inner]?)),
+        Holder::CodeWithScope => Ok(code_around(alloc, one_pair(alloc, "", inner)?)),
+    }
+}
+
+/// The tree of the bytes of so many nested levels, made from the innermost on.
+pub(crate) fn levels_by_hand(
+    alloc: Global,
+    holder: Holder,
+    levels: usize,
+) -> Result<Document, Fail> {
+    let mut level = empty_level(alloc, holder);
+    for _ in 1..levels {
+        level = level_around(alloc, holder, level)?;
+    }
+    match holder {
+        Holder::Array => one_pair(alloc, "0", level),
+        Holder::Document | Holder::CodeWithScope => one_pair(alloc, "", level),
+    }
 }

@@ -1,6 +1,6 @@
+use bson_fixtures::{check_debug_text, holds};
 use raw_bson::{Breach, Cause, RawDocument, validate};
 use std::alloc::{AllocError, Global};
-use std::process::Abort;
 use std::test::Fail;
 use test_fixtures::*;
 
@@ -157,29 +157,28 @@ const CANONICAL: &[&[u8]] = &[
     b"\x1B\0\0\0\x03a\0\x08\0\0\0\x0Ac\0\0\x03b\0\x08\0\0\0\x0Ac\0\0\0",
 ];
 
-/// Where there is no breach wanted, the document is canonical; else its first breach is this one.
-fn assert_validated(
-    rt: &impl Abort,
-    alloc: Global,
-    bytes: &[u8],
-    wanted: Option<&Breach>,
-) -> Result<(), Fail> {
-    let found = validate(alloc, RawDocument::from_bytes(bytes)?)?;
-    assert_eq!(rt; found.as_ref(), wanted, "{bytes:?}");
-    Ok(())
-}
+/// The path to a breach, and why it is one.
+type Wanted<'a> = Option<(&'a [usize], Cause)>;
 
-fn breach(alloc: Global, path: &[usize], cause: Cause) -> Result<Breach, AllocError> {
-    let path = Vec::from_slice(alloc, path)?;
-    Ok(Breach { path, cause })
-}
-
-fn assert_rows(rt: &impl Abort, alloc: Global, rows: &[Row]) -> Result<(), Fail> {
-    for (bytes, path, cause) in rows {
-        let wanted = breach(alloc, path, *cause)?;
-        assert_validated(rt, alloc, bytes, Some(&wanted))?;
+/// Whether the breach that was found is the wanted one.
+fn is_found(found: &Option<Breach>, wanted: Wanted<'_>) -> bool {
+    match (found, wanted) {
+        (Some(breach), Some((path, cause))) => {
+            breach.path.as_slice() == path && breach.cause == cause
+        }
+        (None, None) => true,
+        _ => false,
     }
-    Ok(())
+}
+
+/// Where there is no breach wanted, the document is canonical; else its first breach is this one.
+fn check_validated(alloc: Global, bytes: &[u8], wanted: Wanted<'_>) -> Result<(), Fail> {
+    let found = validate(alloc, RawDocument::from_bytes(bytes)?)?;
+    if is_found(&found, wanted) {
+        Ok(())
+    } else {
+        Err(Fail::new(format_args!("{found:?} in {bytes:?}")))
+    }
 }
 
 #[test]
@@ -191,15 +190,17 @@ fn the_first_breach_is_told(rt: HostRuntime) -> Result<(), Fail> {
         TWO_LEVELS_DOWN,
         FIRST_OF_TWO,
     ] {
-        assert_rows(&rt, rt.alloc(), rows)?;
+        for (bytes, path, cause) in rows.iter() {
+            check_validated(rt.alloc(), bytes, Some((path, *cause)))?;
+        }
     }
     Ok(())
 }
 
 #[test]
 fn documents_are_canonical(rt: HostRuntime) -> Result<(), Fail> {
-    for bytes in CANONICAL {
-        assert_validated(&rt, rt.alloc(), bytes, None)?;
+    for bytes in CANONICAL.iter() {
+        check_validated(rt.alloc(), bytes, None)?;
     }
     Ok(())
 }
@@ -356,49 +357,51 @@ fn document_of_parts(alloc: Global, parts: &[&[u8]]) -> Result<Vec<u8>, AllocErr
 }
 
 /// The same of a document of these elements.
-fn assert_parts_validated(
-    rt: &impl Abort,
-    alloc: Global,
-    parts: &[&[u8]],
-    wanted: Option<&Breach>,
-) -> Result<(), Fail> {
+fn check_parts(alloc: Global, parts: &[&[u8]], wanted: Wanted<'_>) -> Result<(), Fail> {
     let bytes = document_of_parts(alloc, parts)?;
-    assert_validated(rt, alloc, &bytes, wanted)
+    check_validated(alloc, &bytes, wanted)
 }
 
 #[test]
 fn the_first_breach_of_many_elements_is_told(rt: HostRuntime) -> Result<(), Fail> {
-    for (parts, path, cause) in LONG_BREACHES {
-        let wanted = breach(rt.alloc(), path, *cause)?;
-        assert_parts_validated(&rt, rt.alloc(), parts, Some(&wanted))?;
+    for (parts, path, cause) in LONG_BREACHES.iter() {
+        check_parts(rt.alloc(), parts, Some((path, *cause)))?;
     }
     Ok(())
 }
 
 #[test]
 fn documents_of_many_elements_are_canonical(rt: HostRuntime) -> Result<(), Fail> {
-    for parts in LONG_CANONICAL {
-        assert_parts_validated(&rt, rt.alloc(), parts, None)?;
+    for parts in LONG_CANONICAL.iter() {
+        check_parts(rt.alloc(), parts, None)?;
     }
     Ok(())
 }
 
+fn breach(alloc: Global, path: &[usize], cause: Cause) -> Result<Breach, AllocError> {
+    let path = Vec::from_slice(alloc, path)?;
+    Ok(Breach { path, cause })
+}
+
+/// Whether the breach is equal to the one of this path and cause.
+fn is_breach(alloc: Global, found: &Breach, path: &[usize], cause: Cause) -> Result<bool, Fail> {
+    Ok(*found == breach(alloc, path, cause)?)
+}
+
 /// The breach differs from one with another path and from one with another cause.
-fn assert_differs(rt: &impl Abort, alloc: Global, found: &Breach) -> Result<(), Fail> {
-    assert!(rt; *found != breach(alloc, &[1], Cause::RepeatedKey)?);
-    assert!(rt; *found != breach(alloc, &[1, 0], Cause::ArrayKey)?);
-    assert!(rt; *found == breach(alloc, &[1, 0], Cause::RepeatedKey)?);
-    Ok(())
+fn check_differs(alloc: Global, found: &Breach) -> Result<(), Fail> {
+    let is_same = is_breach(alloc, found, &[1], Cause::RepeatedKey)?;
+    holds(!is_same, "another path")?;
+    let is_same = is_breach(alloc, found, &[1, 0], Cause::ArrayKey)?;
+    holds(!is_same, "another cause")?;
+    let is_same = is_breach(alloc, found, &[1, 0], Cause::RepeatedKey)?;
+    holds(is_same, "the same")
 }
 
 #[test]
 fn breaches_are_compared_and_printed(rt: HostRuntime) -> Result<(), Fail> {
     let found = breach(rt.alloc(), &[1, 0], Cause::RepeatedKey)?;
-    assert_differs(&rt, rt.alloc(), &found)?;
-    let text = format!(in rt.alloc(); "{found:?}")?;
-    assert_eq!(rt;
-        text.as_str(),
-        "Breach { path: [1, 0], cause: RepeatedKey }"
-    );
-    Ok(())
+    check_differs(rt.alloc(), &found)?;
+    let text = "Breach { path: [1, 0], cause: RepeatedKey }";
+    check_debug_text(rt.alloc(), &found, text)
 }
