@@ -28,11 +28,14 @@ pub use Rattle.raw_view.specs.Access
 pub use Rattle.raw_view.specs.Accessors
 pub use Rattle.raw_view.specs.Answers
 pub use Rattle.raw_view.specs.Document
+pub use Rattle.raw_view.specs.ElementLookUp
 pub use Rattle.raw_view.specs.ElementSteps
 pub use Rattle.raw_view.specs.Envelope
 pub use Rattle.raw_view.specs.Errors
+pub use Rattle.raw_view.specs.FirstDocument
 pub use Rattle.raw_view.specs.Format
 pub use Rattle.raw_view.specs.Frame
+pub use Rattle.raw_view.specs.Front
 pub use Rattle.raw_view.specs.Item
 pub use Rattle.raw_view.specs.Kind
 pub use Rattle.raw_view.specs.LookUp
@@ -69,6 +72,8 @@ pub use Rattle.raw_view.specs.declared.bson_ref.RawRegexRef
 pub use Rattle.raw_view.specs.declared.document.RawDocument
 pub use Rattle.raw_view.specs.declared.element.RawElement
 pub use Rattle.raw_view.specs.declared.element_type.ElementType
+pub use Rattle.raw_view.specs.declared.error.BorrowedError
 pub use Rattle.raw_view.specs.declared.error.Error
 pub use Rattle.raw_view.specs.declared.error.ErrorKind
 pub use Rattle.raw_view.specs.declared.error.Reason
+pub use Rattle.raw_view.specs.declared.first_document.NoDocument
