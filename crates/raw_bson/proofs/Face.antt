@@ -8,8 +8,8 @@ pub use Rattle.raw_view.proofs.Face.{HasReadItems-none, HasReadItems-bound, HasR
 pub use Rattle.raw_bson.proofs.HeldFrames.{HoldsFrames-empty, HoldsFrames-value, HoldsFrames-element, HaveNoShortScope-more, HaveNoShortScope-last, value_is_long, frame_again}
 -- there is one walk alone, and one meaning of a frame
 pub use Rattle.raw_view.proofs.Face.{one_frame, one_walk, one_meaning}
--- the document at the front of bytes
-pub use Rattle.raw_view.proofs.Face.{first_four, header_of_front}
+-- the document at the front of bytes, and the length that they begin with: four bytes read one
+pub use Rattle.raw_view.proofs.Face.{first_four, header_of_front, refused_none, one_first, read_front, IsLe32-same}
 -- the canonical form of a tree that is read
 pub use Rattle.raw_tree.proofs.Face.{bytes_one_way}
 pub use Rattle.raw_bson.proofs.CanonicalForms.{canonical_form}

@@ -29,9 +29,11 @@ pub use Rattle.raw_view.specs.Access
 pub use Rattle.raw_view.specs.Accessors
 pub use Rattle.raw_view.specs.Answers
 pub use Rattle.raw_view.specs.Document
+pub use Rattle.raw_view.specs.ElementLookUp
 pub use Rattle.raw_view.specs.ElementSteps
 pub use Rattle.raw_view.specs.Envelope
 pub use Rattle.raw_view.specs.Errors
+pub use Rattle.raw_view.specs.FirstDocument
 pub use Rattle.raw_view.specs.Format
 pub use Rattle.raw_view.specs.Frame
 pub use Rattle.raw_view.specs.Front
@@ -75,3 +77,4 @@ pub use Rattle.raw_view.specs.declared.error.BorrowedError
 pub use Rattle.raw_view.specs.declared.error.Error
 pub use Rattle.raw_view.specs.declared.error.ErrorKind
 pub use Rattle.raw_view.specs.declared.error.Reason
+pub use Rattle.raw_view.specs.declared.first_document.NoDocument

@@ -33,7 +33,8 @@ pub use raw_tree::{
     total_len, validate,
 };
 pub use raw_view::{
-    ElementType, Error, ErrorKind, Iter, RawArray, RawArrayIter, RawBinaryRef, RawBsonRef,
-    RawDbPointerRef, RawDocument, RawElement, RawIter, RawJavaScriptCodeWithScopeRef, RawRegexRef,
-    Reason, Result, ValueAccessError, ValueAccessErrorKind, ValueAccessResult,
+    BorrowedError, ElementType, Error, ErrorKind, Iter, NoDocument, RawArray, RawArrayIter,
+    RawBinaryRef, RawBsonRef, RawDbPointerRef, RawDocument, RawElement, RawIter,
+    RawJavaScriptCodeWithScopeRef, RawRegexRef, Reason, Result, ValueAccessError,
+    ValueAccessErrorKind, ValueAccessResult,
 };

@@ -16,5 +16,9 @@ pub use Rattle.raw_view.proofs.UniqueMeanings.{one_meaning}
 pub use Rattle.raw_view.proofs.Payloads.{counted_whole, document_framed}
 -- what is written by the format
 pub use Rattle.raw_view.proofs.Written.{length-framed, length-scoped_payload, AreBytes-leaf, AreBytes-scoped, AreBytes-framed, AreBytes-element, leaf_shape, declared_shape, framed_is_envelope, leaf_means, scoped_means}
--- the document at the front of bytes
+-- the document at the front of bytes, and the length that they begin with: four bytes read one
 pub use Rattle.raw_view.proofs.Headers.{first_four, header_of_front}
+pub use Rattle.raw_view.proofs.FirstDocuments.{refused_none, one_first}
+pub use Rattle.raw_view.proofs.Numbers.{read_front, IsLe32-same}
+-- an error with a copy of its key says the fault
+pub use Rattle.raw_view.proofs.Iteration.{told_fault}

@@ -24,4 +24,6 @@ pub mod UniqueMeanings
 pub mod UniqueItems
 pub mod Headers
 pub mod Standing
+pub mod FirstDocuments
+pub mod ElementLookUps
 pub mod Face

@@ -64,7 +64,7 @@ one_look_up b key a c x y = one_found (drop 4 b) key x.0 y.0 x.1 y.1 a c x.2 y.2
 -- whether a key stands there
 
 -- no frame of a walk without the key has it
-no_such_frame : (s key : List ℕ) (fs gs : List Frame) (end : End) (r q : List ℕ) (g : Frame) → IsWalk s fs end → HasNoKey key fs → LeadsTo s gs r → IsFrame r g q → g.key ≢ key
+pub no_such_frame : (s key : List ℕ) (fs gs : List Frame) (end : End) (r q : List ℕ) (g : Frame) → IsWalk s fs end → HasNoKey key fs → LeadsTo s gs r → IsFrame r g q → g.key ≢ key
 no_such_frame s key [] [] end r q g w none l b k = no_frame_at_end s end w g q (rw l b)
 no_such_frame s key [] (h ∷ gs) end r q g w none l b k = no_frame_at_end s end w h l.0 l.1
 no_such_frame s key (f ∷ fs) [] end r q g w none l b k = none.0 (ap (λ (x : Frame). x.key) (one_frame s f g w.0 q w.1 (rw l b)).0 ∙ k)

@@ -29,7 +29,7 @@ header_in_front : (p r : List ℕ) (n : ℕ) → 4 ≤ length p → IsLe32 (take
 header_in_front p r n l h = rw (take-append-le 4 p r l) h
 
 -- a nested document is cut off in one way
-document_same : (p q r t : List ℕ) → IsEnvelope p → IsEnvelope q → p ++ r ≡ q ++ t → (p ≡ q) × (r ≡ t)
+pub document_same : (p q r t : List ℕ) → IsEnvelope p → IsEnvelope q → p ++ r ≡ q ++ t → (p ≡ q) × (r ≡ t)
 document_same p q r t a b e =
     let front = header_in_front p r (length p) (omega (arith, a.enough)) a.header in
     let other = header_in_front q t (length q) (omega (arith, b.enough)) b.header in

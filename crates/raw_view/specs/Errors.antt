@@ -8,6 +8,8 @@ use Rattle.raw_view.specs.declared.error.ErrorKind.TheVariants as kind
 use Rattle.raw_view.specs.declared.error.Error.{Error}
 use Rattle.raw_view.specs.Frame.{Fault, Malformed, Utf8}
 use Rattle.raw_view.specs.Envelope.{Refuses}
+use Rattle.raw_view.specs.declared.first_document.NoDocument.{NoDocument}
+use Rattle.raw_view.specs.declared.first_document.NoDocument.TheVariants as no
 
 abbrev pub text_of : {Z : Type 0} → Option (String Z) → Option (List ℕ)
 text_of None = None
@@ -31,6 +33,16 @@ IsMalformed kind.OutOfMemory P = ⊥
 pub record TellsRefusal (b : List ℕ) (e : Error) : Type 0 where
   pub reason : IsMalformed e.kind (Refuses b)
   pub key : key_of e ≡ None
+
+-- the reason of an envelope for which no document is at the front of bytes
+abbrev pub reason_of : NoDocument → Reason
+reason_of no.TooShort = reason.TooShort
+reason_of no.LengthIncorrect = reason.LengthIncorrect
+reason_of (no.NotTerminated len) = reason.NotTerminated
+
+-- the error says why no document is at the front of bytes; it has no key
+abbrev pub TellsFirst : NoDocument → Error → Type 0
+TellsFirst why e = (e.kind ≡ kind.MalformedValue (reason_of why)) × (key_of e ≡ None)
 
 -- a reason that reading has: none of the two of writing, and none of the two of limits
 abbrev pub IsReadingReason : Reason → Type 0

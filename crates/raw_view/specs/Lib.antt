@@ -17,3 +17,5 @@ pub mod Typed
 pub mod ElementSteps
 pub mod Front
 pub mod OneReading
+pub mod FirstDocument
+pub mod ElementLookUp

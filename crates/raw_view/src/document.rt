@@ -27,7 +27,7 @@ pub struct RawDocument<'a> {
 }
 
 /// Whether this is the element's key.
-fn has_key(element: RawElement<'_>, key: &str) -> bool
+pub(crate) fn has_key(element: RawElement<'_>, key: &str) -> bool
     ensures { IsTrue result ↔ ((frame_of element.entry).key ≡ key.now) }
 {
     element.key() == key

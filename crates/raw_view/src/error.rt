@@ -228,7 +228,7 @@ impl Clone for Error {
 }
 
 /// An error that borrows the key: what a step answers that copies nothing. It is never want of memory.
-#[derive(Drop)]
+#[derive(Debug, Drop)]
 pub struct BorrowedError<'a> {
     /// how the step failed
     pub kind: ErrorKind,
@@ -271,7 +271,7 @@ impl<'a> BorrowedError<'a> {
     /// The error with a copy of the key. Where the copy finds no memory, it says that and has no key.
     #[cold]
     #[inline(never)]
-    pub(crate) fn into_error(self, alloc: Global) -> Error
+    pub fn into_error(self, alloc: Global) -> Error
         ensures { HasKeyCopy self.entry.kind (option_copied self.entry.key) result }
     {
         let Some(key) = self.key else {

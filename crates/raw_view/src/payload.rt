@@ -27,7 +27,7 @@ fn fixed_len(size: usize, rest: &[u8]) -> Result<usize, Reason>
 
 /// The length that the four bytes at the front declare.
 #[inline(always)]
-fn declared_len(rest: &[u8]) -> Result<usize, Reason>
+pub(crate) fn declared_len(rest: &[u8]) -> Result<usize, Reason>
     requires { 4 ≤ length rest.now }
     ensures found { IfOk result (λ n. IsLe32 (take 4 rest.now) (pos n)) }
     ensures none { OnErr result ((n : ℕ) → ¬ IsLe32 (take 4 rest.now) (pos n)) }

@@ -15,6 +15,8 @@ mod debug_texts;
 #[cfg(test)]
 mod getters;
 #[cfg(test)]
+mod look_ups;
+#[cfg(test)]
 mod reasons;
 #[cfg(test)]
 mod rows;

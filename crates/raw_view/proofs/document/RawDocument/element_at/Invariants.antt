@@ -1,0 +1,8 @@
+use Rattle.std.proofs.Common.{◌≡◌, ◌+◌, List, drop, length}
+use Rattle.raw_view.specs.Frame.{Frame}
+use Rattle.raw_view.specs.ElementSteps.{HasRead}
+use Rattle.raw_view.specs.Document.{bytes_of}
+use Rattle.raw_view.proofs.document.RawDocument.element_at.Given as goal
+
+abbrev pub invariant-loop-step : goal.invariant-loop-step
+invariant-loop-step l = (passed : List Frame) × HasRead (drop 4 (bytes_of l.fn.self)) passed l.step-iterator × (length passed + l.before ≡ l.fn.number)

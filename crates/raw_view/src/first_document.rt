@@ -1,0 +1,64 @@
+//! The document at the front of bytes.
+#![tactic(auto)]
+
+ghost use Rattle.std.specs.Prelude.{◌≡◌, ◌++◌, IfOk, IfErr};
+ghost use Rattle.raw_view.specs.Document.{bytes_of};
+ghost use Rattle.raw_view.specs.FirstDocument.{HasNoDocument, OneFirstDocument, RefusesFirst};
+
+use crate::document::RawDocument;
+use crate::error::{Error, Reason};
+use crate::payload::declared_len;
+
+/// Why no document is at the front of bytes.
+#[derive(Clone, Copy, Debug, PartialEq, Eq)]
+pub enum NoDocument {
+    /// There are under five bytes.
+    TooShort,
+    /// The length with which the bytes begin is under five, or over their number.
+    LengthIncorrect,
+    /// The bytes begin with this length, which is sound, but the last of so many isn't 0.
+    NotTerminated(usize),
+}
+
+impl<'a> RawDocument<'a> {
+    /// The document at the front of the bytes, and what is behind it; else the first of: too short, a length that isn't
+    /// sound, and not terminated, with the length, by which a caller can go on to what is behind the damage. One
+    /// document at most is at the front of any bytes. BSON 1.1, `document`.
+    pub fn split_first(
+        bytes: &'a [u8],
+    ) -> std::result::Result<(RawDocument<'a>, &'a [u8]), NoDocument>
+        ensures parts { IfOk result (λ parts. bytes.now ≡ bytes_of parts.0 ++ parts.1.now) }
+        ensures refused { IfErr result (RefusesFirst bytes.now) }
+        ensures none { IfErr result (λ _. HasNoDocument bytes.now) }
+        ensures one_document { OneFirstDocument }
+    {
+        if bytes.len() < 5 {
+            return Err(NoDocument::TooShort);
+        }
+        let Ok(len) = declared_len(bytes) else {
+            return Err(NoDocument::LengthIncorrect);
+        };
+        if len < 5 || bytes.len() < len {
+            return Err(NoDocument::LengthIncorrect);
+        }
+        if bytes[len - 1] != 0 {
+            return Err(NoDocument::NotTerminated(len));
+        }
+        let (first, behind) = bytes.split_at(len);
+        Ok((RawDocument::framed(first), behind))
+    }
+}
+
+impl From<NoDocument> for Error {
+    ghost use Rattle.raw_view.specs.Errors.{TellsFirst};
+
+    ghost from_gives = { TellsFirst };
+
+    fn from(why: NoDocument) -> Error {
+        Error::malformed(match why {
+            NoDocument::TooShort => Reason::TooShort,
+            NoDocument::LengthIncorrect => Reason::LengthIncorrect,
+            NoDocument::NotTerminated(_) => Reason::NotTerminated,
+        })
+    }
+}
