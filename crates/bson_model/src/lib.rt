@@ -24,5 +24,3 @@ pub use times::{DateTime, Timestamp};
 
 #[cfg(test)]
 mod memory;
-#[cfg(test)]
-mod tests;

@@ -1,5 +1,5 @@
-//! Tests of `raw_view` through its public calls. They stand apart, so that `raw_view` isn't proved twice. Those with
-//! requests for memory refused stand in `memory_tests`.
+//! Tests of `bson_model` and `raw_view` through their public calls. They stand apart, so that neither is proved twice.
+//! Those with requests for memory refused stand in `memory_tests`.
 #![tactic(auto)]
 
 #[cfg(test)]
@@ -9,11 +9,17 @@ mod c_strings;
 #[cfg(test)]
 mod calls;
 #[cfg(test)]
+mod copies;
+#[cfg(test)]
 mod damage;
 #[cfg(test)]
 mod debug_texts;
 #[cfg(test)]
 mod getters;
+#[cfg(test)]
+mod model;
+#[cfg(test)]
+mod model_trees;
 #[cfg(test)]
 mod reasons;
 #[cfg(test)]
