@@ -68,7 +68,8 @@ fn views_and_values_have_a_debug_text(rt: HostRuntime) -> Result<(), Fail> {
 #[test]
 fn parts_of_values_have_a_debug_text(rt: HostRuntime) {
     let pointer = RawDbPointerRef::new("db.c", pointed());
-    let text = "RawDbPointerRef { namespace: \"db.c\", id: ObjectId { bytes: [12, 11, 10, 9, 8, 7, 6, 5, 4, 3, 2, 1] } }";
+    let text =
+        "RawDbPointerRef { namespace: \"db.c\", id: ObjectId { bytes: [12, 11, 10, 9, 8, 7, 6, 5, 4, 3, 2, 1] } }";
     assert!(rt; has_debug(rt.alloc(), &pointer, text));
     let decimal = Decimal128::from_bytes([0, 1, 2, 3, 4, 5, 6, 7, 8, 9, 10, 11, 12, 13, 14, 255]);
     let text = "Decimal128 { bytes: [0, 1, 2, 3, 4, 5, 6, 7, 8, 9, 10, 11, 12, 13, 14, 255] }";
@@ -103,7 +104,8 @@ fn is_code_printed(alloc: Global, text: &str) -> bool {
 
 #[test]
 fn code_with_scope_has_a_debug_text(rt: HostRuntime) {
-    let text = "JavaScriptCodeWithScope { code: \"g\", scope: Document { pairs: {\"x\": Int32(-7), \"y\": Null} } }";
+    let text =
+        "JavaScriptCodeWithScope { code: \"g\", scope: Document { pairs: {\"x\": Int32(-7), \"y\": Null} } }";
     assert!(rt; is_code_printed(rt.alloc(), text));
 }
 
@@ -186,7 +188,10 @@ fn errors_have_a_debug_text(rt: HostRuntime) -> Result<(), Fail> {
     assert!(rt; is_error(rt.alloc(), &none, "OutOfMemory", text));
     for (bytes, kind, text) in LOOK_UPS {
         let view = RawDocument::from_bytes(bytes)?;
-        assert!(rt; has_error(rt.alloc(), view.get(rt.alloc(), "a"), kind, text), "{text}");
+        assert!(rt;
+            has_error(rt.alloc(), view.get(rt.alloc(), "a"), kind, text),
+            "{text}"
+        );
     }
     Ok(())
 }
@@ -206,7 +211,12 @@ fn has_access_error(
 
 /// Documents, each with a key, and the `Debug` texts of the kind of the error of a boolean's getter, and of the error.
 const ACCESSES: &[(&[u8], &str, &str, &str)] = &[
-    (EMPTY, "a", "NotPresent", "ValueAccessError { kind: NotPresent, key: \"a\" }"),
+    (
+        EMPTY,
+        "a",
+        "NotPresent",
+        "ValueAccessError { kind: NotPresent, key: \"a\" }",
+    ),
     (
         GREETING,
         "hi",
@@ -228,12 +238,21 @@ const UNEXPECTED: ValueAccessErrorKind = ValueAccessErrorKind::UnexpectedType {
 
 #[test]
 fn access_errors_have_a_debug_text(rt: HostRuntime) -> Result<(), Fail> {
-    assert!(rt; has_debug(rt.alloc(), &ValueAccessErrorKind::OutOfMemory, "OutOfMemory"));
+    assert!(rt;
+        has_debug(
+            rt.alloc(),
+            &ValueAccessErrorKind::OutOfMemory,
+            "OutOfMemory"
+        )
+    );
     let text = "UnexpectedType { expected: Int32, actual: Boolean }";
     assert!(rt; has_debug(rt.alloc(), &UNEXPECTED, text));
     for (bytes, key, kind, text) in ACCESSES {
         let view = RawDocument::from_bytes(bytes)?;
-        assert!(rt; has_access_error(rt.alloc(), view.get_bool(rt.alloc(), key), kind, text), "{text}");
+        assert!(rt;
+            has_access_error(rt.alloc(), view.get_bool(rt.alloc(), key), kind, text),
+            "{text}"
+        );
     }
     Ok(())
 }

@@ -78,7 +78,10 @@ const ACCESS_TEXTS: &[(&[u8], &str, &str)] = &[
 fn access_errors_are_printed(rt: HostRuntime) -> Result<(), Fail> {
     for (bytes, key, text) in ACCESS_TEXTS {
         let view = RawDocument::from_bytes(bytes)?;
-        assert!(rt; has_text(rt.alloc(), view.get_i32(rt.alloc(), key), text), "{text}");
+        assert!(rt;
+            has_text(rt.alloc(), view.get_i32(rt.alloc(), key), text),
+            "{text}"
+        );
     }
     Ok(())
 }
