@@ -116,6 +116,8 @@ class Edit:
 
     def settle(self, verdict, why=""):
         self.verdict, self.why = verdict, why
+        if verdict != REFUSED:
+            print(f"{self.crate}/{self.name}: {verdict.upper()}: {why[:300]}", flush=True)
 
 
 class Said:
@@ -432,8 +434,6 @@ def main():
             if edit.verdict != BAD:
                 store.keep(edit)
     wrong = [it for it in edits if it.verdict != REFUSED and (it.verdict or not given.applies)]
-    for edit in wrong:
-        print(f"{edit.crate}/{edit.name}: {edit.verdict.upper()}: {edit.why[:300]}")
     spent = resource.getrusage(resource.RUSAGE_CHILDREN)
     print(
         f"edits: {len(edits) - len(wrong)} of {len(edits)} {'apply' if given.applies else 'are refused'}; {checks} checks,"

@@ -42,6 +42,16 @@ test_answered() {
     [ "$status" = 0 ]
 }
 
+# Such a test also prints that it was answered want of memory, in just the runs in which a request was refused.
+refused_answered() {
+    [ "$status" = 0 ] || return 1
+    if [ "$requests" -ge "$n" ]; then
+        grep -qx 'out of memory' "$work/output"
+    else
+        ! grep -qx 'out of memory' "$work/output"
+    fi
+}
+
 # each_refused ANSWERED PROGRAM ARGS..: refuses the first request for memory, then the second alone, and so on, until
 # a run meets no refusal. ANSWERED says whether the run went as it has to.
 each_refused() {
@@ -65,7 +75,7 @@ each_refused() {
         [ "${requests:-0}" -ge "$n" ] || break
         n=$((n + 1))
     done
-    if [ "$n" = 1 ]; then
+    if [ "$n" = 1 ] && [ "$wanted_requests" != 0 ]; then
         echo "$scenario: no request for memory was seen" >&2
         return 1
     fi
@@ -73,6 +83,7 @@ each_refused() {
 }
 
 run_scenario() {
+    wanted_requests=
     case $1 in
     program)
         input=examples/$3.hex
@@ -86,17 +97,41 @@ run_scenario() {
         ;;
     test)
         input=/dev/null
+        wanted_requests=${4-}
         each_refused test_answered "crates/$2/out/$2_tests" "$3" || return 1
-        if [ -n "${4-}" ] && [ $((n - 1)) != "$4" ]; then
-            echo "$scenario: not just $4 requests" >&2
+        if [ -n "$wanted_requests" ] && [ $((n - 1)) != "$wanted_requests" ]; then
+            echo "$scenario: not just $wanted_requests requests" >&2
             return 1
         fi
+        ;;
+    refused)
+        input=/dev/null
+        each_refused refused_answered "crates/$2/out/$2_tests" "$3" || return 1
         ;;
     *)
         echo "$scenario: not a scenario" >&2
         return 1
         ;;
     esac
+}
+
+# to_be_refused CRATE: the tests that are there to be refused, of the crate as it was built last: all of memory_tests, and
+# of another crate those of a module `memory`
+to_be_refused() {
+    "crates/$1/out/$1_tests" --list 3>/dev/null | sed -n 's/: test$//p' |
+        case $1 in memory_tests) cat ;; *) grep -E '(^|::)memory::' ;; esac
+}
+
+# unlisted FILE: the tests that are there to be refused, and have no line in this file
+unlisted() {
+    for program in crates/*/out/*_tests; do
+        crate=${program#crates/}
+        crate=${crate%%/*}
+        grep -rqs '^#\[cfg(test)\]' "crates/$crate/src" || continue
+        to_be_refused "$crate" | while IFS= read -r name; do
+            grep -Eq "^(test|refused) $crate $name( [0-9]+)?\$" "$1" || echo "$crate $name"
+        done
+    done
 }
 
 # refusals.sh --one SHIM WORDS..: one scenario, in a process of its own
@@ -117,4 +152,17 @@ kit=$(dirname "$(rt doc)")
 "$kit/toolchain/bin/clang" -shared -fPIC -O1 -nostdlib -fuse-ld=lld -o "$folder/refuse.so" checks/refuse.c || exit 1
 sed '/^#/d; /^$/d' "$list" >"$folder/scenarios"
 [ -s "$folder/scenarios" ] || exit 1
+
+# No test that is there to be refused is left out. First: one that is left out is seen.
+gone=$(sed -n 's/^test \(memory_tests [^ ]*\).*/\1/p' "$folder/scenarios" | head -n 1)
+grep -v "^test $gone\( \|\$\)" "$folder/scenarios" >"$folder/shortened"
+if ! unlisted "$folder/shortened" | grep -qx "$gone"; then
+    echo "refusals.sh: it isn't seen that $gone is left out" >&2
+    exit 1
+fi
+missing=$(unlisted "$folder/scenarios")
+if [ -n "$missing" ]; then
+    echo "refusals.sh: not in the list: $missing" >&2
+    exit 1
+fi
 xargs -P "$(nproc)" -L 1 sh "$script" --one "$folder/refuse.so" <"$folder/scenarios"

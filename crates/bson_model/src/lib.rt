@@ -21,8 +21,3 @@ pub use numbers::{Decimal128, DoubleBits};
 pub use object_id::{DbPointer, ObjectId};
 pub use regexes::{Regex, do_options_ascend};
 pub use times::{DateTime, Timestamp};
-
-#[cfg(test)]
-mod memory;
-#[cfg(test)]
-mod tests;

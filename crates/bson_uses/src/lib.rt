@@ -16,6 +16,3 @@ pub use kept::keep;
 pub use outside::{MOST, received};
 pub use path::find_path;
 pub use without::copy_without;
-
-#[cfg(test)]
-mod tests;

@@ -1,71 +1,106 @@
-use raw_bson::{RawBsonRef, ValueAccessErrorKind, ValueAccessResult};
+use crate::asserts::is_want_of_memory;
+use raw_bson::{
+    ElementType, RawBsonRef, ValueAccessError, ValueAccessErrorKind, ValueAccessResult,
+};
 use std::alloc::Global;
 use std::test::Fail;
 use test_fixtures::*;
 
-/// Items are counted from 0, the faults and the stop too.
+const NULL: Want<'static> = Want::Value(RawBsonRef::Null);
+
+const SEVEN: Want<'static> = Want::Value(RawBsonRef::Int32(7));
+
+/// Arrays, each with an index and what stands there. Items are counted from 0, the faults and the stop too.
+const POSITIONS: [(&[u8], usize, Want<'static>); 14] = [
+    (EMPTY, 0, Want::Nothing),
+    (EMPTY, usize::MAX, Want::Nothing),
+    (SWALLOWED_TERMINATOR, 0, NULL),
+    (SWALLOWED_TERMINATOR, 1, Want::Fault(OVERFLOWED)),
+    (SWALLOWED_TERMINATOR, 2, Want::Nothing),
+    (SWALLOWED_TERMINATOR, usize::MAX, Want::Nothing),
+    (ARRAY_WITH_TEXT_NOT_UTF8, 0, Want::Fault(NOT_UTF8)),
+    (ARRAY_WITH_TEXT_NOT_UTF8, 1, SEVEN),
+    (ARRAY_WITH_TEXT_NOT_UTF8, 2, Want::Nothing),
+    (ARRAY_WITH_TEXT_NOT_UTF8, usize::MAX, Want::Nothing),
+    (FAULT_BEFORE_A_NUMBER, 0, Want::Fault(TWO_AT_0)),
+    (FAULT_BEFORE_A_NUMBER, 1, SEVEN),
+    (FAULT_BEFORE_A_NUMBER, 2, Want::Nothing),
+    (FAULT_BEFORE_A_NUMBER, usize::MAX, Want::Nothing),
+];
+
 #[test]
 fn positions_or_want_of_memory(rt: HostRuntime) -> Result<(), Fail> {
     let checks = Checks::refusable(rt.alloc());
-    let null = Want::Value(RawBsonRef::Null);
-    let seven = Want::Value(RawBsonRef::Int32(7));
-    let rows: [(&[u8], &[Want<'_>]); 4] = [
-        (EMPTY, &[]),
-        (SWALLOWED_TERMINATOR, &[null, Want::Fault(OVERFLOWED)]),
-        (ARRAY_WITH_TEXT_NOT_UTF8, &[Want::Fault(NOT_UTF8), seven]),
-        (FAULT_BEFORE_A_NUMBER, &[Want::Fault(TWO_AT_0), seven]),
-    ];
-    for (bytes, items) in rows {
-        let array = array_view(bytes)?;
-        for (index, want) in items.iter().enumerate() {
-            checks.answer(array.get(rt.alloc(), index), *want, bytes)?;
-        }
-        for index in [items.len(), usize::MAX] {
-            checks.answer(array.get(rt.alloc(), index), Want::Nothing, bytes)?;
-        }
+    for (bytes, index, want) in POSITIONS.iter() {
+        checks.position(bytes, *index, *want)?;
     }
     Ok(())
 }
 
+const NEGATIVE: [(usize, Want<'static>); 2] = [(0, Want::Fault(NEGATIVE_AT_A)), (1, Want::Nothing)];
+
 #[test]
 fn negative_document_length_as_an_array_or_want_of_memory(rt: HostRuntime) -> Result<(), Fail> {
     let checks = Checks::refusable(rt.alloc());
-    let array = array_view(NEGATIVE_DOCUMENT_LENGTH)?;
-    let bytes = NEGATIVE_DOCUMENT_LENGTH;
-    let want = Want::Fault(NEGATIVE_AT_A);
-    checks.answer(array.get(rt.alloc(), 0), want, bytes)?;
-    checks.answer(array.get(rt.alloc(), 1), Want::Nothing, bytes)?;
+    for (index, want) in NEGATIVE.iter() {
+        checks.position(NEGATIVE_DOCUMENT_LENGTH, *index, *want)?;
+    }
     Ok(())
 }
+
+/// Arrays, each with a kind that is asked for, an index and its decimal, and why there is no value.
+const TYPED: &[(&[u8], ElementType, usize, &str, NoValue<'static>)] = &[
+    (
+        SWALLOWED_TERMINATOR,
+        ElementType::Int32,
+        1,
+        "1",
+        NoValue::Invalid(OVERFLOWED),
+    ),
+    (
+        SWALLOWED_TERMINATOR,
+        ElementType::Int32,
+        2,
+        "2",
+        NoValue::NotPresent,
+    ),
+    (
+        ARRAY_WITH_TEXT_NOT_UTF8,
+        ElementType::String,
+        0,
+        "0",
+        NoValue::Invalid(NOT_UTF8),
+    ),
+];
 
 /// A typed look-up goes past faults, and says which it meets.
 #[test]
 fn typed_positions_or_want_of_memory(rt: HostRuntime) -> Result<(), Fail> {
     let checks = Checks::refusable(rt.alloc());
-    let swallowed = array_view(SWALLOWED_TERMINATOR)?;
-    for (index, want, key) in [
-        (1, NoValue::Invalid(OVERFLOWED), "1"),
-        (2, NoValue::NotPresent, "2"),
-    ] {
-        checks.no_value(swallowed.get_i32(rt.alloc(), index), want, key)?;
+    for (bytes, asked, index, key, want) in TYPED {
+        checks.none_at(bytes, *asked, *index, key, *want)?;
     }
-    let texts = array_view(ARRAY_WITH_TEXT_NOT_UTF8)?;
-    let invalid = NoValue::Invalid(NOT_UTF8);
-    checks.no_value(texts.get_str(rt.alloc(), 0), invalid, "0")?;
-    assert!(rt; texts.get_i32(rt.alloc(), 1) == Ok(7));
+    let seven = RawBsonRef::Int32(7);
+    checks.typed_at(ARRAY_WITH_TEXT_NOT_UTF8, ElementType::Int32, 1, "1", seven)?;
     Ok(())
 }
 
+/// Whether the error has its text.
+fn is_said(alloc: Global, error: &ValueAccessError) -> bool {
+    match format!(in alloc; "{error}") {
+        Ok(text) => text.as_str() == "error at key: \"\": out of memory",
+        Err(_) => false,
+    }
+}
+
 /// Whether the error has its text, if it is want of memory.
-fn is_said(alloc: Global, answer: &ValueAccessResult<bool>) -> bool {
+fn is_want_said(alloc: Global, answer: &ValueAccessResult<bool>) -> bool {
     match answer {
-        Err(error) if error.kind == ValueAccessErrorKind::OutOfMemory => {
-            match format!(in alloc; "{error}") {
-                Ok(text) => text.as_str() == "error at key: \"\": out of memory",
-                Err(_) => false,
-            }
-        }
-        _ => true,
+        Ok(_) => true,
+        Err(error) => match &error.kind {
+            ValueAccessErrorKind::OutOfMemory => is_said(alloc, error),
+            _ => true,
+        },
     }
 }
 
@@ -75,8 +110,46 @@ fn fault_before_a_number_or_want_of_memory(rt: HostRuntime) -> Result<(), Fail> 
     let checks = Checks::refusable(rt.alloc());
     let numbers = array_view(FAULT_BEFORE_A_NUMBER)?;
     let answer = numbers.get_bool(rt.alloc(), 0);
-    assert!(rt; is_said(rt.alloc(), &answer));
+    assert!(rt; is_want_said(rt.alloc(), &answer));
     checks.no_value(answer, NoValue::Invalid(TWO_AT_0), "0")?;
     assert!(rt; numbers.get_i32(rt.alloc(), 1) == Ok(7));
+    Ok(())
+}
+
+/// Whether the answer is want of memory, with the empty key.
+fn is_want(answer: ValueAccessResult<bool>) -> bool {
+    match answer {
+        Ok(_) => false,
+        Err(error) => {
+            matches!(error.kind, ValueAccessErrorKind::OutOfMemory) && error.key().is_empty()
+        }
+    }
+}
+
+// `bin/test` wants the line of these two in each run in which a request was refused, and in no other.
+
+#[test]
+fn a_refused_get_bool_is_out_of_memory(rt: HostRuntime) -> Result<(), Fail> {
+    let numbers = array_view(FAULT_BEFORE_A_NUMBER)?;
+    if is_want(numbers.get_bool(rt.alloc(), 0)) {
+        println!(rt; "out of memory")?;
+    }
+    Ok(())
+}
+
+/// Whether the answer is want of memory, without a key.
+fn is_item_want(answer: raw_bson::Result<Option<RawBsonRef<'_>>>) -> bool {
+    match answer {
+        Ok(_) => false,
+        Err(error) => is_want_of_memory(&error),
+    }
+}
+
+#[test]
+fn a_refused_get_is_out_of_memory(rt: HostRuntime) -> Result<(), Fail> {
+    let array = array_view(NEGATIVE_DOCUMENT_LENGTH)?;
+    if is_item_want(array.get(rt.alloc(), 0)) {
+        println!(rt; "out of memory")?;
+    }
     Ok(())
 }

@@ -1,20 +1,8 @@
 use raw_bson::{Error, ErrorKind, RawArrayBuf, RawDocumentBuf, Result};
-use std::process::Abort;
 
 /// Whether the error is want of memory, without a key.
 pub(crate) fn is_want_of_memory(error: &Error) -> bool {
     *error == Error::new(ErrorKind::OutOfMemory)
-}
-
-/// The value that was answered; without one, the answer is want of memory, without a key.
-pub(crate) fn answered<T: Drop>(rt: &impl Abort, answer: Result<T>) -> Option<T> {
-    match answer {
-        Ok(value) => Some(value),
-        Err(error) => {
-            assert!(rt; is_want_of_memory(&error), "{error:?}");
-            None
-        }
-    }
 }
 
 /// Whether the answer is a document of these bytes, or want of memory.

@@ -1,7 +1,7 @@
-use crate::asserts::{answered, is_array, is_document, is_want_of_memory};
+use crate::asserts::{is_array, is_document, is_want_of_memory};
 use raw_bson::{
     BinarySubtype, Error, ErrorKind, RawArrayBuf, RawBinaryRef, RawBson, RawBsonRef, RawDocument,
-    RawDocumentBuf, Reason, Result, ToRawArrayBuf, ToRawBson, ToRawDocumentBuf,
+    RawDocumentBuf, RawElement, Reason, Result, ToRawArrayBuf, ToRawBson, ToRawDocumentBuf,
 };
 use std::alloc::Global;
 use std::process::Abort;
@@ -39,20 +39,6 @@ const APPENDS: [Append; 5] = [
     (TWO_INT32, "c", RawBsonRef::Int32(0), THREE_INT32),
 ];
 
-/// A buffer of these bytes, unless memory is wanted for it.
-fn buffer(
-    rt: &impl Abort,
-    alloc: Global,
-    bytes: &[u8],
-) -> std::result::Result<Option<RawDocumentBuf>, Fail> {
-    let view = RawDocument::from_bytes(bytes)?;
-    let buffer = answered(rt, view.to_raw_document_buf(alloc));
-    if let Some(buffer) = &buffer {
-        assert!(rt; buffer.as_bytes() == bytes);
-    }
-    Ok(buffer)
-}
-
 #[test]
 fn new_or_want_of_memory(rt: HostRuntime) {
     assert!(rt; is_document(RawDocumentBuf::new(rt.alloc()), EMPTY));
@@ -60,54 +46,75 @@ fn new_or_want_of_memory(rt: HostRuntime) {
 }
 
 /// After an append that went well the bytes are those after it; else memory was wanted, and they are those before.
-fn is_appended(answer: &Result<()>, document: &RawDocumentBuf, append: Append) -> bool {
-    let (before, _, _, after) = append;
+fn is_appended(answer: &Result<()>, found: &[u8], before: &[u8], after: &[u8]) -> bool {
     match answer {
-        Ok(()) => document.as_bytes() == after,
-        Err(error) => is_want_of_memory(error) && document.as_bytes() == before,
+        Ok(()) => found == after,
+        Err(error) => is_want_of_memory(error) && found == before,
     }
-}
-
-/// The value is appended by reference.
-fn append_ref(document: &mut RawDocumentBuf, append: Append) -> Result<()> {
-    let (_, key, value, _) = append;
-    document.append_ref(key, value)
 }
 
 /// Whether the append went well, or left what was there, and goes well when it is made again.
-fn goes_well_at_last(answer: &Result<()>, document: &mut RawDocumentBuf, append: Append) -> bool {
-    if !is_appended(answer, document, append) {
+fn goes_well_at_last(
+    answer: &Result<()>,
+    document: &mut RawDocumentBuf,
+    (before, key, value, after): Append,
+) -> bool {
+    if !is_appended(answer, document.as_bytes(), before, after) {
         return false;
     }
-    if answer.is_ok() {
-        return true;
+    answer.is_ok() || (document.append_ref(key, value).is_ok() && document.as_bytes() == after)
+}
+
+/// Whether an owned copy of the value is appended in the end, or memory was wanted for the copy.
+fn is_copy_appended(document: &mut RawDocumentBuf, copy: Result<RawBson>, append: Append) -> bool {
+    match copy {
+        Ok(copy) => {
+            let answer = document.append(append.1, copy);
+            goes_well_at_last(&answer, document, append)
+        }
+        Err(error) => is_want_of_memory(&error),
     }
-    let again = append_ref(document, append);
-    again.is_ok() && is_appended(&again, document, append)
+}
+
+/// Whether an owned copy of the value is appended in the end to the buffer of the bytes before, if there is memory for it.
+fn goes_well(alloc: Global, buffer: Result<RawDocumentBuf>, append: Append) -> bool {
+    match buffer {
+        Ok(mut document) => {
+            document.as_bytes() == append.0
+                && is_copy_appended(&mut document, append.2.to_raw_bson(alloc), append)
+        }
+        Err(error) => is_want_of_memory(&error),
+    }
 }
 
 #[test]
 fn append_or_want_of_memory(rt: HostRuntime) -> std::result::Result<(), Fail> {
-    for append in APPENDS {
-        let (before, key, value, _) = append;
-        if let Some(mut document) = buffer(&rt, rt.alloc(), before)? {
-            if let Some(copy) = answered(&rt, value.to_raw_bson(rt.alloc())) {
-                let answer = document.append(key, copy);
-                assert!(rt; goes_well_at_last(&answer, &mut document, append));
-            }
-        }
+    for append in APPENDS.iter() {
+        let view = RawDocument::from_bytes(append.0)?;
+        let buffer = view.to_raw_document_buf(rt.alloc());
+        assert!(rt; goes_well(rt.alloc(), buffer, *append), "{append:?}");
     }
     Ok(())
 }
 
+/// The same of a borrowed value.
+fn goes_well_by_reference(buffer: Result<RawDocumentBuf>, append: Append) -> bool {
+    match buffer {
+        Ok(mut document) => {
+            let is_before = document.as_bytes() == append.0;
+            let answer = document.append_ref(append.1, append.2);
+            is_before && goes_well_at_last(&answer, &mut document, append)
+        }
+        Err(error) => is_want_of_memory(&error),
+    }
+}
+
 #[test]
 fn append_ref_or_want_of_memory(rt: HostRuntime) -> std::result::Result<(), Fail> {
-    for append in APPENDS {
-        let (before, _, _, _) = append;
-        if let Some(mut document) = buffer(&rt, rt.alloc(), before)? {
-            let answer = append_ref(&mut document, append);
-            assert!(rt; goes_well_at_last(&answer, &mut document, append));
-        }
+    for append in APPENDS.iter() {
+        let view = RawDocument::from_bytes(append.0)?;
+        let buffer = view.to_raw_document_buf(rt.alloc());
+        assert!(rt; goes_well_by_reference(buffer, *append), "{append:?}");
     }
     Ok(())
 }
@@ -115,19 +122,31 @@ fn append_ref_or_want_of_memory(rt: HostRuntime) -> std::result::Result<(), Fail
 /// One number.
 const NUMBER: &[u8] = b"\x0C\0\0\0\x10b\0\x02\0\0\0\0";
 
-/// An element is appended as it stands, or memory was wanted and nothing changed; then it is appended when it is tried
-/// again.
+/// Whether the element is appended to the empty document, or memory was wanted and nothing changed, and it is appended
+/// when it is tried again.
+fn is_element_appended(document: &mut RawDocumentBuf, element: RawElement<'_>) -> bool {
+    let answer = document.append_element(element);
+    is_appended(&answer, document.as_bytes(), EMPTY, NUMBER)
+        && (answer.is_ok()
+            || (document.append_element(element).is_ok() && document.as_bytes() == NUMBER))
+}
+
+/// The same of the buffer of the empty document, if there is memory for it.
+fn has_element_appended(buffer: Result<RawDocumentBuf>, item: Result<RawElement<'_>>) -> bool {
+    let Ok(element) = item else { return false };
+    match buffer {
+        Ok(mut document) => {
+            document.as_bytes() == EMPTY && is_element_appended(&mut document, element)
+        }
+        Err(error) => is_want_of_memory(&error),
+    }
+}
+
 #[test]
 fn append_element_or_want_of_memory(rt: HostRuntime) -> std::result::Result<(), Fail> {
-    for element in RawDocument::from_bytes(NUMBER)?.iter_elements(rt.alloc()) {
-        let element = element?;
-        if let Some(mut document) = buffer(&rt, rt.alloc(), EMPTY)? {
-            if let Err(error) = document.append_element(element) {
-                assert!(rt; is_want_of_memory(&error) && document.as_bytes() == EMPTY);
-                document.append_element(element)?;
-            }
-            assert!(rt; document.as_bytes() == NUMBER);
-        }
+    let empty = RawDocument::from_bytes(EMPTY)?;
+    for item in RawDocument::from_bytes(NUMBER)?.iter_elements(rt.alloc()) {
+        assert!(rt; has_element_appended(empty.to_raw_document_buf(rt.alloc()), item));
     }
     Ok(())
 }
@@ -148,50 +167,68 @@ fn is_refused(answer: &Result<()>, document: &RawDocumentBuf) -> bool {
     }
 }
 
+/// Whether a 0 in the key is refused, be the value owned or borrowed.
+fn is_nul_refused(document: &mut RawDocumentBuf) -> bool {
+    let owned = document.append("a\0b", RawBson::Null);
+    let is_owned_refused = is_refused(&owned, document);
+    let borrowed = document.append_ref("a\0b", RawBsonRef::Null);
+    is_owned_refused && is_refused(&borrowed, document)
+}
+
+/// The same of the buffer of the empty document, if there is memory for it.
+fn has_nul_refused(buffer: Result<RawDocumentBuf>) -> bool {
+    match buffer {
+        Ok(mut document) => document.as_bytes() == EMPTY && is_nul_refused(&mut document),
+        Err(error) => is_want_of_memory(&error),
+    }
+}
+
 /// A 0 is refused before memory is asked for.
 #[test]
 fn interior_nul_or_want_of_memory(rt: HostRuntime) -> std::result::Result<(), Fail> {
-    if let Some(mut document) = buffer(&rt, rt.alloc(), EMPTY)? {
-        let answer = document.append("a\0b", RawBson::Null);
-        assert!(rt; is_refused(&answer, &document));
-        let answer = document.append_ref("a\0b", RawBsonRef::Null);
-        assert!(rt; is_refused(&answer, &document));
-    }
+    let empty = RawDocument::from_bytes(EMPTY)?;
+    assert!(rt; has_nul_refused(empty.to_raw_document_buf(rt.alloc())));
     Ok(())
 }
 
 /// Whether a null is pushed, at once or, where memory was wanted and nothing changed, when it is pushed again.
 fn is_null_pushed(array: &mut RawArrayBuf, before: &[u8], after: &[u8]) -> bool {
-    let is_pushed = match array.push(RawBson::Null) {
-        Ok(()) => true,
-        Err(error) => {
-            is_want_of_memory(&error)
-                && array.as_bytes() == before
-                && array.push(RawBson::Null).is_ok()
+    let answer = array.push(RawBson::Null);
+    is_appended(&answer, array.as_bytes(), before, after)
+        && (answer.is_ok() || (array.push(RawBson::Null).is_ok() && array.as_bytes() == after))
+}
+
+/// The same array with two more nulls pushed.
+const PUSHED_TWICE: &[u8] = b"\x0C\0\0\0\x0A\n2\0\x0A3\0\0";
+
+/// Whether two nulls are pushed, if there is memory for the array.
+fn are_nulls_pushed(array: Result<RawArrayBuf>) -> bool {
+    match array {
+        Ok(mut array) => {
+            is_null_pushed(
+                &mut array,
+                SWALLOWED_TERMINATOR,
+                SWALLOWED_TERMINATOR_PUSHED,
+            ) && is_null_pushed(&mut array, SWALLOWED_TERMINATOR_PUSHED, PUSHED_TWICE)
         }
-    };
-    is_pushed && array.as_bytes() == after
+        Err(error) => is_want_of_memory(&error),
+    }
 }
 
 /// The key of the next push shows that one that wanted memory left the count as it was.
 #[test]
 fn push_or_want_of_memory(rt: HostRuntime) -> std::result::Result<(), Fail> {
     let view = array_view(SWALLOWED_TERMINATOR)?;
-    let once = SWALLOWED_TERMINATOR_PUSHED;
-    let twice = b"\x0C\0\0\0\x0A\n2\0\x0A3\0\0";
-    if let Some(mut array) = answered(&rt, view.to_raw_array_buf(rt.alloc())) {
-        assert!(rt; is_null_pushed(&mut array, SWALLOWED_TERMINATOR, once));
-        assert!(rt; is_null_pushed(&mut array, once, twice));
-    }
+    assert!(rt; are_nulls_pushed(view.to_raw_array_buf(rt.alloc())));
     Ok(())
 }
 
 /// A document of three numbers.
 fn three_numbers(alloc: Global) -> Result<RawDocumentBuf> {
     let numbers = [
-        ("a", RawBson::from(-1_i32)),
-        ("b", RawBson::from(123_i32)),
-        ("c", RawBson::from(0_i32)),
+        ("a", RawBson::Int32(-1)),
+        ("b", RawBson::Int32(123)),
+        ("c", RawBson::Int32(0)),
     ];
     RawDocumentBuf::from_iter(alloc, numbers.into_iter())
 }
@@ -209,20 +246,27 @@ fn is_no_document(answer: Result<RawDocumentBuf>) -> bool {
     }
 }
 
+/// Whether the pair makes the document after its append, or memory was wanted.
+fn is_pair(alloc: Global, copy: Result<RawBson>, append: Append) -> bool {
+    match copy {
+        Ok(copy) => is_document(one_pair(alloc, append.1, copy), append.3),
+        Err(error) => is_want_of_memory(&error),
+    }
+}
+
 #[test]
 fn from_iter_or_want_of_memory(rt: HostRuntime) {
     assert!(rt; is_document(three_numbers(rt.alloc()), THREE_INT32));
     assert!(rt; is_no_document(one_pair(rt.alloc(), "a\0b", RawBson::Null)));
-    for (_, key, value, after) in [APPENDS[0], APPENDS[1]] {
-        if let Some(copy) = answered(&rt, value.to_raw_bson(rt.alloc())) {
-            assert!(rt; is_document(one_pair(rt.alloc(), key, copy), after));
-        }
+    for append in APPENDS.iter().take(2) {
+        let copy = append.2.to_raw_bson(rt.alloc());
+        assert!(rt; is_pair(rt.alloc(), copy, *append), "{append:?}");
     }
 }
 
 /// An array of two numbers.
 fn two_numbers(alloc: Global) -> Result<RawArrayBuf> {
-    let numbers = [RawBson::from(-1_i32), RawBson::from(123_i32)];
+    let numbers = [RawBson::Int32(-1), RawBson::Int32(123)];
     RawArrayBuf::from_iter(alloc, numbers.into_iter())
 }
 

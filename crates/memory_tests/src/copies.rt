@@ -1,4 +1,4 @@
-use crate::asserts::{answered, is_document, is_want_of_memory};
+use crate::asserts::{is_document, is_want_of_memory};
 use crate::kinds::has_memory;
 use raw_bson::{
     Binary, BinarySubtype, ElementType, NoMemory, RawArrayBuf, RawBinaryRef, RawBson, RawBsonRef,
@@ -50,16 +50,28 @@ fn is_array_cloned(array: &RawArrayBuf, bytes: &[u8]) -> bool {
     is_equal && array.as_bytes() == bytes
 }
 
+/// Whether the document has these bytes, and its clone is equal, if there is memory for the document.
+fn has_document_clone(document: raw_bson::Result<RawDocumentBuf>, bytes: &[u8]) -> bool {
+    match document {
+        Ok(document) => is_document_cloned(&document, bytes),
+        Err(error) => is_want_of_memory(&error),
+    }
+}
+
+/// The same of an array.
+fn has_array_clone(array: raw_bson::Result<RawArrayBuf>, bytes: &[u8]) -> bool {
+    match array {
+        Ok(array) => is_array_cloned(&array, bytes),
+        Err(error) => is_want_of_memory(&error),
+    }
+}
+
 #[test]
 fn clones_of_buffers_or_want_of_memory(rt: HostRuntime) -> Result<(), Fail> {
     let view = RawDocument::from_bytes(GREETING)?;
-    if let Some(document) = answered(&rt, view.to_raw_document_buf(rt.alloc())) {
-        assert!(rt; is_document_cloned(&document, GREETING));
-    }
+    assert!(rt; has_document_clone(view.to_raw_document_buf(rt.alloc()), GREETING));
     let view = array_view(SWALLOWED_TERMINATOR)?;
-    if let Some(array) = answered(&rt, view.to_raw_array_buf(rt.alloc())) {
-        assert!(rt; is_array_cloned(&array, SWALLOWED_TERMINATOR));
-    }
+    assert!(rt; has_array_clone(view.to_raw_array_buf(rt.alloc()), SWALLOWED_TERMINATOR));
     Ok(())
 }
 
@@ -73,13 +85,26 @@ fn is_value_cloned(value: &RawBson, want: RawBsonRef<'_>, kind: ElementType) -> 
     is_equal && value.as_raw_bson_ref() == want
 }
 
+/// The same of an owned value, if there is memory for it.
+fn has_value_clone(
+    value: raw_bson::Result<RawBson>,
+    want: RawBsonRef<'_>,
+    kind: ElementType,
+) -> bool {
+    match value {
+        Ok(value) => is_value_cloned(&value, want, kind),
+        Err(error) => is_want_of_memory(&error),
+    }
+}
+
 #[test]
 fn clones_of_values_or_want_of_memory(rt: HostRuntime) -> Result<(), Fail> {
-    for &(_, kind) in KINDS.iter() {
-        let want = borrowed(kind)?;
-        if let Some(value) = answered(&rt, want.to_raw_bson(rt.alloc())) {
-            assert!(rt; is_value_cloned(&value, want, kind));
-        }
+    for (key, kind) in KINDS.iter() {
+        let want = borrowed(*kind)?;
+        assert!(rt;
+            has_value_clone(want.to_raw_bson(rt.alloc()), want, *kind),
+            "{key}"
+        );
     }
     Ok(())
 }
@@ -94,15 +119,20 @@ fn is_code_cloned(code: &RawJavaScriptCodeWithScope, text: &str, scope: &[u8]) -
     is_equal && code.code.as_str() == text && code.scope.as_bytes() == scope
 }
 
+/// Whether the code with this scope is cloned, if there is memory for the scope.
+fn has_code_clone(code: String, scope: raw_bson::Result<RawDocumentBuf>, bytes: &[u8]) -> bool {
+    match scope {
+        Ok(scope) => is_code_cloned(&RawJavaScriptCodeWithScope { code, scope }, "g", bytes),
+        Err(error) => is_want_of_memory(&error),
+    }
+}
+
 #[test]
 fn clone_of_code_with_scope_or_want_of_memory(rt: HostRuntime) -> Result<(), Fail> {
-    let Ok(text) = String::from_str(rt.alloc(), "g") else {
-        return Ok(());
-    };
     let view = RawDocument::from_bytes(NULL_DOCUMENT)?;
-    if let Some(scope) = answered(&rt, view.to_raw_document_buf(rt.alloc())) {
-        let code = RawJavaScriptCodeWithScope { code: text, scope };
-        assert!(rt; is_code_cloned(&code, "g", NULL_DOCUMENT));
+    if let Ok(code) = String::from_str(rt.alloc(), "g") {
+        let scope = view.to_raw_document_buf(rt.alloc());
+        assert!(rt; has_code_clone(code, scope, NULL_DOCUMENT));
     }
     Ok(())
 }
@@ -119,14 +149,26 @@ fn is_pushed(array: &mut RawArrayBuf, before: &[u8], after: &[u8]) -> bool {
     array.as_bytes() == before && (array.push(RawBson::Null).is_err() || array.as_bytes() == after)
 }
 
+/// The same of a copied array, if there is memory for it.
+fn is_copy_pushed(array: raw_bson::Result<RawArrayBuf>, before: &[u8], after: &[u8]) -> bool {
+    match array {
+        Ok(mut array) => is_pushed(&mut array, before, after),
+        Err(error) => is_want_of_memory(&error),
+    }
+}
+
 /// Counting takes memory for the key of a stop alone: the next key is the number of items.
 #[test]
 fn to_raw_array_buf_or_want_of_memory(rt: HostRuntime) -> Result<(), Fail> {
     let view = array_view(SWALLOWED_TERMINATOR)?;
-    if let Some(mut copy) = answered(&rt, view.to_raw_array_buf(rt.alloc())) {
-        let after = SWALLOWED_TERMINATOR_PUSHED;
-        assert!(rt; is_pushed(&mut copy, SWALLOWED_TERMINATOR, after));
-    }
+    let after = SWALLOWED_TERMINATOR_PUSHED;
+    assert!(rt;
+        is_copy_pushed(
+            view.to_raw_array_buf(rt.alloc()),
+            SWALLOWED_TERMINATOR,
+            after
+        )
+    );
     Ok(())
 }
 
@@ -138,21 +180,27 @@ fn is_copy(answer: raw_bson::Result<RawBson>, want: RawBsonRef<'_>, kind: Elemen
     }
 }
 
+/// Whether the value of this kind and its element are copied.
+fn is_kind_copied(
+    alloc: Global,
+    kind: ElementType,
+    item: raw_bson::Result<RawElement<'_>>,
+) -> bool {
+    let (Ok(want), Ok(element)) = (borrowed(kind), item) else {
+        return false;
+    };
+    is_copy(want.to_raw_bson(alloc), want, kind) && is_copy(element.to_raw_bson(alloc), want, kind)
+}
+
 #[test]
 fn to_raw_bson_or_want_of_memory(rt: HostRuntime) -> Result<(), Fail> {
-    let mut elements = RawDocument::from_bytes(ALL_KINDS)?.iter_elements(rt.alloc());
-    for &(key, kind) in KINDS.iter() {
-        let want = borrowed(kind)?;
-        let Some(Ok(element)) = elements.next() else {
-            assert!(rt; false, "{key}");
-            return Ok(());
-        };
-        assert!(rt; is_copy(want.to_raw_bson(rt.alloc()), want, kind), "{key}");
-        assert!(rt;
-            is_copy(element.to_raw_bson(rt.alloc()), want, kind),
-            "{key}"
-        );
+    let elements = RawDocument::from_bytes(ALL_KINDS)?.iter_elements(rt.alloc());
+    let mut count: usize = 0;
+    for (item, (key, kind)) in elements.zip(KINDS.iter()) {
+        assert!(rt; is_kind_copied(rt.alloc(), *kind, item), "{key}");
+        count = count.wrapping_add(1);
     }
+    assert_eq!(rt; count, KINDS.len());
     Ok(())
 }
 

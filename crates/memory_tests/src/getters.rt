@@ -1,42 +1,30 @@
-use raw_bson::{ElementType, RawDocument};
-use std::alloc::Global;
+use raw_bson::ElementType;
 use std::test::Fail;
 use test_fixtures::*;
 
-/// Whether the getters of this kind have its value, which stands under this key and at this index.
-fn is_got(alloc: Global, kind: ElementType, key: &str, index: usize) -> raw_bson::Result<bool> {
-    let document = RawDocument::from_bytes(ALL_KINDS)?;
-    let array = array_view(ALL_KINDS)?;
+/// The getters of this kind have its value, which stands under this key and at this index.
+fn check_value(checks: Checks, kind: ElementType, key: &str, index: usize) -> Result<(), Fail> {
     let value = borrowed(kind)?;
-    Ok(
-        get_of_document(document, alloc, kind, key) == Ok(value)
-            && get_of_array(array, alloc, kind, index) == Ok(value),
-    )
-}
-
-/// Of a null, where nothing is, and of a boolean of the byte 2 the getter of this kind has no value.
-fn check_document(checks: Checks, alloc: Global, kind: ElementType) -> Result<(), Fail> {
-    for (bytes, key, want) in [
-        (ALL_KINDS, "j", NoValue::Unexpected(kind, ElementType::Null)),
-        (ALL_KINDS, "x", NoValue::NotPresent),
-        (BOOLEAN_TWO, "a", NoValue::Invalid(TWO_AT_A)),
-    ] {
-        let document = RawDocument::from_bytes(bytes)?;
-        checks.no_value(get_of_document(document, alloc, kind, key), want, key)?;
-    }
+    checks.typed_under(ALL_KINDS, kind, key, value)?;
+    checks.typed_at(ALL_KINDS, kind, index, key, value)?;
     Ok(())
 }
 
-/// The same of arrays.
-fn check_array(checks: Checks, alloc: Global, kind: ElementType) -> Result<(), Fail> {
-    let unexpected = NoValue::Unexpected(kind, ElementType::Null);
-    for (bytes, index, key, want) in [
-        (ALL_KINDS, 9, "9", unexpected),
-        (ALL_KINDS, 21, "21", NoValue::NotPresent),
-        (BOOLEAN_TWO, 0, "0", NoValue::Invalid(TWO_AT_A)),
+/// Of a null, where nothing is, and of a boolean of the byte 2 the getters of this kind have no value.
+fn check_no_value(checks: Checks, kind: ElementType) -> Result<(), Mismatch> {
+    for (bytes, key, index, place, want) in [
+        (
+            ALL_KINDS,
+            "j",
+            9,
+            "9",
+            NoValue::Unexpected(kind, ElementType::Null),
+        ),
+        (ALL_KINDS, "x", 21, "21", NoValue::NotPresent),
+        (BOOLEAN_TWO, "a", 0, "0", NoValue::Invalid(TWO_AT_A)),
     ] {
-        let array = array_view(bytes)?;
-        checks.no_value(get_of_array(array, alloc, kind, index), want, key)?;
+        checks.none_under(bytes, kind, key, want)?;
+        checks.none_at(bytes, kind, index, place, want)?;
     }
     Ok(())
 }
@@ -45,27 +33,43 @@ fn check_array(checks: Checks, alloc: Global, kind: ElementType) -> Result<(), F
 #[test]
 fn getters_or_want_of_memory(rt: HostRuntime) -> Result<(), Fail> {
     let checks = Checks::refusable(rt.alloc());
-    for (index, &(key, kind)) in KINDS.iter().enumerate() {
-        if has_getter(kind) {
-            assert!(rt; is_got(rt.alloc(), kind, key, index)?, "{key}");
-            check_document(checks, rt.alloc(), kind)?;
-            check_array(checks, rt.alloc(), kind)?;
+    for (index, (key, kind)) in KINDS.iter().enumerate() {
+        if has_getter(*kind) {
+            check_value(checks, *kind, key, index)?;
+            check_no_value(checks, *kind)?;
         }
     }
     Ok(())
 }
 
-/// A getter that finds another kind, nothing, or a fault whose key stands again behind it.
+/// Documents, each with a kind that is asked for under a key, and why there is no value: another kind, nothing, or a
+/// fault whose key stands again behind it.
+const NONE: &[(&[u8], ElementType, &str, NoValue<'static>)] = &[
+    (
+        BOOL_AND_INT32,
+        ElementType::Int32,
+        "bool",
+        NoValue::Unexpected(ElementType::Int32, ElementType::Boolean),
+    ),
+    (
+        BOOL_AND_INT32,
+        ElementType::Int32,
+        "unknown",
+        NoValue::NotPresent,
+    ),
+    (
+        FAULT_UNDER_A_LATER_GOOD_KEY,
+        ElementType::Boolean,
+        "a",
+        NoValue::Invalid(TWO_AT_A),
+    ),
+];
+
 #[test]
 fn typed_look_ups_or_want_of_memory(rt: HostRuntime) -> Result<(), Fail> {
     let checks = Checks::refusable(rt.alloc());
-    let numbers = RawDocument::from_bytes(BOOL_AND_INT32)?;
-    let unexpected = NoValue::Unexpected(ElementType::Int32, ElementType::Boolean);
-    checks.no_value(numbers.get_i32(rt.alloc(), "bool"), unexpected, "bool")?;
-    let unknown = numbers.get_i32(rt.alloc(), "unknown");
-    checks.no_value(unknown, NoValue::NotPresent, "unknown")?;
-    let fault = RawDocument::from_bytes(FAULT_UNDER_A_LATER_GOOD_KEY)?;
-    let invalid = NoValue::Invalid(TWO_AT_A);
-    checks.no_value(fault.get_bool(rt.alloc(), "a"), invalid, "a")?;
+    for (bytes, asked, key, want) in NONE {
+        checks.none_under(bytes, *asked, key, *want)?;
+    }
     Ok(())
 }

@@ -1,4 +1,4 @@
-//! Tests of `raw_view`, `raw_tree` and `raw_bson` that `bin/test` runs with each request for memory refused in turn,
+//! Tests of `bson_model`, `raw_view`, `raw_tree` and `raw_bson` that `bin/test` runs with each request for memory refused in turn,
 //! alone: each call answers what it answers with ample memory, or want of memory where it may. They stand apart,
 //! since each runs once for each request that it makes.
 #![tactic(auto)]
@@ -18,9 +18,13 @@ mod errors;
 #[cfg(test)]
 mod getters;
 #[cfg(test)]
+mod inserts;
+#[cfg(test)]
 mod kinds;
 #[cfg(test)]
 mod no_memory;
+#[cfg(test)]
+mod parts;
 #[cfg(test)]
 mod requests;
 #[cfg(test)]

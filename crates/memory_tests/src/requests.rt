@@ -1,7 +1,6 @@
-use crate::asserts::{answered, is_want_of_memory};
-use raw_bson::{RawBsonRef, RawDocumentBuf};
+use crate::asserts::is_want_of_memory;
+use raw_bson::{RawBsonRef, RawDocumentBuf, Result};
 use std::process::Abort;
-use std::test::Fail;
 use test_fixtures::*;
 
 // `bin/test` also counts the requests for memory of these.
@@ -9,29 +8,47 @@ use test_fixtures::*;
 /// What stands in the document of three int32.
 const NUMBERS: &[(&str, i32)] = &[("a", -1), ("b", 123), ("c", 0)];
 
+const LONG: &str = "a text that outgrows the room of a new buffer many times over";
+
+/// Whether a long text is appended, or memory was wanted.
+fn is_long_text_appended(answer: Result<RawDocumentBuf>) -> bool {
+    match answer {
+        Ok(mut document) => match document.append_ref("text", RawBsonRef::String(LONG)) {
+            Ok(()) => document.as_bytes().len() == 5 + 6 + 5 + LONG.len(),
+            Err(error) => is_want_of_memory(&error),
+        },
+        Err(error) => is_want_of_memory(&error),
+    }
+}
+
 /// One request for the new buffer, and one for all that is appended.
 #[test]
 fn an_append_asks_once(rt: HostRuntime) {
-    if let Some(mut document) = answered(&rt, RawDocumentBuf::new(rt.alloc())) {
-        let long = "a text that outgrows the room of a new buffer many times over";
-        match document.append_ref("text", RawBsonRef::String(long)) {
-            Ok(()) => assert_eq!(rt; document.as_bytes().len(), 5 + 6 + 5 + long.len()),
-            Err(error) => assert!(rt; is_want_of_memory(&error)),
-        }
+    assert!(rt; is_long_text_appended(RawDocumentBuf::new(rt.alloc())));
+}
+
+/// Appends the numbers to the empty document in this room.
+fn append_numbers(mut bytes: Vec<u8>) -> Result<RawDocumentBuf> {
+    bytes.extend_from_slice(EMPTY)?;
+    let mut document = RawDocumentBuf::from_bytes(bytes)?;
+    for (key, number) in NUMBERS {
+        document.append_ref(key, RawBsonRef::Int32(*number))?;
+    }
+    Ok(document)
+}
+
+/// Whether the numbers are appended where there is room for them.
+fn are_numbers_appended(room: Vec<u8>) -> bool {
+    match append_numbers(room) {
+        Ok(document) => document.as_bytes() == THREE_INT32,
+        Err(_) => false,
     }
 }
 
 /// One request for the room, and none for what is appended where there is room.
 #[test]
-fn an_append_with_room_asks_for_nothing(rt: HostRuntime) -> Result<(), Fail> {
-    let Ok(mut bytes) = Vec::with_capacity(rt.alloc(), THREE_INT32.len()) else {
-        return Ok(());
-    };
-    bytes.extend_from_slice(EMPTY)?;
-    let mut document = RawDocumentBuf::from_bytes(bytes)?;
-    for (key, number) in NUMBERS.iter() {
-        document.append_ref(key, RawBsonRef::Int32(*number))?;
+fn an_append_with_room_asks_for_nothing(rt: HostRuntime) {
+    if let Ok(room) = Vec::with_capacity(rt.alloc(), THREE_INT32.len()) {
+        assert!(rt; are_numbers_appended(room));
     }
-    assert!(rt; document.as_bytes() == THREE_INT32);
-    Ok(())
 }

@@ -1,6 +1,7 @@
-use crate::asserts::{answered, is_document, is_list, is_want_of_memory};
+use crate::asserts::{is_document, is_list, is_want_of_memory};
+use crate::parts::{is_one_null, is_part};
 use raw_bson::{
-    Bson, Document, Error, Limits, RawBson, RawBsonRef, RawDocument, RawDocumentBuf,
+    Bson, Document, Error, Limits, RawBson, RawBsonRef, RawDocument, RawDocumentBuf, RawElement,
     ToRawDocumentBuf, bson_from_element, bson_from_raw, canonical_bytes, document_from_raw,
     document_from_raw_within, encode, list_from_raw,
 };
@@ -30,32 +31,19 @@ const OTHER_SPELLING: &[u8] = b"\x3D\0\0\0\
 \x0Fc\0\x0F\0\0\0\x02\0\0\0g\0\x05\0\0\0\0\
 \0";
 
-/// Whether this is the value under this key.
-fn is_part(key: &str, value: &Bson) -> bool {
-    match value {
-        Bson::Document(x) => key == "d" && x.len() == 1 && x.get("") == Some(&Bson::Null),
-        Bson::Array(x) => key == "l" && x.as_slice() == [Bson::Null].as_slice(),
-        Bson::String(x) => key == "t" && x.as_str() == "s",
-        Bson::RegularExpression(x) => {
-            key == "r" && x.pattern.as_str() == "p" && x.options.as_str() == "im"
-        }
-        Bson::JavaScriptCodeWithScope(x) => {
-            key == "c" && x.code.as_str() == "g" && x.scope.is_empty()
-        }
-        _ => false,
+/// Whether the tree has this part at this place.
+fn has_part(tree: &Document, index: usize, wanted: &str) -> bool {
+    match tree.pair_at(index) {
+        Some((key, value)) => key == wanted && is_part(key, value),
+        None => false,
     }
 }
 
 /// Whether the tree has these parts in this order.
 fn has_parts(tree: &Document) -> bool {
-    for (index, wanted) in ["d", "l", "t", "r", "c"].into_iter().enumerate() {
-        match tree.pair_at(index) {
-            Some((key, value)) => {
-                if key != wanted || !is_part(key, value) {
-                    return false;
-                }
-            }
-            None => return false,
+    for (index, wanted) in ["d", "l", "t", "r", "c"].iter().enumerate() {
+        if !has_part(tree, index, wanted) {
+            return false;
         }
     }
     tree.len() == 5
@@ -69,15 +57,23 @@ fn is_tree(answer: raw_bson::Result<Document>) -> bool {
     }
 }
 
+/// Whether the buffer has these parts whatever is made of it, or memory was wanted for it.
+fn has_trees(answer: raw_bson::Result<RawDocumentBuf>) -> bool {
+    match answer {
+        Ok(buffer) => {
+            is_tree(buffer.to_document())
+                && buffer.as_bytes() == OTHER_SPELLING
+                && is_tree(buffer.into_document())
+        }
+        Err(error) => is_want_of_memory(&error),
+    }
+}
+
 #[test]
 fn trees_of_documents_or_want_of_memory(rt: HostRuntime) -> Result<(), Fail> {
     let view = RawDocument::from_bytes(OTHER_SPELLING)?;
     assert!(rt; is_tree(document_from_raw(rt.alloc(), view)));
-    if let Some(buffer) = answered(&rt, view.to_raw_document_buf(rt.alloc())) {
-        assert!(rt; is_tree(buffer.to_document()));
-        assert!(rt; buffer.as_bytes() == OTHER_SPELLING);
-        assert!(rt; is_tree(buffer.into_document()));
-    }
+    assert!(rt; has_trees(view.to_raw_document_buf(rt.alloc())));
     Ok(())
 }
 
@@ -87,14 +83,21 @@ const LIMITS: Limits = Limits {
     depth: 2,
 };
 
+/// Whether the buffer has these parts within the limits, or memory was wanted for it.
+fn has_tree_within(answer: raw_bson::Result<RawDocumentBuf>) -> bool {
+    match answer {
+        Ok(buffer) => {
+            is_tree(buffer.to_document_within(LIMITS)) && buffer.as_bytes() == OTHER_SPELLING
+        }
+        Err(error) => is_want_of_memory(&error),
+    }
+}
+
 #[test]
 fn trees_within_limits_or_want_of_memory(rt: HostRuntime) -> Result<(), Fail> {
     let view = RawDocument::from_bytes(OTHER_SPELLING)?;
     assert!(rt; is_tree(document_from_raw_within(rt.alloc(), view, LIMITS)));
-    if let Some(buffer) = answered(&rt, view.to_raw_document_buf(rt.alloc())) {
-        assert!(rt; is_tree(buffer.to_document_within(LIMITS)));
-        assert!(rt; buffer.as_bytes() == OTHER_SPELLING);
-    }
+    assert!(rt; has_tree_within(view.to_raw_document_buf(rt.alloc())));
     Ok(())
 }
 
@@ -109,22 +112,34 @@ fn is_part_answered(key: &str, answer: raw_bson::Result<Bson>) -> bool {
 /// Whether the answer is a list of one null, or want of memory.
 fn is_null_list(answer: raw_bson::Result<Vec<Bson>>) -> bool {
     match answer {
-        Ok(list) => list.as_slice() == [Bson::Null].as_slice(),
+        Ok(list) => is_one_null(&list),
         Err(error) => is_want_of_memory(&error),
+    }
+}
+
+/// Whether the value under this key becomes a tree, and where it is an array, a list.
+fn is_value_read(alloc: Global, key: &str, value: RawBsonRef<'_>) -> bool {
+    let is_part = is_part_answered(key, bson_from_raw(alloc, value));
+    match value {
+        RawBsonRef::Array(array) => is_part && is_null_list(list_from_raw(alloc, array)),
+        _ => is_part,
+    }
+}
+
+/// Whether the element, and its value, become the tree under its key.
+fn is_element_read(alloc: Global, item: raw_bson::Result<RawElement<'_>>) -> bool {
+    let Ok(element) = item else { return false };
+    let is_read = is_part_answered(element.key(), bson_from_element(alloc, element));
+    match element.value(alloc) {
+        Ok(value) => is_read && is_value_read(alloc, element.key(), value),
+        Err(_) => false,
     }
 }
 
 #[test]
 fn trees_of_values_or_want_of_memory(rt: HostRuntime) -> Result<(), Fail> {
-    for element in RawDocument::from_bytes(OTHER_SPELLING)?.iter_elements(rt.alloc()) {
-        let element = element?;
-        let key = element.key();
-        assert!(rt; is_part_answered(key, bson_from_element(rt.alloc(), element)));
-        let value = element.value(rt.alloc())?;
-        assert!(rt; is_part_answered(key, bson_from_raw(rt.alloc(), value)));
-        if let RawBsonRef::Array(array) = value {
-            assert!(rt; is_null_list(list_from_raw(rt.alloc(), array)));
-        }
+    for item in RawDocument::from_bytes(OTHER_SPELLING)?.iter_elements(rt.alloc()) {
+        assert!(rt; is_element_read(rt.alloc(), item));
     }
     Ok(())
 }
@@ -136,13 +151,19 @@ fn is_written(alloc: Global, tree: &Document) -> bool {
         && has_parts(tree)
 }
 
+/// Whether the tree is written, or memory was wanted for it.
+fn is_tree_written(alloc: Global, answer: raw_bson::Result<Document>) -> bool {
+    match answer {
+        Ok(tree) => is_written(alloc, &tree),
+        Err(error) => is_want_of_memory(&error),
+    }
+}
+
 #[test]
 fn bytes_of_trees_or_want_of_memory(rt: HostRuntime) -> Result<(), Fail> {
     assert!(rt; is_list(canonical_bytes(rt.alloc(), OTHER_SPELLING), PARTS));
     let view = RawDocument::from_bytes(PARTS)?;
-    if let Some(tree) = answered(&rt, document_from_raw(rt.alloc(), view)) {
-        assert!(rt; is_written(rt.alloc(), &tree));
-    }
+    assert!(rt; is_tree_written(rt.alloc(), document_from_raw(rt.alloc(), view)));
     Ok(())
 }
 
@@ -167,15 +188,22 @@ fn goes_and_comes_back(alloc: Global, key: &str, tree: Bson, value: RawBsonRef<'
     }
 }
 
+/// Whether the tree of this element goes to its value and back, or memory was wanted for it.
+fn is_element_owned(alloc: Global, item: raw_bson::Result<RawElement<'_>>) -> bool {
+    let Ok(element) = item else { return false };
+    let Ok(value) = element.value(alloc) else {
+        return false;
+    };
+    match bson_from_element(alloc, element) {
+        Ok(tree) => goes_and_comes_back(alloc, element.key(), tree, value),
+        Err(error) => is_want_of_memory(&error),
+    }
+}
+
 #[test]
 fn owned_values_or_want_of_memory(rt: HostRuntime) -> Result<(), Fail> {
-    for element in RawDocument::from_bytes(PARTS)?.iter_elements(rt.alloc()) {
-        let element = element?;
-        let key = element.key();
-        let value = element.value(rt.alloc())?;
-        if let Some(tree) = answered(&rt, bson_from_element(rt.alloc(), element)) {
-            assert!(rt; goes_and_comes_back(rt.alloc(), key, tree, value));
-        }
+    for item in RawDocument::from_bytes(PARTS)?.iter_elements(rt.alloc()) {
+        assert!(rt; is_element_owned(rt.alloc(), item));
     }
     Ok(())
 }
@@ -191,48 +219,71 @@ const FORMS: &[(&[u8], &[u8])] = &[
     (OPTIONS_OUT_OF_ORDER, b"\x0D\0\0\0\x0Br\0a\0im\0\0"),
 ];
 
+/// Whether just this form was written.
+fn is_written_as(written: raw_bson::Result<Vec<u8>>, form: &[u8]) -> bool {
+    match written {
+        Ok(written) => written.as_slice() == form,
+        Err(_) => false,
+    }
+}
+
 /// Whether the tree is written as the form; where memory is wanted, it is so when it is written again.
 fn has_form(alloc: Global, tree: &Document, form: &[u8]) -> bool {
     match encode(alloc, tree) {
         Ok(written) => written.as_slice() == form,
-        Err(error) => {
-            is_want_of_memory(&error)
-                && encode(alloc, tree).is_ok_and(|written| written.as_slice() == form)
-        }
+        Err(error) => is_want_of_memory(&error) && is_written_as(encode(alloc, tree), form),
     }
 }
 
-/// Whether the buffer becomes a tree with the form, or memory is wanted; and the buffer has its bytes.
-fn becomes(alloc: Global, buffer: &RawDocumentBuf, bytes: &[u8], form: &[u8]) -> bool {
-    let is_tree = match buffer.to_document() {
+/// Whether the buffer becomes a tree with the form, or memory is wanted.
+fn becomes_form(buffer: &RawDocumentBuf, alloc: Global, form: &[u8]) -> bool {
+    match buffer.to_document() {
         Ok(tree) => has_form(alloc, &tree, form),
         Err(error) => is_want_of_memory(&error),
-    };
-    is_tree && buffer.as_bytes() == bytes
+    }
 }
 
-/// By way of a buffer and a tree the bytes become the form, or memory is wanted.
-fn assert_becomes(rt: &impl Abort, alloc: Global, bytes: &[u8], form: &[u8]) -> Result<(), Fail> {
-    let view = RawDocument::from_bytes(bytes)?;
-    if let Some(buffer) = answered(rt, view.to_raw_document_buf(alloc)) {
-        assert!(rt; becomes(alloc, &buffer, bytes, form), "{bytes:?}");
+/// Whether the buffer becomes a tree with the form and has its bytes, or memory was wanted for it.
+fn becomes(
+    alloc: Global,
+    answer: raw_bson::Result<RawDocumentBuf>,
+    bytes: &[u8],
+    form: &[u8],
+) -> bool {
+    match answer {
+        Ok(buffer) => becomes_form(&buffer, alloc, form) && buffer.as_bytes() == bytes,
+        Err(error) => is_want_of_memory(&error),
     }
-    Ok(())
+}
+
+/// Whether by way of a buffer and a tree the bytes become the form, or memory is wanted.
+fn have_form(alloc: Global, bytes: &[u8], form: &[u8]) -> bool {
+    match RawDocument::from_bytes(bytes) {
+        Ok(view) => becomes(alloc, view.to_raw_document_buf(alloc), bytes, form),
+        Err(_) => false,
+    }
 }
 
 #[test]
-fn forms_or_want_of_memory(rt: HostRuntime) -> Result<(), Fail> {
+fn forms_or_want_of_memory(rt: HostRuntime) {
     for (bytes, form) in FORMS {
-        assert_becomes(&rt, rt.alloc(), bytes, form)?;
-        assert!(rt; is_list(canonical_bytes(rt.alloc(), bytes), form));
+        assert!(rt; have_form(rt.alloc(), bytes, form), "{bytes:?}");
+        assert!(rt;
+            is_list(canonical_bytes(rt.alloc(), bytes), form),
+            "{bytes:?}"
+        );
     }
-    Ok(())
+}
+
+/// Whether so many levels are their own form, or memory was wanted for them.
+fn are_levels_form(alloc: Global, levels: usize) -> bool {
+    match nested(alloc, Holder::Document, levels, EMPTY) {
+        Ok(bytes) => have_form(alloc, &bytes, &bytes),
+        Err(_) => true,
+    }
 }
 
 #[test]
-fn form_of_five_hundred_levels_or_want_of_memory(rt: HostRuntime) -> Result<(), Fail> {
-    match nested(rt.alloc(), Holder::Document, 499, EMPTY) {
-        Ok(bytes) => assert_becomes(&rt, rt.alloc(), &bytes, &bytes),
-        Err(_) => Ok(()),
-    }
+fn form_of_five_hundred_levels_or_want_of_memory(rt: HostRuntime) {
+    assert!(rt; are_levels_form(rt.alloc(), 499));
 }

@@ -1,4 +1,4 @@
-use raw_bson::{ElementType, RawBsonRef, RawDocument};
+use raw_bson::{ElementType, RawBsonRef};
 use std::test::Fail;
 use test_fixtures::*;
 
@@ -25,7 +25,7 @@ fn iteration_or_want_of_memory(rt: HostRuntime) -> Result<(), Fail> {
         ),
     ];
     for (bytes, items) in rows.iter() {
-        checks.items(RawDocument::from_bytes(bytes)?, items)?;
+        checks.iteration(bytes, items)?;
     }
     Ok(())
 }
@@ -35,7 +35,7 @@ fn iteration_or_want_of_memory(rt: HostRuntime) -> Result<(), Fail> {
 fn boolean_two_or_want_of_memory(rt: HostRuntime) -> Result<(), Fail> {
     let checks = Checks::refusable(rt.alloc());
     let items = [("", Want::Fault(TWO_AT_A))];
-    checks.items(RawDocument::from_bytes(BOOLEAN_TWO)?, items.as_slice())?;
+    checks.iteration(BOOLEAN_TWO, items.as_slice())?;
     Ok(())
 }
 
@@ -58,7 +58,7 @@ const ELEMENTS: [(&[u8], &[(ElementType, &str, usize)], Want<'static>); 4] = [
 fn elements_or_want_of_memory(rt: HostRuntime) -> Result<(), Fail> {
     let checks = Checks::refusable(rt.alloc());
     for (bytes, elements, stop) in ELEMENTS.iter() {
-        checks.elements(RawDocument::from_bytes(bytes)?, elements, *stop)?;
+        checks.framed(bytes, elements, *stop)?;
     }
     Ok(())
 }
@@ -91,8 +91,7 @@ const LOOK_UPS: [(&[u8], &str, Want<'static>); 15] = [
 fn look_ups_or_want_of_memory(rt: HostRuntime) -> Result<(), Fail> {
     let checks = Checks::refusable(rt.alloc());
     for (bytes, key, want) in LOOK_UPS.iter() {
-        let answer = RawDocument::from_bytes(bytes)?.get(rt.alloc(), key);
-        checks.answer(answer, *want, bytes)?;
+        checks.look_up(bytes, key, *want)?;
     }
     Ok(())
 }
@@ -101,8 +100,7 @@ fn look_ups_or_want_of_memory(rt: HostRuntime) -> Result<(), Fail> {
 fn keys_or_want_of_memory(rt: HostRuntime) -> Result<(), Fail> {
     let checks = Checks::refusable(rt.alloc());
     for (bytes, key, want) in KEY_ANSWERS.iter() {
-        let answer = RawDocument::from_bytes(bytes)?.contains_key(rt.alloc(), key);
-        checks.has_key(answer, *want, bytes)?;
+        checks.key(bytes, key, *want)?;
     }
     Ok(())
 }
@@ -117,8 +115,8 @@ const FIRST_VALUES: [(&[u8], Want<'static>); 3] = [
 #[test]
 fn values_or_want_of_memory(rt: HostRuntime) -> Result<(), Fail> {
     let checks = Checks::refusable(rt.alloc());
-    for (bytes, want) in FIRST_VALUES {
-        checks.first_value(RawDocument::from_bytes(bytes)?, want)?;
+    for (bytes, want) in FIRST_VALUES.iter() {
+        checks.first(bytes, *want)?;
     }
     Ok(())
 }

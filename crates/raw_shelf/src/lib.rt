@@ -7,6 +7,3 @@ mod shelf;
 
 pub use put_error::PutError;
 pub use shelf::Shelf;
-
-#[cfg(test)]
-mod tests;

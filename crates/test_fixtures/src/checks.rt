@@ -1,7 +1,7 @@
 use crate::faults::Fault;
 use raw_view::{
-    ElementType, Error, ErrorKind, RawArray, RawBsonRef, RawDocument, ValueAccessError,
-    ValueAccessErrorKind, ValueAccessResult,
+    ElementType, Error, ErrorKind, RawBsonRef, ValueAccessError, ValueAccessErrorKind,
+    ValueAccessResult,
 };
 use std::alloc::Global;
 use std::fmt;
@@ -49,7 +49,7 @@ enum Memory {
 /// Checks of answers.
 #[derive(Clone, Copy)]
 pub struct Checks {
-    alloc: Global,
+    pub(crate) alloc: Global,
     memory: Memory,
 }
 
@@ -72,7 +72,7 @@ impl Checks {
     }
 
     /// Passes where the answer is the wanted one.
-    fn holds<F: Debug, W: Debug, P: Debug>(
+    pub(crate) fn holds<F: Debug, W: Debug, P: Debug>(
         self,
         is_wanted: bool,
         found: &F,
@@ -152,88 +152,6 @@ impl Checks {
             _ => false,
         };
         self.holds(is_wanted, &answer, &want, &bytes)
-    }
-
-    /// Iteration over the document yields just these keys and answers, and iteration over its array just these answers.
-    pub fn items(
-        self,
-        document: RawDocument<'_>,
-        items: &[(&str, Want<'_>)],
-    ) -> Result<(), Mismatch> {
-        let bytes = document.as_bytes();
-        let mut pairs = document.iter(self.alloc);
-        let mut values = RawArray::from_doc(document).iter(self.alloc);
-        for (key, want) in items {
-            let answer = match pairs.next() {
-                Some(Ok((found, value))) => {
-                    self.holds(found == *key, &found, key, &bytes)?;
-                    Ok(Some(value))
-                }
-                Some(Err(error)) => Err(error),
-                None => Ok(None),
-            };
-            self.answer(answer, *want, bytes)?;
-            let answer = match values.next() {
-                Some(Ok(value)) => Ok(Some(value)),
-                Some(Err(error)) => Err(error),
-                None => Ok(None),
-            };
-            self.answer(answer, *want, bytes)?;
-        }
-        for _ in 0..2 {
-            self.holds(pairs.next().is_none(), &"a pair", &"the end", &bytes)?;
-            self.holds(values.next().is_none(), &"a value", &"the end", &bytes)?;
-        }
-        Ok(())
-    }
-
-    /// The elements of the document have just these kinds, keys and lengths, and then comes this stop.
-    pub fn elements(
-        self,
-        document: RawDocument<'_>,
-        elements: &[(ElementType, &str, usize)],
-        stop: Want<'_>,
-    ) -> Result<(), Mismatch> {
-        let bytes = document.as_bytes();
-        let mut iter = document.iter_elements(self.alloc);
-        for want in elements {
-            let found = match iter.next() {
-                Some(Ok(element)) => {
-                    Some((element.element_type(), element.key(), element.len()))
-                }
-                _ => None,
-            };
-            self.holds(found == Some(*want), &found, want, &bytes)?;
-        }
-        let end = match iter.next() {
-            Some(Ok(_)) => Ok(Some(RawBsonRef::Undefined)),
-            Some(Err(error)) => Err(error),
-            None => Ok(None),
-        };
-        self.answer(end, stop, bytes)?;
-        self.holds(iter.next().is_none(), &"an element", &"the end", &bytes)
-    }
-
-    /// Both calls that read the value of the document's first element answer the wanted one.
-    pub fn first_value(self, document: RawDocument<'_>, want: Want<'_>) -> Result<(), Mismatch> {
-        let bytes = document.as_bytes();
-        let Some(Ok(element)) = document.iter_elements(self.alloc).next() else {
-            return self.holds(false, &"no element", &want, &bytes);
-        };
-        self.value(element.value(self.alloc), want, bytes)?;
-        self.value(element.try_into_ref(self.alloc), want, bytes)
-    }
-
-    fn value(
-        self,
-        answer: raw_view::Result<RawBsonRef<'_>>,
-        want: Want<'_>,
-        bytes: &[u8],
-    ) -> Result<(), Mismatch> {
-        match answer {
-            Ok(value) => self.answer(Ok(Some(value)), want, bytes),
-            Err(error) => self.answer(Err(error), want, bytes),
-        }
     }
 
     /// A typed getter has no value, for this cause and with this key; or it wants memory, and has the empty key.

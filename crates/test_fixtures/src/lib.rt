@@ -9,7 +9,9 @@ mod faults;
 mod getters;
 mod keys;
 mod levels;
+mod rows;
 mod values;
+mod walks;
 
 pub use checks::{Checks, Mismatch, NoValue, Want};
 pub use documents::{

@@ -71,46 +71,57 @@ pub fn array_view(bytes: &[u8]) -> Result<RawArray<'_>> {
 
 /// The value of this kind in the document of all kinds.
 pub fn borrowed(kind: ElementType) -> Result<RawBsonRef<'static>> {
-    Ok(match kind {
+    match kind {
+        ElementType::EmbeddedDocument => document_of(NULL_DOCUMENT),
+        ElementType::Array => array_of(NULL_ARRAY),
+        ElementType::JavaScriptCodeWithScope => code_with_scope("g", EMPTY),
+        _ => Ok(small(kind)),
+    }
+}
+
+fn document_of(bytes: &[u8]) -> Result<RawBsonRef<'_>> {
+    Ok(RawBsonRef::Document(RawDocument::from_bytes(bytes)?))
+}
+
+fn array_of(bytes: &[u8]) -> Result<RawBsonRef<'_>> {
+    Ok(RawBsonRef::Array(array_view(bytes)?))
+}
+
+fn code_with_scope<'a>(code: &'a str, bytes: &'a [u8]) -> Result<RawBsonRef<'a>> {
+    let scope = RawDocument::from_bytes(bytes)?;
+    Ok(RawBsonRef::JavaScriptCodeWithScope(RawJavaScriptCodeWithScopeRef { code, scope }))
+}
+
+const BINARY: RawBinaryRef<'static> = RawBinaryRef {
+    subtype: BinarySubtype::UserDefined(128),
+    bytes: b"\x01\x02",
+};
+
+const REGEX: RawRegexRef<'static> = RawRegexRef {
+    pattern: "a",
+    options: "i",
+};
+
+/// The same of the kinds that hold no document.
+fn small(kind: ElementType) -> RawBsonRef<'static> {
+    match kind {
         ElementType::Double => RawBsonRef::Double(HALF_MORE_THAN_ONE),
         ElementType::String => RawBsonRef::String("s"),
-        ElementType::EmbeddedDocument => {
-            RawBsonRef::Document(RawDocument::from_bytes(NULL_DOCUMENT)?)
-        }
-        ElementType::Array => RawBsonRef::Array(array_view(NULL_ARRAY)?),
-        ElementType::Binary => RawBsonRef::Binary(RawBinaryRef {
-            subtype: BinarySubtype::UserDefined(128),
-            bytes: b"\x01\x02",
-        }),
+        ElementType::Binary => RawBsonRef::Binary(BINARY),
         ElementType::Undefined => RawBsonRef::Undefined,
         ElementType::ObjectId => RawBsonRef::ObjectId(id()),
         ElementType::Boolean => RawBsonRef::Boolean(true),
         ElementType::DateTime => RawBsonRef::DateTime(DateTime::from_millis(-1)),
         ElementType::Null => RawBsonRef::Null,
-        ElementType::RegularExpression => RawBsonRef::RegularExpression(RawRegexRef {
-            pattern: "a",
-            options: "i",
-        }),
-        _ => rarer_borrowed(kind)?,
-    })
-}
-
-fn rarer_borrowed(kind: ElementType) -> Result<RawBsonRef<'static>> {
-    Ok(match kind {
+        ElementType::RegularExpression => RawBsonRef::RegularExpression(REGEX),
         ElementType::DbPointer => RawBsonRef::DbPointer(RawDbPointerRef::new("db.c", pointed())),
         ElementType::JavaScriptCode => RawBsonRef::JavaScriptCode("f"),
         ElementType::Symbol => RawBsonRef::Symbol("y"),
-        ElementType::JavaScriptCodeWithScope => {
-            RawBsonRef::JavaScriptCodeWithScope(RawJavaScriptCodeWithScopeRef {
-                code: "g",
-                scope: RawDocument::from_bytes(EMPTY)?,
-            })
-        }
         ElementType::Int32 => RawBsonRef::Int32(7),
         ElementType::Timestamp => RawBsonRef::Timestamp(MOMENT),
         ElementType::Int64 => RawBsonRef::Int64(-2),
         ElementType::Decimal128 => RawBsonRef::Decimal128(decimal()),
         ElementType::MaxKey => RawBsonRef::MaxKey,
         _ => RawBsonRef::MinKey,
-    })
+    }
 }

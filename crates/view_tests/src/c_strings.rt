@@ -1,7 +1,6 @@
 use raw_view::{ErrorKind, RawBsonRef, RawDocument, Result};
 use std::alloc::{AllocError, Global};
 use std::process::Abort;
-use std::test::Fail;
 
 /// Forty bytes of an element: a binary of 32 bytes under the key `b`.
 const FORTY: &[u8] = b"\x05b\0\x20\0\0\0\x80\
@@ -27,90 +26,129 @@ fn letters(
     Ok(text)
 }
 
-/// The document of these parts one behind the other.
-fn document_of(alloc: Global, parts: &[&[u8]]) -> std::result::Result<Vec<u8>, AllocError> {
-    let mut len: usize = 5;
-    for part in parts.iter() {
-        len = len.wrapping_add(part.len());
-    }
-    let mut bytes = Vec::from_slice(alloc, &len.to_le_bytes()[..4])?;
-    for part in parts.iter() {
+fn push_all(bytes: &mut Vec<u8>, parts: &[&[u8]]) -> std::result::Result<(), AllocError> {
+    for part in parts {
         bytes.extend_from_slice(part)?;
     }
-    bytes.extend_from_slice(b"\0")?;
+    Ok(())
+}
+
+/// How many bytes the document of these parts has.
+fn len_of(parts: &[&[u8]]) -> usize {
+    let mut len: usize = 5;
+    for part in parts {
+        len = len.wrapping_add(part.len());
+    }
+    len
+}
+
+/// The document of these parts one behind the other.
+fn document_of(alloc: Global, parts: &[&[u8]]) -> std::result::Result<Vec<u8>, AllocError> {
+    let header = len_of(parts).to_le_bytes();
+    let mut bytes = Vec::from_slice(alloc, &header[..4])?;
+    push_all(&mut bytes, parts)?;
+    push_all(&mut bytes, &[b"\0"])?;
     Ok(bytes)
 }
 
 /// Whether the error is of a text that isn't UTF-8, without a key.
-fn is_no_text<T>(item: &Result<T>) -> bool {
+fn is_no_text(item: &Result<(&str, RawBsonRef<'_>)>) -> bool {
     match item {
         Ok(_) => false,
-        Err(error) => match error.kind {
-            ErrorKind::Utf8EncodingError(_) => error.key().is_none(),
-            _ => false,
-        },
+        Err(error) => {
+            matches!(error.kind, ErrorKind::Utf8EncodingError(_)) && error.key().is_none()
+        }
+    }
+}
+
+/// The first item of the iteration, if these bytes are a document and it has one.
+fn first_item(alloc: Global, bytes: &[u8]) -> Option<Result<(&str, RawBsonRef<'_>)>> {
+    match RawDocument::from_bytes(bytes) {
+        Ok(document) => document.iter(alloc).next(),
+        Err(_) => None,
+    }
+}
+
+fn is_item(item: &Result<(&str, RawBsonRef<'_>)>, key: &str, value: RawBsonRef<'_>) -> bool {
+    match item {
+        Ok((found, there)) => *found == key && *there == value,
+        Err(_) => false,
     }
 }
 
 /// Whether the first key of the document is this one, with a null; or, where it isn't UTF-8, the fault that says so.
-fn has_key(alloc: Global, bytes: &[u8], key: &[u8]) -> std::result::Result<bool, Fail> {
-    let Some(item) = RawDocument::from_bytes(bytes)?.iter(alloc).next() else {
-        return Ok(false);
-    };
-    match std::str::from_utf8(key) {
-        Ok(key) => Ok(item == Ok((key, RawBsonRef::Null))),
-        Err(_) => Ok(is_no_text(&item)),
+fn has_key(alloc: Global, bytes: &[u8], key: &[u8]) -> bool {
+    match (first_item(alloc, bytes), std::str::from_utf8(key)) {
+        (Some(item), Ok(key)) => is_item(&item, key, RawBsonRef::Null),
+        (Some(item), Err(_)) => is_no_text(&item),
+        (None, _) => false,
     }
 }
 
 /// Whether the first value of the document is this text; or, where it isn't UTF-8, the fault that says so.
-fn has_text(alloc: Global, bytes: &[u8], text: &[u8]) -> std::result::Result<bool, Fail> {
-    let Some(item) = RawDocument::from_bytes(bytes)?.iter(alloc).next() else {
-        return Ok(false);
-    };
-    match std::str::from_utf8(text) {
-        Ok(text) => Ok(item == Ok(("", RawBsonRef::String(text)))),
-        Err(_) => Ok(is_no_text(&item)),
+fn has_text(alloc: Global, bytes: &[u8], text: &[u8]) -> bool {
+    match (first_item(alloc, bytes), std::str::from_utf8(text)) {
+        (Some(item), Ok(text)) => is_item(&item, "", RawBsonRef::String(text)),
+        (Some(item), Err(_)) => is_no_text(&item),
+        (None, _) => false,
+    }
+}
+
+/// Whether the document of these parts has this key.
+fn is_key_read(alloc: Global, parts: &[&[u8]], text: &[u8]) -> bool {
+    match document_of(alloc, parts) {
+        Ok(bytes) => has_key(alloc, &bytes, text),
+        Err(_) => false,
+    }
+}
+
+/// Whether the document of these parts has this text.
+fn is_text_read(alloc: Global, parts: &[&[u8]], text: &[u8]) -> bool {
+    match document_of(alloc, parts) {
+        Ok(bytes) => has_text(alloc, &bytes, text),
+        Err(_) => false,
     }
 }
 
 /// A null under the key, and a string of the same bytes, each as the last element and before forty bytes.
-fn assert_read(rt: &impl Abort, alloc: Global, text: &[u8]) -> std::result::Result<(), Fail> {
+fn is_read(alloc: Global, text: &[u8]) -> bool {
     let size = text.len().wrapping_add(1).to_le_bytes();
-    let null: &[&[u8]] = &[b"\x0A", text, b"\0"];
-    let string: &[&[u8]] = &[b"\x02\0", &size[..4], text, b"\0"];
-    assert!(rt; has_key(alloc, &document_of(alloc, null)?, text)?);
-    assert!(rt; has_text(alloc, &document_of(alloc, string)?, text)?);
-    let null: &[&[u8]] = &[b"\x0A", text, b"\0", FORTY];
-    let string: &[&[u8]] = &[b"\x02\0", &size[..4], text, b"\0", FORTY];
-    assert!(rt; has_key(alloc, &document_of(alloc, null)?, text)?);
-    assert!(rt; has_text(alloc, &document_of(alloc, string)?, text)?);
-    Ok(())
+    let size = &size[..4];
+    is_key_read(alloc, &[b"\x0A", text, b"\0"], text)
+        && is_text_read(alloc, &[b"\x02\0", size, text, b"\0"], text)
+        && is_key_read(alloc, &[b"\x0A", text, b"\0", FORTY], text)
+        && is_text_read(alloc, &[b"\x02\0", size, text, b"\0", FORTY], text)
+}
+
+/// Whether so many letters with these bytes at a place among them are read.
+fn are_letters_read(alloc: Global, count: usize, place: usize, insert: &[u8]) -> bool {
+    match letters(alloc, count, place, insert) {
+        Ok(text) => is_read(alloc, &text),
+        Err(_) => false,
+    }
 }
 
 /// Texts of so many letters, as they stand, and with each insert at each place.
-fn assert_all_read(rt: &impl Abort, alloc: Global, count: usize) -> std::result::Result<(), Fail> {
-    assert_read(rt, alloc, &letters(alloc, count, count, b"")?)?;
+fn assert_all_read(rt: &impl Abort, alloc: Global, count: usize) {
+    assert!(rt; are_letters_read(alloc, count, count, b""), "{count}");
     for insert in INSERTS.iter() {
         for place in 0..count {
-            assert_read(rt, alloc, &letters(alloc, count, place, insert)?)?;
+            let is_read = are_letters_read(alloc, count, place, insert);
+            assert!(rt; is_read, "{insert:?} at {place} of {count}");
         }
     }
-    Ok(())
 }
 
 #[test]
-fn short_keys_and_texts_are_read(rt: HostRuntime) -> std::result::Result<(), Fail> {
+fn short_keys_and_texts_are_read(rt: HostRuntime) {
     for count in 0..71 {
-        assert_all_read(&rt, rt.alloc(), count)?;
+        assert_all_read(&rt, rt.alloc(), count);
     }
-    Ok(())
 }
 
 #[test]
-fn long_keys_and_texts_are_read(rt: HostRuntime) -> std::result::Result<(), Fail> {
+fn long_keys_and_texts_are_read(rt: HostRuntime) {
     for count in 127..194 {
-        assert_all_read(&rt, rt.alloc(), count)?;
+        assert_all_read(&rt, rt.alloc(), count);
     }
-    Ok(())
 }

@@ -1,4 +1,4 @@
-use raw_view::{RawDocument, Reason};
+use raw_view::{ElementType, RawBsonRef, Reason};
 use std::test::Fail;
 use test_fixtures::{Checks, Fault, KEY_ANSWERS, Want};
 
@@ -7,8 +7,8 @@ const SEVEN_BYTES: &[u8] = b"\x13\0\0\0\x02hi\0\x07\0\0\0y'all\0\0";
 
 #[test]
 fn a_text_takes_the_final_0(rt: HostRuntime) -> Result<(), Fail> {
-    let text = RawDocument::from_bytes(SEVEN_BYTES)?.get_str(rt.alloc(), "hi")?;
-    assert_eq!(rt; text, "y'all\0");
+    let text = RawBsonRef::String("y'all\0");
+    Checks::ample(rt.alloc()).typed_under(SEVEN_BYTES, ElementType::String, "hi", text)?;
     Ok(())
 }
 
@@ -46,8 +46,7 @@ const NO_TERMINATOR: Fault<'static> = Fault {
 fn damage_is_told_with_its_key(rt: HostRuntime) -> Result<(), Fail> {
     let checks = Checks::ample(rt.alloc());
     for (bytes, fault) in STOPS {
-        let answer = RawDocument::from_bytes(bytes)?.get(rt.alloc(), "x");
-        checks.answer(answer, Want::Fault(*fault), bytes)?;
+        checks.look_up(bytes, "x", Want::Fault(*fault))?;
     }
     Ok(())
 }
@@ -56,8 +55,7 @@ fn damage_is_told_with_its_key(rt: HostRuntime) -> Result<(), Fail> {
 fn a_key_stands_there_whatever_its_value(rt: HostRuntime) -> Result<(), Fail> {
     let checks = Checks::ample(rt.alloc());
     for (bytes, key, want) in KEY_ANSWERS.iter() {
-        let answer = RawDocument::from_bytes(bytes)?.contains_key(rt.alloc(), key);
-        checks.has_key(answer, *want, bytes)?;
+        checks.key(bytes, key, *want)?;
     }
     Ok(())
 }

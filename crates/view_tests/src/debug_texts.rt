@@ -1,114 +1,112 @@
 //! The `Debug` texts: those that Rust's `derive` gives, and of views their bytes as hexadecimal digits.
 
+use crate::texts::has_debug;
 use bson_model::{BinarySubtype, Bson, Decimal128, Document, JavaScriptCodeWithScope, NoMemory};
 use raw_view::{
     ElementType, Error, ErrorKind, RawBinaryRef, RawBsonRef, RawDbPointerRef, RawDocument,
-    RawJavaScriptCodeWithScopeRef, RawRegexRef, Reason, ValueAccessError, ValueAccessErrorKind,
+    RawJavaScriptCodeWithScopeRef, RawRegexRef, Reason, ValueAccessErrorKind, ValueAccessResult,
 };
 use std::alloc::Global;
-use std::fmt::Debug;
 use std::process::Abort;
 use std::test::Fail;
 use test_fixtures::*;
 
-/// The value has this `Debug` text.
-fn assert_debug<T: Debug>(
-    rt: &impl Abort,
-    alloc: Global,
-    value: &T,
-    text: &str,
-) -> Result<(), Fail> {
-    let found = format!(in alloc; "{value:?}")?;
-    assert_eq!(rt; found.as_str(), text);
-    Ok(())
+const BINARY: RawBinaryRef<'static> = RawBinaryRef {
+    subtype: BinarySubtype::Generic,
+    bytes: b"\x01\xFF",
+};
+
+const REGEX: RawRegexRef<'static> = RawRegexRef {
+    pattern: "a",
+    options: "i",
+};
+
+/// Values, each with its `Debug` text.
+const VALUES: [(RawBsonRef<'static>, &str); 5] = [
+    (RawBsonRef::Int32(-7), "Int32(-7)"),
+    (RawBsonRef::String("hi"), "String(\"hi\")"),
+    (RawBsonRef::MinKey, "MinKey"),
+    (
+        RawBsonRef::Binary(BINARY),
+        "Binary(RawBinaryRef { subtype: Generic, bytes: [1, 255] })",
+    ),
+    (
+        RawBsonRef::RegularExpression(REGEX),
+        "RegularExpression(RawRegexRef { pattern: \"a\", options: \"i\" })",
+    ),
+];
+
+/// Whether values that hold the empty document have their `Debug` texts.
+fn are_holders_printed(alloc: Global, scope: RawDocument<'_>) -> bool {
+    let code = RawJavaScriptCodeWithScopeRef { code: "f", scope };
+    has_debug(
+        alloc,
+        &RawBsonRef::Document(scope),
+        "Document(RawDocument { data: \"0500000000\" })",
+    ) && has_debug(
+        alloc,
+        &RawBsonRef::JavaScriptCodeWithScope(code),
+        "JavaScriptCodeWithScope(RawJavaScriptCodeWithScopeRef { code: \"f\", scope: RawDocument { data: \"0500000000\" } })",
+    )
 }
 
 #[test]
 fn views_and_values_have_a_debug_text(rt: HostRuntime) -> Result<(), Fail> {
     let empty = RawDocument::from_bytes(EMPTY)?;
     let text = "RawDocument { data: \"0500000000\" }";
-    assert_debug(&rt, rt.alloc(), &empty, text)?;
+    assert!(rt; has_debug(rt.alloc(), &empty, text));
     let two = array_view(b"\x0C\0\0\0\x03a\0\xFF\xFE\xAB\xCD\0")?;
     let text = "RawArray { data: \"0c000000036100fffeabcd00\" }";
-    assert_debug(&rt, rt.alloc(), &two, text)?;
-    let binary = RawBinaryRef {
-        subtype: BinarySubtype::Generic,
-        bytes: b"\x01\xFF",
-    };
-    let regex = RawRegexRef {
-        pattern: "a",
-        options: "i",
-    };
-    let code = RawJavaScriptCodeWithScopeRef {
-        code: "f",
-        scope: empty,
-    };
-    for (value, text) in [
-        (RawBsonRef::Int32(-7), "Int32(-7)"),
-        (RawBsonRef::String("hi"), "String(\"hi\")"),
-        (RawBsonRef::MinKey, "MinKey"),
-        (
-            RawBsonRef::Document(empty),
-            "Document(RawDocument { data: \"0500000000\" })",
-        ),
-        (
-            RawBsonRef::Binary(binary),
-            "Binary(RawBinaryRef { subtype: Generic, bytes: [1, 255] })",
-        ),
-        (
-            RawBsonRef::RegularExpression(regex),
-            "RegularExpression(RawRegexRef { pattern: \"a\", options: \"i\" })",
-        ),
-        (
-            RawBsonRef::JavaScriptCodeWithScope(code),
-            "JavaScriptCodeWithScope(RawJavaScriptCodeWithScopeRef { code: \"f\", scope: RawDocument { data: \"0500000000\" } })",
-        ),
-    ] {
-        assert_debug(&rt, rt.alloc(), &value, text)?;
+    assert!(rt; has_debug(rt.alloc(), &two, text));
+    for (value, text) in VALUES.iter() {
+        assert!(rt; has_debug(rt.alloc(), value, text), "{text}");
     }
+    assert!(rt; are_holders_printed(rt.alloc(), empty));
     Ok(())
 }
 
 #[test]
-fn parts_of_values_have_a_debug_text(rt: HostRuntime) -> Result<(), Fail> {
+fn parts_of_values_have_a_debug_text(rt: HostRuntime) {
     let pointer = RawDbPointerRef::new("db.c", pointed());
-    assert_debug(
-        &rt,
-        rt.alloc(),
-        &pointer,
-        "RawDbPointerRef { namespace: \"db.c\", id: ObjectId { bytes: [12, 11, 10, 9, 8, 7, 6, 5, 4, 3, 2, 1] } }",
-    )?;
-    assert_debug(
-        &rt,
-        rt.alloc(),
-        &Decimal128::from_bytes([0, 1, 2, 3, 4, 5, 6, 7, 8, 9, 10, 11, 12, 13, 14, 255]),
-        "Decimal128 { bytes: [0, 1, 2, 3, 4, 5, 6, 7, 8, 9, 10, 11, 12, 13, 14, 255] }",
-    )?;
-    Ok(())
+    let text =
+        "RawDbPointerRef { namespace: \"db.c\", id: ObjectId { bytes: [12, 11, 10, 9, 8, 7, 6, 5, 4, 3, 2, 1] } }";
+    assert!(rt; has_debug(rt.alloc(), &pointer, text));
+    let decimal = Decimal128::from_bytes([0, 1, 2, 3, 4, 5, 6, 7, 8, 9, 10, 11, 12, 13, 14, 255]);
+    let text = "Decimal128 { bytes: [0, 1, 2, 3, 4, 5, 6, 7, 8, 9, 10, 11, 12, 13, 14, 255] }";
+    assert!(rt; has_debug(rt.alloc(), &decimal, text));
+}
+
+fn insert(alloc: Global, scope: &mut Document, key: &str, value: Bson) -> Result<(), NoMemory> {
+    let key = String::from_str(alloc, key)?;
+    scope.put(key, value)
 }
 
 /// The number -7 and a null, under the keys `x` and `y`.
 fn scope(alloc: Global) -> Result<Document, NoMemory> {
-    let x = String::from_str(alloc, "x")?;
-    let y = String::from_str(alloc, "y")?;
     let mut scope = Document::new(alloc);
-    scope.insert(x, Bson::Int32(-7))?;
-    scope.insert(y, Bson::Null)?;
+    insert(alloc, &mut scope, "x", Bson::Int32(-7))?;
+    insert(alloc, &mut scope, "y", Bson::Null)?;
     Ok(scope)
 }
 
+fn code(alloc: Global) -> Result<JavaScriptCodeWithScope, NoMemory> {
+    let scope = scope(alloc)?;
+    let code = String::from_str(alloc, "g")?;
+    Ok(JavaScriptCodeWithScope { code, scope })
+}
+
+fn is_code_printed(alloc: Global, text: &str) -> bool {
+    match code(alloc) {
+        Ok(code) => has_debug(alloc, &code, text),
+        Err(_) => false,
+    }
+}
+
 #[test]
-fn code_with_scope_has_a_debug_text(rt: HostRuntime) -> Result<(), Fail> {
-    let code = JavaScriptCodeWithScope {
-        code: String::from_str(rt.alloc(), "g")?,
-        scope: scope(rt.alloc())?,
-    };
-    assert_debug(
-        &rt,
-        rt.alloc(),
-        &code,
-        "JavaScriptCodeWithScope { code: \"g\", scope: Document { pairs: {\"x\": Int32(-7), \"y\": Null} } }",
-    )
+fn code_with_scope_has_a_debug_text(rt: HostRuntime) {
+    let text =
+        "JavaScriptCodeWithScope { code: \"g\", scope: Document { pairs: {\"x\": Int32(-7), \"y\": Null} } }";
+    assert!(rt; is_code_printed(rt.alloc(), text));
 }
 
 /// Each reason with its `Debug` text.
@@ -140,119 +138,121 @@ const REASONS: &[(Reason, &str)] = &[
 ];
 
 #[test]
-fn reasons_have_a_debug_text(rt: HostRuntime) -> Result<(), Fail> {
+fn reasons_have_a_debug_text(rt: HostRuntime) {
     for (reason, text) in REASONS {
-        assert_debug(&rt, rt.alloc(), reason, text)?;
+        assert!(rt; has_debug(rt.alloc(), reason, text), "{text}");
     }
-    Ok(())
 }
 
-/// The error has this `Debug` text, and its kind this one.
-fn assert_error(
-    rt: &impl Abort,
-    alloc: Global,
-    error: &Error,
-    kind: &str,
-    text: &str,
-) -> Result<(), Fail> {
-    assert_debug(rt, alloc, &error.kind, kind)?;
-    assert_debug(rt, alloc, error, text)
+/// Whether the error has this `Debug` text, and its kind this one.
+fn is_error(alloc: Global, error: &Error, kind: &str, text: &str) -> bool {
+    has_debug(alloc, &error.kind, kind) && has_debug(alloc, error, text)
 }
 
-/// The error of the look-up of `a` in these bytes has this `Debug` text, and so has its kind.
-fn assert_look_up(
-    rt: &impl Abort,
+/// Whether the look-up fails, and its error has this `Debug` text, and so has its kind.
+fn has_error(
     alloc: Global,
-    bytes: &[u8],
+    answer: raw_view::Result<Option<RawBsonRef<'_>>>,
     kind: &str,
     text: &str,
-) -> Result<(), Fail> {
-    match RawDocument::from_bytes(bytes)?.get(alloc, "a") {
-        Ok(_) => assert!(rt; false, "{text}"),
-        Err(error) => assert_error(rt, alloc, &error, kind, text)?,
+) -> bool {
+    match answer {
+        Ok(_) => false,
+        Err(error) => is_error(alloc, &error, kind, text),
     }
-    Ok(())
 }
+
+/// Documents, each with the `Debug` texts of the error of the look-up of `a`, and of its kind.
+const LOOK_UPS: &[(&[u8], &str, &str)] = &[
+    (
+        BOOLEAN_TWO,
+        "MalformedValue { reason: BadBoolean(2) }",
+        "Error { kind: MalformedValue { reason: BadBoolean(2) }, key: Some(\"a\") }",
+    ),
+    (
+        SWALLOWED_TERMINATOR,
+        "MalformedValue { reason: Overflowed }",
+        "Error { kind: MalformedValue { reason: Overflowed }, key: None }",
+    ),
+    (
+        KEY_NOT_UTF8,
+        "Utf8EncodingError(Utf8Error { valid_up_to: 0, error_len: Some(1) })",
+        "Error { kind: Utf8EncodingError(Utf8Error { valid_up_to: 0, error_len: Some(1) }), key: None }",
+    ),
+];
 
 #[test]
 fn errors_have_a_debug_text(rt: HostRuntime) -> Result<(), Fail> {
     let none = Error::new(ErrorKind::OutOfMemory);
     let text = "Error { kind: OutOfMemory, key: None }";
-    assert_error(&rt, rt.alloc(), &none, "OutOfMemory", text)?;
-    for (bytes, kind, text) in [
-        (
-            BOOLEAN_TWO,
-            "MalformedValue { reason: BadBoolean(2) }",
-            "Error { kind: MalformedValue { reason: BadBoolean(2) }, key: Some(\"a\") }",
-        ),
-        (
-            SWALLOWED_TERMINATOR,
-            "MalformedValue { reason: Overflowed }",
-            "Error { kind: MalformedValue { reason: Overflowed }, key: None }",
-        ),
-        (
-            KEY_NOT_UTF8,
-            "Utf8EncodingError(Utf8Error { valid_up_to: 0, error_len: Some(1) })",
-            "Error { kind: Utf8EncodingError(Utf8Error { valid_up_to: 0, error_len: Some(1) }), key: None }",
-        ),
-    ] {
-        assert_look_up(&rt, rt.alloc(), bytes, kind, text)?;
+    assert!(rt; is_error(rt.alloc(), &none, "OutOfMemory", text));
+    for (bytes, kind, text) in LOOK_UPS {
+        let view = RawDocument::from_bytes(bytes)?;
+        assert!(rt;
+            has_error(rt.alloc(), view.get(rt.alloc(), "a"), kind, text),
+            "{text}"
+        );
     }
     Ok(())
 }
 
-/// The error has this `Debug` text, and its kind this one.
-fn assert_access_error(
-    rt: &impl Abort,
+/// Whether the getter has no value, and its error this `Debug` text, and its kind this one.
+fn has_access_error(
     alloc: Global,
-    error: &ValueAccessError,
+    answer: ValueAccessResult<bool>,
     kind: &str,
-    key: &str,
-) -> Result<(), Fail> {
-    assert_debug(rt, alloc, &error.kind, kind)?;
-    let text = format!(in alloc; "ValueAccessError {{ kind: {kind}, key: \"{key}\" }}")?;
-    assert_debug(rt, alloc, error, text.as_str())
+    text: &str,
+) -> bool {
+    match answer {
+        Ok(_) => false,
+        Err(error) => has_debug(alloc, &error.kind, kind) && has_debug(alloc, &error, text),
+    }
 }
 
-/// The error of the getter of a boolean at this key has this `Debug` text, and its kind this one.
-fn assert_access(
-    rt: &impl Abort,
-    alloc: Global,
-    bytes: &[u8],
-    key: &str,
-    kind: &str,
-) -> Result<(), Fail> {
-    match RawDocument::from_bytes(bytes)?.get_bool(alloc, key) {
-        Ok(_) => assert!(rt; false, "{kind}"),
-        Err(error) => assert_access_error(rt, alloc, &error, kind, key)?,
-    }
-    Ok(())
-}
+/// Documents, each with a key, and the `Debug` texts of the kind of the error of a boolean's getter, and of the error.
+const ACCESSES: &[(&[u8], &str, &str, &str)] = &[
+    (
+        EMPTY,
+        "a",
+        "NotPresent",
+        "ValueAccessError { kind: NotPresent, key: \"a\" }",
+    ),
+    (
+        GREETING,
+        "hi",
+        "UnexpectedType { expected: Boolean, actual: String }",
+        "ValueAccessError { kind: UnexpectedType { expected: Boolean, actual: String }, key: \"hi\" }",
+    ),
+    (
+        BOOLEAN_TWO,
+        "a",
+        "InvalidBson(Error { kind: MalformedValue { reason: BadBoolean(2) }, key: Some(\"a\") })",
+        "ValueAccessError { kind: InvalidBson(Error { kind: MalformedValue { reason: BadBoolean(2) }, key: Some(\"a\") }), key: \"a\" }",
+    ),
+];
+
+const UNEXPECTED: ValueAccessErrorKind = ValueAccessErrorKind::UnexpectedType {
+    expected: ElementType::Int32,
+    actual: ElementType::Boolean,
+};
 
 #[test]
 fn access_errors_have_a_debug_text(rt: HostRuntime) -> Result<(), Fail> {
-    let none = ValueAccessErrorKind::OutOfMemory;
-    assert_debug(&rt, rt.alloc(), &none, "OutOfMemory")?;
-    let unexpected = ValueAccessErrorKind::UnexpectedType {
-        expected: ElementType::Int32,
-        actual: ElementType::Boolean,
-    };
+    assert!(rt;
+        has_debug(
+            rt.alloc(),
+            &ValueAccessErrorKind::OutOfMemory,
+            "OutOfMemory"
+        )
+    );
     let text = "UnexpectedType { expected: Int32, actual: Boolean }";
-    assert_debug(&rt, rt.alloc(), &unexpected, text)?;
-    for (bytes, key, kind) in [
-        (EMPTY, "a", "NotPresent"),
-        (
-            GREETING,
-            "hi",
-            "UnexpectedType { expected: Boolean, actual: String }",
-        ),
-        (
-            BOOLEAN_TWO,
-            "a",
-            "InvalidBson(Error { kind: MalformedValue { reason: BadBoolean(2) }, key: Some(\"a\") })",
-        ),
-    ] {
-        assert_access(&rt, rt.alloc(), bytes, key, kind)?;
+    assert!(rt; has_debug(rt.alloc(), &UNEXPECTED, text));
+    for (bytes, key, kind, text) in ACCESSES {
+        let view = RawDocument::from_bytes(bytes)?;
+        assert!(rt;
+            has_access_error(rt.alloc(), view.get_bool(rt.alloc(), key), kind, text),
+            "{text}"
+        );
     }
     Ok(())
 }

@@ -1,5 +1,5 @@
-//! Tests of `raw_view` through its public calls. They stand apart, so that `raw_view` isn't proved twice. Those with
-//! requests for memory refused stand in `memory_tests`.
+//! Tests of `raw_view` through its public calls. They are apart from it, so that it isn't proved twice.
+//! Those with requests for memory refused are in `memory_tests`.
 #![tactic(auto)]
 
 #[cfg(test)]
@@ -8,6 +8,8 @@ mod arrays;
 mod c_strings;
 #[cfg(test)]
 mod calls;
+#[cfg(test)]
+mod copies;
 #[cfg(test)]
 mod damage;
 #[cfg(test)]

@@ -1,37 +1,51 @@
-use raw_view::{RawDocument, Reason};
+use raw_view::Reason;
 use std::test::Fail;
 use test_fixtures::{Checks, Fault, SWALLOWED_TERMINATOR, Want};
+
+/// Bytes without an envelope: why, and the text of the error.
+const REFUSALS: &[(&[u8], Reason, &str)] = &[
+    (
+        b"",
+        Reason::TooShort,
+        "malformed value: \"document too short\"",
+    ),
+    (
+        b"\x05\0\0\0",
+        Reason::TooShort,
+        "malformed value: \"document too short\"",
+    ),
+    (
+        b"\x06\0\0\0\x01",
+        Reason::LengthIncorrect,
+        "malformed value: \"document length incorrect\"",
+    ),
+    (
+        b"\x06\0\0\0\0",
+        Reason::LengthIncorrect,
+        "malformed value: \"document length incorrect\"",
+    ),
+    (
+        b"\x05\0\0\x80\0",
+        Reason::LengthIncorrect,
+        "malformed value: \"document length incorrect\"",
+    ),
+    (
+        b"\x05\0\0\0\x01",
+        Reason::NotTerminated,
+        "malformed value: \"document not null-terminated\"",
+    ),
+];
 
 #[test]
 fn bytes_without_an_envelope_are_refused(rt: HostRuntime) -> Result<(), Fail> {
     let checks = Checks::ample(rt.alloc());
-    let too_short = Fault {
-        reason: Some(Reason::TooShort),
-        key: None,
-        text: "malformed value: \"document too short\"",
-    };
-    let wrong_length = Fault {
-        reason: Some(Reason::LengthIncorrect),
-        key: None,
-        text: "malformed value: \"document length incorrect\"",
-    };
-    let not_terminated = Fault {
-        reason: Some(Reason::NotTerminated),
-        key: None,
-        text: "malformed value: \"document not null-terminated\"",
-    };
-    for (bytes, want) in [
-        (b"".as_slice(), too_short),
-        (b"\x05\0\0\0".as_slice(), too_short),
-        (b"\x06\0\0\0\x01".as_slice(), wrong_length),
-        (b"\x06\0\0\0\0".as_slice(), wrong_length),
-        (b"\x05\0\0\x80\0".as_slice(), wrong_length),
-        (b"\x05\0\0\0\x01".as_slice(), not_terminated),
-    ] {
-        match RawDocument::from_bytes(bytes) {
-            Ok(_) => assert!(rt; false, "{bytes:?}"),
-            Err(error) => checks.fault(&error, want)?,
-        }
+    for (bytes, reason, text) in REFUSALS {
+        let want = Fault {
+            reason: Some(*reason),
+            key: None,
+            text,
+        };
+        checks.refusal(bytes, want)?;
     }
     Ok(())
 }
@@ -176,25 +190,24 @@ const STOPS: &[(&[u8], Reason, &str)] = &[
     ),
 ];
 
+const NO_BYTE_LEFT: Fault<'static> = Fault {
+    reason: Some(Reason::Overflowed),
+    key: None,
+    text: "malformed value: \"iteration overflowed document\"",
+};
+
 #[test]
 fn a_stop_says_why_no_element_stands_there(rt: HostRuntime) -> Result<(), Fail> {
     let checks = Checks::ample(rt.alloc());
     for (bytes, reason, text) in STOPS {
-        let answer = RawDocument::from_bytes(bytes)?.get(rt.alloc(), "x");
         let want = Want::Fault(Fault {
             reason: Some(*reason),
             key: Some("k"),
             text,
         });
-        checks.answer(answer, want, bytes)?;
+        checks.look_up(bytes, "x", want)?;
     }
-    let answer = RawDocument::from_bytes(SWALLOWED_TERMINATOR)?.get(rt.alloc(), "k");
-    let want = Want::Fault(Fault {
-        reason: Some(Reason::Overflowed),
-        key: None,
-        text: "malformed value: \"iteration overflowed document\"",
-    });
-    checks.answer(answer, want, SWALLOWED_TERMINATOR)?;
+    checks.look_up(SWALLOWED_TERMINATOR, "k", Want::Fault(NO_BYTE_LEFT))?;
     Ok(())
 }
 
@@ -301,13 +314,12 @@ const FAULTS: &[(&[u8], Option<Reason>, Option<&str>, &str)] = &[
 fn a_value_says_why_it_is_none(rt: HostRuntime) -> Result<(), Fail> {
     let checks = Checks::ample(rt.alloc());
     for (bytes, reason, key, text) in FAULTS {
-        let answer = RawDocument::from_bytes(bytes)?.get(rt.alloc(), "k");
         let want = Want::Fault(Fault {
             reason: *reason,
             key: *key,
             text,
         });
-        checks.answer(answer, want, bytes)?;
+        checks.look_up(bytes, "k", want)?;
     }
     Ok(())
 }

@@ -1,4 +1,4 @@
-use raw_view::{ElementType, RawBsonRef, RawDocument, RawRegexRef};
+use raw_view::{ElementType, RawBsonRef, RawRegexRef};
 use std::test::Fail;
 use test_fixtures::*;
 
@@ -65,8 +65,8 @@ fn iteration_yields_keys_values_and_faults(rt: HostRuntime) -> Result<(), Fail> 
         ),
         (TRUNCATED_STRING, &[("", Want::Fault(STRING_PAST_END_AT_A))]),
     ];
-    for (bytes, items) in rows {
-        checks.items(RawDocument::from_bytes(bytes)?, items)?;
+    for (bytes, items) in rows.iter() {
+        checks.iteration(bytes, items)?;
     }
     Ok(())
 }
@@ -128,8 +128,8 @@ const ELEMENTS: [(&[u8], &[(ElementType, &str, usize)], Want<'static>); 15] = [
 #[test]
 fn elements_are_framed_and_not_looked_into(rt: HostRuntime) -> Result<(), Fail> {
     let checks = Checks::ample(rt.alloc());
-    for (bytes, elements, stop) in ELEMENTS {
-        checks.elements(RawDocument::from_bytes(bytes)?, elements, stop)?;
+    for (bytes, elements, stop) in ELEMENTS.iter() {
+        checks.framed(bytes, elements, *stop)?;
     }
     Ok(())
 }
@@ -190,9 +190,8 @@ const LOOK_UPS: [(&[u8], &str, Want<'static>); 28] = [
 #[test]
 fn look_ups_answer_the_first_element_of_a_key(rt: HostRuntime) -> Result<(), Fail> {
     let checks = Checks::ample(rt.alloc());
-    for (bytes, key, want) in LOOK_UPS {
-        let answer = RawDocument::from_bytes(bytes)?.get(rt.alloc(), key);
-        checks.answer(answer, want, bytes)?;
+    for (bytes, key, want) in LOOK_UPS.iter() {
+        checks.look_up(bytes, key, *want)?;
     }
     Ok(())
 }
@@ -215,8 +214,8 @@ const FIRST_VALUES: [(&[u8], Want<'static>); 8] = [
 #[test]
 fn an_element_has_its_value_or_its_fault(rt: HostRuntime) -> Result<(), Fail> {
     let checks = Checks::ample(rt.alloc());
-    for (bytes, want) in FIRST_VALUES {
-        checks.first_value(RawDocument::from_bytes(bytes)?, want)?;
+    for (bytes, want) in FIRST_VALUES.iter() {
+        checks.first(bytes, *want)?;
     }
     Ok(())
 }

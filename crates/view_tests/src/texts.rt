@@ -1,67 +1,49 @@
 use bson_model::NoMemory;
 use raw_view::{ElementType, Error, ErrorKind, RawDocument, Reason};
 use std::alloc::{AllocError, Global};
+use std::fmt::{Debug, Display};
 use std::process::Abort;
 use std::test::Fail;
 use test_fixtures::*;
 
-/// The error has this text.
-fn assert_text<E: std::error::Error>(
-    rt: &impl Abort,
-    alloc: Global,
-    error: &E,
-    text: &str,
-) -> Result<(), Fail> {
-    let found = format!(in alloc; "{error}")?;
-    assert_eq!(rt; found.as_str(), text);
-    Ok(())
-}
-
-/// The getter of an int32 has no value, and its error this text.
-fn assert_i32_text(
-    rt: &impl Abort,
-    alloc: Global,
-    bytes: &[u8],
-    key: &str,
-    text: &str,
-) -> Result<(), Fail> {
-    match RawDocument::from_bytes(bytes)?.get_i32(alloc, key) {
-        Ok(_) => assert!(rt; false, "{text}"),
-        Err(error) => assert_text(rt, alloc, &error, text)?,
+/// Whether this is printed so.
+fn is_printed<T: Display>(alloc: Global, value: &T, text: &str) -> bool {
+    match format!(in alloc; "{value}") {
+        Ok(found) => found.as_str() == text,
+        Err(_) => false,
     }
-    Ok(())
 }
 
-/// The getter of a boolean finds another kind, of this name.
-fn assert_kind_text(rt: &impl Abort, alloc: Global, key: &str, name: &str) -> Result<(), Fail> {
-    let text = format!(in alloc;
-        "error at key: \"{key}\":  unexpected element type: {name}, expected: Boolean"
-    )?;
-    match RawDocument::from_bytes(ALL_KINDS)?.get_bool(alloc, key) {
-        Ok(_) => assert!(rt; false, "{key}"),
-        Err(error) => assert_text(rt, alloc, &error, text.as_str())?,
+/// Whether the value has this `Debug` text.
+pub(crate) fn has_debug<T: Debug>(alloc: Global, value: &T, text: &str) -> bool {
+    match format!(in alloc; "{value:?}") {
+        Ok(found) => found.as_str() == text,
+        Err(_) => false,
     }
-    Ok(())
 }
 
-/// The kind is printed by this name, and its `Debug` text is the same.
-fn assert_name(rt: &impl Abort, alloc: Global, kind: ElementType, name: &str) -> Result<(), Fail> {
-    let found = format!(in alloc; "{kind} {kind:?}")?;
-    let wanted = format!(in alloc; "{name} {name}")?;
-    assert_eq!(rt; found.as_str(), wanted.as_str());
-    Ok(())
+/// Whether there is an error, and it has this text.
+fn has_text<T: Drop, E: Display + Drop>(
+    alloc: Global,
+    answer: std::result::Result<T, E>,
+    text: &str,
+) -> bool {
+    match answer {
+        Ok(_) => false,
+        Err(error) => is_printed(alloc, &error, text),
+    }
 }
+
+const TOO_SHORT: &str = "malformed value: \"document too short\"";
 
 #[test]
-fn errors_are_printed(rt: HostRuntime) -> Result<(), Fail> {
-    let none = Error::new(ErrorKind::OutOfMemory);
-    assert_text(&rt, rt.alloc(), &none, "out of memory")?;
-    let short = Error::new(ErrorKind::MalformedValue {
+fn errors_are_printed(rt: HostRuntime) {
+    let alloc = rt.alloc();
+    assert!(rt; is_printed(alloc, &Error::new(ErrorKind::OutOfMemory), "out of memory"));
+    let short = ErrorKind::MalformedValue {
         reason: Reason::TooShort,
-    });
-    let text = "malformed value: \"document too short\"";
-    assert_text(&rt, rt.alloc(), &short, text)?;
-    Ok(())
+    };
+    assert!(rt; is_printed(alloc, &Error::new(short), TOO_SHORT));
 }
 
 #[test]
@@ -69,10 +51,7 @@ fn a_key_is_printed_as_it_stands(rt: HostRuntime) -> Result<(), Fail> {
     // the key is a quote and a line end
     let view = RawDocument::from_bytes(b"\x08\0\0\0\x14\"\n\0")?;
     let text = "error at key \"\"\n\": malformed value: \"invalid tag: 20\"";
-    match view.get(rt.alloc(), "") {
-        Ok(_) => assert!(rt; false),
-        Err(error) => assert_text(&rt, rt.alloc(), &error, text)?,
-    }
+    assert!(rt; has_text(rt.alloc(), view.get(rt.alloc(), ""), text));
     Ok(())
 }
 
@@ -105,7 +84,11 @@ const ACCESS_TEXTS: &[(&[u8], &str, &str)] = &[
 #[test]
 fn access_errors_are_printed(rt: HostRuntime) -> Result<(), Fail> {
     for (bytes, key, text) in ACCESS_TEXTS {
-        assert_i32_text(&rt, rt.alloc(), bytes, key, text)?;
+        let view = RawDocument::from_bytes(bytes)?;
+        assert!(rt;
+            has_text(rt.alloc(), view.get_i32(rt.alloc(), key), text),
+            "{text}"
+        );
     }
     Ok(())
 }
@@ -114,10 +97,8 @@ fn access_errors_are_printed(rt: HostRuntime) -> Result<(), Fail> {
 fn an_index_is_printed_in_decimal(rt: HostRuntime) -> Result<(), Fail> {
     assert!(rt; RawDocument::from_bytes(BOOL_AND_INT32)?.get_i32(rt.alloc(), "i32") == Ok(1000000));
     let text = "error at key: \"18446744073709551615\": value not present";
-    match array_view(EMPTY)?.get_i32(rt.alloc(), usize::MAX) {
-        Ok(_) => assert!(rt; false),
-        Err(error) => assert_text(&rt, rt.alloc(), &error, text)?,
-    }
+    let empty = array_view(EMPTY)?;
+    assert!(rt; has_text(rt.alloc(), empty.get_i32(rt.alloc(), usize::MAX), text));
     Ok(())
 }
 
@@ -149,20 +130,37 @@ const NAMES: &[(&str, ElementType, &str)] = &[
     ("u", ElementType::MinKey, "MinKey"),
 ];
 
+/// Whether the getter of a boolean finds another kind, of this name.
+fn has_kind_text(alloc: Global, view: RawDocument<'_>, key: &str, name: &str) -> bool {
+    let text = format!(in alloc;
+        "error at key: \"{key}\":  unexpected element type: {name}, expected: Boolean"
+    );
+    match text {
+        Ok(text) => has_text(alloc, view.get_bool(alloc, key), text.as_str()),
+        Err(_) => false,
+    }
+}
+
 #[test]
 fn every_kind_has_its_name_in_a_text(rt: HostRuntime) -> Result<(), Fail> {
+    let view = RawDocument::from_bytes(ALL_KINDS)?;
     for (key, _, name) in NAMES {
-        assert_kind_text(&rt, rt.alloc(), key, name)?;
+        assert!(rt; has_kind_text(rt.alloc(), view, key, name), "{name}");
     }
     Ok(())
 }
 
+/// Whether the kind is printed by this name, and its `Debug` text is the same.
+fn has_name(alloc: Global, kind: ElementType, name: &str) -> bool {
+    is_printed(alloc, &kind, name) && has_debug(alloc, &kind, name)
+}
+
 #[test]
-fn every_kind_is_printed_by_its_name(rt: HostRuntime) -> Result<(), Fail> {
+fn every_kind_is_printed_by_its_name(rt: HostRuntime) {
     for (_, kind, name) in NAMES {
-        assert_name(&rt, rt.alloc(), *kind, name)?;
+        assert!(rt; has_name(rt.alloc(), *kind, name), "{name}");
     }
-    assert_name(&rt, rt.alloc(), ElementType::Boolean, "Boolean")
+    assert!(rt; has_name(rt.alloc(), ElementType::Boolean, "Boolean"));
 }
 
 /// Whether the error says that no memory was left, and has no key.
@@ -171,19 +169,13 @@ fn is_want_of_memory(error: &Error) -> bool {
 }
 
 #[test]
-fn a_failed_allocation_becomes_an_error(rt: HostRuntime) -> Result<(), Fail> {
+fn a_failed_allocation_becomes_an_error(rt: HostRuntime) {
     assert!(rt; is_want_of_memory(&Error::from(AllocError)));
     assert!(rt; is_want_of_memory(&Error::from(NoMemory)));
-    assert_text(&rt, rt.alloc(), &Error::out_of_memory(), "out of memory")
+    assert!(rt; is_printed(rt.alloc(), &Error::out_of_memory(), "out of memory"));
 }
 
 #[test]
-fn a_refusal_is_an_error_without_a_key(rt: HostRuntime) -> Result<(), Fail> {
-    let error = Error::malformed(Reason::TooShort);
-    assert_text(
-        &rt,
-        rt.alloc(),
-        &error,
-        "malformed value: \"document too short\"",
-    )
+fn a_refusal_is_an_error_without_a_key(rt: HostRuntime) {
+    assert!(rt; is_printed(rt.alloc(), &Error::malformed(Reason::TooShort), TOO_SHORT));
 }

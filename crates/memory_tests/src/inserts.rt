@@ -1,4 +1,4 @@
-use crate::{Bson, Document};
+use raw_bson::{Bson, Document};
 use std::alloc::Global;
 use std::process::Abort;
 

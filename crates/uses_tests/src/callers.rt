@@ -1,0 +1,255 @@
+use bson_uses::{
+    Dump, MOST, are_equal, copy_without, count_nulls, find_path, keep, normalised_twice, received,
+    split_dump,
+};
+use raw_bson::{Document, Error, RawBson, RawBsonRef, RawDocument, RawDocumentBuf, Reason, Result};
+use raw_shelf::Shelf;
+use std::alloc::Global;
+use std::process::Abort;
+use std::test::Fail;
+
+const EMPTY_DOCUMENT: &[u8] = b"\x05\0\0\0\0";
+
+const REPEATED_KEY: &[u8] = b"\x13\0\0\0\x10a\0\x01\0\0\0\x10a\0\x02\0\0\0\0";
+
+const ITS_CANONICAL_FORM: &[u8] = b"\x0C\0\0\0\x10a\0\x02\0\0\0\0";
+
+/// Whether this is the truth value.
+fn is_truth(answer: Result<bool>, wanted: bool) -> bool {
+    match answer {
+        Ok(found) => found == wanted,
+        Err(_) => false,
+    }
+}
+
+#[test]
+fn two_spellings_of_a_tree_are_equal(rt: HostRuntime) {
+    let alloc = rt.alloc();
+    assert!(rt; is_truth(are_equal(alloc, REPEATED_KEY, ITS_CANONICAL_FORM), true));
+    assert!(rt; is_truth(are_equal(alloc, REPEATED_KEY, EMPTY_DOCUMENT), false));
+}
+
+/// Whether both are this form.
+fn are_form(answer: Result<(Vec<u8>, Vec<u8>)>, form: &[u8]) -> bool {
+    match answer {
+        Ok((once, twice)) => once.as_slice() == form && twice.as_slice() == form,
+        Err(_) => false,
+    }
+}
+
+#[test]
+fn a_form_is_its_own_form(rt: HostRuntime) {
+    assert!(rt;
+        are_form(
+            normalised_twice(rt.alloc(), REPEATED_KEY),
+            ITS_CANONICAL_FORM
+        )
+    );
+}
+
+/// The null under `b` in the document under `a`.
+const NESTED: &[u8] = b"\x10\0\0\0\x03a\0\x08\0\0\0\x0Ab\0\0\0";
+
+/// Whether a null was found, or nothing.
+fn is_null(answer: Result<Option<RawBsonRef<'_>>>, wanted: bool) -> bool {
+    match answer {
+        Ok(Some(value)) => wanted && value.as_null().is_some(),
+        Ok(None) => !wanted,
+        Err(_) => false,
+    }
+}
+
+fn is_document(answer: Result<Option<RawBsonRef<'_>>>) -> bool {
+    match answer {
+        Ok(Some(value)) => value.as_document().is_some(),
+        _ => false,
+    }
+}
+
+/// Paths, and whether a null stands there; else nothing does.
+const PATHS: &[(&[&str], bool)] = &[
+    (&["a", "b"], true),
+    (&["a", "c"], false),
+    (&["b"], false),
+    (&["a", "b", "c"], false),
+];
+
+#[test]
+fn a_path_goes_down(rt: HostRuntime) -> std::result::Result<(), Fail> {
+    let alloc = rt.alloc();
+    let here = RawBsonRef::Document(RawDocument::from_bytes(NESTED)?);
+    for (path, wanted) in PATHS {
+        assert!(rt; is_null(find_path(alloc, here, path), *wanted), "{path:?}");
+    }
+    assert!(rt; is_document(find_path(alloc, here, &[])));
+    Ok(())
+}
+
+/// A document that holds this one.
+fn around(alloc: Global, document: RawDocumentBuf) -> Result<RawDocumentBuf> {
+    let mut outer = RawDocumentBuf::new(alloc)?;
+    outer.append("", RawBson::Document(document))?;
+    Ok(outer)
+}
+
+/// Documents, each but the innermost holding the next, so many.
+fn levels(alloc: Global, count: usize) -> Result<RawDocumentBuf> {
+    let mut document = RawDocumentBuf::new(alloc)?;
+    for _ in 1..count {
+        document = around(alloc, document)?;
+    }
+    Ok(document)
+}
+
+/// Whether the tree has one pair.
+fn is_one_pair(tree: Result<Document>) -> bool {
+    match tree {
+        Ok(tree) => tree.len() == 1,
+        Err(_) => false,
+    }
+}
+
+/// Whether the bytes were turned away for this reason.
+fn is_turned_away(tree: Result<Document>, reason: Reason) -> bool {
+    match tree {
+        Ok(_) => false,
+        Err(error) => error == Error::malformed(reason),
+    }
+}
+
+/// Whether just as many levels are taken as may be.
+fn are_levels_limited(alloc: Global, most: usize) -> bool {
+    match (levels(alloc, most), levels(alloc, most.wrapping_add(1))) {
+        (Ok(deep), Ok(too_deep)) => {
+            is_one_pair(received(alloc, deep.as_bytes()))
+                && is_turned_away(received(alloc, too_deep.as_bytes()), Reason::TooDeep)
+        }
+        _ => false,
+    }
+}
+
+#[test]
+fn what_comes_from_outside_keeps_to_limits(rt: HostRuntime) {
+    let alloc = rt.alloc();
+    assert!(rt; is_one_pair(received(alloc, REPEATED_KEY)));
+    assert!(rt; are_levels_limited(alloc, MOST.depth));
+    assert!(rt; is_turned_away(received(alloc, b"\x04\0\0\0"), Reason::TooShort));
+}
+
+/// Whether a tree is kept once, and another beside it.
+fn is_kept_once(alloc: Global, shelf: &mut Shelf) -> bool {
+    is_truth(keep(alloc, shelf, REPEATED_KEY), true)
+        && is_truth(keep(alloc, shelf, ITS_CANONICAL_FORM), false)
+        && is_truth(keep(alloc, shelf, EMPTY_DOCUMENT), true)
+        && shelf.len() == 2
+}
+
+#[test]
+fn a_tree_is_kept_once(rt: HostRuntime) {
+    assert!(rt; is_kept_once(rt.alloc(), &mut Shelf::new(rt.alloc())));
+}
+
+/// An empty document, one with a repeated key, and four bytes at which none stands.
+const DUMP: &[u8] = b"\x05\0\0\0\0\x13\0\0\0\x10a\0\x01\0\0\0\x10a\0\x02\0\0\0\0\x05\0\0\0";
+
+/// Whether these are the empty document and the one with a repeated key.
+fn are_two(documents: &[RawDocument<'_>]) -> bool {
+    match documents {
+        [first, second] => first.as_bytes() == EMPTY_DOCUMENT && second.as_bytes() == REPEATED_KEY,
+        _ => false,
+    }
+}
+
+fn is_too_short(error: &Option<Error>) -> bool {
+    match error {
+        Some(error) => *error == Error::malformed(Reason::TooShort),
+        None => false,
+    }
+}
+
+/// Whether the dump was cut into the two documents, and four bytes are left.
+fn is_cut(answer: &Result<Dump<'_>>) -> bool {
+    match answer {
+        Ok(dump) => {
+            are_two(&dump.documents)
+                && dump.rest == b"\x05\0\0\0".as_slice()
+                && is_too_short(&dump.error)
+        }
+        Err(_) => false,
+    }
+}
+
+/// Whether the dump is one document, and nothing is left.
+fn is_whole(answer: &Result<Dump<'_>>) -> bool {
+    match answer {
+        Ok(dump) => dump.documents.len() == 1 && dump.rest.is_empty() && dump.error.is_none(),
+        Err(_) => false,
+    }
+}
+
+#[test]
+fn a_dump_is_cut_into_documents(rt: HostRuntime) {
+    assert!(rt; is_cut(&split_dump(rt.alloc(), DUMP)));
+    assert!(rt; is_whole(&split_dump(rt.alloc(), REPEATED_KEY)));
+}
+
+/// The boolean 2 under `0`, which means no value, and a number under `1`.
+const BOOLEAN_TWO: &[u8] = b"\x10\0\0\0\x080\0\x02\x101\0\x07\0\0\0\0";
+
+/// Whether so many were counted.
+fn is_count(answer: Result<usize>, wanted: usize) -> bool {
+    match answer {
+        Ok(count) => count == wanted,
+        Err(_) => false,
+    }
+}
+
+/// Whether there is an error with this key.
+fn is_fault_at(answer: Result<usize>, key: &str) -> bool {
+    match answer {
+        Ok(_) => false,
+        Err(error) => error.key() == Some(key),
+    }
+}
+
+#[test]
+fn nulls_are_counted_up_to_a_fault(rt: HostRuntime) {
+    let alloc = rt.alloc();
+    assert!(rt; is_count(count_nulls(alloc, b"\x0B\0\0\0\x0Aa\0\x0Ab\0\0"), 2));
+    assert!(rt; is_count(count_nulls(alloc, NESTED), 0));
+    assert!(rt; is_fault_at(count_nulls(alloc, BOOLEAN_TWO), "0"));
+}
+
+/// Whether the copy has these bytes.
+fn is_copy(copy: Result<RawDocumentBuf>, left: &[u8]) -> bool {
+    match copy {
+        Ok(copy) => copy.as_bytes() == left,
+        Err(_) => false,
+    }
+}
+
+/// The numbers 1, 2 and 3 under `a`, `b` and `a`.
+const AROUND: &[u8] = b"\x1A\0\0\0\x10a\0\x01\0\0\0\x10b\0\x02\0\0\0\x10a\0\x03\0\0\0\0";
+
+/// The number 2 under `b`.
+const B_ALONE: &[u8] = b"\x0C\0\0\0\x10b\0\x02\0\0\0\0";
+
+/// Documents, each with a key and what is left without it.
+const COPIES: &[(&[u8], &str, &[u8])] = &[
+    (AROUND, "a", B_ALONE),
+    (B_ALONE, "b", EMPTY_DOCUMENT),
+    (B_ALONE, "c", B_ALONE),
+    (BOOLEAN_TWO, "1", b"\x09\0\0\0\x080\0\x02\0"),
+];
+
+#[test]
+fn a_copy_has_all_but_one_key(rt: HostRuntime) -> std::result::Result<(), Fail> {
+    for (bytes, key, left) in COPIES {
+        let document = RawDocument::from_bytes(bytes)?;
+        assert!(rt;
+            is_copy(copy_without(rt.alloc(), document, key), left),
+            "{bytes:?} {key}"
+        );
+    }
+    Ok(())
+}

@@ -1,0 +1,9 @@
+//! Tests of `raw_shelf` and `bson_uses` through their public calls. They stand apart, so that neither is proved twice.
+#![tactic(auto)]
+
+#[cfg(test)]
+mod callers;
+#[cfg(test)]
+mod memory;
+#[cfg(test)]
+mod shelf;
