@@ -1,31 +1,30 @@
-use crate::asserts::{assert_pair, assert_refused};
-use bson_fixtures::{document_of, owned};
+use crate::checks::{check_both, check_pair};
+use bson_fixtures::{
+    check_answer, check_bytes, check_equal, check_refused, document_of, holds, owned,
+};
 use raw_bson::laws::is_same_document_buf;
 use raw_bson::{
     ElementType, Error, ErrorKind, RawBson, RawBsonRef, RawDocumentBuf, RawElement, Reason,
-    ValueAccessErrorKind, ValueAccessResult,
+    ValueAccessResult,
 };
 use std::alloc::Global;
-use std::process::Abort;
 use std::test::Fail;
 use test_fixtures::*;
 
-/// A document to which the values of all kinds are appended.
-fn all_appended(alloc: Global) -> Result<RawDocumentBuf, Fail> {
-    let mut document = RawDocumentBuf::new(alloc)?;
+/// Appends the values of all kinds.
+fn append_all(alloc: Global, document: &mut RawDocumentBuf) -> Result<(), Fail> {
     for &(key, kind) in KINDS.iter() {
         document.append(key, owned(alloc, kind)?)?;
     }
-    Ok(document)
+    Ok(())
 }
 
-/// A document to which the borrowed values of all kinds are appended.
-fn all_borrowed_appended(alloc: Global) -> Result<RawDocumentBuf, Fail> {
-    let mut document = RawDocumentBuf::new(alloc)?;
+/// Appends the borrowed values of all kinds.
+fn append_all_borrowed(document: &mut RawDocumentBuf) -> Result<(), Fail> {
     for &(key, kind) in KINDS.iter() {
         document.append_ref(key, borrowed(kind)?)?;
     }
-    Ok(document)
+    Ok(())
 }
 
 /// The keys and the values of all kinds.
@@ -39,139 +38,101 @@ fn all_pairs(alloc: Global) -> Result<Vec<(&'static str, RawBson)>, Fail> {
 
 #[test]
 fn a_value_of_each_kind_is_appended(rt: HostRuntime) -> Result<(), Fail> {
-    let document = all_appended(rt.alloc())?;
-    assert_eq!(rt; document.as_bytes(), ALL_KINDS);
-    Ok(())
+    let mut document = RawDocumentBuf::new(rt.alloc())?;
+    append_all(rt.alloc(), &mut document)?;
+    check_bytes(document.as_bytes(), ALL_KINDS, "all kinds")
 }
 
 #[test]
 fn a_borrowed_value_of_each_kind_is_appended(rt: HostRuntime) -> Result<(), Fail> {
-    let document = all_borrowed_appended(rt.alloc())?;
-    assert_eq!(rt; document.as_bytes(), ALL_KINDS);
-    Ok(())
+    let mut document = RawDocumentBuf::new(rt.alloc())?;
+    append_all_borrowed(&mut document)?;
+    check_bytes(document.as_bytes(), ALL_KINDS, "all kinds")
 }
 
 #[test]
 fn a_document_is_made_of_pairs(rt: HostRuntime) -> Result<(), Fail> {
     let pairs = all_pairs(rt.alloc())?;
     let document = RawDocumentBuf::from_iter(rt.alloc(), pairs.into_iter())?;
-    assert_eq!(rt; document.as_bytes(), ALL_KINDS);
-    Ok(())
+    check_bytes(document.as_bytes(), ALL_KINDS, "all kinds")
 }
 
 /// Iteration over the document yields the values of all kinds, and then the end.
-fn assert_iterated(rt: &impl Abort, document: &RawDocumentBuf) -> Result<(), Fail> {
+fn check_iterated(document: &RawDocumentBuf) -> Result<(), Fail> {
     let mut iter = document.iter();
     for &(key, kind) in KINDS.iter() {
-        let want = borrowed(kind)?;
-        assert_pair(rt, iter.next(), key, want);
+        let wanted = borrowed(kind)?;
+        check_pair(iter.next(), key, wanted)?;
     }
-    assert!(rt; iter.next().is_none());
-    Ok(())
-}
-
-#[test]
-fn each_value_is_iterated(rt: HostRuntime) -> Result<(), Fail> {
-    let document = document_of(rt.alloc(), ALL_KINDS)?;
-    assert_iterated(&rt, &document)
+    holds(iter.next().is_none(), "the end")
 }
 
 /// The look-up of each key yields its value, and that of another key nothing.
-fn assert_looked_up(rt: &impl Abort, document: &RawDocumentBuf) -> Result<(), Fail> {
+fn check_looked_up(document: &RawDocumentBuf) -> Result<(), Fail> {
     for &(key, kind) in KINDS.iter() {
-        let found = document.get(key)?;
-        let wanted = borrowed(kind)?;
-        assert_eq!(rt; found, Some(wanted), "{kind:?}");
+        check_answer(document.get(key), &Some(borrowed(kind)?), key)?;
     }
-    let behind = document.get("v")?;
-    assert_eq!(rt; behind, None);
-    Ok(())
-}
-
-#[test]
-fn each_value_is_looked_up(rt: HostRuntime) -> Result<(), Fail> {
-    let document = document_of(rt.alloc(), ALL_KINDS)?;
-    assert_looked_up(&rt, &document)
+    check_answer(document.get("v"), &None, "v")
 }
 
 /// The element has this key, this kind and the value of this kind.
-fn assert_element(
-    rt: &impl Abort,
+fn check_element(
     alloc: Global,
     element: RawElement<'_>,
     key: &str,
     kind: ElementType,
 ) -> Result<(), Fail> {
-    assert_eq!(rt; element.key(), key);
-    assert_eq!(rt; element.element_type(), kind);
-    let found = element.value(alloc)?;
-    let wanted = borrowed(kind)?;
-    assert_eq!(rt; found, wanted, "{kind:?}");
-    Ok(())
+    holds(element.key() == key, key)?;
+    check_equal(&element.element_type(), &kind, key)?;
+    check_answer(element.value(alloc), &borrowed(kind)?, key)
 }
 
 /// The elements of the document are those of all kinds, and then comes the end.
-fn assert_elements(rt: &impl Abort, alloc: Global, document: &RawDocumentBuf) -> Result<(), Fail> {
+fn check_elements(alloc: Global, document: &RawDocumentBuf) -> Result<(), Fail> {
     let mut elements = document.iter_elements();
     for &(key, kind) in KINDS.iter() {
         match elements.next() {
-            Some(Ok(element)) => assert_element(rt, alloc, element, key, kind)?,
-            _ => assert!(rt; false, "{kind:?}"),
+            Some(Ok(element)) => check_element(alloc, element, key, kind)?,
+            _ => return Err(Fail::new(key)),
         }
     }
-    assert!(rt; elements.next().is_none());
-    Ok(())
+    holds(elements.next().is_none(), "the end")
 }
 
 #[test]
-fn each_element_is_iterated(rt: HostRuntime) -> Result<(), Fail> {
+fn each_value_is_iterated_and_looked_up(rt: HostRuntime) -> Result<(), Fail> {
     let document = document_of(rt.alloc(), ALL_KINDS)?;
-    assert_elements(&rt, rt.alloc(), &document)
+    check_iterated(&document)?;
+    check_looked_up(&document)?;
+    check_elements(rt.alloc(), &document)
 }
 
 /// Iteration over the document yields a null, a fault, and then the end.
-fn assert_stops(rt: &impl Abort, document: &RawDocumentBuf) {
+fn check_stops(document: &RawDocumentBuf) -> Result<(), Fail> {
     let mut iter = document.iter();
-    assert_pair(rt, iter.next(), "", RawBsonRef::Null);
+    check_pair(iter.next(), "", RawBsonRef::Null)?;
     match iter.next() {
-        Some(answer) => assert_refused(rt, answer, Reason::Overflowed),
-        None => assert!(rt; false),
+        Some(answer) => check_refused(answer, Reason::Overflowed)?,
+        None => return Err(Fail::new("no fault")),
     }
-    assert!(rt; iter.next().is_none());
+    holds(iter.next().is_none(), "the end")
 }
 
 #[test]
 fn a_fault_is_answered_where_it_stands(rt: HostRuntime) -> Result<(), Fail> {
     let document = document_of(rt.alloc(), SWALLOWED_TERMINATOR)?;
-    assert_stops(&rt, &document);
-    Ok(())
-}
-
-#[test]
-fn a_key_before_a_fault_is_looked_up(rt: HostRuntime) -> Result<(), Fail> {
-    let document = document_of(rt.alloc(), SWALLOWED_TERMINATOR)?;
-    assert!(rt; document.get("")? == Some(RawBsonRef::Null));
-    assert_refused(&rt, document.get("x"), Reason::Overflowed);
-    Ok(())
+    check_stops(&document)?;
+    // and a key before it is looked up
+    check_answer(document.get(""), &Some(RawBsonRef::Null), "before a fault")?;
+    check_refused(document.get("x"), Reason::Overflowed)
 }
 
 #[test]
 fn an_empty_buffer_has_its_bytes(rt: HostRuntime) -> Result<(), Fail> {
     let empty = RawDocumentBuf::new(rt.alloc())?;
-    assert_eq!(rt; empty.as_bytes(), EMPTY);
-    assert!(rt; empty.is_empty());
-    assert!(rt; empty.iter().next().is_none());
-    Ok(())
-}
-
-#[test]
-fn a_buffer_has_its_bytes(rt: HostRuntime) -> Result<(), Fail> {
-    let greeting = document_of(rt.alloc(), GREETING)?;
-    assert!(rt; !greeting.is_empty());
-    assert_eq!(rt; greeting.as_bytes(), GREETING);
-    assert_eq!(rt; greeting.as_ref().as_bytes(), GREETING);
-    assert!(rt; greeting.get_str("hi") == Ok("y'all"));
-    Ok(())
+    check_bytes(empty.as_bytes(), EMPTY, "an empty buffer")?;
+    holds(empty.is_empty(), "empty")?;
+    holds(empty.iter().next().is_none(), "no item")
 }
 
 /// Whether the two are equal, by `==` and by the law.
@@ -179,28 +140,38 @@ fn are_equal(document: &RawDocumentBuf, other: &RawDocumentBuf) -> (bool, bool) 
     (document == other, is_same_document_buf(document, other))
 }
 
-#[test]
-fn a_buffer_is_equal_to_its_copy(rt: HostRuntime) -> Result<(), Fail> {
-    let greeting = document_of(rt.alloc(), GREETING)?;
-    let copy = greeting.clone()?;
-    assert_eq!(rt; are_equal(&copy, &greeting), (true, true));
-    assert_eq!(rt; copy.as_bytes(), GREETING);
-    Ok(())
+/// The buffer has the greeting's bytes and value.
+fn check_greeting(greeting: &RawDocumentBuf) -> Result<(), Fail> {
+    holds(!greeting.is_empty(), "not empty")?;
+    check_bytes(greeting.as_bytes(), GREETING, "a buffer")?;
+    check_bytes(greeting.as_ref().as_bytes(), GREETING, "its view")?;
+    holds(greeting.get_str("hi")? == "y'all", "its text")
+}
+
+/// The buffer is equal to its copy, and not to the empty one.
+fn check_compared(
+    greeting: &RawDocumentBuf,
+    copy: &RawDocumentBuf,
+    empty: &RawDocumentBuf,
+) -> Result<(), Fail> {
+    check_both(are_equal(copy, greeting), true, "a copy")?;
+    check_bytes(copy.as_bytes(), GREETING, "a copy")?;
+    check_both(are_equal(empty, greeting), false, "an empty buffer")
 }
 
 #[test]
-fn an_empty_buffer_differs(rt: HostRuntime) -> Result<(), Fail> {
+fn a_buffer_has_its_bytes_and_is_compared(rt: HostRuntime) -> Result<(), Fail> {
     let greeting = document_of(rt.alloc(), GREETING)?;
+    check_greeting(&greeting)?;
+    let copy = greeting.clone()?;
     let empty = RawDocumentBuf::new(rt.alloc())?;
-    assert_eq!(rt; are_equal(&empty, &greeting), (false, false));
-    Ok(())
+    check_compared(&greeting, &copy, &empty)
 }
 
 #[test]
 fn a_buffer_is_taken_apart(rt: HostRuntime) -> Result<(), Fail> {
     let bytes = document_of(rt.alloc(), GREETING)?.into_bytes();
-    assert_eq!(rt; bytes.as_slice(), GREETING);
-    Ok(())
+    check_bytes(&bytes, GREETING, "taken apart")
 }
 
 #[test]
@@ -212,7 +183,7 @@ fn envelopes_are_refused(rt: HostRuntime) -> Result<(), Fail> {
         (b"\x05\0\0\0\x01".as_slice(), Reason::NotTerminated),
     ] {
         let answer = RawDocumentBuf::from_bytes(Vec::from_slice(rt.alloc(), bytes)?);
-        assert_refused(&rt, answer, reason);
+        check_refused(answer, reason)?;
     }
     Ok(())
 }
@@ -260,15 +231,20 @@ fn check_getter(checks: Checks, document: &RawDocumentBuf, asked: ElementType) -
     Ok(())
 }
 
-#[test]
-fn twelve_getters(rt: HostRuntime) -> Result<(), Fail> {
-    let document = document_of(rt.alloc(), ALL_KINDS)?;
+/// Each getter has the value of its own kind alone.
+fn check_getters(alloc: Global, document: &RawDocumentBuf) -> Result<(), Fail> {
     for &(_, asked) in KINDS.iter() {
         if has_getter(asked) {
-            check_getter(Checks::ample(rt.alloc()), &document, asked)?;
+            check_getter(Checks::ample(alloc), document, asked)?;
         }
     }
     Ok(())
+}
+
+#[test]
+fn twelve_getters(rt: HostRuntime) -> Result<(), Fail> {
+    let document = document_of(rt.alloc(), ALL_KINDS)?;
+    check_getters(rt.alloc(), &document)
 }
 
 #[test]
@@ -276,16 +252,18 @@ fn an_append_goes_behind_what_is_there(rt: HostRuntime) -> Result<(), Fail> {
     let nested = RawBson::from(document_of(rt.alloc(), NULL_DOCUMENT)?);
     let mut document = document_of(rt.alloc(), GREETING)?;
     document.append("n", nested)?;
-    assert_eq!(rt;
-        document.into_bytes().as_slice(),
-        b"\x1D\0\0\0\x02hi\0\x06\0\0\0y'all\0\x03n\0\x07\0\0\0\x0A\0\0\0".as_slice()
-    );
-    Ok(())
+    let bytes = b"\x1D\0\0\0\x02hi\0\x06\0\0\0y'all\0\x03n\0\x07\0\0\0\x0A\0\0\0";
+    check_bytes(&document.into_bytes(), bytes, "behind the greeting")
+}
+
+/// The error is of this kind and has no key.
+fn check_no_memory(error: &Error) -> Result<(), Fail> {
+    holds(error.kind == ErrorKind::OutOfMemory, "the kind")?;
+    holds(error.key().is_none(), "no key")
 }
 
 #[test]
-fn an_error_is_made_of_its_kind(rt: HostRuntime) {
-    let error = Error::new(ErrorKind::OutOfMemory);
-    assert!(rt; error.kind == ErrorKind::OutOfMemory);
-    assert_eq!(rt; error.key(), None);
+fn an_error_is_made_of_its_kind(rt: HostRuntime) -> Result<(), Fail> {
+    let _ = rt.alloc();
+    check_no_memory(&Error::new(ErrorKind::OutOfMemory))
 }

@@ -1,10 +1,11 @@
 //! Appends and pushes onto damaged documents: what is there isn't looked at, and a refused one leaves it.
 
-use crate::asserts::{assert_array_text, assert_refused};
-use bson_fixtures::{array_of, document_of};
+use crate::checks::check_array_text;
+use bson_fixtures::{
+    array_of, check_answer, check_bytes, check_debug_text, check_equal, check_refused, document_of,
+};
 use raw_bson::{RawArrayBuf, RawBson, RawBsonRef, RawDocumentBuf, Reason, Regex};
 use std::alloc::Global;
-use std::process::Abort;
 use std::test::Fail;
 use test_fixtures::*;
 
@@ -24,26 +25,24 @@ const APPENDS: &[(&[u8], &[u8])] = &[
 ];
 
 /// The document is as it was after a refused append, and has these bytes after the next one.
-fn assert_appended(
-    rt: &impl Abort,
+fn check_appended(
     alloc: Global,
     document: &mut RawDocumentBuf,
     before: &[u8],
     after: &[u8],
 ) -> Result<(), Fail> {
     let answer = document.append("r", refused_regex(alloc)?);
-    assert_refused(rt, answer, Reason::InteriorNul);
-    assert_eq!(rt; document.as_bytes(), before);
+    check_refused(answer, Reason::InteriorNul)?;
+    check_bytes(document.as_bytes(), before, "after a refused append")?;
     document.append("b", RawBson::from(true))?;
-    assert_eq!(rt; document.as_bytes(), after);
-    Ok(())
+    check_bytes(document.as_bytes(), after, "after an append")
 }
 
 #[test]
 fn appends_onto_damage(rt: HostRuntime) -> Result<(), Fail> {
     for (before, after) in APPENDS {
         let mut document = document_of(rt.alloc(), before)?;
-        assert_appended(&rt, rt.alloc(), &mut document, before, after)?;
+        check_appended(rt.alloc(), &mut document, before, after)?;
     }
     Ok(())
 }
@@ -63,26 +62,25 @@ const PUSHES: &[(&[u8], &str, &str)] = &[
 ];
 
 /// The array has its text, also after a refused push, and the other one after the next push.
-fn assert_pushed(
-    rt: &impl Abort,
+fn check_pushed(
     alloc: Global,
     array: &mut RawArrayBuf,
     before: &str,
     after: &str,
 ) -> Result<(), Fail> {
-    assert_array_text(rt, alloc, array, before)?;
+    check_array_text(alloc, array, before)?;
     let answer = array.push(refused_regex(alloc)?);
-    assert_refused(rt, answer, Reason::InteriorNul);
-    assert_array_text(rt, alloc, array, before)?;
+    check_refused(answer, Reason::InteriorNul)?;
+    check_array_text(alloc, array, before)?;
     array.push(RawBson::Null)?;
-    assert_array_text(rt, alloc, array, after)
+    check_array_text(alloc, array, after)
 }
 
 #[test]
 fn pushes_onto_damage(rt: HostRuntime) -> Result<(), Fail> {
     for (bytes, before, after) in PUSHES {
         let mut array = array_of(rt.alloc(), bytes)?;
-        assert_pushed(&rt, rt.alloc(), &mut array, before, after)?;
+        check_pushed(rt.alloc(), &mut array, before, after)?;
     }
     Ok(())
 }
@@ -118,26 +116,29 @@ fn pushed_in_a_value(alloc: Global) -> Result<RawBson, Fail> {
 fn push_onto_a_swallowed_terminator_in_a_value(rt: HostRuntime) -> Result<(), Fail> {
     let value = pushed_in_a_value(rt.alloc())?;
     let text = "Array(RawArrayBuf { data: \"090000000a0a320000\", len: 3 })";
-    assert_eq!(rt; format!(in rt.alloc(); "{value:?}")?.as_str(), text);
-    Ok(())
+    check_debug_text(rt.alloc(), &value, text)
 }
 
 /// The array has this count, a null as its first item, and no second one.
-fn assert_one_null(rt: &impl Abort, array: &RawArrayBuf, count: usize) {
-    assert_eq!(rt; array.count(), count);
-    assert!(rt; array.get(0) == Ok(Some(RawBsonRef::Null)));
-    assert!(rt; array.get(1) == Ok(None));
+fn check_one_null(array: &RawArrayBuf, count: usize) -> Result<(), Fail> {
+    check_equal(&array.count(), &count, "the count")?;
+    check_answer(array.get(0), &Some(RawBsonRef::Null), "the first")?;
+    check_answer(array.get(1), &None, "the second")
+}
+
+/// The array counts the stop, and a push ends it.
+fn check_counted(array: &mut RawArrayBuf) -> Result<(), Fail> {
+    check_equal(&array.count(), &2, "a null and a stop")?;
+    array.push(RawBson::Null)?;
+    check_one_null(array, 3)
 }
 
 /// Onto damage a count isn't the number of items: the push ends the stop that was counted.
 #[test]
 fn a_count_is_told(rt: HostRuntime) -> Result<(), Fail> {
-    assert_eq!(rt; RawArrayBuf::new(rt.alloc())?.count(), 0);
+    check_equal(&RawArrayBuf::new(rt.alloc())?.count(), &0, "nothing")?;
     let mut array = array_of(rt.alloc(), SWALLOWED_TERMINATOR)?;
-    assert_eq!(rt; array.count(), 2);
-    array.push(RawBson::Null)?;
-    assert_one_null(&rt, &array, 3);
-    Ok(())
+    check_counted(&mut array)
 }
 
 /// Whether the key stands in a buffer of these bytes is answered as it is wanted.

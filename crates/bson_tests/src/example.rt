@@ -1,6 +1,6 @@
+use bson_fixtures::{check_equal, holds};
 use raw_bson::{RawArrayBuf, RawBson, RawDocumentBuf, Result, canonical_bytes};
 use std::alloc::Global;
-use std::process::Abort;
 use std::test::Fail;
 
 /// Writes the document of an author, and reads the year of birth back.
@@ -22,8 +22,11 @@ fn year_of_birth(alloc: Global) -> Result<Option<i32>> {
 
 #[test]
 fn the_year_of_birth_is_read_back(rt: HostRuntime) -> std::result::Result<(), Fail> {
-    assert_eq!(rt; year_of_birth(rt.alloc())?, Some(1815));
-    Ok(())
+    check_equal(
+        &year_of_birth(rt.alloc())?,
+        &Some(1815),
+        "the year of birth",
+    )
 }
 
 /// Whether two documents stand for the same tree, however they are written.
@@ -35,7 +38,7 @@ fn are_equal(alloc: Global, one: &[u8], other: &[u8]) -> Result<bool> {
 fn a_repeated_key_counts_once(rt: HostRuntime) -> std::result::Result<(), Fail> {
     let twice = b"\x13\0\0\0\x10a\0\x01\0\0\0\x10a\0\x02\0\0\0\0";
     let once = b"\x0C\0\0\0\x10a\0\x02\0\0\0\0";
-    assert!(rt; are_equal(rt.alloc(), twice, once)?);
-    assert!(rt; !are_equal(rt.alloc(), twice, b"\x05\0\0\0\0")?);
-    Ok(())
+    holds(are_equal(rt.alloc(), twice, once)?, "once")?;
+    let is_empty = are_equal(rt.alloc(), twice, b"\x05\0\0\0\0")?;
+    holds(!is_empty, "the empty document")
 }

@@ -8,11 +8,11 @@ mod any_errors;
 #[cfg(test)]
 mod arrays;
 #[cfg(test)]
-mod asserts;
-#[cfg(test)]
 mod buffers;
 #[cfg(test)]
 mod calls;
+#[cfg(test)]
+mod checks;
 #[cfg(test)]
 mod copies;
 #[cfg(test)]

@@ -1,12 +1,13 @@
-use crate::asserts::{assert_one_pair, assert_same};
-use bson_fixtures::{all_owned, array_of, code_of, document_of, owned};
+use crate::checks::{check_both, check_one_pair, check_same, holds_of};
+use bson_fixtures::{
+    all_owned, array_of, check_bytes, check_equal, check_text, code_of, document_of, owned,
+};
 use raw_bson::laws::{is_same_code, is_same_value};
 use raw_bson::{
     Binary, BinarySubtype, DateTime, DoubleBits, ElementType, RawBson, RawBsonRef,
     RawJavaScriptCodeWithScope, Regex,
 };
 use std::alloc::Global;
-use std::process::Abort;
 use std::test::Fail;
 use test_fixtures::*;
 
@@ -47,10 +48,10 @@ fn accessed_rarer<'a>(value: &'a RawBson, kind: ElementType) -> Option<RawBsonRe
 }
 
 /// Each value is of its kind, and its view is the borrowed value of that kind.
-fn assert_viewed(rt: &impl Abort, values: &[(ElementType, RawBson)]) -> Result<(), Fail> {
+fn check_viewed(values: &[(ElementType, RawBson)]) -> Result<(), Fail> {
     for (kind, value) in values {
-        assert_eq!(rt; value.element_type(), *kind);
-        assert_eq!(rt; value.as_raw_bson_ref(), borrowed(*kind)?);
+        check_equal(&value.element_type(), kind, "a kind")?;
+        check_equal(&value.as_raw_bson_ref(), &borrowed(*kind)?, "a view")?;
     }
     Ok(())
 }
@@ -58,7 +59,7 @@ fn assert_viewed(rt: &impl Abort, values: &[(ElementType, RawBson)]) -> Result<(
 #[test]
 fn a_value_of_each_kind_has_its_kind_and_its_view(rt: HostRuntime) -> Result<(), Fail> {
     let values = all_owned(rt.alloc())?;
-    assert_viewed(&rt, &values)
+    check_viewed(&values)
 }
 
 /// Whether a part of this kind is converted to a value.
@@ -110,29 +111,37 @@ fn is_converted(value: &RawBson, kind: ElementType) -> bool {
     }
 }
 
-fn assert_converted(rt: &impl Abort, values: &[(ElementType, RawBson)]) {
+fn check_converted(values: &[(ElementType, RawBson)]) -> Result<(), Fail> {
     for (kind, value) in values {
-        assert!(rt; is_converted(value, *kind), "{kind:?}");
+        holds_of(is_converted(value, *kind), *kind)?;
     }
+    Ok(())
 }
 
 /// A conversion makes the variant that its part names.
 #[test]
 fn conversions_make_values_of_their_kinds(rt: HostRuntime) -> Result<(), Fail> {
     let values = all_owned(rt.alloc())?;
-    assert_converted(&rt, &values);
-    Ok(())
+    check_converted(&values)
 }
 
 /// Of a value of this kind each accessor answers what it should.
-fn assert_accessed(rt: &impl Abort, value: &RawBson, kind: ElementType) -> Result<(), Fail> {
+fn check_accessed(value: &RawBson, kind: ElementType) -> Result<(), Fail> {
     for &(_, asked) in KINDS.iter() {
         let wanted = if asked == kind && has_accessor(kind) {
             Some(borrowed(kind)?)
         } else {
             None
         };
-        assert_eq!(rt; accessed(value, asked), wanted, "{asked:?} of {kind:?}");
+        holds_of(accessed(value, asked) == wanted, asked)?;
+    }
+    Ok(())
+}
+
+/// Each accessor answers its own kind alone.
+fn check_accessors(values: &[(ElementType, RawBson)]) -> Result<(), Fail> {
+    for (kind, value) in values {
+        check_accessed(value, *kind)?;
     }
     Ok(())
 }
@@ -140,10 +149,7 @@ fn assert_accessed(rt: &impl Abort, value: &RawBson, kind: ElementType) -> Resul
 #[test]
 fn an_accessor_answers_its_own_kind_alone(rt: HostRuntime) -> Result<(), Fail> {
     let values = all_owned(rt.alloc())?;
-    for (kind, value) in values.iter() {
-        assert_accessed(&rt, value, *kind)?;
-    }
-    Ok(())
+    check_accessors(&values)
 }
 
 /// An array of one null, onto which `true` is pushed where it stands in a value.
@@ -158,8 +164,7 @@ fn pushed_in_its_place(alloc: Global) -> Result<RawBson, Fail> {
 fn an_array_is_changed_in_its_place(rt: HostRuntime) -> Result<(), Fail> {
     let changed = b"\x0C\0\0\0\x0A0\0\x081\0\x01\0".as_slice();
     let wanted = RawBson::from(array_of(rt.alloc(), changed)?);
-    assert_same(&rt, pushed_in_its_place(rt.alloc())?, wanted);
-    Ok(())
+    check_same(pushed_in_its_place(rt.alloc())?, wanted)
 }
 
 fn lends_an_array(mut value: RawBson) -> bool {
@@ -170,7 +175,7 @@ fn lends_an_array(mut value: RawBson) -> bool {
 fn only_an_array_is_lent_as_one(rt: HostRuntime) -> Result<(), Fail> {
     for &(_, kind) in KINDS.iter() {
         let is_lent = lends_an_array(owned(rt.alloc(), kind)?);
-        assert_eq!(rt; is_lent, kind == ElementType::Array, "{kind:?}");
+        holds_of(is_lent == (kind == ElementType::Array), kind)?;
     }
     Ok(())
 }
@@ -186,8 +191,7 @@ fn appended_in_its_place(alloc: Global) -> Result<RawBson, Fail> {
 #[test]
 fn a_document_is_changed_in_its_place(rt: HostRuntime) -> Result<(), Fail> {
     let wanted = RawBson::from(document_of(rt.alloc(), ONE_INT32)?);
-    assert_same(&rt, appended_in_its_place(rt.alloc())?, wanted);
-    Ok(())
+    check_same(appended_in_its_place(rt.alloc())?, wanted)
 }
 
 fn lends_a_document(mut value: RawBson) -> bool {
@@ -198,7 +202,7 @@ fn lends_a_document(mut value: RawBson) -> bool {
 fn only_a_document_is_lent_as_one(rt: HostRuntime) -> Result<(), Fail> {
     for &(_, kind) in KINDS.iter() {
         let is_lent = lends_a_document(owned(rt.alloc(), kind)?);
-        assert_eq!(rt; is_lent, kind == ElementType::EmbeddedDocument, "{kind:?}");
+        holds_of(is_lent == (kind == ElementType::EmbeddedDocument), kind)?;
     }
     Ok(())
 }
@@ -209,26 +213,24 @@ fn are_equal(value: &RawBson, other: &RawBson) -> (bool, bool) {
 }
 
 /// Each value is equal to the other of its kind, and to no other.
-fn assert_equal_by_kind(
-    rt: &impl Abort,
+fn check_equal_by_kind(
     values: &[(ElementType, RawBson)],
     others: &[(ElementType, RawBson)],
-) {
+) -> Result<(), Fail> {
     for (kind, value) in values {
         for (other_kind, other) in others {
             let same = kind == other_kind;
-            let found = are_equal(value, other);
-            assert_eq!(rt; found, (same, same), "{kind:?} and {other_kind:?}");
+            holds_of(are_equal(value, other) == (same, same), *kind)?;
         }
     }
+    Ok(())
 }
 
 #[test]
 fn values_are_equal_only_to_their_like(rt: HostRuntime) -> Result<(), Fail> {
     let values = all_owned(rt.alloc())?;
     let others = all_owned(rt.alloc())?;
-    assert_equal_by_kind(&rt, &values, &others);
-    Ok(())
+    check_equal_by_kind(&values, &others)
 }
 
 fn copied(alloc: Global, kind: ElementType) -> Result<RawBson, Fail> {
@@ -247,15 +249,14 @@ fn all_copied(alloc: Global) -> Result<Vec<(ElementType, RawBson)>, Fail> {
 #[test]
 fn a_copy_of_each_kind_has_its_kind_and_its_view(rt: HostRuntime) -> Result<(), Fail> {
     let copies = all_copied(rt.alloc())?;
-    assert_viewed(&rt, &copies)
+    check_viewed(&copies)
 }
 
 #[test]
 fn copies_are_equal_only_to_their_like(rt: HostRuntime) -> Result<(), Fail> {
     let copies = all_copied(rt.alloc())?;
     let others = all_owned(rt.alloc())?;
-    assert_equal_by_kind(&rt, &copies, &others);
-    Ok(())
+    check_equal_by_kind(&copies, &others)
 }
 
 /// Another value of this kind; null for a kind that isn't asked for.
@@ -279,9 +280,16 @@ fn other(alloc: Global, kind: ElementType) -> Result<RawBson, Fail> {
 }
 
 /// The other value is of this kind, too, and the two differ.
-fn assert_differ(rt: &impl Abort, value: RawBson, other: RawBson, kind: ElementType) {
-    assert_eq!(rt; other.element_type(), kind);
-    assert_eq!(rt; are_equal(&value, &other), (false, false), "{kind:?}");
+fn check_differ(value: &RawBson, other: &RawBson, kind: ElementType) -> Result<(), Fail> {
+    check_equal(&other.element_type(), &kind, "a kind")?;
+    holds_of(are_equal(value, other) == (false, false), kind)
+}
+
+/// The same of the two values of this kind.
+fn check_kind_differs(alloc: Global, kind: ElementType) -> Result<(), Fail> {
+    let value = owned(alloc, kind)?;
+    let other = other(alloc, kind)?;
+    check_differ(&value, &other, kind)
 }
 
 #[test]
@@ -300,17 +308,17 @@ fn values_of_one_kind_differ_by_their_parts(rt: HostRuntime) -> Result<(), Fail>
     ]
     .iter()
     {
-        let value = owned(rt.alloc(), kind)?;
-        assert_differ(&rt, value, other(rt.alloc(), kind)?, kind);
+        check_kind_differs(rt.alloc(), kind)?;
     }
     Ok(())
 }
 
 #[test]
-fn a_negative_zero_is_another_double_than_the_zero(rt: HostRuntime) {
+fn a_negative_zero_is_another_double_than_the_zero(rt: HostRuntime) -> Result<(), Fail> {
+    let _ = rt.alloc();
     let zero = RawBson::from(DoubleBits(0));
     let negative = RawBson::from(DoubleBits(0x8000_0000_0000_0000));
-    assert_differ(&rt, zero, negative, ElementType::Double);
+    check_differ(&zero, &negative, ElementType::Double)
 }
 
 /// Whether the two are equal, by `==` and by the law.
@@ -322,46 +330,50 @@ fn are_equal_codes(
 }
 
 /// The copy is equal to the code, and has its parts.
-fn assert_copied(
-    rt: &impl Abort,
+fn check_copied(
     copy: &RawJavaScriptCodeWithScope,
     code: &RawJavaScriptCodeWithScope,
-) {
-    assert_eq!(rt; are_equal_codes(copy, code), (true, true));
-    assert_eq!(rt; copy.code.as_str(), "g");
-    assert_eq!(rt; copy.scope.as_bytes(), EMPTY);
+) -> Result<(), Fail> {
+    check_both(are_equal_codes(copy, code), true, "a copy")?;
+    check_text(copy.code.as_str(), "g")?;
+    check_bytes(copy.scope.as_bytes(), EMPTY, "a scope")
 }
 
 #[test]
 fn code_with_scope_is_copied(rt: HostRuntime) -> Result<(), Fail> {
     let code = code_of(rt.alloc(), "g", EMPTY)?;
-    assert_copied(&rt, &code.clone()?, &code);
-    Ok(())
+    check_copied(&code.clone()?, &code)
+}
+
+/// The code of these parts differs from this one.
+fn check_other_code(
+    alloc: Global,
+    code: &RawJavaScriptCodeWithScope,
+    text: &str,
+    scope: &[u8],
+) -> Result<(), Fail> {
+    let other = code_of(alloc, text, scope)?;
+    check_both(are_equal_codes(&other, code), false, text)
 }
 
 #[test]
 fn code_with_scope_is_equal_by_both_parts(rt: HostRuntime) -> Result<(), Fail> {
     let code = code_of(rt.alloc(), "g", EMPTY)?;
-    for (text, scope) in [("h", EMPTY), ("g", NULL_DOCUMENT)] {
-        let found = are_equal_codes(&code_of(rt.alloc(), text, scope)?, &code);
-        assert_eq!(rt; found, (false, false), "{text}");
-    }
-    Ok(())
+    check_other_code(rt.alloc(), &code, "h", EMPTY)?;
+    check_other_code(rt.alloc(), &code, "g", NULL_DOCUMENT)
 }
 
 #[test]
 fn a_text_is_copied(rt: HostRuntime) -> Result<(), Fail> {
     let wanted = RawBson::String(String::from_str(rt.alloc(), "a")?);
-    assert_same(&rt, RawBson::from_str(rt.alloc(), "a")?, wanted);
-    Ok(())
+    check_same(RawBson::from_str(rt.alloc(), "a")?, wanted)
 }
 
 #[test]
 fn a_new_regex_has_its_options_in_order(rt: HostRuntime) -> Result<(), Fail> {
     let ordered = Regex::new(rt.alloc(), "^a", "mi")?;
-    assert_eq!(rt; ordered.pattern.as_str(), "^a");
-    assert_eq!(rt; ordered.options.as_str(), "im");
-    Ok(())
+    check_text(ordered.pattern.as_str(), "^a")?;
+    check_text(ordered.options.as_str(), "im")
 }
 
 /// A regular expression as a literal makes it, which leaves the order of its options.
@@ -373,22 +385,16 @@ fn regex_as_written(alloc: Global) -> Result<RawBson, Fail> {
 }
 
 /// The document of this value alone, under the empty key, is these bytes, and the value is read back.
-fn assert_written(
-    rt: &impl Abort,
-    alloc: Global,
-    value: RawBsonRef<'_>,
-    bytes: &[u8],
-) -> Result<(), Fail> {
+fn check_written(alloc: Global, value: RawBsonRef<'_>, bytes: &[u8]) -> Result<(), Fail> {
     let mut document = document_of(alloc, EMPTY)?;
     document.append_ref("", value)?;
-    assert_eq!(rt; document.as_bytes(), bytes);
-    assert_one_pair(rt, alloc, document.as_ref(), "", value);
-    Ok(())
+    check_bytes(document.as_bytes(), bytes, "written")?;
+    check_one_pair(alloc, document.as_ref(), "", value)
 }
 
 #[test]
 fn options_are_kept_as_they_stand_in_an_owned_value(rt: HostRuntime) -> Result<(), Fail> {
     let value = regex_as_written(rt.alloc())?;
     let bytes = b"\x0D\0\0\0\x0B\0^a\0mi\0\0";
-    assert_written(&rt, rt.alloc(), value.as_raw_bson_ref(), bytes)
+    check_written(rt.alloc(), value.as_raw_bson_ref(), bytes)
 }
