@@ -58,7 +58,7 @@ pub fn check_answer<T: PartialEq + Debug + Drop>(
 ) -> Result<(), Fail> {
     match answer {
         Ok(found) => check_equal(&found, wanted, place),
-        Err(error) => Err(Fail::new(error)),
+        Err(error) => Err(Fail::new(format_args!("{place}: {error} where {wanted:?} is wanted"))),
     }
 }
 

@@ -78,7 +78,7 @@ fn an_append_behind_declared_length_three(rt: HostRuntime) -> Result<(), Fail> {
 fn check_appended(alloc: Global, key: &str, value: RawBson, bytes: &[u8]) -> Result<(), Fail> {
     let mut document = RawDocumentBuf::new(alloc)?;
     document.append(key, value)?;
-    check_bytes(document.as_bytes(), bytes, key)
+    check_bytes(document.as_bytes(), bytes, "an owned value")
 }
 
 /// The document of this one borrowed value is these bytes.
@@ -90,7 +90,7 @@ fn check_appended_ref(
 ) -> Result<(), Fail> {
     let mut document = RawDocumentBuf::new(alloc)?;
     document.append_ref(key, value)?;
-    check_bytes(document.as_bytes(), bytes, key)
+    check_bytes(document.as_bytes(), bytes, "a borrowed value")
 }
 
 /// Four bytes of this subtype.

@@ -96,7 +96,7 @@ fn check_elements(alloc: Global, document: &RawDocumentBuf) -> Result<(), Fail> 
             _ => return Err(Fail::new(key)),
         }
     }
-    holds(elements.next().is_none(), "the end")
+    holds(elements.next().is_none(), "the end of the elements")
 }
 
 #[test]
@@ -121,8 +121,12 @@ fn check_stops(document: &RawDocumentBuf) -> Result<(), Fail> {
 #[test]
 fn a_fault_is_answered_where_it_stands(rt: HostRuntime) -> Result<(), Fail> {
     let document = document_of(rt.alloc(), SWALLOWED_TERMINATOR)?;
-    check_stops(&document)?;
-    // and a key before it is looked up
+    check_stops(&document)
+}
+
+#[test]
+fn a_key_before_a_fault_is_looked_up(rt: HostRuntime) -> Result<(), Fail> {
+    let document = document_of(rt.alloc(), SWALLOWED_TERMINATOR)?;
     check_answer(document.get(""), &Some(RawBsonRef::Null), "before a fault")?;
     check_refused(document.get("x"), Reason::Overflowed)
 }

@@ -1,6 +1,6 @@
 //! What is said of pairs, and of values that own their bytes.
 
-use bson_fixtures::{check_debug_text, check_equal, holds};
+use bson_fixtures::{check_debug_text, check_equal};
 use raw_bson::{ElementType, RawArrayBuf, RawBson, RawBsonRef, RawDocument, Result};
 use std::alloc::Global;
 use std::test::Fail;
@@ -66,11 +66,24 @@ pub(crate) fn holds_of(is_so: bool, kind: ElementType) -> std::result::Result<()
     }
 }
 
-/// Whether both ways of comparing answer this.
+/// This holds of these two kinds.
+pub(crate) fn holds_of_both(
+    is_so: bool,
+    one: ElementType,
+    other: ElementType,
+) -> std::result::Result<(), Fail> {
+    if is_so {
+        Ok(())
+    } else {
+        Err(Fail::new(format_args!("{one:?} and {other:?}")))
+    }
+}
+
+/// Both ways of comparing give this.
 pub(crate) fn check_both(
     found: (bool, bool),
     wanted: bool,
     place: &str,
 ) -> std::result::Result<(), Fail> {
-    holds(found.0 == wanted && found.1 == wanted, place)
+    check_equal(&found, &(wanted, wanted), place)
 }

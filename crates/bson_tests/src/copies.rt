@@ -105,7 +105,7 @@ fn the_value_of_an_element_of_a_buffer_is_copied(rt: HostRuntime) -> Result<(), 
 fn check_not_copied(alloc: Global, bytes: &[u8], reason: Reason) -> Result<(), Fail> {
     match RawDocument::from_bytes(bytes)?.iter_elements(alloc).next() {
         Some(Ok(element)) => check_fault(element.to_raw_bson(alloc), reason, "a"),
-        _ => Err(Fail::new("no element")),
+        _ => Err(Fail::new(format_args!("no element where {reason:?} is wanted"))),
     }
 }
 

@@ -1,4 +1,4 @@
-use crate::checks::{check_both, check_one_pair, check_same, holds_of};
+use crate::checks::{check_both, check_one_pair, check_same, holds_of, holds_of_both};
 use bson_fixtures::{
     all_owned, array_of, check_bytes, check_equal, check_text, code_of, document_of, owned,
 };
@@ -133,7 +133,7 @@ fn check_accessed(value: &RawBson, kind: ElementType) -> Result<(), Fail> {
         } else {
             None
         };
-        holds_of(accessed(value, asked) == wanted, asked)?;
+        holds_of_both(accessed(value, asked) == wanted, asked, kind)?;
     }
     Ok(())
 }
@@ -220,7 +220,7 @@ fn check_equal_by_kind(
     for (kind, value) in values {
         for (other_kind, other) in others {
             let same = kind == other_kind;
-            holds_of(are_equal(value, other) == (same, same), *kind)?;
+            holds_of_both(are_equal(value, other) == (same, same), *kind, *other_kind)?;
         }
     }
     Ok(())

@@ -1,6 +1,8 @@
 use crate::checks::check_written;
 use crate::trees_fixtures::{empty_code, levels_by_hand, one_null, one_pair, text};
-use bson_fixtures::{check_answer, check_equal, check_malformed, check_refused, holds};
+use bson_fixtures::{
+    check_answer, check_bytes, check_equal, check_malformed, check_refused, holds,
+};
 use raw_bson::{
     Bson, Document, RawDocument, Reason, canonical_bytes, document_from_raw,
     document_from_raw_counted,
@@ -91,7 +93,7 @@ fn check_levels(
     wanted: &Document,
 ) -> Result<(), Fail> {
     check_equal(&bytes.len(), &len, "length")?;
-    holds(bytes.starts_with(header), "header")?;
+    check_bytes(bytes.get(..4).ok_or("too few bytes")?, header, "header")?;
     check_count(alloc, bytes, 499, wanted)?;
     check_written(canonical_bytes(alloc, bytes), bytes)
 }

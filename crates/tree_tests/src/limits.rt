@@ -1,6 +1,7 @@
 use crate::trees_fixtures::{binary, empty_code, levels_by_hand, one_null, one_pair};
 use bson_fixtures::{
     check_answer, check_debug_text, check_equal, check_fault, check_refused, document_of, holds,
+    is_refused,
 };
 use raw_bson::{
     BinarySubtype, Document, Limits, RawDocument, Reason, document_from_raw,
@@ -45,6 +46,19 @@ fn check_read_within_as(
     check_read_within(alloc, bytes, limits, &wanted)
 }
 
+/// The answer within these limits is a refusal for this reason, without a key.
+fn check_refusal(
+    answer: raw_bson::Result<Document>,
+    limits: Limits,
+    reason: Reason,
+) -> Result<(), Fail> {
+    if is_refused(&answer, reason, None) {
+        Ok(())
+    } else {
+        Err(Fail::new(format_args!("{reason:?} is wanted within {limits:?}")))
+    }
+}
+
 /// Within these limits both refuse for this reason, without a key.
 fn check_refused_within(
     alloc: Global,
@@ -53,9 +67,13 @@ fn check_refused_within(
     reason: Reason,
 ) -> Result<(), Fail> {
     let view = RawDocument::from_bytes(bytes)?;
-    check_refused(document_from_raw_within(alloc, view, limits), reason)?;
+    check_refusal(
+        document_from_raw_within(alloc, view, limits),
+        limits,
+        reason,
+    )?;
     let answer = document_of(alloc, bytes)?.to_document_within(limits);
-    check_refused(answer, reason)
+    check_refusal(answer, limits, reason)
 }
 
 #[test]
@@ -89,12 +107,16 @@ fn documents_beyond_limits_are_refused(rt: HostRuntime) -> Result<(), Fail> {
 }
 
 #[test]
-fn the_first_of_a_fault_and_a_deep_level_is_told(rt: HostRuntime) -> Result<(), Fail> {
-    let alloc = rt.alloc();
+fn a_fault_comes_before_a_level_behind_it(rt: HostRuntime) -> Result<(), Fail> {
     // fault before a level that is too deep
     let view = RawDocument::from_bytes(FAULT_BEFORE_A_LEVEL)?;
-    let answer = document_from_raw_within(alloc, view, limits(17, 1));
-    check_fault(answer, Reason::BadBoolean(2), "a")?;
+    let answer = document_from_raw_within(rt.alloc(), view, limits(17, 1));
+    check_fault(answer, Reason::BadBoolean(2), "a")
+}
+
+#[test]
+fn a_level_comes_before_a_fault_behind_it(rt: HostRuntime) -> Result<(), Fail> {
+    let alloc = rt.alloc();
     // fault behind a level that is too deep
     let view = RawDocument::from_bytes(FAULT_BEHIND_A_LEVEL)?;
     let too_deep = document_from_raw_within(alloc, view, limits(17, 1));

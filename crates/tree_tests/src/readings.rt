@@ -54,7 +54,7 @@ fn check_element(alloc: Global, element: RawElement<'_>, wanted: &Bson) -> Resul
 fn check_first_element(alloc: Global, bytes: &[u8], wanted: &Bson) -> Result<(), Fail> {
     match RawDocument::from_bytes(bytes)?.iter_elements(alloc).next() {
         Some(Ok(element)) => check_element(alloc, element, wanted),
-        _ => Err(Fail::new("no element")),
+        _ => Err(Fail::new(format_args!("no element where {wanted:?} is wanted"))),
     }
 }
 

@@ -173,11 +173,12 @@ fn is_found(found: &Option<Breach>, wanted: Wanted<'_>) -> bool {
 
 /// Where there is no breach wanted, the document is canonical; else its first breach is this one.
 fn check_validated(alloc: Global, bytes: &[u8], wanted: Wanted<'_>) -> Result<(), Fail> {
-    let found = validate(alloc, RawDocument::from_bytes(bytes)?)?;
+    let view = RawDocument::from_bytes(bytes)?;
+    let found = validate(alloc, view)?;
     if is_found(&found, wanted) {
         Ok(())
     } else {
-        Err(Fail::new(format_args!("{found:?} in {bytes:?}")))
+        Err(Fail::new(format_args!("{found:?} where {wanted:?} is wanted in {view:?}")))
     }
 }
 

@@ -37,9 +37,9 @@ fn is_put(alloc: Global, shelf: &mut Shelf, bytes: &[u8], wanted: bool) -> bool 
 
 /// Whether the put of these bytes is refused for this breach.
 fn is_breach(alloc: Global, shelf: &mut Shelf, bytes: &[u8], path: &[usize], cause: Cause) -> bool {
-    match put(alloc, shelf, bytes) {
-        Err(PutError::Breach(breach)) => breach.path.as_slice() == path && breach.cause == cause,
-        _ => false,
+    match Vec::from_slice(alloc, path) {
+        Ok(path) => put(alloc, shelf, bytes) == Err(PutError::Breach(Breach { path, cause })),
+        Err(_) => false,
     }
 }
 

@@ -81,7 +81,10 @@ fn a_typed_look_up_goes_past_faults(rt: HostRuntime) -> Result<(), Fail> {
         checks.none_at(bytes, *asked, *index, key, *want)?;
     }
     for bytes in [ARRAY_WITH_TEXT_NOT_UTF8, FAULT_BEFORE_A_NUMBER] {
-        checks.typed_at(bytes, ElementType::Int32, 1, "1", RawBsonRef::Int32(7))?;
+        assert!(rt;
+            array_view(bytes)?.get_i32(rt.alloc(), 1) == Ok(7),
+            "{bytes:?}"
+        );
     }
     Ok(())
 }

@@ -96,14 +96,21 @@ fn is_copied(error: &Error, key: Option<&str>) -> bool {
     }
 }
 
+/// Whether a copy of the error differs from the error without a key by that key alone.
+fn differs_by_key(error: &Error, plain: &Error) -> bool {
+    let copy: Result<_, _> = error.clone();
+    match copy {
+        Ok(copy) => copy.kind == plain.kind && copy != *plain,
+        Err(_) => false,
+    }
+}
+
 /// Whether there is an error at `a` with a copy that is equal, which differs from the error without a key by that key
 /// alone.
 fn is_copied_at_a(answer: raw_view::Result<Option<RawBsonRef<'_>>>, plain: &Error) -> bool {
     match answer {
         Ok(_) => false,
-        Err(error) => {
-            is_copied(&error, Some("a")) && error.kind == plain.kind && error != *plain
-        }
+        Err(error) => { is_copied(&error, Some("a")) && differs_by_key(&error, plain) }
     }
 }
 

@@ -36,20 +36,6 @@ const VALUES: [(RawBsonRef<'static>, &str); 5] = [
     ),
 ];
 
-/// Whether values that hold the empty document have their `Debug` texts.
-fn are_holders_printed(alloc: Global, scope: RawDocument<'_>) -> bool {
-    let code = RawJavaScriptCodeWithScopeRef { code: "f", scope };
-    has_debug(
-        alloc,
-        &RawBsonRef::Document(scope),
-        "Document(RawDocument { data: \"0500000000\" })",
-    ) && has_debug(
-        alloc,
-        &RawBsonRef::JavaScriptCodeWithScope(code),
-        "JavaScriptCodeWithScope(RawJavaScriptCodeWithScopeRef { code: \"f\", scope: RawDocument { data: \"0500000000\" } })",
-    )
-}
-
 #[test]
 fn views_and_values_have_a_debug_text(rt: HostRuntime) -> Result<(), Fail> {
     let empty = RawDocument::from_bytes(EMPTY)?;
@@ -61,7 +47,23 @@ fn views_and_values_have_a_debug_text(rt: HostRuntime) -> Result<(), Fail> {
     for (value, text) in VALUES.iter() {
         assert!(rt; has_debug(rt.alloc(), value, text), "{text}");
     }
-    assert!(rt; are_holders_printed(rt.alloc(), empty));
+    let code = RawJavaScriptCodeWithScopeRef {
+        code: "f",
+        scope: empty,
+    };
+    let holders = [
+        (
+            RawBsonRef::Document(empty),
+            "Document(RawDocument { data: \"0500000000\" })",
+        ),
+        (
+            RawBsonRef::JavaScriptCodeWithScope(code),
+            "JavaScriptCodeWithScope(RawJavaScriptCodeWithScopeRef { code: \"f\", scope: RawDocument { data: \"0500000000\" } })",
+        ),
+    ];
+    for (value, text) in holders.iter() {
+        assert!(rt; has_debug(rt.alloc(), value, text), "{text}");
+    }
     Ok(())
 }
 

@@ -49,10 +49,10 @@ const NO_DOCUMENTS: &[(&[u8], NoDocument, Reason)] = &[
 fn why_no_document_is_in_front(rt: HostRuntime) {
     for (bytes, why, reason) in NO_DOCUMENTS.iter() {
         match RawDocument::split_first(bytes) {
-            Ok(_) => assert!(rt; false),
+            Ok(_) => assert!(rt; false, "{bytes:?}"),
             Err(found) => {
-                assert_eq!(rt; found, *why);
-                assert_eq!(rt; Error::from(found), Error::malformed(*reason));
+                assert_eq!(rt; found, *why, "{bytes:?}");
+                assert_eq!(rt; Error::from(found), Error::malformed(*reason), "{bytes:?}");
             }
         }
     }

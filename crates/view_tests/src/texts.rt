@@ -23,7 +23,7 @@ pub(crate) fn has_debug<T: Debug>(alloc: Global, value: &T, text: &str) -> bool 
 }
 
 /// Whether there is an error, and it has this text.
-fn has_text<T: Drop, E: Display + Drop>(
+fn has_text<T: Drop, E: std::error::Error>(
     alloc: Global,
     answer: std::result::Result<T, E>,
     text: &str,
