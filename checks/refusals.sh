@@ -62,6 +62,7 @@ each_refused() {
         return 1
     fi
     n=1
+    statuses=
     while :; do
         refused "$n" "$@" <"$input"
         if ! "$answered"; then
@@ -73,6 +74,7 @@ each_refused() {
             return 1
         fi
         [ "${requests:-0}" -ge "$n" ] || break
+        statuses="$statuses $status"
         n=$((n + 1))
     done
     if [ "$n" = 1 ] && [ "$wanted_requests" != 0 ]; then
@@ -80,6 +82,11 @@ each_refused() {
         return 1
     fi
     echo "$scenario: $((n - 1)) requests refused in turn"
+}
+
+# in_runs STATUS..: the statuses, as many equal ones in a row as STATUSxTIMES
+in_runs() {
+    printf '%s\n' "$@" | uniq -c | awk '{ printf "%s%sx%s", (NR > 1 ? " " : ""), $2, $1 }'
 }
 
 run_scenario() {
@@ -90,6 +97,13 @@ run_scenario() {
         wanted=examples/$3.$2
         wanted_memory=no
         each_refused program_answered crates/bsonraw/out/bsonraw "$2" || return 1
+        shift 3
+        # shellcheck disable=SC2086 # a word each
+        given=$(in_runs $statuses)
+        if [ -z "$given" ] || [ "$given" != "$*" ]; then
+            echo "$scenario: the requests refused gave the statuses $given" >&2
+            return 1
+        fi
         if [ "$wanted_memory" = no ]; then
             echo "$scenario: no run ended with status 4" >&2
             return 1
@@ -116,9 +130,13 @@ run_scenario() {
 }
 
 # to_be_refused CRATE: the tests that are there to be refused, of the crate as it was built last: all of memory_tests, and
-# of another crate those of a module `memory`
+# of another crate those of a module `memory`; a line of its own where the crate's tests can't be listed
 to_be_refused() {
-    "crates/$1/out/$1_tests" --list 3>/dev/null | sed -n 's/: test$//p' |
+    if ! "crates/$1/out/$1_tests" --list 3>/dev/null >"$folder/$1.list"; then
+        echo "(the tests of this crate can't be listed)"
+        return
+    fi
+    sed -n 's/: [a-z]*$//p' "$folder/$1.list" |
         case $1 in memory_tests) cat ;; *) grep -E '(^|::)memory::' ;; esac
 }
 
@@ -129,7 +147,7 @@ unlisted() {
         crate=${crate%%/*}
         grep -rqs '^#\[cfg(test)\]' "crates/$crate/src" || continue
         to_be_refused "$crate" | while IFS= read -r name; do
-            grep -Eq "^(test|refused) $crate $name( [0-9]+)?\$" "$1" || echo "$crate $name"
+            grep -Eq "^(test $crate $name( [0-9]+)?|refused $crate $name)\$" "$1" || echo "$crate $name"
         done
     done
 }
@@ -153,13 +171,15 @@ kit=$(dirname "$(rt doc)")
 sed '/^#/d; /^$/d' "$list" >"$folder/scenarios"
 [ -s "$folder/scenarios" ] || exit 1
 
-# No test that is there to be refused is left out. First: one that is left out is seen.
-gone=$(sed -n 's/^test \(memory_tests [^ ]*\).*/\1/p' "$folder/scenarios" | head -n 1)
-grep -v "^test $gone\( \|\$\)" "$folder/scenarios" >"$folder/shortened"
-if ! unlisted "$folder/shortened" | grep -qx "$gone"; then
-    echo "refusals.sh: it isn't seen that $gone is left out" >&2
-    exit 1
-fi
+# No test that is there to be refused is left out. First: one that is left out is seen, of each sort of crate.
+for sort in 'memory_tests [^ ]*' '[^ ]* memory::[^ ]*'; do
+    gone=$(sed -n "s/^test \($sort\).*/\1/p" "$folder/scenarios" | head -n 1)
+    grep -v "^test $gone\( \|\$\)" "$folder/scenarios" >"$folder/shortened"
+    if [ -z "$gone" ] || ! unlisted "$folder/shortened" | grep -qx "$gone"; then
+        echo "refusals.sh: it isn't seen that $gone is left out" >&2
+        exit 1
+    fi
+done
 missing=$(unlisted "$folder/scenarios")
 if [ -n "$missing" ]; then
     echo "refusals.sh: not in the list: $missing" >&2
