@@ -1,9 +1,12 @@
-//! Tests of what `raw_bson` does with trees: reading them, writing them, counts, limits and the validator. They stand
+//! Tests of what `raw_bson` does with trees: reading them, writing them, counts, limits and the validator, and of the first
+//! barriers of `raw_form`. They stand
 //! apart from `bson_tests`, so that both are proved side by side.
 #![tactic(auto)]
 
 #[cfg(test)]
 mod asserts;
+#[cfg(test)]
+mod barriers;
 #[cfg(test)]
 mod counts;
 #[cfg(test)]
