@@ -1,5 +1,5 @@
 # Writes docs/CONTRACTS.md from the sources; checks/contracts.sh runs it. Each file is read twice: by pass=1 for the names
-# that raw_bson and raw_shelf pass on and for the traits that there are, by pass=2 for what stands in it. specs is the
+# that raw_bson, raw_form and raw_shelf pass on and for the traits that there are, by pass=2 for what stands in it. specs is the
 # list of the files of specs/. It relies on the layout that `rt fmt` gives.
 
 # place_of PATH: the place in DEFINITIONS.md for the file of specs/ that a path names; nothing for any other path
@@ -162,7 +162,7 @@ pass == 1 && /^(pub |pub\(crate\) )?trait / {
     sub(/[^A-Za-z0-9_].*/, "")
     declared[$0]
 }
-pass == 1 && FILENAME !~ /(^|\/)(raw_bson|raw_shelf)\/src\/(lib|laws)\.rt$/ { next }
+pass == 1 && FILENAME !~ /(^|\/)(raw_bson|raw_form|raw_shelf)\/src\/(lib|laws)\.rt$/ { next }
 pass == 1 {
     crate = FILENAME
     sub(/\/src\/.*/, "", crate)
@@ -239,6 +239,7 @@ function functions_of(crate, i, name, text) {
 END {
     page = "## raw_bson\n\n" types_of("raw_bson") functions_of("raw_bson")
     page = page "## The module laws of raw_bson\n\n" functions_of("raw_bson::laws")
+    page = page "## raw_form\n\n" types_of("raw_form") functions_of("raw_form")
     page = page "## raw_shelf\n\n" types_of("raw_shelf") functions_of("raw_shelf")
     for (i = 1; i <= passed; i++)
         if (!(order[i] in stands)) {
@@ -246,11 +247,12 @@ END {
             exit 1
         }
     print "# Contracts\n"
-    print "Every public item of `raw_bson` and of `raw_shelf`: its signature, its comment, and its clauses as they stand in the"
+    print "Every public item of `raw_bson`, `raw_form` and `raw_shelf`: its signature, its comment, and its clauses as they stand in the"
     print "source. The words that clauses cite lead to [DEFINITIONS.md](DEFINITIONS.md), which says how a clause reads, too."
     print "`checks/contracts.sh --write` writes this page from the sources; don't edit it.\n"
     print "- `raw_bson`: " contents["raw_bson"]
     print "- its laws: " contents["raw_bson::laws"]
+    print "- `raw_form`: " contents["raw_form"]
     print "- `raw_shelf`: " contents["raw_shelf"] "\n"
     printf "%s", page
 }

@@ -13,7 +13,7 @@ page=docs/CONTRACTS.md
 contracts() {
     (
         cd "$1/crates" || exit 1
-        files=$(ls bson_model/src/*.rt raw_view/src/*.rt raw_tree/src/*.rt raw_bson/src/*.rt raw_shelf/src/*.rt)
+        files=$(ls bson_model/src/*.rt raw_view/src/*.rt raw_tree/src/*.rt raw_bson/src/*.rt raw_form/src/*.rt raw_shelf/src/*.rt)
         # shellcheck disable=SC2086 # a list of names
         LC_ALL=C awk -v specs="$(echo */specs/*.antt)" -f "$checks/contracts.awk" pass=1 $files pass=2 $files
     )

@@ -8,6 +8,8 @@ mod arrays;
 #[cfg(test)]
 mod asserts;
 #[cfg(test)]
+mod barriers;
+#[cfg(test)]
 mod buffers;
 #[cfg(test)]
 mod copies;

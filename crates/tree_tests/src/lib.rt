@@ -1,7 +1,9 @@
-//! Tests of what `raw_bson` does with trees: reading them, writing them, counts, limits and the validator. They stand
-//! apart from `bson_tests`, so that both are proved side by side.
+//! Tests of what `raw_bson` does with trees: reading them, writing them, counts, limits and the validator, and of the first
+//! barriers of `raw_form`. They are apart from `bson_tests`, so that both are proved side by side.
 #![tactic(auto)]
 
+#[cfg(test)]
+mod barriers;
 #[cfg(test)]
 mod checks;
 #[cfg(test)]

@@ -1,0 +1,5 @@
+pub mod Looking
+pub mod Passing
+pub mod Outward
+pub mod Levels
+pub mod Told

@@ -1,0 +1,43 @@
+-- First barriers that are found without a tree. The bytes b of a document have an envelope.
+use Rattle.std.specs.Prelude.{◌≡◌, ℕ, List, map, Option, None, Some}
+use Rattle.std.specs.Option.{option_copied}
+use Rattle.bson_model.specs.Tree.{Tree}
+use Rattle.raw_view.specs.Front.{TellsBorrowed}
+use Rattle.raw_view.specs.Meaning.{KeyedFault}
+use Rattle.raw_tree.specs.Reading.{as_document, ReadsUpTo}
+use Rattle.raw_tree.specs.WithinLimits.{FirstBarrier, ReadsWithin, fault_of, too_deep, too_many_bytes}
+use Rattle.raw_tree.specs.WithinLimits as within
+use Rattle.raw_tree.specs.declared.limits.Limits.{Limits}
+use Rattle.raw_form.specs.Places.{Step, FirstFaultAt, FirstBarrierAt}
+use Rattle.raw_form.specs.declared.barrier.Barrier.{Barrier}
+use Rattle.raw_form.specs.declared.barrier.BarrierKind.{BarrierKind}
+use Rattle.raw_form.specs.declared.barrier.BarrierKind.TheVariants as kind
+use Rattle.raw_form.specs.declared.place.PathStep.{PathStep}
+use Rattle.raw_form.specs.declared.place.Place.{Place}
+
+-- the answer is this barrier; a fault with its own key
+abbrev pub IsBarrier : BarrierKind → within.Barrier → Type 0
+IsBarrier kind.TooManyBytes x = x ≡ too_many_bytes
+IsBarrier kind.TooDeep x = x ≡ too_deep
+IsBarrier (kind.Fault e) x = (fault : KeyedFault) × (x ≡ fault_of fault) × TellsBorrowed e fault
+
+-- the number and the key that a step shows
+abbrev pub step_of : PathStep → Step
+step_of step = record { number = step.number; key = option_copied step.key }
+
+-- the steps that a place shows
+abbrev pub steps_of : Place → List Step
+steps_of place = map step_of place.path.items
+
+-- where no barrier is answered, the document b is read as a tree within the limits; one that is answered is its first, and
+-- is where it says
+abbrev pub TellsBarrier : Limits → List ℕ → Option Barrier → Type 0
+TellsBarrier limits b None = (t : Tree) × ReadsWithin limits b t
+TellsBarrier limits b (Some answer) =
+    (x : within.Barrier) × FirstBarrier limits b x × IsBarrier answer.kind x × FirstBarrierAt limits b x (steps_of answer.place) answer.place.offset
+
+-- the same within a depth
+abbrev pub TellsBarrierWithin : ℕ → List ℕ → Option Barrier → Type 0
+TellsBarrierWithin depth b None = (t : Tree) × ReadsUpTo depth as_document b t
+TellsBarrierWithin depth b (Some answer) =
+    (x : within.Barrier) × IsBarrier answer.kind x × FirstFaultAt depth b x (steps_of answer.place) answer.place.offset

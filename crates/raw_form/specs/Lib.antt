@@ -1,0 +1,3 @@
+pub mod Places
+pub mod Barriers
+pub mod Looking

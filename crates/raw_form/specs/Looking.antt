@@ -1,0 +1,51 @@
+-- What a look at a level tells. No public contract cites this file.
+use Rattle.std.specs.Prelude.{◌≡◌, ◌+◌, ℕ, List, [], ◌∷◌, length, Option, None, Some}
+use Rattle.std.specs.Option.{option_copied}
+use Rattle.raw_view.specs.Document.{bytes_of}
+use Rattle.raw_view.specs.ElementSteps.{frame_of}
+use Rattle.raw_view.specs.Frame.{Frame, IsFrame, IsStop}
+use Rattle.raw_view.specs.Front.{TellsBorrowed}
+use Rattle.raw_view.specs.Meaning.{RawValue, KeyedFault, Means, value, faulty}
+use Rattle.raw_view.specs.Meaning as raw
+use Rattle.raw_view.specs.declared.document.RawDocument.{RawDocument}
+use Rattle.raw_tree.specs.Reading.{Holds}
+use Rattle.raw_form.specs.Places.{Step}
+use Rattle.raw_form.specs.declared.level.Waiting.{Waiting}
+use Rattle.raw_form.specs.declared.level.Next.{Next}
+use Rattle.raw_form.specs.declared.level.Next.TheVariants as next
+
+-- the step at which a level waits
+abbrev pub step_at : Waiting → Step
+step_at w = record { number = w.level.number; key = Some w.key.now }
+
+-- how many bytes a frame takes: a tag, its key with a 0, and its payload
+abbrev pub size_of : Frame → ℕ
+size_of f = length f.key + length f.payload + 2
+
+-- the value holds no nested bytes, or these
+abbrev pub HoldsBytes : RawValue → Option RawDocument → Type 0
+HoldsBytes (raw.single l) inside = inside ≡ None
+HoldsBytes (raw.document d) None = ⊥
+HoldsBytes (raw.document d) (Some x) = bytes_of x ≡ d
+HoldsBytes (raw.array d) None = ⊥
+HoldsBytes (raw.array d) (Some x) = bytes_of x ≡ d
+HoldsBytes (raw.scoped code d) None = ⊥
+HoldsBytes (raw.scoped code d) (Some x) = bytes_of x ≡ d
+
+-- the value holds no nested bytes
+abbrev pub HoldsNone : RawValue → Type 0
+HoldsNone v = (d : List ℕ) → ¬ Holds v d
+
+-- s stops with this fault; or the frame in front of it has this key, and means the fault
+abbrev pub FailsAt : List ℕ → Option (List ℕ) → KeyedFault → Type 0
+FailsAt s None fault = IsStop s fault.fault fault.key
+FailsAt s (Some key) fault = (f : Frame) × (r : List ℕ) × IsFrame s f r × Means f (faulty fault) × (key ≡ f.key)
+
+-- what is next where s is left
+abbrev pub Looks : Option (List ℕ) → Option (List ℕ) → Next → Type 0
+Looks None new x = Unit {0}
+Looks (Some s) new next.End = s ≡ 0 ∷ []
+Looks (Some s) new (next.Whole e) = (r : List ℕ) × (v : RawValue) × IsFrame s (frame_of e) r × Means (frame_of e) (value v) × HoldsNone v × (new ≡ Some r)
+Looks (Some s) new (next.Inside e inner) =
+    (r : List ℕ) × (v : RawValue) × IsFrame s (frame_of e) r × Means (frame_of e) (value v) × Holds v (bytes_of inner) × (new ≡ Some r)
+Looks (Some s) new (next.Fault key e) = (fault : KeyedFault) × FailsAt s (option_copied key) fault × TellsBorrowed e fault

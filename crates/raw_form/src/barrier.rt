@@ -1,0 +1,26 @@
+//! What ends a reading within limits, and where.
+#![tactic(auto)]
+
+use crate::place::Place;
+use raw_view::BorrowedError;
+
+/// What ends a reading of a document within limits.
+#[derive(Debug, Drop)]
+pub enum BarrierKind<'a> {
+    /// the document has more bytes than allowed
+    TooManyBytes,
+    /// a level is deeper than allowed
+    TooDeep,
+    /// a fault, with its key where it has one
+    Fault(BorrowedError<'a>),
+}
+
+/// What ends a reading of a document within limits, and where it is. The key and the path borrow from the document.
+#[derive(Debug, Drop)]
+pub struct Barrier<'a> {
+    /// what it is
+    pub kind: BarrierKind<'a>,
+    /// where: a fault at the element that means it, or at the stop; a level that is too deep at the element that holds it,
+    /// and the outermost one, as too many bytes, at the document as a whole
+    pub place: Place<'a>,
+}

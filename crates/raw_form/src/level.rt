@@ -1,0 +1,100 @@
+//! A level that is looked through: what is next in it.
+#![tactic(auto)]
+
+ghost use Rattle.std.specs.Prelude.{◌≡◌, ◌≤◌, ◌<◌, ◌+◌, ◌^◌, Some, drop, length};
+ghost use Rattle.raw_form.specs.Looking.{HoldsBytes, Looks, size_of};
+ghost use Rattle.raw_view.specs.Document.{bytes_of};
+ghost use Rattle.raw_view.specs.ElementSteps.{frame_of};
+ghost use Rattle.raw_view.specs.Value.{value_of};
+
+use raw_view::{BorrowedError, Elements, RawBsonRef, RawDocument, RawElement};
+
+/// A level that is looked through.
+#[derive(Drop)]
+pub(crate) struct Level<'a> {
+    /// what is left of it
+    pub(crate) elements: Elements<'a>,
+    /// how many elements are before that
+    pub(crate) number: usize,
+    /// where that begins, counted from the document's first byte
+    pub(crate) offset: usize,
+}
+
+impl<'a> Level<'a> {
+    /// The level of these bytes, which end there.
+    pub(crate) fn new(document: RawDocument<'a>, end: usize) -> Level<'a>
+        requires { length (bytes_of document) ≤ end }
+        ensures elements { result.elements ≡ Some (drop 4 (bytes_of document.entry)) }
+        ensures number { result.number ≡ 0 }
+        ensures offset { result.offset + length (drop 4 (bytes_of document.entry)) ≡ end }
+    {
+        Level {
+            elements: Elements::new(document),
+            number: 0,
+            offset: end - document.as_bytes().len() + 4,
+        }
+    }
+}
+
+/// A level that waits for the one that the element before what is left holds.
+#[derive(Drop)]
+pub(crate) struct Waiting<'a> {
+    pub(crate) level: Level<'a>,
+    /// the key of that element
+    pub(crate) key: &'a str,
+}
+
+/// What is next in a level.
+#[derive(Drop)]
+pub(crate) enum Next<'a> {
+    /// the final 0
+    End,
+    /// an element whose value holds no other level
+    Whole(RawElement<'a>),
+    /// an element, and the level that its value holds
+    Inside(RawElement<'a>, RawDocument<'a>),
+    /// the key of an element and the fault that it means; or a stop
+    Fault(Option<&'a str>, BorrowedError<'a>),
+}
+
+/// The bytes of the level that the value holds.
+#[inline(always)]
+fn inside(value: RawBsonRef<'_>) -> Option<RawDocument<'_>>
+    ensures { HoldsBytes (value_of value.entry) result }
+{
+    match value {
+        RawBsonRef::Document(document) => Some(document),
+        RawBsonRef::Array(array) => Some(array.as_doc()),
+        RawBsonRef::JavaScriptCodeWithScope(code) => Some(code.scope),
+        _ => None,
+    }
+}
+
+/// Looks at what is next in a level.
+#[inline(always)]
+pub(crate) fn look<'a>(elements: &mut Elements<'a>) -> Next<'a>
+    ensures { Looks elements.old elements.new result }
+{
+    let element = match elements.next() {
+        None => return Next::End,
+        Some(Err(error)) => return Next::Fault(None, error),
+        Some(Ok(element)) => element,
+    };
+    let value = match element.resolve() {
+        Err(error) => return Next::Fault(Some(element.key()), error),
+        Ok(value) => value,
+    };
+    match inside(value) {
+        None => Next::Whole(element),
+        Some(document) => Next::Inside(element, document),
+    }
+}
+
+/// Where what is behind an element begins that begins there.
+#[inline(always)]
+pub(crate) fn behind(offset: usize, element: RawElement<'_>) -> usize
+    requires { offset + size_of (frame_of element) < 2 ^ 64 }
+    ensures { result ≡ offset + size_of (frame_of element.entry) }
+{
+    offset + (element.key().len() + element.len() + 2)
+}

@@ -1,0 +1,96 @@
+//! Places in documents.
+#![tactic(auto)]
+
+ghost use Rattle.std.specs.Prelude.{◌≡◌, ◌++◌, ◌∷◌, [], map, IfOk, IfErr, OnOk};
+ghost use Rattle.std.specs.Option.{option_copied};
+ghost use Rattle.raw_form.specs.Barriers.{step_of, steps_of};
+ghost use Rattle.raw_form.specs.Looking.{step_at};
+ghost use Rattle.raw_view.specs.Errors.{IsOutOfMemory};
+
+use crate::level::Waiting;
+use raw_view::{Error, Result};
+use std::alloc::Global;
+
+/// A step of a path: which element of its level it is.
+#[derive(Clone, Copy, Debug, PartialEq, Eq)]
+pub struct PathStep<'a> {
+    /// the number of the element in its level, counted from 0; of a stop, how many elements are before it
+    pub number: usize,
+    /// the key of the element; a stop has none
+    pub key: Option<&'a str>,
+}
+
+/// A place in a document: an element, a stop, or the document as a whole.
+#[derive(Debug, PartialEq, Eq, Drop)]
+pub struct Place<'a> {
+    /// for each level, from the outermost on, the element that holds the next one, and at last the element or the stop
+    /// itself; empty where it is the document as a whole
+    pub path: Vec<PathStep<'a>>,
+    /// where the element or the stop begins, counted from the document's first byte
+    pub offset: usize,
+}
+
+impl<'a> Place<'a> {
+    /// The document as a whole; no memory is taken.
+    pub(crate) fn whole(alloc: Global) -> Place<'a>
+        ensures path { steps_of result ≡ [] }
+        ensures offset { result.offset ≡ 0 }
+    {
+        Place {
+            path: Vec::new(alloc),
+            offset: 0,
+        }
+    }
+}
+
+fn put_step<'a>(path: &mut Vec<PathStep<'a>>, step: PathStep<'a>) -> Result<()>
+    ensures put { OnOk result (path.new.items ≡ path.old.items ++ step.entry ∷ []) }
+    ensures err { IfErr result IsOutOfMemory }
+{
+    match path.push(step) {
+        Ok(()) => Ok(()),
+        Err(_) => Err(Error::out_of_memory()),
+    }
+}
+
+/// The steps at which these levels wait, from the outermost on, and this one behind them. The only error is want of
+/// memory.
+fn path_to<'a>(
+    alloc: Global,
+    waiting: &[Waiting<'a>],
+    last: PathStep<'a>,
+) -> Result<Vec<PathStep<'a>>>
+    ensures path { IfOk result
+        (λ path. map step_of path.items ≡ map step_at waiting.now ++ step_of last.entry ∷ []) }
+    ensures err { IfErr result IsOutOfMemory }
+{
+    let mut path = Vec::new(alloc);
+    for outer in waiting {
+        let step = PathStep {
+            number: outer.level.number,
+            key: Some(outer.key),
+        };
+        put_step(&mut path, step)?;
+    }
+    put_step(&mut path, last)?;
+    Ok(path)
+}
+
+/// The place of this number and this key, if it has one, in the level for which these wait, at this offset. The only error
+/// is want of memory.
+pub(crate) fn place_in<'a>(
+    alloc: Global,
+    waiting: &[Waiting<'a>],
+    number: usize,
+    key: Option<&'a str>,
+    offset: usize,
+) -> Result<Place<'a>>
+    ensures path { IfOk result
+        (λ place. steps_of place
+        ≡ map step_at waiting.now ++ record { number = number; key = option_copied key.entry } ∷ []) }
+    ensures offset { IfOk result (λ place. place.offset ≡ offset) }
+    ensures err { IfErr result IsOutOfMemory }
+{
+    let path = path_to(alloc, waiting, PathStep { number, key })?;
+    Ok(Place { path, offset })
+}
