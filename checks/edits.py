@@ -20,7 +20,7 @@ What each edit came to:
     not refused         the function is still proved
     bad                 the edit can't be applied or read, or the check ended without a verdict
 
-The first is well, and the others fail the run. Verdicts are kept in ~/.cache/foyeranise by checksums of all that they rest
+The first is well, the second is told, so that somebody mends the edit, and the others fail the run. Verdicts are kept in ~/.cache/foyeranise by checksums of all that they rest
 on, and --anew ignores these. --applies proves nothing: it sees that each edit applies.
 """
 
@@ -433,7 +433,7 @@ def main():
         for edit in left:
             if edit.verdict != BAD:
                 store.keep(edit)
-    wrong = [it for it in edits if it.verdict != REFUSED and (it.verdict or not given.applies)]
+    wrong = [it for it in edits if it.verdict in (NOT_REFUSED, BAD)]
     spent = resource.getrusage(resource.RUSAGE_CHILDREN)
     print(
         f"edits: {len(edits) - len(wrong)} of {len(edits)} {'apply' if given.applies else 'are refused'}; {checks} checks,"
