@@ -1,4 +1,4 @@
--- What pairs that are kept as keys beside values answer, by the place of a key.
+-- What pairs that are kept as keys beside values return, by the place of a key.
 use Rattle.std.proofs.Common.{◌≡◌, ℕ, zero, suc, ◌+◌, ◌<◌, Bool, true, false, cond, not, ◌||◌, List, [], ◌∷◌, ◌++◌, length, map, Option, Some, None, slice_get, slice_set, slice_index_or, refl, ap, sym, ◌∙◌, arith}
 use Rattle.std.proofs.Common.{ltb, is_some, IfSome, option_copied, Bor}
 use Rattle.std.proofs.lemmas.Bool.Decides.{nat_tests}

@@ -111,7 +111,7 @@ pub none_popped : (old new : Vec Bson Global) (last : Option Bson) → MatchOpti
 none_popped old new None h e = nil_from_length new.items (omega (arith, h.1, new.ok.0))
 none_popped old new (Some x) h e = cc
 
--- the last of the front of a list, with what stands before it
+-- the last of the front of a list, with what is before it
 pub cut-popped : (items new old : List Bson) (last : Option Bson) → items ≡ new ++ option_to_list last → ((rest : List Bson) × old ≡ items ++ rest) → IsCutFrom new last old
 cut-popped items new old last e (rest, h) = (rest, h ∙ ap (λ l. l ++ rest) e)
 

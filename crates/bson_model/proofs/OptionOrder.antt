@@ -1,9 +1,11 @@
 -- What putting the options of a regular expression in order gives.
-use Rattle.std.proofs.Common.{◌≡◌, ◌≢◌, ℕ, Bool, true, false, cond, ◌&&◌, List, [], ◌∷◌, ◌++◌, All, refl, ap, sym, ◌∙◌, lit<}
+use Rattle.std.proofs.Common.{◌≡◌, ◌≢◌, ◌⊎◌, inl, inr, ℕ, Bool, true, false, cond, ◌&&◌, List, [], ◌∷◌, ◌++◌, All, refl, ap, sym, subst, true≢false, ◌∙◌, lit<}
 use Rattle.std.proofs.Math.Dec.{leb}
 use Rattle.std.proofs.Math.Utf8.{scalars, scalar, encode, encodes}
+use Rattle.std.specs.Cmp.Lexicographic.{bytes_decides}
 use Rattle.std.specs.Prelude.{encode_utf8_all}
-use Rattle.std.specs.Str.{chars, IsUtf8}
+use Rattle.std.specs.List.Sorted.{IsNonDecreasing}
+use Rattle.std.specs.Str.{bytes_eq, chars, IsUtf8}
 use Rattle.std.proofs.lemmas.Str.{chars-encodes, encodes-chars, scalars-chars, encode_ascii, inside_one}
 use Rattle.std.proofs.lemmas.List.Elements.{All-nil, All-cons, All-head, All-tail, All-append, All-from_get_or}
 use Rattle.std.proofs.lemmas.List.Sorted.{All-permutation}
@@ -54,6 +56,14 @@ OrdersOptions-sorted_options options text = record {
 -- options that never descend stay as they are
 pub sorted_options-same : (options : List ℕ) → IsUtf8 options → OptionsAscend options → sorted_options options ≡ options
 sorted_options-same options text ascend = ap encode_utf8_all (ascending_same (chars options) ascend) ∙ encodes-chars options text
+
+-- options never descend, or they do
+pub options_decided : (options : List ℕ) → OptionsAscend options ⊎ ¬ OptionsAscend options
+options_decided options = decided_by (bytes_eq (ascending (chars options)) (chars options)) refl
+  where
+    decided_by : (same : Bool) → bytes_eq (ascending (chars options)) (chars options) ≡ same → OptionsAscend options ⊎ ¬ OptionsAscend options
+    decided_by true e = inl (subst IsNonDecreasing ((bytes_decides (ascending (chars options)) (chars options)).0 e) (IsNonDecreasing-ascending (chars options)))
+    decided_by false e = inr (λ ascend. true≢false (sym ((bytes_decides (ascending (chars options)) (chars options)).1 (ascending_same (chars options) ascend)) ∙ e))
 
 after_front : (xs ys : List ℕ) → NulFree (xs ++ ys) → NulFree ys
 after_front [] ys h = h

@@ -56,7 +56,7 @@ load (t ∷ ts) = load_of t + sizes ts
 abbrev pub left : List Bson → Option Bson → List Tree
 left held next = map tree_of (held ++ option_to_list next)
 
--- the values that are held and the next one stand in front of a list
+-- the values that are held and the next one are in front of a list
 abbrev pub IsCutFrom : List Bson → Option Bson → List Bson → Type 0
 IsCutFrom new next old = (rest : List Bson) × old ≡ (new ++ option_to_list next) ++ rest
 

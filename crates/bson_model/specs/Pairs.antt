@@ -3,7 +3,7 @@ use Rattle.std.specs.Prelude.{ℕ, List, [], ◌∷◌, Option, None, Some, if�
 use Rattle.std.specs.List.{IsDistinct, filter_map}
 use Rattle.std.specs.Str.{bytes_eq}
 
--- the keys without their repeats, each where it stands first
+-- the keys without their repeats, each in its first place
 abbrev pub first_keys : List (List ℕ) → List (List ℕ)
 first_keys [] = []
 first_keys (key ∷ keys) = key ∷ filter (λ other. not (bytes_eq key other)) (first_keys keys)
@@ -27,10 +27,10 @@ module _ {T : Type 0} where
   with_pair key value [] = (key, value) ∷ []
   with_pair key value (pair ∷ pairs) = if bytes_eq key pair.0 then (pair.0, value) ∷ pairs else pair ∷ with_pair key value pairs
 
-  -- no key stands twice
+  -- no key is there twice
   abbrev pub HasDistinctKeys : List (List ℕ × T) → Type 0
   HasDistinctKeys pairs = IsDistinct bytes_eq (keys_of pairs)
 
-  -- the keys in the order in which each stands first, each with the value that it has last
+  -- the keys in the order in which each comes first, each with the value that it has last
   abbrev pub keep : List (List ℕ × T) → List (List ℕ × T)
   keep pairs = filter_map (λ key. option_map (λ value. (key, value)) (last_value_at key pairs)) (first_keys (keys_of pairs))

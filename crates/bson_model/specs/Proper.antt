@@ -57,7 +57,7 @@ IsLeafInRange (decimal128 bytes) = AreBytesOf 16 bytes
 IsLeafInRange max_key = Unit {0}
 IsLeafInRange min_key = Unit {0}
 
--- each leaf is in range, each code and key is UTF-8, and no key stands twice in a document or a scope:
+-- each leaf is in range, each code and key is UTF-8, and no key is there twice in a document or a scope:
 -- so is the tree of every value, document and list
 abbrev pub IsWellFormed : Tree → Type 0
 IsWellFormed = Everywhere IsLeafInRange IsUtf8 IsUtf8 (IsDistinct bytes_eq)
@@ -80,12 +80,12 @@ DoLeafOptionsAscend _ = Unit {0}
 abbrev pub DoOptionsAscend : Tree → Type 0
 DoOptionsAscend = Everywhere DoLeafOptionsAscend Whatever Whatever Whatever
 
--- the subtype of a binary value is the one that its byte stands for
+-- the subtype of a binary value is the one that its byte gives
 abbrev pub IsLeafSubtypeProper : Leaf → Type 0
 IsLeafSubtypeProper (binary subtype bytes) = IsProperSubtype subtype
 IsLeafSubtypeProper _ = Unit {0}
 
--- each subtype is the one that its byte stands for
+-- each subtype is the one that its byte gives
 abbrev pub AreSubtypesProper : Tree → Type 0
 AreSubtypesProper = Everywhere IsLeafSubtypeProper Whatever Whatever Whatever
 

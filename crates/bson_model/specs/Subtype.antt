@@ -34,6 +34,6 @@ subtype_byte Vector = 9
 subtype_byte (Reserved byte) = byte
 subtype_byte (UserDefined byte) = byte
 
--- a subtype that its byte stands for
+-- a subtype that its byte gives
 abbrev pub IsProperSubtype : BinarySubtype → Type 0
 IsProperSubtype subtype = subtype_of (subtype_byte subtype) ≡ subtype

@@ -2,6 +2,10 @@ ghost use Rattle.std.specs.Prelude.{◌≡◌};
 ghost use Rattle.bson_model.specs.Subtype.{subtype_of, subtype_byte};
 
 /// What the bytes of a binary value are (BSON 1.1, binary subtypes).
+/// ```
+/// assert_eq!(rt; BinarySubtype::from_u8(4), BinarySubtype::Uuid);
+/// assert_eq!(rt; BinarySubtype::UserDefined(200).to_u8(), 200);
+/// ```
 #[derive(Clone, Copy, Debug, PartialEq, Eq)]
 pub enum BinarySubtype {
     /// Bytes of no stated meaning (byte 0).

@@ -18,6 +18,10 @@ use std::alloc::Global;
 
 /// A value of BSON (BSON 1.1, element). However deep it is, it is dropped by a loop, which takes no memory. `==` and
 /// `Debug` call themselves for each level: on a stack of 8 MB `==` bears at least 40,000 levels, and `Debug` 15,000.
+/// ```
+/// let value = RawBson::try_from_bson(alloc, Bson::Int32(7))?;
+/// assert_eq!(rt; value.into_bson(alloc)?, Bson::Int32(7));
+/// ```
 #[derive(Debug, PartialEq, Eq)]
 #[cycle(tree)]
 pub enum Bson {
@@ -66,6 +70,12 @@ pub enum Bson {
 }
 
 /// Pairs of a key and a value, in order, no key twice (BSON 1.1, document). What `Bson` says of depth holds of it.
+/// ```
+/// let mut document = Document::new(alloc);
+/// document.put(String::from_str(alloc, "a")?, Bson::Int32(1))?;
+/// assert_eq!(rt; document.get("a"), Some(&Bson::Int32(1)));
+/// assert_eq!(rt; document.len(), 1);
+/// ```
 #[derive(Debug, PartialEq, Eq)]
 #[cycle(tree)]
 pub struct Document {
@@ -99,7 +109,7 @@ impl Drop for Document {
 }
 
 impl Bson {
-    /// The value, unless all of it stands in its own place, so that nothing is to be let go.
+    /// The value, unless all of it is in its own place, so that nothing is to be let go.
     #[inline(always)]
     pub(crate) fn unless_plain(self) -> Option<Bson>
         ensures { IfSome result (λ value. value ≡ self) }
@@ -205,7 +215,7 @@ impl Document {
         self.pairs.pair_at(index)
     }
 
-    /// Puts a pair last, or where its key stands, and answers the value that stood there. It fails only
+    /// Puts a pair last, or where its key is, and returns the value that was there. It fails only
     /// for a key that is not there, and then changes nothing and drops the pair.
     pub fn insert(&mut self, key: String, value: Bson) -> Result<Option<Bson>, NoMemory>
         ensures inserted { OnOk result (pairs_of self.new
@@ -218,7 +228,7 @@ impl Document {
     {
         self.pairs.insert(key, value)
     }
-    /// Puts a pair last, or where its key stands, as `insert` does; the value that stood there is let go.
+    /// Puts a pair last, or where its key is, as `insert` does; the value that was there is dropped.
     pub fn put(&mut self, key: String, value: Bson) -> Result<(), NoMemory>
         ensures put { OnOk result (pairs_of self.new
             ≡ with_pair (string_bytes key) value (pairs_of self.old)) }

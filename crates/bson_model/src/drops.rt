@@ -19,7 +19,7 @@ pub(crate) fn drop_values(mut held: Vec<Bson>) {
     held.destroy_empty();
 }
 
-/// Goes on with these values, and lets those that are held wait among them; answers which is to be let go next.
+/// Goes on with these values, and lets those that are held wait among them; returns which is to be let go next.
 fn enter(held: &mut Vec<Bson>, values: Vec<Bson>) -> Option<Bson>
     ensures less { IsLess held.new.items result held.old.items values.items }
     ensures none { IfNone result (held.new.items ≡ []) }

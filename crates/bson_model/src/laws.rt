@@ -7,7 +7,7 @@ ghost use Rattle.bson_model.specs.Proper.{IsWellFormed};
 use crate::bson::{Bson, Document};
 pub use crate::ranges::{attest_bytes, attest_u32, attest_u64};
 
-/// Whether two values stand for one tree, which is what `==` answers; it bears the levels that `==` bears. Programs
+/// Whether two values have one tree, which is what `==` returns; it takes the stack that `==` takes. Programs
 /// never need it; proofs do.
 pub fn is_same_tree(a: &Bson, b: &Bson) -> bool
     ensures { IsTrue result ↔ (tree_of a.now ≡ tree_of b.now) }
@@ -15,7 +15,7 @@ pub fn is_same_tree(a: &Bson, b: &Bson) -> bool
     a == b
 }
 
-/// Whether two documents stand for one tree, which is what `==` answers: the same keys with the same
+/// Whether two documents have one tree, which is what `==` returns: the same keys with the same
 /// trees in the same order; it bears the levels that `==` bears. Programs never need it; proofs do.
 pub fn is_same_document(left: &Document, right: &Document) -> bool
     ensures { IsTrue result ↔ (tree_of_document left.now ≡ tree_of_document right.now) }
@@ -24,7 +24,7 @@ pub fn is_same_document(left: &Document, right: &Document) -> bool
 }
 
 /// The tree of a value is well formed: numbers are in the ranges of their types, bytes are bytes, an
-/// ObjectId has twelve and a Decimal128 sixteen, texts and keys are UTF-8, and no key stands twice in a
+/// ObjectId has twelve and a Decimal128 sixteen, texts and keys are UTF-8, and no key is twice in a
 /// document. It reads the whole value, changes nothing and takes no memory. It calls itself for each level, and no
 /// other call of the libraries makes it. Programs never need it; proofs do.
 #[cycle(attest)]

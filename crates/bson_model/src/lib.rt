@@ -1,4 +1,4 @@
-//! The values of BSON, and the trees that documents stand for.
+//! The values of BSON, and the trees of documents.
 #![tactic(auto, using(crate::proofs::Trees::tree_laws))]
 
 mod binaries;

@@ -10,6 +10,10 @@ use std::alloc::Global;
 use std::{fmt, str};
 
 /// Twelve bytes that name an object (BSON 1.1, element of type ObjectId).
+/// ```
+/// let id = ObjectId::from_bytes([7; 12]);
+/// assert_eq!(rt; id.to_hex(alloc)?.as_str(), "070707070707070707070707");
+/// ```
 #[derive(Clone, Copy, Debug, PartialEq, Eq)]
 pub struct ObjectId {
     bytes: [u8; 12],

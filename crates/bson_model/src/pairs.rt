@@ -70,7 +70,7 @@ impl<T> Pairs<T> {
         }
     }
 
-    /// Puts a pair last, or where its key stands, and answers the value that stood there. It fails only
+    /// Puts a pair last, or where its key is, and returns the value that was there. It fails only
     /// for a key that is not there, and then changes nothing and drops the pair.
     #[inline(never)]
     pub fn insert(&mut self, key: String, value: T) -> Result<Option<T>, NoMemory>
@@ -90,7 +90,7 @@ impl<T> Pairs<T> {
         }
     }
 
-    /// The same, but that the value that stood there is let go.
+    /// The same, but that the value that was there is dropped.
     pub fn put(&mut self, key: String, value: T) -> Result<(), NoMemory>
     where
         T: Drop,

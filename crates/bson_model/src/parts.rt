@@ -76,7 +76,7 @@ impl<T> Parts<T> {
         Some((key.as_str(), &self.values[index]))
     }
 
-    /// Puts a pair last, or where its key stands, and answers the value that stood there. It fails only
+    /// Puts a pair last, or where its key is, and returns the value that was there. It fails only
     /// for a key that is not there, and then changes nothing and drops the pair.
     #[inline(always)]
     pub fn insert(&mut self, key: String, value: T) -> Result<Option<T>, NoMemory>
@@ -97,7 +97,7 @@ impl<T> Parts<T> {
         Ok(Some(old))
     }
 
-    /// The same, but that the value that stood there is let go.
+    /// The same, but that the value that was there is dropped.
     #[inline(never)]
     pub fn put(&mut self, key: String, value: T) -> Result<(), NoMemory>
     where

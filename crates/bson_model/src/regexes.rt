@@ -10,13 +10,17 @@ use std::alloc::Global;
 pub struct Regex {
     /// The pattern. It is written only without a 0.
     pub pattern: String,
-    /// The options, one character each. They are written as they stand, and only without a 0.
+    /// The options, one character each. They are written as they are, and only without a 0.
     pub options: String,
 }
 
 impl Regex {
     /// The regular expression of a pattern, with the options' characters in ascending order of their
     /// Unicode scalar values, repeats kept; or `NoMemory`.
+    /// ```
+    /// let regex = Regex::new(alloc, "^a", "mi")?;
+    /// assert_eq!(rt; regex.options.as_str(), "im");
+    /// ```
     pub fn new(alloc: Global, pattern: &str, options: &str) -> Result<Regex, NoMemory>
         ensures kept { IfOk result (λ r. string_bytes r.pattern ≡ pattern.now) }
         ensures sorted { IfOk result (λ r. string_bytes r.options ≡ sorted_options options.now) }

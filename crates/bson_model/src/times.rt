@@ -2,6 +2,9 @@ ghost use Rattle.std.specs.Prelude.{◌≡◌};
 ghost use Rattle.bson_model.specs.Scalars.{millis_of_date_time};
 
 /// A time in milliseconds since the start of 1970 in UTC (BSON 1.1, UTC datetime).
+/// ```
+/// assert_eq!(rt; DateTime::from_millis(-1).timestamp_millis(), -1);
+/// ```
 #[derive(Clone, Copy, Debug, PartialEq, Eq)]
 pub struct DateTime {
     millis: i64,
@@ -24,6 +27,10 @@ impl DateTime {
 }
 
 /// A time in seconds and a counter within it, for internal use of databases (BSON 1.1, Timestamp).
+/// ```
+/// let stamp = Timestamp { time: 5, increment: 1 };
+/// assert_eq!(rt; RawBsonRef::from(stamp).as_timestamp(), Some(stamp));
+/// ```
 #[derive(Clone, Copy, Debug, PartialEq, Eq)]
 pub struct Timestamp {
     /// Seconds since the start of 1970.

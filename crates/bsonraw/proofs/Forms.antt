@@ -8,6 +8,7 @@ use Rattle.raw_bson.specs.ErrorKind.{ErrorKind}
 use Rattle.raw_bson.specs.ErrorKind.TheVariants as kind
 use Rattle.raw_bson.specs.Errors.{Tells, TellsFault, IsReadingReason}
 use Rattle.raw_bson.specs.Frame.{Fault, Stopped}
+use Rattle.raw_bson.specs.Limits.{Limits}
 use Rattle.raw_bson.specs.Proper.{IsProper}
 use Rattle.raw_bson.specs.Reason.{Reason}
 use Rattle.raw_bson.specs.Reason.TheVariants as reason
@@ -23,7 +24,7 @@ use Rattle.bsonraw.specs.declared.printed.Printed.{Printed}
 use Rattle.bsonraw.specs.declared.status.Status.{Status}
 use Rattle.bsonraw.specs.declared.status.Status.TheVariants as status
 
--- a tree that was read is refused for its length or for want of memory alone
+-- a tree that was read fails for its length, or memory runs out
 refused_kind : (b : List ℕ) (t : Tree) (e : Error) (k : ErrorKind) → e.kind ≡ k → ReadsWithin form_limits b t → IsProper t → IsRefused t e → RefusesTree t k → LacksForm b e
 refused_kind b t e (kind.MalformedValue reason.InteriorNul) same read proper r refusal = absurd (refusal proper.nul_free)
 refused_kind b t e (kind.MalformedValue reason.TooLong) same read proper r refusal = inr (t, read, (refusal.1, same, r.1))
@@ -80,9 +81,10 @@ pub refused_forms : {X : Type 0} (b : List ℕ) (t : Tree) (result : Result X Er
 refused_forms b t (Ok x) read proper refused = tt
 refused_forms b t (Err e) read proper refused = refused_form b t e read proper refused
 
-pub refused_first : {X : Type 0} (b : List ℕ) (e was : Error) (result : Result X Error) → result ≡ Err e → e ≡ was → TellsFirstBarrier form_limits b was → IfErr result (LacksForm b)
-refused_first {X} b e was result is same told =
-    let here : TellsFirstBarrier form_limits b e = subst (λ (x : Error). TellsFirstBarrier form_limits b x) (sym same) told in
+pub refused_first : {X : Type 0} (b : List ℕ) (limits : Limits) (e was : Error) (result : Result X Error) → limits ≡ form_limits → result ≡ Err e → e ≡ was → TellsFirstBarrier limits b was → IfErr result (LacksForm b)
+refused_first {X} b limits e was result own is same told =
+    let within : TellsFirstBarrier form_limits b was = subst (λ (l : Limits). TellsFirstBarrier l b was) own told in
+    let here : TellsFirstBarrier form_limits b e = subst (λ (x : Error). TellsFirstBarrier form_limits b x) (sym same) within in
     subst (λ (r : Result X Error). IfErr r (LacksForm b)) (sym is) (inl here)
 
 pub limit_printed : {E : Type 0} (b : List ℕ) (e : Error) (line : List ℕ) (result : Result Printed E) → LacksForm b e → limit_text e.kind ≡ Some line → IfOk result (λ p. (p.status ≡ status.Fault) × (string_bytes p.output ≡ line)) → IfOk result (λ p. PrintsForm b (code_of p.status) (string_bytes p.output))

@@ -15,7 +15,7 @@ use Rattle.bsonraw.specs.Print.{form_limits}
 abbrev pub HasForm : List ℕ → List ℕ → Type 0
 HasForm b form = (t : Tree) × ReadsWithin form_limits b t × (encoded_len t ≤ max_length) × (form ≡ encoding t)
 
--- why there are none: the first barrier, the length of the encoding, or want of memory
+-- why there are none: the first barrier, the length of the encoding, or out of memory
 abbrev pub LacksForm : List ℕ → Error → Type 0
 LacksForm b e = TellsFirstBarrier form_limits b e ⊎ ((t : Tree) × ReadsWithin form_limits b t × TellsTooLong t e)
 

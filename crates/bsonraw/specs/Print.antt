@@ -84,7 +84,7 @@ IsRefusal reason.LengthIncorrect = Unit {0}
 IsRefusal reason.NotTerminated = Unit {0}
 IsRefusal _ = ⊥
 
--- the refusal of bytes without an envelope, by the first reason that applies
+-- the line of bytes without an envelope, by the first reason that applies
 pub record PrintsRefusal (b : List ℕ) (status : ℕ) (output : List ℕ) : Type 0 where
   pub reason : Reason
   pub refuses : Refuses b reason
@@ -156,10 +156,10 @@ name_of command.Check = codes "check"
 abbrev pub IsCommand : List ℕ → Type 0
 IsCommand name = (c : Command) × (name ≡ name_of c)
 
--- the answer to a name and a text: what the command of that name prints, and else the usage line
+-- the result for a name and a text: what the command of that name prints, and else the usage line
 abbrev pub Prints : List ℕ → List ℕ → ℕ → List ℕ → Type 0
 Prints name text status output = ((c : Command) × (name ≡ name_of c) × PrintsText c text status output) ⊎ ((¬ IsCommand name) × (status ≡ 3) × (output ≡ usage_line))
 
--- nothing is printed, for want of memory
+-- nothing is printed, as memory ran out
 abbrev pub LacksMemory : ℕ → List ℕ → Type 0
 LacksMemory status output = (status ≡ 4) × (output ≡ [])

@@ -65,12 +65,12 @@ fn of_bytes(alloc: Global, command: Command, bytes: &[u8]) -> Result<Printed, Al
         },
         Err(error) => match error.kind {
             ErrorKind::MalformedValue { reason } => refused(alloc, reason),
-            _ => unreachable!(),
+            ErrorKind::Utf8EncodingError(_) | ErrorKind::OutOfMemory => unreachable!(),
         },
     }
 }
 
-/// The refusal of bytes that are no document, by its number.
+/// The line of bytes that are no document, with the number of the reason.
 fn refused(alloc: Global, reason: Reason) -> Result<Printed, AllocError>
     requires { IsRefusal reason }
     ensures { IfOk result
@@ -80,7 +80,27 @@ fn refused(alloc: Global, reason: Reason) -> Result<Printed, AllocError>
         Reason::TooShort => "refused 1\n",
         Reason::LengthIncorrect => "refused 2\n",
         Reason::NotTerminated => "refused 3\n",
-        _ => unreachable!(),
+        Reason::Overflowed
+        | Reason::InvalidTag(_)
+        | Reason::StringHeadShort(_)
+        | Reason::NegativeLength
+        | Reason::StringTooSmall
+        | Reason::StringPastEnd(..)
+        | Reason::StringNotTerminated
+        | Reason::PastEnd(..)
+        | Reason::DocumentTooSmall(_)
+        | Reason::NestedNotTerminated
+        | Reason::LengthHeadShort(_)
+        | Reason::NoTerminator
+        | Reason::BadBoolean(_)
+        | Reason::OldNoInner
+        | Reason::AddOverflow
+        | Reason::OldWrongInner
+        | Reason::CodeTooSmall
+        | Reason::InteriorNul
+        | Reason::TooLong
+        | Reason::TooManyBytes
+        | Reason::TooDeep => unreachable!(),
     };
     one_line(alloc, Status::Fault, line)
 }

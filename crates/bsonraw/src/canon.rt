@@ -3,7 +3,7 @@ ghost use Rattle.std.specs.Option.{option_copied};
 ghost use Rattle.std.specs.String.{string_bytes};
 ghost use Rattle.raw_bson.specs.Document.{bytes_of};
 ghost use Rattle.bsonraw.specs.Form.{HasForm, LacksForm, limit_text};
-ghost use Rattle.bsonraw.specs.Print.{PrintsForm};
+ghost use Rattle.bsonraw.specs.Print.{PrintsForm, form_limits};
 ghost use Rattle.bsonraw.specs.Status.{code_of};
 
 use crate::fault::push_fault;
@@ -15,10 +15,14 @@ use raw_bson::{
 use std::alloc::{AllocError, Global};
 
 /// What a document may cost whose canonical form is asked for.
-const LIMITS: Limits = Limits {
-    bytes: 16_777_216,
-    depth: 500,
-};
+fn limits() -> Limits
+    ensures { result ≡ form_limits }
+{
+    Limits {
+        bytes: 16_777_216,
+        depth: 500,
+    }
+}
 
 /// The canonical form of a document in hex, or why there is none.
 pub fn canon_document(alloc: Global, document: RawDocument<'_>) -> Result<Printed, AllocError>
@@ -36,7 +40,7 @@ fn canonical_form(alloc: Global, document: RawDocument<'_>) -> raw_bson::Result<
     ensures form { IfOk result (HasForm (bytes_of document.entry)) }
     ensures refused { IfErr result (LacksForm (bytes_of document.entry)) }
 {
-    let tree = document_from_raw_within(alloc, document, LIMITS)?;
+    let tree = document_from_raw_within(alloc, document, limits())?;
     RawDocumentBuf::from_document(alloc, &tree)
 }
 
@@ -69,7 +73,7 @@ fn limit_line(error: &Error) -> Option<&'static str>
     }
 }
 
-/// Why a document has no canonical form that can be answered: a limit, or its first fault.
+/// Why a document has no canonical form that can be printed: a limit, or its first fault.
 fn without_form(alloc: Global, error: &Error) -> Result<Printed, AllocError>
     ensures { (b : List ℕ) → LacksForm b error.now → IfOk result
         (λ p. PrintsForm b (code_of p.status) (string_bytes p.output)) }

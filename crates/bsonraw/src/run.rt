@@ -13,14 +13,14 @@ use std::io::{Read, Write};
 #[cfg(test)]
 mod tests;
 
-/// Reads the text to its end, writes the answer to the command and gives its exit status; 5 where reading or writing
-/// failed. An unknown command is answered before anything is read.
+/// Reads the text to its end, writes the command's output and returns its exit status; 5 if reading or writing
+/// failed. The usage of an unknown command is written before anything is read.
 pub fn run<R: Read, W: Write>(alloc: Global, command: &str, reader: &mut R, writer: &mut W) -> u8
     ensures answered { IsCommand command.now → result ≢ 4 → result ≢ 5 →
         Answers command.now (R.remaining reader.old) (R.remaining reader.new)
         (W.contents writer.old) (W.contents writer.new) result }
 
-    // Without memory for the answer nothing is written, nor anything before all was read.
+    // Without memory for the output nothing is written, nor anything before all was read.
     ensures no_memory { result ≡ 4 → Keeps (W.contents writer.old) (W.contents writer.new) }
     ensures read_first { IsCommand command.now →
         Keeps (W.contents writer.old) (W.contents writer.new) ⊎ IsAtEnd (R.remaining reader.new) }
@@ -33,6 +33,18 @@ pub fn run<R: Read, W: Write>(alloc: Global, command: &str, reader: &mut R, writ
     if Command::from_name(command).is_none() {
         return written(writer, USAGE.as_bytes(), Status::Usage.code());
     }
+    answered(alloc, command, reader, writer)
+}
+
+/// Reads the text to its end and writes the command's output.
+fn answered<R: Read, W: Write>(alloc: Global, command: &str, reader: &mut R, writer: &mut W) -> u8
+    ensures answered { result ≢ 4 → result ≢ 5 →
+        Answers command.now (R.remaining reader.old) (R.remaining reader.new)
+        (W.contents writer.old) (W.contents writer.new) result }
+    ensures no_memory { result ≡ 4 → Keeps (W.contents writer.old) (W.contents writer.new) }
+    ensures read_first { Keeps (W.contents writer.old) (W.contents writer.new)
+        ⊎ IsAtEnd (R.remaining reader.new) }
+{
     let mut text = Vec::new(alloc);
     if reader.read_to_end(&mut text).is_err() {
         return Status::Io.code();

@@ -9,7 +9,7 @@ pub enum Status {
     BadHex,
     /// the arguments are no command
     Usage,
-    /// no memory was left for the answer
+    /// no memory was left for the output
     NoMemory,
     /// reading or writing failed
     Io,

@@ -58,7 +58,7 @@ told_of_value v d e h told =
 pub refused_no_nul : (t : Tree) (e : Error) → IsNulFree t → IsRefused t e → e.kind ≢ kind.MalformedValue reason.InteriorNul
 refused_no_nul t e free r = λ same. subst (RefusesTree t) same r.0 free
 
--- a refusal to write a tree that was read
+-- an error to write a tree that was read
 refused_kind : (b : List ℕ) (t : Tree) (e : Error) (k : ErrorKind) → e.kind ≡ k → IsEnvelope b → Reads b t → IsProper t → IsRefused t e → RefusesTree t k → RefusesForm b e
 refused_kind b t e (kind.MalformedValue reason.InteriorNul) same env read proper r refusal = absurd (refusal proper.nul_free)
 refused_kind b t e (kind.MalformedValue reason.TooLong) same env read proper r refusal = inr (env, inr (t, read, (refusal.1, same, r.1)))

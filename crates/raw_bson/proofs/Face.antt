@@ -4,12 +4,23 @@
 pub use Rattle.raw_view.proofs.Face.{LeadsTo-walk, LeadsTo-more, LeadsTo-bound, IsFrame-shorter, HasRead-more, HasRead-end, HasRead-stop, HasRead-bound}
 -- loops over keys and values, and over the values of arrays
 pub use Rattle.raw_view.proofs.Face.{HasReadItems-none, HasReadItems-bound, HasReadItems-pair, HasReadItems-value, HasReadItems-end, HasReadItems-pair_fault, HasReadItems-value_fault}
+-- the items read so far begin every list of items, and the next is behind them
+pub use Rattle.raw_bson.proofs.EachItems.{LeadsTo-begins, HasReadItems-begins, HasReadItems-next}
+-- loops that ask something of each item, also where they are left early
+pub use Rattle.raw_bson.proofs.EachItems.{HasReadEach-none, HasReadEach-pair, HasReadEach-comes, HasReadEach-fault, HasReadEach-value, HasReadEach-comes_value, HasReadEach-value_fault, HasReadEach-end}
+pub use Rattle.raw_bson.proofs.EachItems.{HasTried, TriesEach-more, TriesEach-error, TriesEach-fault, SeeksOne-value}
+pub use Rattle.raw_bson.proofs.EachItems.{EachItem-more, EachItem-at, OneItem-at, OneItem-none, ComesTo-not_each, ComesTo-one, HoldsOfEach-not_one}
+-- `==` of borrowed values
+pub use Rattle.raw_bson.proofs.SameViews.{same_view}
 -- rows of appends, and what was read and is written again
-pub use Rattle.raw_bson.proofs.HeldFrames.{HoldsFrames-empty, HoldsFrames-value, HoldsFrames-element, HaveNoShortScope-more, HaveNoShortScope-last, value_is_long, frame_again}
+pub use Rattle.raw_bson.proofs.HeldFrames.{HoldsFrames-empty, HoldsFrames-value, HoldsFrames-element, HaveNoShortScope-more, HaveNoShortScope-last, value_is_long, value_means, frame_again}
 -- there is one walk alone, and one meaning of a frame
 pub use Rattle.raw_view.proofs.Face.{one_frame, one_walk, one_meaning}
 -- the document at the front of bytes, and the length that they begin with: four bytes read one
 pub use Rattle.raw_view.proofs.Face.{first_four, header_of_front, refused_none, one_first, read_front, IsLe32-same}
 -- the canonical form of a tree that is read
-pub use Rattle.raw_tree.proofs.Face.{bytes_one_way}
-pub use Rattle.raw_bson.proofs.CanonicalForms.{canonical_form}
+pub use Rattle.raw_tree.proofs.Face.{bytes_one_way, canonical_form}
+-- bytes of a slice
+pub use Rattle.bson_model.proofs.Face.{AreBytes-from_elements}
+-- the tree of each kind of value
+pub use Rattle.bson_model.proofs.Face.{tree_laws, tree_of-Double, tree_of-String, tree_of-Document, tree_of-Array, tree_of-Binary, tree_of-Undefined, tree_of-ObjectId, tree_of-Boolean, tree_of-DateTime, tree_of-Null, tree_of-RegularExpression, tree_of-DbPointer, tree_of-JavaScriptCode, tree_of-Symbol, tree_of-JavaScriptCodeWithScope, tree_of-Int32, tree_of-Timestamp, tree_of-Int64, tree_of-Decimal128, tree_of-MaxKey, tree_of-MinKey}

@@ -1,12 +1,14 @@
 -- A document that was made by appends holds the frames that were appended.
-use Rattle.std.proofs.Common.{◌≡◌, ◌+◌, ◌++◌, ◌∷◌, [], ◌∙◌, ℕ, List, length, decimal, ap, sym, refl, subst, arith}
+use Rattle.std.proofs.Common.{◌≡◌, ◌≤◌, ◌+◌, ◌++◌, ◌∷◌, [], ◌∙◌, ℕ, List, length, decimal, ap, sym, refl, subst, arith}
 use denote.Ref.{Bor}
 use Rattle.bson_model.specs.Leaf.{Leaf, double}
 use Rattle.raw_view.specs.Frame.{Frame, IsFrame, IsShortScope}
 use Rattle.raw_view.specs.Meaning.{RawValue, single, document, array, scoped, Means, value}
-use Rattle.raw_tree.specs.Payload.{payload_of}
+use Rattle.raw_view.specs.Number.{max_length}
+use Rattle.raw_view.proofs.Face.{leaf_means, scoped_means}
+use Rattle.raw_tree.specs.Payload.{payload_of, IsValueNulFree}
 use Rattle.raw_tree.proofs.Face.{value_spelled}
-use Rattle.raw_bson.specs.Append.{value_frame, EndsInShortScope, KeepsWalk, HaveNoShortScope, HoldsFrames}
+use Rattle.raw_bson.specs.Append.{value_frame, EndsInShortScope, KeepsWalk, HaveNoShortScope, HoldsFrames, IsRawInRange, IsValueSubtypeProper, AddsValue}
 use Rattle.raw_bson.specs.Fills.{empty_document, frames_of_pairs, frames_from}
 use Rattle.raw_bson.specs.Owned.{owned_value}
 use Rattle.raw_bson.specs.declared.bson.RawBson.{RawBson}
@@ -52,15 +54,32 @@ HaveNoShortScope-last (g ∷ frames) f h = let rest = HaveNoShortScope-last fram
 
 -- the document without elements holds no frame
 pub HoldsFrames-empty : (b : List ℕ) → b ≡ empty_document → HoldsFrames b []
-HoldsFrames-empty b empty = subst (λ x. HoldsFrames x []) (sym empty) (refl, tt)
+HoldsFrames-empty b empty = subst (λ x. HoldsFrames x []) (sym empty) (record { walk = refl; no_short_scope = tt })
 
--- one more element as it stands
+-- one more element as it is
 pub HoldsFrames-element : (b : List ℕ) (frames : List Frame) (f : Frame) (left : List ℕ) → HoldsFrames b frames → ¬ IsShortScope f → KeepsWalk b f left → HoldsFrames left (frames ++ f ∷ [])
-HoldsFrames-element b frames f left h long keeps = ((keeps frames h.0 (ends_long frames h.1)).0, HaveNoShortScope-more frames f h.1 long)
+HoldsFrames-element b frames f left h long keeps = record {
+  walk = (keeps frames h.walk (ends_long frames h.no_short_scope)).0;
+  no_short_scope = HaveNoShortScope-more frames f h.no_short_scope long;
+}
 
 -- one more value
 pub HoldsFrames-value : (b : List ℕ) (frames : List Frame) (key : List ℕ) (v : RawValue) (left : List ℕ) → HoldsFrames b frames → KeepsWalk b (value_frame key v) left → HoldsFrames left (frames ++ value_frame key v ∷ [])
 HoldsFrames-value b frames key v left h keeps = HoldsFrames-element b frames (value_frame key v) left h (value_is_long key v) keeps
+
+-- the frame of a value means it
+pub value_means : (key : List ℕ) (v : RawValue) → IsRawInRange v → IsValueNulFree v → IsValueSubtypeProper v → length (payload_of v) ≤ max_length → Means (value_frame key v) (value v)
+value_means key (single leaf) h n s l = leaf_means leaf h n s l
+value_means key (document bytes) h n s l = refl
+value_means key (array bytes) h n s l = refl
+value_means key (scoped code scope) h n s l = scoped_means code scope h.0 h.1 (omega arith)
+
+-- so an append adds it
+pub adds_value : (b key : List ℕ) (v : RawValue) (left : List ℕ) → IsRawInRange v → IsValueNulFree v → length (payload_of v) ≤ max_length → KeepsWalk b (value_frame key v) left → AddsValue b key v left
+adds_value b key v left range nul_free fits keeps = record {
+  holds = λ frames h. HoldsFrames-value b frames key v left h keeps;
+  means = λ proper. value_means key v range nul_free proper fits;
+}
 
 -- rows of appends
 

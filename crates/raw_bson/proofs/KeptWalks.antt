@@ -69,7 +69,7 @@ last_of_walk s (f ∷ frames) w =
     let spelled : s ≡ tag_of f.kind ∷ (f.key ++ 0 ∷ (f.payload ++ (rest.0 ++ 0 ∷ []))) = w.1.spelled ∙ ap (λ x. tag_of f.kind ∷ (f.key ++ 0 ∷ (f.payload ++ x))) rest.1 in
     (tag_of f.kind ∷ (f.key ++ 0 ∷ (f.payload ++ rest.0)), spelled ∙ sym (frame-append (tag_of f.kind) f.key f.payload rest.0 (0 ∷ [])))
 
--- codes with scope, whose shape speaks of what stands behind them
+-- codes with scope, whose shape speaks of what is behind them
 
 -- no kind has tag 0, as is seen kind by kind
 tag_of-above : (k : ElementType) → 0 < tag_of k
@@ -104,7 +104,7 @@ length_before_end p m (f ∷ frames) w other d =
       | inr short ↦ absurd (no_frame_in_length p (m ++ 0 ∷ []) w.0 f short w.1 d)
     ]
 
--- the declared length stays where bytes change that stand behind the length bytes
+-- the declared length stays where bytes change that are behind the length bytes
 declared_on : (p m x y : List ℕ) → 4 ≤ length (p ++ m) → HasDeclaredLength p (m ++ x) → HasDeclaredLength p (m ++ y)
 declared_on p m x y four d =
     let before : take 4 (p ++ (m ++ x)) ≡ take 4 (p ++ m) = ap (take 4) (sym (append_assoc p m x)) ∙ take-append-le 4 (p ++ m) x four in

@@ -1,4 +1,3 @@
-pub mod CanonicalForms
 pub mod Converted
 pub mod Counts
 pub mod Filling
@@ -6,4 +5,6 @@ pub mod KeptWalks
 pub mod HeldFrames
 pub mod SameValues
 pub mod Appended
+pub mod EachItems
+pub mod SameViews
 pub mod Face

@@ -136,11 +136,11 @@ same_pointer : (a b : DbPointer) → IsDecided (own.DbPointer a) (own.DbPointer 
 same_pointer a b = of_leaf (joined _ _ (same_text a.namespace b.namespace) (bytes_eq-Decides a.id.bytes b.id.bytes) (λ p q i. db_pointer (p i) (q i)) (λ r. cc) (λ r. cc))
 
 -- a test that always passes decides what always holds, as at two values of a variant without fields
-always : {P : Type 0} → P → Decides true P
+pub always : {P : Type 0} → P → Decides true P
 always p = (λ q. p, λ q. refl)
 
 -- the place of a variant, told from what its values show
-abbrev leaf_place : Leaf → ℕ
+abbrev pub leaf_place : Leaf → ℕ
 leaf_place (double _) = 0
 leaf_place (string _) = 1
 leaf_place (boolean _) = 4
@@ -161,7 +161,7 @@ leaf_place min_key = 19
 leaf_place (db_pointer _ _) = 20
 
 -- the same, told from what a value stands for
-abbrev value_place : RawValue → ℕ
+abbrev pub value_place : RawValue → ℕ
 value_place (single l) = leaf_place l
 value_place (array _) = 2
 value_place (document _) = 3
@@ -194,7 +194,7 @@ tests = tests_of bson.enum.parts make
 
 -- one variant, and those behind it
 infixr 20 ◌▹◌
-◌▹◌ : {A B : Type 0} → A → B → A × B
+pub ◌▹◌ : {A B : Type 0} → A → B → A × B
 a ▹ b = (a, b)
 
 -- within each variant `==` decides whether two values show the same

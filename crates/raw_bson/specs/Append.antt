@@ -2,12 +2,12 @@
 use Rattle.std.specs.Prelude.{◌≡◌, ◌≤◌, ℕ, List, [], ◌∷◌, ◌++◌, length, drop, None, Result, Ok, Err}
 use Rattle.std.specs.Str.{IsUtf8}
 use Rattle.bson_model.specs.Bytes.{NulFree}
-use Rattle.bson_model.specs.Proper.{IsLeafInRange}
+use Rattle.bson_model.specs.Proper.{IsLeafInRange, IsLeafSubtypeProper}
 use Rattle.raw_view.specs.Envelope.{IsEnvelope}
 use Rattle.raw_view.specs.Errors.{key_of}
 use Rattle.raw_view.specs.Format.{framed, inside_of, element_of}
 use Rattle.raw_view.specs.Frame.{Frame, IsWalk, Done, IsShortScope}
-use Rattle.raw_view.specs.Meaning.{RawValue, single, document, array, scoped, kind_of_raw}
+use Rattle.raw_view.specs.Meaning.{RawValue, single, document, array, scoped, kind_of_raw, Means, value}
 use Rattle.raw_view.specs.Number.{max_length}
 use Rattle.raw_view.specs.OneReading.{IsTheWalk}
 use Rattle.raw_view.specs.declared.error.Error.{Error}
@@ -32,13 +32,13 @@ appended_bytes b f = framed (inside_of b ++ frame_bytes f)
 abbrev pub HasRoom : List ℕ → Frame → Type 0
 HasRoom b f = length (appended_bytes b f) ≤ max_length
 
--- Why a document of so many bytes isn't made: their number, else want of memory.
+-- Why a document of so many bytes isn't made: their number, else out of memory.
 abbrev pub RefusesLength : ℕ → ErrorKind → Type 0
 RefusesLength n (kind.MalformedValue reason.TooLong) = ¬ (n ≤ max_length)
 RefusesLength n kind.OutOfMemory = n ≤ max_length
 RefusesLength n _ = ⊥
 
--- What an append of an element as it stands answers and leaves: one element more; or a refusal without a key,
+-- What an append of an element as it is returns and leaves: one element more; or an error without a key,
 -- and b as it was.
 abbrev pub AppendsFrame : List ℕ → Frame → Result (Unit {0}) Error → List ℕ → Type 0
 AppendsFrame b f (Ok _) left = HasRoom b f × (left ≡ appended_bytes b f)
@@ -48,12 +48,12 @@ AppendsFrame b f (Err e) left = RefusesLength (length (appended_bytes b f)) e.ki
 abbrev pub IsNulFreeElement : List ℕ → RawValue → Type 0
 IsNulFreeElement key v = NulFree key × IsValueNulFree v
 
--- Why an append of a value is refused: first a 0, then the length, then want of memory.
+-- Why an append of a value fails: first a 0, then the length, then out of memory.
 abbrev pub RefusesAppend : List ℕ → List ℕ → RawValue → ErrorKind → Type 0
 RefusesAppend b key v (kind.MalformedValue reason.InteriorNul) = ¬ IsNulFreeElement key v
 RefusesAppend b key v e = IsNulFreeElement key v × RefusesLength (length (appended_bytes b (value_frame key v))) e
 
--- What an append of a value to the document b answers and leaves: one element more; or a refusal without a key,
+-- What an append of a value to the document b returns and leaves: one element more; or an error without a key,
 -- and b as it was.
 abbrev pub Appends : List ℕ → List ℕ → RawValue → Result (Unit {0}) Error → List ℕ → Type 0
 Appends b key v (Ok _) left = IsNulFreeElement key v × HasRoom b (value_frame key v) × (left ≡ appended_bytes b (value_frame key v))
@@ -75,8 +75,20 @@ HaveNoShortScope (f ∷ fs) = (¬ IsShortScope f) × HaveNoShortScope fs
 
 -- The walk of the document b is these frames, up to its final 0, and none is a short code with scope. So it is of
 -- every document that was made by appends of values to one without elements.
-abbrev pub HoldsFrames : List ℕ → List Frame → Type 0
-HoldsFrames b frames = IsWalk (drop 4 b) frames Done × HaveNoShortScope frames
+pub record HoldsFrames (b : List ℕ) (frames : List Frame) : Type 0 where
+  pub walk : IsWalk (drop 4 b) frames Done
+  pub no_short_scope : HaveNoShortScope frames
+
+-- the subtype of a binary is the one that its byte stands for
+abbrev pub IsValueSubtypeProper : RawValue → Type 0
+IsValueSubtypeProper (single leaf) = IsLeafSubtypeProper leaf
+IsValueSubtypeProper _ = Unit {0}
+
+-- What an append of a value to the document b does to the frames that b holds: it leaves them, and one more behind
+-- them, which means the value.
+pub record AddsValue (b key : List ℕ) (v : RawValue) (left : List ℕ) : Type 0 where
+  pub holds : (frames : List Frame) → HoldsFrames b frames → HoldsFrames left (frames ++ value_frame key v ∷ [])
+  pub means : IsValueSubtypeProper v → Means (value_frame key v) (value v)
 
 -- what holds of every value that is handed to an append: numbers and bytes in range, texts UTF-8, nested
 -- documents, arrays and scopes with their envelopes

@@ -1,16 +1,14 @@
--- What conversions between owned values, documents and trees answer.
-use Rattle.std.specs.Prelude.{◌≡◌, ◌⊎◌, ◌<◌, ℕ, List, length, None, Some, Result, Ok, Err}
+-- What conversions between owned values, documents and trees return.
+pub use Rattle.raw_tree.specs.CanonicalForm.{TellsTooLong}
+use Rattle.std.specs.Prelude.{◌≡◌, ◌⊎◌, ℕ, List, length, Some, Result, Ok, Err}
 use Rattle.bson_model.specs.Tree.{Tree, leaf, array, document, code_with_scope, items_in, tree_of}
 use Rattle.bson_model.specs.declared.bson.Bson.{Bson}
 use Rattle.raw_view.specs.Envelope.{IsEnvelope}
-use Rattle.raw_view.specs.Errors.{TellsRefusal, key_of}
+use Rattle.raw_view.specs.Errors.{TellsRefusal}
 use Rattle.raw_view.specs.Meaning.{RawValue}
 use Rattle.raw_view.specs.Meaning as raw
-use Rattle.raw_view.specs.Number.{max_length}
 use Rattle.raw_view.specs.declared.error.Error.{Error}
-use Rattle.raw_view.specs.declared.error.ErrorKind.TheVariants.{MalformedValue}
-use Rattle.raw_view.specs.declared.error.Reason.TheVariants.{TooLong}
-use Rattle.raw_tree.specs.Encoding.{IsEncoded, IsRefused, encoded_len}
+use Rattle.raw_tree.specs.Encoding.{IsEncoded, IsRefused}
 use Rattle.raw_tree.specs.Reading.{FirstFaultOfValue, HasOneReading, Reads, ReadsAs, StandsFor, TellsFirstFault, TellsFirstFaultOfValue}
 use Rattle.raw_bson.specs.Owned.{owned_value, count_in}
 use Rattle.raw_bson.specs.declared.bson.RawBson.{RawBson}
@@ -25,7 +23,7 @@ BecomesTree v t = StandsFor ReadsAs v t
 abbrev pub BecomesOneTree : RawValue → Type 0
 BecomesOneTree v = HasOneReading (BecomesTree v) (FirstFaultOfValue v)
 
--- What is answered for it: the tree, always where it holds no others; else the tree, its first fault or want
+-- What is returned for it: the tree, always where it holds no others; else the tree, its first fault or out
 -- of memory.
 abbrev pub BecomesBson : RawValue → Result Bson Error → Type 0
 BecomesBson v (Ok t) = BecomesTree v (tree_of t)
@@ -44,11 +42,7 @@ BecomesRawBson (document es) (Err e) = IsRefused (document es) e
 BecomesRawBson (code_with_scope code es) (Ok v) = (b : List ℕ) × IsEncoded (document es) b × (owned_value v ≡ raw.scoped code b)
 BecomesRawBson (code_with_scope code es) (Err e) = IsRefused (document es) e
 
--- the encoding of the tree would be too long; the error has no key
-abbrev pub TellsTooLong : Tree → Error → Type 0
-TellsTooLong t e = (max_length < encoded_len t) × (e.kind ≡ MalformedValue TooLong) × (key_of e ≡ None)
-
--- Why no canonical form of these bytes is answered: the first reason for which they have no envelope; else
--- their first fault, or want of memory; else that the encoding of their tree would be too long.
+-- Why no canonical form of these bytes is returned: the first reason for which they have no envelope; else
+-- their first fault, or out of memory; else that the encoding of their tree would be too long.
 abbrev pub RefusesForm : List ℕ → Error → Type 0
 RefusesForm b e = TellsRefusal b e ⊎ (IsEnvelope b × (TellsFirstFault b e ⊎ ((t : Tree) × Reads b t × TellsTooLong t e)))

@@ -30,7 +30,7 @@ pub record IsCopy (v : RawValue) (copy : RawBson) : Type 0 where
   pub value_is : owned_value copy ≡ with_options_in_order v
   pub count_is : HasItemCount copy
 
--- what copying answers for what an element means: a copy of the value, or want of memory; or the fault
+-- what copying returns for what an element means: a copy of the value, or out of memory; or the fault
 abbrev pub CopiesMeaning : Meaning → Result RawBson Error → Type 0
 CopiesMeaning (value v) (Ok copy) = IsCopy v copy
 CopiesMeaning (value v) (Err e) = IsOutOfMemory e

@@ -14,6 +14,6 @@ abbrev pub count_after : ℕ → Result (Unit {0}) Error → ℕ
 count_after n (Ok _) = n + 1
 count_after n (Err _) = n
 
--- What a push to the array a answers and leaves: an append under the decimal of the count.
+-- What a push to the array a returns and leaves: an append under the decimal of the count.
 abbrev pub Pushes : ArrayBytes → RawValue → Result (Unit {0}) Error → ArrayBytes → Type 0
 Pushes a v result left = Appends a.bytes (decimal a.count) v result left.bytes × (left.count ≡ count_after a.count result)

@@ -18,15 +18,15 @@ empty_document = 5 ∷ 0 ∷ 0 ∷ 0 ∷ 0 ∷ []
 abbrev pub empty_array : ArrayBytes
 empty_array = record { bytes = empty_document; count = 0 }
 
--- Takes says what one item answers and leaves; X is what a buffer is seen as, A an item.
+-- Takes says what one item returns and leaves; X is what a buffer is seen as, A an item.
 module _ {X A : Type 0} (Takes : X → A → Result (Unit {0}) Error → X → Type 0) where
   -- each item in order is taken, and leaves the buffer for the next
   abbrev pub TakesEach : X → List A → X → Type 0
   TakesEach b [] left = left ≡ b
   TakesEach b (x ∷ xs) left = (mid : X) × Takes b x (Ok tt) mid × TakesEach mid xs left
 
-  -- What filling the buffer `empty` from an iterator answers, where next_gives says what its calls give: all
-  -- items taken in order; or the refusal of the first one that is refused, or want of memory for the empty
+  -- What filling the buffer `empty` from an iterator returns, where next_gives says what its calls give: all
+  -- items taken in order; or the error of the first one that fails, or out of memory for the empty
   -- buffer.
   abbrev pub Fills : {S : Type 0} → X → (S → Option A → S → Type 0) → S → Result X Error → Type 0
   Fills empty next_gives s (Ok full) = (xs : List A) × Drains next_gives s xs × TakesEach empty xs full

@@ -4,6 +4,7 @@ pub mod Conversion
 pub mod Copies
 pub mod Count
 pub mod Cows
+pub mod EachItem
 pub mod Fills
 pub mod Lending
 pub mod Owned

@@ -1,4 +1,4 @@
--- What the accessors of owned values answer: the part that a value of their variant holds.
+-- What the accessors of owned values return: the part that a value of their variant holds.
 use Rattle.std.specs.Prelude.{ℕ, ℤ, Bool, List, Option, Some, None}
 use Rattle.std.specs.String.{string_bytes}
 use Rattle.bson_model.specs.Scalars.{bytes_of_object_id}

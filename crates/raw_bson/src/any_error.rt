@@ -7,8 +7,12 @@ use raw_view::{Error, ValueAccessError};
 use std::alloc::{AllocError, AllocFailed};
 use std::fmt;
 
-/// Any error of this library: of reading and writing, or of typed access. By `?` both turn into it, and so does want of
+/// Any error of this library: of reading and writing, or of typed access. By `?` both turn into it, and so does out of
 /// memory, as they are: no conversion takes memory.
+/// ```
+/// let missing = AnyError::from(RawDocumentBuf::new(alloc)?.get_i32("a").unwrap_err());
+/// assert_eq!(rt; missing.key(), Some("a"));
+/// ```
 #[derive(Debug, PartialEq, Eq, Drop)]
 pub enum AnyError {
     /// A call that reads or writes failed.

@@ -1,7 +1,7 @@
 //! One element more in a document's bytes.
 
 ghost use Rattle.std.specs.Prelude.{◌≡◌, ◌≤◌, ◌<◌, ◌+◌, ◌-◌, ◌++◌, ◌∷◌, [], None, length, take, vec_len, vec_capacity, OnOk, IfErr};
-ghost use Rattle.raw_bson.specs.Append.{Appends, AppendsFrame, KeepsWalk, RefusesLength, frame_bytes, value_frame};
+ghost use Rattle.raw_bson.specs.Append.{AddsValue, Appends, AppendsFrame, KeepsWalk, RefusesLength, frame_bytes, value_frame};
 ghost use Rattle.raw_view.specs.ElementSteps.{frame_of};
 ghost use Rattle.raw_view.specs.Envelope.{IsEnvelope};
 ghost use Rattle.raw_view.specs.Errors.{key_of};
@@ -30,7 +30,7 @@ fn put_at_end(bytes: &mut Vec<u8>, key: &str, value: RawBsonRef<'_>)
     bytes.push_reserved(0);
 }
 
-/// Puts an element as it stands in place of the last byte, and a 0 behind it, where there is room for them.
+/// Puts an element as it is in place of the last byte, and a 0 behind it, where there is room for them.
 #[inline(always)]
 fn put_raw_at_end(bytes: &mut Vec<u8>, element: RawElement<'_>)
     requires some { 0 < vec_len bytes.old }
@@ -68,6 +68,7 @@ pub(crate) fn append_value(bytes: &mut Vec<u8>, key: &str, value: RawBsonRef<'_>
     ensures appends { Appends bytes.old.items key.now (value_of value.entry) result bytes.new.items }
     ensures walk { OnOk result (KeepsWalk bytes.old.items
         (value_frame key.now (value_of value.entry)) bytes.new.items) }
+    ensures adds { OnOk result (AddsValue bytes.old.items key.now (value_of value.entry) bytes.new.items) }
     ensures envelope { IsEnvelope bytes.new.items }
 {
     if !is_nul_free(key) || !is_value_nul_free(value) {
@@ -80,7 +81,7 @@ pub(crate) fn append_value(bytes: &mut Vec<u8>, key: &str, value: RawBsonRef<'_>
     Ok(())
 }
 
-/// Appends an element as it stands to a document's bytes, with the old content and the element's value unexamined.
+/// Appends an element as it is to a document's bytes, with the old content and the element's value unexamined.
 #[inline(always)]
 pub(crate) fn append_raw_element(bytes: &mut Vec<u8>, element: RawElement<'_>) -> Result<()>
     requires { IsEnvelope bytes.old.items }

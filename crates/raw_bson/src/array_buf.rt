@@ -1,5 +1,5 @@
 ghost use Rattle.std.specs.Prelude.{◌≡◌, ◌≤◌, ◌+◌, ◌-◌, ◌/◌, ◌↔◌, ◌∷◌, [], decimal, IfOk, IfErr, OnOk, IsTrue, List, length};
-ghost use Rattle.raw_bson.specs.Append.{HoldsFrames, KeepsWalk, value_frame};
+ghost use Rattle.raw_bson.specs.Append.{AddsValue, HoldsFrames, KeepsWalk, value_frame};
 ghost use Rattle.raw_bson.specs.Count.{Pushes};
 ghost use Rattle.std.specs.Iterator.{Drains, IsFinite};
 ghost use Rattle.raw_bson.specs.Fills.{Fills, TakesEach, TakesValue, empty_array, frames_from};
@@ -23,6 +23,11 @@ use std::marker::Model;
 
 /// The bytes of an array, owned, and the count under which the next value is pushed. A clause sees both.
 /// BSON 1.1, `array`.
+/// ```
+/// let mut array = RawArrayBuf::new(alloc)?;
+/// array.push(RawBson::from(7))?;
+/// assert_eq!(rt; (array.get_i32(0)?, array.count()), (7, 1));
+/// ```
 #[derive(Drop)]
 pub struct RawArrayBuf {
     document: RawDocumentBuf,
@@ -41,7 +46,7 @@ impl Model for RawArrayBuf {
 }
 
 impl RawArrayBuf {
-    /// The array without values, of count 0; or want of memory.
+    /// The array without values, of count 0; or out of memory.
     pub fn new(alloc: Global) -> Result<RawArrayBuf>
         ensures empty { IfOk result (λ a. a ≡ empty_array) }
         ensures err { IfErr result IsOutOfMemory }
@@ -52,7 +57,7 @@ impl RawArrayBuf {
         })
     }
 
-    /// The array of these values, pushed in order; or the first refusal. The iterator has to end.
+    /// The array of these values, pushed in order; or the first error. The iterator has to end.
     pub fn from_iter<I: Iterator<Item = RawBson> + Drop>(
         alloc: Global,
         values: I,
@@ -94,13 +99,20 @@ impl RawArrayBuf {
         self.len
     }
 
-    /// Appends a value under the decimal of the count, and adds one to the count. It refuses what an append
-    /// refuses, and then the bytes and the count are as they were. The value is dropped.
+    /// Appends a value under the decimal of the count, and adds one to the count. It fails as an append
+    /// does, and then the bytes and the count are as they were. The value is dropped.
+    /// ```
+    /// let mut array = RawArrayBuf::new(alloc)?;
+    /// array.push(RawBson::from_str(alloc, "x")?)?;
+    /// assert_eq!(rt; array.get_str(0)?, "x");
+    /// ```
     #[inline(always)]
     pub fn push(&mut self, value: RawBson) -> Result<()>
         ensures pushes { Pushes self.old (owned_value value) result self.new }
         ensures walk { OnOk result
             (KeepsWalk self.old.bytes (value_frame (decimal self.old.count) (owned_value value)) self.new.bytes) }
+        ensures adds { OnOk result
+            (AddsValue self.old.bytes (decimal self.old.count) (owned_value value) self.new.bytes) }
     {
         let mut key = Buffer::new();
         self.document.append(key.format(self.len), value)?;
@@ -151,7 +163,7 @@ impl RawArrayBuf {
     }
 
     /// The item of this number, counted from 0, faults counted too: its value, or its fault. The fault at
-    /// which the elements stop is the last item; past it `None`. Nothing of another item is answered.
+    /// which the elements stop is the last item; past it `None`. Nothing of another item is returned.
     pub fn get(&self, index: usize) -> Result<Option<RawBsonRef<'_>>>
         ensures { (found : Option Meaning) × IsAt self.now.bytes index found
             × TellsFound result found }

@@ -20,6 +20,11 @@ use raw_view::{
 use std::alloc::{AllocError, Global};
 
 /// A value that owns its parts. BSON 1.1, `element`.
+/// ```
+/// let value = RawBson::from(7);
+/// assert_eq!(rt; value.as_i32(), Some(7));
+/// assert_eq!(rt; value.element_type(), ElementType::Int32);
+/// ```
 #[derive(Debug, PartialEq, Eq, Drop)]
 pub enum RawBson {
     /// 64 bits of a floating point number
@@ -259,7 +264,10 @@ impl RawBson {
         }
     }
 
-    /// A string with a copy of this text; the only error is want of memory.
+    /// A string with a copy of this text; the only error is out of memory.
+    /// ```
+    /// assert_eq!(rt; RawBson::from_str(alloc, "x")?.as_str(), Some("x"));
+    /// ```
     pub fn from_str(alloc: Global, text: &str) -> Result<RawBson>
         ensures copied { IfOk result (λ v. owned_value v ≡ single (string text.now)) }
         ensures err { IfErr result IsOutOfMemory }

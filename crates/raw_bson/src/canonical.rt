@@ -10,9 +10,14 @@ use raw_view::{ErrorKind, RawDocument, Reason, Result};
 use std::alloc::Global;
 
 /// The canonical form of a document: the bytes that its tree is written as. Documents with equal trees, and
-/// no others, have equal canonical forms; one that is canonical is its own. It answers the first refusal of:
-/// no sound envelope; the first fault at any level, with that fault's key; over 2147483647 bytes; want of
+/// no others, have equal canonical forms; one that is canonical is its own. The error is the first of:
+/// no sound envelope; the first fault at any level, with that fault's key; over 2147483647 bytes; out of
 /// memory. A document has no more than one tree, and either that or a first fault. BSON 1.1, `document`.
+/// ```
+/// let repeated = b"\x13\0\0\0\x10a\0\x01\0\0\0\x10a\0\x02\0\0\0\0";
+/// let form = canonical_bytes(alloc, repeated)?;
+/// assert_eq!(rt; form.as_slice(), b"\x0C\0\0\0\x10a\0\x02\0\0\0\0".as_slice());
+/// ```
 pub fn canonical_bytes(alloc: Global, bytes: &[u8]) -> Result<Vec<u8>>
     ensures form { IfOk result (λ form. IsCanonicalForm bytes.now form.items) }
     ensures one_reading { IsEnvelope bytes.now → AreReadOneWay as_document bytes.now }

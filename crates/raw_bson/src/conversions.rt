@@ -1,5 +1,5 @@
 //! Owned values as trees, and trees as owned values.
-#![tactic(auto, using(std::proofs::lemmas::Grind::common_steps, bson_model::proofs::Trees::tree_laws))]
+#![tactic(auto, using(std::proofs::lemmas::Grind::common_steps, bson_model::proofs::Face::tree_laws))]
 
 ghost use Rattle.std.specs.Prelude.{◌≡◌, length, IfOk, IfErr};
 ghost use Rattle.std.specs.String.{string_bytes};
@@ -24,9 +24,14 @@ use std::alloc::Global;
 use std::mem;
 
 impl RawDocumentBuf {
-    /// The bytes of a document. It refuses, without a key, first where a key, a pattern or options at any
-    /// depth hold a 0, then where the bytes would be over 2147483647, and then where memory runs out. What
+    /// The bytes of a document. It fails, without a key, first if a key, a pattern or options at any
+    /// depth hold a 0, then if the bytes would be over 2147483647, and then if memory runs out. What
     /// `encode` says of trees that come back holds here, too. BSON 1.1, `document`.
+    /// ```
+    /// let mut tree = Document::new(alloc);
+    /// tree.put(String::from_str(alloc, "a")?, Bson::Int32(1))?;
+    /// assert_eq!(rt; RawDocumentBuf::from_document(alloc, &tree)?.get_i32("a")?, 1);
+    /// ```
     pub fn from_document(alloc: Global, document: &Document) -> Result<RawDocumentBuf>
         ensures ok { IfOk result (λ d. IsEncoded (tree_of_document document.now) d) }
         ensures comes_back { DocumentsComeBack }
@@ -45,6 +50,11 @@ impl RawDocumentBuf {
     }
 
     /// The tree of the document, as `document_from_raw` gives it.
+    /// ```
+    /// let mut document = RawDocumentBuf::new(alloc)?;
+    /// document.append("a", RawBson::from(1))?;
+    /// assert_eq!(rt; document.to_document()?.get("a"), Some(&Bson::Int32(1)));
+    /// ```
     pub fn to_document(&self) -> Result<Document>
         ensures tree { IfOk result (λ d. Reads self.now (tree_of_document d)) }
         ensures fault { IfErr result (TellsFirstFault self.now) }
@@ -126,6 +136,9 @@ impl RawBson {
     /// `list_from_raw` do it; on their first fault, and where memory runs out for them, the value is dropped.
     /// Every other value is moved as it is, also the options of a regular expression, and takes no memory.
     /// The value has no more than one such tree, and either that or a first fault.
+    /// ```
+    /// assert_eq!(rt; RawBson::from(7).into_bson(alloc)?, Bson::Int32(7));
+    /// ```
     pub fn into_bson(self, alloc: Global) -> Result<Bson>
         ensures becomes { BecomesBson (owned_value self) result }
         ensures one_reading { BecomesOneTree (owned_value self) }
@@ -160,7 +173,7 @@ impl RawBson {
         }
     }
 
-    /// A tree as a value that owns its bytes. A document, a list and a scope are written, and refused as by
+    /// A tree as a value that owns its bytes. A document, a list and a scope are written, and fail as by
     /// `encode`; the value is then dropped. The count of an array is the length of the list. Every other
     /// value is moved as it is and takes no memory.
     pub fn try_from_bson(alloc: Global, mut value: Bson) -> Result<RawBson>

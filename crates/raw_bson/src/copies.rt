@@ -1,10 +1,10 @@
-ghost use Rattle.std.specs.Prelude.{◌≡◌, ◌≤◌, ◌+◌, ◌-◌, ◌/◌, length, IfOk, IfErr};
+ghost use Rattle.std.specs.Prelude.{◌≡◌, ◌≤◌, ◌+◌, ◌-◌, ◌/◌, ℕ, List, length, IfOk, IfErr};
 ghost use Rattle.std.specs.String.{string_bytes};
 ghost use Rattle.raw_bson.specs.Copies.{CountsItems, CopiesMeaning, IsCopy};
 ghost use Rattle.raw_view.specs.Document.{bytes_of};
 ghost use Rattle.raw_view.specs.ElementSteps.{frame_of};
 ghost use Rattle.raw_view.specs.Errors.{IsOutOfMemory};
-ghost use Rattle.raw_view.specs.Meaning.{Meaning, Means};
+ghost use Rattle.raw_view.specs.Meaning.{Meaning, Means, value};
 ghost use Rattle.raw_view.specs.declared.bson_ref.RawBsonRef.TheVariants as ref;
 ghost use Rattle.raw_view.specs.Value.{value_of, array_bytes_of};
 
@@ -19,26 +19,52 @@ use raw_view::{
 use std::alloc::Global;
 
 /// A copy of a view of a document.
+/// ```
+/// let document = RawDocument::from_bytes(b"\x0C\0\0\0\x10a\0\x01\0\0\0\0")?;
+/// let copy = document.to_raw_document_buf(alloc)?;
+/// assert_eq!(rt; copy.as_bytes(), document.as_bytes());
+/// ```
 pub trait ToRawDocumentBuf {
-    /// A buffer of the same bytes; the only error is want of memory.
-    fn to_raw_document_buf(self, alloc: Global) -> Result<RawDocumentBuf>;
+    /// The bytes of the document.
+    ghost shown: { Self → List ℕ };
+
+    /// A buffer of the same bytes; the only error is out of memory.
+    fn to_raw_document_buf(self, alloc: Global) -> Result<RawDocumentBuf>
+        ensures copied { IfOk result (λ copy. copy ≡ shown self) }
+        ensures err { IfErr result IsOutOfMemory };
 }
 
 /// A copy of a view of an array.
 pub trait ToRawArrayBuf {
+    /// The bytes of the array.
+    ghost shown: { Self → List ℕ };
+
     /// A buffer of the same bytes, whose count is the number of its items, faults and the stop counted too;
-    /// the only error is want of memory.
-    fn to_raw_array_buf(self, alloc: Global) -> Result<RawArrayBuf>;
+    /// the only error is out of memory.
+    fn to_raw_array_buf(self, alloc: Global) -> Result<RawArrayBuf>
+        ensures copied { IfOk result (λ copy. copy.bytes ≡ shown self) }
+        ensures counted { IfOk result (λ copy. CountsItems (shown self) copy.count) }
+        ensures err { IfErr result IsOutOfMemory };
 }
 
 /// A copy of a borrowed value.
+/// ```
+/// let value = RawBsonRef::from("x").to_raw_bson(alloc)?;
+/// assert_eq!(rt; value.as_str(), Some("x"));
+/// ```
 pub trait ToRawBson {
+    /// What is copied means a value; an element may mean a fault.
+    ghost means: { Self → Meaning → Type 0 };
+
     /// The value with parts of its own. The options of a regular expression are put in order. The errors are
-    /// want of memory and, for an element, the fault that its payload means.
-    fn to_raw_bson(self, alloc: Global) -> Result<RawBson>;
+    /// out of memory and, for an element, the fault that its payload means.
+    fn to_raw_bson(self, alloc: Global) -> Result<RawBson>
+        ensures copies { (m : Meaning) × means self m × CopiesMeaning m result };
 }
 
 impl ToRawDocumentBuf for RawDocument<'_> {
+    ghost shown = { bytes_of };
+
     fn to_raw_document_buf(self, alloc: Global) -> Result<RawDocumentBuf>
         ensures copied { IfOk result (λ copy. copy ≡ bytes_of self.entry) }
         ensures err { IfErr result IsOutOfMemory }
@@ -56,6 +82,8 @@ fn item_count(alloc: Global, array: RawArray<'_>) -> usize
 }
 
 impl ToRawArrayBuf for RawArray<'_> {
+    ghost shown = { array_bytes_of };
+
     fn to_raw_array_buf(self, alloc: Global) -> Result<RawArrayBuf>
         ensures copied { IfOk result (λ copy. copy.bytes ≡ array_bytes_of self.entry) }
         ensures counted { IfOk result (λ copy. CountsItems (array_bytes_of self.entry) copy.count) }
@@ -77,6 +105,8 @@ fn copy_code(alloc: Global, code: RawJavaScriptCodeWithScopeRef<'_>) -> Result<R
 }
 
 impl ToRawBson for RawBsonRef<'_> {
+    ghost means = { λ v m. m ≡ value (value_of v) };
+
     fn to_raw_bson(self, alloc: Global) -> Result<RawBson>
         ensures copied { IfOk result (IsCopy (value_of self.entry)) }
         ensures err { IfErr result IsOutOfMemory }
@@ -113,8 +143,10 @@ impl ToRawBson for RawBsonRef<'_> {
 }
 
 impl ToRawBson for RawElement<'_> {
+    ghost means = { λ e m. Means (frame_of e) m };
+
     fn to_raw_bson(self, alloc: Global) -> Result<RawBson>
-        ensures { (m : Meaning) × Means (frame_of self.entry) m × CopiesMeaning m result }
+        ensures copies { (m : Meaning) × Means (frame_of self.entry) m × CopiesMeaning m result }
     {
         match self.value(alloc) {
             Ok(value) => value.to_raw_bson(alloc),

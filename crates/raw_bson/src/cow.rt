@@ -7,6 +7,11 @@ use crate::document_buf::RawDocumentBuf;
 use raw_view::{RawArray, RawDocument};
 
 /// A document that is borrowed or owned.
+/// ```
+/// let document = RawDocument::from_bytes(b"\x0C\0\0\0\x10a\0\x01\0\0\0\0")?;
+/// let cow = CowRawDocument::from(document);
+/// assert_eq!(rt; cow.as_ref(), document);
+/// ```
 #[derive(Drop)]
 pub enum CowRawDocument<'a> {
     /// a view of bytes that another holds

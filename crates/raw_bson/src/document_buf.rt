@@ -1,6 +1,6 @@
 ghost use Rattle.std.specs.Prelude.{◌≡◌, ◌↔◌, ℕ, List, IsOk, IfOk, IfErr, OnOk};
 ghost use denote.Ref.{Bor};
-ghost use Rattle.raw_bson.specs.Append.{Appends, AppendsFrame, HoldsFrames, KeepsWalk, value_frame};
+ghost use Rattle.raw_bson.specs.Append.{AddsValue, Appends, AppendsFrame, HoldsFrames, KeepsWalk, value_frame};
 ghost use Rattle.std.specs.Iterator.{Drains, IsFinite};
 ghost use Rattle.raw_bson.specs.Fills.{Fills, TakesEach, TakesPair, empty_document, frames_of_pairs};
 ghost use Rattle.raw_bson.specs.Owned.{owned_value};
@@ -19,8 +19,13 @@ use std::alloc::{AllocError, Global};
 use std::fmt;
 use std::marker::Model;
 
-/// The bytes of one document with a sound envelope, owned. What stands inside is looked at only where a
+/// The bytes of one document with a sound envelope, owned. What is inside is looked at only where a
 /// call needs it. A clause sees the bytes. BSON 1.1, `document`.
+/// ```
+/// let mut document = RawDocumentBuf::new(alloc)?;
+/// document.append("a", RawBson::from(1))?;
+/// assert_eq!(rt; document.as_bytes(), b"\x0C\0\0\0\x10a\0\x01\0\0\0\0".as_slice());
+/// ```
 #[derive(Drop)]
 pub struct RawDocumentBuf {
     bytes: Vec<u8>,
@@ -38,7 +43,7 @@ impl Model for RawDocumentBuf {
 }
 
 impl RawDocumentBuf {
-    /// The document without elements; or want of memory.
+    /// The document without elements; or out of memory.
     pub fn new(alloc: Global) -> Result<RawDocumentBuf>
         ensures empty { IfOk result (λ d. d ≡ empty_document) }
         ensures err { IfErr result IsOutOfMemory }
@@ -48,7 +53,7 @@ impl RawDocumentBuf {
         })
     }
 
-    /// The document of these pairs, appended in order; or the first refusal. The iterator has to end.
+    /// The document of these pairs, appended in order; or the first error. The iterator has to end.
     pub fn from_iter<'k, I: Iterator<Item = (&'k str, RawBson)> + Drop>(
         alloc: Global,
         pairs: I,
@@ -69,6 +74,10 @@ impl RawDocumentBuf {
 
     /// A buffer of these bytes, for a sound envelope; else the first of: too short, wrong length, not
     /// terminated, without a key, and the bytes are dropped. It takes no memory.
+    /// ```
+    /// let bytes = Vec::from_slice(alloc, b"\x05\0\0\0\0")?;
+    /// assert!(rt; RawDocumentBuf::from_bytes(bytes)?.is_empty());
+    /// ```
     pub fn from_bytes(bytes: Vec<u8>) -> Result<RawDocumentBuf>
         ensures sound { IsOk result ↔ IsEnvelope bytes.items }
         ensures same { IfOk result (λ d. d ≡ bytes.items) }
@@ -81,6 +90,10 @@ impl RawDocumentBuf {
     }
 
     /// All bytes of the document, its header and its final 0 included.
+    /// ```
+    /// let bytes = RawDocumentBuf::new(alloc)?.into_bytes();
+    /// assert_eq!(rt; bytes.as_slice(), b"\x05\0\0\0\0".as_slice());
+    /// ```
     pub fn into_bytes(self) -> Vec<u8>
         ensures { result.items ≡ self }
     {
@@ -88,6 +101,11 @@ impl RawDocumentBuf {
     }
 
     /// A view of the document.
+    /// ```
+    /// let mut document = RawDocumentBuf::new(alloc)?;
+    /// document.append("a", RawBson::from(1))?;
+    /// assert_eq!(rt; document.as_ref().get_i32(alloc, "a")?, 1);
+    /// ```
     pub fn as_ref(&self) -> RawDocument<'_>
         ensures { bytes_of result ≡ self.now }
     {
@@ -105,33 +123,54 @@ impl RawDocumentBuf {
         &self.bytes
     }
 
-    /// Appends a value under a key, with the old content unexamined. It refuses, in this order: a 0 in the
-    /// key, in a pattern or in options (`InteriorNul`); a new length over 2147483647 (`TooLong`); want of memory
+    /// Appends a value under a key, with the old content unexamined. It fails, in this order: a 0 in the
+    /// key, in a pattern or in options (`InteriorNul`); a new length over 2147483647 (`TooLong`); out of memory
     /// (`OutOfMemory`). These errors have no key, and the bytes are then as they were. The value is dropped. The
     /// walk is then the old one and the element, unless the old content ends in a code with scope whose length
-    /// is under 4.
+    /// is under 4. Where a buffer holds frames alone, it holds the value's frame behind them, which means the value.
+    /// ```
+    /// let mut document = RawDocumentBuf::new(alloc)?;
+    /// document.append("name", RawBson::from_str(alloc, "Ada")?)?;
+    /// assert!(rt; document.append("\0", RawBson::Null).is_err());
+    /// assert_eq!(rt; document.get_str("name")?, "Ada");
+    /// ```
     #[inline(always)]
     pub fn append(&mut self, key: &str, value: RawBson) -> Result<()>
         ensures appends { Appends self.old key.now (owned_value value) result self.new }
         ensures walk { OnOk result (KeepsWalk self.old (value_frame key.now (owned_value value)) self.new) }
+        ensures adds { OnOk result (AddsValue self.old key.now (owned_value value) self.new) }
     {
         self.append_ref(key, value.as_raw_bson_ref())
     }
 
     /// Appends a value that borrows its parts, with the old content unexamined. It copies no part of it on the
-    /// way. It refuses what `append` does, in the same order: `InteriorNul`, `TooLong`, `OutOfMemory`; the walk is
-    /// then as `append` leaves it.
+    /// way. It fails as `append` does, in the same order: `InteriorNul`, `TooLong`, `OutOfMemory`; the walk and the
+    /// frames are then as `append` leaves them.
+    /// ```
+    /// let mut document = RawDocumentBuf::new(alloc)?;
+    /// document.append_ref("name", RawBsonRef::from("Ada"))?;
+    /// assert_eq!(rt; document.get_str("name")?, "Ada");
+    /// ```
     #[inline(always)]
     pub fn append_ref(&mut self, key: &str, value: RawBsonRef<'_>) -> Result<()>
         ensures appends { Appends self.old key.now (value_of value.entry) result self.new }
         ensures walk { OnOk result (KeepsWalk self.old (value_frame key.now (value_of value.entry)) self.new) }
+        ensures adds { OnOk result (AddsValue self.old key.now (value_of value.entry) self.new) }
     {
         append_value(&mut self.bytes, key, value)
     }
 
-    /// Appends an element as it stands, its key, its kind and its payload's bytes, with the old content and the
-    /// element's value unexamined: a value at fault is appended too. It refuses, in this order: a new length over
-    /// 2147483647; want of memory. These errors have no key, and the bytes are then as they were.
+    /// Appends an element as it is, its key, its kind and its payload's bytes, with the old content and the
+    /// element's value unexamined: a value at fault is appended too. It fails, in this order: a new length over
+    /// 2147483647; out of memory. These errors have no key, and the bytes are then as they were.
+    /// ```
+    /// let document = RawDocument::from_bytes(b"\x0C\0\0\0\x10a\0\x01\0\0\0\0")?;
+    /// let mut copy = RawDocumentBuf::new(alloc)?;
+    /// for element in document.iter_elements(alloc) {
+    ///     copy.append_element(element?)?;
+    /// }
+    /// assert_eq!(rt; copy.as_bytes(), document.as_bytes());
+    /// ```
     #[inline(always)]
     pub fn append_element(&mut self, element: RawElement<'_>) -> Result<()>
         ensures appends { AppendsFrame self.old (frame_of element.entry) result self.new }

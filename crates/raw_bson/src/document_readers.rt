@@ -67,8 +67,8 @@ impl RawDocumentBuf {
         self.as_ref().get(self.alloc(), key)
     }
 
-    /// Whether an element with this key stands in the document. Where none does, the fault at which the
-    /// elements stop, if there is one, as `get` answers it. No value is looked into, and nothing behind the
+    /// Whether an element with this key is in the document. Where none is, the fault at which the
+    /// elements stop, if there is one, as `get` returns it. No value is looked into, and nothing behind the
     /// element that is found.
     pub fn contains_key(&self, key: &str) -> Result<bool>
         ensures { (answer : KeyAnswer) × FindsKey self.now key.now answer × TellsKey result answer }

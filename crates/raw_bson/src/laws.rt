@@ -1,4 +1,4 @@
-//! What `==` answers, and what holds of values by their types, as calls whose contracts say it; those of the crates
+//! What `==` returns, and what holds of values by their types, as calls whose contracts say it; those of the crates
 //! below are passed on. Programs never need them; proofs do.
 
 ghost use Rattle.std.specs.Prelude.{◌≡◌, ◌↔◌, IsTrue};
@@ -50,6 +50,14 @@ pub fn is_same_value(left: &RawBson, right: &RawBson) -> bool
     ensures { IsTrue result ↔ IsSameOwned left.now right.now }
 {
     left == right
+}
+
+/// Whether two borrowed values are `==`: they are exactly where they view the same value, nested documents and arrays
+/// byte by byte. Programs never need it; proofs do.
+pub fn is_same_value_ref(value: RawBsonRef<'_>, other: RawBsonRef<'_>) -> bool
+    ensures { IsTrue result ↔ (value_of value.entry ≡ value_of other.entry) }
+{
+    value == other
 }
 
 /// Numbers and bytes of a borrowed value are in range, its texts are UTF-8, its nested documents, arrays and scopes

@@ -1,4 +1,4 @@
-//! BSON: documents and values that own their bytes, views of them, and the trees that they stand for. The
+//! BSON: documents and values that own their bytes, views of them, and their trees. The
 //! crate that a user names: it passes on the public items of the crates below.
 #![tactic(auto)]
 

@@ -52,7 +52,7 @@ envelope_at [] i d shelf e = absurd (none-some d (sym e))
 envelope_at (x ∷ ds) zero d shelf e = rw (same_Some d x e) shelf.0
 envelope_at (x ∷ ds) (suc i) d shelf e = envelope_at ds i d shelf.3 e
 
--- what stands at a place of a set of vectors
+-- what is at a place of a set of vectors
 pub stored_at : (keys : List (Vec ℕ Global)) (i : ℕ) (v : Vec ℕ Global) → Some v ≡ slice_get keys i → Some v.items ≡ slice_get (items keys) i
 stored_at [] i v e = absurd (none-some v (sym e))
 stored_at (x ∷ keys) zero v e = ap (λ (d : Vec ℕ Global). Some d.items) (same_Some v x e)

@@ -9,6 +9,12 @@ use std::alloc::Global;
 use std::marker::Model;
 
 /// Canonical documents, each once, in the order in which they first came. A clause sees the list of their bytes.
+/// ```
+/// let mut shelf = Shelf::new(alloc);
+/// assert!(rt; shelf.put(RawDocumentBuf::new(alloc)?)?);
+/// assert!(rt; !shelf.put(RawDocumentBuf::new(alloc)?)?);
+/// assert_eq!(rt; shelf.len(), 1);
+/// ```
 #[derive(Drop)]
 pub struct Shelf {
     documents: IndexSet<Vec<u8>>,
@@ -25,7 +31,7 @@ impl Model for Shelf {
     ghost invariant = { λ s. IsShelf (items s.documents.keys) };
 }
 
-/// Puts bytes last, unless they are there: whether they weren't. The only error is want of memory.
+/// Puts bytes last, unless they are there; returns whether they weren't. The only error is out of memory.
 fn store(documents: &mut IndexSet<Vec<u8>>, bytes: Vec<u8>) -> Result<bool, PutError>
     ensures { Stores (items documents.old.keys) bytes.items result (items documents.new.keys) }
 {
@@ -45,8 +51,14 @@ impl Shelf {
         }
     }
 
-    /// Puts a canonical document last, unless it is there: whether it wasn't. One that isn't canonical is refused with
-    /// its first breach. A refusal, for want of memory too, leaves the shelf as it was.
+    /// Puts a canonical document last, unless it is there; returns whether it wasn't. For one that isn't canonical the error
+    /// is its first breach. An error, out of memory too, leaves the shelf as it was.
+    /// ```
+    /// let mut shelf = Shelf::new(alloc);
+    /// let mut document = RawDocumentBuf::new(alloc)?;
+    /// document.append("a", RawBson::Null)?;
+    /// assert!(rt; shelf.put(document)?);
+    /// ```
     pub fn put(&mut self, document: RawDocumentBuf) -> Result<bool, PutError>
         ensures { Puts self.old document result self.new }
     {

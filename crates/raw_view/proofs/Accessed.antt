@@ -11,7 +11,7 @@ use Rattle.raw_view.specs.Value.{value_of}
 use Rattle.raw_view.specs.Answers.{Says, TellsFound}
 use Rattle.raw_view.specs.Access.{IsNoValueOf, IsAccessFault, IsTypedFault, Accesses, Gets}
 
--- from what the look-up answers to what the getter promises
+-- from what the look-up returns to what the getter promises
 module _ {T : Type 0} (value_as : T → RawValue) (expected : ElementType) where
   found_is : (answer : Result (Option RawBsonRef) Error) (found : Option Meaning) (v : RawBsonRef) → TellsFound answer found → answer ≡ Ok (Some v) → found ≡ Some (value (value_of v))
   found_is answer found v tells e = subst (λ (x : Result (Option RawBsonRef) Error). TellsFound x found) e tells

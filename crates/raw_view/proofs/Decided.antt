@@ -1,4 +1,4 @@
--- Decisions on kinds and their payloads: which stands at the front of bytes, or that none does.
+-- Decisions on kinds and their payloads: which is at the front of bytes, or that none is.
 use Rattle.std.proofs.Common.{◌≡◌, ◌≢◌, ◌⊎◌, inl, inr, ◌++◌, ◌-◌, ◌+◌, ◌<◌, ◌≤◌, ℕ, ℤ, pos, negsuc, List, length, take, drop, get_or, arith, ap, sym, refl, ◌∙◌, subst, length-append, Bool, true, eqb, Option, Some, None}
 use Rattle.std.proofs.lemmas.Bool.{cases_eq, cases_lt, eqb-true, agree_below_at}
 use Rattle.std.proofs.lemmas.Option.{none-some}
@@ -46,7 +46,7 @@ kind_or_not tag l = kind_or_none tag (kind_of tag) refl (named tag l)
 
 -- payloads
 
--- a payload of the kind stands at the front of z, so many bytes long
+-- a payload of the kind is at the front of z, so many bytes long
 abbrev pub Stands : ElementType → List ℕ → Type 0
 Stands kind z = (n : ℕ) × (n ≤ length z) × HasShape kind (take n z) (drop n z)
 
@@ -79,7 +79,7 @@ length_or_not z bytes =
       | inr l ↦ is_length (take 4 z) _ (read_front z _ bytes l refl)
     ]
 
--- A kind whose payload begins with a length: payloads of it stand at the front just where the length there
+-- A kind whose payload begins with a length: payloads of it are at the front just where the length there
 -- fits, and whether one does is decided.
 by_length :
     (kind : ElementType) (z : List ℕ) (Fits : ℕ → Type 0) → AreBytes z →
@@ -153,7 +153,7 @@ regex_or_not z =
       | inr n ↦ inr (λ p r e x. no_front_text z x.0 _ (regex_front z p r x.0 x.1 e x.2) x.2.pattern_nul_free x.2.pattern_text n)
     ]
 
--- a payload of the kind stands at the front, or none does
+-- a payload of the kind is at the front, or none is
 pub payload_or_not : (k : ElementType) (z : List ℕ) → AreBytes z → Stands k z ⊎ Misses k z
 payload_or_not kind.Double z bytes = sized_or_not 8 z
 payload_or_not kind.String z bytes = string_or_not z bytes

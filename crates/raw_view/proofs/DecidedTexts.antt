@@ -1,4 +1,4 @@
--- Decisions on texts: which stands at the front of bytes, or that none does.
+-- Decisions on texts: which is at the front of bytes, or that none is.
 use Rattle.std.proofs.Common.{◌≡◌, ◌⊎◌, inl, inr, ◌++◌, ◌∷◌, [], List, ℕ, ap, sym, ◌∙◌, subst}
 use Rattle.std.specs.Str.{IsUtf8, is_utf8}
 use Rattle.std.proofs.lemmas.Bool.{cases_Bool, cases_eq, both_ways}
@@ -17,7 +17,7 @@ utf8_or_not x =
       | inr e ↦ inr (λ u. both_ways (is_utf8 x) e (is_utf8-from_IsUtf8 x u))
     ]
 
--- what stands before the first 0 and behind it, or there is no 0
+-- what is before the first 0 and behind it, or there is no 0
 nul_or_none : (z : List ℕ) → ((x w : List ℕ) × (z ≡ x ++ 0 ∷ w) × NulFree x) ⊎ NulFree z
 nul_or_none [] = inr NulFree-nil
 nul_or_none (b ∷ z) =
@@ -33,7 +33,7 @@ nul_or_none (b ∷ z) =
 abbrev pub HasFrontText : List ℕ → Type 0
 HasFrontText z = (x w : List ℕ) × (z ≡ x ++ 0 ∷ w) × NulFree x × IsUtf8 x
 
--- z has no 0, or what stands before the first isn't UTF-8
+-- z has no 0, or what is before the first isn't UTF-8
 abbrev pub HasNoFrontText : List ℕ → Type 0
 HasNoFrontText z = NulFree z ⊎ BeginsWithBadText z
 

@@ -1,12 +1,11 @@
 -- The document at the front of bytes.
-use Rattle.std.proofs.Common.{◌≡◌, ◌++◌, ◌-◌, ℕ, List, length, take, pos, Some, arith, ap, ◌∙◌, length-append}
+use Rattle.std.proofs.Common.{◌≡◌, ◌-◌, ℕ, List, length, take, Some, arith, ap, ◌∙◌, length-append}
 use Rattle.std.proofs.lemmas.Option.{slice_get-get_or}
-use Rattle.raw_view.specs.Envelope.{IsEnvelope}
-use Rattle.raw_view.specs.FirstDocument.{HasNoDocument, OneFirstDocument, BeginsWithLength, RefusesFirst}
+use Rattle.raw_view.specs.FirstDocument.{HasNoDocument, OneFirstDocument, RefusesFirst}
 use Rattle.raw_view.specs.declared.first_document.NoDocument.{NoDocument}
 use Rattle.raw_view.specs.declared.first_document.NoDocument.TheVariants as no
 use Rattle.raw_view.proofs.Decided.{one_length}
-use Rattle.raw_view.proofs.Payloads.{document_front, document_found}
+use Rattle.raw_view.proofs.Payloads.{document_front}
 use Rattle.raw_view.proofs.UniquePayloads.{document_same}
 
 -- where a reason is given, no document is at the front

@@ -12,7 +12,7 @@ use Rattle.raw_view.specs.Item.{Item, entry, stopped, ItemsOf, AreItems}
 use Rattle.raw_view.specs.ElementSteps.{StepsElement, frame_of}
 use Rattle.raw_view.specs.Answers.{Says, StepsItems, TellsEach}
 
--- for what one answer says of an item, where an error that says the stop is such an answer
+-- for what one result says of an item, where an error that says the stop is such a result
 module _ {X : Type 0} (Tells : Result X Error → Item → Type 0) where
   pub item_none : (old new : Option (List ℕ)) → StepsElement old None new → StepsItems Tells old None new
   item_none None new st = (refl, st.1)
@@ -53,7 +53,7 @@ module _ {X : Type 0} (Tells : Result X Error → Item → Type 0) where
             ([], Stopped b.0.fault b.0.key, stopped b.0 ∷ [], b.1, refl, subst (λ (ys : List (Result X Error)). TellsEach Tells (x ∷ ys) (stopped b.0 ∷ [])) (sym none) (b.2, tt))
       ]
 
--- there is no item exactly where the final 0 stands behind the header
+-- there is no item exactly where the final 0 is behind the header
 pub no_items : (b : List ℕ) → drop 4 b ≡ 0 ∷ [] → AreItems b []
 no_items b e = ([], Done, e, refl)
 

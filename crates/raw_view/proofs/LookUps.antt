@@ -42,7 +42,7 @@ pub found_fault : (e : Error) (m : Meaning) → TellsMeaning (Err e) m → Tells
 found_fault e (value w) h = absurd h
 found_fault e (faulty fault) h = h
 
--- whether a key stands there
+-- whether a key is there
 
 -- at a frame with the key
 pub key_present : (b key : List ℕ) (passed : List Frame) (old new : Option (List ℕ)) (e : RawElement) → HasRead (drop 4 b) passed old → StepsElement old (Some (Ok e)) new → (frame_of e).key ≡ key → FindsKey b key present

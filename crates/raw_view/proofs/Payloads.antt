@@ -1,4 +1,4 @@
--- What stands at the front of bytes, by the length that they declare.
+-- What is at the front of bytes, by the length that they declare.
 use Rattle.std.proofs.Common.{◌≡◌, ◌≢◌, ◌≤◌, ◌<◌, ◌+◌, ◌-◌, ◌++◌, ◌∷◌, [], ℕ, pos, zero, suc, List, length, take, drop, get_or, w32, arith, ap, sym, refl, ◌∙◌, append_assoc, length-append, length-drop, Some}
 use Rattle.std.proofs.lemmas.List.{take_at, drop_at, take_all, take-take, take-append-drop, drop-take, take_more, drop_more, length-take, length-take-le, get_or-take, get_or-drop, take-append-le, get_or_at, get_or_append_left}
 use Rattle.std.proofs.lemmas.Option.{slice_get-get_or, get_or_from_slice_get}
@@ -169,11 +169,11 @@ pointer_found bs n t l =
 pub pointer_string : (bs p r namespace id : List ℕ) → bs ≡ p ++ r → IsDbPointer p namespace id → bs ≡ string_payload namespace ++ (id ++ r)
 pointer_string bs p r namespace id e d = e ∙ ap (λ x. x ++ r) d.spelled ∙ append_assoc (string_payload namespace) id r
 
--- where no string stands at the front, no pointer does
+-- where no string is at the front, no pointer is
 pub no_pointer : (bs : List ℕ) → ((p r : List ℕ) → bs ≡ p ++ r → ¬ HasText p) → (p r : List ℕ) → bs ≡ p ++ r → ¬ ((namespace id : List ℕ) × IsDbPointer p namespace id)
 no_pointer bs none p r e d = none (string_payload d.0) (d.1 ++ r) (pointer_string bs p r d.0 d.1 e d.2) (d.0, string_is d.0 d.2.fits)
 
--- twelve bytes stand behind the string
+-- twelve bytes are behind the string
 pub pointer_within : (bs p r : List ℕ) (n : ℕ) → HasText (take n bs) → n ≤ length bs → bs ≡ p ++ r → (namespace id : List ℕ) × IsDbPointer p namespace id → n + 12 ≤ length bs
 pointer_within bs p r n t l e d =
     let string : List ℕ = string_payload d.0 in
@@ -187,7 +187,7 @@ code_fits p code scope c = omega (arith, c.fits, ap length c.spelled, length-app
 
 -- the documents
 
--- a document is what stands inside it in a frame
+-- a document is what is inside it in a frame
 pub document_framed : (b : List ℕ) → IsEnvelope b → b ≡ framed (inside_of b)
 document_framed b d =
     let size : length (drop 4 b) ≡ length b - 4 = length-drop 4 b in

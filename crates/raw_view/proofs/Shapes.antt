@@ -51,7 +51,7 @@ text_had p h =
     let all : take (length p - 5 + 5) p ≡ p = take_whole p _ (omega arith) in
     subst HasText all (string_found p (length p - 5) header (omega arith) (rw at last))
 
--- the text of a string is what stands between its length and its last byte
+-- the text of a string is what is between its length and its last byte
 pub string_cut : (p text : List ℕ) → IsString p text → take (length p - 1 - 4) (drop 4 p) ≡ text
 string_cut p text s =
     let n : length p - 1 - 4 ≡ length text = omega (arith, string_length p text s) in
@@ -82,7 +82,7 @@ pointer_text p namespace id d =
 pub pointer_len : (p namespace id : List ℕ) → IsDbPointer p namespace id → 12 ≤ length p
 pointer_len p namespace id d = omega (arith, ap length d.spelled, length-append (string_payload namespace) id, d.id_len)
 
--- the subtype and the bytes of a binary are what stands behind its length
+-- the subtype and the bytes of a binary are what is behind its length
 pub binary_cut : (p : List ℕ) (subtype : ℕ) (bytes : List ℕ) → IsBinary p subtype bytes → IsBinary p (get_or p 4 0) (take (length p - 5) (drop 5 p))
 binary_cut p subtype bytes b =
     let n : length p - 5 ≡ length bytes = omega (arith, ap length b.spelled) in

@@ -1,4 +1,4 @@
--- Reading is determined: one frame at most stands at the front, a stop is one, and there is one walk.
+-- Reading is determined: one frame at most is at the front, a stop is one, and there is one walk.
 use Rattle.std.proofs.Common.{◌≡◌, ℕ, List, [], ◌∷◌, ◌++◌, ◌≤◌, length, ap, sym, ◌∙◌, subst, refl, Option, Some, None, arith, length-append}
 use Rattle.std.specs.Str.{IsUtf8}
 use Rattle.raw_view.specs.declared.element_type.ElementType.{ElementType}
@@ -11,7 +11,7 @@ use Rattle.raw_view.proofs.UniquePayloads.{payload_same}
 
 -- frames and stops
 
--- at most one first frame stands at the front of bytes
+-- at most one first frame is at the front of bytes
 pub one_frame : (s : List ℕ) (f g : Frame) (r q : List ℕ) → IsFrame s f r → IsFrame s g q → (f ≡ g) × (r ≡ q)
 one_frame s f g r q a b =
     let both : tag_of f.kind ∷ (f.key ++ 0 ∷ (f.payload ++ r)) ≡ tag_of g.kind ∷ (g.key ++ 0 ∷ (g.payload ++ q)) = sym a.spelled ∙ b.spelled in
@@ -25,7 +25,7 @@ one_frame s f g r q a b =
     let payloads = same.0 in
     (λ i. record { kind = kinds i; key = keys i; payload = payloads i }, same.1)
 
--- the tag, the key and what stands behind the key's 0 are determined
+-- the tag, the key and what is behind the key's 0 are determined
 one_key : (s k l : List ℕ) (a : HasKey s k) (b : HasKey s l) → (k ≡ l) × (a.tag ≡ b.tag) × (a.behind ≡ b.behind)
 one_key s k l a b =
     let both : a.tag ∷ (k ++ 0 ∷ a.behind) ≡ b.tag ∷ (l ++ 0 ∷ b.behind) = sym a.spelled ∙ b.spelled in
@@ -49,7 +49,7 @@ empty_has_no_key s key e k = omega (arith, ap length e, key_takes_two s key k)
 final_has_no_key : (s key : List ℕ) → s ≡ 0 ∷ [] → HasKey s key → ⊥
 final_has_no_key s key e k = omega (arith, ap length e, key_takes_two s key k)
 
--- a stop that has a key: the key is a text, and no frame stands there
+-- a stop that has a key: the key is a text, and no frame is there
 stop_key : (s : List ℕ) (fault : Fault) (key : List ℕ) → IsStop s fault (Some key) → HasKey s key × IsUtf8 key × HasNoFrame s
 stop_key s Malformed key a = (a.0, a.1, a.2)
 stop_key s Utf8 key a = (a.0, a.1, a.2)

@@ -61,7 +61,7 @@ one_found s key (f ∷ fs) (g ∷ gs) r q a c x y m n h k =
 pub one_look_up : (b key : List ℕ) (a c : Option Meaning) → LooksUp b key a → LooksUp b key c → a ≡ c
 one_look_up b key a c x y = one_found (drop 4 b) key x.0 y.0 x.1 y.1 a c x.2 y.2 x.3 y.3 x.4 y.4
 
--- whether a key stands there
+-- whether a key is there
 
 -- no frame of a walk without the key has it
 pub no_such_frame : (s key : List ℕ) (fs gs : List Frame) (end : End) (r q : List ℕ) (g : Frame) → IsWalk s fs end → HasNoKey key fs → LeadsTo s gs r → IsFrame r g q → g.key ≢ key

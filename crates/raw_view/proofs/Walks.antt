@@ -25,7 +25,7 @@ EndsWithNul-back front back last some =
     let end : get_or (front ++ back) (length (front ++ back) - 1) 0 ≡ 0 = get_or_from_slice_get (front ++ back) _ 0 0 (last (omega arith)) in
     slice_get-get_or back (length back - 1) 0 (omega arith) ∙ ap Some (sym (get_or-append-add front back (length back - 1) 0) ∙ rw place at end)
 
--- what stands behind a frame is bytes
+-- what is behind a frame is bytes
 pub AreBytes-rest : (s : List ℕ) (f : Frame) (r : List ℕ) → IsFrame s f r → AreBytes s → AreBytes r
 AreBytes-rest s f r b bytes = AreBytes-back (tag_of f.kind ∷ (f.key ++ 0 ∷ f.payload)) r (subst AreBytes (front_and_rest s f r b) bytes)
 
@@ -33,14 +33,14 @@ AreBytes-rest s f r b bytes = AreBytes-back (tag_of f.kind ∷ (f.key ++ 0 ∷ f
 EndsWithNul-rest : (s : List ℕ) (f : Frame) (r : List ℕ) → IsFrame s f r → EndsWithNul s → EndsWithNul r
 EndsWithNul-rest s f r b last = EndsWithNul-back (tag_of f.kind ∷ (f.key ++ 0 ∷ f.payload)) r (subst EndsWithNul (front_and_rest s f r b) last)
 
--- the final 0 stands at the front of s, or a frame, or there is a stop
+-- the final 0 is at the front of s, or a frame, or there is a stop
 abbrev pub HasFront : List ℕ → Type 0
 HasFront s =
     (s ≡ 0 ∷ [])
     ⊎ ((f : Frame) × (r : List ℕ) × IsFrame s f r)
     ⊎ ((fault : Fault) × (key : Option (List ℕ)) × IsStop s fault key)
 
--- where no 0 stands behind the tag and the last byte is 0, the tag is the final 0
+-- where no 0 is behind the tag and the last byte is 0, the tag is the final 0
 last_is_final : (tag : ℕ) (behind : List ℕ) → NulFree behind → EndsWithNul (tag ∷ behind) → tag ∷ behind ≡ 0 ∷ []
 last_is_final tag behind h last =
     let at : length (tag ∷ behind) - 1 ≡ length behind = omega arith in
@@ -78,7 +78,7 @@ behind_key s tag key behind bytes l e h u =
       | inr none ↦ inr (inr (Malformed, Some key, tag_stop s tag key behind e h u none))
     ]
 
--- something of the three stands at the front
+-- something of the three is at the front
 pub has_front : (s : List ℕ) → AreBytes s → EndsWithNul s → HasFront s
 has_front [] bytes last = inr (inr (Malformed, None, refl))
 has_front (tag ∷ behind) bytes last =

@@ -1,4 +1,4 @@
--- Typed access: what a getter answers for what a look-up finds.
+-- Typed access: what a getter returns for what a look-up finds.
 use Rattle.std.specs.Prelude.{◌≡◌, ◌≢◌, ◌⊎◌, ℕ, List, [], Option, None, Some, Result, Ok, Err, decimal}
 use Rattle.std.specs.String.{string_bytes}
 use Rattle.raw_view.specs.declared.element_type.ElementType.{ElementType}
@@ -45,35 +45,35 @@ abbrev pub HasKeyAsked : ValueAccessErrorKind → List ℕ → List ℕ → Type
 HasKeyAsked access.OutOfMemory key carried = carried ≡ []
 HasKeyAsked _ key carried = carried ≡ key
 
--- What a getter answers that was asked for a key: the value if one of its kind was found, else why not.
+-- What a getter returns that was asked for a key: the value if one of its kind was found, else why not.
 -- T is the getter's type, and value_as the value that one of it views.
 module _ {T : Type 0} where
   abbrev pub Gets : (T → RawValue) → ElementType → List ℕ → Option Meaning → Result T ValueAccessError → Type 0
   Gets value_as expected key found (Ok x) = found ≡ Some (value (value_as x))
   Gets value_as expected key found (Err e) = IsAccessFault expected found e.kind × HasKeyAsked e.kind key (key_asked e)
 
-  -- what a getter answers that looks up a key in the document b
+  -- what a getter returns that looks up a key in the document b
   abbrev pub GetsByKey : (T → RawValue) → ElementType → List ℕ → List ℕ → Result T ValueAccessError → Type 0
   GetsByKey value_as expected b key answer = (found : Option Meaning) × LooksUp b key found × Gets value_as expected key found answer
 
-  -- what a getter answers that looks up a position in the document b; it carries the index in decimal
+  -- what a getter returns that looks up a position in the document b; it carries the index in decimal
   abbrev pub GetsAt : (T → RawValue) → ElementType → List ℕ → ℕ → Result T ValueAccessError → Type 0
   GetsAt value_as expected b index answer = (found : Option Meaning) × IsAt b index found × Gets value_as expected (decimal index) found answer
 
--- why a getter for this kind has no value for what a look-up answers
+-- why a getter for this kind has no value for what a look-up returns
 abbrev pub IsTypedFault : ElementType → Result (Option RawBsonRef) Error → ValueAccessErrorKind → Type 0
 IsTypedFault expected answer access.NotPresent = answer ≡ Ok None
 IsTypedFault expected answer (access.UnexpectedType wanted actual) = (v : RawBsonRef) × (answer ≡ Ok (Some v)) × (kind_of_raw (value_of v) ≢ expected) × (wanted ≡ expected) × (actual ≡ kind_of_raw (value_of v))
 IsTypedFault expected answer (access.InvalidBson inner) = (answer ≡ Err inner) × (inner.kind ≢ what.OutOfMemory)
 IsTypedFault expected answer access.OutOfMemory = (e : Error) × (answer ≡ Err e) × (e.kind ≡ what.OutOfMemory)
 
--- what a getter for this kind has for what a look-up answers
+-- what a getter for this kind has for what a look-up returns
 module _ {T : Type 0} where
   abbrev pub Types : (T → RawValue) → ElementType → Result (Option RawBsonRef) Error → Result T ValueAccessErrorKind → Type 0
   Types value_as expected answer (Ok x) = (v : RawBsonRef) × (answer ≡ Ok (Some v)) × (value_of v ≡ value_as x)
   Types value_as expected answer (Err kind) = IsTypedFault expected answer kind
 
-  -- the same with the key, or want of memory for it
+  -- the same with the key, or out of memory for it
   abbrev pub Accesses : (T → RawValue) → ElementType → List ℕ → Result (Option RawBsonRef) Error → Result T ValueAccessError → Type 0
   Accesses value_as expected key answer (Ok x) = (v : RawBsonRef) × (answer ≡ Ok (Some v)) × (value_of v ≡ value_as x)
   Accesses value_as expected key answer (Err e) = (kind : ValueAccessErrorKind) × IsTypedFault expected answer kind × ((e.kind ≡ kind) ⊎ (e.kind ≡ access.OutOfMemory)) × HasKeyAsked e.kind key (key_asked e)

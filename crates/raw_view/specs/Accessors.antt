@@ -1,4 +1,4 @@
--- What the accessors of borrowed values answer: the part that a value of their variant holds.
+-- What the accessors of borrowed values return: the part that a value of their variant holds.
 use Rattle.std.specs.Prelude.{ℕ, ℤ, Bool, List, Option, Some, None}
 use denote.Ref.{Bor}
 use Rattle.bson_model.specs.declared.numbers.DoubleBits.{DoubleBits}

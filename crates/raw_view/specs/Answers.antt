@@ -1,4 +1,4 @@
--- What calls answer, against what the definitions say.
+-- What calls return, against what the definitions say.
 use Rattle.std.specs.Prelude.{◌≡◌, ◌⊎◌, ℕ, Bool, true, false, List, [], ◌∷◌, Option, None, Some, Result, Ok, Err}
 use denote.Ref.{Bor}
 use Rattle.raw_view.specs.declared.bson_ref.RawBsonRef.{RawBsonRef}
@@ -29,7 +29,7 @@ TellsFound (Err e) None = ⊥
 TellsFound (Err e) (Some (value w)) = ⊥
 TellsFound (Err e) (Some (faulty fault)) = Says e fault
 
--- whether a key stands there: it does; or it doesn't, and the walk ends at the final 0; or the stop
+-- whether a key is there: it is; or it isn't, and the walk ends at the final 0; or the stop
 abbrev pub TellsKey : Result Bool Error → KeyAnswer → Type 0
 TellsKey (Ok true) answer = answer ≡ present
 TellsKey (Ok false) answer = answer ≡ absent Done
@@ -52,7 +52,7 @@ TellsValue out (entry key m) = TellsMeaning out m
 TellsValue (Ok x) (stopped fault) = ⊥
 TellsValue (Err e) (stopped fault) = Says e fault
 
--- the same of each, and of the steps that give them, for what one answer says of an item
+-- the same of each, and of the steps that give them, for what one result says of an item
 module _ {X : Type 0} (Tells : Result X Error → Item → Type 0) where
   abbrev pub TellsEach : List (Result X Error) → List Item → Type 0
   TellsEach [] [] = Unit {0}
@@ -61,7 +61,7 @@ module _ {X : Type 0} (Tells : Result X Error → Item → Type 0) where
   TellsEach (out ∷ outs) (item ∷ items) = Tells out item × TellsEach outs items
 
   -- What a call of next gives. The state is what is left to read, and nothing from a stop on; a value fault
-  -- leaves what stands behind its frame.
+  -- leaves what is behind its frame.
   abbrev pub StepsItems : Option (List ℕ) → Option (Result X Error) → Option (List ℕ) → Type 0
   StepsItems None out t = (out ≡ None) × (t ≡ None)
   StepsItems (Some s) None t = (s ≡ 0 ∷ []) × (t ≡ Some s)

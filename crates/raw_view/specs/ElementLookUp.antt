@@ -29,7 +29,7 @@ TellsEnd None end = end ≡ Done
 TellsEnd (Some e) Done = ⊥
 TellsEnd (Some e) (Stopped fault key) = TellsBorrowed e (record { fault = fault; key = key })
 
--- the answer is the element that is found; or how the walk ends without it
+-- the result is the element that is found; or how the walk ends without it
 abbrev pub TellsElement : Result (Option RawElement) BorrowedError → FoundElement → Type 0
 TellsElement (Ok (Some e)) x = x ≡ found (frame_of e)
 TellsElement (Ok None) (found f) = ⊥

@@ -10,7 +10,7 @@ use Rattle.raw_view.specs.Kind.{tag_of}
 use Rattle.raw_view.specs.Number.{le32, le_u32, le64, le_u64}
 use Rattle.raw_view.specs.declared.element_type.ElementType.{ElementType}
 
--- a text with a 0 behind it, and what stands behind that. BSON 1.1, `cstring`.
+-- a text with a 0 behind it, and what is behind that. BSON 1.1, `cstring`.
 abbrev pub c_string : List ℕ → List ℕ → List ℕ
 c_string text behind = text ++ 0 ∷ behind
 
@@ -85,10 +85,10 @@ framed inside = counted (inside ++ 0 ∷ [])
 abbrev pub inside_of : List ℕ → List ℕ
 inside_of b = take (length b - 5) (drop 4 b)
 
--- a tag, a key with a 0 behind it, and what stands behind that
+-- a tag, a key with a 0 behind it, and what is behind that
 abbrev pub tagged : ℕ → List ℕ → List ℕ → List ℕ
 tagged tag key behind = tag ∷ c_string key behind
 
--- an element: the tag of its kind, its key, and its payload, with what may stand behind it. BSON 1.1, `element`.
+-- an element: the tag of its kind, its key, and its payload, with what may be behind it. BSON 1.1, `element`.
 abbrev pub element_of : ElementType → List ℕ → List ℕ → List ℕ
 element_of kind key payload = tagged (tag_of kind) key payload

@@ -1,5 +1,5 @@
--- What stands in a document: frames, and where they end. Relations between whole byte lists: s is what is
--- left of a document, p a payload, r what stands behind it, each a list of bytes; that they are bytes is what
+-- What is in a document: frames, and where they end. Relations between whole byte lists: s is what is
+-- left of a document, p a payload, r what is behind it, each a list of bytes; that they are bytes is what
 -- the envelope of the document says.
 use Rattle.std.specs.Prelude.{◌≡◌, ◌⊎◌, ℕ, ◌<◌, ◌≤◌, pos, List, [], ◌∷◌, ◌++◌, length, take, Option, Some, None}
 use Rattle.std.specs.Str.{IsUtf8}
@@ -46,7 +46,7 @@ pub record HasDeclaredLength (p r : List ℕ) : Type 0 where
   pub enough : 4 ≤ length (p ++ r)
   pub header : IsLe32 (take 4 (p ++ r)) (pos (length p))
 
--- p is a payload of this kind where r stands behind it
+-- p is a payload of this kind where r is behind it
 abbrev pub HasShape : ElementType → List ℕ → List ℕ → Type 0
 HasShape kind.Double p r = length p ≡ 8
 HasShape kind.String p r = HasText p
@@ -70,7 +70,7 @@ HasShape kind.Decimal128 p r = length p ≡ 16
 HasShape kind.MaxKey p r = length p ≡ 0
 HasShape kind.MinKey p r = length p ≡ 0
 
--- p is a payload of this kind where some bytes stand behind it
+-- p is a payload of this kind where some bytes are behind it
 abbrev pub HasPayload : ElementType → List ℕ → Type 0
 HasPayload kind p = (r : List ℕ) × HasShape kind p r
 
@@ -80,7 +80,7 @@ pub record Frame : Type 0 where
   pub key : List ℕ
   pub payload : List ℕ
 
--- the frame stands at the front of s as an element, and r is left behind it
+-- the frame is at the front of s as an element, and r is left behind it
 pub record IsFrame (s : List ℕ) (f : Frame) (r : List ℕ) : Type 0 where
   pub spelled : s ≡ element_of f.kind f.key (f.payload ++ r)
   pub key_nul_free : NulFree f.key
@@ -91,11 +91,11 @@ pub record IsFrame (s : List ℕ) (f : Frame) (r : List ℕ) : Type 0 where
 abbrev pub IsShortScope : Frame → Type 0
 IsShortScope f = (f.kind ≡ kind.JavaScriptCodeWithScope) × (length f.payload < 4)
 
--- the frame stands as an element, whatever stands behind it
+-- the frame is an element, whatever is behind it
 abbrev pub StandsAnywhere : Frame → Type 0
 StandsAnywhere f = (r : List ℕ) → IsFrame (element_of f.kind f.key (f.payload ++ r)) f r
 
--- no frame stands at the front of s
+-- no frame is at the front of s
 abbrev pub HasNoFrame : List ℕ → Type 0
 HasNoFrame s = (f : Frame) (r : List ℕ) → ¬ IsFrame s f r
 
@@ -104,7 +104,7 @@ pub data Fault : Type 0 where
   Malformed : Fault
   Utf8 : Fault
 
--- s is a tag, the key up to the next 0, and what stands behind that 0
+-- s is a tag, the key up to the next 0, and what is behind that 0
 pub record HasKey (s : List ℕ) (key : List ℕ) : Type 0 where
   pub tag : ℕ
   pub behind : List ℕ
@@ -119,7 +119,7 @@ BeginsWithBadText z = (x w : List ℕ) × (z ≡ c_string x w) × NulFree x × �
 abbrev pub HasBadRegexText : List ℕ → Type 0
 HasBadRegexText z = BeginsWithBadText z ⊎ ((x w : List ℕ) × (z ≡ c_string x w) × NulFree x × IsUtf8 x × BeginsWithBadText w)
 
--- behind a key with this tag stands a regular expression of which a text isn't UTF-8
+-- behind a key with this tag is a regular expression of which a text isn't UTF-8
 abbrev pub HasBadText : ℕ → List ℕ → Type 0
 HasBadText tag behind = (tag ≡ tag_of kind.RegularExpression) × HasBadRegexText behind
 
@@ -141,12 +141,12 @@ abbrev pub EndsIn : List ℕ → End → Type 0
 EndsIn s Done = s ≡ 0 ∷ []
 EndsIn s (Stopped fault key) = IsStop s fault key
 
--- these frames stand in s one behind the other, and what is left behind them ends so
+-- these frames are in s one behind the other, and what is left behind them ends so
 abbrev pub IsWalk : List ℕ → List Frame → End → Type 0
 IsWalk s [] end = EndsIn s end
 IsWalk s (f ∷ fs) end = (r : List ℕ) × IsFrame s f r × IsWalk r fs end
 
--- these frames stand in s one behind the other, and r is left behind them
+-- these frames are in s one behind the other, and r is left behind them
 abbrev pub LeadsTo : List ℕ → List Frame → List ℕ → Type 0
 LeadsTo s [] r = s ≡ r
 LeadsTo s (f ∷ fs) r = (t : List ℕ) × IsFrame s f t × LeadsTo t fs r

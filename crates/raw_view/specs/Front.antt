@@ -1,4 +1,4 @@
--- What stands at the front of the bytes that are left, as the core step answers it.
+-- What is at the front of the bytes that are left, as the core step returns it.
 use Rattle.std.specs.Prelude.{◌≡◌, ◌<◌, ◌-◌, ℕ, length, slice_get, List, [], ◌∷◌, Option, None, Some, Result, Ok, Err}
 use Rattle.raw_view.specs.declared.element.RawElement.{RawElement}
 use Rattle.raw_view.specs.declared.error.BorrowedError.{BorrowedError}
@@ -34,14 +34,14 @@ StepsFront (Some s) None t = (s ≡ 0 ∷ []) × (t ≡ Some s)
 StepsFront (Some s) (Some (Ok e)) t = (r : List ℕ) × IsFrame s (frame_of e) r × (t ≡ Some r)
 StepsFront (Some s) (Some (Err e)) t = StopsWith e.kind (option_copied e.key) s × (t ≡ None)
 
--- why no payload with this tag stands at the front of z: a text of a regular expression that isn't UTF-8,
+-- why no payload with this tag is at the front of z: a text of a regular expression that isn't UTF-8,
 -- or anything else
 abbrev pub IsPayloadFault : ℕ → List ℕ → ErrorKind → Type 0
 IsPayloadFault tag z (kind.MalformedValue _) = ¬ HasBadText tag z
 IsPayloadFault tag z (kind.Utf8EncodingError _) = HasBadText tag z
 IsPayloadFault tag z kind.OutOfMemory = ⊥
 
--- why no text up to a 0 stands at the front of z
+-- why no text up to a 0 is at the front of z
 abbrev pub IsTextFault : List ℕ → ErrorKind → Type 0
 IsTextFault z (kind.MalformedValue _) = NulFree z
 IsTextFault z (kind.Utf8EncodingError _) = BeginsWithBadText z

@@ -5,7 +5,6 @@ pub mod Kind
 pub mod Frame
 pub mod Meaning
 pub mod Errors
-pub mod Reasons
 pub mod Document
 pub mod Value
 pub mod Accessors

@@ -3,7 +3,7 @@ use Rattle.std.specs.Prelude.{◌≡◌, ◌≢◌, ◌⊎◌, ◌<◌, ℕ, Lis
 use Rattle.raw_view.specs.Frame.{Frame, IsFrame, End, Done, Stopped, EndsIn, IsWalk, LeadsTo}
 use Rattle.raw_view.specs.Meaning.{Meaning, faulty, Means}
 
--- a frame that is looked for stands at the front of s, and this is what it means
+-- a frame that is looked for is at the front of s, and this is what it means
 abbrev pub FindsFrame : (Frame → Type 0) → List ℕ → Option Meaning → Type 0
 FindsFrame IsWanted s found = (f : Frame) × (r : List ℕ) × (m : Meaning) × IsFrame s f r × IsWanted f × Means f m × (found ≡ Some m)
 
@@ -39,12 +39,12 @@ HasNoKey key (f ∷ fs) = (f.key ≢ key) × HasNoKey key fs
 abbrev pub LooksUp : List ℕ → List ℕ → Option Meaning → Type 0
 LooksUp b key found = (passed : List Frame) × (s : List ℕ) × LeadsTo (drop 4 b) passed s × HasNoKey key passed × Finds (HasThisKey key) s found
 
--- whether a key stands in a document: a frame has it; or none has, and the walk ends so
+-- whether a key is in a document: a frame has it; or none has, and the walk ends so
 pub data KeyAnswer : Type 0 where
   present : KeyAnswer
   absent : End → KeyAnswer
 
--- Whether the key stands in the document b: in its walk a frame has it, whatever it means and whatever stands behind
+-- Whether the key is in the document b: in its walk a frame has it, whatever it means and whatever is behind
 -- it; or no frame of the walk has it. Keys are compared byte by byte.
 abbrev pub FindsKey : List ℕ → List ℕ → KeyAnswer → Type 0
 FindsKey b key present = (passed : List Frame) × (s : List ℕ) × (f : Frame) × (r : List ℕ) × LeadsTo (drop 4 b) passed s × IsFrame s f r × HasThisKey key f

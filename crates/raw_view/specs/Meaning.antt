@@ -111,11 +111,11 @@ OldBinaryFault key outer fault =
     ⊎ ((inner : ℤ) × (4 ≤ length outer) × IsLe32 (take 4 outer) inner × Overflows inner × (fault ≡ malformed))
     ⊎ ((inner : ℤ) × (4 ≤ length outer) × IsLe32 (take 4 outer) inner × (¬ Overflows inner) × ((inner +ℤ pos 4) ≢ pos (length outer)) × (fault ≡ malformed_at key))
 
--- what stands behind the four length bytes of a code with scope doesn't begin with a string
+-- what is behind the four length bytes of a code with scope doesn't begin with a string
 abbrev pub HasNoCode : List ℕ → Type 0
 HasNoCode p = (string scope : List ℕ) → drop 4 p ≡ string ++ scope → ¬ HasText string
 
--- The fault of a code with scope: it has under 14 bytes; no string stands behind its length; the string's
+-- The fault of a code with scope: it has under 14 bytes; no string is behind its length; the string's
 -- text isn't UTF-8; exactly the rest has no envelope.
 abbrev pub ScopeFault : List ℕ → List ℕ → KeyedFault → Type 0
 ScopeFault key p fault =

@@ -1,11 +1,11 @@
--- Reading is determined: what stands in bytes, and what it means, is the only one of its sort.
+-- Reading is determined: what is in bytes, and what it means, is the only one of its sort.
 use Rattle.std.specs.Prelude.{◌≡◌, ℕ, List, Option}
 use Rattle.raw_view.specs.Frame.{Frame, IsFrame, End, IsWalk}
 use Rattle.raw_view.specs.Meaning.{Meaning, Means}
 use Rattle.raw_view.specs.Item.{Item, AreItems}
 use Rattle.raw_view.specs.LookUp.{LooksUp, KeyAnswer, FindsKey, IsAt}
 
--- at most one first frame stands at the front of any byte list
+-- at most one first frame is at the front of any byte list
 abbrev pub OneFirstFrame : Type 0
 OneFirstFrame = (s : List ℕ) (f g : Frame) (r q : List ℕ) → IsFrame s f r → IsFrame s g q → (f ≡ g) × (r ≡ q)
 
@@ -25,7 +25,7 @@ AreTheItems b items = AreItems b items × ((other : List Item) → AreItems b ot
 abbrev pub IsTheAnswer : List ℕ → List ℕ → Option Meaning → Type 0
 IsTheAnswer b key found = LooksUp b key found × ((other : Option Meaning) → LooksUp b key other → other ≡ found)
 
--- this is whether the key stands in the document b, and nothing else is
+-- this is whether the key is in the document b, and nothing else is
 abbrev pub IsTheKeyAnswer : List ℕ → List ℕ → KeyAnswer → Type 0
 IsTheKeyAnswer b key answer = FindsKey b key answer × ((other : KeyAnswer) → FindsKey b key other → other ≡ answer)
 

@@ -5,19 +5,24 @@ use crate::error::Error;
 use std::alloc::{AllocError, Global};
 use std::fmt;
 
-/// What a typed getter answers: a value, or a `ValueAccessError`.
+/// What a typed getter returns: a value, or a `ValueAccessError`.
 pub type ValueAccessResult<T> = std::result::Result<T, ValueAccessError>;
 
 /// Why a typed getter has no value.
+/// ```
+/// let document = RawDocument::from_bytes(b"\x0C\0\0\0\x10a\0\x01\0\0\0\0")?;
+/// let missing = document.get_i32(alloc, "b").map_err(|error| error.kind);
+/// assert_eq!(rt; missing, Err(ValueAccessErrorKind::NotPresent));
+/// ```
 #[derive(Debug, PartialEq, Eq, Drop)]
 pub enum ValueAccessErrorKind {
-    /// Nothing stands at the key.
+    /// Nothing is at the key.
     NotPresent,
-    /// Another kind of value stands there.
+    /// Another kind of value is there.
     UnexpectedType {
         /// the kind that was asked for
         expected: ElementType,
-        /// the kind that stands there
+        /// the kind that is there
         actual: ElementType,
     },
     /// The look-up found a fault.
@@ -27,6 +32,11 @@ pub enum ValueAccessErrorKind {
 }
 
 /// Why a typed getter has no value, and the key, or the index in decimal, that was asked for.
+/// ```
+/// let document = RawDocument::from_bytes(b"\x0C\0\0\0\x10a\0\x01\0\0\0\0")?;
+/// let Err(error) = document.get_str(alloc, "a") else { return Ok(()) };
+/// assert_eq!(rt; error.key(), "a");
+/// ```
 #[derive(Debug, PartialEq, Eq, Drop)]
 pub struct ValueAccessError {
     /// why there is no value

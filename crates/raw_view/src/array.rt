@@ -13,6 +13,12 @@ use std::alloc::Global;
 use std::fmt;
 
 /// An array: a document whose keys are ignored. BSON 1.1, `array`.
+/// ```
+/// let document = RawDocument::from_bytes(b"\x14\0\0\0\x04a\0\x0C\0\0\0\x100\0\x07\0\0\0\0\0")?;
+/// for value in document.get_array(alloc, "a")?.iter(alloc) {
+///     assert_eq!(rt; value?, RawBsonRef::Int32(7));
+/// }
+/// ```
 #[derive(Clone, Copy, PartialEq, Eq)]
 pub struct RawArray<'a> {
     document: RawDocument<'a>,
@@ -37,6 +43,10 @@ impl<'a> RawArray<'a> {
     ghost use Rattle.raw_view.specs.declared.error.Error.{Error};
 
     /// The array of a document's values.
+    /// ```
+    /// let array = RawArray::from_doc(RawDocument::from_bytes(b"\x13\0\0\0\x10a\0\x01\0\0\0\x10b\0\x02\0\0\0\0")?);
+    /// assert_eq!(rt; array.get_i32(alloc, 1)?, 2);
+    /// ```
     pub fn from_doc(document: RawDocument<'a>) -> RawArray<'a>
         ensures { array_bytes_of result ≡ bytes_of document.entry }
     {
@@ -83,6 +93,11 @@ impl<'a> RawArray<'a> {
     /// The item at this place, counted from 0, faults and the stop counted too: a value, or its fault. Past
     /// the last item, so past a stop, `None`. Nothing is looked into or copied of the items before it.
     /// The bytes and the place alone determine what is found.
+    /// ```
+    /// let array = RawArray::from_doc(RawDocument::from_bytes(b"\x0C\0\0\0\x10a\0\x01\0\0\0\0")?);
+    /// assert_eq!(rt; array.get(alloc, 0)?, Some(RawBsonRef::Int32(1)));
+    /// assert_eq!(rt; array.get(alloc, 1)?, None);
+    /// ```
     pub fn get(self, alloc: Global, index: usize) -> Result<Option<RawBsonRef<'a>>>
         ensures found { (found : Option Meaning) × IsAt (array_bytes_of self.entry) index found
             × TellsFound result found }
@@ -99,7 +114,7 @@ impl<'a> RawArray<'a> {
         }
     }
 
-    /// What a typed getter answers.
+    /// What a typed getter returns.
     fn get_typed<T: Typed<'a>>(self, alloc: Global, index: usize) -> ValueAccessResult<T>
         ensures { GetsAt T.value_as T.kind (array_bytes_of self.entry) index result }
     {

@@ -8,6 +8,11 @@ use bson_model::{Binary, BinarySubtype, DateTime, Decimal128, DoubleBits, Object
 use std::alloc::Global;
 
 /// A value that borrows its parts from a document's bytes. BSON 1.1, `element`.
+/// ```
+/// let value = RawBsonRef::from("x");
+/// assert_eq!(rt; value.as_str(), Some("x"));
+/// assert_eq!(rt; value.as_i32(), None);
+/// ```
 #[derive(Clone, Copy, Debug, PartialEq, Eq)]
 pub enum RawBsonRef<'a> {
     /// 64 bits of a floating point number
@@ -89,6 +94,10 @@ impl<'a> RawBsonRef<'a> {
 }
 
 /// Bytes with a subtype; of an old binary without the inner length. BSON 1.1, `binary`.
+/// ```
+/// let binary = RawBinaryRef { subtype: BinarySubtype::Generic, bytes: b"ab" };
+/// assert_eq!(rt; RawBsonRef::from(binary).as_binary(), Some(binary));
+/// ```
 #[derive(Clone, Copy, Debug, PartialEq, Eq)]
 pub struct RawBinaryRef<'a> {
     /// what the bytes are
@@ -100,7 +109,11 @@ pub struct RawBinaryRef<'a> {
 impl RawBinaryRef<'_> {
     ghost use Rattle.raw_view.specs.Errors.{IsOutOfMemory};
 
-    /// A copy; the only error is want of memory.
+    /// A copy; the only error is out of memory.
+    /// ```
+    /// let binary = RawBinaryRef { subtype: BinarySubtype::Generic, bytes: b"ab" };
+    /// assert_eq!(rt; binary.to_binary(alloc)?.bytes.as_slice(), b"ab".as_slice());
+    /// ```
     pub fn to_binary(self, alloc: Global) -> Result<Binary>
         ensures subtype { IfOk result (λ b. b.subtype ≡ self.entry.subtype) }
         ensures bytes { IfOk result (λ b. b.bytes.items ≡ self.entry.bytes.now) }
@@ -113,7 +126,11 @@ impl RawBinaryRef<'_> {
     }
 }
 
-/// A regular expression: pattern and options as they stand. BSON 1.1, `regex`.
+/// A regular expression: pattern and options as they are. BSON 1.1, `regex`.
+/// ```
+/// let regex = RawRegexRef { pattern: "^a", options: "i" };
+/// assert_eq!(rt; RawBsonRef::from(regex).as_regex(), Some(regex));
+/// ```
 #[derive(Clone, Copy, Debug, PartialEq, Eq)]
 pub struct RawRegexRef<'a> {
     /// the pattern
@@ -132,6 +149,10 @@ pub struct RawJavaScriptCodeWithScopeRef<'a> {
 }
 
 /// A pointer to an object of a database. BSON 1.1, DBPointer.
+/// ```
+/// let pointer = RawDbPointerRef::new("db.c", ObjectId::from_bytes([7; 12]));
+/// assert_eq!(rt; pointer.namespace(), "db.c");
+/// ```
 #[derive(Clone, Copy, Debug, PartialEq, Eq)]
 pub struct RawDbPointerRef<'a> {
     namespace: &'a str,

@@ -24,7 +24,7 @@ fn first_nul(bytes: &[u8]) -> Option<usize>
     memchr::memchr(0, bytes)
 }
 
-/// The text up to the first 0, and what stands behind that 0.
+/// The text up to the first 0, and what is behind that 0.
 #[inline(always)]
 pub(crate) fn split_text(bytes: &[u8]) -> Result<(&str, &[u8]), ErrorKind>
     ensures found { IfOk result

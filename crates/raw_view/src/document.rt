@@ -18,8 +18,13 @@ use std::alloc::Global;
 use std::fmt;
 
 /// The bytes of one document with a sound envelope: at least five bytes, the first four are the length of
-/// the whole, the last is 0. What stands inside is looked at only where a call needs it.
+/// the whole, the last is 0. What is inside is looked at only where a call needs it.
 /// BSON 1.1, `document`.
+/// ```
+/// let document = RawDocument::from_bytes(b"\x0C\0\0\0\x10a\0\x01\0\0\0\0")?;
+/// assert_eq!(rt; document.get_i32(alloc, "a")?, 1);
+/// assert_eq!(rt; document.as_bytes().len(), 12);
+/// ```
 #[derive(Clone, Copy, PartialEq, Eq)]
 pub struct RawDocument<'a> {
     bytes: &'a [u8],
@@ -54,6 +59,10 @@ impl<'a> RawDocument<'a> {
 
     /// A view of the bytes, for a sound envelope; else the first of: too short, wrong length, not
     /// terminated. The header is compared with the whole length. These errors have no key.
+    /// ```
+    /// assert!(rt; RawDocument::from_bytes(b"\x05\0\0\0\0").is_ok());
+    /// assert!(rt; RawDocument::from_bytes(b"\x06\0\0\0\0").is_err());
+    /// ```
     pub fn from_bytes(bytes: &'a [u8]) -> Result<RawDocument<'a>>
         ensures sound { IsOk result ↔ IsEnvelope bytes.now }
         ensures same { IfOk result (λ d. bytes_of d ≡ bytes.now) }
@@ -99,7 +108,13 @@ impl<'a> RawDocument<'a> {
     /// The elements in order, and then the fault at which they stop, if there is one. No value is
     /// resolved and nothing is copied but the key of that fault. On n bytes at most (n - 4) / 2 + 1 items.
     /// The bytes alone determine the elements and the fault: a document has one walk, since at most one
-    /// element stands at the front of any bytes.
+    /// element is at the front of any bytes.
+    /// ```
+    /// let document = RawDocument::from_bytes(b"\x0C\0\0\0\x10a\0\x01\0\0\0\0")?;
+    /// for element in document.iter_elements(alloc) {
+    ///     assert_eq!(rt; element?.key(), "a");
+    /// }
+    /// ```
     pub fn iter_elements(self, alloc: Global) -> RawIter<'a>
         ensures begins { result ≡ Some (drop 4 (bytes_of self.entry)) }
         ensures walk { (items : List (Result RawElement Error)) →
@@ -115,6 +130,13 @@ impl<'a> RawDocument<'a> {
     /// The keys and values in order, each fault in its value's place, and then the fault at which the
     /// elements stop, if there is one. Nothing is copied but the key that a fault carries. On n bytes at
     /// most (n - 4) / 2 + 1 items. The bytes alone determine what the items are.
+    /// ```
+    /// let document = RawDocument::from_bytes(b"\x0C\0\0\0\x10a\0\x01\0\0\0\0")?;
+    /// for item in document.iter(alloc) {
+    ///     let (key, value) = item?;
+    ///     assert_eq!(rt; (key, value.as_i32()), ("a", Some(1)));
+    /// }
+    /// ```
     pub fn iter(self, alloc: Global) -> Iter<'a>
         ensures begins { result ≡ Some (drop 4 (bytes_of self.entry)) }
         ensures items { (outs : List (Result (Bor (List ℕ) × RawBsonRef) Error)) →
@@ -129,6 +151,11 @@ impl<'a> RawDocument<'a> {
     /// the fault at which the elements stop, if there is one, else `None`. No value of another key is looked
     /// into, and nothing behind the element that is found. The bytes and the key alone determine what is
     /// found.
+    /// ```
+    /// let document = RawDocument::from_bytes(b"\x0C\0\0\0\x10a\0\x01\0\0\0\0")?;
+    /// assert_eq!(rt; document.get(alloc, "a")?, Some(RawBsonRef::Int32(1)));
+    /// assert_eq!(rt; document.get(alloc, "b")?, None);
+    /// ```
     pub fn get(self, alloc: Global, key: &str) -> Result<Option<RawBsonRef<'a>>>
         ensures found { (found : Option Meaning) × LooksUp (bytes_of self.entry) key.now found
             × TellsFound result found }
@@ -150,9 +177,13 @@ impl<'a> RawDocument<'a> {
         Ok(None)
     }
 
-    /// Whether an element with this key stands in the document. Where none does, the fault at which the
-    /// elements stop, if there is one, as `get` answers it. No value is looked into, and nothing behind the
-    /// element that is found. The bytes and the key alone determine the answer.
+    /// Whether an element with this key is in the document. Where none is, the fault at which the
+    /// elements stop, if there is one, as `get` returns it. No value is looked into, and nothing behind the
+    /// element that is found. The bytes and the key alone determine the result.
+    /// ```
+    /// let document = RawDocument::from_bytes(b"\x0C\0\0\0\x10a\0\x01\0\0\0\0")?;
+    /// assert!(rt; document.contains_key(alloc, "a")?);
+    /// ```
     pub fn contains_key(self, alloc: Global, key: &str) -> Result<bool>
         ensures found { (answer : KeyAnswer) × FindsKey (bytes_of self.entry) key.now answer
             × TellsKey result answer }
@@ -171,7 +202,7 @@ impl<'a> RawDocument<'a> {
         Ok(false)
     }
 
-    /// What a typed getter answers.
+    /// What a typed getter returns.
     fn get_typed<T: Typed<'a>>(self, alloc: Global, key: &str) -> ValueAccessResult<T>
         ensures { GetsByKey T.value_as T.kind (bytes_of self.entry) key.now result }
     {
@@ -186,6 +217,10 @@ impl<'a> RawDocument<'a> {
     }
 
     /// The text of a string under this key; else why there is none, with the key.
+    /// ```
+    /// let document = RawDocument::from_bytes(b"\x0E\0\0\0\x02a\0\x02\0\0\0x\0\0")?;
+    /// assert_eq!(rt; document.get_str(alloc, "a")?, "x");
+    /// ```
     pub fn get_str(self, alloc: Global, key: &str) -> ValueAccessResult<&'a str>
         ensures { GetsByKey typed.str_value variants.String (bytes_of self.entry) key.now result }
     {
@@ -193,6 +228,10 @@ impl<'a> RawDocument<'a> {
     }
 
     /// A nested document under this key; else why there is none, with the key.
+    /// ```
+    /// let document = RawDocument::from_bytes(b"\x14\0\0\0\x03a\0\x0C\0\0\0\x10b\0\x07\0\0\0\0\0")?;
+    /// assert_eq!(rt; document.get_document(alloc, "a")?.get_i32(alloc, "b")?, 7);
+    /// ```
     pub fn get_document(self, alloc: Global, key: &str) -> ValueAccessResult<RawDocument<'a>>
         ensures { GetsByKey typed.document_value variants.EmbeddedDocument
             (bytes_of self.entry) key.now result }
@@ -201,6 +240,10 @@ impl<'a> RawDocument<'a> {
     }
 
     /// An array under this key; else why there is none, with the key.
+    /// ```
+    /// let document = RawDocument::from_bytes(b"\x14\0\0\0\x04a\0\x0C\0\0\0\x100\0\x07\0\0\0\0\0")?;
+    /// assert_eq!(rt; document.get_array(alloc, "a")?.get_i32(alloc, 0)?, 7);
+    /// ```
     pub fn get_array(self, alloc: Global, key: &str) -> ValueAccessResult<RawArray<'a>>
         ensures { GetsByKey typed.array_value variants.Array (bytes_of self.entry) key.now result }
     {
@@ -224,6 +267,10 @@ impl<'a> RawDocument<'a> {
     }
 
     /// A boolean under this key; else why there is none, with the key.
+    /// ```
+    /// let document = RawDocument::from_bytes(b"\x09\0\0\0\x08a\0\x01\0")?;
+    /// assert_eq!(rt; document.get_bool(alloc, "a")?, true);
+    /// ```
     pub fn get_bool(self, alloc: Global, key: &str) -> ValueAccessResult<bool>
         ensures { GetsByKey typed.bool_value variants.Boolean (bytes_of self.entry) key.now result }
     {
@@ -255,6 +302,11 @@ impl<'a> RawDocument<'a> {
     }
 
     /// A signed 32-bit number under this key; else why there is none, with the key.
+    /// ```
+    /// let document = RawDocument::from_bytes(b"\x0C\0\0\0\x10a\0\x01\0\0\0\0")?;
+    /// assert_eq!(rt; document.get_i32(alloc, "a")?, 1);
+    /// assert!(rt; document.get_i32(alloc, "b").is_err());
+    /// ```
     pub fn get_i32(self, alloc: Global, key: &str) -> ValueAccessResult<i32>
         ensures { GetsByKey typed.i32_value variants.Int32 (bytes_of self.entry) key.now result }
     {
@@ -262,6 +314,10 @@ impl<'a> RawDocument<'a> {
     }
 
     /// A signed 64-bit number under this key; else why there is none, with the key.
+    /// ```
+    /// let document = RawDocument::from_bytes(b"\x10\0\0\0\x12a\0\x01\0\0\0\0\0\0\0\0")?;
+    /// assert_eq!(rt; document.get_i64(alloc, "a")?, 1);
+    /// ```
     pub fn get_i64(self, alloc: Global, key: &str) -> ValueAccessResult<i64>
         ensures { GetsByKey typed.i64_value variants.Int64 (bytes_of self.entry) key.now result }
     {

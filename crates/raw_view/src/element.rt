@@ -15,6 +15,14 @@ use bson_model::{DateTime, Decimal128, DoubleBits, ObjectId};
 use std::alloc::Global;
 
 /// One element: its key, its kind and the bytes of its payload, whose value isn't resolved.
+/// ```
+/// let document = RawDocument::from_bytes(b"\x0C\0\0\0\x10a\0\x01\0\0\0\0")?;
+/// for element in document.iter_elements(alloc) {
+///     let element = element?;
+///     assert_eq!(rt; (element.element_type(), element.len()), (ElementType::Int32, 4));
+///     assert_eq!(rt; element.value(alloc)?, RawBsonRef::Int32(1));
+/// }
+/// ```
 #[derive(Clone, Copy, Debug)]
 pub struct RawElement<'a> {
     pub(crate) key: &'a str,
@@ -41,14 +49,14 @@ impl<'a> RawElement<'a> {
         self.payload.len()
     }
 
-    /// The bytes of the payload as they stand, unexamined.
+    /// The bytes of the payload as they are, unexamined.
     pub fn payload(self) -> &'a [u8]
         ensures { result.now ≡ (frame_of self.entry).payload }
     {
         self.payload
     }
 
-    /// The kind that the element's tag stands for.
+    /// The kind that the element's tag says.
     pub fn element_type(self) -> ElementType
         ensures { result ≡ (frame_of self.entry).kind }
     {
@@ -60,7 +68,7 @@ impl<'a> RawElement<'a> {
     ghost use Rattle.raw_view.specs.ElementSteps.{frame_of};
     ghost use Rattle.raw_view.specs.Front.{TellsBorrowed};
     ghost use Rattle.raw_view.specs.Kind.{CanBeAtFault};
-    ghost use Rattle.raw_view.specs.Meaning.{KeyedFault, Means, MeansFault, value};
+    ghost use Rattle.raw_view.specs.Meaning.{KeyedFault, Means, value, faulty};
     ghost use Rattle.raw_view.specs.Value.{value_of};
 
     /// The value of a kind whose payloads all mean one; `None` for the kinds whose payload can be at fault.
@@ -97,7 +105,13 @@ impl<'a> RawElement<'a> {
             }
             ElementType::MaxKey => Some(RawBsonRef::MaxKey),
             ElementType::MinKey => Some(RawBsonRef::MinKey),
-            _ => None,
+            ElementType::String
+            | ElementType::Binary
+            | ElementType::Boolean
+            | ElementType::DbPointer
+            | ElementType::JavaScriptCode
+            | ElementType::Symbol
+            | ElementType::JavaScriptCodeWithScope => None,
         }
     }
 
@@ -107,8 +121,7 @@ impl<'a> RawElement<'a> {
     pub fn resolve(self) -> std::result::Result<RawBsonRef<'a>, BorrowedError<'a>>
         ensures value { IfOk result (λ v. Means (frame_of self.entry) (value (value_of v))) }
         ensures fault { IfErr result
-            (λ e. (fault : KeyedFault)
-            × MeansFault self.entry.kind self.entry.key.now self.entry.payload.now fault
+            (λ e. (fault : KeyedFault) × Means (frame_of self.entry) (faulty fault)
             × TellsBorrowed e fault) }
     {
         if let Some(value) = self.faultless_value() {
@@ -125,7 +138,20 @@ impl<'a> RawElement<'a> {
             ElementType::JavaScriptCodeWithScope => Ok(RawBsonRef::JavaScriptCodeWithScope(
                 code_with_scope_of(self.key, payload)?,
             )),
-            _ => unreachable!(),
+            ElementType::Double
+            | ElementType::EmbeddedDocument
+            | ElementType::Array
+            | ElementType::Undefined
+            | ElementType::ObjectId
+            | ElementType::DateTime
+            | ElementType::Null
+            | ElementType::RegularExpression
+            | ElementType::Int32
+            | ElementType::Timestamp
+            | ElementType::Int64
+            | ElementType::Decimal128
+            | ElementType::MaxKey
+            | ElementType::MinKey => unreachable!(),
         }
     }
 }

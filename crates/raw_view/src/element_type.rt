@@ -5,6 +5,10 @@ ghost use Rattle.raw_view.specs.declared.element_type.ElementType.{ElementType};
 use std::fmt;
 
 /// The kinds of element. BSON 1.1, `element`.
+/// ```
+/// assert_eq!(rt; ElementType::from(2), Some(ElementType::String));
+/// assert_eq!(rt; ElementType::Int32.to_tag(), 16);
+/// ```
 #[derive(Clone, Copy, Debug, PartialEq, Eq)]
 pub enum ElementType {
     /// 64-bit floating point, tag 01
@@ -52,7 +56,7 @@ pub enum ElementType {
 }
 
 impl ElementType {
-    /// The kind that a tag stands for; `None` for a byte that is no tag.
+    /// The kind that a tag says; `None` for a byte that is no tag.
     #[inline(always)]
     pub fn from(tag: u8) -> Option<ElementType>
         ensures of_its_tag { (kind : ElementType) → (result ≡ Some kind) ↔ (tag ≡ tag_of kind) }
@@ -85,7 +89,7 @@ impl ElementType {
         }
     }
 
-    /// The byte that stands for the kind.
+    /// The tag of the kind.
     pub fn to_tag(self) -> u8
         ensures { result ≡ tag_of self }
     {

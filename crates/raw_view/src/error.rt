@@ -1,4 +1,4 @@
-ghost use Rattle.std.specs.Prelude.{◌≡◌, IfNone, None};
+ghost use Rattle.std.specs.Prelude.{◌≡◌, None};
 ghost use Rattle.std.specs.Option.{option_copied};
 ghost use Rattle.raw_view.specs.Errors.{IsReadingKind, IsReadingReason};
 
@@ -7,7 +7,7 @@ use std::alloc::{AllocError, AllocFailed, Global};
 use std::fmt;
 use std::str::Utf8Error;
 
-/// What a call of this crate answers: a value, or an `Error`.
+/// What a call of this crate returns: a value, or an `Error`.
 pub type Result<T> = std::result::Result<T, Error>;
 
 /// Why bytes are malformed. Numbers count bytes.
@@ -19,7 +19,7 @@ pub enum Reason {
     LengthIncorrect,
     /// A document's last byte isn't 0.
     NotTerminated,
-    /// No byte is left where an element or the final 0 should stand.
+    /// No byte is left where an element or the final 0 should be.
     Overflowed,
     /// No kind has this tag.
     InvalidTag(u8),
@@ -59,74 +59,65 @@ pub enum Reason {
     TooLong,
     /// A document has more bytes than the caller allows.
     TooManyBytes,
-    /// Documents, arrays and scopes stand deeper in one another than the caller allows.
+    /// Documents, arrays and scopes are deeper in one another than the caller allows.
     TooDeep,
-}
-
-impl Reason {
-    ghost use Rattle.raw_view.specs.Reasons.{HasNumbers};
-
-    /// What is said of a reason that has no numbers; `None` for the others.
-    fn plain_text(&self) -> Option<&'static str>
-        ensures { IfNone result (HasNumbers self.now) }
-    {
-        match self {
-            Reason::TooShort => Some("document too short"),
-            Reason::LengthIncorrect => Some("document length incorrect"),
-            Reason::NotTerminated => Some("document not null-terminated"),
-            Reason::Overflowed => Some("iteration overflowed document"),
-            Reason::NegativeLength => Some("lengths can't be negative"),
-            Reason::StringTooSmall => {
-                Some("BSON length encoded string needs to be at least 5 bytes, instead got 4")
-            }
-            Reason::StringNotTerminated => Some("expected string to be null-terminated"),
-            Reason::NestedNotTerminated => Some("not null terminated"),
-            Reason::NoTerminator => Some("expected null terminator"),
-            Reason::OldNoInner => Some("old binary subtype has no inner declared length"),
-            Reason::AddOverflow => Some("attempted to add with overflow"),
-            Reason::OldWrongInner => Some("old binary subtype has wrong inner declared length"),
-            Reason::CodeTooSmall => Some("code with scope length too small"),
-            Reason::InteriorNul => Some("interior NUL"),
-            Reason::TooLong => Some("document too long"),
-            Reason::TooManyBytes => Some("more bytes than allowed"),
-            Reason::TooDeep => Some("deeper than allowed"),
-            _ => None,
-        }
-    }
 }
 
 impl fmt::Display for Reason {
     fn fmt<W: fmt::Write>(&self, f: &mut fmt::Formatter<W>) -> fmt::Result {
-        if let Some(text) = self.plain_text() {
-            return f.write_str(text);
-        }
         match self {
+            Reason::TooShort => f.write_str("document too short"),
+            Reason::LengthIncorrect => f.write_str("document length incorrect"),
+            Reason::NotTerminated => f.write_str("document not null-terminated"),
+            Reason::Overflowed => f.write_str("iteration overflowed document"),
             Reason::InvalidTag(tag) => write!(f, "invalid tag: {tag}"),
             Reason::StringHeadShort(left) => write!(
                 f,
                 "expected buffer with string to contain at least 4 bytes, but it only has {left}"
             ),
+            Reason::NegativeLength => f.write_str("lengths can't be negative"),
+            Reason::StringTooSmall => {
+                f.write_str(
+                    "BSON length encoded string needs to be at least 5 bytes, instead got 4",
+                )
+            }
             Reason::StringPastEnd(size, left) => write!(
                 f,
                 "expected buffer to contain at least {size} bytes, but it only has {left}"
             ),
+            Reason::StringNotTerminated => f.write_str("expected string to be null-terminated"),
             Reason::PastEnd(size, left) => write!(
                 f,
                 "length exceeds remaining length of buffer: {size} vs {left}"
             ),
             Reason::DocumentTooSmall(size) => write!(f, "document too small: {size} bytes"),
+            Reason::NestedNotTerminated => f.write_str("not null terminated"),
             Reason::LengthHeadShort(left) => {
                 write!(f, "expected 4 bytes to read i32, instead got {left}")
             }
+            Reason::NoTerminator => f.write_str("expected null terminator"),
             Reason::BadBoolean(byte) => {
                 write!(f, "boolean must be stored as 0 or 1, got {byte}")
             }
-            _ => unreachable!(),
+            Reason::OldNoInner => f.write_str("old binary subtype has no inner declared length"),
+            Reason::AddOverflow => f.write_str("attempted to add with overflow"),
+            Reason::OldWrongInner => {
+                f.write_str("old binary subtype has wrong inner declared length")
+            }
+            Reason::CodeTooSmall => f.write_str("code with scope length too small"),
+            Reason::InteriorNul => f.write_str("interior NUL"),
+            Reason::TooLong => f.write_str("document too long"),
+            Reason::TooManyBytes => f.write_str("more bytes than allowed"),
+            Reason::TooDeep => f.write_str("deeper than allowed"),
         }
     }
 }
 
 /// How a call fails.
+/// ```
+/// let short = RawDocument::from_bytes(b"").map_err(|error| error.kind);
+/// assert_eq!(rt; short, Err(ErrorKind::MalformedValue { reason: Reason::TooShort }));
+/// ```
 #[derive(Debug, PartialEq, Eq, Drop)]
 pub enum ErrorKind {
     /// The bytes aren't what BSON says.
@@ -136,11 +127,16 @@ pub enum ErrorKind {
     },
     /// A text isn't UTF-8.
     Utf8EncodingError(Utf8Error),
-    /// No memory was left, for the key that the error should carry or for the answer.
+    /// No memory was left, for the key that the error should carry or for the result.
     OutOfMemory,
 }
 
 /// Why a call failed, and at which key where that is known.
+/// ```
+/// let document = RawDocument::from_bytes(b"\x09\0\0\0\x08a\0\x02\0")?;
+/// let Err(error) = document.get(alloc, "a") else { return Ok(()) };
+/// assert_eq!(rt; error.key(), Some("a"));
+/// ```
 #[derive(Debug, PartialEq, Eq, Drop)]
 pub struct Error {
     /// how it failed
@@ -227,7 +223,7 @@ impl Clone for Error {
     }
 }
 
-/// An error that borrows the key: what a step answers that copies nothing. It is never want of memory.
+/// An error that borrows the key: what a step returns that copies nothing. It is never out of memory.
 #[derive(Debug, Drop)]
 pub struct BorrowedError<'a> {
     /// how the step failed

@@ -10,6 +10,9 @@ use crate::error::{Error, Reason};
 use crate::payload::declared_len;
 
 /// Why no document is at the front of bytes.
+/// ```
+/// assert_eq!(rt; RawDocument::split_first(b"\x05\0").unwrap_err(), NoDocument::TooShort);
+/// ```
 #[derive(Clone, Copy, Debug, PartialEq, Eq)]
 pub enum NoDocument {
     /// There are under five bytes.
@@ -24,6 +27,10 @@ impl<'a> RawDocument<'a> {
     /// The document at the front of the bytes, and what is behind it; else the first of: too short, a length that isn't
     /// sound, and not terminated, with the length, by which a caller can go on to what is behind the damage. One
     /// document at most is at the front of any bytes. BSON 1.1, `document`.
+    /// ```
+    /// let (first, behind) = RawDocument::split_first(b"\x05\0\0\0\0and more")?;
+    /// assert!(rt; first.is_empty() && behind == b"and more".as_slice());
+    /// ```
     pub fn split_first(
         bytes: &'a [u8],
     ) -> std::result::Result<(RawDocument<'a>, &'a [u8]), NoDocument>

@@ -6,7 +6,7 @@ use crate::element_type::ElementType;
 use crate::error::{BorrowedError, Reason};
 use crate::payload::front_len;
 
-/// What stands at the front of the bytes that are left.
+/// What is at the front of the bytes that are left.
 pub(crate) enum Front<'a> {
     /// the final 0
     Final,
@@ -16,7 +16,7 @@ pub(crate) enum Front<'a> {
     Stop(BorrowedError<'a>),
 }
 
-/// What stands at the front of the bytes that are left of a document. Nothing is copied.
+/// What is at the front of the bytes that are left of a document. Nothing is copied.
 #[inline(always)]
 pub(crate) fn front_of<'a>(rest: &'a [u8]) -> Front<'a>
     requires { EndsWithNul rest.now }

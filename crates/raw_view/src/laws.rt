@@ -1,4 +1,4 @@
-//! What `==` of views answers, and what holds of elements by their type, as calls whose contracts say it. Programs never
+//! What `==` of views returns, and what holds of elements by their type, as calls whose contracts say it. Programs never
 //! need them; proofs do.
 
 ghost use Rattle.std.specs.Prelude.{◌≡◌, ◌↔◌, IsTrue};
@@ -26,7 +26,7 @@ pub fn is_same_array_view(first: RawArray<'_>, second: RawArray<'_>) -> bool
     first == second
 }
 
-/// An element stands as one whatever stands behind it, unless it is a code with scope whose declared length takes in
+/// An element is one whatever is behind it, unless it is a code with scope whose declared length takes in
 /// fewer bytes than the length itself has. Programs never need it; proofs do.
 pub fn attest_element(element: RawElement<'_>)
     ensures { ¬ IsShortScope (frame_of element.entry) → StandsAnywhere (frame_of element.entry) }

@@ -9,7 +9,7 @@ pub(crate) fn array_of<const N: usize>(bytes: &[u8]) -> [u8; N]
     *bytes.as_array::<N>().unwrap()
 }
 
-/// The signed number whose four bytes stand at the front.
+/// The signed number whose four bytes are at the front.
 pub(crate) fn front_i32(bytes: &[u8]) -> i32
     requires { 4 ≤ length bytes.now }
     ensures { IsLe32 (take 4 bytes.now) result }

@@ -147,7 +147,7 @@ fn regex_len(rest: &[u8]) -> Result<usize, ErrorKind>
     Ok(rest.len() - behind.len())
 }
 
-/// How many bytes the payload of a kind without C strings takes; else why none stands at the front.
+/// How many bytes the payload of a kind without C strings takes; else why none is at the front.
 #[inline(always)]
 fn sized_len(kind: ElementType, rest: &[u8]) -> Result<usize, Reason>
     requires { kind ≢ RegularExpression }
@@ -177,7 +177,7 @@ fn sized_len(kind: ElementType, rest: &[u8]) -> Result<usize, Reason>
     }
 }
 
-/// How many bytes the payload at the front takes; else why none of this kind stands there.
+/// How many bytes the payload at the front takes; else why none of this kind is there.
 #[inline(always)]
 pub(crate) fn front_len(kind: ElementType, rest: &[u8]) -> Result<usize, ErrorKind>
     ensures within { IfOk result (λ n. n ≤ length rest.now) }

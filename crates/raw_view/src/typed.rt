@@ -1,4 +1,4 @@
-//! What all typed getters share: a kind, its accessor, and what they answer for what a look-up answers.
+//! What all typed getters share: a kind, its accessor, and what they return for what a look-up returns.
 
 ghost use Rattle.std.specs.Prelude.{◌≡◌, ◌≢◌, IfSome, IfNone};
 ghost use Rattle.std.specs.Fmt.{decimal};
@@ -15,7 +15,7 @@ use crate::error::{ErrorKind, Result};
 use bson_model::{DateTime, DoubleBits, ObjectId, Timestamp};
 use std::alloc::Global;
 
-/// A type whose values a typed getter answers.
+/// A type whose values a typed getter returns.
 pub(crate) trait Typed<'a>: Sized + Drop {
     ghost use Rattle.raw_view.specs.declared.element_type.ElementType.{ElementType};
     ghost use Rattle.raw_view.specs.Meaning.{RawValue, kind_of_raw};
@@ -36,7 +36,7 @@ pub(crate) trait Typed<'a>: Sized + Drop {
         ensures none { IfNone result (kind_of_raw (value_of value.entry) ≢ kind) };
 }
 
-/// What a typed getter has for what a look-up answers.
+/// What a typed getter has for what a look-up returns.
 fn value_or_kind<'a, T: Typed<'a>>(
     answer: Result<Option<RawBsonRef<'a>>>,
 ) -> std::result::Result<T, ValueAccessErrorKind>

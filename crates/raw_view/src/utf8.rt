@@ -1,4 +1,4 @@
-//! UTF-8: texts from bytes, as `std::str::from_utf8` answers.
+//! UTF-8: texts from bytes, as `std::str::from_utf8` gives them.
 
 ghost use Rattle.std.specs.Prelude.{◌≡◌, ◌≤◌, length, take, IsTrue, IfOk, OnErr};
 ghost use Rattle.std.specs.Str.{IsAscii, IsUtf8};
@@ -19,7 +19,7 @@ fn ascii_text(bytes: &[u8]) -> &str
     ensures text { result.now ≡ bytes.now }
     ensures utf8 { IsUtf8 bytes.now }
 {
-    // bytes under 128 are UTF-8 as they stand
+    // bytes under 128 are UTF-8 as they are
     unsafe { std::str::from_utf8_unchecked(bytes) }
 }
 

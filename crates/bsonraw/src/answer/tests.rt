@@ -12,7 +12,7 @@ mod listings;
 mod memory;
 mod random;
 
-/// A command's text, and the status and the output of its answer.
+/// A command's text, and the status and the output of its run.
 type Row = (&'static str, u8, &'static str);
 
 fn assert_answer(

@@ -11,7 +11,7 @@ const CANONICAL: &[u8] = b"canonical\n";
 
 const USAGE_LINE: &[u8] = b"usage: bsonraw list|canon|check\n";
 
-/// Gives one byte a read, and fails once so many reads were answered.
+/// Gives one byte a read, and fails once there were so many reads.
 #[derive(Drop)]
 struct SlowReader<'a> {
     left: &'a [u8],
@@ -35,7 +35,7 @@ impl Read for SlowReader<'_> {
     }
 }
 
-/// Takes one byte a write, and fails once so many calls were answered.
+/// Takes one byte a write, and fails once there were so many calls.
 #[derive(Drop)]
 struct SlowWriter {
     taken: Vec<u8>,

@@ -5,9 +5,10 @@ use Rattle.raw_tree.specs.Payload.{payload_of}
 use Rattle.raw_view.specs.Envelope.{IsEnvelope}
 use Rattle.raw_view.specs.Number.{max_length}
 use Rattle.raw_view.specs.Value.{value_of}
-use Rattle.raw_bson.specs.Append.{frame_bytes, value_frame, appended_bytes, HasRoom}
+use Rattle.raw_bson.specs.Append.{frame_bytes, value_frame, appended_bytes, HasRoom, IsNulFreeElement}
 use Rattle.raw_bson.proofs.Appended.{written_is_appended, written_len}
 use Rattle.raw_bson.proofs.KeptWalks.{length-appended_bytes, appended_is_envelope, value_stands, keeps_walk}
+use Rattle.raw_bson.proofs.HeldFrames.{adds_value}
 use Rattle.raw_bson.proofs.appending.append_value.Goals as goal
 
 grown : (c : goal.After-set_len) → vec_len c.put_at_end.new.bytes - 0 ≡ length c.args.bytes.now.items + (length c.args.key.now + (2 + length (payload_of (value_of c.args.value))))
@@ -33,6 +34,11 @@ pub returns-clause-walk : goal.returns-clause-walk
 returns-clause-walk c =
     let stands = value_stands c.args.key.now (value_of c.args.value) c.utf8.key (search rules) c.attest_view.ensures (payload_fits c) in
     rw (written c) (keeps_walk c.args.bytes.now.items (value_frame c.args.key.now (value_of c.args.value)) c.requires stands)
+
+pub returns-clause-adds : goal.returns-clause-adds
+returns-clause-adds c =
+    let nul_free : IsNulFreeElement c.args.key.now (value_of c.args.value) = search rules in
+    adds_value c.args.bytes.now.items c.args.key.now (value_of c.args.value) c.set_len.new.out.items c.attest_view.ensures nul_free.1 (payload_fits c) (returns-clause-walk c)
 
 pub returns-clause-envelope : goal.returns-clause-envelope
 returns-clause-envelope c =

@@ -3,7 +3,7 @@ use Rattle.std.proofs.lemmas.Result.{err_from_is_err_and}
 use Rattle.bson_model.specs.Tree.{tree_of_document}
 use Rattle.raw_view.specs.Envelope.{IsEnvelope}
 use Rattle.raw_tree.specs.Reading.{Reads, TellsFirstFault}
-use Rattle.raw_bson.proofs.CanonicalForms.{canonical_form}
+use Rattle.raw_tree.proofs.Face.{canonical_form}
 use Rattle.raw_bson.proofs.Converted.{refused_form, refused_no_nul}
 use Rattle.raw_bson.proofs.canonical.canonical_bytes.Goals as goal
 
@@ -38,5 +38,4 @@ returns-clause-form c =
     let env : IsEnvelope c.args.bytes.now = subst IsEnvelope same c.in_ok-document.document.envelope in
     let read : Reads c.args.bytes.now t = subst (λ (x : List ℕ). Reads x t) same c.in_ok-tree.ensures.tree in
     let written = c.in_ok-form.ensures.ok in
-    let law = c.in_ok-tree.ensures in
-    canonical_form c.in_ok-form.ensures.comes_back law.one_reading law.one_spelling c.args.bytes.now c.into_bytes.result.items t env read (written.1, sym (c.into_bytes.ensures ∙ written.2))
+    canonical_form c.args.bytes.now c.into_bytes.result.items t env read (written.1, sym (c.into_bytes.ensures ∙ written.2))
