@@ -3,7 +3,9 @@ use bson_fixtures::{
     array_of, check_answer, check_bytes, check_equal, check_refused, holds, owned,
 };
 use raw_bson::laws::is_same_array_buf;
-use raw_bson::{ElementType, RawArrayBuf, RawBson, RawBsonRef, Reason, Regex, ValueAccessResult};
+use raw_bson::{
+    ElementType, RawArrayBuf, RawBson, RawBsonRef, Reason, Regex, ToRawArrayBuf, ValueAccessResult,
+};
 use std::alloc::Global;
 use std::test::Fail;
 use test_fixtures::*;
@@ -201,6 +203,8 @@ fn check_compared(
     empty: &RawArrayBuf,
 ) -> Result<(), Fail> {
     check_both(are_equal(copy, array), true, "a copy")?;
+    check_equal(&array.count(), &3, "a null, a stop and a push")?;
+    check_equal(&other_count.count(), &1, "the one item of the same bytes")?;
     let bytes = other_count.as_bytes();
     check_bytes(array.as_bytes(), bytes, "the same bytes")?;
     check_both(are_equal(array, other_count), false, "another count")?;
@@ -209,10 +213,10 @@ fn check_compared(
 
 #[test]
 fn arrays_are_compared_by_bytes_and_count(rt: HostRuntime) -> Result<(), Fail> {
-    // two are the same bytes: one copied, with the stop counted, and one that has its second value pushed
+    // two have the same bytes: one counts the stop that a push ended, the other is a copy of its view
     let pushed = pushed_onto_a_swallowed_terminator(rt.alloc())?;
     let copy = pushed.clone()?;
-    let other_count = array_of(rt.alloc(), SWALLOWED_TERMINATOR_PUSHED)?;
+    let other_count = pushed.as_ref().to_raw_array_buf(rt.alloc())?;
     let empty = RawArrayBuf::new(rt.alloc())?;
     check_compared(&pushed, &copy, &other_count, &empty)
 }

@@ -144,9 +144,13 @@ fn to_raw_document_buf_or_want_of_memory(rt: HostRuntime) -> Result<(), Fail> {
     Ok(())
 }
 
-/// Whether the bytes of the array become those after a push, if memory isn't wanted for it.
+/// Whether the bytes of the array become those after a push, or memory was wanted for it.
 fn is_pushed(array: &mut RawArrayBuf, before: &[u8], after: &[u8]) -> bool {
-    array.as_bytes() == before && (array.push(RawBson::Null).is_err() || array.as_bytes() == after)
+    array.as_bytes() == before
+        && match array.push(RawBson::Null) {
+            Ok(()) => array.as_bytes() == after,
+            Err(error) => is_want_of_memory(&error),
+        }
 }
 
 /// The same of a copied array, if there is memory for it.

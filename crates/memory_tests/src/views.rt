@@ -1,4 +1,5 @@
-use raw_bson::{ElementType, RawBsonRef};
+use crate::asserts::is_want_of_memory;
+use raw_bson::{ElementType, Iter, RawBsonRef, RawDocument};
 use std::test::Fail;
 use test_fixtures::*;
 
@@ -36,6 +37,24 @@ fn boolean_two_or_want_of_memory(rt: HostRuntime) -> Result<(), Fail> {
     let checks = Checks::refusable(rt.alloc());
     let items = [("", Want::Fault(TWO_AT_A))];
     checks.iteration(BOOLEAN_TWO, items.as_slice())?;
+    Ok(())
+}
+
+/// Whether the first item is want of memory without a key, and nothing comes behind it.
+fn is_want_alone(mut iter: Iter<'_>) -> bool {
+    match iter.next() {
+        Some(Err(error)) => is_want_of_memory(&error) && iter.next().is_none(),
+        _ => false,
+    }
+}
+
+/// `bin/test` wants the line in each run in which a request was refused, and in no other.
+#[test]
+fn a_refused_boolean_two_is_out_of_memory(rt: HostRuntime) -> Result<(), Fail> {
+    let view = RawDocument::from_bytes(BOOLEAN_TWO)?;
+    if is_want_alone(view.iter(rt.alloc())) {
+        println!(rt; "out of memory")?;
+    }
     Ok(())
 }
 

@@ -7,7 +7,7 @@ use Rattle.std.proofs.lemmas.List.Sums.{sum_by_push}
 use Rattle.bson_model.specs.Tree.{Tree}
 use Rattle.raw_view.specs.Document.{bytes_of}
 use Rattle.raw_view.specs.ElementSteps.{frame_of}
-use Rattle.raw_view.specs.Frame.{Frame, IsFrame, LeadsTo}
+use Rattle.raw_view.specs.Frame.{Frame, IsFrame}
 use Rattle.raw_view.specs.Front.{TellsBorrowed}
 use Rattle.raw_view.specs.Meaning.{KeyedFault}
 use Rattle.raw_view.specs.declared.document.RawDocument.{RawDocument}
@@ -41,7 +41,7 @@ pub record IsAt (depth : ℕ) (b : List ℕ) (ws : List Waiting) (left : Option 
 abbrev pub left_in : List Waiting → ℕ
 left_in ws = sum_by (λ w. left_behind w + 1) ws
 
-passed_left : (inside : ℕ) (d : List ℕ) (left : Option (List ℕ)) (number : ℕ) → IsPassed inside d left number → 2 * number + left_of left ≤ length d
+pub passed_left : (inside : ℕ) (d : List ℕ) (left : Option (List ℕ)) (number : ℕ) → IsPassed inside d left number → 2 * number + left_of left ≤ length d
 passed_left inside d None number is = absurd is.passed
 passed_left inside d (Some s) number is = omega (arith, LeadsTo-bound (drop 4 d) is.frames s is.passed, length-drop 4 d, is.number_is)
 
@@ -51,14 +51,14 @@ at_within depth b ws left number offset at =
     let ends = held_ends at.inside as_document b (length b) ws at.sort at.d at.end at.held (omega arith) in
     (omega (arith, passed_left at.inside at.d left number at.is, ends.0, ends.1), omega (arith, at.begins, ends.1))
 
-frame_size : (s : List ℕ) (f : Frame) (r : List ℕ) → IsFrame s f r → size_of f + length r ≡ length s
+pub frame_size : (s : List ℕ) (f : Frame) (r : List ℕ) → IsFrame s f r → size_of f + length r ≡ length s
 frame_size s f r b = omega (arith, ap length b.spelled, length-append f.key (0 ∷ (f.payload ++ r)), length-append f.payload r)
 
-whole_size : (inside : ℕ) (d : List ℕ) (old new : Option (List ℕ)) (number : ℕ) (e : RawElement) → IsPassed inside d old number → Looks old new (next.Whole e) → size_of (frame_of e) + left_of new ≡ left_of old
+pub whole_size : (inside : ℕ) (d : List ℕ) (old new : Option (List ℕ)) (number : ℕ) (e : RawElement) → IsPassed inside d old number → Looks old new (next.Whole e) → size_of (frame_of e) + left_of new ≡ left_of old
 whole_size inside d None new number e is looks = absurd is.passed
 whole_size inside d (Some s) new number e is (r, v, at, m, none, new_is) = rw new_is (frame_size s (frame_of e) r at)
 
-inside_size : (inside : ℕ) (d : List ℕ) (old new : Option (List ℕ)) (number : ℕ) (e : RawElement) (inner : RawDocument) → IsPassed inside d old number → Looks old new (next.Inside e inner) → size_of (frame_of e) + left_of new ≡ left_of old
+pub inside_size : (inside : ℕ) (d : List ℕ) (old new : Option (List ℕ)) (number : ℕ) (e : RawElement) (inner : RawDocument) → IsPassed inside d old number → Looks old new (next.Inside e inner) → size_of (frame_of e) + left_of new ≡ left_of old
 inside_size inside d None new number e inner is looks = absurd is.passed
 inside_size inside d (Some s) new number e inner is (r, v, at, m, holds, new_is) = rw new_is (frame_size s (frame_of e) r at)
 
@@ -194,7 +194,7 @@ at_deep depth b ws old new number offset e inner at looks many =
 pub at_whole_smaller : (depth : ℕ) (b : List ℕ) (ws : List Waiting) (old new : Option (List ℕ)) (number offset : ℕ) (e : RawElement) → IsAt depth b ws old number offset → Looks old new (next.Whole e) → left_of new + left_in ws < left_of old + left_in ws
 at_whole_smaller depth b ws old new number offset e at looks = omega (arith, whole_size at.inside at.d old new number e at.is looks)
 
-inside_smaller : (inside : ℕ) (d : List ℕ) (old new : Option (List ℕ)) (number : ℕ) (e : RawElement) (inner : RawDocument) → IsPassed inside d old number → Looks old new (next.Inside e inner) → length (bytes_of inner) + left_of new + 1 < left_of old
+pub inside_smaller : (inside : ℕ) (d : List ℕ) (old new : Option (List ℕ)) (number : ℕ) (e : RawElement) (inner : RawDocument) → IsPassed inside d old number → Looks old new (next.Inside e inner) → length (bytes_of inner) + left_of new + 1 < left_of old
 inside_smaller inside d None new number e inner is looks = absurd is.passed
 inside_smaller inside d (Some s) new number e inner is (r, v, at, m, holds, new_is) =
     rw new_is (omega (arith, nested_beside s (frame_of e) r v (bytes_of inner) at m holds))

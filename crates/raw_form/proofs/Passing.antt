@@ -26,7 +26,7 @@ use Rattle.raw_form.specs.declared.level.Next.TheVariants as next
 
 -- values
 
-held_as : (v : RawValue) (d : List ℕ) → Holds v d → (sort : Sort) × HoldsAs v sort d
+pub held_as : (v : RawValue) (d : List ℕ) → Holds v d → (sort : Sort) × HoldsAs v sort d
 held_as (raw.single l) d h = absurd h
 held_as (raw.document e) d h = (as_document, (refl, h))
 held_as (raw.array e) d h = (as_array, (refl, h))
@@ -46,7 +46,7 @@ pub read_as : (n : ℕ) (sort other : Sort) (d e : List ℕ) → sort ≡ other 
 read_as n sort other d e s same read = subst (λ (x : List ℕ). AreReadTo n other x) same (subst (λ (x : Sort). AreReadTo n x d) s read)
 
 -- a value whose nested bytes are read stands for a tree
-held_stands : (n : ℕ) (v : RawValue) (sort : Sort) (d : List ℕ) → HoldsAs v sort d → AreReadTo n sort d → (t : Tree) × StandsFor (ReadsUpTo n) v t
+pub held_stands : (n : ℕ) (v : RawValue) (sort : Sort) (d : List ℕ) → HoldsAs v sort d → AreReadTo n sort d → (t : Tree) × StandsFor (ReadsUpTo n) v t
 held_stands n (raw.single l) sort d h read = absurd h
 held_stands n (raw.document e) sort d h read = let there = read_as n sort as_document d e h.0 h.1 read in (tree_of_pairs as_document there.0, there.1)
 held_stands n (raw.array e) sort d h read = let there = read_as n sort as_array d e h.0 h.1 read in (tree_of_pairs as_array there.0, there.1)
@@ -55,7 +55,7 @@ held_stands n (raw.scoped code e) sort d h read =
     (code_with_scope code (entries (keep there.0)), (entries (keep there.0), there.1, refl))
 
 -- so does one that holds none
-whole_stands : (n : ℕ) (v : RawValue) → HoldsNone v → (t : Tree) × StandsFor (ReadsUpTo n) v t
+pub whole_stands : (n : ℕ) (v : RawValue) → HoldsNone v → (t : Tree) × StandsFor (ReadsUpTo n) v t
 whole_stands n (raw.single l) h = (leaf (leaf_in_order l), refl)
 whole_stands n (raw.document d) h = absurd (h d refl)
 whole_stands n (raw.array d) h = absurd (h d refl)
@@ -138,7 +138,7 @@ passed_end inside sort b (Some s) new number is looks =
     (is.pairs, (is.pairs, (is.frames, LeadsTo-walk (drop 4 b) is.frames s _ is.passed looks, is.each), refl))
 
 -- a fault in front of what is left
-fault_here : (inside : ℕ) (b s : List ℕ) (number offset : ℕ) (key : Option (List ℕ)) (fault : KeyedFault) (is : IsPassed inside b (Some s) number) → FailsAt s key fault → BeginsAt b s offset → FirstFaultAt (suc inside) b (fault_of fault) (record { number = number; key = key } ∷ []) offset
+pub fault_here : (inside : ℕ) (b s : List ℕ) (number offset : ℕ) (key : Option (List ℕ)) (fault : KeyedFault) (is : IsPassed inside b (Some s) number) → FailsAt s key fault → BeginsAt b s offset → FirstFaultAt (suc inside) b (fault_of fault) (record { number = number; key = key } ∷ []) offset
 fault_here inside b s number offset None fault is fails begins =
     let step : ◌≡◌ {A = List Step} (record { number = number; key = None } ∷ []) (record { number = length is.frames; key = None } ∷ []) = ap (λ (n : ℕ). record { number = n; key = None } ∷ []) is.number_is in
     (is.frames, is.pairs, s, is.passed, is.each, inl (fails, (step, begins)))
@@ -168,7 +168,7 @@ pub held_within : (inside : ℕ) (b : List ℕ) (w : Waiting) (sort : Sort) (d :
 held_within inside b w sort d is =
     omega (arith, nested_beside is.s is.f is.r is.v d is.frame is.means (as_held is.v sort d is.holds), LeadsTo-bound (drop 4 b) is.frames is.s is.passed, length-drop 4 b)
 
-outward_offset : (b s d q : List ℕ) (steps : List Step) (inside offset start : ℕ) → 0 < length steps → BeginsAt b (d ++ q) start → offset ≡ start + inside → IsOffsetOf b s d q steps inside offset
+pub outward_offset : (b s d q : List ℕ) (steps : List Step) (inside offset start : ℕ) → 0 < length steps → BeginsAt b (d ++ q) start → offset ≡ start + inside → IsOffsetOf b s d q steps inside offset
 outward_offset b s d q [] inside offset start some begins e = absurd (omega (arith, some))
 outward_offset b s d q (step ∷ steps) inside offset start some begins e = (start, begins, e)
 

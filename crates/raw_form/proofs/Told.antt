@@ -1,16 +1,16 @@
 -- What is told within a depth is told within limits.
 use Rattle.std.proofs.Common.{inl, inr, ◌≤◌, zero, suc, List, ℕ, Option, None, Some, Result, Ok, Err, IfOk, length}
 use Rattle.raw_view.specs.declared.error.Error.{Error}
-use Rattle.raw_tree.specs.WithinLimits.{FirstFaultWithin}
+use Rattle.raw_tree.specs.WithinLimits.{FirstBarrier, FirstFaultWithin}
 use Rattle.raw_tree.specs.WithinLimits as within
 use Rattle.raw_tree.specs.declared.limits.Limits.{Limits}
 use Rattle.raw_tree.proofs.Face.{read_within}
-use Rattle.raw_form.specs.Barriers.{TellsBarrier, TellsBarrierWithin, steps_of}
+use Rattle.raw_form.specs.Barriers.{IsBarrier, TellsBarrier, TellsBarrierWithin, steps_of}
 use Rattle.raw_form.specs.Places.{Step, FirstFaultAt}
 use Rattle.raw_form.specs.declared.barrier.Barrier.{Barrier}
 
 -- a first barrier that is somewhere is the first
-first_somewhere : (n : ℕ) (b : List ℕ) (x : within.Barrier) (path : List Step) (offset : ℕ) → FirstFaultAt n b x path offset → FirstFaultWithin n b x
+pub first_somewhere : (n : ℕ) (b : List ℕ) (x : within.Barrier) (path : List Step) (offset : ℕ) → FirstFaultAt n b x path offset → FirstFaultWithin n b x
 first_somewhere zero b x path offset h = h.0
 first_somewhere (suc n) b x path offset (passed, pairs, s, l, each, inl stop) = (passed, pairs, s, l, each, inl stop.0)
 first_somewhere (suc n) b x path offset (passed, pairs, s, l, each, inr (f, q, at, inl means)) = (passed, pairs, s, l, each, inr (f, q, at, inl means.0))
@@ -22,3 +22,8 @@ barrier_told limits b (Err e) few told = tt
 barrier_told limits b (Ok None) few told = (told.0, read_within limits b told.0 few told.1)
 barrier_told limits b (Ok (Some x)) few told =
     (told.0, inr (few, first_somewhere limits.depth b told.0 (steps_of x.place) x.place.offset told.2), told.1, inr (few, told.2))
+
+-- one that is told is the first within limits
+pub barrier_first : (limits : Limits) (b : List ℕ) (answer : Barrier) → length b ≤ limits.bytes → TellsBarrierWithin limits.depth b (Some answer) → (x : within.Barrier) × FirstBarrier limits b x × IsBarrier answer.kind x
+barrier_first limits b answer few told =
+    (told.0, inr (few, first_somewhere limits.depth b told.0 (steps_of answer.place) answer.place.offset told.2), told.1)

@@ -1,9 +1,11 @@
 -- First barriers that are found without a tree. The bytes b of a document have an envelope.
-use Rattle.std.specs.Prelude.{◌≡◌, ℕ, List, map, Option, None, Some}
+use Rattle.std.specs.Prelude.{◌≡◌, ◌<◌, ◌≤◌, ℕ, List, map, length, Option, None, Some}
 use Rattle.std.specs.Option.{option_copied}
 use Rattle.bson_model.specs.Tree.{Tree}
+use Rattle.raw_view.specs.Errors.{IsOutOfMemory}
 use Rattle.raw_view.specs.Front.{TellsBorrowed}
 use Rattle.raw_view.specs.Meaning.{KeyedFault}
+use Rattle.raw_view.specs.declared.error.Error.{Error}
 use Rattle.raw_tree.specs.Reading.{as_document, ReadsUpTo}
 use Rattle.raw_tree.specs.WithinLimits.{FirstBarrier, ReadsWithin, fault_of, too_deep, too_many_bytes}
 use Rattle.raw_tree.specs.WithinLimits as within
@@ -28,6 +30,10 @@ step_of step = record { number = step.number; key = option_copied step.key }
 -- the steps that a place shows
 abbrev pub steps_of : Place → List Step
 steps_of place = map step_of place.path.items
+
+-- out of memory; it is asked for only where the document b has few enough bytes and a level may be entered
+abbrev pub IsOutOfMemoryWithin : Limits → List ℕ → Error → Type 0
+IsOutOfMemoryWithin limits b e = IsOutOfMemory e × (length b ≤ limits.bytes) × (0 < limits.depth)
 
 -- where no barrier is answered, the document b is read as a tree within the limits; one that is answered is its first, and
 -- is where it says

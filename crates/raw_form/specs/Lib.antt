@@ -1,3 +1,11 @@
 pub mod Places
 pub mod Barriers
 pub mod Looking
+pub mod Staying
+pub mod Rewriting
+pub mod Forms
+pub mod FormsWithin
+pub mod Verdicts
+pub mod Judging
+pub mod Tokens
+pub mod Flattening

@@ -1,15 +1,16 @@
 -- What a look at a level tells. No public contract cites this file.
-use Rattle.std.specs.Prelude.{◌≡◌, ◌+◌, ℕ, List, [], ◌∷◌, length, Option, None, Some}
+use Rattle.std.specs.Prelude.{◌≡◌, ◌+◌, ℕ, suc, List, [], ◌∷◌, drop, length, Option, None, Some}
 use Rattle.std.specs.Option.{option_copied}
 use Rattle.raw_view.specs.Document.{bytes_of}
 use Rattle.raw_view.specs.ElementSteps.{frame_of}
-use Rattle.raw_view.specs.Frame.{Frame, IsFrame, IsStop}
+use Rattle.bson_model.specs.Tree.{Tree}
+use Rattle.raw_view.specs.Frame.{Frame, IsFrame, IsStop, LeadsTo}
 use Rattle.raw_view.specs.Front.{TellsBorrowed}
 use Rattle.raw_view.specs.Meaning.{RawValue, KeyedFault, Means, value, faulty}
 use Rattle.raw_view.specs.Meaning as raw
 use Rattle.raw_view.specs.declared.document.RawDocument.{RawDocument}
-use Rattle.raw_tree.specs.Reading.{Holds}
-use Rattle.raw_form.specs.Places.{Step}
+use Rattle.raw_tree.specs.Reading.{Holds, StandForEach, ReadsUpTo}
+use Rattle.raw_form.specs.Places.{Step, BeginsAt}
 use Rattle.raw_form.specs.declared.level.Waiting.{Waiting}
 use Rattle.raw_form.specs.declared.level.Next.{Next}
 use Rattle.raw_form.specs.declared.level.Next.TheVariants as next
@@ -49,3 +50,17 @@ Looks (Some s) new (next.Whole e) = (r : List ℕ) × (v : RawValue) × IsFrame 
 Looks (Some s) new (next.Inside e inner) =
     (r : List ℕ) × (v : RawValue) × IsFrame s (frame_of e) r × Means (frame_of e) (value v) × Holds v (bytes_of inner) × (new ≡ Some r)
 Looks (Some s) new (next.Fault key e) = (fault : KeyedFault) × FailsAt s (option_copied key) fault × TellsBorrowed e fault
+
+-- so many elements of the document b are before what begins at this offset, and stand for trees with at most so many levels
+pub record AreReadBefore (inside : ℕ) (b : List ℕ) (number offset : ℕ) : Type 0 where
+  pub frames : List Frame
+  pub pairs : List (List ℕ × Tree)
+  pub s : List ℕ
+  pub reaches : LeadsTo (drop 4 b) frames s
+  pub each : StandForEach (ReadsUpTo inside) frames pairs
+  pub number_is : number ≡ length frames
+  pub begins : BeginsAt b s offset
+
+-- so it is where there may be so many levels in all
+abbrev pub HasNoneBefore : ℕ → List ℕ → (number offset : ℕ) → Type 0
+HasNoneBefore depth b number offset = (inside : ℕ) → suc inside ≡ depth → AreReadBefore inside b number offset

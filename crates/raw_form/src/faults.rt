@@ -1,8 +1,9 @@
 //! The first barrier of a document within limits, without a tree.
 #![tactic(auto)]
 
-ghost use Rattle.std.specs.Prelude.{◌≡◌, IfOk, IfErr};
-ghost use Rattle.raw_form.specs.Barriers.{TellsBarrier, TellsBarrierWithin};
+ghost use Rattle.std.specs.Prelude.{◌<◌, IfOk, IfErr};
+ghost use Rattle.raw_form.specs.Barriers.{IsOutOfMemoryWithin, TellsBarrier, TellsBarrierWithin};
+ghost use Rattle.raw_form.specs.Looking.{HasNoneBefore};
 ghost use Rattle.raw_tree.specs.WithinLimits.{AllAreAnsweredOneWay};
 ghost use Rattle.raw_view.specs.Document.{bytes_of};
 ghost use Rattle.raw_view.specs.Errors.{IsOutOfMemory};
@@ -11,19 +12,37 @@ use crate::barrier::{Barrier, BarrierKind};
 use crate::level::{Level, Next, Waiting, behind, look};
 use crate::place::{Place, place_in};
 use raw_tree::Limits;
-use raw_view::{Error, RawDocument, Result};
+use raw_view::{Elements, Error, RawDocument, Result};
 use std::alloc::Global;
 use std::mem;
 
-/// The first barrier within a depth, depth first in byte order. A level that is too deep isn't entered, and no memory
-/// is asked for it. The only error is want of memory.
-fn first_to_depth<'a>(
+/// Where the first barrier is looked for.
+#[derive(Clone, Copy)]
+pub(crate) struct Start {
+    /// how many elements of the outermost level are before it
+    pub(crate) number: usize,
+    /// where it is, counted from the document's first byte
+    pub(crate) offset: usize,
+}
+
+/// The first element.
+pub(crate) const FIRST: Start = Start {
+    number: 0,
+    offset: 4,
+};
+
+/// The first barrier within a depth, depth first in byte order, where none is before this start. A level that is too deep
+/// isn't entered, and no memory is asked for it. The only error is out of memory.
+pub(crate) fn first_behind<'a>(
     alloc: Global,
     document: RawDocument<'a>,
+    start: Start,
     depth: usize,
 ) -> Result<Option<Barrier<'a>>>
+    requires { HasNoneBefore depth (bytes_of document) start.number start.offset }
     ensures told { IfOk result (TellsBarrierWithin depth (bytes_of document.entry)) }
     ensures err { IfErr result IsOutOfMemory }
+    ensures entered { IfErr result (λ _. 0 < depth) }
 {
     let Some(most_waiting) = depth.checked_sub(1) else {
         return Ok(Some(Barrier {
@@ -31,8 +50,15 @@ fn first_to_depth<'a>(
             place: Place::whole(alloc),
         }));
     };
+    let Some(elements) = Elements::from_offset(document, start.offset) else {
+        unreachable!()
+    };
     let mut waiting: Vec<Waiting<'a>> = Vec::new(alloc);
-    let mut level = Level::new(document, document.as_bytes().len());
+    let mut level = Level {
+        elements,
+        number: start.number,
+        offset: start.offset,
+    };
     'levels: loop {
         let offset = level.offset;
         match look(&mut level.elements) {
@@ -75,17 +101,24 @@ fn first_to_depth<'a>(
 }
 
 /// The first barrier of a document within limits, and where it is; none exactly where it has a tree within them, memory
-/// aside. One of more bytes than allowed is refused before anything is read; else it is the first, depth first in byte
+/// aside. More bytes than allowed are the barrier before all others; else it is the first, depth first in byte
 /// order, of a fault at any level, with the key that this fault itself carries, and of the entry into a level that is too
 /// deep. No tree is built, no key is copied, and no depth fills the stack; memory is taken for the levels that wait and for
-/// the path, and the only error is want of it. BSON 1.1, `document`.
+/// the path, and the only error is out of memory, which comes only where the bytes aren't too many and a level may be
+/// entered. BSON 1.1, `document`.
+/// ```
+/// let document = RawDocument::from_bytes(b"\x09\0\0\0\x08a\0\x02\0")?;
+/// let limits = Limits { bytes: 1000, depth: 10 };
+/// let Some(barrier) = first_fault_within(alloc, document, limits)? else { return Ok(()) };
+/// assert_eq!(rt; (barrier.place.offset, barrier.place.key()), (4, Some("a")));
+/// ```
 pub fn first_fault_within<'a>(
     alloc: Global,
     document: RawDocument<'a>,
     limits: Limits,
 ) -> Result<Option<Barrier<'a>>>
     ensures barrier { IfOk result (TellsBarrier limits (bytes_of document.entry)) }
-    ensures err { IfErr result IsOutOfMemory }
+    ensures err { IfErr result (IsOutOfMemoryWithin limits (bytes_of document.entry)) }
     ensures one_answer { AllAreAnsweredOneWay limits }
 {
     if document.as_bytes().len() > limits.bytes {
@@ -94,5 +127,5 @@ pub fn first_fault_within<'a>(
             place: Place::whole(alloc),
         }));
     }
-    first_to_depth(alloc, document, limits.depth)
+    first_behind(alloc, document, FIRST, limits.depth)
 }

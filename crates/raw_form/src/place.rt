@@ -5,9 +5,11 @@ ghost use Rattle.std.specs.Prelude.{◌≡◌, ◌++◌, ◌∷◌, [], map, IfO
 ghost use Rattle.std.specs.Option.{option_copied};
 ghost use Rattle.raw_form.specs.Barriers.{step_of, steps_of};
 ghost use Rattle.raw_form.specs.Looking.{step_at};
+ghost use Rattle.raw_form.specs.Tokens.{filled_from, last_key};
 ghost use Rattle.raw_view.specs.Errors.{IsOutOfMemory};
 
 use crate::level::Waiting;
+use crate::token::put_at;
 use raw_view::{Error, Result};
 use std::alloc::Global;
 
@@ -41,6 +43,22 @@ impl<'a> Place<'a> {
             offset: 0,
         }
     }
+
+    /// The key of the element; none of a stop, and of the document as a whole.
+    pub fn key(&self) -> Option<&'a str>
+        ensures { option_copied result ≡ last_key (steps_of self.now) }
+    {
+        self.path.last()?.key
+    }
+
+    /// Puts the numbers of the path to the front of a room, as many as there is room for.
+    pub fn put_path(&self, room: &mut [usize])
+        ensures { room.new ≡ filled_from 0 room.old (map (λ step. step.number) (steps_of self.now)) }
+    {
+        for (index, step) in self.path.iter().enumerate() {
+            put_at(room, index, step.number);
+        }
+    }
 }
 
 fn put_step<'a>(path: &mut Vec<PathStep<'a>>, step: PathStep<'a>) -> Result<()>
@@ -53,7 +71,7 @@ fn put_step<'a>(path: &mut Vec<PathStep<'a>>, step: PathStep<'a>) -> Result<()>
     }
 }
 
-/// The steps at which these levels wait, from the outermost on, and this one behind them. The only error is want of
+/// The steps at which these levels wait, from the outermost on, and this one behind them. The only error is out of
 /// memory.
 fn path_to<'a>(
     alloc: Global,
@@ -77,7 +95,7 @@ fn path_to<'a>(
 }
 
 /// The place of this number and this key, if it has one, in the level for which these wait, at this offset. The only error
-/// is want of memory.
+/// is out of memory.
 pub(crate) fn place_in<'a>(
     alloc: Global,
     waiting: &[Waiting<'a>],

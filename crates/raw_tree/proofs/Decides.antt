@@ -24,7 +24,7 @@ pub counted_until : (sort : Sort) (b : List ℕ) (n : ℕ) → IsCounted sort b 
 counted_until sort b n (inl all) = inl (λ fault bad. tree_or_fault sort b all.0 fault all.1 bad, all.2)
 counted_until sort b n (inr to) = inr to.2
 
--- a value stands for a tree, and so many frames stand in it; or nested bytes that it holds have a first fault,
+-- a value stands for a tree, and so many frames are in it; or nested bytes that it holds have a first fault,
 -- and so many frames until it
 abbrev IsValueCounted : RawValue → ℕ → Type 0
 IsValueCounted v n = ((t : Tree) × StandsFor ReadsAs v t × CountsIn HasFrameCount (value v) n) ⊎ ((d : List ℕ) × (fault : KeyedFault) × Holds v d × FirstFault d fault × HasFramesToFault d n)

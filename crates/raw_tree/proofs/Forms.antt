@@ -43,7 +43,7 @@ frames_read N M documents arrays (f ∷ fs) h =
 
 -- of a document and of an array
 mutual
-  document_reads : (n : ℕ) (b : List ℕ) → IsCanonicalUpTo n as_document b → (es : Entries) × ReadsUpTo n as_document b (document es)
+  pub document_reads : (n : ℕ) (b : List ℕ) → IsCanonicalUpTo n as_document b → (es : Entries) × ReadsUpTo n as_document b (document es)
   document_reads zero b c = absurd c
   document_reads (suc n) b c =
       let each = frames_read (IsCanonicalUpTo n) (ReadsUpTo n) (document_reads n) (array_reads n) c.0 c.3 in
@@ -54,6 +54,10 @@ mutual
   array_reads (suc n) b c =
       let each = frames_read (IsCanonicalUpTo n) (ReadsUpTo n) (document_reads n) (array_reads n) c.0 c.3 in
       (tree_of_pairs as_array each.0, (each.0, (c.0, c.1, each.1), refl))
+
+-- frames that are canonical
+pub canonical_frames_read : (n : ℕ) (fs : List Frame) → AreFramesCanonical (IsCanonicalUpTo n) fs → (pairs : List (List ℕ × Tree)) × StandForEach (ReadsUpTo n) fs pairs
+canonical_frames_read n fs h = frames_read (IsCanonicalUpTo n) (ReadsUpTo n) (document_reads n) (array_reads n) fs h
 
 canonical_reads : (sort : Sort) (b : List ℕ) → IsCanonicalAs sort b → (t : Tree) × ReadsAs sort b t
 canonical_reads as_document b (n, c) = let read = document_reads n b c in (document read.0, (n, read.1))

@@ -1,4 +1,4 @@
--- How many frames stand in bytes: some number of levels serves, one frame more, at most half of the bytes, and
+-- How many frames are in bytes: some number of levels serves, one frame more, at most half of the bytes, and
 -- only one number.
 use Rattle.std.proofs.Common.{◌≡◌, inl, inr, ◌≤◌, ◌+◌, ◌*◌, ◌-◌, ◌++◌, ◌∷◌, [], ℕ, zero, suc, List, length, drop, arith, ap, refl, sym, ◌∙◌, subst, length-drop}
 use Rattle.bson_model.specs.Tree.{Tree}
@@ -16,7 +16,7 @@ use Rattle.raw_tree.proofs.OneTree.{FailsAt, one_nested, one_value_of, passed_sa
 
 -- levels
 
--- where other bytes have the same counts, so many frames stand in what a frame means
+-- where other bytes have the same counts, so many frames are in what a frame means
 counts_on : (N M : List ℕ → ℕ → Type 0) → ((b : List ℕ) (n : ℕ) → N b n → M b n) → (m : Meaning) (n : ℕ) → CountsIn N m n → CountsIn M m n
 counts_on N M on (value (raw.single l)) n h = h
 counts_on N M on (value (raw.document d)) n h = on d n h
@@ -88,7 +88,7 @@ module _ (b : List ℕ) (passed : List Frame) (pairs : List (List ℕ × Tree)) 
 abbrev AreSmall : (List ℕ → ℕ → Type 0) → Type 0
 AreSmall N = (d : List ℕ) (n : ℕ) → N d n → 2 * n ≤ length d - 4
 
--- then a frame holds two bytes, and two for each that stands in it
+-- then a frame holds two bytes, and two for each that is in it
 value_small : (N : List ℕ → ℕ → Type 0) → AreSmall N → (s : List ℕ) (f : Frame) (r : List ℕ) (v : RawValue) (d : List ℕ) (n : ℕ) → IsFrame s f r → Means f (value v) → Holds v d → N d n → 2 * n + length r + 2 ≤ length s
 value_small N small s f r v d n at m holds h = omega (arith, small d n h, nested_beside s f r v d at m holds)
 

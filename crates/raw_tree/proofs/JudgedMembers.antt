@@ -1,5 +1,5 @@
 -- How a container is judged member by member: what is counted so far and what the members that are left take are the
--- whole, and no 0 stands in it where it may not exactly where none does in those.
+-- whole, and no 0 is in it where it may not be exactly where none is in those.
 use Rattle.std.proofs.Common.{◌≡◌, ◌<◌, ◌-◌, ◌^◌, ℕ, ◌+◌, List, [], ◌∷◌, ◌++◌, length, min, Option, None, Some, MatchOption, Vec, Global, vec_len, refl, ap, length-append, arith}
 use Rattle.std.proofs.lemmas.List.{nil_from_length}
 use Rattle.bson_model.specs.Leaf.{Leaf}
@@ -81,7 +81,7 @@ module _ (t : Tree) (ws : List Members) (m : MemberKey × Tree) (old left : List
       } in
       rw (f, n) on
 
-  -- a 0 stands in its key, or in it
+  -- a 0 is in its key, or in it
   pub judging_bad_key : ¬ IsKeyFree m.0 → Judges t None
   judging_bad_key bad h = bad (is.inward h).1.0
 

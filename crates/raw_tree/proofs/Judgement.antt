@@ -19,7 +19,8 @@ use Rattle.raw_view.proofs.Face.{LeadsTo-bound, LeadsTo-more, LeadsTo-walk, IsFr
 use Rattle.raw_tree.specs.Breaches.{keys_of_frames, BreachesKeys, BreachesMeaning, HasBreachUpTo, HasBreachAs}
 use Rattle.raw_tree.specs.Canonical.{AreKeysCanonical, IsValueCanonical, AreFramesCanonical, IsCanonicalAs}
 use Rattle.raw_tree.specs.Reading.{Sort, as_document, as_array, Holds}
-use Rattle.raw_tree.specs.Validating.{texts, HasKeys, HoldsAs, IsJudged, IsUnjudged, IsAwaiting, JudgesValue, TellsStep, Shrinks, left_of}
+use Rattle.raw_tree.specs.References.{texts}
+use Rattle.raw_tree.specs.Validating.{HasKeys, HoldsAs, IsJudged, IsUnjudged, IsAwaiting, JudgesValue, TellsStep, Shrinks, left_of}
 use Rattle.raw_tree.specs.declared.breach.Cause.{Cause}
 use Rattle.raw_tree.specs.declared.breach.Cause.TheVariants as cause
 use Rattle.raw_tree.specs.declared.keys.Keys.{Keys}
@@ -33,7 +34,7 @@ use Rattle.raw_tree.proofs.Returns.{canonical_of}
 
 -- frames and values
 
-frames_more : (fs : List Frame) (f : Frame) (v : RawValue) → AreFramesCanonical IsCanonicalAs fs → Means f (value v) → IsValueCanonical IsCanonicalAs v → AreFramesCanonical IsCanonicalAs (fs ++ f ∷ [])
+pub frames_more : (fs : List Frame) (f : Frame) (v : RawValue) → AreFramesCanonical IsCanonicalAs fs → Means f (value v) → IsValueCanonical IsCanonicalAs v → AreFramesCanonical IsCanonicalAs (fs ++ f ∷ [])
 frames_more [] f v h m c = (v, m, c, tt)
 frames_more (g ∷ fs) f v h m c = (h.0, h.1, h.2, frames_more fs f v h.3 m c)
 
@@ -87,10 +88,10 @@ some_stop (kind.Utf8EncodingError e) key s h = (Utf8, h)
 some_stop kind.OutOfMemory key s h = absurd h
 
 -- the keys of a level depend on the texts alone
-keys_on : (k : Keys) (refs others : List (Bor (List ℕ))) (sort : Sort) (below own : List (List ℕ)) → HasKeys k refs sort below own → texts others ≡ texts refs → HasKeys k others sort below own
+pub keys_on : (k : Keys) (refs others : List (Bor (List ℕ))) (sort : Sort) (below own : List (List ℕ)) → HasKeys k refs sort below own → texts others ≡ texts refs → HasKeys k others sort below own
 keys_on keys.Numbers refs others sort below own h e = (h.0, e ∙ h.1)
 keys_on (keys.Ascending first) refs others sort below own h e = (h.0, h.1, e ∙ h.2, h.3)
-keys_on (keys.Listed first) refs others sort below own h e = (h.0, h.1, e ∙ h.2)
+keys_on (keys.Listed first notes) refs others sort below own h e = (h.0, h.1, e ∙ h.2, h.3)
 keys_on (keys.Indexed set) refs others sort below own h e = (h.0, e ∙ h.1, h.2)
 
 -- the steps of a level
@@ -114,7 +115,7 @@ module _ (sort : Sort) (d : List ℕ) (below : List (List ℕ)) (before : List (
       let stop = some_stop e.kind _ is.rest end.0 in
       rw (is.number) (stop_breaches sort d is.passed is.rest is.reaches is.canonical stop.0 _ is.keys_canonical stop.1)
 
-  -- an element stands next
+  -- an element is next
   module _ (e : RawElement) (new : Option (List ℕ)) (st : StepsFront level.elements (Some (Ok e)) new) where
     next : StepsFront (Some is.rest) (Some (Ok e)) new
     next = subst (λ (x : Option (List ℕ)). StepsFront x (Some (Ok e)) new) is.left st

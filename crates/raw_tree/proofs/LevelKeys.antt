@@ -1,5 +1,5 @@
 -- The keys of a level and one more behind them, as lists and as the references that the code holds.
-use Rattle.std.proofs.Common.{zero, inl, inr, is_eq, is_le, is_lt, Ordering, Less, Equal, Greater, nat_cmp, Box, BuildHasherDefault, FoldHasher, Global, None, ◌-◌, length-drop, true≢false, subst, suc, ◌<◌, ◌≤◌, ◌≡◌, ◌≢◌, ◌+◌, ◌++◌, ◌∷◌, [], ℕ, List, Bool, true, false, length, decimal, drop, take, not, if◌then◌else◌, arith, ap, refl, sym, ◌∙◌, append_assoc}
+use Rattle.std.proofs.Common.{zero, inl, inr, is_eq, is_le, is_lt, Ordering, Less, Equal, Greater, nat_cmp, Box, Global, None, ◌-◌, length-drop, true≢false, subst, suc, ◌<◌, ◌≤◌, ◌≡◌, ◌≢◌, ◌+◌, ◌++◌, ◌∷◌, [], ℕ, List, Bool, true, false, length, decimal, drop, take, arith, ap, refl, sym, ◌∙◌, append_assoc}
 use Rattle.std.proofs.Math.Seq.{drop-append_seam, drop-cons, take-append_seam}
 use Rattle.std.proofs.lemmas.Cmp.{nat_list_cmp_total, nat_list_eq_equiv}
 use Rattle.std.proofs.Math.ListN.{get_or}
@@ -8,14 +8,17 @@ use Rattle.std.proofs.lemmas.Map.Keys.{IsDistinct-push}
 use Rattle.std.proofs.lemmas.Map.Views.{Contains-from_any, list_any-from_Contains}
 use Rattle.std.specs.Ordering.{ordering_reverse}
 use Rattle.std.specs.Cmp.Lexicographic.{same_text, slice_cmp}
-use Rattle.std.specs.HashSet.{HashSet}
 use Rattle.std.specs.List.{Contains, IsDistinct, AllByRecursion, list_any}
 use Rattle.std.specs.Str.{bytes_eq}
 use denote.Ref.{Bor}
 use Rattle.raw_tree.specs.Breaches.{BreachesKeys}
 use Rattle.raw_tree.specs.Canonical.{AreDecimalsFrom, AreKeysCanonical}
 use Rattle.raw_tree.specs.Reading.{Sort, as_document, as_array}
-use Rattle.raw_tree.specs.Validating.{AreAscending, HasKeys, InsertsKey, IsBehind, IsBehindLast, TellsKey, texts}
+use Rattle.raw_tree.proofs.Noting.{noted_more}
+use Rattle.raw_tree.specs.KeySets.{InsertsKey}
+use Rattle.raw_tree.specs.Notes.{note_of, AreNoted, HasNote}
+use Rattle.raw_tree.specs.References.{texts}
+use Rattle.raw_tree.specs.Validating.{AreAscending, HasKeys, IsBehind, IsBehindLast, TellsKey}
 use Rattle.raw_tree.specs.declared.breach.Cause.{Cause}
 use Rattle.raw_tree.specs.declared.breach.Cause.TheVariants as cause
 use Rattle.raw_tree.specs.declared.keys.Keys.TheVariants as keys
@@ -98,18 +101,6 @@ pub texts_front : (refs : List (Bor (List ℕ))) (below own : List (List ℕ)) (
 texts_front refs below own first f e =
     sym (take-map (λ (k : Bor (List ℕ)). k.now) first refs) ∙ ap (λ (xs : List (List ℕ)). take first xs) e ∙ ap (λ (n : ℕ). take n (below ++ own)) f ∙ take-append_seam below own
 
--- a key in a set of references
-found_in : (refs : List (Bor (List ℕ))) (key : List ℕ) → list_any (λ k. bytes_eq key k.now) refs ≡ list_any (bytes_eq key) (texts refs)
-found_in [] key = refl
-found_in (k ∷ refs) key = rw (found_in refs key) refl
-
-inserted_where : (refs after : List (Bor (List ℕ))) (key : Bor (List ℕ)) (there new : Bool) → list_any (λ k. bytes_eq key.now k.now) refs ≡ there → new ≡ not there → after ≡ (if there then refs else refs ++ key ∷ []) → InsertsKey (texts refs) key.now new (texts after)
-inserted_where refs after key true new e n a = rw (n, a) (Contains-found (texts refs) key.now (sym (found_in refs key.now) ∙ e), refl)
-inserted_where refs after key false new e n a = rw (n, a) (not_found (texts refs) key.now (sym (found_in refs key.now) ∙ e), map-append (λ (k : Bor (List ℕ)). k.now) refs (key ∷ []))
-
-pub inserted : (refs after : List (Bor (List ℕ))) (key : Bor (List ℕ)) (new : Bool) → new ≡ not (list_any (λ k. bytes_eq key.now k.now) refs) → after ≡ (if list_any (λ k. bytes_eq key.now k.now) refs then refs else refs ++ key ∷ []) → InsertsKey (texts refs) key.now new (texts after)
-inserted refs after key new n a = inserted_where refs after key (list_any (λ k. bytes_eq key.now k.now) refs) new refl n a
-
 -- where keys are distinct, one of them that is inserted behind those before it is new
 pub inserted_last : (before after rest : List (List ℕ)) (key : List ℕ) (new : Bool) → IsDistinct bytes_eq (before ++ key ∷ rest) → InsertsKey before key new after → after ≡ before ++ key ∷ []
 inserted_last before after rest key true h i = i.1
@@ -132,27 +123,27 @@ all_inserted refs i last before after new l e distinct put =
     inserted_last before after [] last new (rw whole distinct) put ∙ ap (λ (xs : List (List ℕ)). xs ++ last ∷ []) whole
 
 -- the keys of a level in the list, and one more
-module _ (refs : List (Bor (List ℕ))) (sort : Sort) (below own : List (List ℕ)) (key : Bor (List ℕ)) (first : ℕ) (has : HasKeys (keys.Listed first) refs sort below own) where
-  pub own_texts : texts (take (length refs - first) (drop first refs)) ≡ own
-  own_texts = ap texts (take_all (length refs - first) (drop first refs) (omega (arith, length-drop first refs))) ∙ texts_behind refs below own first has.1 has.2
+pub own_texts : (refs : List (Bor (List ℕ))) (below own : List (List ℕ)) (first : ℕ) → first ≡ length below → texts refs ≡ below ++ own → texts (take (length refs - first) (drop first refs)) ≡ own
+own_texts refs below own first f e = ap texts (take_all (length refs - first) (drop first refs) (omega (arith, length-drop first refs))) ∙ texts_behind refs below own first f e
 
-  found_own : list_any (λ k. bytes_eq k.now key.now) (take (length refs - first) (drop first refs)) ≡ list_any (bytes_eq key.now) own
-  found_own = texts_found (take (length refs - first) (drop first refs)) key.now ∙ ap (λ (xs : List (List ℕ)). list_any (bytes_eq key.now) xs) own_texts
+module _ (refs : List (Bor (List ℕ))) (sort : Sort) (below own : List (List ℕ)) (key : Bor (List ℕ)) (first notes : ℕ) (has : HasKeys (keys.Listed first notes) refs sort below own) where
+  pub listed_repeats : Contains own key.now → BreachesKeys sort own key.now cause.RepeatedKey
+  listed_repeats c = subst (λ (s : Sort). BreachesKeys s own key.now cause.RepeatedKey) (sym has.0) (c, refl)
 
-  pub listed_repeats : true ≡ list_any (λ k. bytes_eq k.now key.now) (take (length refs - first) (drop first refs)) → BreachesKeys sort own key.now cause.RepeatedKey
-  listed_repeats e = subst (λ (s : Sort). BreachesKeys s own key.now cause.RepeatedKey) (sym has.0) (Contains-found own key.now (sym (e ∙ found_own)), refl)
-
-  pub listed_new : AreKeysCanonical sort own → false ≡ list_any (λ k. bytes_eq k.now key.now) (take (length refs - first) (drop first refs)) → IsDistinct bytes_eq (own ++ key.now ∷ [])
-  listed_new canonical e = document_key own key.now (subst (λ (s : Sort). AreKeysCanonical s own) has.0 canonical) (not_found own key.now (sym (e ∙ found_own)))
+  pub listed_new : AreKeysCanonical sort own → ¬ Contains own key.now → IsDistinct bytes_eq (own ++ key.now ∷ [])
+  listed_new canonical new = document_key own key.now (subst (λ (s : Sort). AreKeysCanonical s own) has.0 canonical) new
 
   pub keys_canonical : IsDistinct bytes_eq (own ++ key.now ∷ []) → AreKeysCanonical sort (own ++ key.now ∷ [])
   keys_canonical distinct = subst (λ (s : Sort). AreKeysCanonical s (own ++ key.now ∷ [])) (sym has.0) distinct
 
-  pub listed_more : HasKeys (keys.Listed first) (refs ++ key ∷ []) sort below (own ++ key.now ∷ [])
-  listed_more = (has.0, has.1, map-append (λ (k : Bor (List ℕ)). k.now) refs (key ∷ []) ∙ ap (λ (xs : List (List ℕ)). xs ++ key.now ∷ []) has.2 ∙ append_assoc below own (key.now ∷ []))
+  pub listed_texts : texts (refs ++ key ∷ []) ≡ below ++ (own ++ key.now ∷ [])
+  listed_texts = map-append (λ (k : Bor (List ℕ)). k.now) refs (key ∷ []) ∙ ap (λ (xs : List (List ℕ)). xs ++ key.now ∷ []) has.2 ∙ append_assoc below own (key.now ∷ [])
 
-  pub listed_moved : (set : Box (HashSet (Bor (List ℕ)) (BuildHasherDefault FoldHasher)) Global) → texts set.value.keys ≡ texts (take (length refs - first) (drop first refs)) ++ key.now ∷ [] → HasKeys (keys.Indexed set) (take first refs) sort below (own ++ key.now ∷ [])
-  listed_moved set e = (has.0, texts_front refs below own first has.1 has.2, e ∙ ap (λ (xs : List (List ℕ)). xs ++ key.now ∷ []) own_texts)
+  pub listed_more : (after : ℕ) → ((n : ℕ) → HasNote notes n → HasNote after n) → HasNote after (note_of key.now) → HasKeys (keys.Listed first after) (refs ++ key ∷ []) sort below (own ++ key.now ∷ [])
+  listed_more after kept here = (has.0, has.1, listed_texts, noted_more notes after own key.now has.3 kept here)
+
+  pub listed_moved : (set : Box (List (List ℕ)) Global) → set.value ≡ texts (take (length refs - first) (drop first refs)) ++ key.now ∷ [] → HasKeys (keys.Indexed set) (take first refs) sort below (own ++ key.now ∷ [])
+  listed_moved set e = (has.0, texts_front refs below own first has.1 has.2, e ∙ ap (λ (xs : List (List ℕ)). xs ++ key.now ∷ []) (own_texts refs below own first has.1 has.2))
 
 -- the keys of an array, and one more
 pub numbers_more : (refs : List (Bor (List ℕ))) (sort : Sort) (below own : List (List ℕ)) (key : List ℕ) (number : ℕ) → HasKeys keys.Numbers refs sort below own → AreKeysCanonical sort own → number ≡ length own → key ≡ decimal number → TellsKey sort below own key keys.Numbers refs None
@@ -164,12 +155,12 @@ numbers_breach refs sort below own key number has n e =
     subst (λ (s : Sort). BreachesKeys s own key cause.ArrayKey) (sym has.0) (λ same. e (same ∙ ap decimal (sym n)), refl)
 
 -- the keys of a level in a set, and one more
-pub indexed_more : (old new : Box (HashSet (Bor (List ℕ)) (BuildHasherDefault FoldHasher)) Global) (refs : List (Bor (List ℕ))) (sort : Sort) (below own : List (List ℕ)) (key : List ℕ) → HasKeys (keys.Indexed old) refs sort below own → AreKeysCanonical sort own → InsertsKey (texts old.value.keys) key true (texts new.value.keys) → TellsKey sort below own key (keys.Indexed new) refs None
+pub indexed_more : (old new : Box (List (List ℕ)) Global) (refs : List (Bor (List ℕ))) (sort : Sort) (below own : List (List ℕ)) (key : List ℕ) → HasKeys (keys.Indexed old) refs sort below own → AreKeysCanonical sort own → InsertsKey old.value key true new.value → TellsKey sort below own key (keys.Indexed new) refs None
 indexed_more old new refs sort below own key has canonical put =
     let distinct = document_key own key (subst (λ (s : Sort). AreKeysCanonical s own) has.0 canonical) (subst (λ (xs : List (List ℕ)). ¬ Contains xs key) has.2 put.0) in
     ((has.0, has.1, put.1 ∙ ap (λ (xs : List (List ℕ)). xs ++ key ∷ []) has.2), subst (λ (s : Sort). AreKeysCanonical s (own ++ key ∷ [])) (sym has.0) distinct)
 
-pub indexed_breach : (old new : Box (HashSet (Bor (List ℕ)) (BuildHasherDefault FoldHasher)) Global) (refs : List (Bor (List ℕ))) (sort : Sort) (below own : List (List ℕ)) (key : List ℕ) → HasKeys (keys.Indexed old) refs sort below own → InsertsKey (texts old.value.keys) key false (texts new.value.keys) → BreachesKeys sort own key cause.RepeatedKey
+pub indexed_breach : (old new : Box (List (List ℕ)) Global) (refs : List (Bor (List ℕ))) (sort : Sort) (below own : List (List ℕ)) (key : List ℕ) → HasKeys (keys.Indexed old) refs sort below own → InsertsKey old.value key false new.value → BreachesKeys sort own key cause.RepeatedKey
 indexed_breach old new refs sort below own key has put =
     subst (λ (s : Sort). BreachesKeys s own key cause.RepeatedKey) (sym has.0) (subst (λ (xs : List (List ℕ)). Contains xs key) has.2 put.0, refl)
 
@@ -238,14 +229,14 @@ pub last_behind : (refs : List (Bor (List ℕ))) (last : Bor (List ℕ)) (key : 
 last_behind refs last key some e b = last_behind_at refs (length refs - 1) last key (omega (arith, some)) e b
 
 -- keys that ascend in the list, and one more behind them
-pub listed_of : (refs : List (Bor (List ℕ))) (sort : Sort) (below own : List (List ℕ)) (first : ℕ) → HasKeys (keys.Ascending first) refs sort below own → HasKeys (keys.Listed first) refs sort below own
-listed_of refs sort below own first has = (has.0, has.1, has.2)
+pub listed_of : (refs : List (Bor (List ℕ))) (sort : Sort) (below own : List (List ℕ)) (first notes : ℕ) → HasKeys (keys.Ascending first) refs sort below own → AreNoted notes own → HasKeys (keys.Listed first notes) refs sort below own
+listed_of refs sort below own first notes has noted = (has.0, has.1, has.2, noted)
 
 pub ascending_kept : (refs : List (Bor (List ℕ))) (sort : Sort) (below own : List (List ℕ)) (key : Bor (List ℕ)) (first : ℕ) → HasKeys (keys.Ascending first) refs sort below own → AreKeysCanonical sort own → IsBehindLast own key.now → TellsKey sort below own key.now (keys.Ascending first) (refs ++ key ∷ []) None
 ascending_kept refs sort below own key first has canonical behind =
-    let more = listed_more refs sort below own key first (has.0, has.1, has.2) in
+    let listed : texts (refs ++ key ∷ []) ≡ below ++ (own ++ key.now ∷ []) = map-append (λ (k : Bor (List ℕ)). k.now) refs (key ∷ []) ∙ ap (λ (xs : List (List ℕ)). xs ++ key.now ∷ []) has.2 ∙ append_assoc below own (key.now ∷ []) in
     let distinct = document_key own key.now (subst (λ (s : Sort). AreKeysCanonical s own) has.0 canonical) (not_found own key.now (ascending_test own key.now has.3 behind)) in
-    ((more.0, more.1, more.2, ascending_more own key.now has.3 behind), subst (λ (s : Sort). AreKeysCanonical s (own ++ key.now ∷ [])) (sym has.0) distinct)
+    ((has.0, has.1, listed, ascending_more own key.now has.3 behind), subst (λ (s : Sort). AreKeysCanonical s (own ++ key.now ∷ [])) (sym has.0) distinct)
 
 pub less_from_test : (o : Ordering) → is_lt o ≡ true → o ≡ Less
 less_from_test Less e = refl

@@ -1,5 +1,5 @@
 -- The steps of a loop over levels: an element is put, or its level waits for it; a level is read and goes to the
--- one that waits; a fault, want of memory or the end is answered; and what is left shrinks.
+-- one that waits; a fault, out of memory or the end is returned; and what is left shrinks.
 use Rattle.std.proofs.Common.{◌≡◌, inl, inr, ◌<◌, ◌≤◌, ◌+◌, ◌-◌, ◌*◌, take, length-take, ◌++◌, ◌∷◌, [], ℕ, suc, List, Option, None, Some, Result, Ok, Err, length, drop, arith, ap, refl, sym, ◌∙◌, subst, length-drop, length-append}
 use Rattle.std.specs.List.{sum_by}
 use Rattle.std.proofs.lemmas.List.Sums.{sum_by_push}
@@ -47,7 +47,7 @@ level_begins inside b holder level e held empty = record {
   held = held;
 }
 
--- no frame stands in a value that holds no nested bytes
+-- no frame is in a value that holds no nested bytes
 none_counted : (v : RawValue) → HoldsNone v → CountsIn HasFrameCount (value v) 0
 none_counted (raw.single l) h = refl
 none_counted (raw.document d) h = absurd h
@@ -116,9 +116,9 @@ level_resumes inside b holder w d nested here n c t new is held read closes more
       held = more.0 ∙ is.held;
     }
 
--- answers
+-- returns
 
--- the error says the first fault of the bytes, which stands within the depth, and until which so many frames stand
+-- the error says the first fault of the bytes, which is within the depth, and until which so many frames stand
 abbrev pub EndsWith : ℕ → List ℕ → Error → ℕ → Type 0
 EndsWith depth b e n = (fault : KeyedFault) × FirstFaultWithin depth b (fault_of fault) × Says e fault × HasFramesToFault b n
 
@@ -169,7 +169,7 @@ frame_counted None new inside sort d frames pairs n e env l each counts st = abs
 frame_counted (Some s) new inside sort d frames pairs n e env l each counts st = counted_from_frame sort d env frames pairs n s l (each_read inside frames pairs each) counts (frame_of e) st.0 st.1
 
 -- the state of the loop: levels wait from the bytes b inward to the bytes d, which the level reads; with the
--- levels that may stand inside d they are as many as the depth
+-- levels that may be inside d they are as many as the depth
 module _ (inside depth : ℕ) (b : List ℕ) (holder : Holder) (ws : List Waiting) (d : List ℕ) (nested : Holder) (level : Level) (n k : ℕ) (h : AreWaiting inside b holder ws d nested n) (is : IsReading inside d nested level k) (whole : suc (length ws + inside) ≡ depth) where
   within_outward : (x : Barrier) → FirstFaultWithin (suc inside) d x → FirstFaultWithin depth b x
   within_outward x bars = subst (λ (levels : ℕ). FirstFaultWithin levels b x) whole (barrier_outward inside b holder ws d nested n x h bars)
@@ -177,7 +177,7 @@ module _ (inside depth : ℕ) (b : List ℕ) (holder : Holder) (ws : List Waitin
   outward : (e : Error) (m : ℕ) → EndsWith (suc inside) d e m → EndsWith depth b e (n + m)
   outward e m at = (at.0, within_outward (fault_of at.0) at.1, at.2, to_fault_outward inside b holder ws d nested n at.0 m h (first_fault (suc inside) d at.0 at.1) at.3)
 
-  -- a value that holds nested bytes, where no level may stand inside
+  -- a value that holds nested bytes, where no level may be inside
   pub too_deep_inside : (e : RawElement) (c : List ℕ) (inner : Holder) (new : Option (List ℕ)) → inside ≡ 0 → StepsElement level.elements (Some (Ok e)) new → Means (frame_of e) (value (holding inner c)) → FirstFaultWithin depth b too_deep
   too_deep_inside e c inner new none st m =
       let entered : FirstFaultWithin inside c too_deep = rw none refl in
@@ -225,7 +225,7 @@ read_frames depth sort b result x t n is read count =
     let told : TellsFrames b result n = rw is (inl (λ fault bad. tree_or_fault sort b t fault (depth, read) bad, count), count) in
     inr told
 
--- the value that a call answers
+-- the value that a call returns
 pub told_value : (f : Frame) (v : RawBsonRef) → ((m : Meaning) × Means f m × TellsMeaning (Ok v) m) → Means f (value (value_of v))
 told_value f v (value w, m, t) = rw t m
 told_value f v (faulty x, m, t) = absurd t

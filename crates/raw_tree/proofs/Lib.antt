@@ -16,7 +16,12 @@ pub mod ReadTrees
 pub mod Spelled
 pub mod Returns
 pub mod Forms
+pub mod Marking
+pub mod Noting
+pub mod CanonicalForms
 pub mod LevelKeys
+pub mod KeyOrder
 pub mod Judgement
+pub mod EitherWay
 pub mod OneBreach
 pub mod Face

@@ -107,7 +107,7 @@ value_apart n apart (raw.document e) t d x h holds bars = apart as_document e t 
 value_apart n apart (raw.array e) t d x h holds bars = apart as_array e t x h (subst (λ (y : List ℕ). FirstFaultWithin n y x) holds bars)
 value_apart n apart (raw.scoped code e) t d x h holds bars = apart as_document e (document h.0) x h.1 (subst (λ (y : List ℕ). FirstFaultWithin n y x) holds bars)
 
--- the barrier stands at the front
+-- the barrier is at the front
 abbrev BarsAt : ℕ → List ℕ → Barrier → Type 0
 BarsAt n s x = BarsFront (ReadsUpTo n) (FirstFaultWithin n) s x
 

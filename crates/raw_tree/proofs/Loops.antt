@@ -55,7 +55,7 @@ nested_in_payload kind.Timestamp p r v d x m h = absurd (single_holds_none v _ d
 nested_in_payload kind.Int64 p r v d x m h = absurd (single_holds_none v _ d m.2 h)
 nested_in_payload _ p r v d x m h = absurd (single_holds_none v _ d m h)
 
--- a payload stands behind a tag and a 0
+-- a payload is behind a tag and a 0
 payload_shorter : (s : List ℕ) (f : Frame) (r : List ℕ) → IsFrame s f r → length f.payload + 2 ≤ length s
 payload_shorter s f r b = omega (arith, ap length b.spelled, length-append f.key (0 ∷ (f.payload ++ r)), length-append f.payload r)
 
@@ -63,7 +63,7 @@ payload_shorter s f r b = omega (arith, ap length b.spelled, length-append f.key
 pub nested_envelope : (s : List ℕ) (f : Frame) (r : List ℕ) (v : RawValue) (d : List ℕ) → IsFrame s f r → Means f (value v) → Holds v d → IsEnvelope d
 nested_envelope s f r v d b m h = (nested_in_payload f.kind f.payload r v d b.payload_is m h).0
 
--- and they are shorter by two than the bytes where the frame stands
+-- and they are shorter by two than the bytes where the frame is
 pub nested_shorter : (s : List ℕ) (f : Frame) (r : List ℕ) (v : RawValue) (d : List ℕ) → IsFrame s f r → Means f (value v) → Holds v d → length d + 2 ≤ length s
 nested_shorter s f r v d b m h = omega (arith, (nested_in_payload f.kind f.payload r v d b.payload_is m h).1, payload_shorter s f r b)
 

@@ -1,4 +1,4 @@
--- Bytes have one first breach at most, and none where they are canonical.
+-- Bytes are canonical or have one first breach, and never both.
 use Rattle.std.proofs.Common.{◌≡◌, inl, inr, ◌++◌, ◌∷◌, [], ℕ, zero, suc, List, length, drop, ap, refl, sym, ◌∙◌, subst, append_assoc}
 use Rattle.std.proofs.lemmas.List.{append-nil}
 use Rattle.raw_view.specs.Envelope.{IsEnvelope}
@@ -10,6 +10,7 @@ use Rattle.raw_tree.specs.Breaches.{keys_of_frames, BreachesKeys, BreachesMeanin
 use Rattle.raw_tree.specs.Canonical.{AreKeysCanonical, IsValueCanonical, AreFramesCanonical, IsCanonicalUpTo, IsCanonicalAs}
 use Rattle.raw_tree.specs.Reading.{Sort, as_document, as_array}
 use Rattle.raw_tree.specs.declared.breach.Cause.{Cause}
+use Rattle.raw_tree.proofs.EitherWay.{either_way}
 use Rattle.raw_tree.proofs.LevelKeys.{keys_front, key_nor_breach}
 use Rattle.raw_tree.proofs.Returns.{frames_canonical_on}
 
@@ -61,7 +62,7 @@ nor_breach (suc n) sort b path why h (zero, c) = c
 nor_breach (suc n) sort b path why h (suc m, c) =
     rest_nor_breach (HasBreachUpTo n) (nor_breach n) c.0 h.0 sort [] (drop 4 b) h.1 h.2 why c.1 (frames_canonical_on (IsCanonicalUpTo m) IsCanonicalAs (λ t d i. (m, i)) c.0 c.3) c.2 h.3 h.6
 
--- two breaches stand behind the same frames
+-- two breaches are behind the same frames
 module _ (N M : Sort → List ℕ → List ℕ → Cause → Type 0) (n_apart : (sort : Sort) (b path : List ℕ) (why : Cause) → N sort b path why → ¬ IsCanonicalAs sort b) (m_apart : (sort : Sort) (b path : List ℕ) (why : Cause) → M sort b path why → ¬ IsCanonicalAs sort b) where
   same_passed : (ps qs : List Frame) (sort : Sort) (ks : List (List ℕ)) (s r t path other : List ℕ) (why cause : Cause) → LeadsTo s ps r → AreFramesCanonical IsCanonicalAs ps → AreKeysCanonical sort (ks ++ keys_of_frames ps) → BreachesFront N sort (ks ++ keys_of_frames ps) r path why
       → LeadsTo s qs t → AreFramesCanonical IsCanonicalAs qs → AreKeysCanonical sort (ks ++ keys_of_frames qs) → BreachesFront M sort (ks ++ keys_of_frames qs) t other cause → (ps ≡ qs) × (r ≡ t)
@@ -128,6 +129,7 @@ one_breach (suc n) (suc m) sort b path other why cause h g =
 
 pub judged_one_way : (sort : Sort) (b : List ℕ) → IsEnvelope b → IsJudgedOneWay sort b
 judged_one_way sort b env = record {
+  either = either_way sort b env;
   not_both = λ path why h. nor_breach h.0 sort b path why h.1;
   one_breach = λ path other why cause h g. one_breach h.0 g.0 sort b path other why cause h.1 g.1;
 }

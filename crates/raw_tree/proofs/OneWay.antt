@@ -107,7 +107,7 @@ module _ (f : Frame) where
         one_fault = frame_one_fault;
       }
 
-  -- a frame of which the value or the fault was answered
+  -- a frame of which the value or the fault was returned
   pub element_one_way : (answer : Result RawBsonRef Error) → (m : Meaning) × Means f m × TellsMeaning answer m → IsFrameReadOneWay f
   element_one_way answer (value v, m, told) = element_of_value answer v m told
   element_one_way answer (faulty fault, m, told) = record {

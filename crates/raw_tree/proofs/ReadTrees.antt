@@ -25,7 +25,7 @@ use Rattle.raw_tree.proofs.Loops.{nested_envelope}
 
 -- bytes
 
--- the payload of a frame is bytes where those that the frame stands in are
+-- the payload of a frame is bytes where those that the frame is in are
 pub payload_bytes : (s : List ℕ) (f : Frame) (r : List ℕ) → IsFrame s f r → AreBytes s → AreBytes f.payload
 payload_bytes s f r b bytes =
     let head = tag_of f.kind ∷ (f.key ++ 0 ∷ []) in

@@ -77,7 +77,7 @@ leaf_in_order-same _ h o = refl
 
 -- trees
 
--- What holds of a tree's payload: it is bytes, has the shape of the tree's kind whatever stands behind it,
+-- What holds of a tree's payload: it is bytes, has the shape of the tree's kind whatever is behind it,
 -- and means a value that is canonical and stands for the tree.
 record IsReturned (t : Tree) : Type 0 where
   bytes : AreBytes (tree_payload t)

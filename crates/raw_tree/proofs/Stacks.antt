@@ -55,7 +55,7 @@ list_more old new key v e =
 pub closes_scope : (c : Contents) (held : Option (Bor (List ℕ))) (code : Bor (List ℕ)) (d : Document) (t : Bson) → c ≡ contents.Document held d → held ≡ Some code → tree_of t ≡ code_with_scope code.now (entries (with_trees (pairs_of d))) → Closes c t
 closes_scope c held code d t is some same = rw (is, some) (λ b read. (entries (with_trees (pairs_of d)), read, same))
 
--- what holds bytes that are read as a tree stands for one, and the frames of the bytes stand in it
+-- what holds bytes that are read as a tree stands for one, and the frames of the bytes are in it
 held_stands : (h : Holder) (d : List ℕ) (t : Tree) → ReadsAs (sort_of h) d t → (u : Tree) × StandsFor ReadsAs (holding h d) u
 held_stands of.Document d t read = (t, read)
 held_stands of.Array d t read = (t, read)
@@ -93,7 +93,7 @@ held_within levels (of.Code code) d t u read stands = (stands.0, read_within lev
 -- a level
 
 -- the frames of b that the level has passed stand for the pairs of its contents, with at most so many levels
--- inside, and are so many with those that stand in them
+-- inside, and are so many with those that are in them
 pub record IsReading (inside : ℕ) (b : List ℕ) (holder : Holder) (level : Level) (n : ℕ) : Type 0 where
   pub frames : List Frame
   pub pairs : List (List ℕ × Tree)
@@ -123,7 +123,7 @@ pub record IsWaiting (inside : ℕ) (b : List ℕ) (holder : Holder) (w : Waitin
   pub total : n ≡ before + 1
 
 -- levels that wait, the outermost first: from the bytes b inward to the bytes d, with so many frames counted; at
--- most so many levels may stand inside d
+-- most so many levels may be inside d
 abbrev pub AreWaiting : ℕ → List ℕ → Holder → List Waiting → List ℕ → Holder → ℕ → Type 0
 AreWaiting inside b holder [] d nested n = (b ≡ d) × (holder ≡ nested) × (n ≡ 0)
 AreWaiting inside b holder (w ∷ ws) d nested n = (e : List ℕ) × (inner : Holder) × (here : ℕ) × (others : ℕ) × IsWaiting (suc (length ws + inside)) b holder w e inner here × AreWaiting inside e inner ws d nested others × (n ≡ here + others)

@@ -14,7 +14,7 @@ use Rattle.raw_tree.specs.declared.levels.Contents.{Contents}
 use Rattle.raw_tree.specs.declared.levels.Holder.{Holder}
 use Rattle.raw_tree.proofs.Loops.{each_read, nested_shorter}
 
--- a fault that is first within a depth stands at most so many levels deep
+-- a fault that is first within a depth is at most so many levels deep
 first_fault_up_to : (n : ℕ) (b : List ℕ) (fault : KeyedFault) → FirstFaultWithin n b (fault_of fault) → FirstFaultUpTo n b fault
 first_fault_up_to zero b fault h = let bad : fault_of fault ≡ too_deep = h in cc
 first_fault_up_to (suc n) b fault h =
@@ -64,7 +64,7 @@ never_too_many (suc n) b h =
 pub never_too_deep : (n : ℕ) (b : List ℕ) → IsEnvelope b → max_length < n → FirstFaultWithin n b too_deep → ⊥
 never_too_deep n b env more h = omega (arith, env.header.fits, deep_long n b h)
 
--- what is answered to such a depth is answered of all levels
+-- what is returned to such a depth is returned of all levels
 module _ (depth : ℕ) (h : Holder) (b : List ℕ) (env : IsEnvelope b) (more : max_length < depth) where
   pub tree_of_all : (result : Result Contents Error) → IfOk result (AreReadUpTo depth h b) → IfOk result (AreRead h b)
   tree_of_all (Ok c) told = (told.0, (depth, told.1))

@@ -46,14 +46,14 @@ module _ (Nested : Sort → List ℕ → List ℕ → Cause → Type 0) where
       ((fault : Fault) × (key : Option (List ℕ)) × IsStop r fault key × (path ≡ []) × (why ≡ cause.Stop))
       ⊎ ((f : Frame) × (q : List ℕ) × IsFrame r f q × BreachesFrame sort keys f path why)
 
-  -- the first breach of a document or an array, where s is all that stands behind its length: frames are passed whose
+  -- the first breach of a document or an array, where s is all that is behind its length: frames are passed whose
   -- keys and values are canonical, and the first number of the path is how many
   abbrev pub Breaches : Sort → List ℕ → List ℕ → Cause → Type 0
   Breaches sort s path why =
       (passed : List Frame) × (r : List ℕ) × (inside : List ℕ) × LeadsTo s passed r × AreKeysCanonical sort (keys_of_frames passed)
       × AreFramesCanonical IsCanonicalAs passed × BreachesFront sort (keys_of_frames passed) r inside why × (path ≡ length passed ∷ inside)
 
--- the first breach of these bytes, where it stands at most so many levels deep, these bytes being the first level
+-- the first breach of these bytes, where it is at most so many levels deep, these bytes being the first level
 abbrev pub HasBreachUpTo : ℕ → Sort → List ℕ → List ℕ → Cause → Type 0
 HasBreachUpTo zero sort b path why = ⊥
 HasBreachUpTo (suc n) sort b path why = Breaches (HasBreachUpTo n) sort (drop 4 b) path why
@@ -74,13 +74,14 @@ cause_text cause.RepeatedKey = codes "repeated-key"
 cause_text cause.ArrayKey = codes "array-key"
 cause_text cause.Options = codes "options"
 
--- where no breach is answered, the document b is canonical; a breach that is answered is its first
+-- where no breach is returned, the document b is canonical; a breach that is returned is its first
 abbrev pub TellsBreach : List ℕ → Option Breach → Type 0
 TellsBreach b None = IsCanonical b
 TellsBreach b (Some breach) = HasBreach b breach
 
--- bytes that have a first breach aren't canonical, and have no other
+-- bytes are canonical or have a first breach, never both, and no other breach is their first
 pub record IsJudgedOneWay (sort : Sort) (b : List ℕ) : Type 0 where
+  pub either : IsCanonicalAs sort b ⊎ ((path : List ℕ) × (why : Cause) × HasBreachAs sort b path why)
   pub not_both : (path : List ℕ) (why : Cause) → HasBreachAs sort b path why → ¬ IsCanonicalAs sort b
   pub one_breach : (path other_path : List ℕ) (why other_why : Cause) → HasBreachAs sort b path why → HasBreachAs sort b other_path other_why → (other_path ≡ path) × (other_why ≡ why)
 

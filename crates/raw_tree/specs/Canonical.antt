@@ -14,7 +14,7 @@ abbrev pub AreDecimalsFrom : ℕ → List (List ℕ) → Type 0
 AreDecimalsFrom n [] = Unit {0}
 AreDecimalsFrom n (key ∷ keys) = (key ≡ decimal n) × AreDecimalsFrom (n + 1) keys
 
--- of a document no key stands twice; of an array the keys are the decimals from 0 in order
+-- of a document no key is there twice; of an array the keys are the decimals from 0 in order
 abbrev pub AreKeysCanonical : Sort → List (List ℕ) → Type 0
 AreKeysCanonical as_document keys = IsDistinct bytes_eq keys
 AreKeysCanonical as_array keys = AreDecimalsFrom 0 keys

@@ -1,10 +1,14 @@
 -- What is claimed of bytes that are written from a tree, and of trees that are read from bytes. Where bytes b
 -- are read here, they have an envelope.
-use Rattle.std.specs.Prelude.{◌≡◌, ◌≤◌, ◌↔◌, ℕ, List}
+use Rattle.std.specs.Prelude.{◌≡◌, ◌<◌, ◌≤◌, ◌↔◌, ℕ, List, None}
 use Rattle.bson_model.specs.Proper.{IsProper}
 use Rattle.bson_model.specs.Tree.{Tree, Trees, Entries, array, document}
 use Rattle.raw_view.specs.Envelope.{IsEnvelope}
+use Rattle.raw_view.specs.Errors.{key_of}
 use Rattle.raw_view.specs.Number.{max_length}
+use Rattle.raw_view.specs.declared.error.Error.{Error}
+use Rattle.raw_view.specs.declared.error.ErrorKind.TheVariants.{MalformedValue}
+use Rattle.raw_view.specs.declared.error.Reason.TheVariants.{TooLong}
 use Rattle.raw_tree.specs.Canonical.{IsCanonical, IsCanonicalAs}
 use Rattle.raw_tree.specs.Encoding.{encoding, encoded_len}
 use Rattle.raw_tree.specs.Reading.{Sort, as_document, as_array, Reads, ReadsAs}
@@ -53,3 +57,11 @@ pub record IsCanonicalForm (b a : List ℕ) : Type 0 where
   pub form_envelope : IsEnvelope a
   pub canonical : IsCanonical a
   pub reads_back : Reads a tree
+
+-- bytes have one canonical form at most
+abbrev pub HaveOneForm : Type 0
+HaveOneForm = (b a other : List ℕ) → IsCanonicalForm b a → IsCanonicalForm b other → other ≡ a
+
+-- the encoding of the tree would be too long; the error has no key
+abbrev pub TellsTooLong : Tree → Error → Type 0
+TellsTooLong t e = (max_length < encoded_len t) × (e.kind ≡ MalformedValue TooLong) × (key_of e ≡ None)

@@ -59,14 +59,14 @@ abbrev mutual
   entries_len no_entry = 0
   entries_len (entry_then key t es) = (2 + length key + encoded_len t) + entries_len es
 
--- why a tree isn't written: first a 0, then the length, then want of memory
+-- why a tree isn't written: first a 0, then the length, then out of memory
 abbrev pub RefusesTree : Tree → ErrorKind → Type 0
 RefusesTree t (what.MalformedValue reason.InteriorNul) = ¬ IsNulFree t
 RefusesTree t (what.MalformedValue reason.TooLong) = IsNulFree t × (max_length < encoded_len t)
 RefusesTree t what.OutOfMemory = IsNulFree t × (encoded_len t ≤ max_length)
 RefusesTree t _ = ⊥
 
--- what a call answers that writes a tree: its encoding, of a tree without a 0 where it may not be and of at
+-- what a call returns that writes a tree: its encoding, of a tree without a 0 where it may not be and of at
 -- most the greatest length
 abbrev pub IsEncoded : Tree → List ℕ → Type 0
 IsEncoded t bytes = IsNulFree t × (encoded_len t ≤ max_length) × (bytes ≡ encoding t)

@@ -1,4 +1,4 @@
--- How many frames stand in a document at all levels, and how many of them until its first fault. The bytes b
+-- How many frames are in a document at all levels, and how many of them until its first fault. The bytes b
 -- of a document, or of an array, have an envelope.
 use Rattle.std.specs.Prelude.{◌≡◌, ◌⊎◌, ℕ, suc, zero, ◌+◌, ◌-◌, ◌/◌, ◌≤◌, List, [], ◌∷◌, length, drop, Result, Ok, Err}
 use Rattle.bson_model.specs.Tree.{Tree}
@@ -10,9 +10,9 @@ use Rattle.raw_view.specs.Meaning as raw
 use Rattle.raw_view.specs.declared.error.Error.{Error}
 use Rattle.raw_tree.specs.Reading.{StandForEach, ReadsAs, Holds, FirstFault}
 
--- counts, where Nested says how many frames stand in nested bytes
+-- counts, where Nested says how many frames are in nested bytes
 module _ (Nested : List ℕ → ℕ → Type 0) where
-  -- so many frames stand in what a frame means: those of the nested bytes of a value, and none in a value that
+  -- so many frames are in what a frame means: those of the nested bytes of a value, and none in a value that
   -- holds no others, or in a fault
   abbrev pub CountsIn : Meaning → ℕ → Type 0
   CountsIn (value (raw.single l)) n = n ≡ 0
@@ -21,12 +21,12 @@ module _ (Nested : List ℕ → ℕ → Type 0) where
   CountsIn (value (raw.scoped code d)) n = Nested d n
   CountsIn (faulty fault) n = n ≡ 0
 
-  -- so many are these frames together with those that stand in what they mean
+  -- so many are these frames together with those that are in what they mean
   abbrev pub CountsFrames : List Frame → ℕ → Type 0
   CountsFrames [] n = n ≡ 0
   CountsFrames (f ∷ fs) n = (m : Meaning) × (inside : ℕ) × (others : ℕ) × Means f m × CountsIn m inside × CountsFrames fs others × (n ≡ 1 + inside + others)
 
--- so many frames stand in these bytes, which have at most so many levels
+-- so many frames are in these bytes, which have at most so many levels
 abbrev pub HasFrameCountUpTo : ℕ → List ℕ → ℕ → Type 0
 HasFrameCountUpTo zero b n = ⊥
 HasFrameCountUpTo (suc levels) b n = (frames : List Frame) × (end : End) × IsWalk (drop 4 b) frames end × CountsFrames (HasFrameCountUpTo levels) frames n
@@ -37,33 +37,33 @@ HasFrameCount b n = (levels : ℕ) × HasFrameCountUpTo levels b n
 
 -- frames until a fault, where Nested says that of nested bytes
 module _ (Nested : List ℕ → ℕ → Type 0) where
-  -- so many frames stand in the frame until its first fault: none where the frame itself means it, and else
-  -- those that stand until then in the nested bytes that have it
+  -- so many frames are in the frame until its first fault: none where the frame itself means it, and else
+  -- those that are until then in the nested bytes that have it
   abbrev pub CountsToFaultInFrame : Frame → ℕ → Type 0
   CountsToFaultInFrame f n =
       ((fault : KeyedFault) × Means f (faulty fault) × (n ≡ 0))
       ⊎ ((v : RawValue) × (d : List ℕ) × (fault : KeyedFault) × Means f (value v) × Holds v d × FirstFault d fault × Nested d n)
 
   -- before is the number of frames ahead of r; so many are these and those until the fault there: the walk stops,
-  -- which is no frame; or the next frame has the fault, and is counted with those that stand in it until then
+  -- which is no frame; or the next frame has the fault, and is counted with those that are in it until then
   abbrev pub CountsToFaultAt : List ℕ → ℕ → ℕ → Type 0
   CountsToFaultAt r before n =
       ((fault : KeyedFault) × IsStop r fault.fault fault.key × (n ≡ before))
       ⊎ ((f : Frame) × (q : List ℕ) × (inside : ℕ) × IsFrame r f q × CountsToFaultInFrame f inside × (n ≡ before + 1 + inside))
 
-  -- so many frames stand in what is left of a document or an array, s, until its first fault: frames that stand
-  -- for trees, with all that stand in them, and those until the fault behind them
+  -- so many frames are in what is left of a document or an array, s, until its first fault: frames that stand
+  -- for trees, with all that are in them, and those until the fault behind them
   abbrev pub CountsToFaultInRest : List ℕ → ℕ → Type 0
   CountsToFaultInRest s n =
       (passed : List Frame) × (pairs : List (List ℕ × Tree)) × (r : List ℕ) × (before : ℕ) × LeadsTo s passed r × StandForEach ReadsAs passed pairs
       × CountsFrames HasFrameCount passed before × CountsToFaultAt r before n
 
--- so many frames stand in these bytes until their first fault, which stands at most so many levels deep
+-- so many frames are in these bytes until their first fault, which is at most so many levels deep
 abbrev pub HasFramesToFaultUpTo : ℕ → List ℕ → ℕ → Type 0
 HasFramesToFaultUpTo zero b n = ⊥
 HasFramesToFaultUpTo (suc levels) b n = CountsToFaultInRest (HasFramesToFaultUpTo levels) (drop 4 b) n
 
--- so many frames stand in these bytes until their first fault, with the frame that has it; a stop is no frame
+-- so many frames are in these bytes until their first fault, with the frame that has it; a stop is no frame
 abbrev pub HasFramesToFault : List ℕ → ℕ → Type 0
 HasFramesToFault b n = (levels : ℕ) × HasFramesToFaultUpTo levels b n
 
@@ -79,7 +79,7 @@ AllHaveOneFrameCount = (b : List ℕ) → IsEnvelope b → (n : ℕ) × HasFrame
 abbrev pub AllAreCountedOneWay : Type 0
 AllAreCountedOneWay = (b : List ℕ) → IsEnvelope b → (n : ℕ) × HasFramesUntilFault b n × ((other : ℕ) → HasFramesUntilFault b other → other ≡ n)
 
--- What an answer of reading b says of this count: with a tree it is the frame count, which is the frames until
+-- What a result of reading b says of this count: with a tree it is the frame count, which is the frames until
 -- the first fault; with the first fault it is these frames; where memory ran out, at most so many.
 abbrev pub TellsFrames : {X : Type 0} → List ℕ → Result X Error → ℕ → Type 0
 TellsFrames b (Ok _) n = HasFramesUntilFault b n × HasFrameCount b n

@@ -6,7 +6,7 @@ use Rattle.bson_model.specs.Tree.{Tree}
 use Rattle.raw_view.specs.Number.{max_length}
 use Rattle.raw_tree.specs.Encoding.{encoded_len}
 
--- what is answered of a tree before it is written: its length, the greatest number of 64 bits where that is
+-- what is returned of a tree before it is written: its length, the greatest number of 64 bits where that is
 -- more; nothing exactly where a key, a pattern or options hold a 0
 abbrev pub Judges : Tree → Option ℕ → Type 0
 Judges t None = ¬ IsNulFree t

@@ -80,7 +80,7 @@ AreRead h b c = (holder_of c ≡ h) × ReadsAs (sort_of h) b (tree_of_contents c
 abbrev pub AreReadUpTo : ℕ → Holder → List ℕ → Contents → Type 0
 AreReadUpTo levels h b c = (holder_of c ≡ h) × ReadsUpTo levels (sort_of h) b (tree_of_contents c)
 
--- what an answer of reading b to a depth says of the frames that were counted, unless a level was too deep
+-- what a result of reading b to a depth says of the frames that were counted, unless a level was too deep
 abbrev pub TellsFramesWithin : {X : Type 0} → ℕ → List ℕ → Result X Error → ℕ → Type 0
 TellsFramesWithin depth b result n = FirstFaultWithin depth b too_deep ⊎ TellsFrames b result n
 

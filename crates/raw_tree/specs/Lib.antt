@@ -10,3 +10,8 @@ pub mod Reading
 pub mod Breaches
 pub mod Canonical
 pub mod CanonicalForm
+pub mod References
+pub mod Notes
+pub mod Marks
+pub mod KeySets
+pub mod OpenKeys

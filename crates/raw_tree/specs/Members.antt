@@ -65,7 +65,7 @@ abbrev pub members_len : List (MemberKey × Tree) → ℕ
 members_len [] = 0
 members_len (m ∷ ms) = (2 + length (key_bytes m.0) + encoded_len m.1) + members_len ms
 
--- no 0 stands in them where it may not
+-- no 0 is in them where it may not be
 abbrev pub AreMembersFree : List (MemberKey × Tree) → Type 0
 AreMembersFree [] = Unit {0}
 AreMembersFree (m ∷ ms) = IsKeyFree m.0 × IsNulFree m.1 × AreMembersFree ms
@@ -101,7 +101,7 @@ Shows t (shown.Leaf v) = ShowsLeaf t (value_of v)
 Shows t (shown.Container c) = t ≡ tree_of_container c
 
 -- four bytes of a length that isn't set
-abbrev unset : List ℕ
+abbrev pub unset : List ℕ
 unset = 0 ∷ 0 ∷ 0 ∷ 0 ∷ []
 
 -- what a payload begins with, with its lengths not set, and how many bytes that is: of a code its own length, its
@@ -129,6 +129,26 @@ ended (array ts) start b = measured start b
 ended (document es) start b = measured start b
 ended (code_with_scope code es) start b = measured start (measured (start + 9 + length code) b)
 
--- where the first member of a level that is written starts
+-- a tree that is being written: where its payload starts, and the members that are left
+pub record Begun : Type 0 where
+  pub tree : Tree
+  pub start : ℕ
+  pub left : List (MemberKey × Tree)
+
+-- where its first member starts
+abbrev pub members_start : Begun → ℕ
+members_start x = x.start + opening_len x.tree
+
+-- that of a level that is written
+abbrev pub begun_of : Level → Begun
+begun_of level = record { tree = tree_of_container level.members.container; start = level.start; left = left_of level.members }
+
 abbrev pub end_of_opening : Level → ℕ
-end_of_opening level = level.start + opening_len (tree_of_container level.members.container)
+end_of_opening level = members_start (begun_of level)
+
+-- the tree holds others
+abbrev pub HoldsTrees : Tree → Type 0
+HoldsTrees (leaf l) = ⊥
+HoldsTrees (array ts) = Unit {0}
+HoldsTrees (document es) = Unit {0}
+HoldsTrees (code_with_scope code es) = Unit {0}

@@ -18,7 +18,7 @@ pub data Sort : Type 0 where
   as_document : Sort
   as_array : Sort
 
--- the tree of pairs of a key and a tree: of a document the keys in the order in which each stands first,
+-- the tree of pairs of a key and a tree: of a document the keys in the order in which each comes first,
 -- each with the tree that it has last; of an array the trees
 abbrev pub tree_of_pairs : Sort → List (List ℕ × Tree) → Tree
 tree_of_pairs as_document pairs = document (entries (keep pairs))
@@ -47,7 +47,7 @@ module _ (Nested : Sort → List ℕ → Tree → Type 0) where
   abbrev pub ReadsRest : List ℕ → List (List ℕ × Tree) → Type 0
   ReadsRest s pairs = (frames : List Frame) × IsWalk s frames Done × StandForEach frames pairs
 
--- these bytes, with at most so many levels, are read as this tree: what stands behind their length is read as
+-- these bytes, with at most so many levels, are read as this tree: what is behind their length is read as
 -- pairs, and the tree is that of these pairs
 abbrev pub ReadsUpTo : ℕ → Sort → List ℕ → Tree → Type 0
 ReadsUpTo zero sort b t = ⊥
@@ -89,7 +89,7 @@ module _ (Nested : List ℕ → KeyedFault → Type 0) where
       (passed : List Frame) × (pairs : List (List ℕ × Tree)) × (r : List ℕ) × LeadsTo s passed r × StandForEach ReadsAs passed pairs
       × (IsStop r fault.fault fault.key ⊎ ((f : Frame) × (q : List ℕ) × IsFrame r f q × FailsInFrame f fault))
 
--- the first fault of these bytes, depth first in byte order, where it stands at most so many levels deep, these
+-- the first fault of these bytes, depth first in byte order, where it is at most so many levels deep, these
 -- bytes being the first level
 abbrev pub FirstFaultUpTo : ℕ → List ℕ → KeyedFault → Type 0
 FirstFaultUpTo zero b fault = ⊥
@@ -131,7 +131,7 @@ IsValueReadOneWay v = HasOneReading (StandsFor ReadsAs v) (FirstFaultOfValue v)
 abbrev pub IsFrameReadOneWay : Frame → Type 0
 IsFrameReadOneWay f = HasOneReading (FrameStandsFor f) (FirstFaultOfFrame f)
 
--- an error of reading these bytes: their first fault with its own key, or want of memory
+-- an error of reading these bytes: their first fault with its own key, or out of memory
 abbrev pub TellsFirstFault : List ℕ → Error → Type 0
 TellsFirstFault b e = IsOutOfMemory e ⊎ ((fault : KeyedFault) × FirstFault b fault × Says e fault)
 

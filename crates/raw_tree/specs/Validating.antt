@@ -1,11 +1,12 @@
 -- The helpers of the validator: the keys of its levels, and what it has judged of each. No public contract cites this
 -- file.
-use Rattle.std.specs.Prelude.{◌≡◌, ◌⊎◌, ◌<◌, ◌+◌, ◌++◌, ℕ, Bool, true, false, List, [], ◌∷◌, Option, None, Some, drop, map, length}
+use Rattle.std.specs.Prelude.{◌≡◌, ◌⊎◌, ◌<◌, ◌+◌, ◌++◌, ℕ, List, [], ◌∷◌, Option, None, Some, drop, length}
 use Rattle.std.specs.Ordering.{nat_cmp}
 use Rattle.std.specs.declared.cmp.Ordering.TheVariants.{Less}
 use Rattle.std.specs.Cmp.Lexicographic.{slice_cmp}
-use Rattle.std.specs.List.{Contains}
 use denote.Ref.{Bor}
+use Rattle.raw_tree.specs.Notes.{AreNoted}
+use Rattle.raw_tree.specs.References.{texts}
 use Rattle.raw_view.specs.Envelope.{IsEnvelope}
 use Rattle.raw_view.specs.Frame.{Frame, IsFrame, LeadsTo}
 use Rattle.raw_view.specs.Meaning.{RawValue, Means, value}
@@ -14,7 +15,6 @@ use Rattle.raw_tree.specs.Breaches.{keys_of_frames, BreachesKeys, BreachesMeanin
 use Rattle.raw_tree.specs.Canonical.{AreKeysCanonical, IsValueCanonical, AreFramesCanonical, IsCanonicalAs}
 use Rattle.raw_tree.specs.Reading.{Sort, as_document, as_array}
 use Rattle.raw_tree.specs.declared.breach.Cause.{Cause}
-use Rattle.raw_tree.specs.declared.breach.Cause.TheVariants as cause
 use Rattle.raw_tree.specs.declared.keys.Keys.{Keys}
 use Rattle.raw_tree.specs.declared.keys.Keys.TheVariants as keys
 use Rattle.raw_tree.specs.declared.validation.Judged.{Judged}
@@ -22,9 +22,6 @@ use Rattle.raw_tree.specs.declared.validation.Step.{Step}
 use Rattle.raw_tree.specs.declared.validation.Step.TheVariants as step
 
 -- keys
-
-abbrev pub texts : List (Bor (List ℕ)) → List (List ℕ)
-texts keys = map (λ k. k.now) keys
 
 -- a key is longer than this one, or as long and greater byte by byte
 abbrev pub IsBehind : List ℕ → List ℕ → Type 0
@@ -42,12 +39,12 @@ IsBehindLast [] key = Unit {0}
 IsBehindLast (last ∷ []) key = IsBehind last key
 IsBehindLast (first ∷ next ∷ keys) key = IsBehindLast (next ∷ keys) key
 
--- a level of this sort has its own keys so far; in the list those of the levels outside stand below them
+-- a level of this sort has its own keys so far; in the list those of the levels outside are below them
 abbrev pub HasKeys : Keys → List (Bor (List ℕ)) → Sort → List (List ℕ) → List (List ℕ) → Type 0
 HasKeys keys.Numbers listed sort below own = (sort ≡ as_array) × (texts listed ≡ below)
 HasKeys (keys.Ascending first) listed sort below own = (sort ≡ as_document) × (first ≡ length below) × (texts listed ≡ below ++ own) × AreAscending own
-HasKeys (keys.Listed first) listed sort below own = (sort ≡ as_document) × (first ≡ length below) × (texts listed ≡ below ++ own)
-HasKeys (keys.Indexed set) listed sort below own = (sort ≡ as_document) × (texts listed ≡ below) × (texts set.value.keys ≡ own)
+HasKeys (keys.Listed first notes) listed sort below own = (sort ≡ as_document) × (first ≡ length below) × (texts listed ≡ below ++ own) × AreNoted notes own
+HasKeys (keys.Indexed set) listed sort below own = (sort ≡ as_document) × (texts listed ≡ below) × (set.value ≡ own)
 
 -- these are the keys of some level, which are canonical
 abbrev pub AreKeysSoFar : Keys → List (Bor (List ℕ)) → Type 0
@@ -58,27 +55,17 @@ abbrev pub TellsKey : Sort → List (List ℕ) → List (List ℕ) → List ℕ 
 TellsKey sort below own key k listed None = HasKeys k listed sort below (own ++ key ∷ []) × AreKeysCanonical sort (own ++ key ∷ [])
 TellsKey sort below own key k listed (Some why) = BreachesKeys sort own key why
 
--- the same of keys with this one among them
-abbrev pub TellsPlaced : Sort → List (List ℕ) → List (List ℕ) → List ℕ → List (Bor (List ℕ)) → Option Keys → Type 0
-TellsPlaced sort below own key listed (Some k) = TellsKey sort below own key k listed None
-TellsPlaced sort below own key listed None = BreachesKeys sort own key cause.RepeatedKey
-
 -- so it is for the keys of the level, whichever they are
 abbrev pub AddsKey : Keys → List (Bor (List ℕ)) → ℕ → List ℕ → Keys → List (Bor (List ℕ)) → Option Cause → Type 0
 AddsKey old before number key new after answer =
     (sort : Sort) (below own : List (List ℕ)) → HasKeys old before sort below own → AreKeysCanonical sort own → number ≡ length own
     → TellsKey sort below own key new after answer
 
--- so it is for the keys of a document in the list, with these keys in their place; none where the key is one of them
-abbrev pub PlacesKey : ℕ → List (Bor (List ℕ)) → List ℕ → List (Bor (List ℕ)) → Option Keys → Type 0
-PlacesKey first before key after answer =
-    (sort : Sort) (below own : List (List ℕ)) → HasKeys (keys.Listed first) before sort below own → AreKeysCanonical sort own
-    → TellsPlaced sort below own key after answer
-
--- a key was put last, or it was there
-abbrev pub InsertsKey : List (List ℕ) → List ℕ → Bool → List (List ℕ) → Type 0
-InsertsKey before key true after = (¬ Contains before key) × (after ≡ before ++ key ∷ [])
-InsertsKey before key false after = Contains before key × (after ≡ before)
+-- so it is for the keys of a document in the list, which have these notes
+abbrev pub AddsListed : ℕ → ℕ → List (Bor (List ℕ)) → List ℕ → Keys → List (Bor (List ℕ)) → Option Cause → Type 0
+AddsListed first notes before key new after answer =
+    (sort : Sort) (below own : List (List ℕ)) → HasKeys (keys.Listed first notes) before sort below own → AreKeysCanonical sort own
+    → TellsKey sort below own key new after answer
 
 -- the level's own keys are gone
 abbrev pub LeavesKeys : Keys → List (Bor (List ℕ)) → List (Bor (List ℕ)) → Type 0
@@ -141,7 +128,7 @@ JudgesValue v listed step.Whole = IsValueCanonical IsCanonicalAs v
 JudgesValue v listed (step.Inside inner) = (s : Sort) × (d : List ℕ) × HoldsAs v s d × IsUnjudged s d listed inner
 JudgesValue v listed (step.Breach why) = BreachesMeaning HasBreachAs (value v) [] why
 
--- what stands next in a level: the bytes end, and are canonical; a frame is passed; a frame waits for its nested bytes;
+-- what is next in a level: the bytes end, and are canonical; a frame is passed; a frame waits for its nested bytes;
 -- or there is the first breach
 abbrev pub TellsStep : Sort → List ℕ → List (List ℕ) → Judged → List (Bor (List ℕ)) → Step → Type 0
 TellsStep sort d below level listed step.End = IsCanonicalAs sort d × (own : List (List ℕ)) × HasKeys level.keys listed sort below own

@@ -102,7 +102,7 @@ SaysBarrier e too_many_bytes = (e.kind ≡ kind.MalformedValue reason.TooManyByt
 SaysBarrier e too_deep = (e.kind ≡ kind.MalformedValue reason.TooDeep) × (key_of e ≡ None)
 SaysBarrier e (fault_of fault) = Says e fault
 
--- an error of reading these bytes to a depth: the first barrier within it, or want of memory
+-- an error of reading these bytes to a depth: the first barrier within it, or out of memory
 abbrev pub TellsFirstFaultWithin : ℕ → List ℕ → Error → Type 0
 TellsFirstFaultWithin depth b e = IsOutOfMemory e ⊎ ((x : Barrier) × FirstFaultWithin depth b x × SaysBarrier e x)
 

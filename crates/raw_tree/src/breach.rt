@@ -8,7 +8,7 @@ use std::fmt;
 /// Why a document isn't canonical.
 #[derive(Clone, Copy, Debug, PartialEq, Eq)]
 pub enum Cause {
-    /// No element and no final 0 stands where the elements end.
+    /// No element and no final 0 is where the elements end.
     Stop,
     /// An element's payload means no value.
     Value,
@@ -24,7 +24,7 @@ pub enum Cause {
 #[derive(Debug, PartialEq, Eq, Drop)]
 pub struct Breach {
     /// for each level, from the outermost on, the number of the element, counted from 0; for a stop, how many elements
-    /// stand before it
+    /// are before it
     pub path: Vec<usize>,
     /// why
     pub cause: Cause,

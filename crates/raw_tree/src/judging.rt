@@ -1,5 +1,5 @@
 //! A tree is judged before it is written: whether it holds a 0 where none may be, and how many bytes it takes.
-#![tactic(auto, using(std::proofs::lemmas::Grind::common_steps, bson_model::proofs::Trees::tree_laws))]
+#![tactic(auto, using(std::proofs::lemmas::Grind::common_steps, bson_model::proofs::Face::tree_laws))]
 
 ghost use Rattle.std.specs.Prelude.{◌≡◌, ◌+◌};
 ghost use Rattle.bson_model.specs.Leaf.{Leaf};
@@ -39,7 +39,7 @@ fn frame_len(container: Container<'_>) -> usize
 /// How many bytes the payload of the container takes, the greatest `usize` where that is more; `None` exactly
 /// where a key, a pattern or options in it hold a 0. The containers round the one whose members are judged
 /// wait in memory. Where there is no memory for one more, what is inside it is judged by a call of its own,
-/// which has all the memory that is left to it; so want of memory changes no answer.
+/// which has all the memory that is left to it; so running out of memory changes no result.
 pub(crate) fn judged(alloc: Global, container: Container<'_>) -> Option<usize>
     ensures { Judges (tree_of_container container.entry) result }
 {

@@ -4,17 +4,19 @@
 ghost use Rattle.std.specs.Prelude.{◌≡◌, ◌↔◌, ◌++◌, ◌∷◌, [], decimal, IsTrue, IfOk, IfErr, OnOk};
 ghost use Rattle.std.specs.List.{IsDistinct};
 ghost use Rattle.std.specs.Str.{bytes_eq};
-ghost use Rattle.raw_tree.specs.Validating.{AddsKey, AreKeysSoFar, InsertsKey, IsBehindLast, LeavesKeys, PlacesKey, texts};
+ghost use Rattle.raw_tree.specs.References.{texts};
+ghost use Rattle.raw_tree.specs.Validating.{AddsKey, AddsListed, AreKeysSoFar, IsBehindLast, LeavesKeys};
 ghost use Rattle.raw_view.specs.Errors.{IsOutOfMemory};
 
 use crate::breach::Cause;
-use indexmap::IndexSet;
+use crate::key_set::{KeySet, list};
+use crate::notes::{is_among, note_of, notes_of, with_note};
 use itoa::Buffer;
 use raw_view::{Error, Result};
 use std::alloc::Global;
 
-/// So many keys of a document are looked through one by one; more stand in a set.
-const MOST_LISTED: usize = 32;
+/// So many keys of a document are looked through one by one; more are in a set.
+const MOST_LISTED: usize = 24;
 
 /// The keys of a level's elements so far.
 #[derive(Drop)]
@@ -23,10 +25,10 @@ pub(crate) enum Keys<'a> {
     Numbers,
     /// those of a document, each behind the one before it, from this place on of the list that all levels share
     Ascending(usize),
-    /// those of a document, from this place of the list on
-    Listed(usize),
+    /// those of a document, from this place of the list on, and their notes
+    Listed(usize, u64),
     /// those of a document, in a set of its own
-    Indexed(Box<IndexSet<&'a str>>),
+    Indexed(Box<KeySet<'a>>),
 }
 
 /// Whether the key is the decimal of the number.
@@ -37,7 +39,7 @@ fn is_decimal(key: &str, number: usize) -> bool
 }
 
 /// Whether the key is longer than the last of these, or as long and greater. Then it is none of them, if each of them
-/// stands so to the one before it.
+/// is so to the one before it.
 #[inline(always)]
 fn is_behind(keys: &[&str], key: &str) -> bool
     ensures { IsTrue result → IsBehindLast (texts keys.now) key.now }
@@ -49,75 +51,25 @@ fn is_behind(keys: &[&str], key: &str) -> bool
 }
 
 /// A set of these keys and one more, no two of which are equal, with room for as many again.
-fn indexed<'a>(alloc: Global, keys: &[&'a str], last: &'a str) -> Result<Box<IndexSet<&'a str>>>
+fn indexed<'a>(alloc: Global, keys: &[&'a str], last: &'a str) -> Result<Box<KeySet<'a>>>
     requires { IsDistinct bytes_eq (texts keys.now ++ last.now ∷ []) }
-    ensures keys { IfOk result (λ set. texts set.value.keys ≡ texts keys.now ++ last.now ∷ []) }
+    ensures keys { IfOk result (λ set. set.value ≡ texts keys.now ++ last.now ∷ []) }
     ensures err { IfErr result IsOutOfMemory }
 {
-    let mut set = IndexSet::with_capacity(alloc, 2 * keys.len())?;
+    let mut set = KeySet::for_keys(alloc, keys.len())?;
     for key in keys {
-        insert(&mut set, *key)?;
+        set.insert(alloc, *key)?;
     }
-    insert(&mut set, last)?;
+    set.insert(alloc, last)?;
     match Box::new(alloc, set) {
         Ok(set) => Ok(set),
         Err(_) => Err(Error::out_of_memory()),
     }
 }
 
-/// Puts a key last, unless it is there; whether it wasn't. The only error is want of memory.
-#[inline(always)]
-fn insert<'a>(set: &mut IndexSet<&'a str>, key: &'a str) -> Result<bool>
-    ensures inserts { IfOk result (λ new. InsertsKey (texts set.old.keys) key.now new (texts set.new.keys)) }
-    ensures err { IfErr result IsOutOfMemory }
-{
-    match set.insert(key) {
-        Ok(is_new) => Ok(is_new),
-        Err(_) => Err(Error::out_of_memory()),
-    }
-}
-
-/// Puts a key last in the list. The only error is want of memory.
-#[inline(always)]
-fn list<'a>(listed: &mut Vec<&'a str>, key: &'a str) -> Result<()>
-    ensures listed { OnOk result (listed.new.items ≡ listed.old.items ++ key.entry ∷ []) }
-    ensures err { IfErr result IsOutOfMemory }
-{
-    match listed.push(key) {
-        Ok(()) => Ok(()),
-        Err(_) => Err(Error::out_of_memory()),
-    }
-}
-
-/// The keys of a document from this place of the list on, and one more; `None` where it is one of them. The only error
-/// is want of memory.
-fn with_key<'a>(
-    alloc: Global,
-    listed: &mut Vec<&'a str>,
-    first: usize,
-    key: &'a str,
-) -> Result<Option<Keys<'a>>>
-    requires { AreKeysSoFar (Keys.Listed first) listed.old.items }
-    ensures places { IfOk result
-        (PlacesKey first listed.old.items key.now listed.new.items) }
-    ensures err { IfErr result IsOutOfMemory }
-{
-    let own = &listed[first..];
-    if own.contains(&key) {
-        return Ok(None);
-    }
-    if own.len() < MOST_LISTED {
-        list(listed, key)?;
-        return Ok(Some(Keys::Listed(first)));
-    }
-    let set = indexed(alloc, own, key)?;
-    listed.truncate(first);
-    Ok(Some(Keys::Indexed(set)))
-}
-
 impl<'a> Keys<'a> {
-    /// Adds the key of the next element, which has this number; or answers why the key breaches, and adds nothing.
-    /// The only error is want of memory.
+    /// Adds the key of the next element, which has this number; or returns why the key breaches, and adds nothing.
+    /// The only error is out of memory.
     pub(crate) fn add(
         &mut self,
         alloc: Global,
@@ -130,45 +82,69 @@ impl<'a> Keys<'a> {
             (AddsKey self.old listed.old.items number key.now self.new listed.new.items) }
         ensures err { IfErr result IsOutOfMemory }
     {
-        let first = match self {
-            Keys::Numbers => {
-                return Ok(if is_decimal(key, number) {
-                    None
-                } else {
-                    Some(Cause::ArrayKey)
-                });
-            }
+        match self {
+            Keys::Numbers => Ok(if is_decimal(key, number) {
+                None
+            } else {
+                Some(Cause::ArrayKey)
+            }),
             Keys::Ascending(first) => {
                 let first = *first;
                 if is_behind(&listed[first..], key) {
                     list(listed, key)?;
                     return Ok(None);
                 }
-                first
+                let notes = notes_of(&listed[first..]);
+                self.add_listed(alloc, listed, first, notes, key)
             }
-            Keys::Listed(first) => *first,
-            Keys::Indexed(set) => {
-                return Ok(if insert(set, key)? {
-                    None
-                } else {
-                    Some(Cause::RepeatedKey)
-                });
+            Keys::Listed(first, notes) => {
+                let first = *first;
+                let notes = *notes;
+                self.add_listed(alloc, listed, first, notes, key)
             }
-        };
-        match with_key(alloc, listed, first, key)? {
-            Some(keys) => {
-                *self = keys;
-                Ok(None)
-            }
-            None => Ok(Some(Cause::RepeatedKey)),
+            Keys::Indexed(set) => Ok(if set.insert(alloc, key)? {
+                None
+            } else {
+                Some(Cause::RepeatedKey)
+            }),
         }
+    }
+
+    /// Adds a key to those from this place of the list on, which have these notes. The only error is out of memory.
+    fn add_listed(
+        &mut self,
+        alloc: Global,
+        listed: &mut Vec<&'a str>,
+        first: usize,
+        notes: u64,
+        key: &'a str,
+    ) -> Result<Option<Cause>>
+        requires { AreKeysSoFar (Keys.Listed first notes) listed.old.items }
+        ensures adds { IfOk result
+            (AddsListed first notes listed.old.items key.now self.new listed.new.items) }
+        ensures err { IfErr result IsOutOfMemory }
+    {
+        let note = note_of(key);
+        let own = &listed[first..];
+        if is_among(own, notes, note, key) {
+            return Ok(Some(Cause::RepeatedKey));
+        }
+        if own.len() < MOST_LISTED {
+            list(listed, key)?;
+            *self = Keys::Listed(first, with_note(notes, note));
+            return Ok(None);
+        }
+        let set = indexed(alloc, own, key)?;
+        listed.truncate(first);
+        *self = Keys::Indexed(set);
+        Ok(None)
     }
 
     /// Takes the keys of this level from the list, of which it is the innermost.
     pub(crate) fn leave(&self, listed: &mut Vec<&'a str>)
         ensures { LeavesKeys self.now listed.old.items listed.new.items }
     {
-        if let Keys::Ascending(first) | Keys::Listed(first) = self {
+        if let Keys::Ascending(first) | Keys::Listed(first, _) = self {
             listed.truncate(*first);
         }
     }

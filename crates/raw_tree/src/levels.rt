@@ -1,5 +1,5 @@
 //! The levels of bytes that are being read: what is read of each so far.
-#![tactic(auto, using(std::proofs::lemmas::Grind::common_steps, bson_model::proofs::Trees::tree_laws))]
+#![tactic(auto, using(std::proofs::lemmas::Grind::common_steps, bson_model::proofs::Face::tree_laws))]
 
 ghost use Rattle.std.specs.Prelude.{◌≡◌, Some, drop, IfOk, IfErr, OnOk};
 ghost use Rattle.std.specs.String.{string_bytes};
@@ -58,7 +58,7 @@ pub(crate) enum Opened<'a> {
     Nested(Nested<'a>),
 }
 
-/// The pointer with a namespace of its own; the only error is want of memory. BSON 1.1, `element`, DBPointer.
+/// The pointer with a namespace of its own; the only error is out of memory. BSON 1.1, `element`, DBPointer.
 pub fn copied_pointer(alloc: Global, pointer: RawDbPointerRef<'_>) -> Result<DbPointer>
     ensures namespace { IfOk result
         (λ p. string_bytes p.namespace ≡ namespace_of pointer.entry) }
@@ -137,7 +137,7 @@ pub(crate) fn begin<'a>(alloc: Global, nested: Nested<'a>) -> Level<'a>
     }
 }
 
-/// The value that holds these contents; the only error is want of memory, for the copy of a code.
+/// The value that holds these contents; the only error is out of memory, for the copy of a code.
 #[inline(always)]
 pub(crate) fn close(alloc: Global, contents: Contents<'_>) -> Result<Bson>
     ensures closed { IfOk result (Closes contents.entry) }
@@ -153,7 +153,7 @@ pub(crate) fn close(alloc: Global, contents: Contents<'_>) -> Result<Bson>
     }
 }
 
-/// Puts a pair last, or where its key stands; the only error is want of memory.
+/// Puts a pair last, or where its key is; the only error is out of memory.
 #[inline(always)]
 fn put_pair(alloc: Global, document: &mut Document, key: &str, value: Bson) -> Result<()>
     ensures put { OnOk result (with_trees (pairs_of document.new)
@@ -164,7 +164,7 @@ fn put_pair(alloc: Global, document: &mut Document, key: &str, value: Bson) -> R
     Ok(())
 }
 
-/// Puts a value last, in a document under this key or where the key stands; the only error is want of
+/// Puts a value last, in a document under this key or where the key is; the only error is out of
 /// memory.
 #[inline(always)]
 pub(crate) fn put(alloc: Global, contents: &mut Contents<'_>, key: &str, value: Bson) -> Result<()>

@@ -16,7 +16,12 @@ use raw_view::{Error, RawDocument, Reason, Result};
 use std::alloc::Global;
 
 /// What a document from outside may cost: so many bytes at most, and so many levels. The document is the first
-/// level; a document, an array or a scope that stands in a level is one deeper.
+/// level; a document, an array or a scope in a level is one deeper.
+/// ```
+/// let document = RawDocument::from_bytes(b"\x14\0\0\0\x03a\0\x0C\0\0\0\x10b\0\x07\0\0\0\0\0")?;
+/// let limits = Limits { bytes: 1000, depth: 1 };
+/// assert!(rt; document_from_raw_within(alloc, document, limits).is_err());
+/// ```
 #[derive(Clone, Copy, Debug, PartialEq, Eq)]
 pub struct Limits {
     /// how many bytes it may have
@@ -25,12 +30,17 @@ pub struct Limits {
     pub depth: usize,
 }
 
-/// The tree of a document that keeps to these limits. It refuses one of more bytes as too many, before anything
-/// is read; else it answers the first, depth first in byte order, of a fault at any level, with the key that this
+/// The tree of a document that keeps to these limits. It fails first if there are more bytes, before anything
+/// is read; else with the first, depth first in byte order, of a fault at any level, with the key that this
 /// fault itself carries, and of the entry into a level that is too deep, which has no key; or memory runs out. No
 /// level that is too deep is entered, and no memory is asked for one. Every document is read as no more than one
-/// tree within the limits, and either that or it is refused for one reason. Its tree is written back as its own
+/// tree within the limits, and either that or has one reason to fail. Its tree is written back as its own
 /// bytes exactly where it is canonical. BSON 1.1, `document`.
+/// ```
+/// let document = RawDocument::from_bytes(b"\x0C\0\0\0\x10a\0\x01\0\0\0\0")?;
+/// let limits = Limits { bytes: 1000, depth: 10 };
+/// assert!(rt; document_from_raw_within(alloc, document, limits).is_ok());
+/// ```
 pub fn document_from_raw_within(
     alloc: Global,
     document: RawDocument<'_>,
@@ -53,6 +63,6 @@ pub fn document_from_raw_within(
     };
     match read(alloc, nested, limits.depth, &mut Steps::new())? {
         Contents::Document(_, tree) => Ok(tree),
-        _ => unreachable!(),
+        Contents::Array(_) => unreachable!(),
     }
 }

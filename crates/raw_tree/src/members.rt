@@ -1,5 +1,5 @@
 //! What a tree holds, member by member: the pairs of a document or of a scope, the values of a list.
-#![tactic(auto, using(std::proofs::lemmas::Grind::common_steps, bson_model::proofs::Trees::tree_laws))]
+#![tactic(auto, using(std::proofs::lemmas::Grind::common_steps, bson_model::proofs::Face::tree_laws))]
 
 ghost use Rattle.std.specs.Prelude.{◌≡◌, ◌≤◌, ◌<◌, ◌+◌, ◌^◌, length, decimal, IfSome, IfNone};
 ghost use Rattle.bson_model.specs.Tree.{tree_of, tree_of_document, tree_of_list};

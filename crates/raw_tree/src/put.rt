@@ -1,6 +1,7 @@
 //! The writer: what is put at the end of bytes that have room for it. Nothing is judged, sized or reserved here.
 
 ghost use Rattle.std.specs.Prelude.{◌≡◌, ◌≤◌, ◌+◌, ◌-◌, ◌++◌, ◌∷◌, [], pos, length, take, drop, vec_len, vec_capacity};
+ghost use Rattle.raw_tree.specs.Members.{unset};
 ghost use Rattle.raw_tree.specs.Payload.{payload_of, element_bytes};
 ghost use Rattle.raw_view.specs.Document.{bytes_of};
 ghost use Rattle.raw_view.specs.ElementSteps.{frame_of};
@@ -28,6 +29,17 @@ pub(crate) fn put(out: &mut Vec<u8>, bytes: &[u8])
     };
 }
 
+/// Puts the four bytes of a length at the end, where there is room for them; `set_len` sets it later.
+#[inline(always)]
+pub fn put_unset(out: &mut Vec<u8>)
+    requires { vec_len out.old + 4 ≤ vec_capacity out.old }
+    ensures items { out.new.items ≡ out.old.items ++ unset }
+    ensures len { vec_len out.new ≡ vec_len out.old + 4 }
+    ensures capacity { vec_capacity out.old ≤ vec_capacity out.new }
+{
+    put(out, &[0; 4]);
+}
+
 #[inline(always)]
 fn put_len(out: &mut Vec<u8>, len: usize)
     requires room { vec_len out.old + 4 ≤ vec_capacity out.old }
@@ -39,8 +51,9 @@ fn put_len(out: &mut Vec<u8>, len: usize)
     put(out, &(len as i32).to_le_bytes()[..]);
 }
 
+/// Puts the length of a text with its 0, the text and the 0 at the end, where there is room for them. BSON 1.1, `string`.
 #[inline(always)]
-pub(crate) fn put_string(out: &mut Vec<u8>, text: &str)
+pub fn put_string(out: &mut Vec<u8>, text: &str)
     requires room { vec_len out.old + length (string_payload text.now) ≤ vec_capacity out.old }
     requires fits { length (string_payload text.now) ≤ max_length }
     ensures items { out.new.items ≡ out.old.items ++ string_payload text.now }
@@ -176,7 +189,7 @@ pub(crate) fn put_payload(out: &mut Vec<u8>, value: RawBsonRef<'_>)
 
 /// Puts a tag, a key and its 0 at the end, where there is room for them.
 #[inline(always)]
-pub(crate) fn put_head(out: &mut Vec<u8>, tag: u8, key: &str)
+pub fn put_head(out: &mut Vec<u8>, tag: u8, key: &str)
     requires { vec_len out.old + (length key.now + 2) ≤ vec_capacity out.old }
     ensures items { out.new.items ≡ out.old.items ++ tagged tag key.now [] }
     ensures len { vec_len out.new ≡ vec_len out.old + (length key.now + 2) }
@@ -201,7 +214,7 @@ pub fn put_element(out: &mut Vec<u8>, key: &str, value: RawBsonRef<'_>)
     put_payload(out, value);
 }
 
-/// Puts an element as it stands at the end, where there is room for it.
+/// Puts an element as it is at the end, where there is room for it.
 #[inline(always)]
 pub fn put_raw_element(out: &mut Vec<u8>, element: RawElement<'_>)
     requires { vec_len out.old + (length (frame_of element).key + (2 + length (frame_of element).payload))

@@ -1,5 +1,5 @@
-//! The trees that bytes stand for.
-#![tactic(auto, using(std::proofs::lemmas::Grind::common_steps, bson_model::proofs::Trees::tree_laws))]
+//! The trees that bytes are read as.
+#![tactic(auto, using(std::proofs::lemmas::Grind::common_steps, bson_model::proofs::Face::tree_laws))]
 
 ghost use Rattle.std.specs.Prelude.{◌≡◌, ◌≤◌, ◌-◌, ◌/◌, length, IfOk, IfErr};
 ghost use Rattle.bson_model.specs.Tree.{tree_of, tree_of_document, tree_of_list};
@@ -91,7 +91,7 @@ fn read_list(alloc: Global, array: RawArray<'_>) -> Result<Vec<Bson>>
     };
     match read_all(alloc, nested, &mut Steps::new())? {
         Contents::Array(list) => Ok(list),
-        _ => unreachable!(),
+        Contents::Document(..) => unreachable!(),
     }
 }
 
@@ -106,10 +106,15 @@ fn read_value(alloc: Global, value: RawBsonRef<'_>) -> Result<Bson>
 }
 
 /// The tree of a document: its pairs in order, a repeated key in the place of its first occurrence with the
-/// value of its last. It refuses exactly where a fault is at any level, also in a value that a later one
-/// would replace, and answers the first, depth first in byte order, with the key that this fault itself
+/// value of its last. It fails exactly if a fault is at any level, also in a value that a later one
+/// would replace, with the first, depth first in byte order, and the key that this fault itself
 /// carries; or memory runs out. Every document has no more than one tree, and either that or a first fault.
 /// Its tree is written back as its own bytes exactly where it is canonical. BSON 1.1, `document`.
+/// ```
+/// let document = RawDocument::from_bytes(b"\x13\0\0\0\x10a\0\x01\0\0\0\x10a\0\x02\0\0\0\0")?;
+/// let tree = document_from_raw(alloc, document)?;
+/// assert_eq!(rt; tree.get("a"), Some(&Bson::Int32(2)));
+/// ```
 pub fn document_from_raw(alloc: Global, document: RawDocument<'_>) -> Result<Document>
     ensures tree { IfOk result (λ d. Reads (bytes_of document.entry) (tree_of_document d)) }
     ensures fault { IfErr result (TellsFirstFault (bytes_of document.entry)) }
@@ -120,9 +125,14 @@ pub fn document_from_raw(alloc: Global, document: RawDocument<'_>) -> Result<Doc
     tree
 }
 
-/// The answer of `document_from_raw`, and how many elements were framed for it, at all levels: on success as
+/// The result of `document_from_raw`, and how many elements were framed for it, at all levels: on success as
 /// many as the document has; on a fault those up to it, with the element that has it, if it is no stop;
 /// where memory ran out, no more than that. Of n bytes never more than (n - 4) / 2. BSON 1.1, `document`.
+/// ```
+/// let document = RawDocument::from_bytes(b"\x0C\0\0\0\x10a\0\x01\0\0\0\0")?;
+/// let (tree, steps) = document_from_raw_counted(alloc, document);
+/// assert!(rt; tree.is_ok() && steps.count() == 1);
+/// ```
 pub fn document_from_raw_counted(
     alloc: Global,
     document: RawDocument<'_>,
@@ -143,14 +153,19 @@ pub fn document_from_raw_counted(
     };
     let tree = match read_all(alloc, nested, &mut steps) {
         Ok(Contents::Document(_, tree)) => Ok(tree),
-        Ok(_) => unreachable!(),
+        Ok(Contents::Array(_)) => unreachable!(),
         Err(error) => Err(error),
     };
     (tree, steps)
 }
 
-/// The values of an array in order; its keys are left away. It refuses what `document_from_raw` does, and
+/// The values of an array in order; its keys are left away. It fails as `document_from_raw` does, and
 /// the same holds of every array. BSON 1.1, `array`.
+/// ```
+/// let array = RawArray::from_doc(RawDocument::from_bytes(b"\x13\0\0\0\x10a\0\x01\0\0\0\x10b\0\x02\0\0\0\0")?);
+/// let list = list_from_raw(alloc, array)?;
+/// assert_eq!(rt; list.as_slice(), [Bson::Int32(1), Bson::Int32(2)].as_slice());
+/// ```
 pub fn list_from_raw(alloc: Global, array: RawArray<'_>) -> Result<Vec<Bson>>
     ensures tree { IfOk result
         (λ list. ReadsAs as_array (array_bytes_of array.entry) (tree_of_list list.items)) }
@@ -163,7 +178,10 @@ pub fn list_from_raw(alloc: Global, array: RawArray<'_>) -> Result<Vec<Bson>>
 
 /// The value with parts of its own: of a nested document, an array or a scope the tree of its bytes, of a
 /// regular expression one with its options' characters in ascending order. The errors are the first fault
-/// of the nested bytes, with the key that this fault itself carries, and want of memory.
+/// of the nested bytes, with the key that this fault itself carries, and out of memory.
+/// ```
+/// assert_eq!(rt; bson_from_raw(alloc, RawBsonRef::Int32(7))?, Bson::Int32(7));
+/// ```
 pub fn bson_from_raw(alloc: Global, value: RawBsonRef<'_>) -> Result<Bson>
     ensures tree { IfOk result (λ t. StandsFor ReadsAs (value_of value.entry) (tree_of t)) }
     ensures fault { IfErr result (TellsFirstFaultOfValue (value_of value.entry)) }

@@ -25,7 +25,7 @@ struct Judged<'a> {
     keys: Keys<'a>,
 }
 
-/// What stands next in a level.
+/// What is next in a level.
 #[derive(Drop)]
 enum Step<'a> {
     /// the final 0
@@ -60,7 +60,7 @@ impl<'a> Judged<'a> {
     }
 
     /// Judges the next element: its key, then its value; what is inside the value is a level of its own. The only
-    /// error is want of memory.
+    /// error is out of memory.
     #[inline(always)]
     fn step(&mut self, alloc: Global, listed: &mut Vec<&'a str>) -> Result<Step<'a>>
         requires { IsLevel listed.old.items self.old }
@@ -110,7 +110,7 @@ fn judge_value<'a>(value: RawBsonRef<'a>, listed: &[&'a str]) -> Step<'a>
 }
 
 /// The numbers of the elements at which these levels wait, from the outermost on, and this one behind them. The only
-/// error is want of memory.
+/// error is out of memory.
 fn path_to(alloc: Global, waiting: &[Judged<'_>], number: usize) -> Result<Vec<usize>>
     ensures path { IfOk result
         (λ path. path.items ≡ map (λ level. level.number) waiting.now ++ number ∷ []) }
@@ -134,7 +134,7 @@ fn put_number(path: &mut Vec<usize>, number: usize) -> Result<()>
     }
 }
 
-/// The first breach of a document, if it isn't canonical. The only error is want of memory.
+/// The first breach of a document, if it isn't canonical. The only error is out of memory.
 fn first_breach(alloc: Global, document: RawDocument<'_>) -> Result<Option<Breach>>
     ensures breach { IfOk result (TellsBreach (bytes_of document.entry)) }
     ensures err { IfErr result IsOutOfMemory }
@@ -170,8 +170,13 @@ fn first_breach(alloc: Global, document: RawDocument<'_>) -> Result<Option<Breac
 /// Whether a document is canonical: `None` exactly where it is, and it then has a tree, which is written back as its
 /// own bytes; else the first place, depth first in byte order, where it fails to be, and why. At each element the key
 /// is judged first, then the value, then what is inside. No tree is built, and no depth fills the stack; memory is
-/// taken for the keys of the levels that are open and for the path, and the only error is want of it. BSON 1.1,
+/// taken for the keys of the levels that are open and for the path, and the only error is out of memory. BSON 1.1,
 /// `document`.
+/// ```
+/// let document = RawDocument::from_bytes(b"\x13\0\0\0\x10a\0\x01\0\0\0\x10a\0\x02\0\0\0\0")?;
+/// let Some(breach) = validate(alloc, document)? else { return Ok(()) };
+/// assert_eq!(rt; (breach.cause, breach.path.as_slice()), (Cause::RepeatedKey, [1].as_slice()));
+/// ```
 pub fn validate(alloc: Global, document: RawDocument<'_>) -> Result<Option<Breach>>
     ensures breach { IfOk result (TellsBreach (bytes_of document.entry)) }
     ensures err { IfErr result IsOutOfMemory }

@@ -1,5 +1,5 @@
 //! Trees of values as bytes.
-#![tactic(auto, using(std::proofs::lemmas::Grind::common_steps, bson_model::proofs::Trees::tree_laws))]
+#![tactic(auto, using(std::proofs::lemmas::Grind::common_steps, bson_model::proofs::Face::tree_laws))]
 
 ghost use Rattle.std.specs.Prelude.{◌≡◌, ◌≤◌, ◌+◌, ◌++◌, ◌∷◌, [], vec_len, vec_capacity, IfOk, IfErr, OnOk};
 ghost use Rattle.bson_model.specs.Bytes.{AreBytes};
@@ -15,7 +15,7 @@ ghost use Rattle.raw_view.specs.Number.{max_length};
 
 use crate::judging::judged;
 use crate::members::{Container, Key, Members, Shown, show};
-use crate::put::{put, put_element, put_head, put_string, set_len};
+use crate::put::{put_element, put_head, put_string, put_unset, set_len};
 use crate::total::total_len;
 use bson_model::{Bson, Document};
 use itoa::Buffer;
@@ -53,11 +53,11 @@ fn put_opening(out: &mut Vec<u8>, container: Container<'_>)
     ensures capacity { vec_capacity out.old ≤ vec_capacity out.new }
 {
     match container {
-        Container::Document(_) | Container::Array(_) => put(out, &[0; 4]),
+        Container::Document(_) | Container::Array(_) => put_unset(out),
         Container::Code(code) => {
-            put(out, &[0; 4]);
+            put_unset(out);
             put_string(out, &code.code);
-            put(out, &[0; 4]);
+            put_unset(out);
         }
     }
 }
@@ -112,7 +112,7 @@ fn text<'a>(key: Key<'a>, buffer: &'a mut Buffer) -> &'a str
 }
 
 /// Puts the payload of a container into these empty bytes, which have room for it. The containers round the one
-/// whose members are put wait in memory; the only error is want of it.
+/// whose members are put wait in memory; the only error is out of memory.
 fn write(alloc: Global, out: &mut Vec<u8>, container: Container<'_>) -> Result<()>
     requires empty { out.old.items ≡ [] }
     requires room { encoded_len (tree_of_container container) ≤ vec_capacity out.old }
@@ -161,11 +161,16 @@ fn room_for(alloc: Global, judged: Option<usize>) -> Result<Vec<u8>>
     Ok(Vec::with_capacity(alloc, len)?)
 }
 
-/// The bytes of a document. BSON 1.1, `document`. It refuses, without a key, first where a key, a pattern or
+/// The bytes of a document. BSON 1.1, `document`. It fails, without a key, first if a key, a pattern or
 /// options at any depth hold a 0, then where the bytes would be over 2147483647, and then where memory runs
 /// out; it reserves the whole once. Of every document's tree without such a 0, whose options never descend
-/// and whose subtypes are those that their bytes stand for, what is written is canonical, and is read as
+/// and whose subtypes are those that their bytes give, what is written is canonical, and is read as
 /// that very tree; that the tree of a `Document` is well formed, `attest_document` says.
+/// ```
+/// let mut tree = Document::new(alloc);
+/// tree.put(String::from_str(alloc, "a")?, Bson::Int32(1))?;
+/// assert_eq!(rt; encode(alloc, &tree)?.as_slice(), b"\x0C\0\0\0\x10a\0\x01\0\0\0\0".as_slice());
+/// ```
 pub fn encode(alloc: Global, document: &Document) -> Result<Vec<u8>>
     ensures ok { IfOk result (λ bytes. IsEncoded (tree_of_document document.now) bytes.items) }
     ensures envelope { IfOk result (λ bytes. IsEnvelope bytes.items) }
@@ -178,7 +183,7 @@ pub fn encode(alloc: Global, document: &Document) -> Result<Vec<u8>>
     Ok(out)
 }
 
-/// The bytes of a list, its keys the decimals from 0. BSON 1.1, `array`. It refuses what `encode` does, in
+/// The bytes of a list, its keys the decimals from 0. BSON 1.1, `array`. It fails as `encode` does, in
 /// the same order. What is written of every list comes back likewise.
 pub fn encode_list(alloc: Global, values: &[Bson]) -> Result<Vec<u8>>
     ensures ok { IfOk result (λ bytes. IsEncoded (tree_of_list values.now) bytes.items) }

@@ -1,9 +1,12 @@
 //! Tests of what `raw_bson` does with trees: reading them, writing them, counts, limits and the validator, and of the first
-//! barriers of `raw_form`. They are apart from `bson_tests`, so that both are proved side by side.
+//! barriers, the verdicts and the canonical forms of `raw_form`. They are apart from `bson_tests`, so that both are proved
+//! side by side.
 #![tactic(auto)]
 
 #[cfg(test)]
 mod barriers;
+#[cfg(test)]
+mod by_tree;
 #[cfg(test)]
 mod checks;
 #[cfg(test)]
@@ -15,7 +18,11 @@ mod depth;
 #[cfg(test)]
 mod encodings;
 #[cfg(test)]
+mod forms;
+#[cfg(test)]
 mod limits;
+#[cfg(test)]
+mod made;
 #[cfg(test)]
 mod readings;
 #[cfg(test)]
@@ -24,3 +31,5 @@ mod trees;
 mod trees_fixtures;
 #[cfg(test)]
 mod validation;
+#[cfg(test)]
+mod verdicts;

@@ -1,5 +1,6 @@
 use bson_fixtures::{check_debug_text, holds};
-use raw_bson::{Breach, Cause, RawDocument, validate};
+use raw_bson::{Breach, Cause, Limits, RawDocument, validate};
+use raw_form::{Place, validate_within};
 use std::alloc::{AllocError, Global};
 use std::test::Fail;
 use test_fixtures::*;
@@ -171,11 +172,39 @@ fn is_found(found: &Option<Breach>, wanted: Wanted<'_>) -> bool {
     }
 }
 
+/// Whether the place has these numbers.
+fn is_at(place: &Place<'_>, path: &[usize]) -> bool {
+    if place.path.len() != path.len() {
+        return false;
+    }
+    for (step, number) in place.path.iter().zip(path) {
+        if step.number != *number {
+            return false;
+        }
+    }
+    true
+}
+
+/// Whether it is also the wanted one within 600 levels.
+fn is_found_within(alloc: Global, view: RawDocument<'_>, wanted: Wanted<'_>) -> bool {
+    let limits = Limits {
+        bytes: view.as_bytes().len(),
+        depth: 600,
+    };
+    match (validate_within(alloc, view, limits), wanted) {
+        (Ok(Some(breach)), Some((path, cause))) => {
+            breach.cause == cause && is_at(&breach.place, path)
+        }
+        (Ok(None), None) => true,
+        _ => false,
+    }
+}
+
 /// Where there is no breach wanted, the document is canonical; else its first breach is this one.
 fn check_validated(alloc: Global, bytes: &[u8], wanted: Wanted<'_>) -> Result<(), Fail> {
     let view = RawDocument::from_bytes(bytes)?;
     let found = validate(alloc, view)?;
-    if is_found(&found, wanted) {
+    if is_found(&found, wanted) && is_found_within(alloc, view, wanted) {
         Ok(())
     } else {
         Err(Fail::new(format_args!("{found:?} where {wanted:?} is wanted in {view:?}")))

@@ -9,7 +9,7 @@ returns-then-as_bytes-limits-clause-one_answer c = answered_one_way c.args.limit
 
 pub returns-clause-barrier : goal.returns-clause-barrier
 returns-clause-barrier c =
-    barrier_told c.args.limits (bytes_of c.args.document) c.first_to_depth.result (omega (arith, ap length c.as_bytes.ensures.bytes)) c.first_to_depth.ensures.told
+    barrier_told c.args.limits (bytes_of c.args.document) c.first_behind.result (omega (arith, ap length c.as_bytes.ensures.bytes)) c.first_behind.ensures.told
 
 pub returns-clause-one_answer : goal.returns-clause-one_answer
 returns-clause-one_answer c = answered_one_way c.args.limits

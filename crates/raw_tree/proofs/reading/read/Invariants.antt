@@ -5,7 +5,7 @@ use Rattle.raw_tree.proofs.Stacks.{IsReading, AreWaiting}
 use Rattle.raw_tree.proofs.LevelSteps.{left_of, left_in}
 use Rattle.raw_tree.proofs.reading.read.Given as goal
 
--- the innermost level reads some bytes, for which the others wait; so many levels may stand inside it; and what the
+-- the innermost level reads some bytes, for which the others wait; so many levels may be inside it; and what the
 -- levels have passed is counted
 abbrev pub invariant-levels : goal.invariant-levels
 invariant-levels l =

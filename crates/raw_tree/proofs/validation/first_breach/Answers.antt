@@ -1,7 +1,8 @@
 use Rattle.std.proofs.Common.{rules, ◌≡◌, ◌++◌, ◌∷◌, [], Bor, List, ℕ, map, arith, refl, ◌∙◌, subst}
 use Rattle.raw_view.specs.Document.{bytes_of}
 use Rattle.raw_tree.specs.Reading.{as_document}
-use Rattle.raw_tree.specs.Validating.{texts, IsJudged, TellsStep}
+use Rattle.raw_tree.specs.References.{texts}
+use Rattle.raw_tree.specs.Validating.{IsJudged, TellsStep}
 use Rattle.raw_tree.specs.declared.validation.Judged.{Judged}
 use Rattle.raw_tree.specs.declared.validation.Step.{Step}
 use Rattle.raw_tree.proofs.Judgement.{AreAwaiting, awaiting_more, awaiting_less, outward_breach, level_resumes, few_awaiting, level_begins, whole_canonical}

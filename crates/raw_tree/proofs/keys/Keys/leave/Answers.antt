@@ -1,16 +1,14 @@
 use Rattle.std.proofs.Common.{inl, inr, ap, subst, ◌∙◌}
-use Rattle.raw_tree.specs.Validating.{HasKeys, texts}
+use Rattle.raw_tree.specs.References.{texts}
+use Rattle.raw_tree.specs.Validating.{HasKeys}
 use Rattle.raw_tree.specs.declared.keys.Keys.{Keys}
-use Rattle.raw_tree.specs.declared.keys.Keys.TheVariants as keys
-use Rattle.raw_tree.proofs.LevelKeys.{listed_of, texts_front}
+use Rattle.raw_tree.proofs.LevelKeys.{texts_front}
 use Rattle.raw_tree.proofs.keys.Keys.leave.Goals as goal
 
 pub returns-in-Ascending : goal.returns-in-Ascending
 returns-in-Ascending c sort below own h =
     let refs = c.args.listed.now.items in
-    let first = c.in-Ascending.first in
-    let has : HasKeys (keys.Listed first) refs sort below own = elim c.in-Ascending.is [
-      | inl is ↦ listed_of refs sort below own first (subst (λ (k : Keys). HasKeys k refs sort below own) is h)
-      | inr is ↦ subst (λ (k : Keys). HasKeys k refs sort below own) is h
-    ] in
-    ap texts c.truncate.ensures.items ∙ texts_front refs below own first has.1 has.2
+    elim c.in-Ascending.is [
+      | inl is ↦ (let has = subst (λ (k : Keys). HasKeys k refs sort below own) is h in ap texts c.truncate.ensures.items ∙ texts_front refs below own c.in-Ascending.first has.1 has.2)
+      | inr is ↦ (let has = subst (λ (k : Keys). HasKeys k refs sort below own) is.1 h in ap texts c.truncate.ensures.items ∙ texts_front refs below own c.in-Ascending.first has.1 has.2)
+    ]

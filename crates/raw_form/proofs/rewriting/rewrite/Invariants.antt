@@ -1,0 +1,12 @@
+use Rattle.std.proofs.Common.{◌-◌, length}
+use Rattle.raw_view.specs.Document.{bytes_of}
+use Rattle.raw_view.specs.Number.{max_length}
+use Rattle.raw_form.proofs.Writing.{IsRewriting}
+use Rattle.raw_form.proofs.rewriting.rewrite.Given as goal
+
+abbrev pub invariant-levels : goal.invariant-levels
+invariant-levels l = IsRewriting (bytes_of l.fn.document) l.waiting.items l.level l.out.items
+
+-- each step writes, and no document is longer than this
+abbrev pub decreases-levels : goal.decreases-levels
+decreases-levels l = max_length - length l.out.items

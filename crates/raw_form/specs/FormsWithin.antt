@@ -1,0 +1,19 @@
+-- Canonical forms within limits, without a tree.
+use Rattle.std.specs.Prelude.{◌⊎◌, ℕ, List}
+use Rattle.bson_model.specs.Tree.{Tree}
+use Rattle.raw_view.specs.Envelope.{IsEnvelope}
+use Rattle.raw_view.specs.Errors.{TellsRefusal}
+use Rattle.raw_view.specs.declared.error.Error.{Error}
+use Rattle.raw_tree.specs.CanonicalForm.{IsCanonicalForm, TellsTooLong}
+use Rattle.raw_tree.specs.WithinLimits.{ReadsWithin, TellsFirstBarrier}
+use Rattle.raw_tree.specs.declared.limits.Limits.{Limits}
+
+-- a is the canonical form of the document b, which is within the limits
+pub record IsFormWithin (limits : Limits) (b a : List ℕ) : Type 0 where
+  pub form : IsCanonicalForm b a
+  pub within : (t : Tree) × ReadsWithin limits b t
+
+-- Why there is none: the first reason for which these bytes have no envelope; else that they are too many; else the first
+-- barrier of the document, or out of memory; else that the encoding of its tree would be too long.
+abbrev pub RefusesFormWithin : Limits → List ℕ → Error → Type 0
+RefusesFormWithin limits b e = TellsRefusal b e ⊎ (IsEnvelope b × (TellsFirstBarrier limits b e ⊎ ((t : Tree) × ReadsWithin limits b t × TellsTooLong t e)))

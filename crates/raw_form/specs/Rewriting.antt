@@ -1,0 +1,108 @@
+-- What is kept of a level that is rewritten, and what its helpers tell. No public contract cites this file.
+use Rattle.std.specs.Prelude.{◌≡◌, ◌⊎◌, ◌<◌, ◌≤◌, ◌+◌, ◌^◌, ◌++◌, ℕ, List, [], ◌∷◌, Option, None, Some, length, map}
+use Rattle.bson_model.specs.Tree.{Tree, leaf, array, document, code_with_scope, trees, entries}
+use Rattle.raw_view.specs.Document.{bytes_of}
+use Rattle.raw_view.specs.ElementSteps.{frame_of}
+use Rattle.raw_view.specs.Errors.{IsOutOfMemory, key_of}
+use Rattle.raw_view.specs.Format.{string_payload}
+use Rattle.raw_view.specs.Meaning.{RawValue}
+use Rattle.raw_view.specs.Meaning as raw
+use Rattle.raw_view.specs.Number.{max_length}
+use Rattle.raw_view.specs.declared.element.RawElement.{RawElement}
+use Rattle.raw_view.specs.declared.element_type.ElementType.{ElementType}
+use Rattle.raw_view.specs.declared.element_type.ElementType.TheVariants as kind
+use Rattle.raw_view.specs.declared.error.Error.{Error}
+use Rattle.raw_view.specs.declared.error.ErrorKind.TheVariants.{MalformedValue}
+use Rattle.raw_view.specs.declared.error.Reason.TheVariants.{TooLong}
+use Rattle.raw_tree.specs.Members.{MemberKey, text, number, numbered, keyed, measured, unset}
+use Rattle.raw_tree.specs.Reading.{ReadsAs, ReadsRest, FrameStandsFor}
+use Rattle.raw_tree.specs.Validating.{left_of}
+use Rattle.raw_form.specs.Staying.{IsLeftAt}
+use Rattle.raw_form.specs.declared.held.Held.{Held}
+use Rattle.raw_form.specs.declared.held.Held.TheVariants as held
+use Rattle.raw_form.specs.declared.rewritten.Keys.{Keys}
+use Rattle.raw_form.specs.declared.rewritten.Keys.TheVariants as keys
+use Rattle.raw_form.specs.declared.rewritten.Member.{Member}
+
+-- out of memory; or so many bytes are too many for a document
+abbrev pub FailsFor : ℕ → Error → Type 0
+FailsFor n e = IsOutOfMemory e ⊎ ((max_length < n) × (e.kind ≡ MalformedValue TooLong) × (key_of e ≡ None))
+
+-- values of this kind hold no level and no options
+abbrev pub IsPlain : ElementType → Type 0
+IsPlain kind.EmbeddedDocument = ⊥
+IsPlain kind.Array = ⊥
+IsPlain kind.JavaScriptCodeWithScope = ⊥
+IsPlain kind.RegularExpression = ⊥
+IsPlain k = Unit {0}
+
+-- values that hold a level
+
+abbrev pub held_value : Held → RawValue
+held_value (held.Document d) = raw.document (bytes_of d)
+held_value (held.Array d) = raw.array (bytes_of d)
+held_value (held.Code code d) = raw.scoped code.now (bytes_of d)
+
+-- the value holds no level, or this one
+abbrev pub ShowsHeld : RawValue → Option Held → Type 0
+ShowsHeld (raw.single l) h = h ≡ None
+ShowsHeld (raw.document d) None = ⊥
+ShowsHeld (raw.array d) None = ⊥
+ShowsHeld (raw.scoped code d) None = ⊥
+ShowsHeld v (Some h) = v ≡ held_value h
+
+-- what its payload begins with, with the lengths not set
+abbrev pub held_opening : Held → List ℕ
+held_opening (held.Document d) = unset
+held_opening (held.Array d) = unset
+held_opening (held.Code code d) = unset ++ string_payload code.now ++ unset
+
+-- of code with a scope the length of the code, and of other trees none
+abbrev pub HasCode : Tree → Option ℕ → Type 0
+HasCode (leaf l) len = ⊥
+HasCode (array ts) len = len ≡ None
+HasCode (document es) len = len ≡ None
+HasCode (code_with_scope code es) len = len ≡ Some (length code)
+
+-- how many bytes are in front of the members
+abbrev pub header_len : Option ℕ → ℕ
+header_len None = 4
+header_len (Some n) = 13 + n
+
+-- the bytes whose last is the end of a payload that starts at a place, with its lengths set
+abbrev pub ended_by : Option ℕ → ℕ → List ℕ → List ℕ
+ended_by None start b = measured start b
+ended_by (Some n) start b = measured start (measured (start + 9 + n) b)
+
+-- what is left of a level
+
+-- what is left to read stands for these pairs
+abbrev pub IsRest : Option (List ℕ) → List (List ℕ × Tree) → Type 0
+IsRest None pairs = ⊥
+IsRest (Some s) pairs = ReadsRest ReadsAs s pairs
+
+-- no pair is left; or the element is that of the first, and the others are left
+abbrev pub TakesPair : Option (List ℕ) → List (List ℕ × Tree) → Option RawElement → Option (List ℕ) → Type 0
+TakesPair old pairs None new = pairs ≡ []
+TakesPair old pairs (Some e) new =
+    (t : Tree) × (rest : List (List ℕ × Tree)) × (pairs ≡ ((frame_of e).key, t) ∷ rest) × FrameStandsFor (frame_of e) t × IsRest new rest × (left_of new + 2 ≤ left_of old)
+
+-- these members are left to be written
+abbrev pub IsLeft : Keys → Option (List ℕ) → List (MemberKey × Tree) → Type 0
+IsLeft (keys.Numbers n) left ms = (n + left_of left < 2 ^ 64) × (pairs : List (List ℕ × Tree)) × IsRest left pairs × (ms ≡ numbered n (trees (map (λ p. p.1) pairs)))
+IsLeft keys.Distinct left ms = (pairs : List (List ℕ × Tree)) × IsRest left pairs × (ms ≡ keyed (entries pairs))
+IsLeft (keys.Repeated last) left ms = IsLeftAt last.value left ms
+
+-- the key under which a member is written
+abbrev pub numbered_key : Option ℕ → List ℕ → MemberKey
+numbered_key None key = text key
+numbered_key (Some n) key = number n
+
+abbrev pub member_key : Member → MemberKey
+member_key m = numbered_key m.number (frame_of m.element).key
+
+-- no member is left; or this is the first, and the others are left
+abbrev pub TakesNext : List (MemberKey × Tree) → Option Member → Keys → Option (List ℕ) → Type 0
+TakesNext ms None k left = ms ≡ []
+TakesNext ms (Some m) k left =
+    (t : Tree) × (rest : List (MemberKey × Tree)) × (ms ≡ (member_key m, t) ∷ rest) × FrameStandsFor (frame_of m.element) t × IsLeft k left rest

@@ -1,0 +1,86 @@
+-- The elements of all levels of a document, depth first, as tokens; and what ends a flattening. The bytes b of a document,
+-- or of an array, have an envelope.
+use Rattle.std.specs.Prelude.{◌≡◌, ◌+◌, ◌++◌, ◌∷◌, [], ℕ, suc, zero, List, map, drop, length, Option, None, Result, Ok, Err}
+use Rattle.std.specs.Option.{option_copied}
+use Rattle.bson_model.specs.Tree.{Tree}
+use Rattle.raw_view.specs.Frame.{Frame, IsWalk, Done}
+use Rattle.raw_view.specs.Kind.{tag_of}
+use Rattle.raw_view.specs.Meaning.{RawValue, Means, value}
+use Rattle.raw_view.specs.Meaning as raw
+use Rattle.raw_tree.specs.WithinLimits.{ReadsWithin, FirstBarrier}
+use Rattle.raw_tree.specs.WithinLimits as within
+use Rattle.raw_tree.specs.declared.limits.Limits.{Limits}
+use Rattle.raw_form.specs.Barriers.{IsBarrier}
+use Rattle.raw_form.specs.Looking.{size_of}
+use Rattle.raw_form.specs.Places.{Step, FirstBarrierAt}
+use Rattle.raw_form.specs.declared.token.Token.{Token}
+use Rattle.raw_form.specs.declared.token.Halt.{Halt}
+
+-- this is the token of a frame at this offset, in a level that so many others are around, with so many tokens inside: its
+-- key is behind the tag, and its payload behind the key and a 0
+pub record IsTokenOf (depth offset : ℕ) (f : Frame) (inside : ℕ) (t : Token) : Type 0 where
+  pub tag : t.tag ≡ tag_of f.kind
+  pub depth_is : t.depth ≡ depth
+  pub key_at : t.key_at ≡ offset + 1
+  pub key_len : t.key_len ≡ length f.key
+  pub payload_at : t.payload_at ≡ offset + (2 + length f.key)
+  pub payload_len : t.payload_len ≡ length f.payload
+  pub inside_is : t.inside ≡ inside
+
+-- Tokens, where Nested says which tokens nested bytes that begin at an offset have.
+module _ (Nested : ℕ → List ℕ → List Token → Type 0) where
+  -- the tokens of nested bytes that end at this offset
+  abbrev pub NestedUpTo : ℕ → List ℕ → List Token → Type 0
+  NestedUpTo end d ts = (start : ℕ) × (start + length d ≡ end) × Nested start d ts
+
+  -- the tokens inside a value that ends at this offset: none, or those of the nested bytes, which end there, too
+  abbrev pub AreInside : RawValue → ℕ → List Token → Type 0
+  AreInside (raw.single l) end ts = ts ≡ []
+  AreInside (raw.document d) end ts = NestedUpTo end d ts
+  AreInside (raw.array d) end ts = NestedUpTo end d ts
+  AreInside (raw.scoped code d) end ts = NestedUpTo end d ts
+
+  -- the tokens of a frame at this offset: its own, and behind that those inside the value that it means
+  abbrev pub AreTokensOf : ℕ → ℕ → Frame → List Token → Type 0
+  AreTokensOf depth offset f ts =
+      (v : RawValue) × (t : Token) × (inner : List Token) × Means f (value v) × AreInside v (offset + size_of f) inner
+      × IsTokenOf depth offset f (length inner) t × (ts ≡ t ∷ inner)
+
+  -- the tokens of frames one behind the other, the first of them at this offset
+  abbrev pub AreTokens : ℕ → ℕ → List Frame → List Token → Type 0
+  AreTokens depth offset [] ts = ts ≡ []
+  AreTokens depth offset (f ∷ fs) ts = (first rest : List Token) × AreTokensOf depth offset f first × AreTokens depth (offset + size_of f) fs rest × (ts ≡ first ++ rest)
+
+-- The tokens of the bytes b, which begin at this offset, have so many levels around them and at most so many levels, b being
+-- the first: those of the frames of a walk that ends at the final 0.
+abbrev pub HasTokens : ℕ → ℕ → ℕ → List ℕ → List Token → Type 0
+HasTokens zero depth start b ts = ⊥
+HasTokens (suc n) depth start b ts = (frames : List Frame) × IsWalk (drop 4 b) frames Done × AreTokens (HasTokens n (suc depth)) depth (start + 4) frames ts
+
+-- items in a room from this place on, as many as there is room for; the rest of the room is as it was
+abbrev pub filled_from : {X : Type 0} → ℕ → List X → List X → List X
+filled_from n [] items = []
+filled_from (suc n) (x ∷ room) items = x ∷ filled_from n room items
+filled_from zero (x ∷ room) [] = x ∷ room
+filled_from zero (x ∷ room) (i ∷ items) = i ∷ filled_from zero room items
+
+-- the key of the last step, if there is a step and it has one
+abbrev pub last_key : List Step → Option (List ℕ)
+last_key [] = None
+last_key (step ∷ []) = step.key
+last_key (step ∷ next ∷ steps) = last_key (next ∷ steps)
+
+-- what ended a flattening is this barrier, at this path; the numbers of the path are in the room in which this was before
+pub record HaltsAt (x : within.Barrier) (path : List Step) (before after : List ℕ) (halt : Halt) : Type 0 where
+  pub kind_is : IsBarrier halt.kind x
+  pub key_is : option_copied halt.key ≡ last_key path
+  pub len_is : halt.path_len ≡ length path
+  pub filled : after ≡ filled_from 0 before (map (λ step. step.number) path)
+
+-- What is returned of the document b: how many tokens it has, of which as many as there is room for are in front of the
+-- room; or its first barrier, and the path to it, as many numbers of it as there is room for.
+abbrev pub Flattens : Limits → List ℕ → List Token → List Token → List ℕ → List ℕ → Result ℕ Halt → Type 0
+Flattens limits b before after room path (Ok count) =
+    (ts : List Token) × (t : Tree) × ReadsWithin limits b t × HasTokens limits.depth 0 0 b ts × (count ≡ length ts) × (after ≡ filled_from 0 before ts) × (path ≡ room)
+Flattens limits b before after room path (Err halt) =
+    (x : within.Barrier) × (steps : List Step) × FirstBarrier limits b x × FirstBarrierAt limits b x steps halt.offset × HaltsAt x steps room path halt

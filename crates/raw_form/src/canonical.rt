@@ -1,0 +1,90 @@
+//! Canonical forms of documents from outside, without a tree.
+#![tactic(auto)]
+
+ghost use Rattle.std.specs.Prelude.{IfOk, IfErr};
+ghost use Rattle.raw_form.specs.Barriers.{IsBarrier};
+ghost use Rattle.raw_form.specs.FormsWithin.{IsFormWithin, RefusesFormWithin};
+ghost use Rattle.raw_form.specs.Judging.{TellsStart};
+ghost use Rattle.raw_tree.specs.CanonicalForm.{HaveOneForm};
+ghost use Rattle.raw_tree.specs.WithinLimits.{AllAreAnsweredOneWay, SaysBarrier};
+ghost use Rattle.raw_tree.specs.WithinLimits as within;
+ghost use Rattle.raw_view.specs.Document.{bytes_of};
+ghost use Rattle.raw_view.specs.Errors.{IsOutOfMemory};
+
+use crate::barrier::{Barrier, BarrierKind};
+use crate::faults::{FIRST, Start, first_behind};
+use crate::rewriting::rewrite;
+use crate::verdict::judge_to_depth;
+use raw_tree::Limits;
+use raw_view::{Error, RawDocument, Reason, Result};
+use std::alloc::Global;
+
+/// The error that says a barrier. Where there is no memory for the copy of a key, it says that.
+fn error_of(alloc: Global, barrier: Barrier<'_>) -> Error
+    ensures { (x : within.Barrier) → IsBarrier barrier.entry.kind x → SaysBarrier result x }
+{
+    match barrier.kind {
+        BarrierKind::TooManyBytes => Error::malformed(Reason::TooManyBytes),
+        BarrierKind::TooDeep => Error::malformed(Reason::TooDeep),
+        BarrierKind::Fault(error) => error.into_error(alloc),
+    }
+}
+
+/// `None` where a document is canonical and no deeper than this; else where its first barrier is looked for: at the element
+/// of the outermost level that breaches. The only error is out of memory.
+fn start_of(alloc: Global, document: RawDocument<'_>, depth: usize) -> Result<Option<Start>>
+    ensures start { IfOk result (TellsStart depth (bytes_of document.entry)) }
+    ensures err { IfErr result IsOutOfMemory }
+{
+    let Some(found) = judge_to_depth(alloc, document, depth)? else {
+        return Ok(None);
+    };
+    let path = found.place.path.as_slice();
+    if path.len() != 1 {
+        return Ok(Some(FIRST));
+    }
+    Ok(Some(Start {
+        number: path[0].number,
+        offset: found.place.offset,
+    }))
+}
+
+/// The canonical form of a document within limits.
+fn form_within(alloc: Global, document: RawDocument<'_>, limits: Limits) -> Result<Vec<u8>>
+    ensures form { IfOk result
+        (λ form. IsFormWithin limits (bytes_of document.entry) form.items) }
+    ensures refused { IfErr result (RefusesFormWithin limits (bytes_of document.entry)) }
+{
+    let bytes = document.as_bytes();
+    if bytes.len() > limits.bytes {
+        return Err(Error::malformed(Reason::TooManyBytes));
+    }
+    let Some(start) = start_of(alloc, document, limits.depth)? else {
+        return Ok(Vec::from_slice(alloc, bytes)?);
+    };
+    if let Some(barrier) = first_behind(alloc, document, start, limits.depth)? {
+        return Err(error_of(alloc, barrier));
+    }
+    rewrite(alloc, document)
+}
+
+/// The canonical form of a document within limits: the bytes that its tree is written as. Documents with equal trees, and
+/// no others, have equal canonical forms; one that is canonical is its own. The error is the first of: no envelope; more
+/// bytes than allowed; the first barrier, depth first in byte order, as `first_fault_within` tells it, with the key of a
+/// fault; a form of over 2147483647 bytes, which is told only once the whole document was read. Out of memory may come in
+/// place of the last two. No tree is built, it takes n log n steps whatever the keys are, and no depth fills the stack. BSON
+/// 1.1, `document`.
+/// ```
+/// let limits = Limits { bytes: 1000, depth: 10 };
+/// let form = canonical_within(alloc, b"\x0C\0\0\0\x10a\0\x01\0\0\0\0", limits)?;
+/// assert_eq!(rt; form.as_slice(), b"\x0C\0\0\0\x10a\0\x01\0\0\0\0".as_slice());
+/// ```
+pub fn canonical_within(alloc: Global, bytes: &[u8], limits: Limits) -> Result<Vec<u8>>
+    ensures form { IfOk result (λ form. IsFormWithin limits bytes.now form.items) }
+    ensures refused { IfErr result (RefusesFormWithin limits bytes.now) }
+    ensures one_answer { AllAreAnsweredOneWay limits }
+    ensures one_form { HaveOneForm }
+{
+    let document = RawDocument::from_bytes(bytes)?;
+    form_within(alloc, document, limits)
+}

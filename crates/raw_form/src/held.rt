@@ -1,0 +1,204 @@
+//! Values that hold a level, and how their payloads are begun and ended.
+#![tactic(auto)]
+
+ghost use Rattle.std.specs.Prelude.{◌≡◌, ◌≤◌, ◌+◌, ◌++◌, ◌∷◌, [], length, vec_capacity, vec_len, IfErr, IsTrue, OnOk};
+ghost use Rattle.bson_model.specs.Leaf.{Leaf};
+ghost use Rattle.raw_form.specs.Rewriting.{FailsFor, IsPlain, ShowsHeld, ended_by, header_len, held_opening, held_value};
+ghost use Rattle.raw_tree.specs.Payload.{element_bytes};
+ghost use Rattle.raw_tree.specs.Reading.{leaf_in_order};
+ghost use Rattle.raw_view.specs.ElementSteps.{frame_of};
+ghost use Rattle.raw_view.specs.Format.{element_of, leaf_payload, tagged};
+ghost use Rattle.raw_view.specs.Kind.{kind_of_leaf, tag_of};
+ghost use Rattle.raw_view.specs.Meaning.{kind_of_raw, single};
+ghost use Rattle.raw_view.specs.Number.{max_length};
+ghost use Rattle.raw_view.specs.Value.{value_of};
+
+use bson_model::Regex;
+use raw_tree::{payload_len, put_element, put_head, put_string, put_unset, set_len, total_len};
+use raw_view::{
+    ElementType, Error, RawBsonRef, RawDocument, RawElement, RawRegexRef, Reason, Result,
+};
+use std::alloc::Global;
+
+/// The level that a value holds: a document, an array as a document, or this code's scope.
+#[derive(Clone, Copy)]
+pub(crate) enum Held<'a> {
+    Document(RawDocument<'a>),
+    Array(RawDocument<'a>),
+    Code(&'a str, RawDocument<'a>),
+}
+
+/// The level that the value holds, if it holds one.
+#[inline(always)]
+pub(crate) fn level_in(value: RawBsonRef<'_>) -> Option<Held<'_>>
+    ensures { ShowsHeld (value_of value.entry) result }
+{
+    match value {
+        RawBsonRef::Document(document) => Some(Held::Document(document)),
+        RawBsonRef::Array(array) => Some(Held::Array(array.as_doc())),
+        RawBsonRef::JavaScriptCodeWithScope(code) => Some(Held::Code(code.code, code.scope)),
+        _ => None,
+    }
+}
+
+/// Makes room for so many bytes more, where that is no more than a document may have.
+fn make_room(out: &mut Vec<u8>, added: usize) -> Result<()>
+    ensures items { out.new.items ≡ out.old.items }
+    ensures len { vec_len out.new ≡ vec_len out.old }
+    ensures room { OnOk result (vec_len out.new + added ≤ vec_capacity out.new) }
+    ensures fits { OnOk result (vec_len out.old + added ≤ max_length) }
+    ensures err { IfErr result (FailsFor (vec_len out.old + added)) }
+{
+    if total_len(out.len(), added).is_none() {
+        return Err(Error::malformed(Reason::TooLong));
+    }
+    out.reserve(added)?;
+    Ok(())
+}
+
+/// Whether the values of this kind hold no level and no options, so that they are written as they are read.
+#[inline(always)]
+pub(crate) fn is_plain(kind: ElementType) -> bool
+    ensures { IsTrue result → IsPlain kind }
+{
+    match kind {
+        ElementType::EmbeddedDocument
+        | ElementType::Array
+        | ElementType::JavaScriptCodeWithScope
+        | ElementType::RegularExpression => false,
+        _ => true,
+    }
+}
+
+/// Puts an element under this key at the end, its payload as it is.
+#[inline(always)]
+pub(crate) fn put_plain(out: &mut Vec<u8>, key: &str, element: RawElement<'_>) -> Result<()>
+    ensures items { OnOk result
+        (out.new.items
+        ≡ out.old.items
+        ++ element_of (frame_of element.entry).kind key.now (frame_of element.entry).payload) }
+    ensures fits { OnOk result (vec_len out.new ≤ max_length) }
+    ensures err { IfErr result
+        (FailsFor (vec_len out.old + (2 + length key.now + length (frame_of element.entry).payload))) }
+{
+    let payload = element.payload();
+    let len = (payload.len() + key.len()).saturating_add(2);
+    make_room(out, len)?;
+    put_head(out, element.element_type().to_tag(), key);
+    out.extend_from_slice(payload)?;
+    Ok(())
+}
+
+/// Puts the element of a value under a key at the end.
+fn put_value(out: &mut Vec<u8>, key: &str, value: RawBsonRef<'_>) -> Result<()>
+    ensures items { OnOk result
+        (out.new.items ≡ out.old.items ++ element_bytes key.now (value_of value.entry)) }
+    ensures fits { OnOk result (vec_len out.new ≤ max_length) }
+    ensures err { IfErr result
+        (FailsFor (vec_len out.old + length (element_bytes key.now (value_of value.entry)))) }
+{
+    let len = payload_len(value)
+        .saturating_add(key.len())
+        .saturating_add(2);
+    make_room(out, len)?;
+    put_element(out, key, value);
+    Ok(())
+}
+
+/// Puts the element of a value that holds no others under a key at the end, the options of a regular expression in order.
+pub(crate) fn put_leaf(
+    alloc: Global,
+    out: &mut Vec<u8>,
+    key: &str,
+    value: RawBsonRef<'_>,
+) -> Result<()>
+    ensures items { (l : Leaf)
+        → value_of value.entry ≡ single l
+        → OnOk result
+        (out.new.items
+        ≡ out.old.items
+        ++ element_of (kind_of_leaf (leaf_in_order l)) key.now (leaf_payload (leaf_in_order l))) }
+    ensures fits { OnOk result (vec_len out.new ≤ max_length) }
+    ensures err { (l : Leaf)
+        → value_of value.entry ≡ single l
+        → IfErr result
+        (FailsFor
+        (vec_len out.old + (2 + length key.now + length (leaf_payload (leaf_in_order l))))) }
+{
+    let RawBsonRef::RegularExpression(regex) = value else {
+        return put_value(out, key, value);
+    };
+    let sorted = Regex::new(alloc, regex.pattern, regex.options)?;
+    let regex = RawRegexRef {
+        pattern: sorted.pattern.as_str(),
+        options: sorted.options.as_str(),
+    };
+    put_value(out, key, RawBsonRef::RegularExpression(regex))
+}
+
+impl<'a> Held<'a> {
+    /// The tag of the value.
+    fn tag(self) -> u8
+        ensures { result ≡ tag_of (kind_of_raw (held_value self.entry)) }
+    {
+        let kind = match self {
+            Held::Document(_) => ElementType::EmbeddedDocument,
+            Held::Array(_) => ElementType::Array,
+            Held::Code(_, _) => ElementType::JavaScriptCodeWithScope,
+        };
+        kind.to_tag()
+    }
+
+    /// Puts what the payload begins with at the end; its lengths aren't set.
+    pub(crate) fn put_opening(self, out: &mut Vec<u8>) -> Result<()>
+        ensures items { OnOk result (out.new.items ≡ out.old.items ++ held_opening self.entry) }
+        ensures fits { OnOk result (vec_len out.new ≤ max_length) }
+        ensures err { IfErr result (FailsFor (vec_len out.old + length (held_opening self.entry))) }
+    {
+        match self {
+            Held::Document(_) | Held::Array(_) => {
+                make_room(out, 4)?;
+                put_unset(out);
+            }
+            Held::Code(code, _) => {
+                make_room(out, code.len() + 13)?;
+                put_unset(out);
+                put_string(out, code);
+                put_unset(out);
+            }
+        }
+        Ok(())
+    }
+
+    /// Puts the tag of the value and its key at the end.
+    pub(crate) fn put_head(self, out: &mut Vec<u8>, key: &str) -> Result<()>
+        ensures items { OnOk result
+            (out.new.items
+            ≡ out.old.items ++ tagged (tag_of (kind_of_raw (held_value self.entry))) key.now []) }
+        ensures fits { OnOk result (vec_len out.new ≤ max_length) }
+        ensures err { IfErr result (FailsFor (vec_len out.old + (2 + length key.now))) }
+    {
+        make_room(out, key.len() + 2)?;
+        put_head(out, self.tag(), key);
+        Ok(())
+    }
+}
+
+/// Ends a payload that starts at this place, with code of this length if it is code with a scope: puts the final 0, and sets
+/// the lengths.
+pub(crate) fn put_end(out: &mut Vec<u8>, start: usize, code_len: Option<usize>) -> Result<()>
+    requires { start + header_len code_len ≤ vec_len out.old }
+    ensures items { OnOk result
+        (out.new.items ≡ ended_by code_len start (out.old.items ++ 0 ∷ [])) }
+    ensures len { OnOk result (vec_len out.new ≡ vec_len out.old + 1) }
+    ensures fits { OnOk result (vec_len out.new ≤ max_length) }
+    ensures err { IfErr result (FailsFor (vec_len out.old + 1)) }
+{
+    make_room(out, 1)?;
+    out.push_reserved(0);
+    if let Some(len) = code_len {
+        set_len(out, start + 9 + len);
+    }
+    set_len(out, start);
+    Ok(())
+}

@@ -1,0 +1,60 @@
+//! Canonical forms of documents that aren't canonical, from view to bytes.
+#![tactic(auto)]
+
+ghost use Rattle.std.specs.Prelude.{IfOk, IfErr};
+ghost use Rattle.bson_model.specs.Tree.{Tree};
+ghost use Rattle.raw_form.specs.Forms.{IsFormOf, RefusesFormOf};
+ghost use Rattle.raw_tree.specs.Reading.{Reads};
+ghost use Rattle.raw_view.specs.Document.{bytes_of};
+
+use crate::held::{Held, is_plain, level_in, put_end, put_leaf, put_plain};
+use crate::rewritten::Rewritten;
+use itoa::Buffer;
+use raw_view::{Error, RawDocument, Result};
+use std::alloc::Global;
+use std::mem;
+
+/// The encoding of the tree of a document that has one. The error is out of memory, or that the encoding is too long.
+pub(crate) fn rewrite(alloc: Global, document: RawDocument<'_>) -> Result<Vec<u8>>
+    requires { (t : Tree) × Reads (bytes_of document) t }
+    ensures form { IfOk result (λ form. IsFormOf (bytes_of document.entry) form.items) }
+    ensures err { IfErr result (RefusesFormOf (bytes_of document.entry)) }
+{
+    let mut out = Vec::with_capacity(alloc, document.as_bytes().len())?;
+    let whole = Held::Document(document);
+    whole.put_opening(&mut out)?;
+    let mut listed = Vec::new(alloc);
+    let mut waiting: Vec<Rewritten<'_>> = Vec::new(alloc);
+    let mut level = Rewritten::new(alloc, whole, 0, &mut listed)?;
+    'levels: loop {
+        let Some(member) = level.next() else {
+            put_end(&mut out, level.start, level.code_len)?;
+            let Some(outer) = waiting.pop() else {
+                return Ok(out);
+            };
+            level = outer;
+            continue 'levels;
+        };
+        let mut buffer = Buffer::new();
+        let key = member.key(&mut buffer);
+        if is_plain(member.element.element_type()) {
+            put_plain(&mut out, key, member.element)?;
+            continue 'levels;
+        }
+        let Ok(value) = member.element.resolve() else {
+            unreachable!()
+        };
+        let Some(inner) = level_in(value) else {
+            put_leaf(alloc, &mut out, key, value)?;
+            continue 'levels;
+        };
+        inner.put_head(&mut out, key)?;
+        let start = out.len();
+        inner.put_opening(&mut out)?;
+        let inner = Rewritten::new(alloc, inner, start, &mut listed)?;
+        let outer = mem::replace(&mut level, inner);
+        if waiting.push(outer).is_err() {
+            return Err(Error::out_of_memory());
+        }
+    }
+}

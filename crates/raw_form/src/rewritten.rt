@@ -1,0 +1,168 @@
+//! A level that is rewritten: which of its elements stay, and under which keys.
+#![tactic(auto)]
+
+ghost use Rattle.std.specs.Prelude.{◌≡◌, ℕ, List, Some, drop, IfErr, IfOk, IsTrue};
+ghost use Rattle.std.specs.List.{IsDistinct};
+ghost use Rattle.std.specs.Str.{bytes_eq};
+ghost use Rattle.bson_model.specs.Tree.{Tree};
+ghost use Rattle.raw_form.specs.Rewriting.{HasCode, IsLeft, TakesNext, held_value, member_key};
+ghost use Rattle.raw_tree.specs.Breaches.{keys_of_frames};
+ghost use Rattle.raw_tree.specs.Members.{MemberKey, key_bytes, members};
+ghost use Rattle.raw_tree.specs.Reading.{ReadsAs, StandsFor, as_document};
+ghost use Rattle.raw_view.specs.Document.{bytes_of};
+ghost use Rattle.raw_view.specs.Errors.{IsOutOfMemory};
+ghost use Rattle.raw_view.specs.Frame.{Done, Frame, IsWalk};
+
+use crate::held::Held;
+use crate::last::{LastPlaces, next_element, places_of};
+use itoa::Buffer;
+use raw_tree::KeysSoFar;
+use raw_view::{Elements, RawDocument, RawElement, Result};
+use std::alloc::Global;
+
+/// Which elements of a level stay.
+#[derive(Drop)]
+pub(crate) enum Keys<'a> {
+    /// those of an array: all, under the numbers from this one on
+    Numbers(usize),
+    /// those of a document, no two of which have one key: all
+    Distinct,
+    /// those of another document: of each key the last, in the place of the first
+    Repeated(Box<LastPlaces<'a>>),
+}
+
+/// A level that is rewritten.
+#[derive(Drop)]
+pub(crate) struct Rewritten<'a> {
+    /// what is left of it
+    pub(crate) elements: Elements<'a>,
+    /// which of that stays
+    pub(crate) keys: Keys<'a>,
+    /// where the payload of its value starts in the output
+    pub(crate) start: usize,
+    /// the length of the code, if it is a code's scope
+    pub(crate) code_len: Option<usize>,
+}
+
+/// An element that stays, and in an array its new number.
+#[derive(Clone, Copy)]
+pub(crate) struct Member<'a> {
+    pub(crate) number: Option<usize>,
+    pub(crate) element: RawElement<'a>,
+}
+
+impl<'a> Member<'a> {
+    /// The key under which it is written.
+    pub(crate) fn key(self, buffer: &'a mut Buffer) -> &'a str
+        ensures { result.now ≡ key_bytes (member_key self.entry) }
+    {
+        match self.number {
+            None => self.element.key(),
+            Some(number) => buffer.format(number),
+        }
+    }
+}
+
+/// Which elements of a document stay that can be read as a tree. The only error is out of memory.
+fn keys_of<'a>(
+    alloc: Global,
+    document: RawDocument<'a>,
+    listed: &mut Vec<&'a str>,
+) -> Result<Keys<'a>>
+    ensures left { (t : Tree)
+        → ReadsAs as_document (bytes_of document.entry) t
+        → IfOk result (λ keys. IsLeft keys (Some (drop 4 (bytes_of document.entry))) (members t)) }
+    ensures err { IfErr result IsOutOfMemory }
+{
+    let Some(places) = places_of(alloc, document, listed)? else {
+        return Ok(Keys::Distinct);
+    };
+    let last = LastPlaces { document, places };
+    Ok(Keys::Repeated(Box::new(alloc, last)?))
+}
+
+/// The level of these bytes, nothing of which is written.
+fn level<'a>(
+    document: RawDocument<'a>,
+    keys: Keys<'a>,
+    start: usize,
+    code_len: Option<usize>,
+) -> Rewritten<'a>
+    ensures elements { result.elements ≡ Some (drop 4 (bytes_of document.entry)) }
+    ensures keys { result.keys ≡ keys.entry }
+    ensures start { result.start ≡ start }
+    ensures code_len { result.code_len ≡ code_len }
+{
+    Rewritten {
+        elements: Elements::new(document),
+        keys,
+        start,
+        code_len,
+    }
+}
+
+impl<'a> Rewritten<'a> {
+    /// The level that a value holds, which can be read as a tree, where its payload starts there. The only error is out of
+    /// memory. The list is used to see which keys are repeated.
+    pub(crate) fn new(
+        alloc: Global,
+        held: Held<'a>,
+        start: usize,
+        listed: &mut Vec<&'a str>,
+    ) -> Result<Rewritten<'a>>
+        ensures left { (t : Tree)
+            → StandsFor ReadsAs (held_value held.entry) t
+            → IfOk result
+            (λ level. HasCode t level.code_len × IsLeft level.keys level.elements (members t)) }
+        ensures start { IfOk result (λ level. level.start ≡ start) }
+        ensures err { IfErr result IsOutOfMemory }
+    {
+        match held {
+            Held::Document(document) => {
+                let keys = keys_of(alloc, document, listed)?;
+                Ok(level(document, keys, start, None))
+            }
+            Held::Array(document) => Ok(level(document, Keys::Numbers(0), start, None)),
+            Held::Code(code, document) => {
+                let keys = keys_of(alloc, document, listed)?;
+                Ok(level(document, keys, start, Some(code.len())))
+            }
+        }
+    }
+
+    /// The next member that stays.
+    pub(crate) fn next(&mut self) -> Option<Member<'a>>
+        requires { (ms : List (MemberKey × Tree)) × IsLeft self.old.keys self.old.elements ms }
+        ensures next { (ms : List (MemberKey × Tree))
+            → IsLeft self.old.keys self.old.elements ms
+            → TakesNext ms result self.new.keys self.new.elements }
+        ensures start { self.new.start ≡ self.old.start }
+        ensures code_len { self.new.code_len ≡ self.old.code_len }
+    {
+        match &mut self.keys {
+            Keys::Numbers(number) => {
+                let element = next_element(&mut self.elements)?;
+                let place = *number;
+                *number = place + 1;
+                Some(Member {
+                    number: Some(place),
+                    element,
+                })
+            }
+            Keys::Distinct => {
+                let element = next_element(&mut self.elements)?;
+                Some(Member {
+                    number: None,
+                    element,
+                })
+            }
+            Keys::Repeated(last) => {
+                let element = last.next(&mut self.elements)?;
+                Some(Member {
+                    number: None,
+                    element,
+                })
+            }
+        }
+    }
+}

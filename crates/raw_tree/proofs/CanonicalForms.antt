@@ -1,0 +1,59 @@
+-- The canonical form theorem, from what is proved of every document.
+use Rattle.std.proofs.Common.{◌≡◌, ◌≤◌, List, ℕ, zero, suc, ap, sym, subst, ◌∙◌}
+use Rattle.bson_model.specs.Pairs.{keep}
+use Rattle.bson_model.specs.Tree.{Tree, Entries, document, entries}
+use Rattle.raw_view.specs.Envelope.{IsEnvelope}
+use Rattle.raw_view.specs.Number.{max_length}
+use Rattle.raw_tree.specs.Canonical.{IsCanonical}
+use Rattle.raw_tree.specs.CanonicalForm.{ComesBack, IsCanonicalForm, IsSpelling}
+use Rattle.raw_tree.specs.Encoding.{encoding, encoded_len}
+use Rattle.raw_tree.specs.Reading.{Reads, as_document}
+use Rattle.raw_tree.proofs.Forms.{bytes_spelled_one_way}
+use Rattle.raw_tree.proofs.OneWay.{bytes_one_way}
+use Rattle.raw_tree.proofs.Returns.{document_returns}
+
+-- the tree of a document is that of its entries
+document_read : (b : List ℕ) (t : Tree) → Reads b t → (es : Entries) × (t ≡ document es)
+document_read b t (zero, h) = absurd h
+document_read b t (suc n, h) = (entries (keep h.0), h.2)
+
+-- the encoding of a tree that was read comes back
+read_comes_back : (b : List ℕ) (t : Tree) → IsEnvelope b → Reads b t → encoded_len t ≤ max_length → IsEnvelope (encoding t) × Reads (encoding t) t × IsCanonical (encoding t)
+read_comes_back b t env read size =
+    let made = document_read b t read in
+    subst (ComesBack as_document) (sym made.1) (document_returns made.0) ((bytes_spelled_one_way as_document b env).proper t read) size
+
+-- the spelling of the tree of a document is its canonical form
+pub canonical_form : (b a : List ℕ) (t : Tree) → IsEnvelope b → Reads b t → IsSpelling t a → IsCanonicalForm b a
+canonical_form b a t env read s =
+    let back : IsEnvelope a × Reads a t × IsCanonical a = subst (λ (x : List ℕ). IsEnvelope x × Reads x t × IsCanonical x) s.1 (read_comes_back b t env read s.0) in
+    record {
+      envelope = env;
+      tree = t;
+      read = read;
+      spelled = s;
+      same_tree = λ c u envelope reads size. (
+        (λ e. (bytes_one_way as_document a back.0).one_tree t u back.1 (subst (λ (x : List ℕ). Reads x u) e (read_comes_back c u envelope reads size).1)),
+        (λ e. ap encoding e ∙ s.1),
+      );
+      unchanged = (
+        (λ e. ((bytes_spelled_one_way as_document b env).unchanged t read).0 (s.0, s.1 ∙ e)),
+        (λ c. sym s.1 ∙ (((bytes_spelled_one_way as_document b env).unchanged t read).1 c).1),
+      );
+      form_envelope = back.0;
+      canonical = back.2;
+      reads_back = back.1;
+    }
+
+-- canonical bytes are their own form
+pub canonical_is_own_form : (b : List ℕ) → IsEnvelope b → IsCanonical b → IsCanonicalForm b b
+canonical_is_own_form b env c =
+    let law = bytes_spelled_one_way as_document b env in
+    let read = law.canonical_reads c in
+    canonical_form b b read.0 env read.1 ((law.unchanged read.0 read.1).1 c)
+
+-- bytes have one canonical form
+pub one_form : (b a other : List ℕ) → IsCanonicalForm b a → IsCanonicalForm b other → other ≡ a
+one_form b a other f g =
+    let same = (bytes_one_way as_document b f.envelope).one_tree f.tree g.tree f.read g.read in
+    sym g.spelled.1 ∙ ap encoding same ∙ f.spelled.1

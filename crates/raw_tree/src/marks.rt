@@ -1,0 +1,150 @@
+//! Marks of keys: parts of their hashes in a table, where most keys are told apart by one look.
+#![tactic(auto)]
+
+ghost use Rattle.std.specs.Prelude.{◌≡◌, ◌≢◌, ◌++◌, ◌∷◌, [], ℕ, List, IsTrue, IfOk, IfErr, IfSome};
+ghost use Rattle.std.specs.List.{Contains};
+ghost use Rattle.raw_tree.specs.Marks.{hash_of, mark_of, AreMarked, IsFreeFrom, IsMarked};
+ghost use Rattle.raw_tree.specs.References.{texts};
+ghost use Rattle.raw_view.specs.Errors.{IsOutOfMemory};
+
+use raw_view::{Error, Result};
+use std::alloc::Global;
+use std::hash::{FoldHasher, Hasher};
+
+/// How many slots are looked at for one key. Where at most half of them are taken, keys that nobody chose need fewer.
+const MOST_LOOKS: usize = 128;
+
+/// So many keys are many, and room for fewer than these isn't made.
+const MANY: usize = 131072;
+
+const FEWEST: usize = 64;
+
+/// How many slots there are for each key that room is made for, and where they are many.
+const SLOTS_FOR_A_KEY: usize = 8;
+
+const SLOTS_OF_MANY: usize = 2;
+
+/// The marks of keys. The mark of a key is at the place that its hash names or behind it, with no free slot between.
+#[derive(Drop)]
+pub(crate) struct Marks {
+    /// the marks; 0 where a slot is free
+    slots: Vec<u32>,
+    /// the greatest place that a hash names
+    mask: usize,
+    /// how many more marks there is room for
+    room: usize,
+}
+
+fn hash_of(key: &str) -> u64
+    ensures { result ≡ hash_of key.now }
+{
+    let mut hasher = FoldHasher::default();
+    hasher.write(key.as_bytes());
+    hasher.finish()
+}
+
+#[inline(always)]
+fn mark_of(hash: u64) -> u32
+    ensures mark { result ≡ mark_of hash }
+    ensures some { result ≢ 0 }
+{
+    ((hash >> 32) as u32).max(1)
+}
+
+/// The first free slot from this place on, unless the mark is before it or there are too many slots to look at.
+#[inline(always)]
+fn free_slot(slots: &[u32], start: usize, mark: u32) -> Option<usize>
+    ensures free { IfSome result (IsFreeFrom slots.now start mark) }
+{
+    let mut at = start;
+    'looks: for _ in 0..MOST_LOOKS {
+        let slot = *slots.get(at)?;
+        if slot == 0 {
+            return Some(at);
+        }
+        if slot == mark {
+            return None;
+        }
+        at += 1;
+    }
+    None
+}
+
+impl Marks {
+    /// No marks, and room for those of more than so many keys. The only error is out of memory.
+    pub(crate) fn for_keys(alloc: Global, keys: usize) -> Result<Marks>
+        ensures err { IfErr result IsOutOfMemory }
+    {
+        let slots_for_a_key = if keys < MANY {
+            SLOTS_FOR_A_KEY
+        } else {
+            SLOTS_OF_MANY
+        };
+        let starts = keys
+            .saturating_add(1)
+            .max(FEWEST)
+            .checked_next_power_of_two()
+            .unwrap_or(usize::MAX)
+            .saturating_mul(slots_for_a_key);
+        let mut slots = Vec::new(alloc);
+        match slots.resize(starts.saturating_add(MOST_LOOKS), 0) {
+            Ok(()) => Ok(Marks {
+                slots,
+                mask: starts.saturating_sub(1),
+                room: starts / 2,
+            }),
+            Err(_) => Err(Error::out_of_memory()),
+        }
+    }
+
+    /// Whether there is no room for one more mark.
+    pub(crate) fn is_full(&self) -> bool {
+        self.room == 0
+    }
+
+    /// Marks a key that no marked key is equal to; or returns false and marks nothing, where there is no room or one
+    /// may be equal.
+    #[inline(always)]
+    pub(crate) fn put(&mut self, key: &str) -> bool
+        ensures new { IsTrue result → (¬ IsMarked self.old key.now) × IsMarked self.new key.now }
+        ensures kept { (k : List ℕ) → IsMarked self.old k → IsMarked self.new k }
+    {
+        if self.room == 0 {
+            return false;
+        }
+        let hash = hash_of(key);
+        let mark = mark_of(hash);
+        let Some(at) = free_slot(&self.slots, hash as usize & self.mask, mark) else {
+            return false;
+        };
+        self.slots[at] = mark;
+        self.room -= 1;
+        true
+    }
+
+    /// Marks each of these keys; or returns false, where there is no room for all or two may be equal.
+    fn put_all(&mut self, keys: &[&str]) -> bool
+        ensures marked { IsTrue result → AreMarked self.new (texts keys.now) }
+    {
+        for key in keys {
+            if !self.put(*key) {
+                return false;
+            }
+        }
+        true
+    }
+
+    /// The marks of these keys and of one more that none of them is equal to; `None` where two may be equal. The only
+    /// error is out of memory.
+    pub(crate) fn of(alloc: Global, keys: &[&str], last: &str) -> Result<Option<Marks>>
+        ensures marks { IfOk result (λ marks. IfSome marks
+            (λ marks. (¬ Contains (texts keys.now) last.now) × AreMarked marks (texts keys.now ++ last.now ∷ []))) }
+        ensures err { IfErr result IsOutOfMemory }
+    {
+        let mut marks = Marks::for_keys(alloc, keys.len())?;
+        if marks.put_all(keys) && marks.put(last) {
+            return Ok(Some(marks));
+        }
+        Ok(None)
+    }
+}

@@ -1,0 +1,44 @@
+use bson_fixtures::{check_bytes, check_refused};
+use raw_bson::{Limits, Reason};
+use raw_form::canonical_within;
+use std::test::Fail;
+
+/// The keys b, a, b, of which the last holds a document; a code whose scope has the keys x and x; an array under the keys z and
+/// the empty one, with options out of order.
+const MIXED: &[u8] = b"F\0\0\0\x10b\0\x01\0\0\0\x0Aa\0\x03b\0\x09\0\0\0\x08y\0\x01\0\
+    \x0Fc\0\x16\0\0\0\x02\0\0\0f\0\x0C\0\0\0\x0Ax\0\x08x\0\x01\0\
+    \x04d\0\x0F\0\0\0\x0Bz\0p\0mi\0\x0A\0\0\0";
+
+/// Its canonical form.
+const MIXED_FORM: &[u8] = b"\x3D\0\0\0\x03b\0\x09\0\0\0\x08y\0\x01\0\x0Aa\0\
+    \x0Fc\0\x13\0\0\0\x02\0\0\0f\0\x09\0\0\0\x08x\0\x01\0\
+    \x04d\0\x10\0\0\0\x0B\x30\0p\0im\0\x0A\x31\0\0\0";
+
+#[test]
+fn a_form_within_limits(rt: HostRuntime) -> Result<(), Fail> {
+    let limits = Limits {
+        bytes: MIXED.len(),
+        depth: 2,
+    };
+    let form = canonical_within(rt.alloc(), MIXED, limits)?;
+    check_bytes(form.as_slice(), MIXED_FORM, "a form")?;
+    let form = canonical_within(rt.alloc(), MIXED_FORM, limits)?;
+    check_bytes(form.as_slice(), MIXED_FORM, "its own form")
+}
+
+#[test]
+fn why_there_is_no_form_within_limits(rt: HostRuntime) -> Result<(), Fail> {
+    for (bytes, depth, reason) in [
+        (MIXED.len() - 1, 2, Reason::TooManyBytes),
+        (MIXED.len(), 1, Reason::TooDeep),
+        (MIXED.len(), 0, Reason::TooDeep),
+    ] {
+        let limits = Limits { bytes, depth };
+        check_refused(canonical_within(rt.alloc(), MIXED, limits), reason)?;
+    }
+    let none = Limits { bytes: 0, depth: 0 };
+    check_refused(
+        canonical_within(rt.alloc(), &MIXED[1..], none),
+        Reason::LengthIncorrect,
+    )
+}
