@@ -6,20 +6,28 @@
 #
 #   checks/archive.sh        after `rt ci`, with nothing changed since
 set -u
-cd "$(dirname "$(realpath "$0")")/../crates/bsonraw_c" || exit 1
+root=$(dirname "$(dirname "$(realpath "$0")")")
+. "$root/bin/build.sh"
+cd "$root/crates/bsonraw_c" || exit 1
 kit=$(dirname "$(rt doc)")
 mkdir -p out || exit 1
 if [ -e ../raw_bson/out/rlib/stamp ]; then
     rt lib
     exit
 fi
-below=
-for crate in bson_model raw_view raw_tree raw_bson; do
-    below="$below -L dependency=$PWD/../$crate/out/rlib"
+
+set -- --extern "std=$kit/rlibs/std.rlib"
+for crate in $(sed -n 's/^bsonraw_c staticlib: *//p' ../../crates.txt); do
+    if [ -d "../$crate" ]; then
+        set -- "$@" --extern "$crate=$root/crates/$crate/out/rlib/$crate.rlib"
+    else
+        set -- "$@" --extern "$crate=$kit/rlibs/$crate.rlib"
+    fi
 done
-# shellcheck disable=SC2086 # a list of flags
-"$kit/bin/rattle" build --crate-name bsonraw_c src/lib.rt --crate-type staticlib --links bsonraw_c= \
-    --extern "std=$kit/rlibs/std.rlib" --extern "raw_bson=$PWD/../raw_bson/out/rlib/raw_bson.rlib" \
-    --extern "raw_view=$PWD/../raw_view/out/rlib/raw_view.rlib" -L "dependency=$kit/rlibs" $below \
+set -- "$@" -L "dependency=$kit/rlibs"
+for crate in $(crates bsonraw_c); do
+    [ "$crate" = bsonraw_c ] || set -- "$@" -L "dependency=$root/crates/$crate/out/rlib"
+done
+"$kit/bin/rattle" build --crate-name bsonraw_c src/lib.rt --crate-type staticlib --links bsonraw_c= "$@" \
     --antt-project "$kit/rattle/logic/antt-project.json" --logic-built "$kit/logic_built" \
     --toolchain "$kit/toolchain" --backend llvm -o out/libbsonraw_c.a

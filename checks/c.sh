@@ -1,22 +1,25 @@
 #!/bin/sh
-# The C library as bin/install puts it into a folder, used from C. It takes the archive as it was built last, by bin/test
-# or by `rt lib`; the compiler and the C library are the kit's, with headers of the tests' own, so that nothing else has
-# to be there. Where the machine has a compiler and headers, pkg-config or a formatter of manual pages, it is tried with
-# these too; what was left out for want of one is said in the last line.
+# The C library as bin/install puts it into a folder, used from C. The compiler and the C library are the kit's, with headers
+# of the tests' own, so that nothing else has to be there. Where the machine has a compiler and headers, pkg-config or a
+# formatter of manual pages, it is tried with these too; what was left out since one is missing is said in the last line.
 #
-#   - the libraries export the functions of the header and nothing else, and need the C library alone; the header's numbers
-#     are the crate's;
+#   checks/c.sh [PREFIX]     PREFIX: where bin/install put the library; without it, that is done first
+#
+#   - the libraries export the functions of the header and nothing else, and need the C library alone;
 #   - the header compiles as each C and C++ with all warnings on, and so do its examples and the blocks `c` of the pages;
 #     a block with a `main` is run on the greeting, and the page says what it prints;
 #   - c/tests/print.c prints what stands beside each example, and what bsonraw prints of each document of the tests;
-#   - the programs of c/tests: every buffer at its edges, each request for memory refused in turn, threads, reasons.
+#   - the programs of c/tests: every buffer at its edges, each request for memory refused in turn, threads, reasons, the header's
+#     numbers beside those that the library returns; and
+#     what a reader written from the format alone says of 200,000 made and damaged documents; and the builder beside bytes
+#     written by hand. Where libbson is there, documents are built and read beside it.
 set -u
 cd "$(dirname "$(realpath "$0")")/.." || exit 1
 work=$(mktemp -d) || exit 1
 trap 'rm -rf "$work"' EXIT
 ulimit -c 0 # a test that fails may abort, and leaves no core file
 kit=$(dirname "$(rt doc)")/toolchain
-prefix=$work/prefix
+prefix=${1-$work/prefix}
 pages='README.md CONTRIBUTING.md docs/*.md examples/*.md'
 warnings='-Wall -Wextra -Wpedantic -Wconversion -Wshadow -Wstrict-prototypes -Wmissing-prototypes -Werror'
 skipped=
@@ -48,7 +51,7 @@ link() {
 
 # The functions that the header declares, one a line.
 declared() {
-    sed -n 's/^[a-z].* \(bsonraw_[a-z_]*\)(.*/\1/p' c/bsonraw.h | sort
+    sed -n '/BSONRAW_INLINE/!s/^[A-Za-z].* \(bsonraw_[a-z_]*\)(.*/\1/p' c/bsonraw.h | sort
 }
 
 # exports FILE DYNAMIC: the names that a library defines for others; DYNAMIC is -D for the shared one
@@ -59,7 +62,7 @@ exports() {
 look_at_libraries() {
     ln -s "$kit/bin/clang" "$work/llvm-nm" && ln -s "$kit/bin/clang" "$work/llvm-readelf" || return 1
     declared >"$work/declared"
-    [ "$(wc -l <"$work/declared")" = 6 ] || fails "the header doesn't declare six functions"
+    [ "$(wc -l <"$work/declared")" = 21 ] || fails "the header doesn't declare twenty-one functions"
     exports libbsonraw.a "" | diff "$work/declared" - >&2 || fails "the static library has other names than the header"
     exports libbsonraw.so -D | diff "$work/declared" - >&2 || fails "the shared library has other names than the header"
     needed=$("$work/llvm-readelf" -d "$prefix/lib/libbsonraw.so" | sed -n 's/.*(NEEDED).*\[\(.*\)\]/\1/p')
@@ -83,43 +86,8 @@ header_compiles() {
     fi
 }
 
-# The numbers of statuses, reasons, causes and tags that the header gives, one a line.
-header_numbers() {
-    awk '
-        /^enum bsonraw_/ { sort = $2; sub(/bsonraw_/, "", sort) }
-        sort != "kind" && /^    BSONRAW_/ { sub(/,/, "", $3); sub(/BSONRAW_(TAG_)?/, "", $1); print sort, $1, $3 }
-    ' "$1" | sort
-}
-
-# The tags of the crates, by the header's names.
-crate_tags() {
-    sed -n 's/^ *ElementType::\([A-Za-z0-9]*\) => \(0x..\),$/\1 \2/p' crates/raw_view/src/element_type.rt |
-        sed 's/^EmbeddedDocument/Document/; s/^RegularExpression/Regex/; s/^JavaScriptCode/Javascript/; s/^DateTime/Datetime/' |
-        while read -r name tag; do
-            echo "tag $(echo "$name" | sed 's/\(.\)\([A-Z]\)/\1_\2/g' | tr '[:lower:]' '[:upper:]') $((tag))"
-        done
-}
-
-# Those that the crate is proved to give. The reasons of writing and of limits, behind 20, have statuses.
-crate_numbers() {
-    sed -n 's/^ *\(Status\|Reason\|Cause\)::\([A-Za-z0-9]*\)[^=]*=> \([0-9]*\),$/\1 \2 \3/p' crates/bsonraw_c/src/codes.rt | awk '
-        $2 == "Done" { $2 = "OK" }
-        $2 == "Nothing" { $2 = "NONE" }
-        $2 != "OK" && $2 != "NONE" { gsub(/[A-Z]/, "_&", $2); sub(/^_/, "", $2) }
-        $1 != "Reason" || $3 <= 20 { print tolower($1), toupper($2), $3 }
-    ' | sort
-}
-
-look_at_numbers() {
-    { crate_numbers; crate_tags; } | sort >"$work/numbers"
-    sed 's/BSONRAW_TOO_DEEP = 6/BSONRAW_TOO_DEEP = 7/' c/bsonraw.h >"$work/wrong.h"
-    header_numbers "$work/wrong.h" | cmp -s "$work/numbers" - && fails "a header with another number passes"
-    header_numbers c/bsonraw.h | diff "$work/numbers" - >&2 || fails "the header's numbers aren't the crate's"
-    [ "$(wc -l <"$work/numbers")" = 57 ] || fails "there aren't 57 numbers"
-}
-
 look_at_header() {
-    sed 's/^    size_t next;/    size_t next/' c/bsonraw.h >"$work/wrong.h"
+    sed 's/^    uint32_t next;/    uint32_t next/' c/bsonraw.h >"$work/wrong.h"
     header_compiles "$work/wrong.h" 2>/dev/null && fails "a header with a mistake compiles"
     header_compiles bsonraw.h || fails "the header doesn't compile"
 }
@@ -146,14 +114,9 @@ END
     ' "$1"
 }
 
-# blocks PAGE: writes each block of C into a file NUMBER.c of $work/blocks
+# blocks PAGE: writes each block of C into a file of its own of $work/blocks
 blocks() {
-    rm -rf "$work/blocks" && mkdir "$work/blocks" || exit 1
-    awk -v out="$work/blocks/" '
-        /^```c$/ { file = out (++count) ".c"; next }
-        /^```/ { file = ""; next }
-        file { print >file }
-    ' "$1"
+    rm -rf "$work/blocks" && mkdir "$work/blocks" && python3 -B checks/pages.py blocks c "$work/blocks" "$1" || exit 1
 }
 
 # page PAGE: whether its blocks compile, and print what the page says; leaves how many there were in $count
@@ -178,7 +141,7 @@ page() {
 
 look_at_examples() {
     examples c/bsonraw.h >"$work/examples.c"
-    [ "$(grep -c '^void example_.*{$' "$work/examples.c")" = 8 ] || fails "the header doesn't have an example of each call, and two more"
+    [ "$(grep -c '^void example_.*{$' "$work/examples.c")" = 18 ] || fails "the header doesn't have an example of each group of calls"
     # shellcheck disable=SC2086
     compile -std=c99 $warnings -Wno-unused-variable -Wno-shadow -c -o "$work/examples.o" "$work/examples.c" || fails "an example of the header doesn't compile"
 
@@ -193,6 +156,29 @@ look_at_examples() {
         page "$name" || failed=1
         [ "$count" = 0 ] || echo "$name: $count blocks of C were compiled"
     done
+}
+
+# says WANTED PROGRAM ARGUMENT..: whether a program of examples/c prints this of the greeting
+says() {
+    wanted=$1
+    shift
+    [ "$("$@" <"$work/greeting")" = "$wanted" ] || fails "$* doesn't print $wanted of the greeting"
+}
+
+run_programs() {
+    for name in json merge path; do
+        # shellcheck disable=SC2086
+        compile -std=c99 $warnings -O1 -fPIE -c -o "$work/$name.o" "examples/c/$name.c" &&
+            link libbsonraw.a "$work/$name" "$work/$name.o" || return 1
+    done
+    says "{\"hi\": \"y'all\"}" "$work/json"
+    says "y'all" "$work/path" hi
+    says "" "$work/path" ho
+    # {"hi": "y'all"} with {"hi": 1, "ho": 2} laid over it
+    printf '\25\0\0\0\20hi\0\1\0\0\0\20ho\0\2\0\0\0\0' >"$work/over"
+    cat "$work/greeting" "$work/over" | "$work/merge" | cmp -s - "$work/over" || fails "merge doesn't lay a document over the greeting"
+    cat "$work/over" "$work/greeting" | "$work/merge" >"$work/said"
+    printf '\33\0\0\0\2hi\0\6\0\0\0y\47all\0\20ho\0\2\0\0\0\0' | cmp -s - "$work/said" || fails "merge doesn't keep what isn't laid over"
 }
 
 # levels N: a document of so many levels, each but the innermost holding the next under the empty key
@@ -219,7 +205,7 @@ documents() {
     done
 }
 
-# prints COMMAND HEX WANTED: whether the library's answer is what stands in this file, with the status as its last line
+# prints COMMAND HEX WANTED: whether the library's result is what is in this file, with the status as its last line
 prints() {
     { printf '%s' "$2" | "$work/print" "$1"; echo "status $?"; } >"$work/output"
     cmp -s "$3" "$work/output"
@@ -247,7 +233,7 @@ build() {
         # shellcheck disable=SC2086
         compile -std=c99 $warnings -O1 -fPIE -c -o "$work/$name.o" "c/tests/$name.c" || return 1
     done
-    for name in buffers memory reasons threads; do
+    for name in agree buffers build large memory numbers reasons threads; do
         link libbsonraw.a "$work/$name" "$work/$name.o" "$work/documents.o" || return 1
         link libbsonraw.so "$work/$name.shared" "$work/$name.o" "$work/documents.o" || return 1
     done
@@ -261,7 +247,7 @@ notices_mistakes() {
         "$work/llvm-objcopy" --redefine-sym "$name=right_${name#bsonraw_}" "$prefix/lib/wrong.a" || return 1
     done
     mistake=0
-    for name in buffers threads buffers buffers memory reasons memory; do
+    for name in buffers threads buffers buffers memory reasons memory agree agree agree agree agree agree agree build build build agree buffers agree agree agree; do
         mistake=$((mistake + 1))
         # shellcheck disable=SC2086
         compile -std=c99 $warnings -DMISTAKE=$mistake -O1 -fPIE -c -o "$work/wrong.o" c/tests/wrong.c &&
@@ -272,7 +258,7 @@ notices_mistakes() {
 }
 
 run_tests() {
-    for name in buffers memory reasons threads; do
+    for name in agree buffers build large memory numbers reasons threads; do
         for program in "$name" "$name.shared"; do
             "$work/$program" <"$work/documents" >"$work/said" || fails "$program ends with status $?"
             cat "$work/said"
@@ -280,11 +266,22 @@ run_tests() {
     done
 }
 
+# Where valgrind is there, a part of the comparison under it: no byte outside of a document is read, and none that isn't set. And
+# threads: none reads what another writes.
+look_at_memory() {
+    if ! command -v valgrind >/dev/null; then
+        skip valgrind
+        return
+    fi
+    valgrind -q --error-exitcode=9 "$work/agree" 4000 >"$work/said" 2>&1 || fails "valgrind: $(head -5 "$work/said")"
+    valgrind -q --tool=helgrind --error-exitcode=9 "$work/threads" once <"$work/documents" >"$work/said" 2>&1 || fails "helgrind: $(head -9 "$work/said")"
+}
+
 # The lines by which README compiles its first block of C make programs that run, with the prefix in place of ~/.local.
 compile_as_shown() {
     command -v pkg-config >/dev/null || return 0
     blocks README.md
-    cp "$work/blocks/1.c" "$work/keys.c"
+    cp "$work/blocks/readme_1.c" "$work/keys.c"
     sed -n "s|~/.local|$prefix|g; /^cc keys\.c/p" README.md >"$work/lines"
     [ "$(wc -l <"$work/lines")" = 2 ] || fails "README doesn't have two lines that compile keys.c"
     while read -r line; do
@@ -292,6 +289,55 @@ compile_as_shown() {
         (cd "$work" && PKG_CONFIG_PATH=$prefix/lib/pkgconfig sh -c "$line" </dev/null) || fails "this doesn't compile: $line"
         [ "$("$work/a.out" <"$work/greeting")" = "02 hi" ] || fails "the greeting's elements aren't printed after: $line"
     done <"$work/lines"
+}
+
+# Where libbson is there: documents that are built and read beside it.
+run_beside() {
+    if ! pkg-config --exists libbson-1.0 2>/dev/null; then
+        skip libbson
+        return
+    fi
+    for name in build_beside beside; do
+        # shellcheck disable=SC2046,SC2086 # lists of flags
+        cc -std=c99 -O1 -o "$work/machine" c/tests/$name.c $flags $(pkg-config --cflags --libs libbson-1.0) &&
+            "$work/machine" || fails "$name: it isn't as with libbson"
+    done
+    run_twins || fails "a program with libbson doesn't compile"
+}
+
+# How many lines of a program are neither blank nor a comment.
+lines_of() {
+    grep -cvE '^ *(/\*.*|\*.*)?$' "$1"
+}
+
+# twin NAME WORD..: whether a program of examples/c and the one with libbson end alike and print the same of this input
+twin() {
+    name=$1
+    shift
+    "$work/$name" "$@" <"$work/input" >"$work/ours"
+    ended=$?
+    "$work/twin_$name" "$@" <"$work/input" >"$work/theirs"
+    [ "$ended" = $? ] && cmp -s "$work/ours" "$work/theirs" || fails "$name and the one with libbson differ on $(od -An -tx1 "$work/input" | tr -d ' \n')"
+}
+
+# Each program of examples/c does what one with libbson does, in at most one and a half times its lines.
+run_twins() {
+    for name in json merge path; do
+        [ "$((2 * $(lines_of "examples/c/$name.c")))" -le "$((3 * $(lines_of "c/tests/twins/$name.c")))" ] || fails "examples/c/$name.c has too many lines"
+        # shellcheck disable=SC2046 # a list of flags
+        cc -std=c99 -O1 -o "$work/twin_$name" "c/tests/twins/$name.c" $(pkg-config --cflags --libs libbson-1.0) || return 1
+    done
+    for document in examples/*.hex; do
+        python3 -c 'import sys; sys.stdout.buffer.write(bytes.fromhex(open(sys.argv[1]).read()))' "$document" >"$work/input"
+        twin json
+    done
+    cp "$work/greeting" "$work/input"
+    twin path hi
+    twin path ho
+    cat "$work/greeting" "$work/over" >"$work/input"
+    twin merge
+    cat "$work/over" "$work/greeting" >"$work/input"
+    twin merge
 }
 
 # As a user builds: the machine's compilers and headers, and what pkg-config says.
@@ -308,6 +354,7 @@ use_machine() {
     # shellcheck disable=SC2086
     cc -std=c99 -o "$work/machine" c/tests/reasons.c c/tests/documents.c $flags || fails "the tests don't compile with the machine's headers"
     "$work/machine" <"$work/documents" || fails "the tests don't pass as the machine's compiler builds them"
+    run_beside
     [ -n "$has_cxx" ] || return 0
     # shellcheck disable=SC2086
     c++ -x c++ -o "$work/machine" c/tests/greeting.c -x none $flags || fails "the greeting doesn't compile as C++"
@@ -316,13 +363,14 @@ use_machine() {
 
 look_at_manual() {
     for name in $(declared); do
-        grep -q "$name(" man/bsonraw.3 || fails "the manual page doesn't have $name"
+        grep -q "$name(" man/*.3 || fails "no manual page has $name"
+        [ -e "$prefix/share/man/man3/$name.3" ] || fails "no manual page is found by the name $name"
     done
     if ! command -v groff >/dev/null; then
         skip "groff for the manual pages"
         return
     fi
-    for manual in man/bsonraw.1 man/bsonraw.3; do
+    for manual in man/*.[13]; do
         groff -man -ww -Tutf8 -z "$manual" 2>"$work/said" || fails "$manual isn't formatted"
         [ ! -s "$work/said" ] || fails "$manual: $(cat "$work/said")"
     done
@@ -333,16 +381,17 @@ printf '#include <stdio.h>\nint main(void) { return 0; }\n' >"$work/probe.c"
 if cc -o "$work/probe" "$work/probe.c" 2>/dev/null; then has_cc=yes; else skip "the machine's C compiler and headers"; fi
 if c++ -x c++ -o "$work/probe" "$work/probe.c" 2>/dev/null; then has_cxx=yes; else skip "the machine's C++ compiler and headers"; fi
 
-bin/install "$prefix" || exit 1
+[ $# = 1 ] || bin/install "$prefix" || exit 1
 documents >"$work/documents"
 look_at_libraries
-look_at_numbers
 look_at_header
 look_at_examples
-if build documents buffers memory reasons threads print; then
+run_programs || fails "the programs of examples/c don't compile"
+if build documents agree buffers build large memory numbers reasons threads print; then
     look_at_output
     notices_mistakes || fails "the tests don't compile with a mistake"
     run_tests
+    look_at_memory
     use_machine
 else
     fails "the tests don't compile"

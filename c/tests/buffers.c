@@ -50,52 +50,36 @@ static int is_left(struct mapped m, size_t len) {
     return 1;
 }
 
-/* How a call that fills a room ends: whether it says that it has items, and how many. */
-struct outcome {
-    uint32_t status;
-    size_t len;
-    int has_items;
-};
-
-typedef struct outcome fill(const struct document *d, void *room, size_t count);
-
-static struct outcome fill_form(const struct document *d, void *room, size_t count) {
-    struct bsonraw_answer a = bsonraw_canonical(d->bytes, d->len, 1 << 24, 500, room, count);
-    return (struct outcome){a.status, a.len, a.status == BSONRAW_OK || a.status == BSONRAW_SMALL_BUFFER};
+/* A call with this room for the form and for the path, both at this edge; told is what it returns with ample rooms. */
+static void fills_rooms(const struct document *d, call *run, const struct whole *told, const uint8_t *form, size_t form_room,
+                        size_t path_room, enum edge edge) {
+    struct mapped forms = map(form_room, edge), path = map(path_room * sizeof *told->path, edge);
+    struct bsonraw_report r;
+    int32_t status = run(d, forms.bytes, form_room, &r, (void *)path.bytes, path_room);
+    size_t steps = told->report.path_len < path_room ? (size_t)told->report.path_len : path_room;
+    size_t form_len = (size_t)told->report.count;
+    int fits = form_len <= form_room;
+    expect(status == (told->status == BSONRAW_OK && !fits ? BSONRAW_SMALL_BUFFER : told->status), d->name, "another status with other room");
+    expect(memcmp(&r, &told->report, sizeof r) == 0, d->name, "another report with other room");
+    expect(!fits || memcmp(forms.bytes, form, form_len) == 0, d->name, "another form with other room");
+    expect(is_left(forms, fits ? form_len : 0), d->name, "a byte is written that isn't to be written");
+    expect(memcmp(path.bytes, told->path, steps * sizeof *told->path) == 0, d->name, "another path with other room");
+    expect(is_left(path, steps * sizeof *told->path), d->name, "a number too many is written");
+    unmap(forms);
+    unmap(path);
 }
 
-static struct outcome fill_key(const struct document *d, void *room, size_t count) {
-    struct bsonraw_answer a = bsonraw_first_fault(d->bytes, d->len, 1 << 24, 500, room, count);
-    return (struct outcome){a.status, a.len, a.has_key != 0};
-}
-
-static struct outcome fill_path(const struct document *d, void *room, size_t count) {
-    struct bsonraw_verdict v = bsonraw_check(d->bytes, d->len, room, count);
-    return (struct outcome){v.status, v.path_len, v.status == BSONRAW_BREACH};
-}
-
-/* A call with room for this many items, each of this size, at this edge; items are those that come with ample room. */
-static void fills_room(const struct document *d, fill *call, size_t size, const void *items, struct outcome ample, size_t count,
-                       enum edge edge) {
-    struct mapped m = map(count * size, edge);
-    struct outcome o = call(d, m.bytes, count);
-    int fits = ample.has_items && ample.len <= count;
-    uint32_t status = ample.status == BSONRAW_OK && ample.has_items && !fits ? BSONRAW_SMALL_BUFFER : ample.status;
-    expect(o.status == status, d->name, "another status with other room");
-    expect(o.len == ample.len && o.has_items == ample.has_items, d->name, "another length with other room");
-    expect(!fits || memcmp(m.bytes, items, ample.len * size) == 0, d->name, "other items with other room");
-    expect(is_left(m, fits ? ample.len * size : 0), d->name, "a byte is written that isn't to be written");
-    unmap(m);
-}
-
-static void fills(const struct document *d, fill *call, size_t size) {
-    static size_t room[ROOM];
-    struct outcome ample = call(d, room, ROOM);
-    size_t counts[] = {0, ample.len - 1, ample.len, ample.len + 1};
-    for (size_t at = 0; at < 4; at++) {
-        if (counts[at] == SIZE_MAX) continue; /* one short of nothing */
-        fills_room(d, call, size, room, ample, counts[at], AT_FRONT);
-        fills_room(d, call, size, room, ample, counts[at], AT_END);
+static void fills(const struct document *d, call *run) {
+    static struct whole ample;
+    static uint8_t form[ROOM];
+    size_t len, steps;
+    ample.status = run(d, form, ROOM, &ample.report, ample.path, STEPS);
+    len = (size_t)ample.report.count, steps = (size_t)ample.report.path_len;
+    for (enum edge edge = AT_FRONT; edge <= AT_END; edge++) {
+        fills_rooms(d, run, &ample, form, len, steps, edge);
+        fills_rooms(d, run, &ample, form, len + 1, steps + 1, edge);
+        fills_rooms(d, run, &ample, form, len ? len - 1 : 0, steps ? steps - 1 : 0, edge);
+        fills_rooms(d, run, &ample, form, 0, 0, edge);
     }
 }
 
@@ -113,45 +97,63 @@ static void reads_its_bytes(const struct document *d, enum edge edge) {
 static void finds(const struct document *d, enum edge edge) {
     static struct answers a;
     ask(&a, d->bytes, d->len);
-    for (size_t at = 0; at < MOST && a.steps[at].status == BSONRAW_OK; at++) {
-        const struct bsonraw_element *e = &a.steps[at];
+    for (size_t at = 0; at < MOST && a.stepped[at] == BSONRAW_OK; at++) {
+        const struct bsonraw_iter *e = &a.steps[at];
+        struct bsonraw_iter f;
         size_t first = 0;
         while (a.steps[first].key_len != e->key_len ||
                memcmp(d->bytes + a.steps[first].key_at, d->bytes + e->key_at, e->key_len) != 0)
             first++;
         struct mapped key = map_copy(d->bytes + e->key_at, e->key_len, edge);
-        struct bsonraw_element f = bsonraw_get(d->bytes, d->len, key.bytes, key.len);
-        expect(f.status == BSONRAW_OK || f.status == BSONRAW_FAULT, d->name, "a key isn't found");
-        expect(memcmp(&f, &a.found[at], sizeof f) == 0, d->name, "a key in other memory is answered otherwise");
-        expect(f.key_at == a.steps[first].key_at && f.next == a.steps[first].next, d->name, "a key is found elsewhere");
-        expect(f.payload_at == a.steps[first].payload_at && f.tag == a.steps[first].tag, d->name, "another payload is found");
+        expect(bsonraw_iter_init_find(&f, d->bytes, d->len, key.bytes, key.len) == BSONRAW_OK, d->name, "a key isn't found");
+        expect(memcmp(&f, &a.found[at], sizeof f) == 0, d->name, "a key in other memory is found elsewhere");
+        expect(memcmp(&f, &a.steps[first], sizeof f) == 0, d->name, "another element is found than by the walk");
         unmap(key);
     }
 }
 
 static int is_document(const struct document *d) {
-    return bsonraw_step(d->bytes, d->len, BSONRAW_FIRST).status != BSONRAW_NO_DOCUMENT;
+    struct bsonraw_iter it;
+    return bsonraw_iter_init(&it, d->bytes, d->len) == BSONRAW_OK;
 }
 
-/* An offset under 4 or past the end is told, and no other. */
+/* A cursor at an offset before the first element or past the end is told, and no other. */
 static void judges_offsets(const struct document *d) {
+    struct bsonraw_iter begun, it;
+    expect(bsonraw_iter_init(&begun, d->bytes, d->len) == BSONRAW_OK, d->name, "a document isn't begun");
     for (size_t at = 0; at < d->len + 3; at++) {
-        int is_bad = bsonraw_step(d->bytes, d->len, at).status == BSONRAW_BAD_OFFSET;
-        expect(is_bad == (at < BSONRAW_FIRST || at > d->len), d->name, "an offset is judged wrong");
+        it = begun;
+        it.next = (uint32_t)at;
+        int is_bad = bsonraw_iter_next(&it, d->bytes, d->len) == BSONRAW_BAD_OFFSET;
+        expect(is_bad == (at < 4 || at > d->len), d->name, "an offset is judged wrong");
     }
-    expect(bsonraw_step(d->bytes, d->len, SIZE_MAX).status == BSONRAW_BAD_OFFSET, d->name, "the last offset is taken");
+    it = begun;
+    it.next = 4294967295u;
+    expect(bsonraw_iter_next(&it, d->bytes, d->len) == BSONRAW_BAD_OFFSET, d->name, "the last offset is taken");
+}
+
+/* Whether a call over all levels says that these are no document, for this reason. */
+static int says(const struct whole *w, uint32_t reason, size_t len) {
+    struct bsonraw_report r;
+    memset(&r, 0, sizeof r);
+    r.key_at = len;
+    r.error.kind = BSONRAW_MALFORMED;
+    r.error.reason = reason;
+    return w->status == BSONRAW_NO_DOCUMENT && memcmp(&r, &w->report, sizeof r) == 0;
 }
 
 /* All calls but one that needs no document say that these are no document, and why. */
 static void refuses(const uint8_t *bytes, size_t len, uint32_t reason, const char *name) {
     static struct answers a;
+    struct bsonraw_iter it;
     ask(&a, bytes, len);
-    struct bsonraw_element e = bsonraw_get(bytes, len, (const uint8_t *)"", 0);
-    expect(a.steps[0].status == BSONRAW_NO_DOCUMENT && a.steps[0].fault.reason == reason, name, "step takes it");
-    expect(e.status == BSONRAW_NO_DOCUMENT && e.fault.reason == reason, name, "get takes it");
-    expect(a.form.status == BSONRAW_NO_DOCUMENT && a.form.fault.reason == reason, name, "canonical takes it");
-    expect(a.fault.status == BSONRAW_NO_DOCUMENT && a.fault.fault.reason == reason, name, "first_fault takes it");
-    expect(a.verdict.status == BSONRAW_NO_DOCUMENT && a.verdict.fault.reason == reason, name, "check takes it");
+    expect(a.stepped[0] == BSONRAW_NO_DOCUMENT && a.steps[0].error.reason == reason, name, "a cursor takes it");
+    expect(bsonraw_iter_init_find(&it, bytes, len, (const uint8_t *)"", 0) == BSONRAW_NO_DOCUMENT && it.error.reason == reason, name,
+           "a look-up takes it");
+    expect(says(&a.form, reason, len), name, "canonical takes it");
+    expect(says(&a.fault, reason, len), name, "first_fault takes it");
+    expect(says(&a.verdict, reason, len), name, "check takes it");
+    expect(says(&a.flat, reason, len), name, "flatten takes it");
 }
 
 /* A document one byte short and one over is none. */
@@ -165,21 +167,65 @@ static void judges_lengths(const struct document *d, enum edge edge) {
     unmap(shorter);
 }
 
-/* A limit of just the document's bytes is kept to, and one byte less isn't. */
+/* A limit of just the document's bytes is kept to, and one byte less isn't; nor is one of no levels. */
 static void judges_limits(const struct document *d) {
-    uint8_t room;
-    struct bsonraw_answer least = bsonraw_canonical(d->bytes, d->len, d->len, 500, &room, 0);
-    struct bsonraw_answer less = bsonraw_canonical(d->bytes, d->len, d->len - 1, 500, &room, 0);
-    struct bsonraw_answer flat = bsonraw_first_fault(d->bytes, d->len, d->len, 0, &room, 0);
-    expect(least.status != BSONRAW_TOO_MANY_BYTES, d->name, "its own length is too many bytes");
-    expect(less.status == BSONRAW_TOO_MANY_BYTES, d->name, "a byte less than its length isn't too many");
-    expect(flat.status == BSONRAW_TOO_DEEP, d->name, "no level is allowed, and it isn't too deep");
+    uint8_t room = 0;
+    struct bsonraw_report r;
+    uint64_t path[1] = {7};
+    expect(bsonraw_canonical(d->bytes, d->len, d->len, 500, &room, 0, &r, path, 0) != BSONRAW_TOO_MANY_BYTES, d->name,
+           "its own length is too many bytes for a form");
+    expect(bsonraw_canonical(d->bytes, d->len, d->len - 1, 500, &room, 0, &r, path, 1) == BSONRAW_TOO_MANY_BYTES, d->name,
+           "a byte less than its length isn't too many for a form");
+    expect(bsonraw_check(d->bytes, d->len, d->len, 500, &r, path, 0) != BSONRAW_TOO_MANY_BYTES, d->name, "its own length is too many to check");
+    expect(bsonraw_check(d->bytes, d->len, d->len - 1, 500, &r, path, 1) == BSONRAW_TOO_MANY_BYTES, d->name, "a byte less is checked");
+    expect(bsonraw_first_fault(d->bytes, d->len, d->len - 1, 0, &r, path, 1) == BSONRAW_TOO_MANY_BYTES, d->name, "a byte less has a fault");
+    expect(bsonraw_first_fault(d->bytes, d->len, d->len, 0, &r, path, 1) == BSONRAW_TOO_DEEP, d->name, "no level is allowed, and it isn't too deep");
+    expect(bsonraw_check(d->bytes, d->len, d->len, 0, &r, path, 1) == BSONRAW_TOO_DEEP, d->name, "no level is allowed, and it is checked");
+    expect(path[0] == 7 && r.path_len == 0, d->name, "a limit has a path");
+}
+
+/* As many tokens, and as many numbers of a path, as there is room for, at this edge; the rest is as it was. */
+static void flattens_in(const struct document *d, size_t room, size_t path_room, enum edge edge) {
+    static struct bsonraw_token ample[ROOM];
+    uint64_t ample_path[ROOM];
+    struct bsonraw_report told, r;
+    struct mapped tokens = map(room * sizeof *ample, edge), path = map(path_room * sizeof *ample_path, edge);
+    struct mapped bytes = map_copy(d->bytes, d->len, edge);
+    int32_t status = bsonraw_flatten(d->bytes, d->len, 1 << 24, 500, ample, ROOM, &told, ample_path, ROOM);
+    int32_t other = bsonraw_flatten(bytes.bytes, d->len, 1 << 24, 500, (void *)tokens.bytes, room, &r, (void *)path.bytes, path_room);
+    size_t fit = status != BSONRAW_OK ? 0 : told.count < room ? (size_t)told.count : room;
+    size_t steps = told.path_len < path_room ? (size_t)told.path_len : path_room;
+    expect(memcmp(&told, &r, sizeof r) == 0, d->name, "another report with other room");
+    expect(other == (status == BSONRAW_OK && fit < told.count ? BSONRAW_SMALL_BUFFER : status), d->name, "tokens end otherwise");
+    expect(memcmp(tokens.bytes, ample, fit * sizeof *ample) == 0, d->name, "other tokens with other room");
+    expect(memcmp(path.bytes, ample_path, steps * sizeof *ample_path) == 0, d->name, "another path with other room");
+    expect(status != BSONRAW_OK || is_left(tokens, fit * sizeof *ample), d->name, "a token too many is written");
+    expect(is_left(path, steps * sizeof *ample_path), d->name, "a number too many is written");
+    unmap(tokens);
+    unmap(path);
+    unmap(bytes);
+}
+
+static void flattens(const struct document *d) {
+    static struct bsonraw_token ample[ROOM];
+    uint64_t path[ROOM];
+    struct bsonraw_report told;
+    size_t count, steps;
+    if (bsonraw_flatten(d->bytes, d->len, 1 << 24, 500, ample, ROOM, &told, path, ROOM) == BSONRAW_SMALL_BUFFER) return;
+    count = (size_t)told.count, steps = (size_t)told.path_len;
+    for (enum edge edge = AT_FRONT; edge <= AT_END; edge++) {
+        flattens_in(d, count, steps, edge);
+        flattens_in(d, count + 1, steps + 1, edge);
+        flattens_in(d, count ? count - 1 : 0, steps ? steps - 1 : 0, edge);
+        flattens_in(d, 0, 0, edge);
+    }
 }
 
 static void look_at(const struct document *d) {
-    fills(d, fill_form, 1);
-    fills(d, fill_key, 1);
-    fills(d, fill_path, sizeof(size_t));
+    fills(d, call_canonical);
+    fills(d, call_first_fault);
+    fills(d, call_check);
+    flattens(d);
     for (enum edge edge = AT_FRONT; edge <= AT_END; edge++) {
         reads_its_bytes(d, edge);
         finds(d, edge);

@@ -55,22 +55,46 @@ void read_documents(struct documents *to) {
     expect(to->count > 0, "standard input", "no documents");
 }
 
-/* The walk, up to its end or to MOST answers, and the look-up of each of its keys. */
+int32_t call_canonical(const struct document *d, uint8_t *form, size_t form_len, struct bsonraw_report *report, uint64_t *path,
+                       size_t path_room) {
+    return bsonraw_canonical(d->bytes, d->len, 1 << 24, LEVELS, form, form_len, report, path, path_room);
+}
+
+int32_t call_first_fault(const struct document *d, uint8_t *form, size_t form_len, struct bsonraw_report *report,
+                         uint64_t *path, size_t path_room) {
+    (void)form, (void)form_len;
+    return bsonraw_first_fault(d->bytes, d->len, 1 << 24, LEVELS, report, path, path_room);
+}
+
+int32_t call_check(const struct document *d, uint8_t *form, size_t form_len, struct bsonraw_report *report, uint64_t *path,
+                   size_t path_room) {
+    (void)form, (void)form_len;
+    return bsonraw_check(d->bytes, d->len, 1 << 24, LEVELS, report, path, path_room);
+}
+
+/* The walk, up to its end or to MOST steps, and the value and the look-up of each of its keys. */
 static void walk(struct answers *to, const uint8_t *bytes, size_t len) {
-    size_t at = BSONRAW_FIRST, number = 0;
-    struct bsonraw_element e;
+    struct bsonraw_iter it;
+    int32_t status = bsonraw_iter_init(&it, bytes, len);
+    size_t number = 0;
     do {
-        e = bsonraw_step(bytes, len, at);
-        to->steps[number] = e;
-        if (e.key_at != 0) to->found[number] = bsonraw_get(bytes, len, bytes + e.key_at, e.key_len);
-        at = e.next;
-    } while (++number < MOST && e.status == BSONRAW_OK);
+        if (status == BSONRAW_OK) status = bsonraw_iter_next(&it, bytes, len);
+        to->stepped[number] = status;
+        to->steps[number] = it;
+        if (it.key_at < len)
+            to->looked_up[number] = bsonraw_iter_init_find(&to->found[number], bytes, len, bytes + it.key_at, it.key_len);
+        to->valued[number] = bsonraw_iter_value(&it, bytes, len, &to->values[number]);
+    } while (++number < MOST && status == BSONRAW_OK);
 }
 
 void ask(struct answers *to, const uint8_t *bytes, size_t len) {
+    struct document d;
     memset(to, 0, sizeof *to);
+    d.bytes = (uint8_t *)(uintptr_t)bytes;
+    d.len = len;
     walk(to, bytes, len);
-    to->form = bsonraw_canonical(bytes, len, 1 << 24, 500, to->form_bytes, ROOM);
-    to->fault = bsonraw_first_fault(bytes, len, 1 << 24, 500, to->key, ROOM);
-    to->verdict = bsonraw_check(bytes, len, to->path, ROOM);
+    to->form.status = call_canonical(&d, to->form_bytes, ROOM, &to->form.report, to->form.path, STEPS);
+    to->fault.status = call_first_fault(&d, NULL, 0, &to->fault.report, to->fault.path, STEPS);
+    to->verdict.status = call_check(&d, NULL, 0, &to->verdict.report, to->verdict.path, STEPS);
+    to->flat.status = bsonraw_flatten(bytes, len, 1 << 24, LEVELS, to->tokens, MOST, &to->flat.report, to->flat.path, STEPS);
 }

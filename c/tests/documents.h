@@ -1,11 +1,13 @@
-/* The documents that the tests run on, what each call answers of one, and how a test says what goes wrong. */
+/* The documents that the tests run on, what each call returns of one, and how a test says what goes wrong. */
 #ifndef DOCUMENTS_H
 #define DOCUMENTS_H
 
 #include <bsonraw.h>
 
 #define MOST 64   /* elements of a document at its own level */
-#define ROOM 8192 /* bytes of a form or a key, numbers of a path */
+#define ROOM 8192 /* bytes of a form */
+#define LEVELS 500 /* that a document may have */
+#define STEPS 512 /* numbers of a path */
 
 struct document {
     char name[64];
@@ -18,13 +20,31 @@ struct documents {
     size_t count;
 };
 
-/* What every call answers: the walk, and the look-up of each key in it. What isn't used is 0. */
+/* What a call over a whole document returns. */
+struct whole {
+    int32_t status;
+    struct bsonraw_report report;
+    uint64_t path[STEPS];
+};
+
+/* Such a call, with this room for the path; form is for the canonical form alone. */
+typedef int32_t call(const struct document *d, uint8_t *form, size_t form_len, struct bsonraw_report *report, uint64_t *path,
+                     size_t path_room);
+int32_t call_canonical(const struct document *d, uint8_t *form, size_t form_len, struct bsonraw_report *report, uint64_t *path,
+                       size_t path_room);
+int32_t call_first_fault(const struct document *d, uint8_t *form, size_t form_len, struct bsonraw_report *report,
+                         uint64_t *path, size_t path_room);
+int32_t call_check(const struct document *d, uint8_t *form, size_t form_len, struct bsonraw_report *report, uint64_t *path,
+                   size_t path_room);
+
+/* What every call returns: the steps of a cursor, the value at each, and the look-up of each key. What isn't used is 0. */
 struct answers {
-    struct bsonraw_element steps[MOST], found[MOST];
-    struct bsonraw_answer form, fault;
-    struct bsonraw_verdict verdict;
-    uint8_t form_bytes[ROOM], key[ROOM];
-    size_t path[ROOM];
+    int32_t stepped[MOST], valued[MOST], looked_up[MOST];
+    struct bsonraw_iter steps[MOST], found[MOST];
+    struct bsonraw_value values[MOST];
+    struct whole form, fault, verdict, flat;
+    uint8_t form_bytes[ROOM];
+    struct bsonraw_token tokens[MOST];
 };
 
 /* The documents that standard input has, a line `NAME HEX` each. */
@@ -33,7 +53,7 @@ void read_documents(struct documents *to);
 /* Memory of this many bytes, at least one; the test ends where there is none. */
 void *needed(size_t len);
 
-/* All answers; max_bytes is 1 << 24 and max_depth 500. */
+/* All answers; max_bytes is 1 << 24 and max_depth LEVELS. */
 void ask(struct answers *to, const uint8_t *bytes, size_t len);
 
 /* Says that this went wrong with this document, unless it is so. */

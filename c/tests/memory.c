@@ -1,5 +1,6 @@
-/* Each request for memory that a call makes, refused in turn: the ample answer comes, or BSONRAW_NO_MEMORY, and then the
- * room is as it was. No call keeps a block, and a step and a look-up ask for none. */
+/* Each request for memory that a call makes, refused in turn, alone and with all that follow it: what comes with enough memory,
+ * or BSONRAW_NO_MEMORY, and then the rooms are as they were. No call keeps a block, and a cursor, a value, a builder and a
+ * flattening ask for none. */
 #include "documents.h"
 
 #include <stdio.h>
@@ -11,10 +12,12 @@ void *__libc_realloc(void *old, size_t size);
 void __libc_free(void *block);
 
 static size_t asked, refused; /* since the call began; the number of the request that is refused, or 0 */
+static int from_there_on;     /* whether all that follow it are refused, too */
 static size_t made, given_back;
 
 static int is_refused(void) {
-    return ++asked == refused;
+    asked++;
+    return asked == refused || (from_there_on && refused != 0 && asked > refused);
 }
 
 void *malloc(size_t size) {
@@ -34,45 +37,28 @@ void free(void *block) {
     __libc_free(block);
 }
 
-/* What a call answers, and what it leaves in its room. */
+/* What a call returns, and what it leaves in its rooms. */
 struct outcome {
-    uint32_t status;
-    struct bsonraw_answer answer;
-    struct bsonraw_verdict verdict;
-    size_t room[ROOM];
+    struct whole whole;
+    uint8_t form[ROOM];
 };
-
-typedef void call(const struct document *d, struct outcome *to);
-
-static void call_canonical(const struct document *d, struct outcome *to) {
-    to->answer = bsonraw_canonical(d->bytes, d->len, 1 << 24, 500, (uint8_t *)to->room, sizeof to->room);
-    to->status = to->answer.status;
-}
-
-static void call_first_fault(const struct document *d, struct outcome *to) {
-    to->answer = bsonraw_first_fault(d->bytes, d->len, 1 << 24, 500, (uint8_t *)to->room, sizeof to->room);
-    to->status = to->answer.status;
-}
-
-static void call_check(const struct document *d, struct outcome *to) {
-    to->verdict = bsonraw_check(d->bytes, d->len, to->room, ROOM);
-    to->status = to->verdict.status;
-}
 
 /* The call with its request of this number refused, or none for 0; it keeps no block. */
 static void refuse(const struct document *d, call *run, size_t number, struct outcome *to) {
     memset(to, 0, sizeof *to);
     made = given_back = asked = 0;
     refused = number;
-    run(d, to);
+    to->whole.status = run(d, to->form, ROOM, &to->whole.report, to->whole.path, STEPS);
     refused = 0;
     expect(made == given_back, d->name, "a block is kept");
 }
 
-static int is_empty(const struct outcome *o) {
-    for (size_t at = 0; at < ROOM; at++)
-        if (o->room[at] != 0) return 0;
-    return 1;
+/* Whether nothing is reported, and nothing written. */
+static int is_empty(const struct document *d, const struct outcome *o) {
+    static struct outcome none;
+    none.whole.status = BSONRAW_NO_MEMORY;
+    none.whole.report.key_at = d->len;
+    return memcmp(o, &none, sizeof none) == 0;
 }
 
 /* Refuses each request of a call in turn; how often memory ran out. */
@@ -80,26 +66,49 @@ static size_t refuse_each(const struct document *d, call *run) {
     static struct outcome ample, lacking;
     size_t ran_out = 0;
     refuse(d, run, 0, &ample);
-    expect(ample.status != BSONRAW_NO_MEMORY, d->name, "no memory, where there is some");
+    expect(ample.whole.status != BSONRAW_NO_MEMORY, d->name, "no memory, where there is some");
     for (size_t number = 1, requests = asked; number <= requests; number++) {
         refuse(d, run, number, &lacking);
-        if (lacking.status == BSONRAW_NO_MEMORY) {
+        if (lacking.whole.status == BSONRAW_NO_MEMORY) {
             ran_out++;
-            expect(is_empty(&lacking), d->name, "something is written, though there is no memory");
+            expect(is_empty(d, &lacking), d->name, "something is written, though there is no memory");
         } else {
-            expect(memcmp(&ample, &lacking, sizeof ample) == 0, d->name, "another answer, where a request is refused");
+            expect(memcmp(&ample, &lacking, sizeof ample) == 0, d->name, "another result, where a request is refused");
         }
     }
     return ran_out;
 }
 
-/* A step and a look-up make no request, wherever they are asked. */
+static size_t refuse_both_ways(const struct document *d, call *run) {
+    size_t ran_out;
+    from_there_on = 0;
+    ran_out = refuse_each(d, run);
+    from_there_on = 1;
+    return ran_out + refuse_each(d, run);
+}
+
+/* A cursor, a value, a look-up, a builder and a flattening make no request. */
 static void asks_for_nothing(const struct document *d) {
+    struct bsonraw_token tokens[8];
+    struct bsonraw_report report;
+    struct bsonraw_iter it, found;
+    struct bsonraw_value value;
+    struct bsonraw_builder builder;
+    static uint8_t room[ROOM];
+    uint64_t path[8];
+    int32_t status = bsonraw_iter_init(&it, d->bytes, d->len);
     asked = 0;
-    for (size_t at = 0; at <= d->len; at++) bsonraw_step(d->bytes, d->len, at);
-    bsonraw_get(d->bytes, d->len, (const uint8_t *)"x", 1);
+    bsonraw_builder_begin(&builder, room, ROOM);
+    while (status == BSONRAW_OK) {
+        status = bsonraw_iter_next(&it, d->bytes, d->len);
+        (void)!bsonraw_iter_value(&it, d->bytes, d->len, &value);
+        bsonraw_append_iter(&builder, room, ROOM, &it, d->bytes, d->len);
+    }
+    (void)!bsonraw_builder_end(&builder, room, ROOM);
+    (void)!bsonraw_iter_init_find(&found, d->bytes, d->len, (const uint8_t *)"x", 1);
+    (void)!bsonraw_flatten(d->bytes, d->len, 1 << 24, LEVELS, tokens, 8, &report, path, 8);
     bsonraw_version();
-    expect(asked == 0, d->name, "a step or a look-up asks for memory");
+    expect(asked == 0, d->name, "a call asks for memory that needs none");
 }
 
 int main(void) {
@@ -108,9 +117,9 @@ int main(void) {
     read_documents(&all);
     for (size_t at = 0; at < all.count; at++) {
         const struct document *d = &all.items[at];
-        forms += refuse_each(d, call_canonical);
-        faults += refuse_each(d, call_first_fault);
-        verdicts += refuse_each(d, call_check);
+        forms += refuse_both_ways(d, call_canonical);
+        faults += refuse_both_ways(d, call_first_fault);
+        verdicts += refuse_both_ways(d, call_check);
         asks_for_nothing(d);
     }
     expect(forms > 0 && faults > 0 && verdicts > 0, "memory", "a call never ran out of it");

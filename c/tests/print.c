@@ -30,8 +30,8 @@ static int refused(unsigned number) {
     return 1;
 }
 
-static int print_fault(struct bsonraw_fault fault, int has_key, const uint8_t *key, size_t key_len) {
-    printf("fault %s ", fault.kind == BSONRAW_NOT_UTF8 ? "utf8" : "malformed");
+static int print_fault(uint32_t kind, int has_key, const uint8_t *key, size_t key_len) {
+    printf("fault %s ", kind == BSONRAW_NOT_UTF8 ? "utf8" : "malformed");
     if (has_key) print_hex(key, key_len);
     else printf("none");
     putchar('\n');
@@ -39,49 +39,52 @@ static int print_fault(struct bsonraw_fault fault, int has_key, const uint8_t *k
 }
 
 static int list(size_t len) {
-    struct bsonraw_element e;
-    for (size_t at = BSONRAW_FIRST; (e = bsonraw_step(bytes, len, at)).status == BSONRAW_OK; at = e.next) {
-        printf("%02x ", (unsigned)e.tag);
-        print_hex(bytes + e.key_at, e.key_len);
-        printf(" %lu\n", (unsigned long)e.payload_len);
+    struct bsonraw_iter it;
+    int32_t status = bsonraw_iter_init(&it, bytes, len);
+    if (status != BSONRAW_OK) return refused(it.error.reason);
+    while ((status = bsonraw_iter_next(&it, bytes, len)) == BSONRAW_OK) {
+        printf("%02x ", (unsigned)it.tag);
+        print_hex(bytes + it.key_at, it.key_len);
+        printf(" %lu\n", (unsigned long)it.payload_len);
     }
-    if (e.status == BSONRAW_NO_DOCUMENT) return refused(e.fault.reason);
-    if (e.status == BSONRAW_FAULT) return print_fault(e.fault, e.key_at != 0, bytes + e.key_at, e.key_len);
-    return e.status == BSONRAW_NONE ? puts("end") < 0 : 4;
-}
-
-static int first_fault(size_t len) {
-    uint8_t empty;
-    struct bsonraw_answer a = bsonraw_first_fault(bytes, len, 1 << 24, 500, &empty, 0);
-    size_t room = a.has_key ? a.len : 0;
-    uint8_t *key = malloc(room + 1);
-    if (key == NULL) return 4;
-    a = bsonraw_first_fault(bytes, len, 1 << 24, 500, key, room);
-    int status = a.status == BSONRAW_FAULT ? print_fault(a.fault, a.has_key != 0, key, a.len) : 4;
-    free(key);
-    return status;
+    if (status == BSONRAW_FAULT) return print_fault(it.error.kind, it.key_at < len, bytes + it.key_at, it.key_len);
+    return status == BSONRAW_NONE ? puts("end") < 0 : 4;
 }
 
 /* The form, whose length is asked for first. */
 static int print_form(size_t len, size_t form_len) {
+    struct bsonraw_report r;
+    uint64_t path[1];
     uint8_t *form = malloc(form_len);
     if (form == NULL) return 4;
-    struct bsonraw_answer a = bsonraw_canonical(bytes, len, 1 << 24, 500, form, form_len);
-    if (a.status == BSONRAW_OK) {
-        print_hex(form, a.len);
+    int32_t status = bsonraw_canonical(bytes, len, 1 << 24, 500, form, form_len, &r, path, 0);
+    if (status == BSONRAW_OK) {
+        print_hex(form, form_len);
         putchar('\n');
     }
     free(form);
-    return a.status == BSONRAW_OK ? 0 : 4;
+    return status == BSONRAW_OK ? 0 : 4;
+}
+
+/* Whether the program prints the key of this fault: it leaves out that of an element with a value whose text isn't UTF-8, or
+ * whose inner length is at fault, or that is a code with scope at fault inside. */
+static int prints_key(const struct bsonraw_report *r) {
+    const uint8_t *payload = bytes + r->key_at + r->key_len + 1;
+    uint32_t reason = r->error.reason, tag = bytes[r->error.offset];
+    if (!r->has_key || reason == BSONRAW_ADD_OVERFLOW) return 0;
+    if (r->error.kind == BSONRAW_NOT_UTF8) return tag == BSONRAW_TAG_REGEX;
+    if (tag != BSONRAW_TAG_JAVASCRIPT_WITH_SCOPE || reason == BSONRAW_CODE_TOO_SMALL) return 1;
+    return reason == BSONRAW_LENGTH_HEAD_SHORT || reason == BSONRAW_PAST_END || (reason == BSONRAW_NEGATIVE_LENGTH && payload[3] > 127);
 }
 
 static int canon(size_t len) {
-    uint8_t empty;
-    struct bsonraw_answer a = bsonraw_canonical(bytes, len, 1 << 24, 500, &empty, 0);
-    switch (a.status) {
-    case BSONRAW_SMALL_BUFFER: return print_form(len, a.len);
-    case BSONRAW_FAULT: return first_fault(len);
-    case BSONRAW_NO_DOCUMENT: return refused(a.fault.reason);
+    uint8_t empty = 0;
+    struct bsonraw_report r;
+    uint64_t path[1];
+    switch (bsonraw_canonical(bytes, len, 1 << 24, 500, &empty, 0, &r, path, 0)) {
+    case BSONRAW_SMALL_BUFFER: return print_form(len, (size_t)r.count);
+    case BSONRAW_FAULT: return print_fault(r.error.kind, prints_key(&r), bytes + r.key_at, (size_t)r.key_len);
+    case BSONRAW_NO_DOCUMENT: return refused(r.error.reason);
     case BSONRAW_TOO_LONG: return refused(5);
     case BSONRAW_TOO_MANY_BYTES: return refused(6);
     case BSONRAW_TOO_DEEP: return refused(7);
@@ -91,13 +94,14 @@ static int canon(size_t len) {
 
 static int check(size_t len) {
     static const char *const causes[] = {"", "stop", "value", "repeated-key", "array-key", "options"};
-    static size_t path[1 << 18];
-    struct bsonraw_verdict v = bsonraw_check(bytes, len, path, sizeof path / sizeof *path);
-    if (v.status == BSONRAW_NO_DOCUMENT) return refused(v.fault.reason);
-    if (v.status == BSONRAW_OK) return puts("canonical") < 0;
-    if (v.status != BSONRAW_BREACH) return 4;
-    printf("breach %s ", causes[v.cause]);
-    for (size_t at = 0; at < v.path_len; at++) printf("%s%lu", at ? "." : "", (unsigned long)path[at]);
+    static uint64_t path[1 << 18];
+    struct bsonraw_report r;
+    int32_t status = bsonraw_check(bytes, len, SIZE_MAX, SIZE_MAX, &r, path, sizeof path / sizeof *path);
+    if (status == BSONRAW_NO_DOCUMENT) return refused(r.error.reason);
+    if (status == BSONRAW_OK) return puts("canonical") < 0;
+    if (status != BSONRAW_BREACH) return 4;
+    printf("breach %s ", causes[r.cause]);
+    for (size_t at = 0; at < r.path_len; at++) printf("%s%lu", at ? "." : "", (unsigned long)path[at]);
     putchar('\n');
     return 1;
 }

@@ -4,7 +4,7 @@
 #include <stdio.h>
 #include <string.h>
 
-/* A document, and its first fault; key is NULL where the fault has none. */
+/* A document, and its first fault; key is NULL where the place has none. */
 struct row {
     const char *bytes;
     size_t len;
@@ -32,45 +32,57 @@ static const struct row rows[] = {
     {BYTES("\7\0\0\0\13r\0"), MALFORMED, BSONRAW_NO_TERMINATOR, 0, 0, "r"},
     {BYTES("\11\0\0\0\10k\0\377\0"), MALFORMED, BSONRAW_BAD_BOOLEAN, 255, 0, "k"},
     {BYTES("\15\0\0\0\5k\0\0\0\0\0\2\0"), MALFORMED, BSONRAW_OLD_NO_INNER, 0, 0, "k"},
-    {BYTES("\21\0\0\0\5b\0\4\0\0\0\2\377\377\377\377\0"), MALFORMED, BSONRAW_ADD_OVERFLOW, 0, 0, NULL},
+    {BYTES("\21\0\0\0\5b\0\4\0\0\0\2\377\377\377\377\0"), MALFORMED, BSONRAW_ADD_OVERFLOW, 0, 0, "b"},
     {BYTES("\21\0\0\0\5k\0\4\0\0\0\2\1\0\0\0\0"), MALFORMED, BSONRAW_OLD_WRONG_INNER, 0, 0, "k"},
     {BYTES("\25\0\0\0\17k\0\15\0\0\0\1\0\0\0\0\4\0\0\0\0"), MALFORMED, BSONRAW_CODE_TOO_SMALL, 0, 0, "k"},
     {BYTES("\7\0\0\0\12\377\0"), BSONRAW_NOT_UTF8, 0, 0, 0, NULL},
     {BYTES("\12\0\0\0\13a\0\377\0\0"), BSONRAW_NOT_UTF8, 0, 0, 0, "a"},
     /* a scope that isn't sound has the reasons of an envelope, as faults */
-    {BYTES("\26\0\0\0\17k\0\16\0\0\0\2\0\0\0c\0\4\0\0\0\0"), MALFORMED, BSONRAW_TOO_SHORT, 0, 0, NULL},
-    {BYTES("\27\0\0\0\17c\0\17\0\0\0\1\0\0\0\0\5\0\0\0\0\0\0"), MALFORMED, BSONRAW_LENGTH_INCORRECT, 0, 0, NULL},
-    {BYTES("\26\0\0\0\17k\0\16\0\0\0\1\0\0\0\0\5\0\0\0\1\0"), MALFORMED, BSONRAW_NOT_TERMINATED, 0, 0, NULL},
+    {BYTES("\26\0\0\0\17k\0\16\0\0\0\2\0\0\0c\0\4\0\0\0\0"), MALFORMED, BSONRAW_TOO_SHORT, 0, 0, "k"},
+    {BYTES("\27\0\0\0\17c\0\17\0\0\0\1\0\0\0\0\5\0\0\0\0\0\0"), MALFORMED, BSONRAW_LENGTH_INCORRECT, 0, 0, "c"},
+    {BYTES("\26\0\0\0\17k\0\16\0\0\0\1\0\0\0\0\5\0\0\0\1\0"), MALFORMED, BSONRAW_NOT_TERMINATED, 0, 0, "k"},
 };
 
-static int is_fault(const struct row *row, struct bsonraw_fault fault) {
-    return fault.kind == row->kind && fault.reason == row->reason && fault.number == row->number && fault.left == row->left;
+static int is_fault(const struct row *row, struct bsonraw_error error) {
+    return error.kind == row->kind && error.reason == row->reason && error.number == row->number && error.left == row->left;
 }
 
-static int has_key(const struct row *row, struct bsonraw_answer a, const uint8_t *key) {
-    if (row->key == NULL) return !a.has_key && a.len == 0;
-    return a.has_key && a.len == strlen(row->key) && memcmp(key, row->key, a.len) == 0;
+/* Each document has one level, so that its first fault is at the only number of the path. */
+static int is_place(const struct row *row, const struct whole *w, size_t offset, uint64_t number) {
+    const struct bsonraw_report *r = &w->report;
+    if (w->status != BSONRAW_FAULT || r->error.offset != offset || r->path_len != 1 || w->path[0] != number) return 0;
+    if (row->key == NULL) return !r->has_key && r->key_at == row->len && r->key_len == 0;
+    return r->has_key && r->key_at == offset + 1 && r->key_len == strlen(row->key) &&
+           memcmp(row->bytes + r->key_at, row->key, (size_t)r->key_len) == 0;
 }
 
-/* A stop is told by the walk too, and by a look-up of a key that isn't there; a value's fault by its look-up. */
+/* A stop is told by the walk too, and by a look-up of a key that isn't there; a value's fault by bsonraw_iter_value. */
 static void look_at(const struct row *row, const char *name) {
     static struct answers a;
     const uint8_t *bytes = (const uint8_t *)row->bytes;
-    struct bsonraw_element absent = bsonraw_get(bytes, row->len, (const uint8_t *)"absent", 6);
-    size_t last = 0;
+    struct bsonraw_iter absent;
+    int32_t status = bsonraw_iter_init_find(&absent, bytes, row->len, (const uint8_t *)"absent", 6);
+    size_t last = 0, place, is_stop;
     ask(&a, bytes, row->len);
-    expect(a.form.status == BSONRAW_FAULT && is_fault(row, a.form.fault), name, "canonical says another fault");
-    expect(a.fault.status == BSONRAW_FAULT && is_fault(row, a.fault.fault), name, "first_fault says another fault");
-    expect(has_key(row, a.fault, a.key), name, "first_fault gives another key");
-    while (a.steps[last].status == BSONRAW_OK) last++;
-    if (a.steps[last].status == BSONRAW_FAULT) {
-        expect(is_fault(row, a.steps[last].fault), name, "the walk says another fault");
-        expect(absent.status == BSONRAW_FAULT && is_fault(row, absent.fault), name, "a look-up says another stop");
-        expect((a.steps[last].key_at != 0) == (row->key != NULL), name, "the walk places another key");
+    while (a.stepped[last] == BSONRAW_OK) last++;
+    is_stop = a.stepped[last] == BSONRAW_FAULT;
+    place = is_stop ? last : last - 1; /* a value at fault is the last element */
+    const struct whole *calls[] = {&a.form, &a.fault, &a.flat};
+    for (size_t at = 0; at < 3; at++) {
+        size_t offset = is_stop ? a.steps[place].next : a.steps[place].key_at - 1;
+        expect(is_fault(row, calls[at]->report.error), name, "a call over all levels says another fault");
+        expect(is_place(row, calls[at], offset, place), name, "a call over all levels says another place");
+    }
+    expect(a.verdict.status == BSONRAW_BREACH && a.verdict.report.cause == (is_stop ? BSONRAW_STOP : BSONRAW_VALUE) &&
+               a.verdict.report.error.kind == 0, name, "check says another cause");
+    if (is_stop) {
+        expect(is_fault(row, a.steps[last].error), name, "the walk says another fault");
+        expect(status == BSONRAW_FAULT && is_fault(row, absent.error), name, "a look-up says another stop");
+        expect((a.steps[last].key_at != row->len) == (row->key != NULL), name, "the walk places another key");
     } else {
-        expect(a.found[0].status == BSONRAW_FAULT && is_fault(row, a.found[0].fault), name, "get says another fault");
-        expect(a.found[0].next == a.steps[0].next, name, "get places the value elsewhere");
-        expect(absent.status == BSONRAW_NONE, name, "a key is there that isn't");
+        expect(a.valued[place] == BSONRAW_FAULT && is_fault(row, a.values[place].error), name, "a value says another fault");
+        expect(a.values[place].tag == 0, name, "a value is there, and a fault");
+        expect(status == BSONRAW_NONE, name, "a key is there that isn't");
     }
 }
 

@@ -5,13 +5,25 @@
 #include <string.h>
 
 uint32_t right_version(void);
-struct bsonraw_element right_step(const uint8_t *document, size_t len, size_t offset);
-struct bsonraw_element right_get(const uint8_t *document, size_t len, const uint8_t *key, size_t key_len);
-struct bsonraw_answer right_canonical(const uint8_t *document, size_t len, size_t max_bytes, size_t max_depth, uint8_t *form,
-                                      size_t form_len);
-struct bsonraw_answer right_first_fault(const uint8_t *document, size_t len, size_t max_bytes, size_t max_depth, uint8_t *key,
-                                        size_t key_len);
-struct bsonraw_verdict right_check(const uint8_t *document, size_t len, size_t *path, size_t room);
+int32_t right_canonical(const uint8_t *bytes, size_t len, size_t max_bytes, size_t max_depth, uint8_t *form, size_t form_len,
+                        struct bsonraw_report *report, uint64_t *path, size_t path_room);
+int32_t right_first_fault(const uint8_t *bytes, size_t len, size_t max_bytes, size_t max_depth, struct bsonraw_report *report,
+                          uint64_t *path, size_t path_room);
+int32_t right_check(const uint8_t *bytes, size_t len, size_t max_bytes, size_t max_depth, struct bsonraw_report *report,
+                    uint64_t *path, size_t path_room);
+int32_t right_iter_init_find(struct bsonraw_iter *iter, const uint8_t *bytes, size_t len, const uint8_t *key, size_t key_len);
+int32_t right_iter_init(struct bsonraw_iter *iter, const uint8_t *bytes, size_t len);
+int32_t right_iter_recurse(const struct bsonraw_iter *iter, const uint8_t *bytes, size_t len, struct bsonraw_iter *child);
+int32_t right_iter_next(struct bsonraw_iter *iter, const uint8_t *bytes, size_t len);
+int32_t right_iter_find(struct bsonraw_iter *iter, const uint8_t *bytes, size_t len, const uint8_t *key, size_t key_len);
+int32_t right_iter_find_descendant(struct bsonraw_iter *iter, const uint8_t *bytes, size_t len, const uint8_t *path,
+                                   size_t path_len, uint8_t separator);
+int32_t right_iter_next_many(struct bsonraw_iter *iter, const uint8_t *bytes, size_t len, struct bsonraw_entry *entries,
+                             size_t room, uint64_t *count);
+int32_t right_iter_value(const struct bsonraw_iter *iter, const uint8_t *bytes, size_t len, struct bsonraw_value *value);
+int32_t right_reader_read(struct bsonraw_reader *reader, const uint8_t *bytes, size_t len);
+int32_t right_flatten(const uint8_t *bytes, size_t len, size_t max_bytes, size_t max_depth, struct bsonraw_token *tokens,
+                      size_t room, struct bsonraw_report *report, uint64_t *path, size_t path_room);
 int sched_yield(void);
 
 uint32_t bsonraw_version(void) {
@@ -19,44 +31,153 @@ uint32_t bsonraw_version(void) {
 }
 
 /* 1: a byte behind the document is read. */
-struct bsonraw_element bsonraw_step(const uint8_t *document, size_t len, size_t offset) {
-    const volatile uint8_t *behind = document + len;
+int32_t bsonraw_iter_init(struct bsonraw_iter *iter, const uint8_t *bytes, size_t len) {
+    const volatile uint8_t *behind = bytes + len;
     if (MISTAKE == 1 && *behind == 1) len++;
-    return right_step(document, len, offset);
+    return right_iter_init(iter, bytes, len);
 }
 
-/* 2: the answer passes through memory that all threads share. */
-struct bsonraw_element bsonraw_get(const uint8_t *document, size_t len, const uint8_t *key, size_t key_len) {
-    static struct bsonraw_element shared;
-    struct bsonraw_element own = right_get(document, len, key, key_len);
-    if (MISTAKE != 2) return own;
-    shared = own;
+/* 2: the cursor passes through memory that all threads share. */
+int32_t bsonraw_iter_init_find(struct bsonraw_iter *iter, const uint8_t *bytes, size_t len, const uint8_t *key, size_t key_len) {
+    static struct bsonraw_iter shared;
+    int32_t status = right_iter_init_find(iter, bytes, len, key, key_len);
+    if (MISTAKE != 2) return status;
+    shared = *iter;
     sched_yield();
-    return shared;
+    *iter = shared;
+    return status;
 }
 
-/* 3: a byte behind the form is written. 4: a part of the form is written where it doesn't fit. */
-struct bsonraw_answer bsonraw_canonical(const uint8_t *document, size_t len, size_t max_bytes, size_t max_depth, uint8_t *form,
-                                        size_t form_len) {
-    struct bsonraw_answer a = right_canonical(document, len, max_bytes, max_depth, form, form_len);
-    if (MISTAKE == 3 && a.status == BSONRAW_OK) form[a.len] = 0;
-    if (MISTAKE == 4 && a.status == BSONRAW_SMALL_BUFFER) memset(form, 0, form_len);
-    return a;
+/* 3: a byte behind the form is written. 4: a part of the form is written where it doesn't fit. 20: the form is the document. */
+int32_t bsonraw_canonical(const uint8_t *bytes, size_t len, size_t max_bytes, size_t max_depth, uint8_t *form, size_t form_len,
+                          struct bsonraw_report *report, uint64_t *path, size_t path_room) {
+    int32_t status = right_canonical(bytes, len, max_bytes, max_depth, form, form_len, report, path, path_room);
+    if (MISTAKE == 3 && status == BSONRAW_OK) form[report->count] = 0;
+    if (MISTAKE == 4 && status == BSONRAW_SMALL_BUFFER) memset(form, 0, form_len);
+    if (MISTAKE == 20 && status == BSONRAW_OK && len == report->count) memcpy(form, bytes, len);
+    return status;
 }
 
-/* 5: want of memory is no fault. 6: another reason. */
-struct bsonraw_answer bsonraw_first_fault(const uint8_t *document, size_t len, size_t max_bytes, size_t max_depth, uint8_t *key,
-                                          size_t key_len) {
-    struct bsonraw_answer a = right_first_fault(document, len, max_bytes, max_depth, key, key_len);
-    if (MISTAKE == 5 && a.status == BSONRAW_NO_MEMORY) a.status = BSONRAW_OK;
-    if (MISTAKE == 6 && a.fault.reason == BSONRAW_OLD_NO_INNER) a.fault.reason = BSONRAW_OLD_WRONG_INNER;
-    return a;
+/* 5: out of memory is no fault. 6: another reason. 21: the key of a stop is hidden. */
+int32_t bsonraw_first_fault(const uint8_t *bytes, size_t len, size_t max_bytes, size_t max_depth, struct bsonraw_report *report,
+                            uint64_t *path, size_t path_room) {
+    int32_t status = right_first_fault(bytes, len, max_bytes, max_depth, report, path, path_room);
+    if (MISTAKE == 5 && status == BSONRAW_NO_MEMORY) return BSONRAW_OK;
+    if (MISTAKE == 6 && report->error.reason == BSONRAW_OLD_NO_INNER) report->error.reason = BSONRAW_OLD_WRONG_INNER;
+    if (MISTAKE == 21 && report->error.reason == BSONRAW_STRING_PAST_END) report->has_key = 0;
+    return status;
 }
 
-/* 7: a block is kept. */
-struct bsonraw_verdict bsonraw_check(const uint8_t *document, size_t len, size_t *path, size_t room) {
+/* 7: a block is kept. 22: a breach inside another level is at that level. */
+int32_t bsonraw_check(const uint8_t *bytes, size_t len, size_t max_bytes, size_t max_depth, struct bsonraw_report *report,
+                      uint64_t *path, size_t path_room) {
     static void *kept;
+    int32_t status = right_check(bytes, len, max_bytes, max_depth, report, path, path_room);
     if (MISTAKE == 7) kept = malloc(1);
     if (kept != NULL) memset(kept, 0, 1);
-    return right_check(document, len, path, room);
+    if (MISTAKE == 22 && report->path_len > 1) report->path_len--;
+    return status;
+}
+
+/* 8: a document in another is begun where it isn't. */
+int32_t bsonraw_iter_recurse(const struct bsonraw_iter *iter, const uint8_t *bytes, size_t len, struct bsonraw_iter *child) {
+    int32_t status = right_iter_recurse(iter, bytes, len, child);
+    if (MISTAKE == 8) child->next++;
+    return status;
+}
+
+/* 9: a stop is the end. */
+int32_t bsonraw_iter_next(struct bsonraw_iter *iter, const uint8_t *bytes, size_t len) {
+    int32_t status = right_iter_next(iter, bytes, len);
+    return MISTAKE == 9 && status == BSONRAW_FAULT ? BSONRAW_NONE : status;
+}
+
+/* 10: a key that only begins with the one that is looked for. */
+int32_t bsonraw_iter_find(struct bsonraw_iter *iter, const uint8_t *bytes, size_t len, const uint8_t *key, size_t key_len) {
+    return right_iter_find(iter, bytes, len, key, MISTAKE == 10 && key_len > 3 ? 3 : key_len);
+}
+
+/* 11: the reader goes on behind a length that isn't sound. */
+int32_t bsonraw_reader_read(struct bsonraw_reader *reader, const uint8_t *bytes, size_t len) {
+    uint64_t next = reader->next;
+    int32_t status = right_reader_read(reader, bytes, len);
+    if (MISTAKE == 11 && status == BSONRAW_NO_DOCUMENT && reader->next == len) reader->next = next + 1;
+    return status;
+}
+
+/* 12: the room is called full where the document ends. */
+int32_t bsonraw_iter_next_many(struct bsonraw_iter *iter, const uint8_t *bytes, size_t len, struct bsonraw_entry *entries,
+                               size_t room, uint64_t *count) {
+    int32_t status = right_iter_next_many(iter, bytes, len, entries, room, count);
+    return MISTAKE == 12 && status == BSONRAW_NONE && *count > 0 ? BSONRAW_OK : status;
+}
+
+/* 13: an old binary with its inner length. */
+int32_t bsonraw_iter_value(const struct bsonraw_iter *iter, const uint8_t *bytes, size_t len, struct bsonraw_value *value) {
+    int32_t status = right_iter_value(iter, bytes, len, value);
+    if (MISTAKE == 13 && value->tag == BSONRAW_TAG_BINARY && value->subtype == 2) value->text_at -= 4, value->text_len += 4;
+    return status;
+}
+
+/* 14: a path that goes into what has no inside finds nothing. */
+int32_t bsonraw_iter_find_descendant(struct bsonraw_iter *iter, const uint8_t *bytes, size_t len, const uint8_t *path,
+                                     size_t path_len, uint8_t separator) {
+    int32_t status = right_iter_find_descendant(iter, bytes, len, path, path_len, separator);
+    return MISTAKE == 14 && status == BSONRAW_OTHER_KIND ? BSONRAW_NONE : status;
+}
+
+int32_t right_builder_begin(struct bsonraw_builder *builder, const uint8_t *room, size_t room_len);
+int32_t right_builder_end(struct bsonraw_builder *builder, uint8_t *room, size_t room_len);
+int32_t right_append(struct bsonraw_builder *builder, uint8_t *room, size_t room_len, uint32_t tag, const uint8_t *key,
+                     size_t key_len, const uint8_t *one, size_t one_len, const uint8_t *two, size_t two_len);
+int32_t right_append_iter(struct bsonraw_builder *builder, uint8_t *room, size_t room_len, const struct bsonraw_iter *iter,
+                          const uint8_t *bytes, size_t len);
+int32_t right_append_begin(const struct bsonraw_builder *builder, uint8_t *room, size_t room_len, uint32_t tag,
+                           const uint8_t *key, size_t key_len, struct bsonraw_builder *level);
+int32_t right_append_end(struct bsonraw_builder *builder, uint8_t *room, size_t room_len,
+                         const struct bsonraw_builder *level);
+
+int32_t bsonraw_builder_begin(struct bsonraw_builder *builder, const uint8_t *room, size_t room_len) {
+    return right_builder_begin(builder, room, room_len);
+}
+
+/* 15: the final 0 is put behind a room that is full. */
+int32_t bsonraw_builder_end(struct bsonraw_builder *builder, uint8_t *room, size_t room_len) {
+    return right_builder_end(builder, room, MISTAKE == 15 ? room_len + 1 : room_len);
+}
+
+/* 16: what is refused is no more than left out. */
+int32_t bsonraw_append(struct bsonraw_builder *builder, uint8_t *room, size_t room_len, uint32_t tag, const uint8_t *key,
+                       size_t key_len, const uint8_t *one, size_t one_len, const uint8_t *two, size_t two_len) {
+    int32_t was = builder->status;
+    int32_t status = right_append(builder, room, room_len, tag, key, key_len, one, one_len, two, two_len);
+    if (MISTAKE == 16 && status == BSONRAW_FAULT) builder->status = was;
+    return status;
+}
+
+int32_t bsonraw_append_iter(struct bsonraw_builder *builder, uint8_t *room, size_t room_len, const struct bsonraw_iter *iter,
+                            const uint8_t *bytes, size_t len) {
+    return right_append_iter(builder, room, room_len, iter, bytes, len);
+}
+
+/* 17: an array is begun as a document. */
+int32_t bsonraw_append_begin(const struct bsonraw_builder *builder, uint8_t *room, size_t room_len, uint32_t tag,
+                             const uint8_t *key, size_t key_len, struct bsonraw_builder *level) {
+    int32_t status = right_append_begin(builder, room, room_len, tag, key, key_len, level);
+    if (MISTAKE == 17 && tag == BSONRAW_TAG_ARRAY) level->tag = BSONRAW_TAG_DOCUMENT;
+    return status;
+}
+
+int32_t bsonraw_append_end(struct bsonraw_builder *builder, uint8_t *room, size_t room_len,
+                           const struct bsonraw_builder *level) {
+    return right_append_end(builder, room, room_len, level);
+}
+
+/* 18: a token that has another inside says one less. 19: a number of the path is written behind the room. */
+int32_t bsonraw_flatten(const uint8_t *bytes, size_t len, size_t max_bytes, size_t max_depth, struct bsonraw_token *tokens,
+                        size_t room, struct bsonraw_report *report, uint64_t *path, size_t path_room) {
+    int32_t status = right_flatten(bytes, len, max_bytes, max_depth, tokens, room, report, path, path_room);
+    if (MISTAKE == 18 && status == BSONRAW_OK && report->count > 0 && tokens[0].inside > 0) tokens[0].inside--;
+    if (MISTAKE == 19 && report->path_len > path_room) path[path_room] = 0;
+    return status;
 }

@@ -12,6 +12,8 @@ extern FILE *stderr;
 int printf(const char *format, ...);
 int fprintf(FILE *to, const char *format, ...);
 int putchar(int byte);
+int fputc(int byte, FILE *to);
+int snprintf(char *text, size_t room, const char *format, ...);
 int puts(const char *line);
 int getchar(void);
 size_t fread(void *items, size_t size, size_t count, FILE *from);

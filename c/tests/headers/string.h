@@ -3,10 +3,18 @@
 
 #include <stddef.h>
 
+#ifdef __cplusplus
+extern "C" {
+#endif
+
 void *memcpy(void *to, const void *from, size_t len);
 void *memset(void *to, int byte, size_t len);
 int memcmp(const void *one, const void *other, size_t len);
 int strcmp(const char *one, const char *other);
 size_t strlen(const char *text);
+
+#ifdef __cplusplus
+}
+#endif
 
 #endif

@@ -1,3 +1,13 @@
-mod LookingUp
+mod BuildReads
+mod Building
+mod Counting
+mod Descending
+mod Filling
+mod Finding
+mod Iterating
+mod Parts
 mod Placing
-mod Telling
+pub mod Putting
+mod Reporting
+mod Stepping
+mod Valuing

@@ -24,6 +24,7 @@ status_code status.TooLong = 7
 status_code status.SmallBuffer = 8
 status_code status.BadOffset = 9
 status_code status.NoMemory = 10
+status_code status.OtherKind = 11
 
 abbrev pub fault_code : Fault → ℕ
 fault_code Malformed = 1
@@ -105,23 +106,3 @@ IsNoFault told = (told.kind ≡ 0) × IsNoReason told
 abbrev pub TellsFaultCode : Fault → FaultCode → Type 0
 TellsFaultCode Malformed told = (r : Reason) × IsReadingReason r × SaysKind (kind.MalformedValue r) told
 TellsFaultCode Utf8 told = (told.kind ≡ fault_code Utf8) × IsNoReason told
-
--- what is told of an error of reading or of writing: of a limit, as of want of memory, no fault
-abbrev pub SaysError : ErrorKind → FaultCode → Type 0
-SaysError (kind.MalformedValue reason.TooManyBytes) told = IsNoFault told
-SaysError (kind.MalformedValue reason.TooDeep) told = IsNoFault told
-SaysError (kind.MalformedValue reason.TooLong) told = IsNoFault told
-SaysError k told = SaysKind k told
-
--- the status of an error of reading or of writing
-abbrev pub status_of_error : ErrorKind → Status
-status_of_error (kind.MalformedValue reason.TooManyBytes) = status.TooManyBytes
-status_of_error (kind.MalformedValue reason.TooDeep) = status.TooDeep
-status_of_error (kind.MalformedValue reason.TooLong) = status.TooLong
-status_of_error (kind.MalformedValue _) = status.Fault
-status_of_error (kind.Utf8EncodingError _) = status.Fault
-status_of_error kind.OutOfMemory = status.NoMemory
-
--- this status, with this fault, says that bytes are no document, and this reason for it
-abbrev pub TellsNoDocument : Reason → ℕ → FaultCode → Type 0
-TellsNoDocument r code told = (code ≡ status_code status.NoDocument) × SaysKind (kind.MalformedValue r) told

@@ -1,5 +1,13 @@
+pub mod Build
+pub mod BuildParts
 pub mod Codes
+pub mod Paths
 pub mod Places
-pub mod Steps
+pub mod Dumps
+pub mod Entries
 pub mod Forms
+pub mod Iters
+pub mod Values
 pub mod Verdicts
+pub mod Reports
+pub mod Tokens

@@ -1,42 +1,49 @@
--- What is answered of whether a document is canonical. The bytes b are the caller's, and so is the room for the path.
-use Rattle.std.specs.Prelude.{◌≡◌, ◌⊎◌, ℕ, List, length}
-use Rattle.raw_bson.specs.Breaches.{HasBreachAs}
-use Rattle.raw_bson.specs.Canonical.{IsCanonical}
-use Rattle.raw_bson.specs.Cause.{Cause}
-use Rattle.raw_bson.specs.Envelope.{IsEnvelope, Refuses}
-use Rattle.raw_bson.specs.Reading.{as_document}
-use Rattle.raw_bson.specs.Reason.{Reason}
-use Rattle.bsonraw_c.specs.Codes.{IsNoFault, TellsNoDocument, cause_code, status_code}
-use Rattle.bsonraw_c.specs.Forms.{Fills}
-use Rattle.bsonraw_c.specs.declared.answers.Verdict.{Verdict}
+-- Whether a document is canonical. The bytes b are the caller's, and so is the room for a path, before and after.
+use Rattle.std.specs.Prelude.{◌≡◌, ◌⊎◌, ◌<◌, ℕ, ℤ, List, length}
+use Rattle.raw_bson.specs.Envelope.{IsEnvelope}
+use Rattle.raw_bson.specs.Limits.{Limits}
+use Rattle.raw_form.specs.Places.{Step}
+use Rattle.raw_form.specs.Tokens.{last_key}
+use Rattle.raw_form.specs.Verdicts.{FirstVerdict, IsCanonicalWithin, Verdict, breach_of, too_deep}
+use Rattle.bsonraw_c.specs.Codes.{IsNoFault, cause_code}
+use Rattle.bsonraw_c.specs.Iters.{Returns}
+use Rattle.bsonraw_c.specs.Reports.{EndsWith, HasNumbers, HasPlace, ReportsRefusal, RunsOut}
 use Rattle.bsonraw_c.specs.declared.codes.Status.{Status}
 use Rattle.bsonraw_c.specs.declared.codes.Status.TheVariants as status
+use Rattle.bsonraw_c.specs.declared.report.Report.{Report}
 
--- the answer has no cause and no path
-abbrev pub IsNoBreach : Verdict → Type 0
-IsNoBreach answer = (answer.cause ≡ 0) × (answer.path_len ≡ 0)
+-- the status of a verdict
+abbrev pub status_of_verdict : Verdict → Status
+status_of_verdict too_deep = status.TooDeep
+status_of_verdict (breach_of why) = status.Breach
 
--- the answer is this status alone
-abbrev pub SaysNoMore : Status → Verdict → Type 0
-SaysNoMore s answer = (answer.status ≡ status_code s) × IsNoFault answer.fault × IsNoBreach answer
+-- the number of the cause of a breach; of a limit 0
+abbrev pub cause_of_verdict : Verdict → ℕ
+cause_of_verdict too_deep = 0
+cause_of_verdict (breach_of why) = cause_code why
 
--- the answer says this breach, and the path is in the room where it fits
-pub record GivesBreach (path : List ℕ) (why : Cause) (before after : List ℕ) (answer : Verdict) : Type 0 where
-  pub status_is : answer.status ≡ status_code status.Breach
-  pub cause_is : answer.cause ≡ cause_code why
-  pub len_is : answer.path_len ≡ length path
-  pub no_fault : IsNoFault answer.fault
-  pub filled : Fills path before after
+-- The first verdict on the document b is reported with its place and its cause, and no fault; a stop has no key.
+pub record ReportsVerdict (limits : Limits) (b room path : List ℕ) (report : Report) (s : Status) : Type 0 where
+  pub x : Verdict
+  pub steps : List Step
+  pub offset : ℕ
+  pub first : FirstVerdict limits b x steps offset
+  pub no_fault : IsNoFault report.fault.why
+  pub place : HasPlace (length b) offset (length steps) (last_key steps) report
+  pub cause : report.cause ≡ cause_of_verdict x
+  pub numbers : HasNumbers steps room path
+  pub status_is : s ≡ status_of_verdict x
 
--- of the document b: it is canonical; or its first breach; or memory ran out
-abbrev pub JudgesIn : List ℕ → List ℕ → List ℕ → Verdict → Type 0
-JudgesIn b before after answer =
-    (IsCanonical b × SaysNoMore status.Done answer × (after ≡ before))
-    ⊎ ((path : List ℕ) × (why : Cause) × HasBreachAs as_document b path why × GivesBreach path why before after answer)
-    ⊎ (SaysNoMore status.NoMemory answer × (after ≡ before))
+-- What is returned of the document b: that it is canonical within the limits, or has too many bytes; or its first breach or
+-- level that is too deep; or memory ran out.
+abbrev pub JudgesIn : Limits → List ℕ → List ℕ → List ℕ → Report → Status → Type 0
+JudgesIn limits b room path report s =
+    (IsCanonicalWithin limits b × EndsWith status.Done b room path report s)
+    ⊎ ((limits.bytes < length b) × EndsWith status.TooManyBytes b room path report s)
+    ⊎ ReportsVerdict limits b room path report s
+    ⊎ RunsOut limits b room path report s
 
 -- of any bytes
-abbrev pub AnswersCheck : List ℕ → List ℕ → List ℕ → Verdict → Type 0
-AnswersCheck b before after answer =
-    (IsEnvelope b × JudgesIn b before after answer)
-    ⊎ ((r : Reason) × Refuses b r × TellsNoDocument r answer.status answer.fault × IsNoBreach answer × (after ≡ before))
+abbrev pub JudgesBytes : Limits → List ℕ → List ℕ → List ℕ → Report → ℤ → Type 0
+JudgesBytes limits b room path report code =
+    (IsEnvelope b × (s : Status) × JudgesIn limits b room path report s × Returns s code) ⊎ ReportsRefusal b room path report code

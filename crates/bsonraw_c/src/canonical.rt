@@ -1,71 +1,88 @@
-ghost use Rattle.std.specs.Prelude.{IfErr, IfOk};
-ghost use Rattle.bsonraw_c.specs.Forms.{AnswersForm, FormsIn, IsFormWithin, LacksForm, PutsForm};
+ghost use Rattle.std.specs.Prelude.{IsTrue, ◌↔◌, ◌≡◌};
+ghost use Rattle.bsonraw_c.specs.Forms.{FormsBytes, FormsIn, PutsForm};
 ghost use Rattle.raw_bson.specs.Document.{bytes_of};
 
-use crate::answers::Answer;
 use crate::codes::Status;
+use crate::first_fault::fault_in;
+use crate::report::Report;
 use crate::room::put;
 use crate::view::document_of;
-use raw_bson::{Limits, RawDocument, RawDocumentBuf, Result, document_from_raw_within};
+use raw_bson::{ErrorKind, Limits, RawDocument, Reason};
+use raw_form::canonical_within;
 use std::alloc::Global;
 
-/// Puts the canonical form of a document that keeps to the limits into the caller's room, and answers how many bytes it
-/// has; where it doesn't fit, nothing is put. Else it answers why there is none.
+/// Puts the canonical form of a document that keeps to the limits into the caller's room, and reports how many bytes it has;
+/// where it doesn't fit, nothing is put. Else it reports why there is none, and where.
 #[unsafe(no_mangle)]
 pub extern "C" fn bsonraw_canonical(
     alloc: Global,
-    document: &[u8],
+    bytes: &[u8],
     max_bytes: usize,
     max_depth: usize,
     form: &mut [u8],
-) -> Answer
-    ensures { AnswersForm (record { bytes = max_bytes; depth = max_depth })
-        document.now form.old form.new result }
+    report: &mut Report,
+    path: &mut [usize],
+) -> i32
+    ensures { FormsBytes (record { bytes = max_bytes; depth = max_depth })
+        bytes.now form.old form.new path.old path.new report.new result }
 {
     let limits = Limits {
         bytes: max_bytes,
         depth: max_depth,
     };
-    match document_of(document) {
-        Ok(document) => form_in(alloc, document, limits, form),
-        Err(reason) => Answer::no_document(reason),
+    match document_of(bytes) {
+        Ok(document) => form_in(alloc, document, limits, form, report, path).number(),
+        Err(reason) => {
+            *report = Report::no_document(bytes.len(), reason);
+            Status::NoDocument.number()
+        }
     }
 }
 
-/// Puts the canonical form of this document into the room.
-fn form_in(alloc: Global, document: RawDocument<'_>, limits: Limits, room: &mut [u8]) -> Answer
-    ensures { FormsIn limits (bytes_of document.entry) room.old room.new result }
-{
-    match canonical_form(alloc, document, limits) {
-        Ok(form) => put_form(room, form.as_bytes()),
-        Err(error) => Answer::of_error(&error),
-    }
-}
-
-/// The canonical form of a document that keeps to the limits.
-fn canonical_form(
+/// Puts the canonical form of this document into the room. Where it has none, and no barrier either, memory ran out.
+fn form_in(
     alloc: Global,
     document: RawDocument<'_>,
     limits: Limits,
-) -> Result<RawDocumentBuf>
-    ensures form { IfOk result (IsFormWithin limits (bytes_of document.entry)) }
-    ensures refused { IfErr result (LacksForm limits (bytes_of document.entry)) }
+    room: &mut [u8],
+    report: &mut Report,
+    path: &mut [usize],
+) -> Status
+    ensures { FormsIn limits (bytes_of document.entry) room.old room.new path.old path.new report.new result }
 {
-    let tree = document_from_raw_within(alloc, document, limits)?;
-    RawDocumentBuf::from_document(alloc, &tree)
+    let end = document.as_bytes().len();
+    let error = match canonical_within(alloc, document.as_bytes(), limits) {
+        Ok(form) => return put_form(end, &form, room, report),
+        Err(error) => error,
+    };
+    if is_too_long(&error.kind) {
+        *report = Report::none(end);
+        return Status::TooLong;
+    }
+    match fault_in(alloc, document, limits, report, path) {
+        Status::Done => Status::NoMemory,
+        status => status,
+    }
 }
 
-/// Puts a form into the room.
-fn put_form(room: &mut [u8], form: &[u8]) -> Answer
-    ensures { PutsForm form.now room.old room.new result }
+/// Whether a form would be too long.
+fn is_too_long(kind: &ErrorKind) -> bool
+    ensures { IsTrue result ↔ (kind.now ≡ ErrorKind.MalformedValue Reason.TooLong) }
 {
-    let status = if put(room, form) {
+    match kind {
+        ErrorKind::MalformedValue { reason } => matches!(reason, Reason::TooLong),
+        ErrorKind::Utf8EncodingError(_) | ErrorKind::OutOfMemory => false,
+    }
+}
+
+/// Puts the form of a document of so many bytes into the room.
+fn put_form(end: usize, form: &[u8], room: &mut [u8], report: &mut Report) -> Status
+    ensures { PutsForm end form.now room.old room.new report.new result }
+{
+    *report = Report::counted(end, form.len());
+    if put(room, form) {
         Status::Done
     } else {
         Status::SmallBuffer
-    };
-    Answer {
-        len: form.len(),
-        ..Answer::of_status(status)
     }
 }

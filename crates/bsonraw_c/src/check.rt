@@ -1,36 +1,68 @@
-ghost use Rattle.bsonraw_c.specs.Verdicts.{AnswersCheck, JudgesIn};
+ghost use Rattle.bsonraw_c.specs.Verdicts.{JudgesBytes, JudgesIn};
 ghost use Rattle.raw_bson.specs.Document.{bytes_of};
 
-use crate::answers::Verdict;
-use crate::codes::Status;
-use crate::room::put;
+use crate::answers::FaultCode;
+use crate::codes::{Status, number_of_cause};
+use crate::report::Report;
 use crate::view::document_of;
-use raw_bson::{RawDocument, validate};
+use raw_bson::{Limits, RawDocument};
+use raw_form::{ValidateError, validate_within};
 use std::alloc::Global;
 
-/// Whether a document is canonical; or the first place where it fails to be, depth first in byte order, and why. The
-/// numbers of the path are put into the caller's room, and the answer says how many there are; where they don't fit, none
-/// is put. No depth fills the stack.
+/// Whether a document is canonical within limits; or reports the first place where it fails to be, depth first in byte order,
+/// and why.
 #[unsafe(no_mangle)]
-pub extern "C" fn bsonraw_check(alloc: Global, document: &[u8], path: &mut [usize]) -> Verdict
-    ensures { AnswersCheck document.now path.old path.new result }
+pub extern "C" fn bsonraw_check(
+    alloc: Global,
+    bytes: &[u8],
+    max_bytes: usize,
+    max_depth: usize,
+    report: &mut Report,
+    path: &mut [usize],
+) -> i32
+    ensures { JudgesBytes (record { bytes = max_bytes; depth = max_depth })
+        bytes.now path.old path.new report.new result }
 {
-    match document_of(document) {
-        Ok(document) => judge_in(alloc, document, path),
-        Err(reason) => Verdict::no_document(reason),
+    let limits = Limits {
+        bytes: max_bytes,
+        depth: max_depth,
+    };
+    match document_of(bytes) {
+        Ok(document) => judge_in(alloc, document, limits, report, path).number(),
+        Err(reason) => {
+            *report = Report::no_document(bytes.len(), reason);
+            Status::NoDocument.number()
+        }
     }
 }
 
 /// Whether this document is canonical.
-fn judge_in(alloc: Global, document: RawDocument<'_>, room: &mut [usize]) -> Verdict
-    ensures { JudgesIn (bytes_of document.entry) room.old room.new result }
+fn judge_in(
+    alloc: Global,
+    document: RawDocument<'_>,
+    limits: Limits,
+    report: &mut Report,
+    path: &mut [usize],
+) -> Status
+    ensures { JudgesIn limits (bytes_of document.entry) path.old path.new report.new result }
 {
-    match validate(alloc, document) {
-        Ok(None) => Verdict::of_status(Status::Done),
+    let end = document.as_bytes().len();
+    *report = Report::none(end);
+    match validate_within(alloc, document, limits) {
+        Ok(None) => Status::Done,
         Ok(Some(breach)) => {
-            put(room, &breach.path);
-            Verdict::breach(breach.cause, breach.path.len())
+            let place = &breach.place;
+            *report = Report {
+                cause: number_of_cause(breach.cause),
+                ..Report::at(end, place, place.key(), FaultCode::none(), path)
+            };
+            Status::Breach
         }
-        Err(_) => Verdict::of_status(Status::NoMemory),
+        Err(ValidateError::TooManyBytes) => Status::TooManyBytes,
+        Err(ValidateError::TooDeep(place)) => {
+            *report = Report::at(end, &place, place.key(), FaultCode::none(), path);
+            Status::TooDeep
+        }
+        Err(ValidateError::OutOfMemory) => Status::NoMemory,
     }
 }

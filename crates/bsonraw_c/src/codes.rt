@@ -1,7 +1,8 @@
 //! Statuses, reasons and causes as numbers, which never change.
 
-ghost use Rattle.std.specs.Prelude.{◌≡◌};
+ghost use Rattle.std.specs.Prelude.{◌≡◌, ◌<◌, ◌^◌};
 ghost use Rattle.bsonraw_c.specs.Codes.{cause_code, reason_code, status_code};
+ghost use Rattle.bsonraw_c.specs.Iters.{Returns};
 
 use raw_bson::{Cause, Reason};
 
@@ -30,12 +31,15 @@ pub enum Status {
     BadOffset,
     /// no memory was left
     NoMemory,
+    /// a value of another kind
+    OtherKind,
 }
 
 impl Status {
     /// The number of the status.
     pub fn code(self) -> u32
-        ensures { result ≡ status_code self }
+        ensures code { result ≡ status_code self }
+        ensures small { result < 2 ^ 31 }
     {
         match self {
             Status::Done => 0,
@@ -49,7 +53,15 @@ impl Status {
             Status::SmallBuffer => 8,
             Status::BadOffset => 9,
             Status::NoMemory => 10,
+            Status::OtherKind => 11,
         }
+    }
+
+    /// The number of the status, as a call returns it.
+    pub fn number(self) -> i32
+        ensures { Returns self result }
+    {
+        self.code() as i32
     }
 }
 

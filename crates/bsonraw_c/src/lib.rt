@@ -1,15 +1,25 @@
-//! The library for C: what `c/bsonraw.h` declares. Bytes cross as a pointer and a length, answers as structs by value, and
-//! bytes go out into the caller's buffer. No call keeps anything after it returns.
+//! The library for C: what `c/bsonraw.h` declares. Bytes cross as a pointer and a length; a call returns its status, and fills
+//! structs and rooms of the caller. No call keeps anything after it returns.
 #![tactic(auto)]
 
 mod answers;
+mod build;
+mod build_bytes;
+mod build_parts;
 mod canonical;
 mod check;
 mod codes;
-mod element;
+mod fault;
+mod finds;
 mod first_fault;
-mod look_up;
+mod flatten;
+mod iter;
+mod many;
+mod moves;
+mod paths;
+mod reader;
+mod report;
 mod room;
+mod value;
 mod version;
 mod view;
-mod walk;

@@ -1,5 +1,6 @@
-ghost use Rattle.std.specs.Prelude.{IsTrue, ◌↔◌, ◌≤◌, length};
+ghost use Rattle.std.specs.Prelude.{IsTrue, ◌↔◌, ◌≤◌, ◌<◌, ◌+◌, length, IfSome, IfNone};
 ghost use Rattle.bsonraw_c.specs.Forms.{Fills};
+ghost use Rattle.bsonraw_c.specs.Places.{StandsAt};
 
 /// Puts these items at the front of the caller's room and leaves what stands behind them; where they don't fit, it leaves
 /// all of it. Whether they fit.
@@ -13,4 +14,20 @@ pub fn put<T: Copy>(room: &mut [T], items: &[T]) -> bool
     let (front, _) = room.split_at_mut(items.len());
     front.copy_from_slice(items);
     true
+}
+
+/// So many of the bytes from this offset on; or none, where there are fewer.
+#[inline(always)]
+pub fn part(bytes: &[u8], offset: usize, len: usize) -> Option<&[u8]>
+    ensures stands { IfSome result (λ part. StandsAt bytes.now offset len part.now) }
+    ensures short { IfNone result (length bytes.now < offset + len) }
+{
+    if bytes.len() < offset {
+        return None;
+    }
+    let (_, behind) = bytes.split_at(offset);
+    if behind.len() < len {
+        return None;
+    }
+    Some(behind.split_at(len).0)
 }

@@ -14,7 +14,7 @@ pub fn document_of<'a>(bytes: &'a [u8]) -> Result<RawDocument<'a>, Reason>
         Ok(document) => Ok(document),
         Err(error) => match error.kind {
             ErrorKind::MalformedValue { reason } => Err(reason),
-            _ => unreachable!(),
+            ErrorKind::Utf8EncodingError(_) | ErrorKind::OutOfMemory => unreachable!(),
         },
     }
 }

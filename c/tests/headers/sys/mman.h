@@ -8,6 +8,7 @@
 #define PROT_WRITE 2
 #define MAP_PRIVATE 2
 #define MAP_ANONYMOUS 32
+#define MAP_NORESERVE 16384
 #define MAP_FAILED ((void *)-1)
 
 void *mmap(void *at, size_t len, int access, int how, int file, long offset);

@@ -1,13 +1,20 @@
-use Rattle.std.proofs.Common.{◌≡◌, List, ℕ, arith, inl, inr, length, subst}
-use Rattle.raw_bson.specs.Breaches.{TellsBreach}
+use Rattle.std.proofs.Common.{Err, Ok, Option, arith, subst}
 use Rattle.raw_bson.specs.Document.{bytes_of}
-use Rattle.bsonraw_c.specs.Forms.{Fills}
+use Rattle.raw_form.proofs.Face.{verdict_bound}
+use Rattle.raw_form.specs.Barriers.{steps_of}
+use Rattle.raw_form.specs.Verdicts.{TellsVerdict, breach_of, too_deep}
+use Rattle.raw_form.specs.declared.verdict.PlacedBreach.{PlacedBreach}
+use Rattle.raw_form.specs.declared.verdict.ValidateError.{ValidateError}
 use Rattle.bsonraw_c.proofs.check.judge_in.Goals as goal
 
-pub returns-in-Ok-Some : goal.returns-in-Ok-Some
-returns-in-Ok-Some c =
-    let path = c.in-Ok-Some.breach.path in
-    let breach = subst (TellsBreach (bytes_of c.args.document)) c.in-Ok-Some.field-0-is c.in-Ok-Some.ensures.breach in
-    let filled = subst (λ (items : List ℕ). Fills items c.args.room.now c.put.new.room) c.deref.ensures.value c.put.ensures.filled in
-    let len : c.breach.result.path_len ≡ length path.items = omega (arith, c.breach.ensures.path_len, c.len.ensures, path.ok.0) in
-    inr (inl (path.items, c.in-Ok-Some.breach.cause, breach, record { status_is = c.breach.ensures.status; cause_is = c.breach.ensures.cause; len_is = len; no_fault = c.breach.ensures.fault; filled = filled }))
+pub at-requires : goal.at-requires
+at-requires c =
+    let breach = c.in-Ok-Some.breach in
+    let told = subst (λ (found : Option PlacedBreach). TellsVerdict c.args.limits (bytes_of c.args.document) (Ok found)) c.in-Ok-Some.field-0-is c.in-Ok-Some.ensures.verdict in
+    omega (arith, verdict_bound c.args.limits (bytes_of c.args.document) (breach_of breach.cause) (steps_of breach.place) breach.place.offset told, c.ranges.document)
+
+pub at-requires-in-Err-TooDeep : goal.at-requires-in-Err-TooDeep
+at-requires-in-Err-TooDeep c =
+    let place = c.in-Err-TooDeep.place in
+    let told = subst (λ (error : ValidateError). TellsVerdict c.args.limits (bytes_of c.args.document) (Err error)) c.in-Err-TooDeep.field-0-is c.in-Err-TooDeep.ensures.verdict in
+    omega (arith, verdict_bound c.args.limits (bytes_of c.args.document) too_deep (steps_of place) place.offset told, c.ranges.document)

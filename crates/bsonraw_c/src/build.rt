@@ -1,0 +1,331 @@
+//! A builder of documents in the caller's room, as C keeps it.
+
+ghost use Rattle.std.specs.Prelude.{◌≡◌, ◌≤◌, ◌<◌, ◌+◌, ◌++◌, ◌∷◌, [], ◌↔◌, length, pos, IsTrue, IfSome, IfNone};
+ghost use Rattle.bsonraw_c.specs.Build.{Adds, Appends, AppendsElement, AreParts, Begins, Closes, Ends, GoesOn, HoldsDocument, HoldsEnded, HoldsLevel, HoldsMore, IsBegun, IsElementOf, IsReadElement, IsTooLong, Opens, Refuses, TakesLevel};
+ghost use Rattle.bsonraw_c.specs.BuildParts.{AddsUnder, frame_of_parts};
+ghost use Rattle.bsonraw_c.specs.Codes.{status_code};
+
+use crate::build_bytes::{put_at, put_len};
+use crate::build_parts::{Layout, Parts, is_c_text};
+use crate::codes::Status;
+use crate::iter::Iter;
+use crate::value::element_at;
+use itoa::Buffer;
+use raw_bson::ElementType;
+
+/// The most bytes that a document has, and the most elements that are counted.
+const MOST: u32 = 2147483647;
+
+/// A level that isn't ended yet: a document or an array, whose elements so far are in the room.
+#[repr(C)]
+#[derive(Clone, Copy)]
+pub struct Builder {
+    /// how many bytes of the room are taken: where the next element begins
+    pub len: u32,
+    /// where the level begins
+    pub begins: u32,
+    /// how many elements it has
+    pub count: u32,
+    /// 3 a document, 4 an array
+    pub tag: u32,
+    /// how the calls so far ended: what was refused first, or that room was wanting
+    pub status: i32,
+}
+
+/// Begins a document at the front of the room.
+#[unsafe(no_mangle)]
+pub extern "C" fn bsonraw_builder_begin(builder: &mut Builder, room: &[u8]) -> i32
+    ensures begins { Begins room.now builder.new }
+    ensures status { result ≡ builder.new.status }
+{
+    let status = if room.len() < 4 {
+        Status::SmallBuffer
+    } else {
+        Status::Done
+    };
+    *builder = Builder {
+        len: 4,
+        begins: 0,
+        count: 0,
+        tag: 3,
+        status: status.number(),
+    };
+    builder.status
+}
+
+/// Ends a document, which is then at the front of the room.
+#[unsafe(no_mangle)]
+pub extern "C" fn bsonraw_builder_end(builder: &mut Builder, room: &mut [u8]) -> i32
+    ensures closes { Closes builder.old builder.new room.old room.new }
+    ensures holds { HoldsDocument builder.old builder.new room.old room.new }
+    ensures status { result ≡ builder.new.status }
+{
+    builder.close(room);
+    builder.status
+}
+
+/// Appends the element of this tag, whose payload is made of one part or two. In an array its key is the next number.
+#[unsafe(no_mangle)]
+pub extern "C" fn bsonraw_append(
+    builder: &mut Builder,
+    room: &mut [u8],
+    tag: u32,
+    key: &[u8],
+    one: &[u8],
+    two: &[u8],
+) -> i32
+    ensures appends { Appends tag key.now one.now two.now builder.old builder.new room.old room.new }
+    ensures holds { HoldsMore (IsReadElement builder.old tag key.now one.now two.now)
+        builder.old builder.new room.old room.new }
+    ensures status { result ≡ builder.new.status }
+{
+    if !builder.goes_on() {
+        return builder.status;
+    }
+    builder.append(room, tag, key, one, two);
+    builder.status
+}
+
+/// Appends the element that an iterator is at, as it is. In an array its key is the next number.
+#[unsafe(no_mangle)]
+pub extern "C" fn bsonraw_append_iter(
+    builder: &mut Builder,
+    room: &mut [u8],
+    iter: &Iter,
+    bytes: &[u8],
+) -> i32
+    ensures appends { AppendsElement bytes.now iter.now builder.old builder.new room.old room.new }
+    ensures holds { HoldsMore (IsElementOf builder.old bytes.now iter.now)
+        builder.old builder.new room.old room.new }
+    ensures status { result ≡ builder.new.status }
+{
+    if !builder.goes_on() {
+        return builder.status;
+    }
+    builder.append_iter(room, iter, bytes);
+    builder.status
+}
+
+/// Begins a document or an array in the level that the builder has. The new builder has it; the other one is to be used again
+/// once that is ended.
+#[unsafe(no_mangle)]
+pub extern "C" fn bsonraw_append_begin(
+    builder: &Builder,
+    room: &mut [u8],
+    tag: u32,
+    key: &[u8],
+    level: &mut Builder,
+) -> i32
+    ensures opens { Opens tag key.now builder.now level.new room.old room.new }
+    ensures holds { HoldsLevel tag key.now builder.now level.new room.old room.new }
+    ensures status { result ≡ level.new.status }
+{
+    *level = *builder;
+    if !level.goes_on() {
+        return level.status;
+    }
+    level.open(room, tag, key);
+    level.status
+}
+
+/// Ends a document or an array, which is then an element of the level that the builder has.
+#[unsafe(no_mangle)]
+pub extern "C" fn bsonraw_append_end(builder: &mut Builder, room: &mut [u8], level: &Builder) -> i32
+    ensures ends { Ends level.now builder.old builder.new room.old room.new }
+    ensures holds { HoldsEnded level.now builder.old builder.new room.old room.new }
+    ensures status { result ≡ builder.new.status }
+{
+    if !builder.goes_on() {
+        return builder.status;
+    }
+    builder.end(room, level);
+    builder.status
+}
+
+impl Builder {
+    /// Whether nothing was refused so far, though room may have been wanting.
+    #[inline(always)]
+    fn goes_on(&self) -> bool
+        ensures { IsTrue result ↔ GoesOn self.now }
+    {
+        self.status == 0 || self.status == 8
+    }
+
+    /// Whether the level's length has its four bytes, as that of each builder that a call has begun.
+    #[inline(always)]
+    fn is_begun(&self) -> bool
+        ensures { IsTrue result ↔ IsBegun self.now }
+    {
+        4 <= self.len && self.begins <= self.len - 4
+    }
+
+    /// Says this status from now on.
+    #[inline(always)]
+    fn refuse(&mut self, status: Status)
+        ensures { self.new ≡ record self.old { status = pos (status_code status) } }
+    {
+        self.status = status.number();
+    }
+
+    /// How many bytes are taken with an element of so many more; or none, where they are too many.
+    #[inline(always)]
+    fn len_with(&self, size: usize) -> Option<u32>
+        ensures fits { IfSome result (λ len. (len ≡ self.now.len + size) × ¬ IsTooLong self.now size) }
+        ensures too_long { IfNone result (IsTooLong self.now size) }
+    {
+        if MOST <= self.count || MOST < self.len || ((MOST - self.len) as usize) < size {
+            return None;
+        }
+        Some(self.len + size as u32)
+    }
+
+    /// Appends an element under this key, or in an array under the next number.
+    #[inline(always)]
+    fn add_under(&mut self, room: &mut [u8], key: &[u8], parts: Parts<'_>)
+        requires { AreParts parts.layout parts.one.now parts.two.now }
+        ensures { AddsUnder key.now parts.entry self.old self.new room.old room.new }
+    {
+        if self.tag == 4 {
+            let number = self.count;
+            self.add(room, Buffer::new().format(number).as_bytes(), parts);
+        } else if is_c_text(key) {
+            self.add(room, key, parts);
+        } else {
+            self.refuse(Status::Fault);
+        }
+    }
+
+    /// Appends an element under this key.
+    #[inline(always)]
+    fn add(&mut self, room: &mut [u8], key: &[u8], parts: Parts<'_>)
+        requires { AreParts parts.layout parts.one.now parts.two.now }
+        ensures { Adds (frame_of_parts key.now parts.entry) self.old self.new room.old room.new }
+    {
+        let size = parts.len().saturating_add(key.len()).saturating_add(2);
+        let Some(len) = self.len_with(size) else {
+            return self.refuse(Status::TooLong);
+        };
+        let at = self.len as usize;
+        self.len = len;
+        self.count += 1;
+        if room.len() < (len as usize) {
+            self.refuse(Status::SmallBuffer);
+        } else {
+            parts.put(room, at, key);
+        }
+    }
+
+    /// Appends the element of this tag with these parts.
+    #[inline(always)]
+    fn append(&mut self, room: &mut [u8], tag: u32, key: &[u8], one: &[u8], two: &[u8])
+        requires { GoesOn self.old }
+        ensures { Appends tag key.now one.now two.now self.old self.new room.old room.new }
+    {
+        if !self.is_begun() {
+            return self.refuse(Status::BadOffset);
+        }
+        match Parts::of(tag, one, two) {
+            Ok(parts) => self.add_under(room, key, parts),
+            Err(status) => self.refuse(status),
+        }
+    }
+
+    /// Appends the element that an iterator is at.
+    #[inline(always)]
+    fn append_iter(&mut self, room: &mut [u8], iter: &Iter, bytes: &[u8])
+        requires { GoesOn self.old }
+        ensures { AppendsElement bytes.now iter.now self.old self.new room.old room.new }
+    {
+        if !self.is_begun() {
+            return self.refuse(Status::BadOffset);
+        }
+        let Some(element) = element_at(iter, bytes) else {
+            return self.refuse(Status::BadOffset);
+        };
+        let parts = Parts::of_element(element);
+        self.add_under(room, element.key().as_bytes(), parts);
+    }
+
+    /// Becomes the builder of a level in its own.
+    fn open(&mut self, room: &mut [u8], tag: u32, key: &[u8])
+        requires { GoesOn self.old }
+        ensures { Opens tag key.now self.old self.new room.old room.new }
+    {
+        if !self.is_begun() {
+            return self.refuse(Status::BadOffset);
+        }
+        let kind = match tag {
+            3 => ElementType::EmbeddedDocument,
+            4 => ElementType::Array,
+            _ => return self.refuse(Status::OtherKind),
+        };
+        let unset = Parts {
+            kind,
+            layout: Layout::Fixed(4),
+            one: &[0; 4],
+            two: &[],
+        };
+        self.add_under(room, key, unset);
+        if self.goes_on() {
+            self.begins = self.len - 4;
+            self.count = 0;
+            self.tag = tag;
+        }
+    }
+
+    /// Puts the final 0 of the level, and its length.
+    fn close(&mut self, room: &mut [u8])
+        ensures { Closes self.old self.new room.old room.new }
+    {
+        if !self.goes_on() {
+            return;
+        }
+        if !self.is_begun() {
+            return self.refuse(Status::BadOffset);
+        }
+        if MOST <= self.len {
+            return self.refuse(Status::TooLong);
+        }
+        let begins = self.begins as usize;
+        let end = self.len as usize;
+        self.len += 1;
+        if room.len() <= end {
+            self.refuse(Status::SmallBuffer);
+        } else {
+            put_at(room, end, &[0]);
+            put_len(room, begins, end + 1 - begins);
+        }
+    }
+
+    /// Ends a level, and takes it as an element.
+    #[inline(always)]
+    fn end(&mut self, room: &mut [u8], level: &Builder)
+        requires { GoesOn self.old }
+        ensures { Ends level.now self.old self.new room.old room.new }
+    {
+        if !self.is_begun() {
+            return self.refuse(Status::BadOffset);
+        }
+        if MOST <= self.count {
+            return self.refuse(Status::TooLong);
+        }
+        let mut closed = *level;
+        closed.close(room);
+        self.take_level(closed);
+    }
+
+    /// Takes a level that is closed as an element.
+    #[inline(always)]
+    fn take_level(&mut self, level: Builder)
+        requires { self.old.count < 2147483647 }
+        ensures { TakesLevel self.old level self.new }
+    {
+        if level.goes_on() {
+            self.len = level.len;
+            self.count += 1;
+        }
+        if level.status != 0 {
+            self.status = level.status;
+        }
+    }
+}
