@@ -1,0 +1,426 @@
+#!/bin/sh
+# dumps.sh [PROGRAM]: tries bsonraw-dump on real files, pipes, devices and closed streams. PROGRAM is the proved one of
+# crates/bsonraw_dump unless it is given. What it has to print is written by hand from docs/DUMPS.md. The bytes of each
+# document are in the table below.
+set -u
+
+root=$(dirname "$(dirname "$(realpath "$0")")")
+program=$(realpath "${1:-$root/crates/bsonraw_dump/out/bsonraw_dump}")
+work=$(mktemp -d) || exit 1
+trap 'chmod -R u+rwx "$work"; rm -rf "$work"' EXIT
+cd "$work" || exit 1
+failed=0
+
+# Each document in a file of its own, and dumps of some of them.
+python3 - <<'END' || exit 1
+documents = {
+    "empty": "0500000000",
+    "one": "0c000000 10 6100 01000000 00",
+    "repeated": "13000000 10 6100 01000000 10 6100 02000000 00",
+    "repeated.form": "0c000000 10 6100 02000000 00",
+    "nested": "1b000000 03 6400 13000000 10 6300 01000000 10 6300 02000000 00 00",
+    "nested.form": "14000000 03 6400 0c000000 10 6300 02000000 00 00",
+    "array": "13000000 04 6100 0b000000 0a 7800 0a 3100 00 00",
+    "array.form": "13000000 04 6100 0b000000 0a 3000 0a 3100 00 00",
+    "options": "0d000000 0b 7200 7000 786900 00",
+    "options.form": "0d000000 0b 7200 7000 697800 00",
+    "boolean": "09000000 08 6100 02 00",
+    "both": "17000000 10 6100 01000000 10 6100 02000000 08 6200 02 00",
+    "key": "0b000000 08 0a225c00 02 00",
+    "stop": "06000000 10 00",
+    "tag": "08000000 20 6100 00",
+    "unended": "0500000001",
+    "cut3": "0c0000",
+    "cut6": "0c000000 10 61",
+    "under": "04000000 00",
+    "negative": "ffffffff 00",
+    "over": "01400001 00",
+    "kinds": "0e010000 01 6400 000000000000f83f 01 6500 ffffffffffffff7f 02 7300 06000000 68656c6c6f00 03 6f00 0500000000"
+    " 04 6100 0c000000 10 3000 01000000 00 05 6200 03000000 80 010203 06 7500 07 6900 000102030405060708090a0b"
+    " 08 7400 01 09 7a00 e803000000000000 0a 6e00 0b 7200 6100 6900 0c 7000 02000000 6e00 000102030405060708090a0b"
+    " 0d 6a00 02000000 7800 0e 7900 02000000 7900 0f 7700 0f000000 02000000 7800 0500000000 10 6b00 ffffffff"
+    " 11 6d00 02000000 01000000 12 6c00 ffffffffffffffff 13 7100 000102030405060708090a0b0c0d0e0f 7f 7800 ff 7600 00",
+}
+made = {name: bytes.fromhex(digits) for name, digits in documents.items()}
+made["kinds"] = len(made["kinds"]).to_bytes(4, "little") + made["kinds"][4:]
+for levels in (500, 501):
+    document = made["empty"]
+    for _ in range(levels - 1):
+        document = (len(document) + 8).to_bytes(4, "little") + b"\x03d\0" + document + b"\0"
+    made["levels%d" % levels] = document
+made["most"] = (16793600).to_bytes(4, "little") + b"\x05b\0" + (16793600 - 13).to_bytes(4, "little") + b"\0" * (16793600 - 11)
+made["long"] = b"\x02s\0\x41\0\0\0" + b"x" * 64 + b"\0\x02t\0\x42\0\0\0" + b"x" * 65 + b"\0"
+made["long"] = (len(made["long"]) + 5).to_bytes(4, "little") + made["long"] + b"\0"
+made["million"] = made["one"] * 1000000
+made["distinct"] = b"".join(b"\x0c\0\0\0\x10a\0" + i.to_bytes(4, "little") + b"\0" for i in range(200000))
+dumps = {
+    "sound.bson": "one empty one",
+    "mixed.bson": "one repeated boolean nested unended one",
+    "mixed.canon": "one repeated.form nested.form one",
+    "mixed.sound": "one repeated nested one",
+    "breaches.bson": "repeated nested array options",
+    "breaches.canon": "repeated.form nested.form array.form options.form",
+    "damage.bson": "boolean both key stop tag unended levels500 levels501",
+    "cut.bson": "one cut6",
+    "few.bson": "repeated boolean stop tag unended both",
+    "under.bson": "repeated under one",
+    "twice.bson": "one repeated one nested boolean repeated.form nested.form empty one",
+    "twice.unique": "one repeated.form nested.form empty",
+    "twice.later": "array options one",
+    "twice.both": "one repeated.form nested.form empty array.form options.form",
+}
+for name, parts in dumps.items():
+    made[name] = b"".join(made[part] for part in parts.split())
+for name, content in made.items():
+    with open(name, "wb") as file:
+        file.write(content)
+END
+
+# tried WHAT STATUS: compares what a run printed (out, err) and its status (status) with what has to come (wanted.out,
+# wanted.err, as they are; `-` is nothing)
+tried() {
+    cmp -s out wanted.out && cmp -s err wanted.err && [ "$status" = "$2" ] && return
+    failed=1
+    echo "dumps.sh: $1: status $status, wanted $2" >&2
+    diff wanted.out out >&2
+    diff wanted.err err >&2
+    return 1
+}
+
+# run WHAT STATUS ARGUMENTS: runs the program; wanted.out and wanted.err were written before
+run() {
+    what=$1 want=$2
+    shift 2
+    "$program" "$@" >out 2>err
+    status=$?
+    tried "$what" "$want"
+}
+
+wants() {
+    printf '%s' "$1" >wanted.out
+    printf '%s' "${2:-}" >wanted.err
+}
+
+# -- check
+
+wants 'documents: 0, bytes: 0, not canonical: 0, damaged: 0
+'
+run 'nothing on standard input' 0 check </dev/null
+wants 'documents: 3, bytes: 29, not canonical: 0, damaged: 0
+'
+run 'a sound dump' 0 check sound.bson
+run 'a sound dump on standard input' 0 check - <sound.bson
+cat sound.bson | run 'a sound dump through a pipe' 0 check || failed=1
+gzip -c sound.bson | gzip -dc | run 'a gzip pipe' 0 check || failed=1
+wants '"breaches.bson":0: repeated-key at /1:"a", byte 11
+"breaches.bson":19: repeated-key at /0:"d"/1:"c", byte 18
+"breaches.bson":46: array-key at /0:"a"/0:"x", byte 11
+"breaches.bson":65: options at /0:"r", byte 4
+documents: 4, bytes: 78, not canonical: 4, damaged: 0
+'
+run 'breaches' 1 check breaches.bson
+wants '"damage.bson":0: damaged at /0:"a", byte 4: a boolean is neither 0 nor 1
+"damage.bson":9: damaged at /2:"b", byte 18: a boolean is neither 0 nor 1
+"damage.bson":32: damaged at /0:"\n\"\\", byte 4: a boolean is neither 0 nor 1
+"damage.bson":43: damaged at /0, byte 4: a value is longer than what is left
+"damage.bson":49: damaged at /0, byte 4: no kind has this tag
+"damage.bson":57: damaged: no final 0
+'"$(python3 -c 'print("\"damage.bson\":%d: too deep at %s, byte %d" % (62 + 8 * 499 + 5, "/0:\"d\"" * 500, 4 + 499 * 7))')"'
+'"$(python3 -c 'print("documents: 8, bytes: %d, not canonical: 0, damaged: 7" % (62 + 8 * 499 + 5 + 8 * 500 + 5))')"'
+'
+run 'damage' 1 check damage.bson
+wants '"mixed.bson":12: repeated-key at /1:"a", byte 11
+"mixed.bson":31: damaged at /0:"a", byte 4: a boolean is neither 0 nor 1
+"mixed.bson":40: repeated-key at /0:"d"/1:"c", byte 18
+"mixed.bson":67: damaged: no final 0
+documents: 6, bytes: 84, not canonical: 2, damaged: 2
+'
+run 'damage in the middle' 1 check mixed.bson
+wants '"cut.bson":12: cut off: only 6 bytes of a document
+"cut3":0: cut off: only 3 bytes of a document
+"under.bson":0: repeated-key at /1:"a", byte 11
+"under.bson":19: unsound length
+"negative":0: unsound length
+"over":0: unsound length
+documents: 2, bytes: 31, not canonical: 1, damaged: 0
+'
+run 'lengths that are unsound' 3 check cut.bson cut3 under.bson negative over
+wants 'documents: 1, bytes: 16793600, not canonical: 0, damaged: 0
+'
+run 'the longest document' 0 check most
+wants 'documents: 1000000, bytes: 12000000, not canonical: 0, damaged: 0
+'
+run 'a million documents' 0 check million
+
+mkdir folder
+
+# -- list
+
+wants '"kinds":0: '"$(stat -c %s kinds)"' bytes
+  "d": Double: 1.5
+  "e": Double: NaN
+  "s": String, 5 bytes: "hello"
+  "o": EmbeddedDocument, 5 bytes
+  "a": Array, 12 bytes
+    "0": Int32: 1
+  "b": Binary, subtype 128, 3 bytes: 010203
+  "u": Undefined
+  "i": ObjectId: 000102030405060708090a0b
+  "t": Boolean: true
+  "z": DateTime: 1000 ms
+  "n": Null
+  "r": RegularExpression, 1 bytes: "a", 1 bytes: "i"
+  "p": DbPointer, 1 bytes: "n", 000102030405060708090a0b
+  "j": JavaScriptCode, 1 bytes: "x"
+  "y": Symbol, 1 bytes: "y"
+  "w": JavaScriptCodeWithScope, 1 bytes: "x", 5 bytes
+  "k": Int32: -1
+  "m": Timestamp: 1, 2
+  "l": Int64: -1
+  "q": Decimal128: 000102030405060708090a0b0c0d0e0f
+  "x": MaxKey
+  "v": MinKey
+"one":0: 12 bytes
+  "a": Int32: 1
+'
+run 'each kind' 0 list kinds one
+wants '"few.bson":0: 19 bytes: repeated-key at /1:"a", byte 11
+  "a": Int32: 1
+  "a": Int32: 2
+"few.bson":19: 9 bytes: damaged at /0:"a", byte 4: a boolean is neither 0 nor 1
+  "a": Boolean, damaged: a boolean is neither 0 nor 1
+"few.bson":28: 6 bytes: damaged at /0, byte 4: a value is longer than what is left
+  "": damaged: a value is longer than what is left
+"few.bson":34: 8 bytes: damaged at /0, byte 4: no kind has this tag
+  "a": damaged: no kind has this tag
+"few.bson":42: 5 bytes: damaged: no final 0
+"few.bson":47: 23 bytes: damaged at /2:"b", byte 18: a boolean is neither 0 nor 1
+  "a": Int32: 1
+  "a": Int32: 2
+  "b": Boolean, damaged: a boolean is neither 0 nor 1
+'
+run 'what is damaged, listed' 1 list few.bson
+wants '"long":0: 150 bytes
+  "s": String, 64 bytes: "'"$(head -c 64 /dev/zero | tr '\0' x)"'"
+  "t": String, 65 bytes
+'
+run 'a text that is not short' 0 list long
+wants '"cut6":0: cut off: only 6 bytes of a document
+'
+run 'a file that is cut off, listed' 3 list cut6
+wants '"-":0: 12 bytes
+  "a": Int32: 1
+' 'bsonraw-dump: "missing": No such file or directory (os error 2)
+bsonraw-dump: "folder": Is a directory (os error 21)
+'
+gzip -c one | gzip -dc | run 'a gzip pipe and files that cannot be read, listed' 3 list missing folder - || failed=1
+wants '"two\nlines":0: 12 bytes
+  "a": Int32: 1
+'
+cp one 'two
+lines'
+run 'a name with a newline, listed' 0 list 'two
+lines'
+wants '"key":0: 11 bytes: damaged at /0:"\n\"\\", byte 4: a boolean is neither 0 nor 1
+  "\n\"\\": Boolean, damaged: a boolean is neither 0 nor 1
+'
+run 'a key with a newline, listed' 1 list key
+"$program" list levels501 2>err | tail -n 1 >out
+printf '%1000stoo deep\n' '' | sed 's/^/  /' >wanted.out
+: >wanted.err
+status=$?
+tried 'a level that is too deep, listed' 0
+"$program" list million >out 2>err
+status=$?
+[ "$status" = 0 ] && [ "$(wc -l <out)" = 2000000 ] || { echo "dumps.sh: a million documents, listed" >&2 && failed=1; }
+: >out
+
+# -- files that can't be read, and their names
+
+wants 'documents: 3, bytes: 29, not canonical: 0, damaged: 0
+' 'bsonraw-dump: "missing": No such file or directory (os error 2)
+bsonraw-dump: "folder": Is a directory (os error 21)
+'
+run 'files that cannot be read' 3 check missing folder sound.bson
+wants '"two\nlines":12: cut off: only 6 bytes of a document
+"a \"quoted\"":0: repeated-key at /1:"a", byte 11
+documents: 2, bytes: 31, not canonical: 1, damaged: 0
+'
+cp cut.bson 'two
+lines'
+cp repeated 'a "quoted"'
+run 'names with a newline and quotes' 3 check 'two
+lines' 'a "quoted"'
+mkfifo pipe
+cat mixed.bson >pipe &
+wants '' '"pipe":31: damaged at /0:"a", byte 4: a boolean is neither 0 nor 1
+"pipe":67: damaged: no final 0
+'
+cat mixed.sound >wanted.out
+run 'a FIFO' 1 sound pipe
+
+# -- canon and sound
+
+wants '' '"mixed.bson":31: damaged at /0:"a", byte 4: a boolean is neither 0 nor 1
+"mixed.bson":67: damaged: no final 0
+'
+cat mixed.canon >wanted.out
+run 'canonical forms' 1 canon mixed.bson
+cat mixed.sound >wanted.out
+run 'sound documents' 1 sound mixed.bson
+wants ''
+cat breaches.canon >wanted.out
+run 'canonical forms of each breach' 0 canon breaches.bson
+cat breaches.bson >wanted.out
+run 'sound documents with breaches' 0 sound breaches.bson
+
+wants '' '"twice.bson":70: damaged at /0:"a", byte 4: a boolean is neither 0 nor 1
+'
+cat twice.unique >wanted.out
+run 'each form once' 1 unique twice.bson
+cat twice.both >wanted.out
+run 'each form once over files' 1 unique twice.bson twice.later sound.bson
+wants ''
+cat one >wanted.out
+run 'one form of a million' 0 unique million
+gzip -c million | gzip -dc | run 'one form of a gzip pipe' 0 unique || failed=1
+cat distinct >wanted.out
+run 'forms that are all new' 0 unique distinct
+
+# -- OUTPUT
+
+# kept WHAT FILE: what is there is this file's content, and no file is left beside it
+kept() {
+    cmp -s output "$2" && ! ls output.* >/dev/null 2>&1 && return
+    failed=1
+    echo "dumps.sh: $1: the file isn't as it has to be" >&2
+}
+
+wants ''
+run 'a new file' 0 canon -o output breaches.bson
+kept 'a new file' breaches.canon
+chmod 640 output
+wants '' '"mixed.bson":31: damaged at /0:"a", byte 4: a boolean is neither 0 nor 1
+"mixed.bson":67: damaged: no final 0
+'
+run 'a file that is there' 1 sound --output output mixed.bson
+kept 'a file that is there' mixed.sound
+[ "$(stat -c %a output)" = 640 ] || { echo "dumps.sh: the mode isn't kept" >&2 && failed=1; }
+wants '' '"cut.bson":12: cut off: only 6 bytes of a document
+'
+run 'a run that fails' 3 sound -o output sound.bson cut.bson
+kept 'a run that fails' mixed.sound
+ln -s output link
+wants ''
+run 'a link' 0 sound -o link sound.bson
+kept 'a link' sound.bson
+[ -L link ] || { echo "dumps.sh: the link is replaced" >&2 && failed=1; }
+run 'one file read and written' 0 canon -o output output
+run 'one file read and written, each form once' 0 unique -o output output
+[ "$(stat -c %s output)" = 17 ] || { echo "dumps.sh: unique -o" >&2 && failed=1; }
+cp sound.bson output
+chmod 640 output
+run 'one file read and written again' 0 canon -o output output
+kept 'one file read and written' sound.bson
+run 'a device' 0 canon -o /dev/null sound.bson
+[ -c /dev/null ] || { echo "dumps.sh: /dev/null is replaced" >&2 && failed=1; }
+wants '' 'bsonraw-dump: "nowhere/output": No such file or directory (os error 2)
+'
+run 'a folder that is missing' 5 canon -o nowhere/output sound.bson
+wants '' 'bsonraw-dump: "/dev/full": No space left on device (os error 28)
+'
+run 'a full device' 5 canon -o /dev/full sound.bson
+
+# -- standard streams that are full, closed, or left
+
+wants '' 'bsonraw-dump: "standard output": No space left on device (os error 28)
+'
+: >out
+"$program" check mixed.bson >/dev/full 2>err
+status=$?
+tried 'check on a full device' 5
+"$program" canon sound.bson >/dev/full 2>err
+status=$?
+tried 'canon on a full device' 5
+"$program" list sound.bson >/dev/full 2>err
+status=$?
+tried 'list on a full device' 5
+"$program" unique sound.bson >/dev/full 2>err
+status=$?
+tried 'unique on a full device' 5
+wants '' 'bsonraw-dump: "standard output": Bad file descriptor (os error 9)
+'
+"$program" check mixed.bson >&- 2>err
+status=$?
+tried 'closed standard output' 5
+"$program" list mixed.bson >&- 2>err
+status=$?
+tried 'list with closed standard output' 5
+wants 'documents: 3, bytes: 29, not canonical: 0, damaged: 0
+' 'bsonraw-dump: "-": Bad file descriptor (os error 9)
+'
+"$program" check - sound.bson <&- >out 2>err
+status=$?
+tried 'closed standard input' 3
+wants ''
+: >err
+"$program" sound -o output mixed.bson 2>&- >out
+status=$?
+tried 'closed standard error' 5
+kept 'closed standard error' sound.bson
+"$program" sound -o output sound.bson <&- >&- 2>&-
+status=$?
+tried 'all streams closed' 0
+kept 'all streams closed' sound.bson
+: >out
+{ "$program" check million repeated 2>err; echo $? >left; } | head -c 10 >/dev/null
+status=$(cat left)
+tried 'a report that fits the pipe' 1
+{ "$program" canon million 2>err; echo $? >left; } | head -c 10 >/dev/null
+status=$(cat left)
+tried 'a reader that leaves a pipe' 0
+{ "$program" list million 2>err; echo $? >left; } | head -c 10 >/dev/null
+status=$(cat left)
+tried 'a reader that leaves a pipe of list' 0
+for command in canon unique list; do
+    head -c 10 pipe >/dev/null &
+    "$program" "$command" distinct >pipe 2>err
+    status=$?
+    tried "a reader that leaves a FIFO of $command" 0
+done
+
+# -- a terminal on standard error shows how far the run has come
+
+python3 - "$program" <<'END' || { echo "dumps.sh: progress isn't shown as it has to be" >&2 && failed=1; }
+import os, pty, subprocess, sys
+terminal, side = pty.openpty()
+run = subprocess.Popen([sys.argv[1], "check", "million"], stdout=subprocess.PIPE, stderr=side)
+os.close(side)
+said = run.stdout.read()
+run.wait()
+shown = os.read(terminal, 4096)
+sys.exit(said != b"documents: 1000000, bytes: 12000000, not canonical: 0, damaged: 0\n" or shown != b"\x1b[K8 MB\r\x1b[K")
+END
+
+# -- arguments
+
+wants "bsonraw-dump $(cat "$root/VERSION")
+"
+run 'the version' 0 --version
+for words in '' 'lost' 'check --lost' 'check -o output'; do
+    # shellcheck disable=SC2086 # words
+    "$program" $words >out 2>err </dev/null
+    status=$?
+    [ "$status" = 2 ] && [ ! -s out ] && [ -s err ] && continue
+    echo "dumps.sh: bsonraw-dump $words: status $status" >&2
+    failed=1
+done
+for words in '--help' 'help' 'canon --help'; do
+    # shellcheck disable=SC2086 # words
+    "$program" $words >out 2>err && [ -s out ] && [ ! -s err ] && continue
+    echo "dumps.sh: bsonraw-dump $words prints no help" >&2
+    failed=1
+done
+
+[ "$failed" = 0 ] && echo "dumps.sh: all passed"
+exit "$failed"

@@ -1,0 +1,6 @@
+mod Filling
+mod Cutting
+mod Digesting
+mod Writing
+mod Listed
+mod Passing

@@ -1,0 +1,63 @@
+-- How what was written grows by more documents.
+use Rattle.std.proofs.Common.{◌≡◌, ℕ, List, [], ◌∷◌, ◌++◌, Bool, Option, flat_map, fold, sym, ap, ◌∙◌, subst, refl, append_assoc, append-nil}
+use Rattle.std.specs.Io.KnownBytes.{Appends}
+use Rattle.std.proofs.KnownBytes.{Appends-nil, Appends-trans}
+use Rattle.std.proofs.lemmas.Grind.{flat_map-append, fold-append}
+use Rattle.bsonraw_dump.specs.Run.{Writes}
+use Rattle.bsonraw_dump.specs.Unique.{knows, with_form, if_new, first_forms, joined, written_of, known_behind}
+use Rattle.bsonraw_dump.specs.declared.command.Command.{Command}
+use Rattle.bsonraw_dump.specs.declared.command.Command.TheVariants as command
+use Rattle.bsonraw_dump.specs.declared.digests.Digests.{Digests}
+
+joined-append : (xs ys : List (List ℕ)) → joined (xs ++ ys) ≡ joined xs ++ joined ys
+joined-append xs ys = flat_map-append (λ (d : List ℕ). d) xs ys
+
+first_forms-append : (known : List ℕ → Bool) (xs ys : List (List ℕ)) → first_forms known (xs ++ ys) ≡ first_forms known xs ++ first_forms (fold with_form known xs) ys
+first_forms-append known [] ys = refl
+first_forms-append known (x ∷ xs) ys =
+    let here = if_new known x in
+    let next = with_form known x in
+    ap (λ l. here ++ l) (first_forms-append next xs ys) ∙ sym (append_assoc here (first_forms next xs) (first_forms (fold with_form next xs) ys))
+
+written_of-append : (c : Command) (known : List ℕ → Bool) (xs ys : List (List ℕ)) → written_of c known (xs ++ ys) ≡ written_of c known xs ++ written_of c (known_behind c known xs) ys
+written_of-append command.Check known xs ys = joined-append xs ys
+written_of-append command.List known xs ys = joined-append xs ys
+written_of-append command.Canon known xs ys = joined-append xs ys
+written_of-append command.Sound known xs ys = joined-append xs ys
+written_of-append command.Unique known xs ys = ap joined (first_forms-append known xs ys) ∙ joined-append (first_forms known xs) (first_forms (fold with_form known xs) ys)
+
+known_behind-append : (c : Command) (known : List ℕ → Bool) (xs ys : List (List ℕ)) → known_behind c known (xs ++ ys) ≡ known_behind c (known_behind c known xs) ys
+known_behind-append command.Check known xs ys = refl
+known_behind-append command.List known xs ys = refl
+known_behind-append command.Canon known xs ys = refl
+known_behind-append command.Sound known xs ys = refl
+known_behind-append command.Unique known xs ys = fold-append with_form known xs ys
+
+nothing_written : (c : Command) (known : List ℕ → Bool) → [] ≡ written_of c known []
+nothing_written command.Check known = refl
+nothing_written command.List known = refl
+nothing_written command.Canon known = refl
+nothing_written command.Sound known = refl
+nothing_written command.Unique known = refl
+
+nothing_known : (c : Command) (known : List ℕ → Bool) (d : List ℕ) → known d ≡ known_behind c known [] d
+nothing_known command.Check known d = refl
+nothing_known command.List known d = refl
+nothing_known command.Canon known d = refl
+nothing_known command.Sound known d = refl
+nothing_known command.Unique known d = refl
+
+pub writes_none : (c : Command) (out : Option (List ℕ)) (k : Digests) → Writes c [] out out k k
+writes_none c out k = record {
+  is_written = subst (Appends out out) (nothing_written c (knows k)) (Appends-nil out);
+  is_known = nothing_known c (knows k);
+}
+
+pub writes_more : (c : Command) (xs ys : List (List ℕ)) (d d' d'' : Option (List ℕ)) (k k' k'' : Digests) → Writes c xs d d' k k' → Writes c ys d' d'' k' k'' → Writes c (xs ++ ys) d d'' k k''
+writes_more c xs ys d d' d'' k k' k'' first second =
+    let behind = known_behind c (knows k) xs in
+    let same : knows k' ≡ behind = λ i. λ (x : List ℕ). first.is_known x i in
+    record {
+      is_written = subst (Appends d d'') (ap (λ (known : List ℕ → Bool). written_of c (knows k) xs ++ written_of c known ys) same ∙ sym (written_of-append c (knows k) xs ys)) (Appends-trans d d' d'' _ _ first.is_written second.is_written);
+      is_known = λ x. second.is_known x ∙ ap (λ (known : List ℕ → Bool). known_behind c known ys x) same ∙ sym (ap (λ (known : List ℕ → Bool). known x) (known_behind-append c (knows k) xs ys));
+    }

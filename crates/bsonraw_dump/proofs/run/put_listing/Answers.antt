@@ -1,0 +1,32 @@
+use Rattle.std.proofs.Common.{rules, ◌≡◌, ◌++◌, ◌∙◌, [], List, ℕ, subst}
+use Rattle.std.specs.Io.KnownBytes.{Appends}
+use Rattle.raw_view.specs.Document.{bytes_of}
+use Rattle.raw_view.specs.Envelope.{IsEnvelope}
+use Rattle.bsonraw_dump.specs.Listing.{ListsDocument}
+use Rattle.bsonraw_dump.specs.Run.{head_text, line}
+use Rattle.bsonraw_dump.proofs.Listed.{IsWritten, listed_behind, listed_nothing, on_ok}
+use Rattle.bsonraw_dump.proofs.run.put_listing.Goals as goal
+
+pub returns-in-Ok-clause-listed : goal.returns-in-Ok-clause-listed
+returns-in-Ok-clause-listed g c =
+    let b = c.args.bytes.now in
+    let old = g.W.Write.contents c.args.report.now in
+    let mid = g.W.Write.contents c.put_line.new.report in
+    let new = g.W.Write.contents c.list_level.new.out in
+    let head = line c.args.name.now c.args.offset (head_text b c.args.words.now) in
+    let first = subst (λ (x : List ℕ). Appends old mid (line c.args.name.now c.args.offset x)) (c.deref.ensures.value ∙ c.in_ok-head.ensures b (search rules)) c.in_ok-put_line.ensures.written in
+    let same : bytes_of c.in-Ok.document ≡ b = c.in-Ok.ensures.same in
+    let is : IsEnvelope b = subst IsEnvelope same c.in-Ok.document.envelope in
+    on_ok c.list_level.result (IsWritten 500 1 (bytes_of c.in-Ok.document) mid new) ((listing : List ℕ) × ListsDocument b listing × Appends old new (head ++ listing))
+    (λ w. listed_behind b head old mid new is first (subst (λ (x : List ℕ). IsWritten 500 1 x mid new) same w)) c.list_level.ensures.listed
+
+pub returns-clause-listed : goal.returns-clause-listed
+returns-clause-listed g c =
+    let b = c.args.bytes.now in
+    let old = g.W.Write.contents c.args.report.now in
+    let mid = g.W.Write.contents c.put_line.new.report in
+    let new = g.W.Write.contents c.put.new.writer in
+    let head = line c.args.name.now c.args.offset (head_text b c.args.words.now) in
+    let first = subst (λ (x : List ℕ). Appends old mid (line c.args.name.now c.args.offset x)) (c.deref.ensures.value ∙ c.in_ok-head.ensures b (search rules)) c.in_ok-put_line.ensures.written in
+    on_ok c.put.result (Appends mid new []) ((listing : List ℕ) × ListsDocument b listing × Appends old new (head ++ listing))
+    (λ none. listed_nothing b head c.in-Err.field-0 old mid new c.in-Err.ensures.refused first none) c.put.ensures.written

@@ -1,0 +1,112 @@
+//! The command line.
+#![tactic(auto)]
+
+use crate::command::Command;
+use clap::{Arg, ArgAction, ArgMatches, Error};
+use std::alloc::Global;
+
+/// What the arguments ask for.
+#[derive(Drop)]
+pub struct Task<'a> {
+    /// the command
+    pub command: Command,
+    /// the file that is written in place of standard output
+    pub output: Option<&'a str>,
+    /// what is read; nothing and `-` are standard input
+    pub inputs: Vec<&'a str>,
+}
+
+fn files<'a>(alloc: Global) -> Arg<'a> {
+    Arg::new(alloc, "FILE")
+        .help("Dumps; nothing or -: standard input")
+        .num_args(0..)
+        .action(ArgAction::Append)
+}
+
+fn output<'a>(alloc: Global) -> Arg<'a> {
+    Arg::new(alloc, "output")
+        .short('o')
+        .long("output")
+        .value_name("OUTPUT")
+        .help("Written in place of standard output, at the end and as a whole")
+        .action(ArgAction::Set)
+}
+
+/// The command line as a whole.
+pub fn command_line<'a>(alloc: Global) -> Result<clap::Command<'a>, Error> {
+    let check = clap::Command::new(alloc, "check")
+        .about("Names each document that isn't canonical, and counts")
+        .arg(files(alloc))?;
+    let list = clap::Command::new(alloc, "list")
+        .about("Lists the elements of each document, at every level")
+        .arg(files(alloc))?;
+    let canon = clap::Command::new(alloc, "canon")
+        .about("Writes the canonical form of each document without damage")
+        .arg(output(alloc))?
+        .arg(files(alloc))?;
+    let sound = clap::Command::new(alloc, "sound")
+        .about("Writes each document without damage, unchanged")
+        .arg(output(alloc))?
+        .arg(files(alloc))?;
+    let unique = clap::Command::new(alloc, "unique")
+        .about("Writes each canonical form once; takes 100 bytes of memory a form at most")
+        .arg(output(alloc))?
+        .arg(files(alloc))?;
+    let line = clap::Command::new(alloc, "bsonraw-dump")
+        .version("2.0.0")
+        .about("Checks dumps: BSON documents one behind the other")
+        .subcommand_required(true)
+        .subcommand(check)?
+        .subcommand(list)?
+        .subcommand(canon)?
+        .subcommand(sound)?
+        .subcommand(unique)?;
+    Ok(line)
+}
+
+/// The task of a command that was given.
+fn task_of<'a>(
+    alloc: Global,
+    command: Command,
+    matches: &ArgMatches<'a>,
+) -> Result<Task<'a>, Error> {
+    let output = match command {
+        Command::Check | Command::List => None,
+        Command::Canon | Command::Sound | Command::Unique => matches.get_str("output"),
+    };
+    let mut inputs = Vec::new(alloc);
+    if let Some(names) = matches.get_strs("FILE") {
+        for name in names {
+            inputs.push(*name)?;
+        }
+    }
+    if inputs.is_empty() {
+        inputs.push("-")?;
+    }
+    Ok(Task {
+        command,
+        output,
+        inputs,
+    })
+}
+
+/// What the words of a command line ask for.
+pub fn parsed<'a>(alloc: Global, words: &'a [String]) -> Result<Option<Task<'a>>, Error> {
+    let matches = command_line(alloc)?.try_get_matches_from(words)?;
+    if let Some(inner) = matches.subcommand_matches("check") {
+        return Ok(Some(task_of(alloc, Command::Check, inner)?));
+    }
+    if let Some(inner) = matches.subcommand_matches("list") {
+        return Ok(Some(task_of(alloc, Command::List, inner)?));
+    }
+    if let Some(inner) = matches.subcommand_matches("canon") {
+        return Ok(Some(task_of(alloc, Command::Canon, inner)?));
+    }
+    if let Some(inner) = matches.subcommand_matches("sound") {
+        return Ok(Some(task_of(alloc, Command::Sound, inner)?));
+    }
+    if let Some(inner) = matches.subcommand_matches("unique") {
+        return Ok(Some(task_of(alloc, Command::Unique, inner)?));
+    }
+    Ok(None)
+}

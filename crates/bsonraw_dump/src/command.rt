@@ -1,0 +1,14 @@
+/// What is asked of the documents of an input.
+#[derive(Clone, Copy)]
+pub enum Command {
+    /// a line for each that isn't canonical
+    Check,
+    /// the elements of each, at every level
+    List,
+    /// the canonical form of each without damage
+    Canon,
+    /// each without damage, unchanged
+    Sound,
+    /// the canonical form of each without damage, where it is the first with its digest
+    Unique,
+}

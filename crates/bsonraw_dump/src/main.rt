@@ -1,0 +1,28 @@
+//! Checks dumps, files of BSON documents one behind the other, and writes their documents anew.
+#![tactic(auto)]
+
+mod args;
+mod command;
+mod counts;
+mod digests;
+mod ending;
+mod failure;
+mod files;
+mod find;
+mod input;
+mod listing;
+mod output;
+mod reason;
+mod run;
+mod status;
+mod tell;
+mod text;
+mod value;
+mod watch;
+mod write;
+
+use std::process::ExitCode;
+
+fn main(rt: HostRuntime) -> ExitCode {
+    ExitCode::from(files::all(&rt).code())
+}

@@ -1,0 +1,265 @@
+//! Runs a command over an input.
+#![tactic(auto)]
+
+ghost use Rattle.std.specs.Prelude.{◌≡◌, ℕ, List, [], ◌∷◌, ◌++◌, IfOk, IfErr, OnOk};
+ghost use Rattle.std.specs.Io.KnownBytes.{Appends};
+ghost use Rattle.bsonraw_dump.specs.Cut.{IsPiece};
+ghost use Rattle.bsonraw_dump.specs.Find.{Finds};
+ghost use Rattle.bsonraw_dump.specs.Listing.{ListsDocument};
+ghost use Rattle.bsonraw_dump.specs.Run.{Emits, Ends, IsReading, PassesOne, Reports, Stops, Writes, ending_line, head_text, line, summary_line};
+ghost use Rattle.raw_tree.specs.CanonicalForm.{IsCanonicalForm};
+ghost use Rattle.bsonraw_dump.specs.declared.command.Command.TheVariants.{Unique};
+
+use crate::command::Command;
+use crate::counts::Counts;
+use crate::digests::Digests;
+use crate::ending::Ending;
+use crate::failure::Failure;
+use crate::find::{Finding, Found, find, most_allowed};
+use crate::input::read_document;
+use crate::listing::list_level;
+use crate::text::{cut_off_words, line_of, sized, summary};
+use crate::write::put;
+use raw_form::canonical_within;
+use raw_view::RawDocument;
+use std::alloc::Global;
+use std::io;
+use std::io::{Read, Write};
+
+/// Reads an input to its end, a document at a time, writes what the command gives of each, and reports in a line what is
+/// wrong with it. The name stands at the head of each line.
+pub fn run<R: Read, D: Write, W: Write>(
+    alloc: Global,
+    command: Command,
+    name: &str,
+    reader: &mut R,
+    out: &mut D,
+    report: &mut W,
+    counts: &mut Counts,
+    digests: &mut Digests,
+) -> Result<Ending, Failure>
+    ensures ends { IfOk result (Ends command name.now (R.remaining reader.old) (R.remaining reader.new)
+        (D.contents out.old) (D.contents out.new) (W.contents report.old) (W.contents report.new) counts.old counts.new digests.old digests.new) }
+    ensures stops { IfErr result (λ failure. IsReading failure → Stops command name.now (R.remaining reader.old) (R.remaining reader.new)
+        (D.contents out.old) (D.contents out.new) (W.contents report.old) (W.contents report.new) counts.old counts.new digests.old digests.new) }
+{
+    let mut buffer = Vec::new(alloc);
+    let mut offset = 0u64;
+    for _ in 0..u64::MAX {
+        match read_document(reader, &mut buffer) {
+            Ok(None) => {}
+            Ok(Some(ending)) => {
+                put_ending(alloc, name, offset, ending, report)?;
+                return Ok(ending);
+            }
+            Err(failure) => return Err(failure),
+        }
+        let finding = pass(alloc, command, name, offset, &buffer, out, report, digests)?;
+        let (Some(more), Some(behind)) = (
+            counts.with(buffer.len(), finding),
+            offset.checked_add(buffer.len() as u64),
+        ) else {
+            break;
+        };
+        *counts = more;
+        offset = behind;
+    }
+    Err(Failure::Writing(io::Error::from(io::ErrorKind::FileTooLarge)))
+}
+
+/// Passes one document.
+fn pass<D: Write, W: Write>(
+    alloc: Global,
+    command: Command,
+    name: &str,
+    offset: u64,
+    bytes: &[u8],
+    out: &mut D,
+    report: &mut W,
+    digests: &mut Digests,
+) -> Result<Finding, Failure>
+    requires { IsPiece bytes.now }
+    ensures passed { IfOk result (PassesOne command name.now offset bytes.now
+        (D.contents out.old) (D.contents out.new) (W.contents report.old) (W.contents report.new) digests.old digests.new) }
+    ensures failed { IfErr result (λ failure. ¬ IsReading failure) }
+{
+    let found = find(alloc, bytes)?;
+    report_found(alloc, command, name, offset, bytes, &found, report)?;
+    emit(alloc, command, found.finding, bytes, out, digests)?;
+    Ok(found.finding)
+}
+
+/// Reports what the command tells of a document in which this was found.
+fn report_found<W: Write>(
+    alloc: Global,
+    command: Command,
+    name: &str,
+    offset: u64,
+    bytes: &[u8],
+    found: &Found,
+    report: &mut W,
+) -> Result<(), Failure>
+    requires { IsPiece bytes.now }
+    ensures reported { OnOk result ((lines : List ℕ)
+        × Reports command name.now offset bytes.now found.now.finding found.now.words.items lines
+        × Appends (W.contents report.old) (W.contents report.new) lines) }
+    ensures failed { IfErr result (λ failure. ¬ IsReading failure) }
+{
+    match (command, found.finding) {
+        (Command::List, _) => put_listing(alloc, name, offset, bytes, &found.words, report),
+        (_, Finding::Damaged) | (Command::Check, Finding::Breached) => {
+            put_line(alloc, name, offset, &found.words, report)
+        }
+        (Command::Check, Finding::Canonical)
+        | (
+            Command::Canon | Command::Sound | Command::Unique,
+            Finding::Canonical | Finding::Breached,
+        ) => put(report, b""),
+    }
+}
+
+/// Writes how many bytes a document has and what is found in it, and lists its elements.
+fn put_listing<W: Write>(
+    alloc: Global,
+    name: &str,
+    offset: u64,
+    bytes: &[u8],
+    words: &[u8],
+    report: &mut W,
+) -> Result<(), Failure>
+    requires { IsPiece bytes.now }
+    ensures listed { OnOk result ((listing : List ℕ) × ListsDocument bytes.now listing
+        × Appends (W.contents report.old) (W.contents report.new) (line name.now offset (head_text bytes.now words.now) ++ listing)) }
+    ensures failed { IfErr result (λ failure. ¬ IsReading failure) }
+{
+    let head = sized(alloc, bytes.len(), words)?;
+    put_line(alloc, name, offset, &head, report)?;
+    match RawDocument::from_bytes(bytes) {
+        Ok(document) => list_level(alloc, document, 500, 1, report),
+        Err(_) => put(report, b""),
+    }
+}
+
+fn put_line<W: Write>(
+    alloc: Global,
+    name: &str,
+    offset: u64,
+    words: &[u8],
+    report: &mut W,
+) -> Result<(), Failure>
+    ensures written { OnOk result
+        (Appends (W.contents report.old) (W.contents report.new) (line name.now offset words.now)) }
+    ensures failed { IfErr result (λ failure. ¬ IsReading failure) }
+{
+    let text = line_of(alloc, name, offset, words)?;
+    put(report, &text)
+}
+
+fn put_ending<W: Write>(
+    alloc: Global,
+    name: &str,
+    offset: u64,
+    ending: Ending,
+    report: &mut W,
+) -> Result<(), Failure>
+    ensures written { OnOk result
+        (Appends (W.contents report.old) (W.contents report.new) (ending_line name.now offset ending)) }
+    ensures failed { IfErr result (λ failure. ¬ IsReading failure) }
+{
+    match ending {
+        Ending::Whole => put(report, b""),
+        Ending::CutOff(count) => {
+            let words = cut_off_words(alloc, count)?;
+            put_line(alloc, name, offset, &words, report)
+        }
+        Ending::Unsound => put_line(alloc, name, offset, b"unsound length", report),
+    }
+}
+
+/// Writes the line behind all that a check reports.
+pub fn put_summary<W: Write>(alloc: Global, counts: &Counts, report: &mut W) -> Result<(), Failure>
+    ensures written { OnOk result
+        (Appends (W.contents report.old) (W.contents report.new) (summary_line counts.now)) }
+    ensures failed { IfErr result (λ failure. ¬ IsReading failure) }
+{
+    let text = summary(alloc, counts)?;
+    put(report, &text)
+}
+
+/// Makes the command's document of one in which this was found, and writes it.
+fn emit<D: Write>(
+    alloc: Global,
+    command: Command,
+    finding: Finding,
+    bytes: &[u8],
+    out: &mut D,
+    digests: &mut Digests,
+) -> Result<(), Failure>
+    ensures written { (text : List ℕ) → Finds bytes.now finding text → OnOk result
+        (Emits command bytes.now finding (D.contents out.old) (D.contents out.new) digests.old digests.new) }
+    ensures failed { IfErr result (λ failure. ¬ IsReading failure) }
+{
+    match (command, finding) {
+        (Command::Check | Command::List, _) | (_, Finding::Damaged) => put(out, b""),
+        (Command::Sound, Finding::Canonical | Finding::Breached) => put_document(
+            command, bytes, out, digests,
+        ),
+        (Command::Canon | Command::Unique, Finding::Canonical) => put_document(
+            command, bytes, out, digests,
+        ),
+        (Command::Canon, Finding::Breached) => {
+            put_form(alloc, Command::Canon, bytes, out, digests)
+        }
+        (Command::Unique, Finding::Breached) => {
+            put_form(alloc, Command::Unique, bytes, out, digests)
+        }
+    }
+}
+
+/// Writes the canonical form of a document. The one that is over the range of lengths counts as one without memory.
+fn put_form<D: Write>(
+    alloc: Global,
+    command: Command,
+    bytes: &[u8],
+    out: &mut D,
+    digests: &mut Digests,
+) -> Result<(), Failure>
+    ensures written { OnOk result ((form : List ℕ) × IsCanonicalForm bytes.now form
+        × Writes command (form ∷ []) (D.contents out.old) (D.contents out.new) digests.old digests.new) }
+    ensures failed { IfErr result (λ failure. ¬ IsReading failure) }
+{
+    match canonical_within(alloc, bytes, most_allowed()) {
+        Ok(form) => put_document(command, &form, out, digests),
+        Err(_) => Err(Failure::Memory),
+    }
+}
+
+/// Writes a document that the command makes: of `unique` where its digest is new.
+fn put_document<D: Write>(
+    command: Command,
+    document: &[u8],
+    out: &mut D,
+    digests: &mut Digests,
+) -> Result<(), Failure>
+    ensures written { OnOk result
+        (Writes command (document.now ∷ []) (D.contents out.old) (D.contents out.new) digests.old digests.new) }
+    ensures failed { IfErr result (λ failure. ¬ IsReading failure) }
+{
+    match command {
+        Command::Unique => put_new(document, out, digests),
+        Command::Check | Command::List | Command::Canon | Command::Sound => put(out, document),
+    }
+}
+
+/// Writes a document whose digest is new, which is known then.
+fn put_new<D: Write>(document: &[u8], out: &mut D, digests: &mut Digests) -> Result<(), Failure>
+    ensures written { OnOk result
+        (Writes Unique (document.now ∷ []) (D.contents out.old) (D.contents out.new) digests.old digests.new) }
+    ensures failed { IfErr result (λ failure. ¬ IsReading failure) }
+{
+    if digests.add(document)? {
+        put(out, document)
+    } else {
+        put(out, b"")
+    }
+}

@@ -1,0 +1,46 @@
+ghost use Rattle.std.specs.Prelude.{◌≡◌, max};
+ghost use Rattle.bsonraw_dump.specs.Status.{code_of};
+
+/// How a run ends, from the best on.
+#[derive(Clone, Copy)]
+pub enum Status {
+    /// all is sound; of check: canonical
+    Done,
+    /// damage or breaches
+    Damage,
+    /// the arguments are no command
+    Usage,
+    /// a file can't be read, or its lengths are unsound
+    Input,
+    /// there was not enough memory
+    Memory,
+    /// writing failed
+    Output,
+}
+
+impl Status {
+    /// The exit status.
+    pub fn code(self) -> u8
+        ensures { result ≡ code_of self }
+    {
+        match self {
+            Status::Done => 0,
+            Status::Damage => 1,
+            Status::Usage => 2,
+            Status::Input => 3,
+            Status::Memory => 4,
+            Status::Output => 5,
+        }
+    }
+
+    /// The worse of two, whose exit status is higher.
+    pub fn or(self, other: Status) -> Status
+        ensures { code_of result ≡ max (code_of self) (code_of other) }
+    {
+        if self.code() < other.code() {
+            other
+        } else {
+            self
+        }
+    }
+}
