@@ -1,54 +1,106 @@
 #!/bin/sh
-# The Python module: its tests, on the library that is given, and the examples in Python. Where Python 3.8 isn't there, it
-# says so and passes. MongoDB's package, pip and Dask are used where they are there; what is left out is said.
+# The Python package: it is built without the net into a folder of its own, tested, and its examples are run. Where CPython
+# 3.8 with its headers, setuptools or a C compiler isn't there, it says so and passes. MongoDB's package, mypy and Dask are
+# used where they are there; what is left out is said.
 #
-#   checks/python.sh [LIBRARY]     LIBRARY: libbsonraw.so; without it, what bin/install puts into a folder
-#   PYTHON=python3.8 checks/python.sh [LIBRARY]
+#   checks/python.sh [PREFIX]     PREFIX: where bin/install put header and library; without it, a new one
+#   PYTHON=python3.12 checks/python.sh [PREFIX]
 set -u
 cd "$(dirname "$(realpath "$0")")/.." || exit 1
 work=$(mktemp -d) || exit 1
 trap 'rm -rf "$work"' EXIT
 
-# The Python that is named, else the first one that has MongoDB's package, else the first one.
+# What a Python lacks that the build wants.
+lacks() {
+    "$1" - 2>/dev/null <<'END' || echo "$1 of 3.8 or later"
+import os, sys, sysconfig
+assert sys.version_info >= (3, 8)
+if not os.path.exists(os.path.join(sysconfig.get_paths()["include"], "Python.h")):
+    print("Python's headers (Debian: python3-dev)")
+try:
+    import setuptools, wheel
+except ImportError as error:
+    print(f"{error.name} (Debian: python3-{error.name})")
+END
+}
+
+# The Python that is named, else the first one that can build and has MongoDB's package, else the first that can build.
 python=${PYTHON-}
-for candidate in python3 /usr/bin/python3; do
-    [ -z "$python" ] && "$candidate" -c 'import bson' 2>/dev/null && python=$candidate
+for wants in bson sys; do
+    for candidate in python3 /usr/bin/python3; do
+        [ -z "$python" ] && [ -z "$(lacks "$candidate")" ] && "$candidate" -c "import $wants" 2>/dev/null && python=$candidate
+    done
 done
 python=${python:-python3}
-if ! "$python" -c 'import sys; sys.exit(sys.version_info < (3, 8))' 2>/dev/null; then
-    echo "python: no Python from 3.8 on is there, so its module isn't tried"
+missing=$(lacks "$python")
+command -v cc >/dev/null || missing="a C compiler"
+if [ -n "$missing" ]; then
+    echo "python: the package isn't built and tried, since there is no $(echo "$missing" | head -1)"
     exit 0
 fi
 
-BSONRAW_LIBRARY=${1-$work/prefix/lib/libbsonraw.so}
+prefix=${1-$work/prefix}
 if [ $# = 0 ]; then
-    bin/install "$work/prefix" || exit 1
+    bin/install "$prefix" || exit 1
 fi
-if [ ! -f "$BSONRAW_LIBRARY" ]; then
-    echo "python: the library $BSONRAW_LIBRARY isn't there" >&2
+if ! BSONRAW_PREFIX=$(realpath "$prefix") || [ ! -f "$BSONRAW_PREFIX/lib/libbsonraw.a" ]; then
+    echo "python: the library $prefix/lib/libbsonraw.a isn't there" >&2
     exit 1
 fi
-BSONRAW_LIBRARY=$(realpath "$BSONRAW_LIBRARY")
-export BSONRAW_LIBRARY PYTHONDONTWRITEBYTECODE=1
+export BSONRAW_PREFIX PYTHONDONTWRITEBYTECODE=1
 
-# tests MODULES WHAT..: runs tests with the module bsonraw of this folder
-tests() {
-    modules=$1
-    shift
-    PYTHONPATH="$modules:python/tests:examples" timeout 900 "$python" -m unittest "$@" >"$work/said" 2>&1
+# built SOURCES FOLDER: builds the package of a folder into another
+built() {
+    (cd "$1" && CFLAGS="-Wall -Wextra -Wno-missing-field-initializers" "$python" setup.py -q build --build-lib "$2") >"$work/said" 2>&1
 }
 
-# A module whose walk begins a byte too late, or that takes a cause or a limit for another, fails its tests.
-for change in 's/^_FIRST = 4/_FIRST = 5/' 's/^    OPTIONS = 5/    OPTIONS = 6/' 's/_TOO_DEEP: Reason.TOO_DEEP/_TOO_DEEP: Reason.TOO_LONG/'; do
-    sed "$change" python/bsonraw.py >"$work/bsonraw.py"
-    if cmp -s python/bsonraw.py "$work/bsonraw.py" || tests "$work" test_documents; then
-        echo "python: the tests don't tell a wrong module from a right one: $change" >&2
+# tests FOLDER WHAT..: runs tests with the package of a folder
+tests() {
+    package=$1
+    shift
+    PYTHONPATH="$package:python/tests:examples" timeout 300 "$python" -W ignore -m unittest "$@" >"$work/said" 2>&1
+}
+
+cp -r python "$work/python"
+if ! built "$work/python" "$work/package" || grep '\.c:.*warning:' "$work/said" >&2; then
+    cat "$work/said" >&2
+    echo "python: the package isn't built without a warning" >&2
+    exit 1
+fi
+if find "$work/package" -name '_native*.so' -exec nm -D --defined-only {} + 2>/dev/null | grep -v ' PyInit__native$' | grep ' T '; then
+    echo "python: the module exports names of the library" >&2
+    exit 1
+fi
+if "$python" -m pip --version >/dev/null 2>&1; then
+    if ! "$python" -m pip install --no-build-isolation --no-index --no-deps --no-compile --target "$work/site" "$work/python" \
+        >"$work/said" 2>&1 || ! "$python" -S -c 'import sys; sys.path.insert(0, sys.argv[1]); import bsonraw' "$work/site"; then
+        cat "$work/said" >&2
+        echo "python: pip doesn't install the package without the net" >&2
         exit 1
     fi
+else
+    echo "python: pip isn't there, so it isn't tried"
+fi
+if grep -rn ctypes python --include='*.py' --include='*.c' --include='*.toml' >&2; then
+    echo "python: ctypes is back" >&2
+    exit 1
+fi
+
+# A package that takes a cause or a limit for another, or an int for a wider one, fails its tests.
+for change in '_types.py:s/^    OPTIONS = 5/    OPTIONS = 6/' '_types.py:s/TOO_DEEP = 24/TOO_DEEP = 25/' \
+    '_foreign.py:s/value.bytes, 4/value.bytes, 3/'; do
+    file=bsonraw/${change%%:*}
+    cp -r "$work/package" "$work/wrong"
+    sed "${change#*:}" "python/$file" >"$work/wrong/$file"
+    if cmp -s "python/$file" "$work/wrong/$file" || tests "$work/wrong" test_documents test_values; then
+        echo "python: the tests don't tell a wrong package from a right one: $change" >&2
+        exit 1
+    fi
+    rm -r "$work/wrong"
 done
 
 failed=0
-tests python discover -s python/tests -v || failed=1
+tests "$work/package" discover -s python/tests -v || failed=1
 sed -n "s/^\(.*\) \.\.\. skipped [\"']\(.*\)[\"']$/python: \1 is left out: \2/p" "$work/said"
 if [ "$failed" = 1 ]; then
     grep -v ' \.\.\. ok$' "$work/said" >&2
@@ -56,8 +108,14 @@ if [ "$failed" = 1 ]; then
 fi
 echo "python: $(sed -n 's/^Ran \([0-9]* tests\) in .*/\1/p' "$work/said") by $("$python" --version)"
 
-PYTHONPATH=python "$python" examples/greeting.py <examples/greeting.hex >"$work/output" 2>&1
-printf 'hi: STRING, 10 bytes\ncanonical 1300000002686900060000007927616c6c0000\n' >"$work/wanted"
+if command -v mypy >/dev/null; then
+    (cd "$work/package" && mypy --strict --no-error-summary --cache-dir "$work/mypy" -p bsonraw) || exit 1
+else
+    echo "python: mypy isn't there, so the annotations aren't looked at"
+fi
+
+PYTHONPATH="$work/package" "$python" examples/greeting.py <examples/greeting.hex >"$work/output" 2>&1
+printf "hi: STRING \"y'all\"\ncanonical 1300000002686900060000007927616c6c0000\n" >"$work/wanted"
 if ! diff "$work/wanted" "$work/output" >&2; then
     echo "python: examples/greeting.py prints something else" >&2
     exit 1

@@ -2,7 +2,7 @@
 """Brings dumps of BSON documents to their canonical form and leaves out repeated documents, on the workers of Dask.
 
     dask_canonical.py DUMP.. -o FOLDER                  on this machine, a worker for each processor
-    dask_canonical.py DUMP.. -o FOLDER --workers 0      in this process alone, without Dask
+    dask_canonical.py DUMP.. -o FOLDER --workers 0      in this process alone, without Dask; --threads N for so many threads
     dask_canonical.py DUMP.. -o FOLDER --scheduler tcp://10.0.0.1:8786
 
 A DUMP is a file of documents, one behind the other, or a folder, below which all *.bson are taken. FOLDER gets a dump of
@@ -10,34 +10,39 @@ the same name for each, and report.json: how many documents there are, how many 
 earlier one of any dump, and each fault with its file and offset. The result is the same, byte for byte, however many
 workers there are and whichever of them die.
 
-The module bsonraw and the library have to be on each machine where workers run: copy libbsonraw.so beside bsonraw.py, or set
-BSONRAW_LIBRARY to its path there. Workers on several machines see DUMP and FOLDER under the same paths. Each worker loads the
-library once.
+The package bsonraw has to be on each machine where workers run. Workers on several machines see DUMP and FOLDER under the same
+paths.
 
 1. A dump is cut into partitions at the ends of documents, for which only the documents' lengths are read.
-2. Partitions are independent: each is brought to its canonical forms, which go to a file of their own, with the SHA-256 of
-   each form.
+2. Partitions are independent: each is brought to its canonical forms by one call, and goes to a file of its own, with the
+   BLAKE2b of 32 bytes of each form.
 3. Digests are sorted into buckets by their first byte. In a bucket the first form of each digest, in the order of the
-   dumps, is kept. Two forms with one SHA-256 count as equal; no two unequal texts with one are known.
+   dumps, is kept. Two forms with one digest count as equal; no two unequal texts with one are known.
 4. What each partition keeps goes to its place in the result, which is known by the lengths.
 
-A task whose worker dies is run again on another worker, and writes the same bytes to the same place.
+A task whose worker dies is run again on another worker, and writes the same bytes to the same place. One process needs none
+of these files: its threads bring partitions to their forms, and it writes what it keeps in order.
 """
 
 import argparse
 import hashlib
-import io
 import json
 import mmap
 import os
 import shutil
 import sys
+import time
 import uuid
 from array import array
+from collections import deque
+from concurrent.futures import Future, ThreadPoolExecutor
 from pathlib import Path
-from typing import Any, Dict, Iterator, List, NamedTuple, Optional, Sequence, Set, Tuple, Union
+from typing import Any, Deque, Dict, Iterator, List, NamedTuple, Optional, Sequence, Set, Tuple, Union
 
-import bsonraw
+try:
+    import bsonraw
+except ImportError as error:
+    raise SystemExit(f"dask_canonical: the package bsonraw isn't there ({error}): see docs/PYTHON.md") from None
 
 PARTITION = 16 << 20
 BUCKETS = 16
@@ -59,6 +64,14 @@ class Part(NamedTuple):
     end: int
     forms: str
     """the file for its canonical forms"""
+
+
+class Formed(NamedTuple):
+    """The canonical forms of a partition, and the digest of each."""
+
+    forms: bsonraw.Forms
+    digests: List[bytes]
+    faults: List[Fault]
 
 
 class Bucket(NamedTuple):
@@ -97,67 +110,70 @@ def mapped(path: str) -> Union[bytes, mmap.mmap]:
         return mmap.mmap(file.fileno(), 0, access=mmap.ACCESS_READ)
 
 
+def said(error: bsonraw.BsonError) -> str:
+    return f"{error.kind.name}: {error}"
+
+
 def cut(path: str, size: int) -> Tuple[List[Tuple[int, int]], Optional[Fault]]:
     """The partitions of a dump, each of so many bytes or a little more, and why the dump ends before its file does."""
-    ends = []
-    start = end = 0
-    fault = None
-    try:
-        for offset, document in bsonraw.documents(mapped(path)):
-            end = offset + len(document)
-            if end - start >= size:
-                ends.append((start, end))
-                start = end
-    except bsonraw.BsonError as error:
-        fault = (end, f"{error.kind.name}: {error}; the rest isn't read")
-    if end > start:
-        ends.append((start, end))
-    return ends, fault
+    ends, error = bsonraw.partitions(mapped(path), size)
+    fault = None if error is None else (ends[-1], f"{said(error)}; the rest isn't read")
+    return list(zip(ends, ends[1:])), fault
 
 
-def forms_of(part: Part, faults: List[Fault]) -> Iterator[Tuple[bytes, bool]]:
-    """The canonical form of each document, and whether the document is its own form; faults are added to the list."""
-    with open(part.dump.path, "rb") as file:
-        file.seek(part.start)
-        data = file.read(part.end - part.start)
-    for offset, document in bsonraw.documents(io.BytesIO(data)):
-        try:
-            form = bsonraw.canonical(document)
-        except bsonraw.BsonError as error:
-            faults.append((part.start + offset, f"{error.kind.name}: {error}"))
-        else:
-            yield form, form == document
+def formed(path: str, start: int, end: int) -> Formed:
+    """The forms of a partition. While they are made, another thread may run."""
+    with open(path, "rb") as file:
+        file.seek(start)
+        forms = bsonraw.canonical_all(file.read(end - start), before=start)
+    faults = [(offset, said(error)) for offset, error in forms.faults]
+    return Formed(forms, [hashlib.blake2b(form, digest_size=32).digest() for form in forms.each()], faults)
+
+
+def new_runs(forms: bsonraw.Forms, digests: Sequence[bytes], seen: Set[bytes]) -> Iterator[memoryview]:
+    """The forms whose digests weren't seen before, as many at a time as are side by side."""
+    begin = last = 0
+    for end, digest in zip(forms.ends, digests):
+        if digest in seen:
+            if begin < last:
+                yield forms.data[begin:last]
+            begin = end
+        seen.add(digest)
+        last = end
+    if begin < last:
+        yield forms.data[begin:last]
 
 
 def canonise(part: Part) -> Tuple[Count, List[Bucket]]:
     """Writes the canonical forms of a partition, each once, and gives their digests by bucket."""
-    buckets = [Bucket(array("I"), array("I"), bytearray()) for _ in range(BUCKETS)]
-    seen: Set[bytes] = set()
-    faults: List[Fault] = []
-    total = canonical = size = 0
+    forms, digests, faults = formed(part.dump.path, part.start, part.end)
     unfinished = f"{part.forms}.{uuid.uuid4().hex}"
     with open(unfinished, "wb") as out:
-        for form, is_own in forms_of(part, faults):
-            total += 1
-            canonical += is_own
-            digest = hashlib.sha256(form).digest()
-            if digest in seen:
-                continue
-            bucket = buckets[digest[0] % BUCKETS]
-            bucket.numbers.append(len(seen))
-            bucket.sizes.append(len(form))
-            bucket.digests.extend(digest)
-            seen.add(digest)
-            size += out.write(form)
+        for run in new_runs(forms, digests, set()):
+            out.write(run)
     os.replace(unfinished, part.forms)
-    return Count(total + len(faults), canonical, total - len(seen), size, faults), buckets
+
+    sizes: Dict[bytes, int] = {}
+    start = 0
+    for end, digest in zip(forms.ends, digests):
+        sizes.setdefault(digest, end - start)
+        start = end
+    buckets = [Bucket(array("I"), array("I"), bytearray()) for _ in range(BUCKETS)]
+    for number, (digest, size) in enumerate(sizes.items()):
+        bucket = buckets[digest[0] % BUCKETS]
+        bucket.numbers.append(number)
+        bucket.sizes.append(size)
+        bucket.digests.extend(digest)
+    repeated = len(digests) - len(sizes)
+    return Count(len(digests) + len(faults), forms.canonical, repeated, sum(sizes.values()), faults), buckets
 
 
-def find_repeats(buckets: Sequence[Bucket]) -> List[Repeats]:
+def find_repeats(outcomes: Sequence[Tuple[Count, List[Bucket]]], number: int) -> List[Repeats]:
     """Of one bucket of all partitions in their order: which forms repeat an earlier one."""
     seen: Set[bytes] = set()
     found = []
-    for numbers, sizes, joined in buckets:
+    for _, buckets in outcomes:
+        numbers, sizes, joined = buckets[number]
         digests = [bytes(joined[at : at + 32]) for at in range(0, len(joined), 32)]
         repeats = [place for place, digest in enumerate(digests) if digest in seen]
         seen.update(digests)
@@ -173,9 +189,8 @@ def keep(part: Part, repeated: Sequence[int], result: str, offset: int) -> None:
         if not left_out:
             shutil.copyfileobj(forms, out, 1 << 20)
             return
-        for number, (_, form) in enumerate(bsonraw.documents(forms)):
-            if number not in left_out:
-                out.write(form)
+        kept = (form for number, (_, form) in enumerate(bsonraw.documents(forms)) if number not in left_out)
+        out.writelines(kept)
 
 
 # ---- the whole run ---------------------------------------------------------------------------------------------------
@@ -186,6 +201,8 @@ def dumps_in(names: Sequence[str]) -> List[Dump]:
     dumps = []
     for name in names:
         path = Path(name).resolve()
+        if not path.exists():
+            raise SystemExit(f"dask_canonical: {name} isn't there")
         if path.is_dir():
             dumps += [Dump(str(found), str(found.relative_to(path))) for found in sorted(path.rglob("*.bson"))]
         else:
@@ -226,34 +243,61 @@ def report_of(counts: Sequence[Count], repeated: int, faults: List[Tuple[str, Fa
     }
 
 
-def run_alone(dumps: Sequence[Dump], folder: Path) -> Dict[str, Any]:
-    """All in this process, document by document."""
+class Progress:
+    """Says once a second how far a run is."""
+
+    def __init__(self, what: str, total: int) -> None:
+        self.what = what
+        self.total = total
+        self.done = 0
+        self.said = time.monotonic()
+
+    def add(self, done: int) -> None:
+        self.done += done
+        if time.monotonic() - self.said >= 1:
+            self.said = time.monotonic()
+            print(f"dask_canonical: {self.done:,} of {self.total:,} {self.what}", file=sys.stderr, flush=True)
+
+
+def in_order(pool: ThreadPoolExecutor, parts: Sequence[Tuple[str, int, int]], ahead: int) -> Iterator[Formed]:
+    """The forms of partitions in their order, of which so many are made ahead."""
+    tasks: Deque["Future[Formed]"] = deque()
+    for part in parts:
+        tasks.append(pool.submit(formed, *part))
+        if len(tasks) > ahead:
+            yield tasks.popleft().result()
+    while tasks:
+        yield tasks.popleft().result()
+
+
+def run_alone(dumps: Sequence[Dump], folder: Path, threads: int = 1, partition: int = PARTITION) -> Dict[str, Any]:
+    """All in this process: threads bring partitions to their forms, and this one writes them in order."""
     work = prepare(dumps, folder)
+    progress = Progress("bytes", sum(os.path.getsize(dump.path) for dump in dumps))
     seen: Set[bytes] = set()
     counts = []
     faults: List[Tuple[str, Fault]] = []
-    for dump in dumps:
-        ends, last = cut(dump.path, PARTITION)
-        with open(work / "result" / dump.name, "wb") as out:
-            for start, end in ends:
-                found: List[Fault] = []
-                total = canonical = 0
-                for form, is_own in forms_of(Part(dump, start, end, ""), found):
-                    total += 1
-                    canonical += is_own
-                    digest = hashlib.sha256(form).digest()
-                    if digest not in seen:
-                        seen.add(digest)
-                        out.write(form)
-                counts.append(Count(total + len(found), canonical, 0, 0, found))
-                faults += [(dump.name, fault) for fault in found]
-        faults += [(dump.name, last)] if last else []
-    good = sum(count.documents - len(count.faults) for count in counts)
-    return finish(dumps, folder, report_of(counts, good - len(seen), faults))
+    with ThreadPoolExecutor(threads) as pool:
+        for dump in dumps:
+            ends, last = cut(dump.path, partition)
+            parts = [(dump.path, start, end) for start, end in ends]
+            with open(work / "result" / dump.name, "wb") as out:
+                for (forms, digests, found), (start, end) in zip(in_order(pool, parts, threads), ends):
+                    before = len(seen)
+                    for run in new_runs(forms, digests, seen):
+                        out.write(run)
+                    repeated = len(digests) - (len(seen) - before)
+                    counts.append(Count(len(digests) + len(found), forms.canonical, repeated, 0, found))
+                    faults += [(dump.name, fault) for fault in found]
+                    progress.add(end - start)
+            faults += [(dump.name, last)] if last else []
+    return finish(dumps, folder, report_of(counts, sum(count.repeated for count in counts), faults))
 
 
 def run_on(client: Any, dumps: Sequence[Dump], folder: Path, partition: int = PARTITION) -> Dict[str, Any]:
     """On the workers of a Dask client."""
+    from distributed import as_completed
+
     work = prepare(dumps, folder)
     cuts = client.gather(client.map(cut, [dump.path for dump in dumps], size=partition, pure=False))
     parts: List[Part] = []
@@ -262,12 +306,11 @@ def run_on(client: Any, dumps: Sequence[Dump], folder: Path, partition: int = PA
             parts.append(Part(dump, start, end, str(work / "forms" / f"{len(parts):06}")))
 
     outcomes = client.map(canonise, parts, pure=False)
+    progress = Progress("partitions", len(parts))
+    for _ in as_completed(outcomes):
+        progress.add(1)
     counts = client.gather(client.map(lambda outcome: outcome[0], outcomes, pure=False))
-    columns = [
-        client.map(lambda outcome, number: outcome[1][number], outcomes, number=number, pure=False)
-        for number in range(BUCKETS)
-    ]
-    found = client.gather([client.submit(find_repeats, column, pure=False) for column in columns])
+    found = client.gather([client.submit(find_repeats, outcomes, number, pure=False) for number in range(BUCKETS)])
 
     writes = []
     offsets = dict.fromkeys(dumps, 0)
@@ -295,7 +338,10 @@ def run_on(client: Any, dumps: Sequence[Dump], folder: Path, partition: int = PA
 
 def run_here(workers: int, dumps: Sequence[Dump], folder: Path, partition: int) -> Dict[str, Any]:
     """On so many worker processes of this machine."""
-    from distributed import Client, LocalCluster
+    try:
+        from distributed import Client, LocalCluster
+    except ImportError as error:
+        raise SystemExit(f"dask_canonical: Dask isn't there ({error}): --workers 0 does without") from None
 
     with LocalCluster(
         n_workers=workers, threads_per_worker=1, processes=True, host="127.0.0.1", dashboard_address=None
@@ -303,26 +349,38 @@ def run_here(workers: int, dumps: Sequence[Dump], folder: Path, partition: int) 
         return run_on(client, dumps, folder, partition)
 
 
+def run(options: argparse.Namespace, dumps: Sequence[Dump], folder: Path) -> Dict[str, Any]:
+    if not options.scheduler and not options.workers:
+        return run_alone(dumps, folder, max(1, options.threads), options.partition)
+    if not options.scheduler:
+        return run_here(options.workers, dumps, folder, options.partition)
+    try:
+        from distributed import Client
+    except ImportError as error:
+        raise SystemExit(f"dask_canonical: Dask isn't there ({error}): --workers 0 does without") from None
+
+    with Client(options.scheduler) as client:
+        client.upload_file(__file__)
+        return run_on(client, dumps, folder, options.partition)
+
+
 def main() -> int:
     parser = argparse.ArgumentParser(description=__doc__, formatter_class=argparse.RawDescriptionHelpFormatter)
     parser.add_argument("dumps", nargs="+", metavar="DUMP")
     parser.add_argument("-o", dest="folder", required=True, type=Path, metavar="FOLDER")
     parser.add_argument("--workers", type=int, default=os.cpu_count(), metavar="N")
+    parser.add_argument("--threads", type=int, default=os.cpu_count(), metavar="N")
     parser.add_argument("--scheduler", metavar="ADDRESS")
     parser.add_argument("--partition", type=int, default=PARTITION, metavar="BYTES")
     options = parser.parse_args()
-    dumps = dumps_in(options.dumps)
     folder = options.folder.resolve()
-    if options.scheduler:
-        from distributed import Client
-
-        with Client(options.scheduler) as client:
-            client.upload_file(__file__)
-            report = run_on(client, dumps, folder, options.partition)
-    elif options.workers:
-        report = run_here(options.workers, dumps, folder, options.partition)
-    else:
-        report = run_alone(dumps, folder)
+    try:
+        report = run(options, dumps_in(options.dumps), folder)
+    except OSError as error:
+        where = "" if error.filename is None else f"{error.filename}: "
+        raise SystemExit(f"dask_canonical: {where}{error.strerror or error}") from None
+    except KeyboardInterrupt:
+        raise SystemExit("dask_canonical: interrupted") from None
     print(", ".join(f"{number} {what}" for what, number in report.items() if what != "faults"), end=", ")
     print(f"{len(report['faults'])} faults; {folder}/report.json has them all", flush=True)
     return 1 if report["faults"] else 0

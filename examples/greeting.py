@@ -1,12 +1,16 @@
-"""Prints the keys of the document in hex on standard input, the kinds of their values, and whether it is canonical."""
+"""Prints the keys, kinds and values of the document in hex on standard input, and whether it is canonical."""
+import json
 import sys
 
-import bsonraw
+try:
+    import bsonraw
+except ImportError as error:
+    sys.exit(f"greeting: the package bsonraw isn't there ({error}): see docs/PYTHON.md")
 
 document = bytes.fromhex(sys.stdin.read())
 try:
-    for key, kind, payload in bsonraw.elements(document):
-        print(f"{key}: {kind.name}, {len(payload)} bytes")
+    for element in bsonraw.elements(document):
+        print(f"{element.key}: {element.kind.name} {json.dumps(element.value, default=str)}")
     print(bsonraw.check(document) or "canonical", bsonraw.canonical(document).hex())
 except bsonraw.BsonError as error:
-    print(f"damaged: {error}")
+    sys.exit(f"damaged: {error}")

@@ -1,10 +1,10 @@
-"""BSON read slowly and plainly, straight from the format: what the library has to answer, found another way.
+"""BSON read slowly and plainly, straight from the format: what the package has to return, found another way.
 
 A document becomes a list of (tag, key, value) where a value is bytes, or for what is nested a list of its own.
 """
 
 import struct
-from typing import List, NamedTuple, Optional, Tuple, Union
+from typing import Any, List, NamedTuple, Optional, Tuple, Union
 
 FIXED = {1: 8, 6: 0, 7: 12, 8: 1, 9: 8, 10: 0, 16: 4, 17: 8, 18: 8, 19: 16, 0x7F: 0, 0xFF: 0}
 TEXTS = (2, 13, 14)
@@ -155,6 +155,49 @@ def scope_of(payload: bytes, key: str) -> bytes:
     except Refused:
         raise Fault("malformed", None) from None
     return scope
+
+
+class Place(NamedTuple):
+    """A fault with the place of its element, or of the stop: the path, the offset and the key."""
+
+    kind: str
+    path: Tuple[int, ...]
+    offset: int
+    key: Optional[str]
+
+
+def first_fault(data: bytes, offset: int = 0, path: Tuple[int, ...] = ()) -> Optional[Place]:
+    """The first fault at any level of a document whose envelope is sound."""
+    frames, stop = walk(data)
+    offset += 4
+    for number, frame in enumerate(frames):
+        here = (*path, number)
+        payload_at = offset + 2 + len(frame.key.encode())
+        try:
+            nested = judge(frame)
+        except Fault as fault:
+            return Place(fault.kind, here, offset, frame.key)
+        if nested is not None:
+            inside = first_fault(nested, payload_at + len(frame.payload) - len(nested), here)
+            if inside is not None:
+                return inside
+        offset = payload_at + len(frame.payload)
+    return None if stop is None else Place(stop.kind, (*path, len(frames)), offset, stop.key)
+
+
+Values = List[Tuple[str, int, Any]]
+
+
+def values(data: bytes) -> Values:
+    """The elements of a sound document, by key and tag; those inside of one are a list for its payload."""
+    found: Values = []
+    for frame in walk(data)[0]:
+        nested = judge(frame)
+        inside: Any = frame.payload if nested is None else values(nested)
+        if frame.tag == 15 and nested is not None:
+            inside = (frame.payload[4 : len(frame.payload) - len(nested)], inside)
+        found.append((frame.key, frame.tag, inside))
+    return found
 
 
 def form(data: bytes, is_array: bool = False, depth: int = 500) -> bytes:

@@ -1,7 +1,7 @@
-"""What the calls take and give: kinds of buffers, no copies, limits, errors, threads."""
+"""What the calls take and give: kinds of buffers, no copies, limits, errors, threads, and callers who mean harm."""
 
 import array
-import ctypes
+import gc
 import mmap
 import os
 import pickle
@@ -10,11 +10,13 @@ import subprocess
 import sys
 import tempfile
 import threading
+import time
 import unittest
 from typing import Any, List
 
 import bsonraw
 from bsonraw import Breach, BsonError, Cause, ElementType, ErrorKind, Reason
+from lines import check_line, list_lines
 from made import Maker, all_made, framed
 
 GREETING = bytes.fromhex("13000000 02686900 06000000 7927616c6c00 00")
@@ -22,7 +24,10 @@ REPEATED = bytes.fromhex("13000000 106100 01000000 106100 02000000 00")
 ONE_NULL = bytes.fromhex("08000000 0a6100 00")
 CALLS = (
     lambda data: list(bsonraw.elements(data)),
+    lambda data: list(bsonraw.walk(data)),
     lambda data: bsonraw.get(data, "a"),
+    lambda data: bsonraw.find(data, "a"),
+    bsonraw.decode,
     bsonraw.canonical,
     bsonraw.check,
     bsonraw.first_fault,
@@ -43,7 +48,6 @@ def buffers(data: bytes) -> List[Any]:
         memoryview(data),
         memoryview(bytearray(b"x" + data))[1:],
         array.array("B", data),
-        (ctypes.c_ubyte * len(data)).from_buffer_copy(data),
         mapped(data, mmap.ACCESS_WRITE),
         mapped(data, mmap.ACCESS_READ),
     ]
@@ -55,14 +59,17 @@ def wide_buffers(data: bytes) -> List[Any]:
 
 
 def answers(data: Any) -> List[Any]:
-    items = [(key, kind, bytes(payload)) for key, kind, payload in bsonraw.elements(data)]
-    found = bsonraw.get(data, "a")
-    return [items, bytes(found.payload), bsonraw.canonical(data), bsonraw.check(data), bsonraw.first_fault(data)]
+    items = [(item.key, item.kind, bytes(item.payload), item.value) for item in bsonraw.elements(data)]
+    walked = [(path, bytes(item.payload), item.value) for path, item in bsonraw.walk(data)]
+    found = bytes(bsonraw.get(data, "a").payload), bytes(bsonraw.find(data, "a").payload)
+    whole = bsonraw.decode(data), bsonraw.canonical(data), bsonraw.check(data), bsonraw.first_fault(data)
+    return [items, walked, found, *whole]
 
 
 class Buffers(unittest.TestCase):
     def test_each_kind_of_buffer_is_read(self) -> None:
-        self.assertEqual(answers(ONE_NULL), [[("a", ElementType.NULL, b"")], b"", ONE_NULL, None, None])
+        wanted = [("a", ElementType.NULL, b"", None)], [(("a",), b"", None)], (b"", b""), {"a": None}, ONE_NULL, None, None
+        self.assertEqual(answers(ONE_NULL), list(wanted))
         for data, some in ((REPEATED, buffers(REPEATED)), (ONE_NULL, buffers(ONE_NULL) + wide_buffers(ONE_NULL))):
             for buffer in some:
                 with self.subTest(data, buffer=type(buffer)):
@@ -70,8 +77,7 @@ class Buffers(unittest.TestCase):
                     self.assertEqual(bytes(memoryview(buffer).cast("B")), data)
 
     def test_length_0_is_no_document(self) -> None:
-        empty = [b"", bytearray(), memoryview(b""), memoryview(b"x")[1:], array.array("B"), (ctypes.c_ubyte * 0)()]
-        for buffer in empty:
+        for buffer in (b"", bytearray(), memoryview(b""), memoryview(b"x")[1:], array.array("B")):
             for call in CALLS:
                 with self.subTest(type(buffer)):
                     try:
@@ -91,20 +97,31 @@ class Buffers(unittest.TestCase):
         for call in CALLS:
             self.assertRaises((BufferError, TypeError), call, memoryview(b"x" * 40)[::2])
 
-    def test_a_key_that_is_no_text_is_refused(self) -> None:
+    def test_arguments_that_are_none(self) -> None:
         for key, name in ((b"hi", "bytes"), (None, "NoneType"), (1, "int")):
             with self.assertRaises(TypeError) as caught:
                 bsonraw.get(GREETING, key)
             self.assertEqual(str(caught.exception), f"key is of type {name}, and not str")
+        for path in (None, 5, [None], ["a", b"b"]):
+            self.assertRaises(TypeError, bsonraw.find, GREETING, path)
+        self.assertRaises(ValueError, bsonraw.find, GREETING, [])
+        for call in (bsonraw.decode, bsonraw.encode, bsonraw.canonical, bsonraw.check, bsonraw.get, bsonraw.find):
+            self.assertRaises(TypeError, call)
+            self.assertRaises(TypeError, call, GREETING, 1, 2)
+            self.assertRaises(TypeError, call, GREETING, depth=2)
+        self.assertRaises(TypeError, bsonraw.Element)
+        for kind in (type(bsonraw.elements(GREETING)), type(bsonraw.walk(GREETING)), type(bsonraw.documents(b""))):
+            self.assertRaises(TypeError, kind)
 
     def test_payloads_are_no_copies_and_read_only(self) -> None:
         data = bytearray(GREETING)
         (item,) = bsonraw.elements(data)
         found = bsonraw.get(data, "hi")
         data[12] = ord("z")
-        for payload in (item.payload, found.payload):
-            self.assertTrue(payload.readonly)
-            self.assertEqual(bytes(payload), b"\6\0\0\0z'all\0")
+        for element in (item, found):
+            self.assertTrue(element.payload.readonly)
+            self.assertEqual(bytes(element.payload), b"\6\0\0\0z'all\0")
+            self.assertEqual(element.value, "z'all")
 
     def test_a_buffer_is_let_go(self) -> None:
         data = bytearray(REPEATED)
@@ -113,10 +130,14 @@ class Buffers(unittest.TestCase):
             data += b"x"
             del data[-1]
         steps = bsonraw.elements(data)
-        next(steps)
-        with self.assertRaises(BufferError):
-            data += b"x"
+        item = next(steps)
+        self.assertRaises(BufferError, data.extend, b"x")
         steps.close()
+        self.assertRaises(BufferError, data.extend, b"x")
+        payload = item.payload
+        del item
+        self.assertRaises(BufferError, data.extend, b"x")
+        del payload
         data += b"x"
         with self.assertRaises(BsonError):
             bsonraw.canonical(data)
@@ -129,6 +150,12 @@ class Buffers(unittest.TestCase):
             next(steps)
         error = caught.exception
         self.assertEqual((error.kind, error.reason, error.key, error.offset), (1, Reason.INVALID_TAG, "b", 7))
+        self.assertRaises(StopIteration, next, steps)
+
+    def test_many_elements(self) -> None:
+        data = framed(b"".join(b"\x10%d\0" % number + number.to_bytes(4, "little") for number in range(1000)))
+        self.assertEqual([item.value for item in bsonraw.elements(data)], list(range(1000)))
+        self.assertEqual([item.offset for item in bsonraw.elements(data)][:3], [4, 11, 18])
 
     def test_kinds(self) -> None:
         tags = [*range(1, 20), 0x7F, 0xFF]
@@ -140,35 +167,45 @@ class Buffers(unittest.TestCase):
             self.assertIs(item.kind, ElementType(tag))
             self.assertEqual(bytes(item.payload), value)
 
+    def test_paths(self) -> None:
+        data = bsonraw.encode({"a": {"b.c": [{"d": 1}, {"d": 2}], "b": 0}, "e": [[5]]})
+        for path, value in (("a.b", 0), (["a", "b.c", 1, "d"], 2), (["a", "b.c", "0", "d"], 1), ("e.0.0", 5)):
+            self.assertEqual(bsonraw.find(data, path).value, value)
+        for path in ("a.b.c", "a.x", "e.1", "e.0.0.0", "e.x", ["a.b"], ""):
+            self.assertIsNone(bsonraw.find(data, path))
+
 
 class Limits(unittest.TestCase):
     def test_bytes(self) -> None:
         self.assertEqual(bsonraw.canonical(GREETING, max_bytes=19), GREETING)
-        with self.assertRaises(BsonError) as caught:
-            bsonraw.canonical(GREETING, max_bytes=18)
-        error = caught.exception
-        self.assertEqual((error.kind, error.reason, error.key), (ErrorKind.REFUSED, Reason.TOO_MANY_BYTES, None))
+        for call in (bsonraw.canonical, bsonraw.check, bsonraw.decode, bsonraw.walk):
+            with self.assertRaises(BsonError) as caught:
+                call(GREETING, max_bytes=18)
+            error = caught.exception
+            self.assertEqual((error.kind, error.reason, error.key), (ErrorKind.REFUSED, Reason.TOO_MANY_BYTES, None))
         self.assertEqual(str(bsonraw.first_fault(GREETING, max_bytes=18)), str(error))
         over = framed(b"\x05\0" + (1 << 24).to_bytes(4, "little") + b"\0" + b"x" * (1 << 24))
         self.assertEqual(bsonraw.first_fault(over).reason, Reason.TOO_MANY_BYTES)
         self.assertEqual(bsonraw.canonical(over, max_bytes=len(over)), over)
+        self.assertEqual(bsonraw.MAX_BYTES, 1 << 24)
 
     def test_levels(self) -> None:
-        data = framed(b"\x03\0" + framed(b"\x04\0" + framed(b"")))
-        self.assertEqual(bsonraw.canonical(data, max_depth=3), data)
-        with self.assertRaises(BsonError) as caught:
-            bsonraw.canonical(data, max_depth=2)
-        self.assertEqual((caught.exception.kind, caught.exception.reason), (ErrorKind.REFUSED, Reason.TOO_DEEP))
+        data = framed(b"\x03\0" + framed(b"\x04a\0" + framed(b"")))
+        for call in (bsonraw.canonical, bsonraw.check, bsonraw.decode, bsonraw.walk):
+            call(data, max_depth=3)
+            with self.assertRaises(BsonError) as caught:
+                call(data, max_depth=2)
+            error = caught.exception
+            self.assertEqual((error.kind, error.reason, error.offset), (ErrorKind.REFUSED, Reason.TOO_DEEP, 10))
+            self.assertEqual((error.path, error.keys, error.key), ((0, 0), ("", "a"), "a"))
 
     def test_limits_that_are_none(self) -> None:
-        for limits in (
-            {"max_bytes": -1},
-            {"max_depth": -1},
-            {"max_bytes": 1 << 63},
-            {"max_depth": 1 << 63},
-        ):
-            self.assertRaises(ValueError, bsonraw.canonical, GREETING, **limits)
-            self.assertRaises(ValueError, bsonraw.first_fault, GREETING, **limits)
+        for call in (bsonraw.canonical, bsonraw.first_fault, bsonraw.check, bsonraw.decode, bsonraw.walk):
+            for name in ("max_bytes", "max_depth"):
+                for limit in (-1, 1 << 63, 1 << 64):
+                    self.assertRaises(ValueError, call, GREETING, **{name: limit})
+                for limit in (1.5, "1", None):
+                    self.assertRaises(TypeError, call, GREETING, **{name: limit})
 
     def test_no_depth_fills_the_stack(self) -> None:
         count = 200_000
@@ -186,23 +223,50 @@ class Limits(unittest.TestCase):
         thread.join()
         self.assertTrue(forms == [form, form])
 
+    def test_values_of_many_levels(self) -> None:
+        count = 400
+        value: Any = {}
+        for _ in range(count - 1):
+            value = {"a": value}
+        data = bsonraw.encode(value)
+        self.assertEqual(bsonraw.encode(bsonraw.decode(data)), data)
+        self.assertRaises(BsonError, bsonraw.encode, value, max_depth=count - 1)
+        scoped = framed(b"")
+        for _ in range(count - 1):
+            code = b"\1\0\0\0\0" + scoped
+            scoped = framed(b"\x0fa\0" + (len(code) + 4).to_bytes(4, "little") + code)
+        self.assertEqual(bsonraw.encode(bsonraw.decode(scoped)), scoped)
+
     def test_a_form_longer_than_its_document(self) -> None:
         values = b"\x0a\0" * 50_000
         data = framed(b"\x04a\0" + framed(values))
         keys = b"".join(b"\x0a%d\0" % number for number in range(50_000))
         self.assertEqual(bsonraw.canonical(data), framed(b"\x04a\0" + framed(keys)))
+        self.assertEqual(bsonraw.decode(data), {"a": [None] * 50_000})
 
 
 class Errors(unittest.TestCase):
     def test_pickled(self) -> None:
-        (error,) = [bsonraw.first_fault(bytes.fromhex("0c000000 026100 06000000 00"))]
+        error = bsonraw.first_fault(bytes.fromhex("0c000000 026100 06000000 00"))
         again = pickle.loads(pickle.dumps(error))
-        self.assertEqual(str(again), "at key 'a': expected buffer to contain at least 10 bytes, but it only has 5")
-        self.assertEqual((again.kind, again.reason, again.key, again.offset), (1, Reason.STRING_PAST_END, "a", None))
+        said = "at offset 4: at key 'a': expected buffer to contain at least 10 bytes, but it only has 5"
+        self.assertEqual(str(again), said)
+        self.assertEqual((again.kind, again.reason, again.key, again.offset), (1, Reason.STRING_PAST_END, "a", 4))
+        self.assertEqual((again.path, again.keys), ((0,), ("a",)))
         breach = bsonraw.check(REPEATED)
-        self.assertEqual(pickle.loads(pickle.dumps(breach)), Breach(Cause.REPEATED_KEY, (1,)))
+        self.assertEqual(pickle.loads(pickle.dumps(breach)), Breach(Cause.REPEATED_KEY, (1,), ("a",), 11))
+        for element in bsonraw.elements(bytearray(REPEATED)):
+            again = pickle.loads(pickle.dumps(element))
+            self.assertEqual((again, again.value, again.offset), (element, element.value, 4))
+            self.assertEqual((hash(again), repr(again)), (hash(element), "<Element 'a': INT32 of 4 bytes>"))
 
-    def test_a_long_key(self) -> None:
+    def test_an_element_by_hand_is_one(self) -> None:
+        make = bsonraw.elements(ONE_NULL).__next__().__reduce__()[0]
+        self.assertEqual(make("a", 16, b"\1\0\0\0").value, 1)
+        for key, tag, payload in (("a", 16, b""), ("a", 99, b""), ("a\0b", 16, b"12"), ("a", 10, b"\x0a\0"), ("", 0, b"")):
+            self.assertRaises(ValueError, make, key, tag, payload)
+
+    def test_a_long_key_and_a_long_path(self) -> None:
         for size in (255, 256, 257, 100_000):
             error = bsonraw.first_fault(framed(b"\x08" + b"k" * size + b"\0\2"))
             self.assertEqual((error.reason, error.key), (Reason.BAD_BOOLEAN, "k" * size))
@@ -210,6 +274,90 @@ class Errors(unittest.TestCase):
     def test_a_key_that_no_document_has(self) -> None:
         self.assertRaises(ValueError, bsonraw.get, GREETING, "\ud800")
         self.assertIsNone(bsonraw.get(GREETING, "hi\0"))
+
+
+class Lent(bytes):
+    """Bytes that lend others, where Python lets a class do that (3.12)."""
+
+    def __buffer__(self, flags: int) -> memoryview:
+        return memoryview(bytearray(REPEATED))
+
+
+class Hostile(unittest.TestCase):
+    def test_bytes_with_a_buffer_of_their_own(self) -> None:
+        data = Lent(GREETING)
+        wanted = REPEATED if sys.version_info >= (3, 12) else GREETING
+        self.assertEqual(bsonraw.decode(data), bsonraw.decode(wanted))
+        self.assertEqual([item.key for item in bsonraw.elements(data)], [item.key for item in bsonraw.elements(wanted)])
+        self.assertEqual(bsonraw.canonical(data), bsonraw.canonical(wanted))
+
+    def test_bytes_written_while_elements_are_kept(self) -> None:
+        rng = random.Random(3)
+        for data in all_made(7, 300):
+            room = bytearray(data)
+            try:
+                items = [item for item in bsonraw.elements(room)]
+                items += [item for _, item in bsonraw.walk(room)]
+                walk = bsonraw.walk(room)
+            except BsonError:
+                continue
+            for at in range(len(room)):
+                room[at] = rng.randrange(256)
+            for item in items:
+                try:
+                    item.value
+                except (BsonError, RuntimeError):
+                    pass
+                bytes(item.payload)
+            try:
+                list(walk)
+            except (UnicodeDecodeError, BsonError, RuntimeError):
+                pass
+
+    def test_a_closed_map(self) -> None:
+        data = mapped(REPEATED, mmap.ACCESS_READ)
+        item = bsonraw.get(data, "a")
+        self.assertRaises(BufferError, data.close)
+        del item
+        data.close()
+        for call in CALLS:
+            self.assertRaises(ValueError, call, data)
+
+    def test_calls_out_of_the_collector(self) -> None:
+        """While values are made, the collector calls code that decodes, and goes on with the same iterators."""
+        data = next(made for made in all_made(9, 50) if len(made) > 200 and bsonraw.check(made) is None)
+        wanted = bsonraw.decode(data)
+        seen: List[Any] = []
+        running: List[Any] = []
+
+        def meddle(phase: str, _: Any) -> None:
+            for one in running:
+                try:
+                    next(one)
+                except (ValueError, StopIteration):
+                    pass
+            seen.append(bsonraw.encode(bsonraw.decode(data)) if len(seen) < 2000 else None)
+
+        before = gc.get_threshold()
+        gc.set_threshold(1)
+        gc.callbacks.append(meddle)
+        try:
+            for _ in range(20):
+                running[:] = [bsonraw.walk(data), bsonraw.documents(data * 3)]
+                self.assertEqual(len(list(bsonraw.walk(data))), len(list(bsonraw.walk(data))))
+                list(running[0]), list(running[1])
+                self.assertEqual(bsonraw.decode(data), wanted)
+        finally:
+            gc.callbacks.remove(meddle)
+            gc.set_threshold(*before)
+        self.assertGreater(len(seen), 10)
+
+    def test_fork(self) -> None:
+        child = os.fork()
+        if child == 0:
+            good = bsonraw.decode(REPEATED) == {"a": 2} and bsonraw.encode({"a": 2}) == bsonraw.canonical(REPEATED)
+            os._exit(0 if good else 1)
+        self.assertEqual(os.waitpid(child, 0)[1], 0)
 
 
 IN_LITTLE_MEMORY = """
@@ -220,44 +368,69 @@ from made import framed
 data = framed(b"".join(b"\\x0a%d\\0" % number for number in range(300_000)))
 with open("/proc/self/statm") as state:
     used = int(state.read().split()[0]) * resource.getpagesize()
-resource.setrlimit(resource.RLIMIT_AS, (used + (20 << 20),) * 2)
-for call in (bsonraw.canonical, bsonraw.first_fault):
+resource.setrlimit(resource.RLIMIT_AS, (used + (7 << 20),) * 2)
+for call in (bsonraw.decode, bsonraw.walk):
     try:
         call(data)
-    except MemoryError as error:
-        print(error)
+    except MemoryError:
+        print("MemoryError")
 print(sum(1 for _ in bsonraw.elements(data)), bsonraw.get(data, "299999").kind.name)
 """
 
 
 class Memory(unittest.TestCase):
     @unittest.skipUnless(os.path.exists("/proc/self/statm"), "/proc isn't there")
-    def test_want_of_memory(self) -> None:
+    def test_no_memory(self) -> None:
         done = subprocess.run([sys.executable, "-c", IN_LITTLE_MEMORY], stdout=subprocess.PIPE, stderr=subprocess.PIPE)
         self.assertEqual(
-            (done.stdout, done.stderr, done.returncode), (b"no memory for a document\n" * 2 + b"300000 NULL\n", b"", 0)
+            (done.stdout, done.stderr, done.returncode), (b"MemoryError\n" * 2 + b"300000 NULL\n", b"", 0)
         )
 
 
 class Threads(unittest.TestCase):
     def test_threads_on_the_same_bytes_and_on_others(self) -> None:
-        made = [(data, bsonraw.check_line(data), list(bsonraw.list_lines(data))) for data in all_made(5, 300)]
+        made = [(data, check_line(data), list_lines(data)) for data in all_made(5, 300)]
         shared = memoryview(bytearray(GREETING * 3))[19:38]
+        large = bsonraw.encode({"a": ["text"] * 20_000})
         wrong: List[Any] = []
 
         def work(first: int) -> None:
             for data, verdict, lines in made[first:] + made[:first]:
-                if bsonraw.check_line(data) != verdict or list(bsonraw.list_lines(data)) != lines:
+                if check_line(data) != verdict or list_lines(data) != lines:
                     wrong.append(data)
                 if bsonraw.canonical(shared) != GREETING:
                     wrong.append(shared)
+            if bsonraw.canonical(large) is not large or bsonraw.encode(bsonraw.decode(large)) != large:
+                wrong.append(large)
 
-        threads = [threading.Thread(target=work, args=(first,)) for first in range(0, 300, 50)]
+        threads = [threading.Thread(target=work, args=(first,)) for first in range(0, 300, 40)]
         for thread in threads:
             thread.start()
         for thread in threads:
             thread.join()
         self.assertEqual(wrong, [])
+
+    def test_a_long_call_lets_others_run(self) -> None:
+        """Another thread counts on while a large document of bytes is checked."""
+        data = framed(b"".join(b"\x0a%07d\0" % number for number in range(1_500_000, 0, -1)))
+        counted = [0]
+        is_on = [True]
+
+        def count() -> None:
+            while is_on[0]:
+                time.sleep(0.0005)
+                counted[0] += 1
+
+        thread = threading.Thread(target=count)
+        thread.start()
+        try:
+            before = counted[0]
+            bsonraw.check(data, max_bytes=1 << 30)
+            during = counted[0] - before
+        finally:
+            is_on[0] = False
+            thread.join()
+        self.assertGreater(during, 5)
 
 
 if __name__ == "__main__":

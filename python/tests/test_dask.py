@@ -4,6 +4,7 @@ import json
 import os
 import random
 import signal
+import subprocess
 import sys
 import tempfile
 import threading
@@ -97,8 +98,22 @@ class Canonical(unittest.TestCase):
         self.assertFalse((folder / "unfinished").exists())
 
     def test_in_one_process(self) -> None:
-        dask_canonical.run_alone(self.dumps, self.folder / "alone")
-        self.compare(self.folder / "alone")
+        for threads, partition in ((1, dask_canonical.PARTITION), (4, 20_000)):
+            folder = self.folder / f"alone{threads}"
+            dask_canonical.run_alone(self.dumps, folder, threads, partition)
+            self.compare(folder)
+
+    def test_what_is_missing_gets_a_line(self) -> None:
+        script = str(EXAMPLES / "dask_canonical.py")
+        missing, dump = str(self.folder / "missing.bson"), str(self.folder / "in" / "a.bson")
+        nowhere = str(self.folder / "in" / "a.bson" / "below")
+        for arguments, says in (([missing, "-o", str(self.folder)], "missing.bson isn't there"), ([dump, "-o", nowhere], "a.bson/below")):
+            ended = subprocess.run([sys.executable, script, *arguments, "--workers", "0"], capture_output=True, text=True)
+            self.assertEqual((ended.returncode, ended.stderr.count("\n")), (1, 1), ended.stderr)
+            self.assertIn(says, ended.stderr)
+        ended = subprocess.run([sys.executable, "-S", "-E", script, dump, "-o", nowhere], capture_output=True, text=True)
+        self.assertEqual((ended.returncode, ended.stderr.count("\n")), (1, 1), ended.stderr)
+        self.assertIn("the package bsonraw isn't there", ended.stderr)
 
     def test_no_dump_is_overwritten(self) -> None:
         self.assertRaises(SystemExit, dask_canonical.run_alone, self.dumps, self.folder / "in")

@@ -1,10 +1,13 @@
 """Worked documents, whose answers are written out, and the documents of examples/ with the listings beside them."""
 
+import random
 import unittest
 from pathlib import Path
 
 import bsonraw
 from bsonraw import BsonError, ElementType, ErrorKind, Reason
+from lines import check_line, line, list_lines, without_key
+from made import framed
 
 EXAMPLES = Path(__file__).resolve().parents[2] / "examples"
 
@@ -116,7 +119,7 @@ STOPS = [
     ("080000000b6b0000", "NO_TERMINATOR", "expected null terminator"),
 ]
 
-# Documents whose element k has a payload that is no value: the reason, the key that the fault carries, and its text.
+# Documents whose element k has a payload that is no value: the reason, the key that the program names, and the text.
 FAULTS = [
     ("09000000086b00ff00", "BAD_BOOLEAN", "k", "boolean must be stored as 0 or 1, got 255"),
     ("0d000000056b00000000000200", "OLD_NO_INNER", "k", "old binary subtype has no inner declared length"),
@@ -165,7 +168,7 @@ def canon(data: bytes) -> str:
     try:
         return bsonraw.canonical(data).hex()
     except BsonError as error:
-        return bsonraw._line(error)
+        return line(error)
 
 
 def of_levels(count: int) -> bytes:
@@ -181,9 +184,9 @@ class Worked(unittest.TestCase):
         for text, lines, form, verdict in WORKED:
             data = bytes.fromhex(text)
             with self.subTest(text):
-                self.assertEqual(list(bsonraw.list_lines(data)), lines)
-                self.assertEqual(canon(data), form)
-                self.assertEqual(bsonraw.check_line(data), verdict)
+                self.assertEqual(list_lines(data), list(map(without_key, lines)))
+                self.assertEqual(canon(data), without_key(form))
+                self.assertEqual(check_line(data), verdict)
 
     def test_stops_say_why(self) -> None:
         for text, reason, said in STOPS:
@@ -194,30 +197,29 @@ class Worked(unittest.TestCase):
                 error = caught.exception
                 self.assertEqual((error.kind, error.reason, error.key), (ErrorKind.MALFORMED, Reason[reason], "k"))
                 self.assertEqual(str(error), f"at offset 4: at key 'k': {said}")
-                with self.assertRaises(BsonError) as caught:
-                    bsonraw.get(data, "x")
-                self.assertEqual(str(caught.exception), f"at key 'k': {said}")
+                for call in (bsonraw.decode, lambda data: bsonraw.get(data, "x"), lambda data: bsonraw.find(data, "x")):
+                    with self.assertRaises(BsonError) as caught:
+                        call(data)
+                    self.assertEqual(str(caught.exception), f"at offset 4: at key 'k': {said}")
 
     def test_faults_say_why(self) -> None:
-        for text, reason, key, said in FAULTS:
+        for text, reason, _, said in FAULTS:
             data = bytes.fromhex(text)
             kind = ErrorKind.NOT_UTF8 if reason is None else ErrorKind.MALFORMED
             name = None if reason is None else Reason[reason]
             with self.subTest(text):
                 self.assertEqual([item.key for item in bsonraw.elements(data)], ["k"])
-                with self.assertRaises(BsonError) as caught:
-                    bsonraw.canonical(data)
-                error = caught.exception
-                self.assertEqual((error.kind, error.reason, error.key), (kind, name, key))
-                self.assertEqual(str(error), said if key is None else f"at key 'k': {said}")
+                for call in (bsonraw.canonical, bsonraw.decode, lambda data: bsonraw.get(data, "k").value):
+                    with self.assertRaises(BsonError) as caught:
+                        call(data)
+                    error = caught.exception
+                    self.assertEqual((error.kind, error.reason, error.key, error.offset), (kind, name, "k", 4))
+                    self.assertEqual(str(error), f"at offset 4: at key 'k': {said}")
                 self.assertEqual(str(bsonraw.first_fault(data)), str(error))
-                with self.assertRaises(BsonError) as caught:
-                    bsonraw.get(data, "k")
-                self.assertEqual(str(caught.exception), f"at key 'k': {said}")
 
     def test_breaches(self) -> None:
         for text, breach in BREACHES:
-            self.assertEqual(bsonraw.check_line(bytes.fromhex(text)), f"breach {breach}", text)
+            self.assertEqual(check_line(bytes.fromhex(text)), f"breach {breach}", text)
 
     def test_look_up(self) -> None:
         data = bytes.fromhex("15000000 08626f6f6c00 01 1069333200 40420f00 00")
@@ -237,15 +239,30 @@ class Worked(unittest.TestCase):
         swallowing = bytes.fromhex("0f000000 0f6100 03000008 6200 01 00")
         with self.assertRaises(BsonError) as caught:
             bsonraw.get(swallowing, "a")
-        self.assertEqual(str(caught.exception), "at key 'a': length exceeds remaining length of buffer: 134217731 vs 8")
+        self.assertEqual(str(caught.exception), "at offset 4: at key 'a': length exceeds remaining length of buffer: 134217731 vs 8")
+
+    def test_keys_of_each_length(self) -> None:
+        """Keys are kept from one call to the next: those that begin and end alike aren't taken for one another."""
+        rng = random.Random(3)
+        keys = {"".join(rng.choice("ab") for _ in range(size)) for size in range(64) for _ in range(40)}
+        keys |= {f"{begin}{middle}{end}" for begin in ("aaaaaaaa", "é" * 4) for middle in range(3000) for end in ("bbbbbbbb", "zzzz日a")}
+        keys |= {f"{begin}{'m' * 20}{middle}{'m' * 20}{end}" for begin in "ab" for middle in "ab" for end in "ab"}
+        for _ in range(3):
+            some = rng.sample(sorted(keys), 3000)
+            data = framed(b"".join(b"\x0a" + key.encode() + b"\0" for key in some))
+            self.assertEqual(list(bsonraw.decode(data)), some)
+            self.assertEqual([element.key for element in bsonraw.elements(data)], some)
 
     def test_levels(self) -> None:
         data = of_levels(500)
         self.assertEqual((len(data), data[:4].hex()), (3498, "aa0d0000"))
         self.assertEqual(bsonraw.canonical(data), data)
         self.assertIsNone(bsonraw.check(data))
-        self.assertEqual(canon(of_levels(501)), "refused 7")
-        self.assertIsNone(bsonraw.check(of_levels(501)))
+        for call in (bsonraw.canonical, bsonraw.check, bsonraw.decode, bsonraw.walk):
+            with self.assertRaises(BsonError) as caught:
+                call(of_levels(501))
+            self.assertEqual((caught.exception.reason, len(caught.exception.path)), (Reason.TOO_DEEP, 500))
+            call(of_levels(501), max_depth=501)
 
     def test_a_breach_far_down_has_its_whole_path(self) -> None:
         inside = bytes.fromhex("0d000000 086100 02 086100 01 00")
@@ -253,7 +270,10 @@ class Worked(unittest.TestCase):
             data = inside
             for _ in range(levels - 1):
                 data = (len(data) + 7).to_bytes(4, "little") + b"\x03\0" + data + b"\0"
-            self.assertEqual(bsonraw.check(data), (bsonraw.Cause.VALUE, (0,) * levels))
+            breach = bsonraw.check(data)
+            self.assertEqual(breach, (bsonraw.Cause.VALUE, (0,) * levels, ("",) * (levels - 1) + ("a",), 6 * levels - 2))
+            error = bsonraw.first_fault(data)
+            self.assertEqual(breach[1:], (error.path, error.keys, error.offset))
 
 
 class Examples(unittest.TestCase):
@@ -263,14 +283,14 @@ class Examples(unittest.TestCase):
         for path in paths:
             data = bytes.fromhex(path.read_text())
             answers = {
-                "list": list(bsonraw.list_lines(data)),
+                "list": list_lines(data),
                 "canon": [canon(data)],
-                "check": [bsonraw.check_line(data)],
+                "check": [check_line(data)],
             }
             for command, lines in answers.items():
                 with self.subTest(path.name, command=command):
                     wanted = path.with_suffix("." + command).read_text().splitlines()
-                    self.assertEqual(lines, wanted[:-1])
+                    self.assertEqual(lines, list(map(without_key, wanted[:-1])))
 
 
 if __name__ == "__main__":

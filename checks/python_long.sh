@@ -1,0 +1,56 @@
+#!/bin/sh
+# What is too slow for the gate: a million calls of the Python package with memory and references watched, its tests under
+# AddressSanitizer where a clang with its library is there, and its tests by each other Python that is named and has its headers.
+#
+#   checks/python_long.sh PREFIX [PYTHON..]     PREFIX: where bin/install put header and library
+set -u
+cd "$(dirname "$(realpath "$0")")/.." || exit 1
+work=$(mktemp -d) || exit 1
+trap 'rm -rf "$work"' EXIT
+if [ $# = 0 ]; then
+    echo "usage: checks/python_long.sh PREFIX [PYTHON..]" >&2
+    exit 2
+fi
+BSONRAW_PREFIX=$(realpath "$1")
+export BSONRAW_PREFIX PYTHONDONTWRITEBYTECODE=1
+shift
+python=/usr/bin/python3
+[ -x "$python" ] || python=python3
+failed=0
+
+# built PYTHON FOLDER: builds the package into a folder
+built() {
+    rm -rf "$work/python" && cp -r python "$work/python" &&
+        (cd "$work/python" && "$1" setup.py -q build --build-lib "$2") >"$work/said" 2>&1 && return
+    cat "$work/said" >&2
+    return 1
+}
+
+built "$python" "$work/package" || exit 1
+PYTHONPATH=$work/package:python/tests "$python" python/tests/long.py || failed=1
+
+asan=$(clang -print-file-name=libclang_rt.asan-x86_64.so 2>/dev/null)
+if [ -f "$asan" ] && CC=clang LDSHARED="clang -shared" BSONRAW_CFLAGS="-fsanitize=address -g -fno-omit-frame-pointer" \
+    BSONRAW_LDFLAGS="-fsanitize=address -shared-libasan" built "$python" "$work/asan"; then
+    tests="test_documents test_calls.Buffers test_calls.Hostile test_calls.Errors test_dumps test_values test_made"
+    # shellcheck disable=SC2086 # a list of tests
+    LD_PRELOAD=$asan ASAN_OPTIONS=detect_leaks=0 PYTHONMALLOC=malloc PYTHONPATH=$work/asan:python/tests \
+        "$python" -W ignore -m unittest $tests >"$work/said" 2>&1 || { cat "$work/said" >&2 && failed=1; }
+    LD_PRELOAD=$asan ASAN_OPTIONS=detect_leaks=0 PYTHONMALLOC=malloc PYTHONPATH=$work/asan:python/tests \
+        "$python" python/tests/long.py 20000 >"$work/said" 2>&1
+    grep -A30 'ERROR: AddressSanitizer' "$work/said" >&2 && failed=1
+    [ "$failed" = 1 ] || echo "python_long: nothing was found by AddressSanitizer"
+else
+    echo "python_long: a clang with AddressSanitizer isn't there, so it isn't tried"
+fi
+
+for other in "$@"; do
+    built "$other" "$work/other" || exit 1
+    if PYTHONPATH=$work/other:python/tests:examples "$other" -W ignore -m unittest discover -s python/tests >"$work/said" 2>&1; then
+        echo "python_long: $(sed -n 's/^Ran \([0-9]* tests\) in .*/\1/p' "$work/said") by $("$other" --version)"
+    else
+        cat "$work/said" >&2 && failed=1
+    fi
+    rm -rf "$work/other"
+done
+exit "$failed"

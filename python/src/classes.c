@@ -1,0 +1,232 @@
+/* The classes of values: two plain ones in C, over which the package defines the rest in Python. */
+#include "native.h"
+
+struct classes classes;
+static PyTypeObject *raw_type, *pair_type;
+
+/* ---- Raw: up to sixteen bytes ---- */
+
+PyObject *raw_new(PyTypeObject *type, const uint8_t *bytes, uint8_t len) {
+    Raw *raw = (Raw *)PyType_GenericAlloc(type, 0);
+    if (raw == NULL) return NULL;
+    raw->len = len;
+    memcpy(raw->bytes, bytes, len);
+    return (PyObject *)raw;
+}
+
+static PyObject *raw_tp_new(PyTypeObject *type, PyObject *args, PyObject *names) {
+    const char *bytes;
+    Py_ssize_t len;
+    if (names != NULL && PyDict_Size(names) > 0) {
+        PyErr_SetString(PyExc_TypeError, "Raw takes no keyword arguments");
+        return NULL;
+    }
+    if (!PyArg_ParseTuple(args, "y#:Raw", &bytes, &len)) return NULL;
+    if (len > 16) {
+        PyErr_SetString(PyExc_ValueError, "Raw takes 16 bytes at most");
+        return NULL;
+    }
+    return raw_new(type, (const uint8_t *)bytes, (uint8_t)len);
+}
+
+/* Frees an object, whose class may be one over ours with a dict of its own. */
+static void free_object(PyObject *self) {
+    PyTypeObject *type = Py_TYPE(self);
+    freefunc free_it;
+    void *slot = PyType_GetSlot(type, Py_tp_free);
+    memcpy(&free_it, &slot, sizeof slot);
+    free_it(self);
+    Py_DECREF(type);
+}
+
+static void raw_dealloc(PyObject *self) { free_object(self); }
+
+static PyObject *raw_compare(PyObject *self, PyObject *other, int how) {
+    Raw *one = (Raw *)self, *two = (Raw *)other;
+    int is_same;
+    if ((how != Py_EQ && how != Py_NE) || Py_TYPE(self) != Py_TYPE(other)) Py_RETURN_NOTIMPLEMENTED;
+    is_same = one->len == two->len && memcmp(one->bytes, two->bytes, one->len) == 0;
+    return PyBool_FromLong(is_same == (how == Py_EQ));
+}
+
+static PyObject *raw_bytes(PyObject *self, PyObject *unused) {
+    (void)unused;
+    return PyBytes_FromStringAndSize((const char *)((Raw *)self)->bytes, ((Raw *)self)->len);
+}
+
+static Py_hash_t raw_hash(PyObject *self) {
+    PyObject *bytes = raw_bytes(self, NULL);
+    Py_hash_t hash = bytes == NULL ? -1 : PyObject_Hash(bytes);
+    Py_XDECREF(bytes);
+    return hash;
+}
+
+static PyMethodDef raw_methods[] = {{"__bytes__", raw_bytes, METH_NOARGS, "The bytes, as BSON stores them."},
+                                    {NULL, NULL, 0, NULL}};
+static PyType_Slot raw_slots[] = {{Py_tp_new, raw_tp_new},           {Py_tp_dealloc, raw_dealloc},
+                                  {Py_tp_richcompare, raw_compare},  {Py_tp_hash, raw_hash},
+                                  {Py_tp_methods, raw_methods},      {Py_tp_doc, "Up to 16 bytes."},
+                                  {0, NULL}};
+static PyType_Spec raw_spec = {"bsonraw._native.Raw", sizeof(Raw), 0, Py_TPFLAGS_DEFAULT | Py_TPFLAGS_BASETYPE, raw_slots};
+
+/* ---- Pair: two values ---- */
+
+PyObject *pair_new(PyTypeObject *type, PyObject *first, PyObject *second) {
+    Pair *pair = first == NULL || second == NULL ? NULL : (Pair *)PyType_GenericAlloc(type, 0);
+    if (pair == NULL) {
+        Py_XDECREF(first);
+        Py_XDECREF(second);
+        return NULL;
+    }
+    pair->first = first;
+    pair->second = second;
+    return (PyObject *)pair;
+}
+
+static PyObject *pair_tp_new(PyTypeObject *type, PyObject *args, PyObject *names) {
+    PyObject *first, *second;
+    if (names != NULL && PyDict_Size(names) > 0) {
+        PyErr_SetString(PyExc_TypeError, "Pair takes no keyword arguments");
+        return NULL;
+    }
+    if (!PyArg_ParseTuple(args, "OO:Pair", &first, &second)) return NULL;
+    Py_INCREF(first);
+    Py_INCREF(second);
+    return pair_new(type, first, second);
+}
+
+static int pair_traverse(PyObject *self, visitproc visit, void *arg) {
+#if PY_VERSION_HEX >= 0x03090000
+    Py_VISIT(Py_TYPE(self));
+#endif
+    Py_VISIT(((Pair *)self)->first);
+    Py_VISIT(((Pair *)self)->second);
+    return 0;
+}
+
+static int pair_clear(PyObject *self) {
+    Py_CLEAR(((Pair *)self)->first);
+    Py_CLEAR(((Pair *)self)->second);
+    return 0;
+}
+
+static void pair_dealloc(PyObject *self) {
+    PyObject_GC_UnTrack(self);
+    pair_clear(self);
+    free_object(self);
+}
+
+static PyObject *pair_compare(PyObject *self, PyObject *other, int how) {
+    Pair *one = (Pair *)self, *two = (Pair *)other;
+    int is_same;
+    if ((how != Py_EQ && how != Py_NE) || Py_TYPE(self) != Py_TYPE(other)) Py_RETURN_NOTIMPLEMENTED;
+    is_same = PyObject_RichCompareBool(one->first, two->first, Py_EQ);
+    if (is_same == 1) is_same = PyObject_RichCompareBool(one->second, two->second, Py_EQ);
+    return is_same < 0 ? NULL : PyBool_FromLong(is_same == (how == Py_EQ));
+}
+
+static Py_hash_t pair_hash(PyObject *self) {
+    PyObject *both = PyTuple_Pack(2, ((Pair *)self)->first, ((Pair *)self)->second);
+    Py_hash_t hash = both == NULL ? -1 : PyObject_Hash(both);
+    Py_XDECREF(both);
+    return hash;
+}
+
+static PyMemberDef pair_members[] = {{"_first", T_OBJECT_EX, offsetof(Pair, first), READONLY, NULL},
+                                     {"_second", T_OBJECT_EX, offsetof(Pair, second), READONLY, NULL},
+                                     {NULL, 0, 0, 0, NULL}};
+static PyType_Slot pair_slots[] = {{Py_tp_new, pair_tp_new},           {Py_tp_dealloc, pair_dealloc},
+                                   {Py_tp_traverse, pair_traverse},    {Py_tp_clear, pair_clear},
+                                   {Py_tp_richcompare, pair_compare},  {Py_tp_hash, pair_hash},
+                                   {Py_tp_members, pair_members},      {Py_tp_doc, "Two values."},
+                                   {0, NULL}};
+static PyType_Spec pair_spec = {"bsonraw._native.Pair", sizeof(Pair), 0,
+                                Py_TPFLAGS_DEFAULT | Py_TPFLAGS_BASETYPE | Py_TPFLAGS_HAVE_GC, pair_slots};
+
+int classes_add(PyObject *module) {
+    raw_type = (PyTypeObject *)PyType_FromSpec(&raw_spec);
+    pair_type = (PyTypeObject *)PyType_FromSpec(&pair_spec);
+    if (raw_type == NULL || pair_type == NULL) return -1;
+    Py_INCREF((PyObject *)raw_type);
+    if (PyModule_AddObject(module, "Raw", (PyObject *)raw_type) < 0) return -1;
+    Py_INCREF((PyObject *)pair_type);
+    return PyModule_AddObject(module, "Pair", (PyObject *)pair_type);
+}
+
+/* ---- what the package hands in ---- */
+
+struct named {
+    const char *name;
+    void *slot;
+    PyTypeObject **base; /* what it has to be a subclass of; NULL for any object */
+};
+
+static PyTypeObject *const int_type = &PyLong_Type;
+static PyTypeObject *const str_type = &PyUnicode_Type;
+static PyTypeObject *const list_type = &PyList_Type;
+
+#define BASE(type) ((PyTypeObject **)&(type))
+
+static const struct named names[] = {
+    {"ObjectId", &classes.object_id, &raw_type},
+    {"Decimal128", &classes.decimal128, &raw_type},
+    {"Timestamp", &classes.timestamp, &raw_type},
+    {"Regex", &classes.regex, &pair_type},
+    {"Binary", &classes.binary, &pair_type},
+    {"Code", &classes.code, &pair_type},
+    {"DBPointer", &classes.db_pointer, &pair_type},
+    {"Int64", &classes.int64, BASE(int_type)},
+    {"DatetimeMS", &classes.datetime_ms, BASE(int_type)},
+    {"Symbol", &classes.symbol, BASE(str_type)},
+    {"Pairs", &classes.pairs, BASE(list_type)},
+    {"Undefined", &classes.undefined_type, NULL},
+    {"MinKey", &classes.min_key_type, NULL},
+    {"MaxKey", &classes.max_key_type, NULL},
+    {"BsonError", &classes.error, NULL},
+    {"Breach", &classes.breach, NULL},
+    {"convert", &classes.convert, NULL},
+};
+
+static int take(PyObject *namespace, const struct named *named) {
+    PyObject *found = PyObject_GetAttrString(namespace, named->name);
+    if (found == NULL) return -1;
+    if (named->base != NULL && !PyObject_IsSubclass(found, (PyObject *)*named->base)) {
+        PyErr_Format(PyExc_TypeError, "%s is no class that the module can make", named->name);
+        Py_DECREF(found);
+        return -1;
+    }
+    memcpy(named->slot, &found, sizeof found); /* kept for as long as the process runs */
+    return 0;
+}
+
+static int take_element_types(PyObject *namespace) {
+    PyObject *types = PyObject_GetAttrString(namespace, "ElementType");
+    PyObject *all = types == NULL ? NULL : PySequence_List(types);
+    Py_ssize_t number, count = all == NULL ? -1 : PyList_Size(all);
+    Py_XDECREF(types);
+    for (number = 0; number < count; number++) {
+        PyObject *type = PyList_GetItem(all, number);
+        long tag = PyLong_AsLong(type);
+        if (tag < 0 || tag > 255) break;
+        Py_INCREF(type);
+        classes.element_type[tag] = type;
+    }
+    Py_XDECREF(all);
+    return count < 0 || number < count ? -1 : 0;
+}
+
+static PyObject *only(PyTypeObject *type) { return PyObject_CallObject((PyObject *)type, NULL); }
+
+PyObject *classes_use(PyObject *module, PyObject *namespace) {
+    size_t number;
+    (void)module;
+    if (classes.convert != NULL) Py_RETURN_NONE;
+    for (number = 0; number < sizeof names / sizeof *names; number++)
+        if (take(namespace, &names[number]) < 0) return NULL;
+    if (take_element_types(namespace) < 0) return NULL;
+    classes.undefined = only(classes.undefined_type);
+    classes.min_key = only(classes.min_key_type);
+    classes.max_key = only(classes.max_key_type);
+    if (classes.undefined == NULL || classes.min_key == NULL || classes.max_key == NULL) return NULL;
+    Py_RETURN_NONE;
+}

@@ -1,0 +1,272 @@
+/* The canonical forms of a whole dump in one call, and without the interpreter's lock where that may be. */
+#include "native.h"
+
+#include <stdlib.h>
+
+/* A document that has no form. */
+struct without {
+    size_t at, len;
+    int32_t status;
+};
+
+struct forms {
+    struct bytes bytes;
+    size_t max_bytes, max_depth, before;
+    struct bsonraw_reader reader;
+    uint8_t *at; /* the forms so far, one behind the other */
+    size_t len, room, wanted;
+    uint64_t *ends;
+    size_t count, ends_room;
+    struct without *without;
+    size_t without_count, without_room;
+    size_t own; /* how many documents are their own form */
+};
+
+enum { DONE, WANTS_ROOM, NO_MEMORY };
+
+/* Room for one more item of this size: what is there, or more of it; NULL without memory. */
+static void *one_more(void *items, size_t count, size_t *room, size_t size) {
+    size_t more = 2 * *room + 64;
+    if (count < *room) return items;
+    items = more > SIZE_MAX / size ? NULL : realloc(items, more * size);
+    if (items != NULL) *room = more;
+    return items;
+}
+
+static int note_end(struct forms *all) {
+    uint64_t *ends = one_more(all->ends, all->count, &all->ends_room, sizeof *ends);
+    if (ends == NULL) return NO_MEMORY;
+    all->ends = ends;
+    ends[all->count++] = all->len;
+    return DONE;
+}
+
+static int note_without(struct forms *all, size_t at, size_t len, int32_t status) {
+    struct without *without = one_more(all->without, all->without_count, &all->without_room, sizeof *without);
+    struct without here = {at, len, status};
+    if (without == NULL) return NO_MEMORY;
+    all->without = without;
+    without[all->without_count++] = here;
+    return DONE;
+}
+
+/* The form of one document. */
+static int form_one(struct forms *all, size_t at, size_t len) {
+    struct bsonraw_report report;
+    uint64_t none;
+    const uint8_t *document = all->bytes.at + at;
+    int32_t status = bsonraw_canonical(document, len, all->max_bytes, all->max_depth, all->at + all->len, all->room - all->len,
+                                     &report, &none, 0);
+    switch (status) {
+    case BSONRAW_OK:
+        all->own += report.count == len && memcmp(all->at + all->len, document, len) == 0;
+        all->len += (size_t)report.count;
+        return note_end(all);
+    case BSONRAW_SMALL_BUFFER: all->wanted = (size_t)report.count; return WANTS_ROOM;
+    case BSONRAW_NO_MEMORY: return NO_MEMORY;
+    default: return note_without(all, at, len, status);
+    }
+}
+
+/* The forms of what isn't read yet. No object of Python is touched, so no lock is needed. */
+static int form_rest(struct forms *all) {
+    for (;;) {
+        size_t at = (size_t)all->reader.next;
+        int32_t status = bsonraw_reader_read(&all->reader, all->bytes.at, all->bytes.len);
+        int outcome;
+        if (status == BSONRAW_NONE) return DONE;
+        if (status != BSONRAW_OK && all->reader.error.reason != BSONRAW_NOT_TERMINATED)
+            return note_without(all, at, all->bytes.len - at, BSONRAW_NONE);
+        outcome = form_one(all, at, (size_t)all->reader.next - at);
+        if (outcome == WANTS_ROOM) all->reader.next = at;
+        if (outcome != DONE) return outcome;
+    }
+}
+
+/* Bytes in place of those that are too few for the next form. */
+static PyObject *larger(struct forms *all, PyObject *room) {
+    size_t size = all->len + all->wanted > 2 * all->room ? all->len + all->wanted : 2 * all->room;
+    PyObject *bytes = PyBytes_FromStringAndSize(NULL, (Py_ssize_t)size);
+    if (bytes != NULL) {
+        uint8_t *at = (uint8_t *)PyBytes_AsString(bytes);
+        memcpy(at, all->at, all->len);
+        all->at = at;
+        all->room = size;
+    }
+    Py_DECREF(room);
+    return bytes;
+}
+
+/* The forms of all documents in front of bytes that may be more: NULL with an error set. */
+static PyObject *formed(struct forms *all) {
+    PyObject *room = PyBytes_FromStringAndSize(NULL, (Py_ssize_t)all->bytes.len);
+    int outcome = WANTS_ROOM;
+    all->room = all->bytes.len;
+    while (room != NULL && outcome == WANTS_ROOM) {
+        all->at = (uint8_t *)PyBytes_AsString(room);
+        if (LETS_GO(&all->bytes)) {
+            Py_BEGIN_ALLOW_THREADS
+            outcome = form_rest(all);
+            Py_END_ALLOW_THREADS
+        } else {
+            outcome = form_rest(all);
+        }
+        if (outcome == WANTS_ROOM) room = larger(all, room);
+    }
+    if (room != NULL && outcome == NO_MEMORY) {
+        Py_CLEAR(room);
+        PyErr_NoMemory();
+    }
+    return room;
+}
+
+/* The error of a document without a form: it is looked through once more, for the place. */
+static PyObject *why_without(const struct forms *all, const struct without *without) {
+    struct bytes document = all->bytes;
+    struct told told;
+    if (without->status == BSONRAW_NONE) return error_no_document(all->reader.error.reason, all->before + without->at);
+    document.at += without->at;
+    document.len = without->len;
+    memset(&told.report, 0, sizeof told.report);
+    told.status = without->status;
+    told.max_bytes = all->max_bytes;
+    told.max_depth = all->max_depth;
+    told.before = all->before + without->at;
+    if (told.status == BSONRAW_FAULT || told.status == BSONRAW_TOO_DEEP || told.status == BSONRAW_NO_DOCUMENT)
+        told.status = bsonraw_first_fault(document.at, document.len, told.max_bytes, told.max_depth, &told.report, told.path,
+                                        PATH_ROOM);
+    if (told.status != BSONRAW_OK) return error_of(&document, &told);
+    PyErr_SetString(PyExc_RuntimeError, "the bytes were written while they were brought to their forms");
+    return NULL;
+}
+
+/* A list of the documents without a form: tuples of offset and error. */
+static PyObject *faults_of(const struct forms *all) {
+    PyObject *list = PyList_New(0);
+    size_t number;
+    for (number = 0; list != NULL && number < all->without_count; number++) {
+        PyObject *error = why_without(all, &all->without[number]);
+        PyObject *both = error == NULL ? NULL : Py_BuildValue("KN", (unsigned long long)(all->before + all->without[number].at), error);
+        if (both == NULL || PyList_Append(list, both) < 0) Py_CLEAR(list);
+        Py_XDECREF(both);
+    }
+    return list;
+}
+
+/* A view of the first bytes. */
+static PyObject *front_of(PyObject *bytes, size_t len) {
+    PyObject *view = bytes == NULL ? NULL : PyMemoryView_FromObject(bytes);
+    PyObject *front = view == NULL ? NULL : PySequence_GetSlice(view, 0, (Py_ssize_t)len);
+    Py_XDECREF(view);
+    return front;
+}
+
+static PyObject *ends_of(const struct forms *all) {
+    PyObject *bytes = PyBytes_FromStringAndSize((const char *)all->ends, (Py_ssize_t)(all->count * sizeof *all->ends));
+    PyObject *view = bytes == NULL ? NULL : PyMemoryView_FromObject(bytes);
+    PyObject *numbers = view == NULL ? NULL : PyObject_CallMethod(view, "cast", "s", "Q");
+    Py_XDECREF(view);
+    Py_XDECREF(bytes);
+    return numbers;
+}
+
+/* canonical_all(data, ..): the forms, where each ends, how many documents are their own form, and the errors of the others. */
+PyObject *py_canonical_all(PyObject *module, PyObject *const *args, Py_ssize_t count, PyObject *names) {
+    struct options options;
+    struct forms all;
+    PyObject *room, *data, *ends, *faults, *result = NULL;
+    (void)module;
+    if (options_read(&options, "canonical_all", OF_A_PART, args, count, names) < 0) return NULL;
+    memset(&all, 0, sizeof all);
+    all.max_bytes = options.max_bytes;
+    all.max_depth = options.max_depth;
+    all.before = options.before;
+    if (bytes_open(&all.bytes, args[0]) < 0) return NULL;
+    room = formed(&all);
+    data = front_of(room, all.len);
+    ends = data == NULL ? NULL : ends_of(&all);
+    faults = ends == NULL ? NULL : faults_of(&all);
+    if (faults != NULL) result = Py_BuildValue("OOnO", data, ends, (Py_ssize_t)all.own, faults);
+    Py_XDECREF(faults);
+    Py_XDECREF(ends);
+    Py_XDECREF(data);
+    Py_XDECREF(room);
+    free(all.ends);
+    free(all.without);
+    bytes_close(&all.bytes);
+    return result;
+}
+
+/* ---- where a dump is cut ---- */
+
+struct cuts {
+    uint64_t *at;
+    size_t count, room;
+};
+
+static int note_cut(struct cuts *cuts, uint64_t at) {
+    uint64_t *cut = one_more(cuts->at, cuts->count, &cuts->room, sizeof *cut);
+    if (cut == NULL) return NO_MEMORY;
+    cuts->at = cut;
+    cut[cuts->count++] = at;
+    return DONE;
+}
+
+/* Notes the first offset of each part of so many bytes or a little more, and the end of the last one. */
+static int cut_all(struct cuts *cuts, const struct bytes *bytes, size_t size, struct bsonraw_reader *reader) {
+    uint64_t start = 0, end = 0;
+    int outcome = note_cut(cuts, 0);
+    while (outcome == DONE) {
+        int32_t status = bsonraw_reader_read(reader, bytes->at, bytes->len);
+        if (status != BSONRAW_OK && (status == BSONRAW_NONE || reader->error.reason != BSONRAW_NOT_TERMINATED)) break;
+        end = reader->next;
+        if (end - start < size) continue;
+        outcome = note_cut(cuts, end);
+        start = end;
+    }
+    return outcome == DONE && end > start ? note_cut(cuts, end) : outcome;
+}
+
+static PyObject *offsets_of(const struct cuts *cuts) {
+    PyObject *list = PyList_New((Py_ssize_t)cuts->count);
+    size_t number;
+    for (number = 0; list != NULL && number < cuts->count; number++) {
+        PyObject *at = PyLong_FromUnsignedLongLong(cuts->at[number]);
+        if (at == NULL || PyList_SetItem(list, (Py_ssize_t)number, at) < 0) Py_CLEAR(list);
+    }
+    return list;
+}
+
+/* partitions(data, size): where it is cut, and the error at which the cuts end, or None. */
+PyObject *py_partitions(PyObject *module, PyObject *const *args, Py_ssize_t count) {
+    struct bytes bytes;
+    struct cuts cuts = {NULL, 0, 0};
+    struct bsonraw_reader reader;
+    PyObject *offsets, *result = NULL;
+    size_t size;
+    int outcome;
+    (void)module;
+    if (count != 2) PyErr_SetString(PyExc_TypeError, "partitions() takes data and a size");
+    if (count != 2 || ((size = PyLong_AsSize_t(args[1])) == (size_t)-1 && PyErr_Occurred())) return NULL;
+    if (bytes_open(&bytes, args[0]) < 0) return NULL;
+    memset(&reader, 0, sizeof reader);
+    if (LETS_GO(&bytes)) {
+        Py_BEGIN_ALLOW_THREADS
+        outcome = cut_all(&cuts, &bytes, size, &reader);
+        Py_END_ALLOW_THREADS
+    } else {
+        outcome = cut_all(&cuts, &bytes, size, &reader);
+    }
+    if (outcome == NO_MEMORY) PyErr_NoMemory();
+    offsets = outcome == NO_MEMORY ? NULL : offsets_of(&cuts);
+    if (offsets != NULL) {
+        uint64_t end = cuts.at[cuts.count - 1];
+        PyObject *error = end < bytes.len ? error_no_document(reader.error.reason, end) : Py_None;
+        if (error == Py_None) Py_INCREF(error);
+        if (error != NULL) result = Py_BuildValue("ON", offsets, error);
+        Py_DECREF(offsets);
+    }
+    free(cuts.at);
+    bytes_close(&bytes);
+    return result;
+}

@@ -1,0 +1,160 @@
+/* The module bsonraw._native, and its calls over whole documents. */
+#include "native.h"
+
+/* One of the library's calls over a whole document, with the lock let go of where that may be. */
+#define TELL(told, bytes, call)                                                                                                \
+    do {                                                                                                                       \
+        if (LETS_GO(bytes)) {                                                                                                  \
+            Py_BEGIN_ALLOW_THREADS(told)->status = call;                                                                       \
+            Py_END_ALLOW_THREADS                                                                                               \
+        } else {                                                                                                               \
+            (told)->status = call;                                                                                             \
+        }                                                                                                                      \
+    } while (0)
+
+/* The bytes and the limits of a call. */
+struct call {
+    struct bytes bytes;
+    struct told told;
+};
+
+static int call_begin(struct call *call, const char *name, PyObject *const *args, Py_ssize_t count, PyObject *names) {
+    struct options options;
+    if (options_read(&options, name, LIMITS, args, count, names) < 0) return -1;
+    call->told.max_bytes = options.max_bytes;
+    call->told.max_depth = options.max_depth;
+    call->told.before = 0;
+    return bytes_open(&call->bytes, args[0]);
+}
+
+static PyObject *py_decode(PyObject *module, PyObject *const *args, Py_ssize_t count, PyObject *names) {
+    struct options options;
+    struct bytes bytes;
+    PyObject *object = NULL;
+    (void)module;
+    if (options_read(&options, "decode", DECODE_OPTIONS, args, count, names) < 0) return NULL;
+    if (bytes_open(&bytes, args[0]) == 0) {
+        object = decoded(&bytes, &options, 0);
+        bytes_close(&bytes);
+    }
+    Py_XDECREF(options.types);
+    return object;
+}
+
+static PyObject *py_check(PyObject *module, PyObject *const *args, Py_ssize_t count, PyObject *names) {
+    struct call call;
+    struct told *told = &call.told;
+    const struct bytes *bytes = &call.bytes;
+    PyObject *result = NULL;
+    (void)module;
+    if (call_begin(&call, "check", args, count, names) < 0) return NULL;
+    TELL(told, bytes, bsonraw_check(bytes->at, bytes->len, told->max_bytes, told->max_depth, &told->report, told->path,
+                                    PATH_ROOM));
+    if (told->status == BSONRAW_BREACH) result = breach_of(bytes, told);
+    else if (told->status != BSONRAW_OK) set_error_of(bytes, told);
+    else Py_INCREF(result = Py_None);
+    bytes_close(&call.bytes);
+    return result;
+}
+
+static PyObject *py_first_fault(PyObject *module, PyObject *const *args, Py_ssize_t count, PyObject *names) {
+    struct call call;
+    struct told *told = &call.told;
+    const struct bytes *bytes = &call.bytes;
+    PyObject *result;
+    (void)module;
+    if (call_begin(&call, "first_fault", args, count, names) < 0) return NULL;
+    TELL(told, bytes, bsonraw_first_fault(bytes->at, bytes->len, told->max_bytes, told->max_depth, &told->report, told->path,
+                                          PATH_ROOM));
+    if (told->status != BSONRAW_OK) result = error_of(bytes, told);
+    else Py_INCREF(result = Py_None);
+    bytes_close(&call.bytes);
+    return result;
+}
+
+/* Writes the form into bytes of this length. */
+static PyObject *form_in(struct call *call, size_t room) {
+    struct told *told = &call->told;
+    const struct bytes *bytes = &call->bytes;
+    PyObject *form = PyBytes_FromStringAndSize(NULL, (Py_ssize_t)room);
+    uint8_t *at = form == NULL ? NULL : (uint8_t *)PyBytes_AsString(form);
+    if (at != NULL)
+        TELL(told, bytes, bsonraw_canonical(bytes->at, bytes->len, told->max_bytes, told->max_depth, at, room, &told->report,
+                                            told->path, PATH_ROOM));
+    return form;
+}
+
+/* The form in place of the room that it was written to: the caller's own bytes where they are it. */
+static PyObject *form_of(const struct call *call, PyObject *data, PyObject *room) {
+    size_t len = (size_t)call->told.report.count;
+    if (PyBytes_CheckExact(data) && len == call->bytes.len && memcmp(call->bytes.at, PyBytes_AsString(room), len) == 0) {
+        Py_DECREF(room);
+        Py_INCREF(data);
+        return data;
+    }
+    if (len < (size_t)PyBytes_Size(room)) {
+        PyObject *form = PyBytes_FromStringAndSize(PyBytes_AsString(room), (Py_ssize_t)len);
+        Py_DECREF(room);
+        return form;
+    }
+    return room;
+}
+
+static PyObject *py_canonical(PyObject *module, PyObject *const *args, Py_ssize_t count, PyObject *names) {
+    struct call call;
+    PyObject *form;
+    (void)module;
+    if (call_begin(&call, "canonical", args, count, names) < 0) return NULL;
+    form = form_in(&call, call.bytes.len > call.told.max_bytes ? 0 : call.bytes.len);
+    if (form != NULL && call.told.status == BSONRAW_SMALL_BUFFER) {
+        Py_DECREF(form);
+        form = form_in(&call, (size_t)call.told.report.count);
+    }
+    if (form != NULL && call.told.status == BSONRAW_OK) {
+        form = form_of(&call, args[0], form);
+    } else if (form != NULL) {
+        Py_CLEAR(form);
+        set_error_of(&call.bytes, &call.told);
+    }
+    bytes_close(&call.bytes);
+    return form;
+}
+
+#include "docs.h"
+
+static PyMethodDef calls[] = {
+    {"decode", FASTCALL(py_decode), METH_FASTCALL | METH_KEYWORDS, decode_doc},
+    {"encode", FASTCALL(py_encode), METH_FASTCALL | METH_KEYWORDS, encode_doc},
+    {"elements", py_elements, METH_O, elements_doc},
+    {"walk", FASTCALL(py_walk), METH_FASTCALL | METH_KEYWORDS, walk_doc},
+    {"get", FASTCALL(py_get), METH_FASTCALL, get_doc},
+    {"find", FASTCALL(py_find), METH_FASTCALL, find_doc},
+    {"canonical", FASTCALL(py_canonical), METH_FASTCALL | METH_KEYWORDS, canonical_doc},
+    {"check", FASTCALL(py_check), METH_FASTCALL | METH_KEYWORDS, check_doc},
+    {"first_fault", FASTCALL(py_first_fault), METH_FASTCALL | METH_KEYWORDS, first_fault_doc},
+    {"documents", FASTCALL(py_documents), METH_FASTCALL, NULL},
+    {"decode_all", FASTCALL(py_decode_all), METH_FASTCALL | METH_KEYWORDS, NULL},
+    {"canonical_all", FASTCALL(py_canonical_all), METH_FASTCALL | METH_KEYWORDS, NULL},
+    {"partitions", FASTCALL(py_partitions), METH_FASTCALL, NULL},
+    {"element", FASTCALL(py_element), METH_FASTCALL, NULL},
+    {"use", classes_use, METH_O, NULL},
+    {NULL, NULL, 0, NULL}};
+
+static struct PyModuleDef definition = {
+    PyModuleDef_HEAD_INIT, "bsonraw._native", "What bsonraw does in C.", -1, calls, NULL, NULL, NULL, NULL};
+
+#ifdef __GNUC__
+__attribute__((visibility("default"))) /* which headers before 3.9 leave out */
+#endif
+PyMODINIT_FUNC PyInit__native(void) {
+    PyObject *module;
+    if (bsonraw_version() / 10000 != BSONRAW_VERSION / 10000) {
+        PyErr_SetString(PyExc_ImportError, "bsonraw: built with the header of another library");
+        return NULL;
+    }
+    module = PyModule_Create(&definition);
+    if (module != NULL && (times_init() < 0 || classes_add(module) < 0 || elements_add(module) < 0 || dumps_add(module) < 0 ||
+                           PyModule_AddIntConstant(module, "VERSION", BSONRAW_VERSION) < 0))
+        Py_CLEAR(module);
+    return module;
+}

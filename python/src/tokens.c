@@ -1,0 +1,58 @@
+/* The tokens of a document: the one place where this module asks the library for all levels at once. */
+#include "native.h"
+
+/* One room is kept for the next call. Who takes it owns it until it is given back. */
+static struct tokens kept;
+
+#define KEPT_ROOM 65536 /* a larger one is freed */
+
+static int make_room(struct tokens *tokens, size_t room) {
+    PyMem_Free(tokens->at);
+    tokens->at = room > SIZE_MAX / sizeof *tokens->at ? NULL : PyMem_Malloc(room * sizeof *tokens->at);
+    tokens->room = tokens->at == NULL ? 0 : room;
+    if (tokens->at == NULL) PyErr_NoMemory();
+    return tokens->at == NULL ? -1 : 0;
+}
+
+void tokens_free(struct tokens *tokens) {
+    if (kept.at == NULL && tokens->room <= KEPT_ROOM) kept = *tokens;
+    else PyMem_Free(tokens->at);
+    tokens->at = NULL;
+    tokens->room = 0;
+}
+
+static void flatten(struct tokens *tokens, const struct bytes *bytes, struct told *told) {
+    if (!LETS_GO(bytes)) {
+        told->status = whole_flatten(bytes->at, bytes->len, told->max_bytes, told->max_depth, tokens->at, tokens->room,
+                                       &told->report, told->path, PATH_ROOM);
+        return;
+    }
+    Py_BEGIN_ALLOW_THREADS
+    told->status = whole_flatten(bytes->at, bytes->len, told->max_bytes, told->max_depth, tokens->at, tokens->room,
+                                   &told->report, told->path, PATH_ROOM);
+    Py_END_ALLOW_THREADS
+}
+
+int tokens_read(struct tokens *tokens, const struct bytes *bytes, const struct options *options, uint64_t before) {
+    struct told told;
+    *tokens = kept;
+    kept.at = NULL;
+    kept.room = 0;
+    told.max_bytes = options->max_bytes;
+    told.max_depth = options->max_depth;
+    told.before = before;
+    if (tokens->room < bytes->len / 8 + 64 && bytes->len <= told.max_bytes)
+        if (make_room(tokens, bytes->len / 8 + 64) < 0) return -1;
+    flatten(tokens, bytes, &told);
+    if (told.status == BSONRAW_SMALL_BUFFER) {
+        if (make_room(tokens, (size_t)told.report.count) < 0) return -1;
+        flatten(tokens, bytes, &told);
+    }
+    if (told.status != BSONRAW_OK) {
+        set_error_of(bytes, &told);
+        tokens_free(tokens);
+        return -1;
+    }
+    tokens->count = (size_t)told.report.count;
+    return 0;
+}

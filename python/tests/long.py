@@ -1,0 +1,87 @@
+"""A million calls and more, with memory and reference counts watched: what grows is a leak. Run by checks/python_long.sh.
+
+    python3 long.py [CALLS]
+"""
+
+import gc
+import io
+import random
+import resource
+import sys
+from typing import Any, Callable, List
+
+import bsonraw
+from made import all_made
+
+CALLS = int(sys.argv[1]) if len(sys.argv) > 1 else 1_000_000
+
+
+def quietly(call: Callable[[Any], Any], data: Any) -> None:
+    try:
+        call(data)
+    except (bsonraw.BsonError, TypeError, BufferError):
+        pass
+
+
+def values(data: Any) -> None:
+    for _, element in bsonraw.walk(data):
+        element.value, element.kind, bytes(element.payload), hash(element)
+
+
+def half(data: Any) -> None:
+    """Iterators that are left before their end."""
+    next(bsonraw.elements(data), None)
+    next(bsonraw.walk(data), None)
+    next(bsonraw.documents(bytes(data) * 2), None)
+
+
+STEPS: List[Callable[[Any], Any]] = [
+    bsonraw.decode,
+    lambda data: bsonraw.decode(data, pairs=True),
+    lambda data: bsonraw.encode(bsonraw.decode(data)),
+    lambda data: bsonraw.encode({"k": bsonraw.decode(data), "s": {1}}),
+    lambda data: bsonraw.decode(data, max_depth=1),
+    lambda data: bsonraw.decode(data, depth=1),
+    bsonraw.canonical,
+    bsonraw.check,
+    bsonraw.first_fault,
+    lambda data: [element.value for element in bsonraw.elements(bytearray(data))],
+    lambda data: [bsonraw.find(data, path) for path, _ in bsonraw.walk(data)][:0],
+    lambda data: bsonraw.get(data, "a"),
+    lambda data: bsonraw.find(data, ["a", 0, None]),
+    values,
+    half,
+    lambda data: bsonraw.decode_all(io.BytesIO(data * 2)),
+    lambda data: list(bsonraw.documents(io.BytesIO(data + b"x"))),
+    lambda data: list(bsonraw.documents(memoryview(data))),
+    lambda data: bsonraw.canonical_all(data * 3 + b"x", max_depth=3),
+    lambda data: bsonraw.partitions(data * 3, len(data)),
+]
+
+
+def run(made: List[bytes], calls: int) -> None:
+    rng = random.Random(1)
+    for _ in range(calls):
+        quietly(rng.choice(STEPS), rng.choice(made))
+
+
+def kept() -> List[int]:
+    """How many objects there are that count, and how often some that are shared are referred to."""
+    gc.collect()
+    shared = [None, True, bsonraw.ObjectId, bsonraw.Int64, bsonraw.Element, bsonraw.ElementType.STRING, bsonraw.MinKey()]
+    return [len(gc.get_objects()), *map(sys.getrefcount, shared)]
+
+
+def main() -> int:
+    made = list(all_made(77, 400))
+    run(made, CALLS // 4)
+    before, used = kept(), resource.getrusage(resource.RUSAGE_SELF).ru_maxrss
+    run(made, CALLS)
+    after, more = kept(), resource.getrusage(resource.RUSAGE_SELF).ru_maxrss - used
+    grown = [two - one for one, two in zip(before, after)]
+    print(f"{CALLS} calls: objects and references grew by {grown}, the peak of memory by {more} kB")
+    return 1 if max(grown) > 20 or more > 2000 else 0
+
+
+if __name__ == "__main__":
+    sys.exit(main())

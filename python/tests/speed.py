@@ -1,0 +1,200 @@
+"""Measures the package beside MongoDB's own, in turns and in one run, and prints a table.
+
+    speed.py [--seconds N] [--frame] [DOCUMENT..]
+
+Each figure is the least of many short samples, so that other work of the machine counts little. --seconds is for a row, 0.5
+where it is left out. --frame makes a DataFrame of 100,000 documents, too, which wants pandas. A DOCUMENT is a file with one.
+"""
+
+import argparse
+import gc
+import random
+import sys
+import threading
+import time
+from datetime import datetime, timedelta, timezone
+from pathlib import Path
+from typing import Any, Callable, Dict, List, Optional, Tuple
+
+import bsonraw
+from bsonraw import Binary, Decimal128, Int64, ObjectId, Regex, Timestamp
+
+try:
+    import bson
+except ImportError as error:
+    sys.exit(f"speed: MongoDB's package isn't there ({error}); Debian's is python3-bson-ext")
+if not bson.has_c():
+    sys.exit("speed: MongoDB's package is there without its C extension; Debian's is python3-bson-ext")
+
+SAMPLE = 0.002
+
+
+def typical(rng: random.Random) -> Dict[str, Any]:
+    """A document of 89 elements of many kinds over five levels."""
+    words = "then one that he by than out could each all no find his has of long way for when but people its have look".split()
+
+    def text(count: int) -> str:
+        return " ".join(rng.choice(words) for _ in range(count))
+
+    def when() -> datetime:
+        return datetime(2010, 1, 1, tzinfo=timezone.utc) + timedelta(milliseconds=rng.randrange(10**11))
+
+    def user() -> Dict[str, Any]:
+        name, place = f"user_{rng.randrange(10**7)}", rng.choice(["Zürich", "東京", "Oslo"])
+        texts = {"name": text(5), "screen_name": name, "location": place, "description": text(25)}
+        counts = {"url": None, "protected": False, "followers_count": rng.randrange(10**5), "friends_count": rng.randrange(10**4)}
+        last = {"created_at": when(), "verified": False, "balance": Decimal128(rng.randbytes(15) + b"0")}
+        return {"id": Int64(rng.randrange(2**40)), **texts, **counts, **last}
+
+    tags = [{"text": rng.choice(words), "indices": [rng.randrange(50), rng.randrange(100)]} for _ in range(3)]
+    begin = {"_id": ObjectId(rng.randbytes(12)), "created_at": when(), "id": Int64(rng.randrange(2**60))}
+    texts = {"id_str": str(rng.randrange(10**18)), "text": text(45), "source": '<a href="https://example.org">Web</a>'}
+    users = {"truncated": False, "in_reply_to_status_id": None, "user": user(), "in_reply_to_user": user()}
+    lists = {
+        "coordinates": {"type": "Point", "coordinates": [rng.uniform(0, 50), rng.uniform(0, 50)]},
+        "entities": {"hashtags": tags, "urls": [], "user_mentions": []},
+        "scores": [rng.random() for _ in range(8)],
+        "history": [{"at": when(), "by": f"user_{rng.randrange(10**7)}"} for _ in range(4)],
+    }
+    counts = {"retweet_count": rng.randrange(500), "favorite_count": rng.randrange(500), "favorited": False}
+    rare = {"filter": Regex("^user_[0-9]+$", "im"), "digest": rng.randbytes(32), "session": Binary(rng.randbytes(16), 4)}
+    end = {"ts": Timestamp(rng.randrange(2**31), 61), "note": "naïve 😀 日本語 café", "lang": "ja"}
+    return {**begin, **texts, **users, **lists, **counts, **rare, **end}
+
+
+def plain(value: Any) -> Any:
+    """The value without the kinds that have classes of their own."""
+    if isinstance(value, dict):
+        rare = (Binary, Decimal128, ObjectId, Regex, Timestamp)
+        return {key: plain(inner) for key, inner in value.items() if not isinstance(inner, rare)}
+    return list(map(plain, value)) if isinstance(value, list) else value
+
+
+def documents() -> Dict[str, bytes]:
+    whole = typical(random.Random(1))
+    six = {"_id": 12345678901, "name": "user_123456", "age": 42, "score": 3.25, "ok": True, "none": None}
+    twenty = {f"field_{number}": [number, number * 0.5, f"text {number}"][number % 3] for number in range(20)}
+    dates = {f"d{year}": datetime(2000 + year, 1, 2, 3, 4, 5, 678000, timezone.utc) for year in range(10)}
+    made = {"typical": whole, "typical, plain kinds alone": plain(whole), "six fields": six, "twenty fields": twenty, "ten dates": dates}
+    return {name: bsonraw.encode(value) for name, value in made.items()}
+
+
+def turns(calls: List[Tuple[Callable[[Any], Any], Any]], seconds: float) -> List[float]:
+    """The least time of each call with its argument, in microseconds; they take turns."""
+    counts, least = [], [9e9] * len(calls)
+    for call, data in calls:
+        call(data)
+        start = time.perf_counter()
+        call(data)
+        counts.append(max(1, int(SAMPLE / (time.perf_counter() - start))))
+    end = time.perf_counter() + seconds
+    while time.perf_counter() < end:
+        for number, ((call, data), count) in enumerate(zip(calls, counts)):
+            start = time.perf_counter()
+            for _ in range(count):
+                call(data)
+            least[number] = min(least[number], (time.perf_counter() - start) / count * 1e6)
+    return least
+
+
+def row(name: str, ours: float, theirs: Optional[float] = None) -> None:
+    beside = "| |" if theirs is None else f"{theirs:8.2f} | {ours / theirs:.2f} |"
+    print(f"| {name:<48} | {ours:8.2f} | {beside}", flush=True)
+
+
+def codecs(made: Dict[str, bytes], seconds: float) -> None:
+    for name, data in made.items():
+        row(f"decode, {name}", *turns([(bsonraw.decode, data), (bson.decode, data)], seconds))
+    for name, data in made.items():
+        ours, theirs = bsonraw.decode(data), bson.decode(data)
+        if bsonraw.encode(ours) != data:
+            sys.exit(f"speed: {name} doesn't come back as it was")
+        row(f"encode, {name}", *turns([(bsonraw.encode, ours), (bson.encode, theirs)], seconds))
+
+
+def reads(data: bytes, seconds: float) -> None:
+    def found(data: bytes) -> Any:
+        return bsonraw.find(data, "entities.hashtags.2.indices.1").value
+
+    def indexed(data: bytes) -> Any:
+        return bson.decode(data)["entities"]["hashtags"][2]["indices"][1]
+
+    if found(data) != indexed(data):
+        sys.exit("speed: a path leads to another value")
+    row("find a path of five steps; decode and index", *turns([(found, data), (indexed, data)], seconds))
+    calls: Dict[str, Callable[[Any], Any]] = {
+        "canonical": bsonraw.canonical,
+        "check": bsonraw.check,
+        "first_fault": bsonraw.first_fault,
+        "elements": lambda data: [None for _ in bsonraw.elements(data)],
+        "walk": lambda data: [None for _ in bsonraw.walk(data)],
+    }
+    for name, least in zip(calls, turns([(call, data) for call in calls.values()], seconds)):
+        row(f"{name}, typical", least)
+
+
+def frame(seconds: float) -> None:
+    import pandas
+
+    fields = ({"_id": number, "name": f"user_{number}", "age": number % 90, "score": number / 2, "ok": True} for number in range(100_000))
+    dump = b"".join(map(bsonraw.encode, fields))
+
+    def of(decode_all: Callable[[Any], Any]) -> Any:
+        return pandas.DataFrame(decode_all(dump))
+
+    row("a DataFrame of 100,000 documents", *turns([(of, bsonraw.decode_all), (of, bson.decode_all)], max(seconds, 10)))
+
+
+def shared(work: Callable[[bytes], Any], made: List[bytes], count: int) -> Tuple[float, float]:
+    """The seconds, and those of processors, that so many threads take for these documents."""
+    todo = list(made)
+
+    def run() -> None:
+        while todo:
+            try:
+                data = todo.pop()
+            except IndexError:
+                return
+            work(data)
+
+    threads = [threading.Thread(target=run) for _ in range(count)]
+    start, spent = time.perf_counter(), time.process_time()
+    for thread in threads:
+        thread.start()
+    for thread in threads:
+        thread.join()
+    return time.perf_counter() - start, time.process_time() - spent
+
+
+def threads() -> None:
+    value = plain(typical(random.Random(2)))
+    made = [bsonraw.encode({f"k{number}": value for number in range(size)}) for size in range(400, 600)]
+    dump = b"".join(made)
+    views = [document for _, document in bsonraw.documents(dump)]
+    for name, work in (("check", bsonraw.check), ("canonical", bsonraw.canonical)):
+        rounds = [(shared(work, views, 1), shared(work, views, 4)) for _ in range(5)]
+        one, four = (min(times[part] for times in rounds) for part in (0, 1))
+        print(f"| {name}, {len(dump) >> 20} MiB in {len(made)} documents, s: four threads; one | {four[0]:.3f} | {one[0]:.3f} | {four[0] / one[0]:.2f} |")
+        print(f"| seconds of processors | {four[1]:.3f} | {one[1]:.3f} | {four[1] / one[1]:.2f} |", flush=True)
+
+
+def main() -> None:
+    parser = argparse.ArgumentParser(description=__doc__, formatter_class=argparse.RawDescriptionHelpFormatter)
+    parser.add_argument("documents", nargs="*", type=Path, metavar="DOCUMENT")
+    parser.add_argument("--seconds", type=float, default=0.5, metavar="N")
+    parser.add_argument("--frame", action="store_true")
+    options = parser.parse_args()
+    made = {path.stem: path.read_bytes() for path in options.documents} or documents()
+    gc.disable()
+    print(f"| microseconds a call, Python {sys.version.split()[0]} | bsonraw {bsonraw.__version__} | bson {bson._version.version if hasattr(bson, '_version') else ''} | of it |")
+    print("|---|--:|--:|--:|")
+    codecs(made, options.seconds)
+    if not options.documents:
+        reads(made["typical"], options.seconds)
+        threads()
+    if options.frame:
+        frame(options.seconds)
+
+
+if __name__ == "__main__":
+    main()
