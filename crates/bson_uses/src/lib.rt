@@ -3,16 +3,20 @@
 
 mod compare;
 mod dump;
+mod filter;
 mod items;
 mod kept;
+mod message;
 mod outside;
 mod path;
 mod without;
 
 pub use compare::{are_equal, normalised_twice};
-pub use dump::{Dump, first_document, split_dump};
+pub use dump::{Dump, split_dump};
+pub use filter::{Operator, Unmet, matches};
 pub use items::count_nulls;
 pub use kept::keep;
+pub use message::{Header, Message, MessageError, message_of, read_message};
 pub use outside::{MOST, received};
 pub use path::find_path;
 pub use without::copy_without;

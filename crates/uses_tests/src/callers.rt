@@ -2,7 +2,9 @@ use bson_uses::{
     Dump, MOST, are_equal, copy_without, count_nulls, find_path, keep, normalised_twice, received,
     split_dump,
 };
-use raw_bson::{Document, Error, RawBson, RawBsonRef, RawDocument, RawDocumentBuf, Reason, Result};
+use raw_bson::{
+    Document, Error, NoDocument, RawBson, RawBsonRef, RawDocument, RawDocumentBuf, Reason, Result,
+};
 use raw_shelf::Shelf;
 use std::alloc::Global;
 use std::process::Abort;
@@ -160,9 +162,9 @@ fn are_two(documents: &[RawDocument<'_>]) -> bool {
     }
 }
 
-fn is_too_short(error: &Option<Error>) -> bool {
+fn is_too_short(error: Option<NoDocument>) -> bool {
     match error {
-        Some(error) => *error == Error::malformed(Reason::TooShort),
+        Some(why) => why == NoDocument::TooShort,
         None => false,
     }
 }
@@ -173,7 +175,7 @@ fn is_cut(answer: &Result<Dump<'_>>) -> bool {
         Ok(dump) => {
             are_two(&dump.documents)
                 && dump.rest == b"\x05\0\0\0".as_slice()
-                && is_too_short(&dump.error)
+                && is_too_short(dump.error)
         }
         Err(_) => false,
     }

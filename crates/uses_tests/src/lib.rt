@@ -4,6 +4,10 @@
 #[cfg(test)]
 mod callers;
 #[cfg(test)]
+mod filter;
+#[cfg(test)]
 mod memory;
+#[cfg(test)]
+mod message;
 #[cfg(test)]
 mod shelf;

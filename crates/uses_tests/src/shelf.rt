@@ -1,7 +1,7 @@
 use raw_bson::{Breach, Cause, RawBson, RawDocumentBuf, Result, canonical_bytes};
 use raw_shelf::{PutError, Shelf};
 use std::alloc::Global;
-use std::fmt::Display;
+use std::fmt::{Debug, Display};
 use std::process::Abort;
 
 const EMPTY_DOCUMENT: &[u8] = b"\x05\0\0\0\0";
@@ -161,10 +161,21 @@ fn is_breach_printed(alloc: Global, path: &[usize], text: &str) -> bool {
     }
 }
 
-/// Whether a refusal for a breach at this path has this text.
-fn is_refusal_printed(alloc: Global, path: &[usize], text: &str) -> bool {
+/// Whether this has the `Debug` text.
+fn is_debugged<T: Debug>(alloc: Global, value: &T, text: &str) -> bool {
+    match format!(in alloc; "{value:?}") {
+        Ok(found) => found.as_str() == text,
+        Err(_) => false,
+    }
+}
+
+/// Whether a refusal for a breach at this path has this text, and this `Debug` text.
+fn is_refusal_printed(alloc: Global, path: &[usize], text: &str, debug_text: &str) -> bool {
     match breach(alloc, path) {
-        Ok(breach) => is_printed(alloc, &PutError::Breach(breach), text),
+        Ok(breach) => {
+            let error = PutError::Breach(breach);
+            is_printed(alloc, &error, text) && is_debugged(alloc, &error, debug_text)
+        }
         Err(_) => false,
     }
 }
@@ -174,6 +185,9 @@ fn refusals_in_words(rt: HostRuntime) {
     let alloc = rt.alloc();
     let path = &[4, 0, 12];
     assert!(rt; is_breach_printed(alloc, path, "repeated-key at 4.0.12"));
-    assert!(rt; is_refusal_printed(alloc, path, "not canonical: repeated-key at 4.0.12"));
+    let text = "not canonical: repeated-key at 4.0.12";
+    let debug_text = "Breach(Breach { path: [4, 0, 12], cause: RepeatedKey })";
+    assert!(rt; is_refusal_printed(alloc, path, text, debug_text));
     assert!(rt; is_printed(alloc, &PutError::OutOfMemory, "out of memory"));
+    assert!(rt; is_debugged(alloc, &PutError::OutOfMemory, "OutOfMemory"));
 }

@@ -13,4 +13,4 @@ loop-rest-preserved c =
     let ds = c.loop-rest.documents.items in
     let d = c.in-Ok.document in
     let pushed : c.push.new.self.items ≡ ds ++ d ∷ [] = search rules in
-    ap (λ (x : List RawDocument). joined x ++ c.in-Ok.behind.now) pushed ∙ joined-more ds d c.in-Ok.behind.now ∙ ap (λ y. joined ds ++ y) c.in-Ok.ensures.parts ∙ c.loop-rest.invariant
+    ap (λ (x : List RawDocument). joined x ++ c.in-Ok.behind.now) pushed ∙ joined-more ds d c.in-Ok.behind.now ∙ ap (λ y. joined ds ++ y) (sym c.in-Ok.ensures.parts) ∙ c.loop-rest.invariant

@@ -42,5 +42,5 @@ loop-element-preserved c =
 pub returns : goal.returns
 returns c = λ frames h.
     let inv = c.loop-element.invariant in
-    let all : inv.0 ≡ frames = (one_walk _ inv.0 frames Done Done (HasRead-end _ inv.0 _ _ inv.1 c.in-None.ensures.steps) h.0).0 in
-    subst (λ (fs : List Frame). HoldsFrames c.loop-element.copy (filter (has_other_key c.args.key.now) fs)) all (inv.2 (subst HaveNoShortScope (sym all) h.1))
+    let all : inv.0 ≡ frames = (one_walk _ inv.0 frames Done Done (HasRead-end _ inv.0 _ _ inv.1 c.in-None.ensures.steps) h.walk).0 in
+    subst (λ (fs : List Frame). HoldsFrames c.loop-element.copy (filter (has_other_key c.args.key.now) fs)) all (inv.2 (subst HaveNoShortScope (sym all) h.no_short_scope))

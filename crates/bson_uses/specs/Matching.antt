@@ -1,0 +1,81 @@
+-- What a filter wants of a document.
+use Rattle.std.specs.Prelude.{◌≡◌, ℕ, ℤ, Bool, true, false, List, codes, int_lt, IsTrue, Option, Some, None, Result, Ok, Err}
+use Rattle.raw_bson.specs.Answers.{Says}
+use Rattle.raw_bson.specs.EachItem.{SeeksOne, TriesEach}
+use Rattle.raw_bson.specs.Error.{Error}
+use Rattle.raw_bson.specs.Leaf.{int32}
+use Rattle.raw_bson.specs.LookUp.{LooksUp}
+use Rattle.raw_bson.specs.Meaning.{RawValue, single, document, array, KeyedFault, Meaning, value, faulty}
+use Rattle.raw_bson.specs.RawBsonRef.{RawBsonRef}
+use Rattle.raw_bson.specs.Value.{value_of, array_bytes_of}
+use Rattle.bson_uses.specs.declared.filter.Operator.{Operator}
+use Rattle.bson_uses.specs.declared.filter.Operator.TheVariants as operator
+use Rattle.bson_uses.specs.declared.filter.Unmet.{Unmet}
+use Rattle.bson_uses.specs.declared.filter.Unmet.TheVariants as unmet
+
+-- the value that was found
+abbrev pub value_in : Option RawBsonRef → Option RawValue
+value_in None = None
+value_in (Some v) = Some (value_of v)
+
+-- it says this fault
+abbrev pub SaysDamage : KeyedFault → Unmet → Type 0
+SaysDamage fault (unmet.Damaged e) = Says e fault
+SaysDamage fault _ = ⊥
+
+-- Ok where the fact holds, and else that the document differs
+abbrev pub Wants : Type 0 → Result (Unit {0}) Unmet → Type 0
+Wants P (Ok _) = P
+Wants P (Err unmet.Differs) = ¬ P
+Wants P (Err _) = ⊥
+
+-- a value was found, and is this
+abbrev pub IsThis : Option RawValue → RawValue → Type 0
+IsThis None wanted = ⊥
+IsThis (Some v) wanted = v ≡ wanted
+
+-- a number over this
+abbrev pub IsOver : ℤ → RawValue → Type 0
+IsOver least v = (number : ℤ) × (v ≡ single (int32 number)) × IsTrue (int_lt least number)
+
+-- the answer that a search within an array means
+abbrev pub of_search : Result Bool Error → Result (Unit {0}) Unmet
+of_search (Ok true) = Ok tt
+of_search (Ok false) = Err unmet.Differs
+of_search (Err e) = Err (unmet.Damaged e)
+
+-- What an operator answers for what was found. It isn't met by nothing.
+abbrev pub MeetsOperator : Option RawValue → Operator → Result (Unit {0}) Unmet → Type 0
+MeetsOperator None op r = r ≡ Err unmet.Differs
+MeetsOperator (Some v) (operator.Over least) r = Wants (IsOver least v) r
+MeetsOperator (Some v) (operator.Among a) r = (sought : Result Bool Error) × SeeksOne (λ fault e. Says e fault) (λ key w. w ≡ v) (array_bytes_of a) sought × (r ≡ of_search sought)
+
+-- the operator of this name with this operand
+abbrev pub Names : List ℕ → RawValue → Operator → Type 0
+Names name operand (operator.Over least) = (name ≡ codes "$gt") × (operand ≡ single (int32 least))
+Names name operand (operator.Among a) = (name ≡ codes "$in") × (operand ≡ array (array_bytes_of a))
+
+-- what the operator of this name answers with this operand; a bad one where there is none
+abbrev pub MeetsNamed : Option RawValue → List ℕ → RawValue → Result (Unit {0}) Unmet → Type 0
+MeetsNamed found name operand (Err unmet.BadOperator) = (op : Operator) → ¬ Names name operand op
+MeetsNamed found name operand r = (op : Operator) × Names name operand op × MeetsOperator found op r
+
+-- what was found is wanted: it meets each operator of a document, and equals any other value
+abbrev pub MeetsWanted : Option RawValue → RawValue → Result (Unit {0}) Unmet → Type 0
+MeetsWanted found (document condition) r = TriesEach SaysDamage (MeetsNamed found) condition r
+MeetsWanted found wanted r = Wants (IsThis found wanted) r
+
+-- what a look-up finds is wanted; or it finds a fault
+abbrev pub MeetsFound : Option Meaning → RawValue → Result (Unit {0}) Unmet → Type 0
+MeetsFound None wanted r = MeetsWanted None wanted r
+MeetsFound (Some (value v)) wanted r = MeetsWanted (Some v) wanted r
+MeetsFound (Some (faulty fault)) wanted (Ok _) = ⊥
+MeetsFound (Some (faulty fault)) wanted (Err e) = SaysDamage fault e
+
+-- what the document b has under this key is wanted
+abbrev pub MeetsUnder : List ℕ → List ℕ → RawValue → Result (Unit {0}) Unmet → Type 0
+MeetsUnder b key wanted r = (found : Option Meaning) × LooksUp b key found × MeetsFound found wanted r
+
+-- what the document b has under each key of the filter is wanted; else the first that isn't, or a fault before it
+abbrev pub Matches : List ℕ → List ℕ → Result (Unit {0}) Unmet → Type 0
+Matches b filter r = TriesEach SaysDamage (MeetsUnder b) filter r
