@@ -1,7 +1,5 @@
-# What bin/bsonraw and bin/install share: the proved build of a crate. They source it, with root the repository's folder
-# and me the script's name.
-
-minutes=12 # what a first build took on four processors
+# What bin/bsonraw, bin/bsonraw-dump and bin/install share: the proved build of a crate, and a run of a program. They source it,
+# with root the repository's folder and me the script's name.
 
 say() {
     echo "$me: $*" >&2
@@ -9,7 +7,7 @@ say() {
 
 need_rt() {
     command -v rt >/dev/null && return
-    say "the command rt of the Rattle kit isn't there, and $1 needs it"
+    say "$1 needs the command rt of the Rattle kit, which isn't in PATH; without the kit use a package of a release"
     exit 127
 }
 
@@ -20,7 +18,7 @@ is_stale() {
     [ -n "$(find "$root/crates.txt" "$root"/crates/*/* -name out -prune -o -newer "$root/crates/$1/out/built" -print)" ]
 }
 
-# The crates that these crates stand on, and themselves, in the order of crates.txt: the lowest first.
+# The crates below these crates, and themselves, in the order of crates.txt: the lowest first.
 crates() {
     awk -F: -v tops="$*" '
         function mark(crate, names, count, i) {
@@ -36,6 +34,35 @@ crates() {
             for (i = 1; i <= lines; i++) if (order[i] in marked) print order[i]
         }
     ' "$root/crates.txt"
+}
+
+# minutes_of CRATE: how many processor minutes its first proof takes, as far as it was measured
+minutes_of() {
+    case $1 in
+    raw_view | raw_tree | raw_bson) echo 6 ;;
+    bson_model | bsonraw | bsonraw_c) echo 3 ;;
+    *) echo 4 ;;
+    esac
+}
+
+# say_how_long CRATE..: how many of the crates were proved here before, and how long the build may take: of these only what
+# changed is proved again. A proof has two to four jobs on four processors and more, and takes twice as long on a machine that
+# does something else besides.
+say_how_long() {
+    before=0 # crates that were proved here before
+    least=0
+    most=0
+    for name in "$@"; do
+        minutes=$(minutes_of "$name")
+        most=$((most + minutes))
+        if [ -d "$root/crates/$name/out/incremental" ]; then before=$((before + 1)); else least=$((least + minutes)); fi
+    done
+    if [ "$(nproc)" -ge 4 ]; then
+        least=$((least / 2))
+        most=$(((most + 1) / 2))
+    fi
+    say "$# crates are proved, once: $((least + 1)) to $((2 * most)) minutes on $(nproc) processors;" \
+        "$before were proved here before, and of these only what changed is proved again"
 }
 
 # Says that a crate begins and, on a terminal, in the same line how much of it is done.
@@ -54,28 +81,31 @@ show_share() {
     echo >&2
 }
 
-# A library is proved and kept for the crates above it, or for C. The program's build ends in a run on the empty
-# document, so that its status is 0 exactly where the program was built and runs.
+# A library is proved and kept for the crates above it, or for C. A program's build ends in a run, so that its status is 0
+# exactly where the program was built and runs.
 prove() {
     cd "$root/crates/$1" || return 1
-    if [ "$1" = bsonraw ]; then
-        echo 0500000000 | rt run -- list
-    else
-        rt lib </dev/null
-    fi
+    case $1 in
+    bsonraw) echo 0500000000 | rt run -- list ;;
+    bsonraw_dump) rt run -- --version </dev/null ;;
+    *) rt lib </dev/null ;;
+    esac
 }
 
-# build FOLDER CRATE..: proves and builds the crates and what they stand on; the log and the status are left in the folder
+# build FOLDER CRATE..: proves and builds the crates and those below them; the log and the status are left in the folder
 build() {
     folder=$1
     shift
     names=$(crates "$@")
     count=$(echo "$names" | wc -l)
-    say "it proves $count crates, once: about $minutes minutes on 4 processors (here are $(nproc)); later what changed"
+    # shellcheck disable=SC2086 # a list of crates
+    say_how_long $names
+    begun=$(date +%s)
     number=0
     for name in $names; do
         number=$((number + 1))
-        { prove "$name" 2>&1; echo "$?" >"$folder/status"; } | tee -a "$folder/log" | show_share "$number of $count: $name"
+        here="$number of $count, after $((($(date +%s) - begun) / 60)) min: $name"
+        { prove "$name" 2>&1; echo "$?" >"$folder/status"; } | tee -a "$folder/log" | show_share "$here"
         [ "$(cat "$folder/status")" = 0 ] || return 1
     done
 }
@@ -91,8 +121,41 @@ make_proved() {
         for crate in "$@"; do touch -r "$work/begun" "$root/crates/$crate/out/built"; done
     else
         cat "$work/log" >&2
-        say "the build failed"
+        say "the build of $* failed: see above; bin/bsonraw --unproved, and bin/bsonraw-dump --unproved, run without a proof"
     fi
     rm -rf "$work"
     return "$status"
+}
+
+# run_unproved CRATE ARGUMENT..: runs the program as it is, with no proof
+run_unproved() {
+    need_rt "a run without a proof"
+    say "nothing is proved in this run"
+    crate=$1
+    shift
+    said=$(mktemp) || exit 125
+    trap 'rm -f "$said"' EXIT
+    (cd "$root/crates/$crate" && rt try -- "$@") 2>"$said"
+    status=$(sed -n 's/^run=ended status=\([0-9]*\) .*/\1/p' "$said")
+    [ -n "$status" ] && exit "$status"
+    cat "$said" >&2
+    say "the program didn't run: see above what rt says"
+    exit 125
+}
+
+# run_program CRATE ARGUMENT..: runs a crate's program, built first where it is out of date; without a proof where the
+# first argument is --unproved
+run_program() {
+    crate=$1
+    program=$root/crates/$crate/out/$crate
+    shift
+    if [ "${1-}" = --unproved ]; then
+        shift
+        run_unproved "$crate" "$@"
+    fi
+    if is_stale "$crate" "$program"; then
+        say "building the proved program; for a first look without a proof: $me --unproved COMMAND"
+        make_proved "$crate" || exit 125
+    fi
+    exec "$program" "$@"
 }
