@@ -1,12 +1,12 @@
 #!/bin/sh
 # compiles.sh FILE: what has to compile compiles, and what must not doesn't. No proof is needed for either.
 #
-# What has to: each block of Rust that a page shows, and the twin of each misuse. What must not: the misuses, each line
-# of the file a case (checks/must-not-compile.txt says how they are written). A misuse fails for just the error that its
-# case names, so for the reason that it is meant to. And what a page shows of a definition is what stands in `specs/`.
+# What has to: each block of Rust that a page shows, each example in a doc comment, which is also run, and the twin of each
+# misuse. What must not: the misuses, each line of the file a case (checks/must-not-compile.txt says how they are written).
+# A misuse fails for just the error that its case names, so for the reason that it is meant to.
 #
-# For the first two a crate of tests that lists `raw_bson` and `raw_shelf`, made in a copy of the tracked files, is
-# compiled: once with all that has to compile, and once with all misuses. A block that has a `main` is a program of its
+# For the first three a crate of tests that lists what a user names, made in a copy of the tracked files, is compiled: once
+# with all that has to compile, and once with all misuses. A block that has a `main` is a program of its
 # own, which is run on the greeting, and the page says what it prints.
 set -u
 list=$(realpath "$1")
@@ -17,8 +17,9 @@ crate=$work/copy/crates/shown
 mkdir -p "$crate" || exit 1
 git ls-files -z crates crates.txt HANDLES | xargs -0 cp --parents -t "$work/copy" || exit 1
 mkdir -p "$work/copy/crates/reader/src" "$work/programs" || exit 1
-printf 'shown: raw_bson raw_shelf\nreader: raw_bson\n' >>"$work/copy/crates.txt"
+printf 'shown: raw_bson raw_form raw_shelf\nreader: raw_bson\n' >>"$work/copy/crates.txt"
 pages='README.md CONTRIBUTING.md docs/*.md examples/*.md'
+documented=$(git ls-files crates/bson_model/src crates/raw_view/src crates/raw_tree/src crates/raw_form/src crates/raw_bson/src crates/raw_shelf/src)
 sed '/^#/d; /^$/d' "$list" >"$work/cases"
 count=$(wc -l <"$work/cases")
 failed=0
@@ -26,17 +27,17 @@ failed=0
 # blocks FOLDER: writes each block of Rust of the pages into a file of its own; one with a main into a folder of its own
 blocks() {
     for page in $pages; do
-        name=$(basename "$page" .md | tr '[:upper:]' '[:lower:]')
-        awk -v out="$1/${name}_" '
-            /^```rust$/ { file = out (++blocks) ".rt"; next }
-            /^```/ { file = ""; next }
-            file { print > file }
-        ' "$page"
-        for block in "$1/${name}_"*.rt; do
-            [ -e "$block" ] && grep -q '^fn main(' "$block" || continue
-            mkdir -p "$work/programs/$page" && mv "$block" "$work/programs/$page" || return 1
+        mkdir -p "$work/blocks" "$work/programs/$page" && python3 -B checks/pages.py blocks rust "$work/blocks" "$page" || return 1
+        for block in "$work/blocks"/*.rt; do
+            [ -e "$block" ] || continue
+            if grep -q '^fn main(' "$block"; then mv "$block" "$work/programs/$page"; else mv "$block" "$1"; fi || return 1
         done
     done
+}
+
+# examples FOLDER: writes the examples in doc comments, each as a test
+examples() {
+    python3 -B checks/pages.py tests "$1" $documented >"$work/examples"
 }
 
 # snippets KIND FOLDER: copies the misuses, or their twins
@@ -59,12 +60,13 @@ compile() {
     (cd "$crate" && rt try --test) >"$work/said" 2>&1 </dev/null
 }
 
-if ! compile blocks "snippets twin"; then
+if ! compile blocks examples "snippets twin"; then
     cat "$work/said" >&2
-    echo "a block of a page or a twin doesn't compile" >&2
+    echo "a block of a page or a twin doesn't compile, or an example of a doc comment goes wrong" >&2
     failed=1
 fi
-echo "$(wc -l <"$work/modules") blocks and twins were compiled"
+echo "$(wc -l <"$work/modules") modules of blocks, examples and twins were compiled, $(cat "$work/examples") examples of doc comments run"
+grep -q "test result: ok. $(($(cat "$work/examples") + 1)) passed" "$work/said" || failed=1
 
 # The programs that pages show, of which README has one.
 programs=0
@@ -98,26 +100,4 @@ while read -r name code; do
 done <"$work/cases"
 [ "$count" -gt 0 ] || failed=1
 
-# record NAME FILE..: the words of the record of this name, which ends where its lines do, without comments
-record() {
-    name=$1
-    shift
-    cat "$@" | awk -v name="$name" '
-        $1 == "pub" && $2 == "record" && $3 == name { inside = 1; match($0, /^ */); margin = RLENGTH; print; next }
-        !inside || $1 == "--" { next }
-        { match($0, /^ */) }
-        RLENGTH <= margin { inside = 0; next }
-        { print }
-    ' | tr -s ' \n' ' ' | sed 's/^ //'
-}
-
-for page in $pages; do
-    for name in $(sed -n 's/^ *pub record \([A-Za-z]*\) .*/\1/p' "$page"); do
-        shown=$(record "$name" "$page")
-        stands=$(record "$name" crates/*/specs/*.antt)
-        [ "$shown" = "$stands" ] && continue
-        printf '%s: %s is shown as\n%s\nand stands in specs/ as\n%s\n' "$page" "$name" "$shown" "$stands" >&2
-        failed=1
-    done
-done
 exit "$failed"

@@ -1,62 +1,71 @@
 #!/bin/sh
-# docs/CONTRACTS.md is what the sources say, and each link of it leads to a place that there is.
+# docs/CONTRACTS.md has a row for each public item, with the line where it is, and DEFINITIONS.md names each file of
+# specs/ whose words their clauses cite. contracts.py takes both from the sources.
 #
-#   checks/contracts.sh           compares the page with the sources
-#   checks/contracts.sh --write   writes the page anew
+#   checks/contracts.sh           compares the pages with the sources
+#   checks/contracts.sh --write   writes CONTRACTS.md anew
 set -u
 cd "$(dirname "$(realpath "$0")")/.." || exit 1
 work=$(mktemp -d) || exit 1
 trap 'rm -rf "$work"' EXIT
 page=docs/CONTRACTS.md
+failed=0
 
-# contracts ROOT: the page that the crates under this folder say
+# contracts FLAG.. FOLDER: what the crates under this folder say
 contracts() {
-    (
-        cd "$1/crates" || exit 1
-        files=$(ls bson_model/src/*.rt raw_view/src/*.rt raw_tree/src/*.rt raw_bson/src/*.rt raw_form/src/*.rt raw_shelf/src/*.rt)
-        # shellcheck disable=SC2086 # a list of names
-        LC_ALL=C awk -v specs="$(echo */specs/*.antt)" -f "$checks/contracts.awk" pass=1 $files pass=2 $files
-    )
+    python3 -B checks/contracts.py "$@"
 }
 
-# differs SCRIPT FILE: sources that sed has changed by this script say another page
+# differs SCRIPT FILE: sources that sed has changed by this script say another page, or none
 differs() {
     rm -rf "$work/changed" && mkdir "$work/changed" && cp -r "$work/crates" "$work/changed" || exit 1
     sed -i "$1" "$work/changed/crates/$2"
-    contracts "$work/changed" >"$work/other" || return 0
+    contracts "$work/changed" >"$work/other" 2>"$work/error" || return 0
     cmp -s "$work/page" "$work/other" || return 0
     echo "contracts: the page doesn't show this change of $2: $1" >&2
     failed=1
 }
 
-checks=$PWD/checks
-failed=0
+# undefined DEFINITIONS: the files of specs/ that this page has to name and doesn't
+undefined() {
+    contracts --words . | while read -r file; do
+        grep -qF "](../crates/$file)" "$1" || echo "$file"
+    done
+}
+
 contracts . >"$work/page" || exit 1
 if [ "${1-}" = --write ]; then
     cp "$work/page" "$page"
     exit
 fi
 
-# A change of a clause, of a comment, of a field, of a trait's promise, and of what is passed on shows in the page.
+# A call that is new or has another name shows in the page, and so does another comment, another line, a trait that a type
+# has no longer, a name that is passed on no longer, and one that is passed on and is nowhere.
 mkdir "$work/crates"
 git ls-files -z crates | grep -zE '^crates/[a-z_]*/(src|specs)/' | xargs -0 cp --parents -t "$work"
-differs 's/ensures five { IsTrue/ensures five { IsFalse/' raw_view/src/document.rt
 differs 's/    pub fn is_empty(self)/    pub fn is_void(self)/' raw_view/src/array.rt
+differs 's/^    pub fn is_empty(self)/    pub fn is_new(self) {}\n&/' raw_view/src/array.rt
+differs 's/^pub fn validate_within/pub fn checked_within/' raw_form/src/verdict.rt
 differs 's/^    \/\/\/ A view of the document with this number/    \/\/\/ The document/' raw_shelf/src/shelf.rt
-differs 's/^    pub depth: usize/    pub depth: u32/' raw_tree/src/limits.rt
-differs 's/ghost is_clone = {/ghost is_clone = { λ _ _./' raw_bson/src/any_error.rt
-differs 's/^    \/\/\/ A double/    \/\/\/ Another/; s/OutOfMemory,$/OutOfMem,/' raw_shelf/src/put_error.rt
+differs '/^impl From<NoMemory> for AnyError/,/^}/d' raw_bson/src/any_error.rt
+differs 's/^impl std::error::Error for AnyError/impl Eq for AnyError/' raw_bson/src/any_error.rt
 differs '/^    Breach, Cause/s/Cause, //' raw_bson/src/lib.rt
+differs 's/^pub struct Limits/pub struct Bounds/' raw_tree/src/limits.rt
+differs '1s/^/\/\/! Another line.\n/' bson_model/src/times.rt
 
 if ! cmp -s "$work/page" "$page"; then
     diff "$page" "$work/page" | head -40 >&2
     echo "contracts: $page is out of date; checks/contracts.sh --write writes it" >&2
     failed=1
 fi
-for place in $(grep -o '](DEFINITIONS\.md#[a-z_]*)' "$work/page" | sort -u | sed 's/.*#//; s/)//'); do
-    grep -q "<a id=\"$place\">" docs/DEFINITIONS.md && continue
-    echo "contracts: DEFINITIONS.md has no place for the words of $place" >&2
+grep -v 'specs/Answers\.antt' docs/DEFINITIONS.md >"$work/definitions"
+if [ -z "$(undefined "$work/definitions")" ]; then
+    echo "contracts: a file of specs/ that DEFINITIONS.md doesn't name isn't seen" >&2
+    failed=1
+fi
+for file in $(undefined docs/DEFINITIONS.md); do
+    echo "contracts: a public clause cites words of crates/$file, and DEFINITIONS.md doesn't name it" >&2
     failed=1
 done
-echo "$(grep -c '^###' "$work/page") items stand in $page"
+echo "$(grep -c '^| \[' "$work/page") rows are in $page"
 exit "$failed"

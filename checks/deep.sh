@@ -35,7 +35,7 @@ levels() {
     }' >"$work/text"
 }
 
-# prints COMMAND STATUS LINE..: the program's answer to the document, and how often it asked for memory, in $requests
+# prints COMMAND STATUS LINE..: the program's output for the document, and how often it asked for memory, in $requests
 prints() {
     command=$1
     shift

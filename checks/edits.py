@@ -20,8 +20,10 @@ What each edit came to:
     not refused         the function is still proved
     bad                 the edit can't be applied or read, or the check ended without a verdict
 
-The first is well, the second is told, so that somebody mends the edit, and the others fail the run. Verdicts are kept in ~/.cache/foyeranise by checksums of all that they rest
-on, and --anew ignores these. --applies proves nothing: it sees that each edit applies.
+The first is well, the second is told, so that somebody mends the edit, and the others fail the run. Each verdict but bad is
+kept at once in ~/.cache/foyeranise, by a checksum of all that it rests on, and --anew ignores these. The proofs that edits
+are tried over go on from what `rt check` left in the crates' out/, but with --from-nothing. --applies proves nothing: it
+sees that each edit applies.
 """
 
 import argparse
@@ -190,14 +192,31 @@ class Checked:
     took: dict[str, float]
 
 
+def take_work(from_top, to_top, crate, *parts, copy=shutil.copy2):
+    """Copies what earlier checks of a crate left, in place of what is there, so that the next check goes on from it."""
+    for part in parts:
+        source, target = (top / "crates" / crate / "out" / part for top in (from_top, to_top))
+        shutil.rmtree(target, ignore_errors=True)
+        if source.is_dir():
+            shutil.copytree(source, target, copy_function=copy)
+
+
+def share_work(from_top, to_top, crate, *parts):
+    """Does the same by links, as a crate's work takes 400 MB: a check puts a new file in the place of one that it changes."""
+    take_work(from_top, to_top, crate, *parts, copy=os.link)
+
+
 class Prover:
     """Checks copies of the repository, each crate over what the check of the crate as it is left."""
 
-    def __init__(self, top, jobs):
-        self.top, self.jobs, self.checks = top, jobs, 0
+    def __init__(self, top, jobs, keep, from_nothing):
+        self.top, self.jobs, self.keep, self.checks = top, jobs, keep, 0
         self.counting = threading.Lock()
         self.room = pathlib.Path(tempfile.mkdtemp(prefix="edits-"))
         self.proved = self.copy("proved")
+        if not from_nothing:
+            for crate in libraries(top):
+                take_work(top, self.proved, crate, "incremental", "rlib")
 
     def copy(self, name):
         """Returns a new copy of what is proved of the repository."""
@@ -231,6 +250,8 @@ class Prover:
         if ran.returncode or not ran.stdout.splitlines()[-1].startswith("logic=proved"):
             print(ran.stdout, f"edits: {crate} isn't proved as it is", sep="\n", flush=True)
             return False
+        # (a check of a crate above goes on with this work, too)
+        share_work(self.proved, self.room / "kept", crate, "incremental")
         return True
 
     def check_edited(self, crate, texts, *flags):
@@ -238,15 +259,21 @@ class Prover:
         copy = self.room / f"edited-{crate}"
         if not copy.exists():
             self.copy(copy.name)
+            for it in libraries(self.top)[crate]:
+                share_work(self.proved, copy, it, "rlib")
         folder = copy / "crates" / crate
-        # (rt check then begins with what was kept in the other copy)
-        shutil.rmtree(folder / "out" / "incremental", ignore_errors=True)
+        share_work(self.room / "kept", copy, crate, "incremental")
         for file, text in texts.items():
             (folder / file).write_text(text)
         ran = self.check(copy, crate, *flags)
         for file in texts:
             shutil.copyfile(self.top / "crates" / crate / file, folder / file)
         return ran
+
+    def forget(self, crate):
+        """Gives back the room that the crate's edits took."""
+        shutil.rmtree(self.room / f"edited-{crate}", ignore_errors=True)
+        shutil.rmtree(self.room / "kept" / "crates" / crate)
 
 
 def round_of(edits, folder):
@@ -314,6 +341,9 @@ def try_rounds(prover, crate, edits, folder):
     while left := [it for it in edits if not it.verdict]:
         now, texts = round_of(left, folder)
         try_round(prover, crate, now, texts)
+        for edit in now:
+            if edit.verdict:
+                prover.keep(edit)
 
 
 def try_alone(prover, crate, edit, folder):
@@ -328,6 +358,7 @@ def try_alone(prover, crate, edit, folder):
         edit.settle(BAD, said.unreadable() or said.lines[-1])
     else:
         edit.settle(*((REFUSED, strong[0]) if strong else (NAME_ALONE, complaints[0] if complaints else said.lines[-1])))
+    prover.keep(edit)
 
 
 def try_crate(prover, crate, edits):
@@ -337,6 +368,7 @@ def try_crate(prover, crate, edits):
     for edit in edits:
         if not edit.functions:
             try_alone(prover, crate, edit, folder)
+    prover.forget(crate)
 
 
 class Store:
@@ -364,10 +396,13 @@ class Store:
         return KEPT / hashlib.sha256(repr(rests_on).encode()).hexdigest()
 
     def recall(self, edit):
-        if self.is_read and self.place(edit).is_file():
-            edit.settle(*json.loads(self.place(edit).read_text()))
+        place = self.place(edit)
+        if self.is_read and place.is_file():
+            edit.settle(*json.loads(place.read_text()))
 
     def keep(self, edit):
+        if edit.verdict == BAD:
+            return
         KEPT.mkdir(parents=True, exist_ok=True)
         new = self.place(edit).with_suffix(f".{os.getpid()}")
         new.write_text(json.dumps([edit.verdict, edit.why]))
@@ -387,9 +422,18 @@ def edits_of(top, crates):
     return found
 
 
-def try_all(top, edits, jobs, at_once):
+def try_all(top, edits, jobs, at_once, keep, from_nothing):
     """Proves each crate that has edits to try, and those below, and tries the edits as soon as their crate is proved."""
-    below, prover = libraries(top), Prover(top, jobs)
+    prover = Prover(top, jobs, keep, from_nothing)
+    try:
+        prove_and_try(prover, edits, at_once)
+    finally:
+        shutil.rmtree(prover.room)
+    return prover.checks
+
+
+def prove_and_try(prover, edits, at_once):
+    below = libraries(prover.top)
     wanted = [it for it in below if any(edit.crate == it for edit in edits)]
     with concurrent.futures.ThreadPoolExecutor(at_once) as pool:
         tried = []
@@ -404,14 +448,13 @@ def try_all(top, edits, jobs, at_once):
             tried.append(pool.submit(try_crate, prover, crate, own))
         for it in tried:
             it.result()
-    shutil.rmtree(prover.room)
-    return prover.checks
 
 
 def main():
     words = argparse.ArgumentParser(description=__doc__, formatter_class=argparse.RawDescriptionHelpFormatter)
     words.add_argument("crates", nargs="*", metavar="CRATE", help="only the edits of these crates")
     words.add_argument("--anew", action="store_true", help="try each edit, whatever earlier runs kept")
+    words.add_argument("--from-nothing", action="store_true", help="take nothing that rt check left in the crates' out/")
     words.add_argument("--applies", action="store_true", help="prove nothing, and see that each edit applies")
     words.add_argument("--jobs", type=int, default=1, help="what rt check is given (default: 1)")
     words.add_argument("--at-once", type=int, default=os.cpu_count(), help="crates whose edits are tried side by side")
@@ -429,10 +472,7 @@ def main():
         left = [it for it in edits if not it.verdict]
         print(f"edits: {len(edits)}, of which {len(edits) - len(left)} were settled before", flush=True)
         if left:
-            checks = try_all(given.top, left, given.jobs, given.at_once)
-        for edit in left:
-            if edit.verdict != BAD:
-                store.keep(edit)
+            checks = try_all(given.top, left, given.jobs, given.at_once, store.keep, given.from_nothing)
     wrong = [it for it in edits if it.verdict in (NOT_REFUSED, BAD)]
     spent = resource.getrusage(resource.RUSAGE_CHILDREN)
     print(

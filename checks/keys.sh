@@ -1,6 +1,7 @@
 #!/bin/sh
 # A document of 200,000 keys in no order is checked in at most ten times as long as one of the same keys in order, so that
-# no key is compared with each other. It takes the program as it was built last, by bin/test or by `rt run`.
+# no key is compared with each other; and one of 174,000 keys that were chosen for their hashes in at most twenty times as
+# long. It takes the program as it was built last, by bin/test or by `rt run`.
 set -u
 cd "$(dirname "$(realpath "$0")")/.." || exit 1
 program=crates/bsonraw/out/bsonraw
@@ -27,16 +28,23 @@ document() {
     }'
 }
 
-# spent FACTOR: how many nanoseconds the least of three runs took, which find the document canonical
+# chosen: 174,000 nulls, in hex, under keys that checks/chosen_keys.c chooses; the kit's own clang compiles it
+chosen() {
+    kit=$(dirname "$(rt doc)")
+    "$kit/toolchain/bin/clang" -O2 -ffreestanding -nostdlib -static -fuse-ld=lld -o "$work/chosen" checks/chosen_keys.c || return 1
+    "$work/chosen" | od -An -v -tx1 | tr -d ' \n'
+}
+
+# spent DOCUMENT WORD..: how many nanoseconds the least of three runs took, which find the document canonical
 spent() {
-    document "$1" >"$work/text"
+    "$@" >"$work/text" || return 1
     least=
     for _ in 1 2 3; do
         begun=$(date +%s%N)
         said=$("$program" check <"$work/text")
         took=$(($(date +%s%N) - begun))
         if [ "$said" != canonical ]; then
-            echo "keys: check of 200,000 keys prints $said" >&2
+            echo "keys: check of $* prints $said" >&2
             return 1
         fi
         [ -n "$least" ] && [ "$least" -le "$took" ] || least=$took
@@ -44,8 +52,15 @@ spent() {
     echo "$least"
 }
 
-ordered=$(spent 1) && mixed=$(spent 76543) || exit 1
-echo "keys: in order $((ordered / 1000000)) ms, in no order $((mixed / 1000000)) ms"
-[ "$mixed" -le $((10 * ordered)) ] && exit 0
-echo "keys: 200,000 keys in no order take more than ten times as long as in order" >&2
-exit 1
+ordered=$(spent document 1) && mixed=$(spent document 76543) && hostile=$(spent chosen) || exit 1
+echo "keys: in order $((ordered / 1000000)) ms, in no order $((mixed / 1000000)) ms, chosen $((hostile / 1000000)) ms"
+failed=0
+if [ "$mixed" -gt $((10 * ordered)) ]; then
+    echo "keys: 200,000 keys in no order take more than ten times as long as in order" >&2
+    failed=1
+fi
+if [ "$hostile" -gt $((20 * ordered)) ]; then
+    echo "keys: 174,000 chosen keys take more than twenty times as long as 200,000 in order" >&2
+    failed=1
+fi
+exit "$failed"

@@ -4,8 +4,8 @@
 # were built last, by bin/test or by `rt run` and `rt test`, and goes through as many scenarios at a time as there are
 # processors.
 #
-# A program gives the ample answer, or status 4 or 5 and nothing: 5 where memory was wanted for what is read, 4 where
-# it was wanted for anything else, which comes at least once. The run that meets no refusal gives the ample answer. A
+# A program gives the result of ample memory, or status 4 or 5 and nothing: 5 where memory was wanted for what is read, 4 where
+# it was wanted for anything else, which comes at least once. The run that meets no refusal gives that result. A
 # test passes in each run. Whatever was refused, each block of memory that a run was given has been released at its end,
 # and none twice.
 set -u
@@ -27,7 +27,7 @@ refused() {
     echo "status $status" >>"$work/output"
 }
 
-# Whether the last run of the program gave the ample answer, or gave up with nothing.
+# Whether the last run of the program gave the result of ample memory, or gave up with nothing.
 program_answered() {
     cmp -s "$wanted" "$work/output" && return
     [ "$requests" -ge "$n" ] && case $(cat "$work/output") in
@@ -42,7 +42,7 @@ test_answered() {
     [ "$status" = 0 ]
 }
 
-# Such a test also prints that it was answered want of memory, in just the runs in which a request was refused.
+# Such a test also prints that out of memory came, in just the runs in which a request was refused.
 refused_answered() {
     [ "$status" = 0 ] || return 1
     if [ "$requests" -ge "$n" ]; then

@@ -1,0 +1,212 @@
+"""Writes docs/CONTRACTS.md: a row for each public item of the crates that a user names, with the line where it is.
+
+    contracts.py FOLDER           prints the page for the crates below FOLDER/crates
+    contracts.py --words FOLDER   prints each file of specs/ whose words clauses of these items cite
+
+It relies on the layout that `rt fmt` gives. An item that a crate passes on and that is nowhere is an error.
+"""
+
+import re
+import sys
+from pathlib import Path
+from typing import Dict, Iterator, List, NamedTuple, Optional, Set
+
+USED = ["raw_bson", "raw_form", "raw_shelf"]
+CRATES = ["bson_model", "raw_view", "raw_tree", *USED]
+KINDS = "fn|struct|enum|type|const|trait"
+
+
+class Item(NamedTuple):
+    """A public item: a type, a function, a call of a type, or a trait that a type has."""
+
+    owner: str  # of a call or a trait's impl the type, else nothing
+    name: str
+    kind: str  # the word before its name; `impl` of a trait, `call` of a call, `hidden` of a trait that isn't public
+    comment: str
+    file: str
+    line: int
+    clauses: str
+
+
+def sentence(comment: str) -> str:
+    """The first sentence of a comment."""
+    return re.split(r"(?<=\.)\s+(?=[A-Z`\"])", " ".join(comment.split()), maxsplit=1)[0]
+
+
+def behind_generics(text: str) -> str:
+    """What is behind the parameters in <> at the front of a text."""
+    depth = 0
+    for at, char in enumerate(text):
+        depth += (char == "<") - (char == ">")
+        if depth == 0:
+            return text[at + 1 :] if char == ">" else text
+    return text
+
+
+def impl_of(line: str) -> "tuple[str, str]":
+    """The type and the trait of the first line of an impl; no trait where it has none."""
+    header = behind_generics(re.sub(r" \{\}?$", "", line[len("impl") :])).strip()
+    trait, _, owner = header.rpartition(" for ")
+    match = re.match(r"(?:&(?:'[a-z]+ )?)?(\w+)", owner)
+    return (match[1] if match else "", trait)
+
+
+def items_of(path: Path, name: str) -> Iterator[Item]:
+    """The items of a file, each with the comment right before it and the lines of its signature."""
+    owner = trait = comment = ""
+    lines = path.read_text(encoding="utf-8").splitlines()
+    for number, line in enumerate(lines, 1):
+        documented = re.match(r" *///(?: (.*)|$)", line)
+        if documented:
+            comment += (documented[1] or "") + "\n"
+            continue
+        if re.match(r" *#\[", line) or line.startswith("#"):
+            continue
+        found = re.match(rf"pub (?:const )?({KINDS}) (\w+)", line)
+        call = re.match(r"    (pub )?(?:const )?fn (\w+)", line)
+        if found:
+            yield Item("", found[2], found[1], comment, name, number, clauses_of(lines, number))
+            owner, trait = (found[2], "") if found[1] == "trait" else ("", "")
+        elif re.match(r"(pub\(crate\) )?trait \w", line):
+            yield Item("", line.split("trait ")[1].split()[0].split("<")[0].rstrip(":"), "hidden", comment, name, number, "")
+        elif re.match(r"impl[ <]", line):
+            owner, trait = impl_of(line)
+            if trait:
+                yield Item(owner, trait, "impl", comment, name, number, "")
+        elif call and owner and not trait and (call[1] or lines_open_trait(lines, number)):
+            yield Item(owner, call[2], "call", comment, name, number, clauses_of(lines, number))
+        if line.startswith("}"):
+            owner = trait = ""
+        comment = ""
+
+
+def clauses_of(lines: List[str], number: int) -> str:
+    """The clauses behind the line of this number: all up to the body."""
+    behind = number
+    while behind < len(lines) and not re.search(r"^ *\{\}?$|;$|^\}| \{$", lines[behind - 1]):
+        behind += 1
+    return "\n".join(lines[number:behind])
+
+
+def lines_open_trait(lines: List[str], number: int) -> bool:
+    """Whether this line is inside of a public trait, whose calls need no `pub`."""
+    opened = next(line for line in reversed(lines[:number]) if re.match(r"\S", line) and not line.startswith(("}", "//", "#")))
+    return opened.startswith("pub trait")
+
+
+def passed_on(text: str) -> List[str]:
+    """The names that a root file passes on, in their order."""
+    lists = re.findall(r"^pub use ([^;]*);", text, re.M)
+    return [name for uses in lists for name in re.findall(r"\w+", re.sub(r".*\{|.*::", "", " ".join(uses.split())))]
+
+
+def cited(crates: Path, name: str, items: List[Item]) -> Set[str]:
+    """The files of specs/ whose words the clauses of these items of a file cite."""
+    uses = {}
+    for crate, file, names, alias in re.findall(
+        r"^ *ghost use Rattle\.(\w+)\.specs\.(\w+)[\w.]*(?:\.\{([^}]*)\}| as (\w+));", (crates / name).read_text(encoding="utf-8"), re.M
+    ):
+        for name in (names or alias).split(", "):
+            uses[name] = f"{crate}/specs/{file}.antt"
+    words = {word for item in items for word in re.findall(r"[A-Za-z_]\w*", item.clauses)}
+    return {uses[word] for word in words & uses.keys() if (crates / uses[word]).exists()}
+
+
+class Crates:
+    """The items of all crates below a folder, and the names that those which a user names pass on."""
+
+    def __init__(self, folder: Path) -> None:
+        self.crates = folder / "crates"
+        self.items: Dict[str, List[Item]] = {}
+        for crate in CRATES:
+            for path in sorted((self.crates / crate / "src").glob("*.rt")):
+                name = str(path.relative_to(self.crates))
+                self.items[name] = list(items_of(path, name))
+        self.lists: Dict[str, List[str]] = {}
+        for crate in USED:
+            root = self.crates / crate / "src"
+            self.lists[crate] = passed_on((root / "lib.rt").read_text(encoding="utf-8"))
+            if (root / "laws.rt").exists():
+                laws = (root / "laws.rt").read_text(encoding="utf-8")
+                self.lists[f"laws of {crate}"] = passed_on(laws) + re.findall(r"^pub fn (\w+)", laws, re.M)
+        self.named = {name for names in self.lists.values() for name in names}
+        self.hidden = {item.name for item in self.all() if item.kind in ("trait", "hidden")} - self.named
+
+    def all(self) -> Iterator[Item]:
+        for items in self.items.values():
+            yield from items
+
+    def is_shown(self, item: Item) -> bool:
+        """Whether an item is public: a crate passes it, or its type, on; the trait of an impl isn't hidden."""
+        if item.kind == "impl":
+            return item.owner in self.named and re.split(r"::| ", item.name.split("<")[0])[-1] not in self.hidden
+        return item.kind != "hidden" and (item.owner or item.name) in self.named
+
+
+def link(item: Item, text: Optional[str] = None) -> str:
+    return f"[`{text or item.name}`](../crates/{item.file}#L{item.line})"
+
+
+def row(items: List[Item], text: str) -> str:
+    escaped = text.replace("|", "\\|")
+    return f"| {', '.join(map(link, items))} | {escaped} |"
+
+
+def families(calls: List[Item]) -> Iterator["tuple[list[Item], str]"]:
+    """The calls with what they return; neighbours `get_KIND`, or `as_KIND`, whose sentences end alike share a row."""
+    at = 0
+    while at < len(calls):
+        first = sentence(calls[at].comment)
+        tail = re.search(r" (at this place|under this key).*|; `None` for every other kind\.", first)
+        end = at + 1
+        while tail and end < len(calls) and sentence(calls[end].comment).endswith(tail[0]):
+            end += 1
+        yield calls[at:end], f"The value of this kind{tail[0]}" if tail and end > at + 1 else first
+        at = end
+
+
+def page(crates: Crates) -> Iterator[str]:
+    """The lines of the page."""
+    yield "# Contracts\n"
+    yield "Every public item of `raw_bson`, `raw_form` and `raw_shelf`, by the first sentence of its comment. The contract is where the"
+    yield "link leads, in the source: the whole comment, the signature and its clauses. [DEFINITIONS.md](DEFINITIONS.md) says how a clause"
+    yield "reads and what its words mean. `checks/contracts.sh --write` writes this page; don't edit it."
+    shown = [item for item in crates.all() if crates.is_shown(item)]
+    for group, names in crates.lists.items():
+        found = {name: [item for item in shown if name in (item.owner or item.name, item.owner)] for name in names}
+        lost = [name for name in names if not found[name]]
+        if lost:
+            raise SystemExit(f"contracts: {group} passes on {', '.join(lost)}, which no crate has")
+        yield f"\n## {group[0].upper() + group[1:] if ' ' in group else '`' + group + '`'}\n"
+        yield "| Item | What it is or returns |\n|---|---|"
+        for name in names:
+            (item,) = [item for item in found[name] if not item.owner]
+            if item.kind == "fn":
+                yield row([item], sentence(item.comment))
+        for name in names:
+            (item,) = [item for item in found[name] if not item.owner]
+            if item.kind == "fn":
+                continue
+            traits = ", ".join(link(i, re.sub(r"^\w+::(\w+::)*", "", i.name)) for i in found[name] if i.kind == "impl")
+            place = f'<a id="{name.lower()}"></a>'
+            yield row([item], f"{place}**{sentence(item.comment)}**" + (f" Traits: {traits}." if traits else ""))
+            for calls, text in families([i for i in found[name] if i.kind == "call"]):
+                yield row(calls, text)
+
+
+def main(arguments: List[str]) -> int:
+    crates = Crates(Path(arguments[-1]))
+    if arguments[0] == "--words":
+        files = {
+            file
+            for name, items in crates.items.items()
+            for file in cited(crates.crates, name, [item for item in items if crates.is_shown(item)])
+        }
+        print("\n".join(sorted(files)))
+    else:
+        print("\n".join(page(crates)))
+    return 0
+
+
+if __name__ == "__main__":
+    sys.exit(main(sys.argv[1:]))

@@ -1,0 +1,272 @@
+#!/usr/bin/env python3
+"""Makes the pictures of the pages from what they show: the documents of examples/, crates.txt, the tables of docs/SPEED.md.
+
+    docs/pictures/make.py [FOLDER]    writes bytes.svg, crates.svg and speed.svg there, or beside this file
+
+Their colours are readable on a light and on a dark page. checks/pictures.sh sees that they are up to date.
+"""
+
+import re
+import struct
+import sys
+from pathlib import Path
+from xml.sax.saxutils import escape
+
+ROOT = Path(__file__).resolve().parents[2]
+TEXT = "#737a83"
+FONT = "ui-sans-serif, system-ui, 'Helvetica Neue', Arial, 'DejaVu Sans', sans-serif"
+MONO = "ui-monospace, 'SF Mono', Menlo, Consolas, 'DejaVu Sans Mono', monospace"
+BLUE, GREEN, GREY, RED, LIGHT_RED, BROWN = "#2f6fb3", "#2d7d46", "#69717b", "#c2413a", "#d9534f", "#9a5b13"
+
+
+class Picture:
+    """Shapes, and how high the picture is."""
+
+    def __init__(self, title, width):
+        self.title, self.width, self.height, self.shapes = title, width, 0, []
+
+    def box(self, x, y, width, height, fill, radius=4):
+        self.shapes.append(f'<rect x="{x}" y="{y}" width="{width}" height="{height}" rx="{radius}" fill="{fill}"/>')
+
+    def line(self, points, colour=TEXT, arrow=False):
+        end = ' marker-end="url(#arrow)"' if arrow else ""
+        path = " ".join(f"{x},{y}" for x, y in points)
+        self.shapes.append(f'<polyline points="{path}" fill="none" stroke="{colour}" stroke-width="1.5"{end}/>')
+
+    def text(self, x, y, text, colour=TEXT, size=13, anchor="start", bold=False, mono=False):
+        weight = ' font-weight="600"' if bold else ""
+        font = f' font-family="{MONO}"' if mono else ""
+        self.shapes.append(
+            f'<text x="{x}" y="{y}" fill="{colour}" font-size="{size}" text-anchor="{anchor}"{weight}{font}>{escape(text)}</text>'
+        )
+
+    def svg(self):
+        return "\n".join(
+            [
+                f'<svg xmlns="http://www.w3.org/2000/svg" viewBox="0 0 {self.width} {self.height}" width="{self.width}" '
+                f'height="{self.height}" font-family="{FONT}" role="img">',
+                f"<title>{escape(self.title)}</title>",
+                '<defs><marker id="arrow" viewBox="0 0 8 8" refX="7" refY="4" markerWidth="7" markerHeight="7" orient="auto">'
+                f'<path d="M0 0L8 4L0 8z" fill="{TEXT}"/></marker></defs>',
+                *self.shapes,
+                "</svg>",
+                "",
+            ]
+        )
+
+
+# ---- the bytes of a document ---------------------------------------------------------------------------------------------
+
+
+def parts_of(data):
+    """The parts of a document of texts, booleans and nulls: (offset, length, what, colour); then where its elements stop,
+    if they do, and why."""
+    parts = [(0, 4, f"length {struct.unpack('<i', data[:4])[0]}", GREY)]
+    at = 4
+    while at < len(data) - 1:
+        tag, key_end = data[at], data.index(0, at + 1)
+        payload = key_end + 1
+        kind = {2: "text", 8: "boolean", 10: "null"}[tag]
+        parts += [(at, 1, "tag", BLUE), (at + 1, payload - at - 1, f"key {data[at + 1:key_end].decode()}", BLUE)]
+        size = {8: 1, 10: 0}.get(tag)
+        if size is None:
+            text = struct.unpack("<i", data[payload : payload + 4])[0]
+            left = len(data) - payload - 4
+            parts.append((payload, 4, f"length {text}", GREEN))
+            if text > left:
+                return parts + [(payload + 4, left, "final 0", GREY)], (at, f"a stop: the text claims {text} bytes, {left} is left")
+            parts.append((payload + 4, text, data[payload + 4 : payload + 3 + text].decode(), GREEN))
+            size = 4 + text
+        else:
+            parts.append((payload, size, kind, GREEN if data[payload] < 2 else RED))
+        at = payload + size
+    return parts + [(at, 1, "final 0", GREY)], None
+
+
+def bytes_picture():
+    picture = Picture("The bytes of a sound document and of two damaged ones", 900)
+    cell, left, y = 37, 24, 30
+    for name, heading, remark in [
+        ("greeting", "A sound document", ""),
+        ("truncated", "A document that stops", ""),
+        ("boolean-two", "A document with a faulty value", "; a fault of the value: a boolean is 0 or 1; its frame is sound"),
+    ]:
+        data = bytes.fromhex((ROOT / f"examples/{name}.hex").read_text())
+        parts, stop = parts_of(data)
+        printed = (ROOT / f"examples/{name}.list").read_text().splitlines()[0]
+        picture.text(left, y, f"{heading}: examples/{name}.hex", size=15, bold=True)
+        y += 26
+        for offset, length, what, colour in parts:
+            x = left + offset * cell
+            picture.text(x + 2, y + 8, str(offset), size=11)
+            for place in range(offset, offset + length):
+                shown = RED if stop and place >= stop[0] and colour != GREY else colour
+                picture.box(left + place * cell, y + 14, cell - 2, 30, shown, 3)
+                picture.text(left + place * cell + cell / 2 - 1, y + 34, f"{data[place]:02x}", "#ffffff", 14, "middle", mono=True)
+            if offset + length == len(data):
+                picture.text(x + length * cell + 6, y + 34, what, size=12)
+            else:
+                picture.text(x + 2, y + 60, what, size=12)
+        y += 70
+        begin, end = left + 4 * cell, left + (len(data) - 1) * cell - 2
+        picture.line([(begin, y), (begin, y + 6), (end, y + 6), (end, y)], LIGHT_RED if stop else TEXT)
+        label = f"no frame at offset {stop[0]}, {stop[1]}" if stop else f"a frame at offset 4{remark}"
+        picture.text(begin, y + 24, label, LIGHT_RED if stop or remark else TEXT, 13)
+        picture.text(begin, y + 42, f"list prints: {printed}", size=13, mono=True)
+        y += 84
+    picture.height = y - 30
+    return picture
+
+
+# ---- the crates ----------------------------------------------------------------------------------------------------------
+
+GIVES = {
+    "bson_model": "owned values, the ordered tree",
+    "raw_view": "views, elements, values, faults",
+    "raw_tree": "trees, encodings, limits, breaches",
+    "raw_form": "first faults, verdicts, forms; no tree",
+    "raw_bson": "buffers, owned values, canonical forms",
+    "raw_shelf": "canonical documents, each once",
+    "bsonraw": "the program",
+    "bsonraw_c": "the library for C, and so for Python",
+    "bson_uses": "proved callers, to copy from",
+}
+
+
+def crates_of():
+    """Each crate that isn't for tests, and the crates that it stands on, of the repository and of the kit."""
+    crates = {}
+    for line in (ROOT / "crates.txt").read_text().splitlines():
+        found = re.match(r"([a-z_]+)[^:]*: *(.*)", line)
+        if found and not re.search(r"_tests$|_fixtures$", found[1]):
+            crates[found[1]] = found[2].split()
+    return crates
+
+
+def all_below(crates, name):
+    """All crates of the repository that this one stands on, by others too."""
+    reached = set()
+    for below in crates.get(name, []):
+        if below in crates:
+            reached |= {below} | all_below(crates, below)
+    return reached
+
+
+def edges_of(crates):
+    """Which crate stands on which, without what follows from other edges."""
+    return {
+        (name, below)
+        for name, listed in crates.items()
+        for below in listed
+        if below in crates and not any(below in all_below(crates, other) for other in listed if other != below)
+    }
+
+
+def crates_picture():
+    crates = crates_of()
+    edges = edges_of(crates)
+    level = {}
+    for name in crates:
+        level[name] = max((level[below] + 1 for below in crates[name] if below in crates), default=0)
+    picture = Picture("The crates, and what each gives to those above it", 900)
+    width, height, gap = 262, 62, 46
+    top = max(level.values())
+    place = {}
+    for number in range(top + 1):
+        row = [name for name in crates if level[name] == number]
+        for index, name in enumerate(row):
+            x = 450 + (index - (len(row) - 1) / 2) * (width + 24) - width / 2
+            place[name] = (x, 20 + (top - number) * (height + gap))
+
+    def port(of, ends, end):
+        """Where on a side of a crate the edge to this end is: the edges are spread in the order of their ends."""
+        in_order = sorted(ends, key=lambda name: place[name][0])
+        return round(place[of][0] + width * (in_order.index(end) + 1) / (len(ends) + 1))
+
+    for name, below in sorted(edges):
+        start = port(below, [upper for upper, lower in edges if lower == below], name)
+        end = port(name, [lower for upper, lower in edges if upper == name], below)
+        picture.line([(start, place[below][1]), (end, place[name][1] + height + 2)], arrow=True)
+    for name, (x, y) in place.items():
+        colour = BLUE if name.startswith("bsonraw") else GREY if name == "bson_uses" else GREEN
+        picture.box(x, y, width, height, colour, 6)
+        kit = [below for below in crates[name] if below not in crates]
+        picture.text(x + width / 2, y + 22, name, "#ffffff", 15, "middle", bold=True, mono=True)
+        picture.text(x + width / 2, y + (39 if kit else 44), GIVES.get(name, ""), "#ffffff", 12, "middle")
+        if kit:
+            picture.text(x + width / 2, y + 55, "with " + ", ".join(kit) + " of the kit", "#ffffff", 11, "middle")
+    bottom = 20 + top * (height + gap) + height
+    picture.text(450, bottom + 24, "An arrow goes up to the crate that uses what the one below gives.", size=13, anchor="middle")
+    picture.height = bottom + 40
+    return picture
+
+
+# ---- speed ---------------------------------------------------------------------------------------------------------------
+
+
+def tables():
+    """The tables of SPEED.md: of each its section, its headings and its rows."""
+    found, section, rows = [], "", []
+    for line in (ROOT / "docs/SPEED.md").read_text().splitlines() + [""]:
+        if line.startswith("## "):
+            section = line[3:]
+        if line.startswith("|"):
+            rows.append([cell.strip() for cell in line.strip().strip("|").split("|")])
+        elif rows:
+            found.append((section, rows[0], rows[2:]))
+            rows = []
+    return found
+
+
+def figures(section, row, columns):
+    """The figures of a row of a section, under these headings; a picture without them is no picture."""
+    for name, headings, rows in tables():
+        for cells in rows:
+            if name.startswith(section) and cells[0].startswith(row) and all(column in headings for column in columns):
+                return [float(cells[headings.index(column)].replace(",", "")) for column in columns]
+    sys.exit(f"make.py: docs/SPEED.md has no row {row!r} with {columns} in {section!r}")
+
+
+READERS = ["This library", "Rust crate", "libbson", "C by hand"]
+BARS = [
+    ("Elements of a typical document", "instructions an element", "Reading", "elements of a typical document", READERS),
+    ("Keys and values of a typical document", "instructions an element", "Reading", "keys and values, typical", READERS),
+    ("Look-up of the last of 1,000 keys", "instructions an element", "Reading", "look-up of the last of 1,000 keys", READERS),
+    ("Append of 1,000,000 int32", "instructions an element", "Writing", "append of 1,000,000 int32", READERS),
+    ("Tree from bytes, typical", "instructions an element", "Writing", "tree from bytes, typical", READERS[:2]),
+    ("Validation of a typical document", "instructions a call", "Verdicts", "typical", ["`validate`", "libbson"]),
+    ("Decoding of a typical document, from Python", "microseconds a call", "From Python", "`decode`, typical", ["`bsonraw`", "MongoDB's package"]),
+]
+NAMES = {"`validate`": "This library", "`bsonraw`": "This library"}
+COLOURS = {"This library": BLUE, "Rust crate": BROWN, "libbson": GREEN, "C by hand": GREY, "MongoDB's package": GREEN}
+
+
+def speed_picture():
+    picture = Picture("Speed beside the Rust crate, libbson, C by hand and MongoDB's package for Python: shorter is faster", 900)
+    left, right, y = 190, 800, 30
+    picture.text(24, y, "Shorter is faster. libbson judges no key of elements and look-up as UTF-8, and validates less;", size=12)
+    y += 30
+    for title, unit, section, row, columns in BARS:
+        values = figures(section, row, columns)
+        picture.text(24, y, title, size=14, bold=True)
+        picture.text(right + 76, y, unit, size=12, anchor="end")
+        for column, value in zip(columns, values):
+            name = NAMES.get(column, column)
+            y += 19
+            length = max(2, round((right - left) * value / max(values)))
+            picture.text(left - 10, y + 4, name, size=13, anchor="end", bold=name == "This library")
+            picture.box(left, y - 7, length, 14, COLOURS[name], 2)
+            picture.text(left + length + 8, y + 4, f"{value:,.0f}" if value >= 10 else f"{value:g}", size=13)
+        y += 31
+    picture.height = y - 8
+    return picture
+
+
+def main():
+    folder = Path(sys.argv[1]) if len(sys.argv) == 2 else Path(__file__).resolve().parent
+    for name, make in [("bytes", bytes_picture), ("crates", crates_picture), ("speed", speed_picture)]:
+        (folder / f"{name}.svg").write_text(make().svg(), encoding="utf-8")
+
+
+if __name__ == "__main__":
+    main()
