@@ -76,7 +76,7 @@ enum bsonraw_reason {
     BSONRAW_TOO_SHORT = 1,              /* under five bytes */
     BSONRAW_LENGTH_INCORRECT = 2,       /* the first four bytes aren't how many there are */
     BSONRAW_NOT_TERMINATED = 3,         /* the last byte isn't 0 */
-    BSONRAW_OVERFLOWED = 4,             /* no byte is left where an element or the final 0 should stand */
+    BSONRAW_OVERFLOWED = 4,             /* no byte is left where an element or the final 0 should be */
     BSONRAW_INVALID_TAG = 5,            /* no kind has this tag [number: the tag] */
     BSONRAW_STRING_HEAD_SHORT = 6,      /* under four bytes are left for a string's length [left] */
     BSONRAW_NEGATIVE_LENGTH = 7,        /* a length is under 0 */
@@ -98,7 +98,7 @@ enum bsonraw_reason {
 
 /* Why a document isn't canonical. */
 enum bsonraw_cause {
-    BSONRAW_STOP = 1,         /* no element stands there, and not the final 0 either */
+    BSONRAW_STOP = 1,         /* no element is there, and not the final 0 either */
     BSONRAW_VALUE = 2,        /* the payload is no value of its kind */
     BSONRAW_REPEATED_KEY = 3, /* an earlier element of the same document has this key */
     BSONRAW_ARRAY_KEY = 4,    /* the key isn't the decimal of the element's number in its array */

@@ -8,7 +8,7 @@
 #   - the libraries export the functions of the header and nothing else, and need the C library alone;
 #   - the header compiles as each C and C++ with all warnings on, and so do its examples and the blocks `c` of the pages;
 #     a block with a `main` is run on the greeting, and the page says what it prints;
-#   - c/tests/print.c prints what stands beside each example, and what bsonraw prints of each document of the tests;
+#   - c/tests/print.c prints what is beside each example, and what bsonraw prints of each document of the tests;
 #   - the programs of c/tests: every buffer at its edges, each request for memory refused in turn, threads, reasons, the header's
 #     numbers beside those that the library returns; and
 #     what a reader written from the format alone says of 200,000 made and damaged documents; and the builder beside bytes

@@ -4,7 +4,7 @@
 # were built last, by bin/test or by `rt run` and `rt test`, and goes through as many scenarios at a time as there are
 # processors.
 #
-# A program gives the result of ample memory, or status 4 or 5 and nothing: 5 where memory was wanted for what is read, 4 where
+# A program gives the result of ample memory, or status 4 or 5 and nothing: 5 where memory ran out for what is read, 4 where
 # it was wanted for anything else, which comes at least once. The run that meets no refusal gives that result. A
 # test passes in each run. Whatever was refused, each block of memory that a run was given has been released at its end,
 # and none twice.

@@ -53,7 +53,7 @@ void read_documents(struct documents *to);
 /* Memory of this many bytes, at least one; the test ends where there is none. */
 void *needed(size_t len);
 
-/* All answers; max_bytes is 1 << 24 and max_depth LEVELS. */
+/* All results; max_bytes is 1 << 24 and max_depth LEVELS. */
 void ask(struct answers *to, const uint8_t *bytes, size_t len);
 
 /* Says that this went wrong with this document, unless it is so. */

@@ -1,4 +1,4 @@
-/* Threads that call at once, on the same documents and on copies of their own, are answered what one thread is. */
+/* Threads that call at once, on the same documents and on copies of their own, get what one thread gets. */
 #include "documents.h"
 
 #include <pthread.h>
@@ -16,7 +16,7 @@ static struct answers *wanted; /* of each document */
 struct caller {
     pthread_t thread;
     size_t number;
-    size_t wrong; /* how many answers were others */
+    size_t wrong; /* how many results were others */
 };
 
 /* Of threads with an odd number each asks about copies; none begins with the same document. */

@@ -134,7 +134,7 @@ GIVES = {
 
 
 def crates_of():
-    """Each crate that isn't for tests, and the crates that it stands on, of the repository and of the kit."""
+    """Each crate that isn't for tests, and the crates that it uses, of the repository and of the kit."""
     crates = {}
     for line in (ROOT / "crates.txt").read_text().splitlines():
         found = re.match(r"([a-z_]+)[^:]*: *(.*)", line)
@@ -144,7 +144,7 @@ def crates_of():
 
 
 def all_below(crates, name):
-    """All crates of the repository that this one stands on, by others too."""
+    """All crates of the repository that this one uses, by others too."""
     reached = set()
     for below in crates.get(name, []):
         if below in crates:
@@ -153,7 +153,7 @@ def all_below(crates, name):
 
 
 def edges_of(crates):
-    """Which crate stands on which, without what follows from other edges."""
+    """Which crate uses which, without what follows from other edges."""
     return {
         (name, below)
         for name, listed in crates.items()

@@ -86,7 +86,7 @@ class Cause(IntEnum):
     """Why a document isn't canonical."""
 
     STOP = 1
-    """no element stands there, and not the document's end either"""
+    """no element is there, and not the document's end either"""
     VALUE = 2
     """the payload is no value of its kind"""
     REPEATED_KEY = 3

@@ -58,7 +58,7 @@ def is_text(text: bytes) -> bool:
 
 
 def string_len(rest: bytes) -> Optional[int]:
-    """How many bytes the string at the front has, its length and its 0 counted; None where none stands there."""
+    """How many bytes the string at the front has, its length and its 0 counted; None where none is there."""
     if len(rest) < 4 or i32(rest) < 1 or i32(rest) + 4 > len(rest) or rest[i32(rest) + 3] != 0:
         return None
     return i32(rest) + 4

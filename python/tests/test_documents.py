@@ -1,4 +1,4 @@
-"""Worked documents, whose answers are written out, and the documents of examples/ with the listings beside them."""
+"""Worked documents, whose results are written out, and the documents of examples/ with the listings beside them."""
 
 import random
 import unittest
@@ -235,7 +235,7 @@ class Worked(unittest.TestCase):
         with self.assertRaises(BsonError) as caught:
             bsonraw.get(stopping, "x")
         self.assertEqual((caught.exception.reason, caught.exception.key), (Reason.OVERFLOWED, None))
-        # a code with scope of length 3: what stands behind it begins inside its length
+        # a code with scope of length 3: what is behind it begins inside its length
         swallowing = bytes.fromhex("0f000000 0f6100 03000008 6200 01 00")
         with self.assertRaises(BsonError) as caught:
             bsonraw.get(swallowing, "a")

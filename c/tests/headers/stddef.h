@@ -1,4 +1,4 @@
-/* What bsonraw.h and the tests need of the C library's headers stands in this folder, for machines that have the Rattle
+/* What bsonraw.h and the tests need of the C library's headers is in this folder, for machines that have the Rattle
  * kit's compiler and none of their own. The names and values are those of the C library on x86-64 Linux. */
 #ifndef STDDEF_H
 #define STDDEF_H
