@@ -106,9 +106,9 @@ def types_of(name: str) -> Dict[int, Callable[[Any], Any]]:
         import bson  # type: ignore[import]
         from bson import binary, code, decimal128, int64, max_key, min_key, objectid, regex, timestamp
     except ImportError as error:
-        raise ImportError(f"types='bson' wants MongoDB's package bson, which isn't there ({error})") from None
+        raise ImportError(f"types='bson' needs MongoDB's package bson, which isn't there ({error})") from None
     if not hasattr(bson, "BSON"):
-        raise ImportError("types='bson' wants MongoDB's package, and another one has the name bson")
+        raise ImportError("types='bson' needs MongoDB's package, but the package bson that is there is another one")
 
     def code_of(value: Code) -> Any:
         scope = value.scope

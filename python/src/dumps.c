@@ -103,7 +103,7 @@ static int next_document(Documents *all, size_t *at, size_t *len) {
 }
 
 static int begin(Documents *all) {
-    if (all->is_busy) PyErr_SetString(PyExc_ValueError, "these documents are being read already");
+    if (all->is_busy) PyErr_SetString(PyExc_ValueError, "another call is reading these documents");
     return all->is_busy ? -1 : 0;
 }
 

@@ -267,7 +267,7 @@ static PyObject *joined(PyObject *steps) {
         step = PyLong_Check(step) ? PyObject_Str(step) : NULL;
         if (step == NULL || PyList_SetItem(all, number, step) < 0) break;
     }
-    if (count == 0) PyErr_SetString(PyExc_ValueError, "a path has a step at least");
+    if (count == 0) PyErr_SetString(PyExc_ValueError, "a path needs at least one step");
     if (count > 0 && number == count) nul = PyUnicode_FromOrdinal(0);
     if (nul != NULL) path = PyUnicode_Join(nul, all);
     Py_XDECREF(nul);
@@ -344,7 +344,7 @@ PyObject *py_element(PyObject *module, PyObject *const *args, Py_ssize_t count) 
     if (all != NULL) element = elements_next(all);
     if (element != NULL) more = elements_next(all);
     if (more != NULL || PyErr_Occurred()) Py_CLEAR(element);
-    if (all != NULL && element == NULL && !PyErr_Occurred()) PyErr_SetString(PyExc_ValueError, "these are no parts of one element");
+    if (all != NULL && element == NULL && !PyErr_Occurred()) PyErr_SetString(PyExc_ValueError, "these parts don't make one element");
     Py_XDECREF(more);
     Py_XDECREF(all);
     Py_XDECREF(document);
@@ -462,7 +462,7 @@ static PyObject *walk_next(PyObject *self) {
     Walk *walk = (Walk *)self;
     PyObject *both;
     if (walk->is_busy) {
-        PyErr_SetString(PyExc_ValueError, "this walk is being asked for an element already");
+        PyErr_SetString(PyExc_ValueError, "another call is asking this walk for an element");
         return NULL;
     }
     walk->is_busy = 1;

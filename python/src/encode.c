@@ -107,7 +107,7 @@ static int put_number(struct out *out, size_t number) {
 static int put_int(struct out *out, size_t tag_at, PyObject *value) {
     int too_large;
     long long number = PyLong_AsLongLongAndOverflow(value, &too_large);
-    if (too_large) PyErr_SetString(PyExc_OverflowError, "an int has more than 64 bits");
+    if (too_large) PyErr_SetString(PyExc_OverflowError, "an int of more than 64 bits can't be encoded");
     if (too_large || (number == -1 && PyErr_Occurred())) return -1;
     out->at[tag_at] = number < INT32_MIN || number > INT32_MAX ? BSONRAW_TAG_INT64 : BSONRAW_TAG_INT32;
     return out->at[tag_at] == BSONRAW_TAG_INT32 ? put_i32(out, (int32_t)number) : put_i64(out, number);
@@ -144,7 +144,7 @@ static int put_binary(struct out *out, PyObject *data, long subtype) {
 static int put_raw(struct out *out, PyObject *value, uint8_t len) {
     Raw *raw = (Raw *)value;
     if (raw->len != len) {
-        PyErr_SetString(PyExc_ValueError, "an id, a timestamp or a decimal of the wrong length");
+        PyErr_SetString(PyExc_ValueError, "an ObjectId, a Timestamp or a Decimal128 has the wrong length");
         return -1;
     }
     return put(out, raw->bytes, len);

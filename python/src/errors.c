@@ -136,7 +136,7 @@ PyObject *error_of(const struct bytes *bytes, const struct told *told) {
     case BSONRAW_TOO_MANY_BYTES: fault.kind = KIND_REFUSED, fault.reason = TOO_MANY_BYTES, has_place = 0; break;
     case BSONRAW_TOO_LONG: fault.kind = KIND_REFUSED, fault.reason = TOO_LONG, has_place = 0; break;
     case BSONRAW_NO_DOCUMENT: fault.kind = KIND_NO_DOCUMENT, has_place = 0; break;
-    default: PyErr_SetString(PyExc_MemoryError, "no memory for a document"); return NULL;
+    default: PyErr_SetString(PyExc_MemoryError, "out of memory for a document"); return NULL;
     }
     if (has_place) {
         place_of(bytes, told, &fault.path, &fault.keys);

@@ -149,7 +149,8 @@ __attribute__((visibility("default"))) /* which headers before 3.9 leave out */
 PyMODINIT_FUNC PyInit__native(void) {
     PyObject *module;
     if (bsonraw_version() / 10000 != BSONRAW_VERSION / 10000) {
-        PyErr_SetString(PyExc_ImportError, "bsonraw: built with the header of another library");
+        PyErr_SetString(PyExc_ImportError,
+                        "bsonraw was built with the header of another version of the library: build the package again");
         return NULL;
     }
     module = PyModule_Create(&definition);
