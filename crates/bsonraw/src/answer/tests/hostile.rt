@@ -38,12 +38,17 @@ fn is_listed(alloc: Global, text: &str, listing: &Listing) -> bool {
     status == listing.status && output.as_slice() == listing.output.as_bytes()
 }
 
+/// The line of a fault has its kind before its key.
+fn is_fault(output: &[u8]) -> bool {
+    output.starts_with(b"fault malformed ") || output.starts_with(b"fault utf8 ")
+}
+
 /// A document has a form only where its walk ends at its final 0.
 fn is_canonized(alloc: Global, text: &str, refusal: Option<&str>, listing: &Listing) -> bool {
     let (status, output) = answer(alloc, "canon", text.as_bytes());
     match (status, refusal) {
         (1, Some(refusal)) => output.as_slice() == refusal.as_bytes(),
-        (1, None) => output.starts_with(b"fault "),
+        (1, None) => is_fault(&output),
         (0, None) => listing.status == 0 && is_form(alloc, &output),
         _ => false,
     }
