@@ -132,9 +132,9 @@ def documents(source: Union[BinaryIO, _native.Buffer]) -> Iterator[Tuple[int, An
     next document would begin. A path, or a file that is open for text, raises TypeError at the call.
     """
     if isinstance(source, (str, os.PathLike)):
-        raise TypeError("source is a path, and not an open file: use open(path, 'rb')")
+        raise TypeError("source is a path, not an open file: use open(path, 'rb')")
     if isinstance(source, io.TextIOBase):
-        raise TypeError("source is a file that is open for text, and not for bytes: use open(path, 'rb')")
+        raise TypeError("source is a file that is open for text, not for bytes: use open(path, 'rb')")
     try:
         memoryview(source).release()  # type: ignore[arg-type]
     except TypeError:

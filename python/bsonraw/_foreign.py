@@ -101,7 +101,7 @@ def convert(value: Any) -> Any:
 def types_of(name: str) -> Dict[int, Callable[[Any], Any]]:
     """What makes another package's values of ours, by the tags of BSON."""
     if name != "bson":
-        raise ValueError(f"types is {name!r}, and not None or 'bson'")
+        raise ValueError(f"types is {name!r}, not None or 'bson'")
     try:
         import bson  # type: ignore[import]
         from bson import binary, code, decimal128, int64, max_key, min_key, objectid, regex, timestamp

@@ -265,7 +265,7 @@ class ObjectId(Raw):
     def __new__(cls, value: Union[bytes, str]) -> ObjectId:
         raw = bytes.fromhex(value) if isinstance(value, str) else bytes(value)
         if len(raw) != 12:
-            raise ValueError(f"an ObjectId has 12 bytes, or 24 digits in hex, and not {value!r}")
+            raise ValueError(f"an ObjectId has 12 bytes, or 24 digits in hex, not {value!r}")
         return super().__new__(cls, raw)
 
     @property
@@ -330,7 +330,7 @@ class Decimal128(Raw):
 
     def __new__(cls, value: bytes) -> Decimal128:
         if len(value) != 16:
-            raise ValueError(f"a Decimal128 has 16 bytes, and not {len(value)}")
+            raise ValueError(f"a Decimal128 has 16 bytes, not {len(value)}")
         return super().__new__(cls, bytes(value))
 
     @property
@@ -382,7 +382,7 @@ class Binary(Pair):
 
     def __new__(cls, data: bytes, subtype: int) -> Binary:
         if not 0 <= subtype <= 255:
-            raise ValueError(f"a subtype is from 0 to 255, and not {subtype}")
+            raise ValueError(f"a subtype is from 0 to 255, not {subtype}")
         return super().__new__(cls, bytes(data), subtype)
 
     @property

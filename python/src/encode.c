@@ -68,7 +68,7 @@ static int put_cstring(struct out *out, PyObject *text) {
     Py_ssize_t len;
     const char *at;
     if (!PyUnicode_Check(text)) {
-        PyErr_Format(PyExc_TypeError, "a key, a pattern or options is %R, and not a str", text);
+        PyErr_Format(PyExc_TypeError, "a key, a pattern or options is %R, not a str", text);
         return -1;
     }
     at = PyUnicode_AsUTF8AndSize(text, &len);
@@ -382,7 +382,7 @@ PyObject *py_encode(PyObject *module, PyObject *const *args, Py_ssize_t count, P
     }
     if (Py_TYPE(document) == &PyDict_Type) bytes = encoded(document, OF_DICT, options.max_depth);
     else if (Py_TYPE(document) == classes.pairs) bytes = encoded(document, OF_ITEMS, options.max_depth);
-    else PyErr_Format(PyExc_TypeError, "a document is a mapping or Pairs, and not %R", Py_TYPE(args[0]));
+    else PyErr_Format(PyExc_TypeError, "a document is a mapping or Pairs, not %R", Py_TYPE(args[0]));
     Py_DECREF(document);
     return bytes;
 }
