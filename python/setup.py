@@ -49,7 +49,7 @@ setup(
             define_macros=[("Py_LIMITED_API", "0x030B0000")] if limited else [],
             py_limited_api=limited,
             extra_objects=[str(place / "lib/libbsonraw.a")],
-            extra_compile_args=["-O2", "-g0", "-fno-plt", "-fvisibility=hidden", *os.environ.get("BSONRAW_CFLAGS", "").split()],
+            extra_compile_args=["-O3", "-falign-functions=64", "-g0", "-fno-plt", "-fvisibility=hidden", *os.environ.get("BSONRAW_CFLAGS", "").split()],
             extra_link_args=["-Wl,--exclude-libs,ALL", *os.environ.get("BSONRAW_LDFLAGS", "").split()],
         )
     ],

@@ -31,7 +31,7 @@ import os
 from typing import Any, BinaryIO, Iterator, List, Optional, Tuple, Union
 
 from . import _native, _types
-from ._native import Element, canonical, check, decode, elements, encode, find, first_fault, get, walk
+from ._native import Element, Int64, canonical, check, decode, elements, encode, find, first_fault, get, walk
 from ._types import (
     Binary,
     Breach,
@@ -44,7 +44,6 @@ from ._types import (
     ElementType,
     ErrorKind,
     Forms,
-    Int64,
     MaxKey,
     MinKey,
     ObjectId,

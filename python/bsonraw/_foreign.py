@@ -9,6 +9,7 @@ from datetime import datetime, timedelta, timezone
 from functools import lru_cache
 from typing import Any, Callable, Dict, Mapping
 
+from ._native import Int64
 from ._types import (
     Binary,
     Code,
@@ -16,7 +17,6 @@ from ._types import (
     DBPointer,
     Decimal128,
     ElementType,
-    Int64,
     MaxKey,
     MinKey,
     ObjectId,

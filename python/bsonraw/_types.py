@@ -219,20 +219,6 @@ class Forms(NamedTuple):
 # ---- values ----------------------------------------------------------------------------------------------------------
 
 
-class Int64(int):
-    """An int that is stored in 64 bits, whatever its size."""
-
-    __slots__ = ()
-
-    def __repr__(self) -> str:
-        return f"Int64({int(self)})"
-
-    def __reduce__(self) -> Tuple[Any, ...]:
-        return Int64, (int(self),)
-
-    __str__ = int.__repr__
-
-
 class DatetimeMS(int):
     """A time as milliseconds from 1970 on, of years that datetime doesn't have."""
 

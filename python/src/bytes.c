@@ -19,28 +19,14 @@ static int is_of_bytes(PyObject *data) {
     return is_bytes;
 }
 
-int bytes_open(struct bytes *bytes, PyObject *data) {
+int bytes_open_view(struct bytes *bytes, PyObject *data) {
     bytes->has_view = 0;
-    if (PyBytes_CheckExact(data)) {
-        char *at;
-        Py_ssize_t len;
-        if (PyBytes_AsStringAndSize(data, &at, &len) < 0) return -1;
-        bytes->at = (const uint8_t *)at;
-        bytes->len = (size_t)len;
-        bytes->is_fixed = 1;
-        return 0;
-    }
     if (PyObject_GetBuffer(data, &bytes->view, PyBUF_SIMPLE) < 0) return -1;
     bytes->has_view = 1;
     bytes->len = (size_t)bytes->view.len;
     bytes->at = bytes->len == 0 ? nothing : bytes->view.buf;
     bytes->is_fixed = bytes->len > LET_GO_OVER && is_of_bytes(data);
     return 0;
-}
-
-void bytes_close(struct bytes *bytes) {
-    if (bytes->has_view) PyBuffer_Release(&bytes->view);
-    bytes->has_view = 0;
 }
 
 PyTypeObject *type_not_called(PyType_Spec *spec) {

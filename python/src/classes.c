@@ -143,14 +143,77 @@ static PyType_Slot pair_slots[] = {{Py_tp_new, pair_tp_new},           {Py_tp_de
 static PyType_Spec pair_spec = {"bsonraw._native.Pair", sizeof(Pair), 0,
                                 Py_TPFLAGS_DEFAULT | Py_TPFLAGS_BASETYPE | Py_TPFLAGS_HAVE_GC, pair_slots};
 
+/* ---- Int64: an int ---- */
+
+/* How many bytes an int has without its digits, and a digit. */
+static size_t int_size, digit_size;
+
+static int size_of(const char *name, size_t *size) {
+    PyObject *number = PyObject_GetAttrString((PyObject *)&PyLong_Type, name);
+    *size = number == NULL ? 0 : PyLong_AsSize_t(number);
+    Py_XDECREF(number);
+    return PyErr_Occurred() ? -1 : 0;
+}
+
+/* What int's own allocation does, for a class that the collector has no part in. */
+static PyObject *int64_alloc(PyTypeObject *type, Py_ssize_t digits) {
+    PyVarObject *number = PyObject_Malloc(int_size + (size_t)digits * digit_size);
+    if (number == NULL) return PyErr_NoMemory();
+    return (PyObject *)PyObject_InitVar(number, type, digits);
+}
+
+static void int64_dealloc(PyObject *self) {
+    PyTypeObject *type = Py_TYPE(self);
+    if (type != classes.int64) {
+        free_object(self);
+        return;
+    }
+    PyObject_Free(self);
+    Py_DECREF(type);
+}
+
+static PyObject *int64_str(PyObject *self) { return PyNumber_ToBase(self, 10); }
+
+static PyObject *int64_repr(PyObject *self) {
+    PyObject *digits = int64_str(self), *text = digits == NULL ? NULL : PyUnicode_FromFormat("Int64(%U)", digits);
+    Py_XDECREF(digits);
+    return text;
+}
+
+static PyObject *int64_reduce(PyObject *self, PyObject *unused) {
+    PyObject *number = PyNumber_Long(self);
+    (void)unused;
+    return number == NULL ? NULL : Py_BuildValue("O(N)", (PyObject *)classes.int64, number);
+}
+
+static PyMethodDef int64_methods[] = {{"__reduce__", int64_reduce, METH_NOARGS, NULL}, {NULL, NULL, 0, NULL}};
+static PyType_Slot int64_slots[] = {{Py_tp_alloc, int64_alloc},     {Py_tp_dealloc, int64_dealloc},
+                                    {Py_tp_str, int64_str},         {Py_tp_repr, int64_repr},
+                                    {Py_tp_methods, int64_methods}, {Py_tp_doc, "An int that is stored in 64 bits, whatever its size."},
+                                    {0, NULL}};
+static PyType_Spec int64_spec = {"bsonraw.Int64", 0, 0, Py_TPFLAGS_DEFAULT | Py_TPFLAGS_BASETYPE, int64_slots};
+
+static PyTypeObject *int64_class(void) {
+    PyObject *bases = size_of("__basicsize__", &int_size) < 0 || size_of("__itemsize__", &digit_size) < 0
+                          ? NULL
+                          : PyTuple_Pack(1, (PyObject *)&PyLong_Type);
+    PyTypeObject *type = bases == NULL ? NULL : (PyTypeObject *)PyType_FromSpecWithBases(&int64_spec, bases);
+    Py_XDECREF(bases);
+    return type;
+}
+
+static int add_class(PyObject *module, const char *name, PyTypeObject *type) {
+    if (type == NULL) return -1;
+    Py_INCREF((PyObject *)type);
+    return PyModule_AddObject(module, name, (PyObject *)type);
+}
+
 int classes_add(PyObject *module) {
     raw_type = (PyTypeObject *)PyType_FromSpec(&raw_spec);
     pair_type = (PyTypeObject *)PyType_FromSpec(&pair_spec);
-    if (raw_type == NULL || pair_type == NULL) return -1;
-    Py_INCREF((PyObject *)raw_type);
-    if (PyModule_AddObject(module, "Raw", (PyObject *)raw_type) < 0) return -1;
-    Py_INCREF((PyObject *)pair_type);
-    return PyModule_AddObject(module, "Pair", (PyObject *)pair_type);
+    classes.int64 = int64_class();
+    return add_class(module, "Raw", raw_type) < 0 || add_class(module, "Pair", pair_type) < 0 ? -1
+                                                                                                : add_class(module, "Int64", classes.int64);
 }
 
 /* ---- what the package hands in ---- */
@@ -175,7 +238,6 @@ static const struct named names[] = {
     {"Binary", &classes.binary, &pair_type},
     {"Code", &classes.code, &pair_type},
     {"DBPointer", &classes.db_pointer, &pair_type},
-    {"Int64", &classes.int64, BASE(int_type)},
     {"DatetimeMS", &classes.datetime_ms, BASE(int_type)},
     {"Symbol", &classes.symbol, BASE(str_type)},
     {"Pairs", &classes.pairs, BASE(list_type)},

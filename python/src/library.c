@@ -9,13 +9,9 @@ static void clear(struct bsonraw_report *report, size_t len) {
     report->key_at = len;
 }
 
-/* Whether a document of so many bytes may have more levels: the first has five bytes at least, each further one seven more. */
-static int may_be_deeper(size_t len, size_t max_depth) { return (len + 2) / 7 > max_depth; }
-
 /* ---- all levels ---- */
 
 #define ENTRIES 16
-#define FEW 1000 /* levels for which half a megabyte of stack may be taken */
 
 /* A level that is being read: its elements come by the batch. */
 struct level {
@@ -170,14 +166,11 @@ static int32_t read_all(struct reading *reading, size_t max_depth, struct bsonra
     return status;
 }
 
-int32_t whole_flatten(const uint8_t *bytes, size_t len, size_t max_bytes, size_t max_depth, struct bsonraw_token *tokens,
-                      size_t room, struct bsonraw_report *report, uint64_t *path, size_t path_room) {
+int32_t deep_flatten(const uint8_t *bytes, size_t len, size_t max_bytes, size_t max_depth, struct bsonraw_token *tokens,
+                     size_t room, struct bsonraw_report *report, uint64_t *path, size_t path_room) {
     struct reading reading = {bytes, len, NULL, 0, 0};
     struct bsonraw_iter iter;
-    int32_t status;
-    if (max_depth <= FEW || !may_be_deeper(len, FEW))
-        return bsonraw_flatten(bytes, len, max_bytes, max_depth, tokens, room, report, path, path_room);
-    status = bsonraw_iter_init(&iter, bytes, len);
+    int32_t status = bsonraw_iter_init(&iter, bytes, len);
     clear(report, len);
     report->error = iter.error;
     if (status != BSONRAW_OK) return status;

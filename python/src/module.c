@@ -27,20 +27,6 @@ static int call_begin(struct call *call, const char *name, PyObject *const *args
     return bytes_open(&call->bytes, args[0]);
 }
 
-static PyObject *py_decode(PyObject *module, PyObject *const *args, Py_ssize_t count, PyObject *names) {
-    struct options options;
-    struct bytes bytes;
-    PyObject *object = NULL;
-    (void)module;
-    if (options_read(&options, "decode", DECODE_OPTIONS, args, count, names) < 0) return NULL;
-    if (bytes_open(&bytes, args[0]) == 0) {
-        object = decoded(&bytes, &options, 0);
-        bytes_close(&bytes);
-    }
-    Py_XDECREF(options.types);
-    return object;
-}
-
 static PyObject *py_check(PyObject *module, PyObject *const *args, Py_ssize_t count, PyObject *names) {
     struct call call;
     struct told *told = &call.told;

@@ -25,8 +25,12 @@ PyTypeObject *type_not_called(PyType_Spec *spec);
 
 #ifdef __GNUC__
 #define IN_LINES __attribute__((aligned(64))) /* of an array: each of its 64 bytes are one line of the processor's cache */
+#define INLINE static inline __attribute__((always_inline))
+#define NOT_INLINE static __attribute__((noinline))
 #else
 #define IN_LINES
+#define INLINE static inline
+#define NOT_INLINE static
 #endif
 
 #define LET_GO_OVER 65536 /* a call over more bytes lets go of the interpreter's lock, where nobody can write them */
@@ -41,9 +45,22 @@ struct bytes {
     Py_buffer view;
 };
 
+int bytes_open_view(struct bytes *bytes, PyObject *data);
+
 /* 0, or -1 with an error set. Each opened one has to be closed. */
-int bytes_open(struct bytes *bytes, PyObject *data);
-void bytes_close(struct bytes *bytes);
+static inline int bytes_open(struct bytes *bytes, PyObject *data) {
+    if (!PyBytes_CheckExact(data)) return bytes_open_view(bytes, data);
+    bytes->at = (const uint8_t *)PyBytes_AsString(data);
+    bytes->len = (size_t)PyBytes_Size(data);
+    bytes->is_fixed = 1;
+    bytes->has_view = 0;
+    return 0;
+}
+
+static inline void bytes_close(struct bytes *bytes) {
+    if (bytes->has_view) PyBuffer_Release(&bytes->view);
+    bytes->has_view = 0;
+}
 
 /* Whether a call over these bytes lets go of the lock. */
 #define LETS_GO(bytes) ((bytes)->len > LET_GO_OVER && (bytes)->is_fixed)
@@ -170,17 +187,32 @@ void tokens_free(struct tokens *tokens);
 
 PyObject *key_of(const uint8_t *at, size_t len);
 PyObject *decoded(const struct bytes *bytes, const struct options *options, uint64_t before);
+PyObject *py_decode(PyObject *module, PyObject *const *args, Py_ssize_t count, PyObject *names);
 /* The value of one element of any kind. */
 PyObject *value_at(const struct bytes *bytes, const struct bsonraw_iter *iter);
 
 /* ---- options.c ---- */
 
+#define MAX_BYTES 16777216
+#define MAX_DEPTH 500
+
 extern const char *const DECODE_OPTIONS[];
 extern const char *const LIMITS[];
 extern const char *const OF_A_PART[];
 extern const char *const DEPTH[];
-int options_read(struct options *options, const char *call, const char *const *names, PyObject *const *args, Py_ssize_t count,
-                 PyObject *names_given);
+int options_given(struct options *options, const char *call, const char *const *names, PyObject *const *args, Py_ssize_t count,
+                  PyObject *names_given);
+
+/* The options of a call of one positional argument: 0, or -1 with an error set. */
+static inline int options_read(struct options *options, const char *call, const char *const *names, PyObject *const *args,
+                               Py_ssize_t count, PyObject *names_given) {
+    options->max_bytes = MAX_BYTES;
+    options->max_depth = MAX_DEPTH;
+    options->before = 0;
+    options->is_pairs = 0;
+    options->types = NULL;
+    return count == 1 && names_given == NULL ? 0 : options_given(options, call, names, args, count, names_given);
+}
 
 /* ---- element.c, dumps.c, encode.c, forms.c ---- */
 

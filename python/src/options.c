@@ -1,9 +1,6 @@
 /* Arguments by keyword. */
 #include "native.h"
 
-#define MAX_BYTES 16777216
-#define MAX_DEPTH 500
-
 static int limit_of(PyObject *given, const char *name, size_t *limit) {
     PyObject *number = PyNumber_Index(given);
     if (number == NULL) return -1;
@@ -42,14 +39,9 @@ const char *const LIMITS[] = {"max_bytes", "max_depth", NULL};
 const char *const OF_A_PART[] = {"before", "max_bytes", "max_depth", NULL};
 const char *const DEPTH[] = {"max_depth", NULL};
 
-int options_read(struct options *options, const char *call, const char *const *names, PyObject *const *args, Py_ssize_t count,
-                 PyObject *names_given) {
+int options_given(struct options *options, const char *call, const char *const *names, PyObject *const *args, Py_ssize_t count,
+                  PyObject *names_given) {
     Py_ssize_t number, given = names_given == NULL ? 0 : PyTuple_Size(names_given);
-    options->max_bytes = MAX_BYTES;
-    options->max_depth = MAX_DEPTH;
-    options->before = 0;
-    options->is_pairs = 0;
-    options->types = NULL;
     if (count != 1) {
         PyErr_Format(PyExc_TypeError, "%s() takes 1 positional argument, and %zd were given", call, count);
         return -1;

@@ -21,19 +21,22 @@ void tokens_free(struct tokens *tokens) {
     tokens->room = 0;
 }
 
-static void flatten(struct tokens *tokens, const struct bytes *bytes, struct told *told) {
-    if (!LETS_GO(bytes)) {
-        told->status = whole_flatten(bytes->at, bytes->len, told->max_bytes, told->max_depth, tokens->at, tokens->room,
-                                       &told->report, told->path, PATH_ROOM);
-        return;
-    }
+static inline int32_t flatten(const struct tokens *tokens, const struct bytes *bytes, struct told *told) {
+    return whole_flatten(bytes->at, bytes->len, told->max_bytes, told->max_depth, tokens->at, tokens->room, &told->report,
+                         told->path, PATH_ROOM);
+}
+
+/* Without the interpreter's lock. */
+NOT_INLINE int32_t flatten_alone(const struct tokens *tokens, const struct bytes *bytes, struct told *told) {
+    int32_t status;
     Py_BEGIN_ALLOW_THREADS
-    told->status = whole_flatten(bytes->at, bytes->len, told->max_bytes, told->max_depth, tokens->at, tokens->room,
-                                   &told->report, told->path, PATH_ROOM);
+    status = flatten(tokens, bytes, told);
     Py_END_ALLOW_THREADS
+    return status;
 }
 
 int tokens_read(struct tokens *tokens, const struct bytes *bytes, const struct options *options, uint64_t before) {
+    size_t wanted = bytes->len / 8 + 64;
     struct told told;
     *tokens = kept;
     kept.at = NULL;
@@ -41,12 +44,11 @@ int tokens_read(struct tokens *tokens, const struct bytes *bytes, const struct o
     told.max_bytes = options->max_bytes;
     told.max_depth = options->max_depth;
     told.before = before;
-    if (tokens->room < bytes->len / 8 + 64 && bytes->len <= told.max_bytes)
-        if (make_room(tokens, bytes->len / 8 + 64) < 0) return -1;
-    flatten(tokens, bytes, &told);
+    if (tokens->room < wanted && bytes->len <= told.max_bytes && make_room(tokens, wanted) < 0) return -1;
+    told.status = LETS_GO(bytes) ? flatten_alone(tokens, bytes, &told) : flatten(tokens, bytes, &told);
     if (told.status == BSONRAW_SMALL_BUFFER) {
         if (make_room(tokens, (size_t)told.report.count) < 0) return -1;
-        flatten(tokens, bytes, &told);
+        told.status = LETS_GO(bytes) ? flatten_alone(tokens, bytes, &told) : flatten(tokens, bytes, &told);
     }
     if (told.status != BSONRAW_OK) {
         set_error_of(bytes, &told);

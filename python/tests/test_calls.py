@@ -15,7 +15,7 @@ import unittest
 from typing import Any, List
 
 import bsonraw
-from bsonraw import Breach, BsonError, Cause, ElementType, ErrorKind, Reason
+from bsonraw import Breach, BsonError, Cause, ElementType, ErrorKind, Int64, Reason
 from lines import check_line, list_lines
 from made import Maker, all_made, framed
 
@@ -351,6 +351,14 @@ class Hostile(unittest.TestCase):
             gc.callbacks.remove(meddle)
             gc.set_threshold(*before)
         self.assertGreater(len(seen), 10)
+
+    def test_what_the_collector_shows_stays_as_it_is(self) -> None:
+        """Whatever an earlier call has left is others' once they have it."""
+        for number in range(3):
+            data = bsonraw.encode({"a": Int64(number), "b": Int64(1 << 62)})
+            shown = [(one, list(one)) for one in gc.get_objects() if type(one) is tuple]
+            self.assertEqual(bsonraw.decode(data), {"a": number, "b": 1 << 62})
+            self.assertEqual([one for one, before in shown if list(one) != before], [])
 
     def test_fork(self) -> None:
         child = os.fork()

@@ -218,6 +218,15 @@ class Classes(unittest.TestCase):
         own.note = [own]
         self.assertEqual(bsonraw.encode({"k": own}), of(7, bytes(ID)))
 
+        class Wide(Int64):
+            pass
+
+        for number in (0, 5, -1, 1 << 62, -(1 << 63)):
+            wide = Wide(number)
+            wide.note = [wide]
+            self.assertEqual((wide, hash(wide), str(wide), repr(wide)), (number, hash(number), str(number), f"Int64({number})"))
+            self.assertEqual(bsonraw.encode({"k": wide}), of(18, struct.pack("<q", number)))
+
 
 if __name__ == "__main__":
     unittest.main()
