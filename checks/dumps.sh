@@ -235,6 +235,58 @@ status=$?
 [ "$status" = 0 ] && [ "$(wc -l <out)" = 2000000 ] || { echo "dumps.sh: a million documents, listed" >&2 && failed=1; }
 : >out
 
+# -- --json
+
+wants '{"file":"breaches.bson","offset":0,"finding":"repeated-key","path":[1],"keys":["a"],"byte":11}
+{"file":"breaches.bson","offset":19,"finding":"repeated-key","path":[0,1],"keys":["d","c"],"byte":18}
+{"file":"breaches.bson","offset":46,"finding":"array-key","path":[0,0],"keys":["a","x"],"byte":11}
+{"file":"breaches.bson","offset":65,"finding":"options","path":[0],"keys":["r"],"byte":4}
+{"file":"few.bson","offset":0,"finding":"repeated-key","path":[1],"keys":["a"],"byte":11}
+{"file":"few.bson","offset":19,"finding":"damaged","path":[0],"keys":["a"],"byte":4,"reason":"a boolean is neither 0 nor 1"}
+{"file":"few.bson","offset":28,"finding":"damaged","path":[0],"keys":[null],"byte":4,"reason":"a value is longer than what is left"}
+{"file":"few.bson","offset":34,"finding":"damaged","path":[0],"keys":[null],"byte":4,"reason":"no kind has this tag"}
+{"file":"few.bson","offset":42,"finding":"damaged","reason":"no final 0"}
+{"file":"few.bson","offset":47,"finding":"damaged","path":[2],"keys":["b"],"byte":18,"reason":"a boolean is neither 0 nor 1"}
+{"documents":10,"bytes":148,"not canonical":5,"damaged":5}
+'
+run 'breaches and damage as JSON' 1 check --json breaches.bson few.bson
+wants '{"file":"cut.bson","offset":12,"finding":"cut off","bytes":6}
+{"file":"cut3","offset":0,"finding":"cut off","bytes":3}
+{"file":"under.bson","offset":0,"finding":"repeated-key","path":[1],"keys":["a"],"byte":11}
+{"file":"under.bson","offset":19,"finding":"unsound length"}
+{"documents":2,"bytes":31,"not canonical":1,"damaged":0}
+' '{"file":"missing","error":"No such file or directory (os error 2)"}
+'
+run 'what ends files, as JSON' 3 check --json cut.bson cut3 missing under.bson
+wants '{"file":"two\n\"lines\"","offset":0,"finding":"damaged","path":[0],"keys":["\n\"\\"],"byte":4,"reason":"a boolean is neither 0 nor 1"}
+{"documents":1,"bytes":11,"not canonical":0,"damaged":1}
+'
+cp key 'two
+"lines"'
+run 'names and keys as JSON' 1 check --json 'two
+"lines"'
+wants '' '{"file":"mixed.bson","offset":31,"finding":"damaged","path":[0],"keys":["a"],"byte":4,"reason":"a boolean is neither 0 nor 1"}
+{"file":"mixed.bson","offset":67,"finding":"damaged","reason":"no final 0"}
+'
+cat mixed.sound >wanted.out
+run 'sound documents, damage as JSON' 1 sound --json mixed.bson
+wants '' '{"file":"standard output","error":"No space left on device (os error 28)"}
+'
+: >out
+"$program" check --json mixed.bson >/dev/full 2>err
+status=$?
+tried 'check --json on a full device' 5
+wants '' '{"file":"nowhere/output","error":"No such file or directory (os error 2)"}
+'
+run 'a folder that is missing, as JSON' 5 canon --json -o nowhere/output sound.bson
+"$program" check --json breaches.bson damage.bson cut.bson under.bson 'two
+"lines"' levels501 | python3 -c '
+import json, sys
+lines = [json.loads(line) for line in sys.stdin]
+assert len(lines) == 17, len(lines)
+assert all(len(line["path"]) == len(line["keys"]) for line in lines if "path" in line)
+' || { echo "dumps.sh: a line of check --json isn't read as JSON" >&2 && failed=1; }
+
 # -- files that can't be read, and their names
 
 wants 'documents: 3, bytes: 29, not canonical: 0, damaged: 0
@@ -407,7 +459,7 @@ END
 wants "bsonraw-dump $(cat "$root/VERSION")
 "
 run 'the version' 0 --version
-for words in '' 'lost' 'check --lost' 'check -o output'; do
+for words in '' 'lost' 'check --lost' 'check -o output' 'list --json'; do
     # shellcheck disable=SC2086 # words
     "$program" $words >out 2>err </dev/null
     status=$?

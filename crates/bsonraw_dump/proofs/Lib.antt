@@ -4,3 +4,4 @@ mod Digesting
 mod Writing
 mod Listed
 mod Passing
+mod Objects

@@ -1,6 +1,6 @@
--- What is found in the bytes of one document, and in which words.
-use Rattle.std.specs.Prelude.{◌≡◌, ◌⊎◌, ℕ, List, [], ◌++◌, Option, None, Some, codes, decimal, flat_map}
-use Rattle.json.specs.Print.{quoted}
+-- What is found in the bytes of one document, and what is told of it.
+use Rattle.std.specs.Prelude.{◌≡◌, ◌⊎◌, ℕ, List, [], Option, None, Some, codes, map}
+use Rattle.std.specs.Option.{option_copied, option_map}
 use Rattle.bson_model.specs.Tree.{Tree}
 use Rattle.raw_view.specs.Envelope.{IsEnvelope, Refuses}
 use Rattle.raw_view.specs.Errors.{IsReadingKind}
@@ -13,29 +13,38 @@ use Rattle.raw_tree.specs.Breaches.{cause_text}
 use Rattle.raw_tree.specs.declared.breach.Cause.{Cause}
 use Rattle.raw_tree.specs.WithinLimits.{Barrier, too_many_bytes, too_deep, fault_of, ReadsWithin}
 use Rattle.raw_tree.specs.declared.limits.Limits.{Limits}
+use Rattle.raw_form.specs.Barriers.{steps_of}
 use Rattle.raw_form.specs.Places.{Step, FirstBarrierAt}
+use Rattle.raw_form.specs.declared.place.Place.{Place}
 use Rattle.raw_form.specs.Verdicts.{Verdict, breach_of, FirstVerdict, IsCanonicalWithin}
 use Rattle.raw_form.specs.Verdicts as verdict
 use Rattle.bsonraw_dump.specs.Cut.{most}
 use Rattle.bsonraw_dump.specs.declared.find.Finding.{Finding}
 use Rattle.bsonraw_dump.specs.declared.find.Finding.TheVariants as finding
+use Rattle.bsonraw_dump.specs.declared.find.Told.{Told}
 
 -- the limits within which a document is read
 abbrev pub limits : Limits
 limits = record { bytes = most; depth = 500 }
 
--- a key behind a colon, in quotes, where there is one
-abbrev pub key_text : Option (List ℕ) → List ℕ
-key_text None = []
-key_text (Some key) = codes ":" ++ quoted key
+-- where something is: the path from the outermost level on, and the offset in the document
+pub record Spot : Type 0 where
+  pub path : List Step
+  pub offset : ℕ
 
--- a step of a path: the number of an element, and its key
-abbrev pub step_text : Step → List ℕ
-step_text step = codes "/" ++ decimal step.number ++ key_text step.key
+-- what is told of a document that isn't canonical: a word or two; where, if there is an envelope; and of damage its reason
+pub record Account : Type 0 where
+  pub word : List ℕ
+  pub spot : Option Spot
+  pub reason : Option (List ℕ)
 
--- a place: the path from the outermost level on, and the offset in the document
-abbrev pub place_text : List Step → ℕ → List ℕ
-place_text path offset = codes " at " ++ flat_map step_text path ++ codes ", byte " ++ decimal offset
+-- words of something at a place
+abbrev pub account_at : List ℕ → Spot → Account
+account_at word spot = record { word = word; spot = Some spot; reason = None }
+
+-- damage, where it is if that is known, and its reason
+abbrev pub account_of_damage : Option Spot → List ℕ → Account
+account_of_damage spot why = record { word = codes "damaged"; spot = spot; reason = Some why }
 
 -- the reason of a fault
 abbrev pub reason_text : Reason → List ℕ
@@ -67,11 +76,11 @@ kind_text (kind.MalformedValue why) = reason_text why
 kind_text (kind.Utf8EncodingError why) = codes "a text isn't UTF-8"
 kind_text kind.OutOfMemory = []
 
--- what ends the reading of a document, at a place with this text; a fault for a reason that reading has
-abbrev pub SaysBarrier : Barrier → List ℕ → List ℕ → Type 0
-SaysBarrier too_many_bytes place text = text ≡ codes "too long" ++ place
-SaysBarrier too_deep place text = text ≡ codes "too deep" ++ place
-SaysBarrier (fault_of fault) place text = (why : ErrorKind) × SaysFault why fault.fault × IsReadingKind why × (text ≡ codes "damaged" ++ place ++ codes ": " ++ kind_text why)
+-- what is told of what ends the reading of a document at a place; of a fault for a reason that reading has
+abbrev pub SaysBarrier : Barrier → Spot → Account → Type 0
+SaysBarrier too_many_bytes spot told = told ≡ account_at (codes "too long") spot
+SaysBarrier too_deep spot told = told ≡ account_at (codes "too deep") spot
+SaysBarrier (fault_of fault) spot told = (why : ErrorKind) × SaysFault why fault.fault × IsReadingKind why × (told ≡ account_of_damage (Some spot) (kind_text why))
 
 -- why a document isn't canonical, in a word
 abbrev pub verdict_word : Verdict → List ℕ
@@ -83,13 +92,22 @@ abbrev pub verdict_of : Option Cause → Verdict
 verdict_of None = verdict.too_deep
 verdict_of (Some why) = breach_of why
 
--- What is found in a piece b of an input, and the text of it: that it is canonical; that it is read as a tree within the
--- limits, and where it is first not canonical; that something ends its reading, and where; or why it has no envelope.
-abbrev pub Finds : List ℕ → Finding → List ℕ → Type 0
-Finds b finding.Canonical text = IsEnvelope b × IsCanonicalWithin limits b × (text ≡ [])
-Finds b finding.Breached text =
+-- What is found in a piece b of an input, and what is told of it: nothing where it is canonical; where it is read as a tree
+-- within the limits, where it is first not canonical; where something ends its reading, what and where; or why it has no
+-- envelope.
+abbrev pub Finds : List ℕ → Finding → Option Account → Type 0
+Finds b finding.Canonical told = IsEnvelope b × IsCanonicalWithin limits b × (told ≡ None)
+Finds b finding.Breached told =
     IsEnvelope b × ((t : Tree) × ReadsWithin limits b t)
-    × ((x : Verdict) × (path : List Step) × (offset : ℕ) × FirstVerdict limits b x path offset × (text ≡ verdict_word x ++ place_text path offset))
-Finds b finding.Damaged text =
-    (IsEnvelope b × ((x : Barrier) × (path : List Step) × (offset : ℕ) × FirstBarrierAt limits b x path offset × SaysBarrier x (place_text path offset) text))
-    ⊎ ((why : Reason) × Refuses b why × (text ≡ codes "damaged: " ++ reason_text why))
+    × ((x : Verdict) × (spot : Spot) × FirstVerdict limits b x spot.path spot.offset × (told ≡ Some (account_at (verdict_word x) spot)))
+Finds b finding.Damaged told =
+    (IsEnvelope b × ((x : Barrier) × (spot : Spot) × (account : Account) × FirstBarrierAt limits b x spot.path spot.offset × SaysBarrier x spot account × (told ≡ Some account)))
+    ⊎ ((why : Reason) × Refuses b why × (told ≡ Some (account_of_damage None (reason_text why))))
+
+-- what a place shows
+abbrev pub spot_of : Place → Spot
+spot_of place = record { path = steps_of place; offset = place.offset }
+
+-- what is told by the code
+abbrev pub account_of : Told → Account
+account_of told = record { word = told.word.now; spot = option_map spot_of told.place; reason = option_copied told.reason }

@@ -1,6 +1,7 @@
 pub mod Cut
 pub mod Reading
 pub mod Find
+pub mod Told
 pub mod Values
 pub mod Listing
 pub mod Unique

@@ -1,12 +1,12 @@
 -- What a run over an input reads, writes and counts.
-use Rattle.std.specs.Prelude.{◌≡◌, ℕ, ◌+◌, List, [], ◌∷◌, ◌++◌, Option, codes, decimal, flat_map, fold, length}
+use Rattle.std.specs.Prelude.{◌≡◌, ℕ, ◌+◌, List, [], ◌∷◌, ◌++◌, Option, None, Some, codes, decimal, flat_map, fold, length}
 use Rattle.std.specs.Io.KnownBytes.{Appends, Consumes}
-use Rattle.json.specs.Print.{quoted}
 use Rattle.raw_tree.specs.CanonicalForm.{IsCanonicalForm}
 use Rattle.bsonraw_dump.specs.Cut.{IsPiece, EndsWith}
 use Rattle.bsonraw_dump.specs.Reading.{IsReadBehind, ReadsSome}
-use Rattle.bsonraw_dump.specs.Find.{Finds}
+use Rattle.bsonraw_dump.specs.Find.{Account, Finds}
 use Rattle.bsonraw_dump.specs.Listing.{ListsDocument}
+use Rattle.bsonraw_dump.specs.Told.{ending_line, line, report_line, words_of}
 use Rattle.bsonraw_dump.specs.Unique.{knows, written_of, known_behind}
 use Rattle.bsonraw_dump.specs.declared.failure.Failure.{Failure}
 use Rattle.bsonraw_dump.specs.declared.failure.Failure.TheVariants as failure
@@ -15,25 +15,26 @@ use Rattle.bsonraw_dump.specs.declared.command.Command.TheVariants as command
 use Rattle.bsonraw_dump.specs.declared.counts.Counts.{Counts}
 use Rattle.bsonraw_dump.specs.declared.digests.Digests.{Digests}
 use Rattle.bsonraw_dump.specs.declared.ending.Ending.{Ending}
-use Rattle.bsonraw_dump.specs.declared.ending.Ending.TheVariants as ending
 use Rattle.bsonraw_dump.specs.declared.find.Finding.{Finding}
 use Rattle.bsonraw_dump.specs.declared.find.Finding.TheVariants as finding
+use Rattle.bsonraw_dump.specs.declared.style.Style.{Style}
 
--- a line: the name of the input, the offset in it, and a text
-abbrev pub line : List ℕ → ℕ → List ℕ → List ℕ
-line name offset text = quoted name ++ codes ":" ++ decimal offset ++ codes ": " ++ text ++ codes "\n"
+-- how many bytes a piece has, and behind that what is told of it
+abbrev pub head_text : List ℕ → Option Account → List ℕ
+head_text b None = decimal (length b) ++ codes " bytes"
+head_text b (Some told) = decimal (length b) ++ codes " bytes" ++ codes ": " ++ words_of told
 
--- how many bytes a piece has, and behind that what is found in it, if there are words for it
-abbrev pub head_text : List ℕ → List ℕ → List ℕ
-head_text b [] = decimal (length b) ++ codes " bytes"
-head_text b (c ∷ text) = decimal (length b) ++ codes " bytes" ++ codes ": " ++ (c ∷ text)
+-- the line of a piece of which this is told; none of nothing
+abbrev pub told_line : Style → List ℕ → ℕ → Option Account → List ℕ
+told_line style name offset None = []
+told_line style name offset (Some told) = report_line style name offset told
 
--- a piece of an input, what is found in it and in which words, the document that is made of it, if there is one, and what is
--- reported of it
+-- a piece of an input, what is found in it and what is told of that, the document that is made of it, if there is one, and what
+-- is reported of it
 pub record Entry : Type 0 where
   pub bytes : List ℕ
   pub finding : Finding
-  pub text : List ℕ
+  pub told : Option Account
   pub made : List (List ℕ)
   pub lines : List ℕ
 
@@ -55,23 +56,23 @@ Makes command.Unique b found made = MakesForm b found made
 
 -- what a command reports of a piece b at this offset, in which this is found: list its length, what is found and its elements;
 -- check what isn't canonical; the others damage
-abbrev pub Reports : Command → List ℕ → ℕ → List ℕ → Finding → List ℕ → List ℕ → Type 0
-Reports command.List name offset b found text lines = (listing : List ℕ) × ListsDocument b listing × (lines ≡ line name offset (head_text b text) ++ listing)
-Reports c name offset b finding.Damaged text lines = lines ≡ line name offset text
-Reports command.Check name offset b finding.Breached text lines = lines ≡ line name offset text
-Reports c name offset b found text lines = lines ≡ []
+abbrev pub Reports : Command → Style → List ℕ → ℕ → List ℕ → Finding → Option Account → List ℕ → Type 0
+Reports command.List style name offset b found told lines = (listing : List ℕ) × ListsDocument b listing × (lines ≡ line name offset (head_text b told) ++ listing)
+Reports c style name offset b finding.Damaged told lines = lines ≡ told_line style name offset told
+Reports command.Check style name offset b finding.Breached told lines = lines ≡ told_line style name offset told
+Reports c style name offset b found told lines = lines ≡ []
 
 -- what is so of a piece at this offset
-pub record IsEntry (c : Command) (name : List ℕ) (offset : ℕ) (e : Entry) : Type 0 where
+pub record IsEntry (c : Command) (style : Style) (name : List ℕ) (offset : ℕ) (e : Entry) : Type 0 where
   pub piece : IsPiece e.bytes
-  pub found : Finds e.bytes e.finding e.text
+  pub found : Finds e.bytes e.finding e.told
   pub makes : Makes c e.bytes e.finding e.made
-  pub reports : Reports c name offset e.bytes e.finding e.text e.lines
+  pub reports : Reports c style name offset e.bytes e.finding e.told e.lines
 
 -- pieces one behind the other, the first of which begins at this offset of the input
-abbrev pub AreEntries : Command → List ℕ → ℕ → List Entry → Type 0
-AreEntries c name offset [] = Unit {0}
-AreEntries c name offset (e ∷ es) = IsEntry c name offset e × AreEntries c name (offset + length e.bytes) es
+abbrev pub AreEntries : Command → Style → List ℕ → ℕ → List Entry → Type 0
+AreEntries c style name offset [] = Unit {0}
+AreEntries c style name offset (e ∷ es) = IsEntry c style name offset e × AreEntries c style name (offset + length e.bytes) es
 
 -- these documents are written, or of unique those that are new, and their digests are known then
 pub record Writes (c : Command) (made : List (List ℕ)) (out_old out_new : Option (List ℕ)) (digests_old digests_new : Digests) : Type 0 where
@@ -83,9 +84,9 @@ abbrev pub Emits : Command → List ℕ → Finding → (out_old out_new : Optio
 Emits c b found out_old out_new digests_old digests_new = (made : List (List ℕ)) × Makes c b found made × Writes c made out_old out_new digests_old digests_new
 
 -- a piece at this offset is passed: what is written of it, and what is reported
-abbrev pub PassesOne : Command → List ℕ → ℕ → List ℕ → (out_old out_new report_old report_new : Option (List ℕ)) → (digests_old digests_new : Digests) → Finding → Type 0
-PassesOne c name offset b out_old out_new report_old report_new digests_old digests_new found =
-    (text : List ℕ) × Finds b found text × Emits c b found out_old out_new digests_old digests_new × ((lines : List ℕ) × Reports c name offset b found text lines × Appends report_old report_new lines)
+abbrev pub PassesOne : Command → Style → List ℕ → ℕ → List ℕ → (out_old out_new report_old report_new : Option (List ℕ)) → (digests_old digests_new : Digests) → Finding → Type 0
+PassesOne c style name offset b out_old out_new report_old report_new digests_old digests_new found =
+    (told : Option Account) × Finds b found told × Emits c b found out_old out_new digests_old digests_new × ((lines : List ℕ) × Reports c style name offset b found told lines × Appends report_old report_new lines)
 
 abbrev pub bytes_of_entries : List Entry → List ℕ
 bytes_of_entries es = flat_map (λ e. e.bytes) es
@@ -108,46 +109,34 @@ count_entry n e = count_finding e.finding (record n { documents = n.documents + 
 
 -- These pieces were read, and of them this was written and counted, and nothing else. Known bytes are those of a reader and
 -- two writers.
-pub record Passed (c : Command) (name : List ℕ) (read_old read_new out_old out_new report_old report_new : Option (List ℕ)) (counts_old counts_new : Counts) (digests_old digests_new : Digests) (es : List Entry) : Type 0 where
-  pub entries : AreEntries c name 0 es
+pub record Passed (c : Command) (style : Style) (name : List ℕ) (read_old read_new out_old out_new report_old report_new : Option (List ℕ)) (counts_old counts_new : Counts) (digests_old digests_new : Digests) (es : List Entry) : Type 0 where
+  pub entries : AreEntries c style name 0 es
   pub is_read : Consumes read_old read_new (bytes_of_entries es)
   pub is_written : Writes c (made_of_entries es) out_old out_new digests_old digests_new
   pub is_reported : Appends report_old report_new (lines_of_entries es)
   pub is_counted : counts_new ≡ fold count_entry counts_old es
 
--- the line of an input whose lengths are unsound
-abbrev pub ending_line : List ℕ → ℕ → Ending → List ℕ
-ending_line name offset ending.Whole = []
-ending_line name offset (ending.CutOff count) = line name offset (codes "cut off: only " ++ decimal count ++ codes " bytes of a document")
-ending_line name offset ending.Unsound = line name offset (codes "unsound length")
-
 -- How a run ends: pieces were passed; then this was left to be read, of which no piece is made, and its line was written.
 -- What was known of the reader and the report between the two is a part of it.
-pub record Ends (c : Command) (name : List ℕ) (read_old read_new out_old out_new report_old report_new : Option (List ℕ)) (counts_old counts_new : Counts) (digests_old digests_new : Digests) (ending : Ending) : Type 0 where
+pub record Ends (c : Command) (style : Style) (name : List ℕ) (read_old read_new out_old out_new report_old report_new : Option (List ℕ)) (counts_old counts_new : Counts) (digests_old digests_new : Digests) (ending : Ending) : Type 0 where
   pub es : List Entry
   pub read_between : Option (List ℕ)
   pub report_between : Option (List ℕ)
-  pub passed : Passed c name read_old read_between out_old out_new report_old report_between counts_old counts_new digests_old digests_new es
+  pub passed : Passed c style name read_old read_between out_old out_new report_old report_between counts_old counts_new digests_old digests_new es
   pub left : List ℕ
   pub ends : EndsWith ending left
   pub read_left : Consumes read_between read_new left
   pub read_behind : IsReadBehind ending read_new
-  pub told : Appends report_between report_new (ending_line name (length (bytes_of_entries es)) ending)
+  pub told : Appends report_between report_new (ending_line style name (length (bytes_of_entries es)) ending)
 
 -- Reading fails: pieces were passed, and some bytes behind them were read.
-pub record Stops (c : Command) (name : List ℕ) (read_old read_new out_old out_new report_old report_new : Option (List ℕ)) (counts_old counts_new : Counts) (digests_old digests_new : Digests) : Type 0 where
+pub record Stops (c : Command) (style : Style) (name : List ℕ) (read_old read_new out_old out_new report_old report_new : Option (List ℕ)) (counts_old counts_new : Counts) (digests_old digests_new : Digests) : Type 0 where
   pub es : List Entry
   pub read_between : Option (List ℕ)
-  pub passed : Passed c name read_old read_between out_old out_new report_old report_new counts_old counts_new digests_old digests_new es
+  pub passed : Passed c style name read_old read_between out_old out_new report_old report_new counts_old counts_new digests_old digests_new es
   pub read_some : ReadsSome read_between read_new
 
 -- nothing is said of what was written where there is no memory, or where writing fails
 abbrev pub IsReading : Failure → Type 0
 IsReading (failure.Reading e) = Unit {0}
 IsReading _ = ⊥
-
--- the line behind all that a check reports
-abbrev pub summary_line : Counts → List ℕ
-summary_line n =
-    codes "documents: " ++ decimal n.documents ++ codes ", bytes: " ++ decimal n.bytes ++ codes ", not canonical: " ++ decimal n.breached
-    ++ codes ", damaged: " ++ decimal n.damaged ++ codes "\n"

@@ -2,6 +2,7 @@
 #![tactic(auto)]
 
 use crate::command::Command;
+use crate::style::Style;
 use clap::{Arg, ArgAction, ArgMatches, Error};
 use std::alloc::Global;
 
@@ -10,6 +11,8 @@ use std::alloc::Global;
 pub struct Task<'a> {
     /// the command
     pub command: Command,
+    /// how what is found is printed
+    pub style: Style,
     /// the file that is written in place of standard output
     pub output: Option<&'a str>,
     /// what is read; nothing and `-` are standard input
@@ -32,24 +35,35 @@ fn output<'a>(alloc: Global) -> Arg<'a> {
         .action(ArgAction::Set)
 }
 
+fn json<'a>(alloc: Global) -> Arg<'a> {
+    Arg::new(alloc, "json")
+        .long("json")
+        .help("Prints what is found as objects of JSON, a line each")
+        .action(ArgAction::SetTrue)
+}
+
 /// The command line as a whole.
 pub fn command_line<'a>(alloc: Global) -> Result<clap::Command<'a>, Error> {
     let check = clap::Command::new(alloc, "check")
         .about("Names each document that isn't canonical, and counts")
+        .arg(json(alloc))?
         .arg(files(alloc))?;
     let list = clap::Command::new(alloc, "list")
         .about("Lists the elements of each document, at every level")
         .arg(files(alloc))?;
     let canon = clap::Command::new(alloc, "canon")
         .about("Writes the canonical form of each document without damage")
+        .arg(json(alloc))?
         .arg(output(alloc))?
         .arg(files(alloc))?;
     let sound = clap::Command::new(alloc, "sound")
         .about("Writes each document without damage, unchanged")
+        .arg(json(alloc))?
         .arg(output(alloc))?
         .arg(files(alloc))?;
     let unique = clap::Command::new(alloc, "unique")
         .about("Writes each canonical form once; takes 100 bytes of memory a form at most")
+        .arg(json(alloc))?
         .arg(output(alloc))?
         .arg(files(alloc))?;
     let line = clap::Command::new(alloc, "bsonraw-dump")
@@ -64,6 +78,14 @@ pub fn command_line<'a>(alloc: Global) -> Result<clap::Command<'a>, Error> {
     Ok(line)
 }
 
+fn style_of(matches: &ArgMatches<'_>) -> Style {
+    if matches.get_flag("json") {
+        Style::Json
+    } else {
+        Style::Words
+    }
+}
+
 /// The task of a command that was given.
 fn task_of<'a>(
     alloc: Global,
@@ -73,6 +95,10 @@ fn task_of<'a>(
     let output = match command {
         Command::Check | Command::List => None,
         Command::Canon | Command::Sound | Command::Unique => matches.get_str("output"),
+    };
+    let style = match command {
+        Command::List => Style::Words,
+        Command::Check | Command::Canon | Command::Sound | Command::Unique => style_of(matches),
     };
     let mut inputs = Vec::new(alloc);
     if let Some(names) = matches.get_strs("FILE") {
@@ -85,6 +111,7 @@ fn task_of<'a>(
     }
     Ok(Task {
         command,
+        style,
         output,
         inputs,
     })

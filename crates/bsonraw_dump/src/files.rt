@@ -10,6 +10,7 @@ use crate::failure::Failure;
 use crate::output::into_file;
 use crate::run::{put_summary, run};
 use crate::status::Status;
+use crate::style::Style;
 use crate::tell::{tell, tell_words};
 use crate::watch::Watched;
 use std::alloc::Global;
@@ -64,7 +65,7 @@ pub fn all(rt: &HostRuntime) -> Status {
             Err(_) => return Status::Memory,
         },
         Err(error) => {
-            tell(rt, "the arguments", &error);
+            tell(rt, Style::Words, "the arguments", &error);
             return Status::Usage;
         }
     };
@@ -94,7 +95,7 @@ fn start(rt: &HostRuntime, task: &Task<'_>) -> Status {
         return into_file(rt, task, name);
     }
     let Ok(mut out) = BufWriter::with_capacity(rt.alloc(), BLOCK, rt.stdout()) else {
-        tell_words(rt, "not enough memory");
+        tell_words(rt, task.style, "not enough memory");
         return Status::Memory;
     };
     match task.command {
@@ -112,7 +113,7 @@ fn start(rt: &HostRuntime, task: &Task<'_>) -> Status {
 fn told<W: Write>(rt: &HostRuntime, task: &Task<'_>, report: &mut W) -> Status {
     let mut totals = each(rt, task, &mut io::sink(), report);
     if totals.goes_on && matches!(task.command, Command::Check) {
-        if let Err(failure) = put_summary(rt.alloc(), &totals.counts, report) {
+        if let Err(failure) = put_summary(rt.alloc(), task.style, &totals.counts, report) {
             failed(rt, task, "-", failure, &mut totals);
         }
     }
@@ -169,7 +170,7 @@ fn one<D: Write, W: Write>(
             read(rt, task, name, reader, data, report, totals);
         }
         Err(error) => {
-            tell(rt, name, &error);
+            tell(rt, task.style, name, &error);
             totals.worsen(Status::Input);
         }
     }
@@ -190,6 +191,7 @@ fn read<R: Read + Drop, D: Write, W: Write>(
     match run(
         rt.alloc(),
         task.command,
+        task.style,
         name,
         &mut reader,
         data,
@@ -220,18 +222,19 @@ pub fn failed(
 ) {
     match failure {
         Failure::Memory => {
-            tell_words(rt, "not enough memory");
+            tell_words(rt, task.style, "not enough memory");
             totals.end(Status::Memory);
         }
         Failure::Reading(error) => {
-            tell(rt, name, &error);
+            tell(rt, task.style, name, &error);
             totals.worsen(Status::Input);
         }
         Failure::Writing(error) if error.kind() == ErrorKind::BrokenPipe => {
             totals.end(Status::Done);
         }
         Failure::Writing(error) => {
-            tell(rt, task.output.unwrap_or("standard output"), &error);
+            let output = task.output.unwrap_or("standard output");
+            tell(rt, task.style, output, &error);
             totals.end(Status::Output);
         }
     }

@@ -2,18 +2,19 @@
 #![tactic(auto)]
 
 ghost use Rattle.std.specs.Prelude.{◌≡◌, ◌≤◌, ℕ, List, IfOk, length};
+ghost use Rattle.std.specs.Option.{option_map};
 ghost use Rattle.raw_view.specs.Document.{bytes_of};
 ghost use Rattle.raw_view.specs.Envelope.{Refuses};
 ghost use Rattle.raw_view.specs.Errors.{IsMalformed};
-ghost use Rattle.raw_form.specs.Barriers.{steps_of};
+ghost use Rattle.raw_form.specs.Barriers.{IsBarrier, steps_of};
 ghost use Rattle.raw_form.specs.Verdicts.{FirstVerdict};
 ghost use Rattle.bsonraw_dump.specs.Cut.{most};
-ghost use Rattle.bsonraw_dump.specs.Find.{Finds, limits, verdict_of, verdict_word};
+ghost use Rattle.raw_tree.specs.WithinLimits as within;
+ghost use Rattle.bsonraw_dump.specs.Find.{account_of, Finds, limits, SaysBarrier, spot_of, verdict_of, verdict_word};
 
 use crate::input::MOST;
-use crate::reason::reason_words;
-use crate::text::{barrier_words, placed};
-use raw_form::{Place, ValidateError, first_fault_within, validate_within};
+use crate::reason::kind_words;
+use raw_form::{Barrier, BarrierKind, Place, ValidateError, first_fault_within, validate_within};
 use raw_tree::{Cause, Limits};
 use raw_view::{ErrorKind, RawDocument};
 use std::alloc::{AllocError, Global};
@@ -29,11 +30,24 @@ pub enum Finding {
     Damaged,
 }
 
-/// What is found in a document, and in which words.
+/// What is told of a document that isn't canonical.
 #[derive(Drop)]
-pub struct Found {
+pub struct Told<'a> {
+    /// what is found, in a word or two
+    pub word: &'static str,
+    /// where; `None` where the document has no envelope
+    pub place: Option<Place<'a>>,
+    /// why; `None` where it isn't a fault
+    pub reason: Option<&'static str>,
+}
+
+/// What is found in a document, and what is told of it.
+#[derive(Drop)]
+pub struct Found<'a> {
+    /// what is found
     pub finding: Finding,
-    pub words: Vec<u8>,
+    /// what is told of it; `None` where it is canonical
+    pub told: Option<Told<'a>>,
 }
 
 /// What a document may cost.
@@ -47,68 +61,90 @@ pub fn most_allowed() -> Limits
 }
 
 /// What is found in the bytes of a document.
-pub fn find(alloc: Global, bytes: &[u8]) -> Result<Found, AllocError>
+pub fn find(alloc: Global, bytes: &[u8]) -> Result<Found<'_>, AllocError>
     requires { length bytes.now ≤ most }
-    ensures { IfOk result (λ found. Finds bytes.now found.finding found.words.items) }
+    ensures { IfOk result
+        (λ found. Finds bytes.now found.finding (option_map account_of found.told)) }
 {
     match RawDocument::from_bytes(bytes) {
         Ok(document) => judge(alloc, document),
-        Err(error) => without_envelope(alloc, &error.kind),
+        Err(error) => Ok(without_envelope(&error.kind)),
     }
 }
 
-/// The words for bytes without an envelope.
-fn without_envelope(alloc: Global, kind: &ErrorKind) -> Result<Found, AllocError>
-    ensures { (b : List ℕ) → IsMalformed kind.now (Refuses b) → IfOk result
-        (λ found. Finds b found.finding found.words.items) }
+/// What is found in bytes without an envelope.
+fn without_envelope<'a>(kind: &ErrorKind) -> Found<'a>
+    ensures { (b : List ℕ) → IsMalformed kind.now (Refuses b)
+        → Finds b result.finding (option_map account_of result.told) }
 {
-    let mut words = Vec::from_slice(alloc, b"damaged: ")?;
-    if let ErrorKind::MalformedValue { reason } = kind {
-        words.extend_from_slice(reason_words(reason).as_bytes())?;
-    }
-    Ok(Found {
+    Found {
         finding: Finding::Damaged,
-        words,
-    })
+        told: Some(Told {
+            word: "damaged",
+            place: None,
+            reason: Some(kind_words(kind)),
+        }),
+    }
 }
 
-fn judge(alloc: Global, document: RawDocument<'_>) -> Result<Found, AllocError>
+fn judge(alloc: Global, document: RawDocument<'_>) -> Result<Found<'_>, AllocError>
     requires { length (bytes_of document) ≤ most }
     ensures { IfOk result
-        (λ found. Finds (bytes_of document.entry) found.finding found.words.items) }
+        (λ found. Finds (bytes_of document.entry) found.finding (option_map account_of found.told)) }
 {
     match validate_within(alloc, document, most_allowed()) {
         Ok(None) => Ok(Found {
             finding: Finding::Canonical,
-            words: Vec::new(alloc),
+            told: None,
         }),
-        Ok(Some(breach)) => not_canonical(alloc, document, Some(breach.cause), &breach.place),
-        Err(ValidateError::TooDeep(place)) => not_canonical(alloc, document, None, &place),
+        Ok(Some(breach)) => not_canonical(alloc, document, Some(breach.cause), breach.place),
+        Err(ValidateError::TooDeep(place)) => not_canonical(alloc, document, None, place),
         Err(ValidateError::OutOfMemory) => Err(AllocError),
         Err(ValidateError::TooManyBytes) => unreachable!(),
     }
 }
 
 /// What is found in a document that isn't canonical: what ends its reading; else this verdict.
-fn not_canonical(
+fn not_canonical<'a>(
     alloc: Global,
-    document: RawDocument<'_>,
+    document: RawDocument<'a>,
     cause: Option<Cause>,
-    place: &Place<'_>,
-) -> Result<Found, AllocError>
-    ensures { FirstVerdict limits (bytes_of document.entry) (verdict_of cause) (steps_of place.now) place.now.offset
-        → IfOk result (λ found. Finds (bytes_of document.entry) found.finding found.words.items) }
+    place: Place<'a>,
+) -> Result<Found<'a>, AllocError>
+    ensures { FirstVerdict limits (bytes_of document.entry) (verdict_of cause) (steps_of place.entry) place.entry.offset
+        → IfOk result (λ found. Finds (bytes_of document.entry) found.finding (option_map account_of found.told)) }
 {
     match first_fault_within(alloc, document, most_allowed()) {
         Ok(Some(barrier)) => Ok(Found {
             finding: Finding::Damaged,
-            words: barrier_words(alloc, &barrier)?,
+            told: Some(told_of(barrier)),
         }),
         Ok(None) => Ok(Found {
             finding: Finding::Breached,
-            words: placed(alloc, cause_words(cause), place)?,
+            told: Some(Told {
+                word: cause_words(cause),
+                place: Some(place),
+                reason: None,
+            }),
         }),
         Err(_) => Err(AllocError),
+    }
+}
+
+/// What is told of what ends the reading of a document.
+fn told_of(barrier: Barrier<'_>) -> Told<'_>
+    ensures { (x : within.Barrier) → IsBarrier barrier.entry.kind x
+        → SaysBarrier x (spot_of barrier.entry.place) (account_of result) }
+{
+    let (word, reason) = match &barrier.kind {
+        BarrierKind::TooManyBytes => ("too long", None),
+        BarrierKind::TooDeep => ("too deep", None),
+        BarrierKind::Fault(error) => ("damaged", Some(kind_words(&error.kind))),
+    };
+    Told {
+        word,
+        place: Some(barrier.place),
+        reason,
     }
 }
 

@@ -15,7 +15,7 @@ use std::{fs, io, process};
 pub fn into_file(rt: &HostRuntime, task: &Task<'_>, name: &str) -> Status {
     let guards = match guards(rt) {
         Ok(guards) => guards,
-        Err(error) => return without(rt, "/dev/null", &error),
+        Err(error) => return without(rt, task, "/dev/null", &error),
     };
     let result = match fs::metadata(rt, name) {
         Ok(old) if old.is_file() => replaced(rt, task, name, Some(old.permissions())),
@@ -25,12 +25,12 @@ pub fn into_file(rt: &HostRuntime, task: &Task<'_>, name: &str) -> Status {
     drop(guards);
     match result {
         Ok(status) => status,
-        Err(error) => without(rt, name, &error),
+        Err(error) => without(rt, task, name, &error),
     }
 }
 
-fn without(rt: &HostRuntime, name: &str, error: &io::Error) -> Status {
-    tell(rt, name, error);
+fn without(rt: &HostRuntime, task: &Task<'_>, name: &str, error: &io::Error) -> Status {
+    tell(rt, task.style, name, error);
     Status::Output
 }
 

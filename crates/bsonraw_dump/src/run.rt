@@ -1,12 +1,16 @@
 //! Runs a command over an input.
 #![tactic(auto)]
 
-ghost use Rattle.std.specs.Prelude.{◌≡◌, ℕ, List, [], ◌∷◌, ◌++◌, IfOk, IfErr, OnOk};
+ghost use Rattle.std.specs.Prelude.{◌≡◌, ℕ, List, Option, [], ◌∷◌, ◌++◌, IfOk, IfErr, OnOk};
+ghost use Rattle.std.specs.Option.{option_map};
 ghost use Rattle.std.specs.Io.KnownBytes.{Appends};
 ghost use Rattle.bsonraw_dump.specs.Cut.{IsPiece};
 ghost use Rattle.bsonraw_dump.specs.Find.{Finds};
 ghost use Rattle.bsonraw_dump.specs.Listing.{ListsDocument};
-ghost use Rattle.bsonraw_dump.specs.Run.{Emits, Ends, IsReading, PassesOne, Reports, Stops, Writes, ending_line, head_text, line, summary_line};
+ghost use Rattle.bsonraw_dump.specs.Find.{Account, account_of};
+ghost use Rattle.bsonraw_dump.specs.Told.{ending_line, line, summary_line};
+ghost use Rattle.bsonraw_dump.specs.Run.{Emits, Ends, IsReading, PassesOne, Reports, Stops, Writes, head_text};
+ghost use Rattle.bsonraw_dump.specs.Run as says;
 ghost use Rattle.raw_tree.specs.CanonicalForm.{IsCanonicalForm};
 ghost use Rattle.bsonraw_dump.specs.declared.command.Command.TheVariants.{Unique};
 
@@ -15,14 +19,16 @@ use crate::counts::Counts;
 use crate::digests::Digests;
 use crate::ending::Ending;
 use crate::failure::Failure;
-use crate::find::{Finding, Found, find, most_allowed};
+use crate::find::{Finding, Found, Told, find, most_allowed};
 use crate::input::read_document;
 use crate::listing::list_level;
-use crate::text::{cut_off_words, line_of, sized, summary};
+use crate::object::{cut_off_object, summary_object, told_object, unsound_object};
+use crate::style::Style;
+use crate::text::{cut_off_words, line_of, sized, summary, told_line};
 use crate::write::put;
 use raw_form::canonical_within;
 use raw_view::RawDocument;
-use std::alloc::Global;
+use std::alloc::{AllocError, Global};
 use std::io;
 use std::io::{Read, Write};
 
@@ -31,6 +37,7 @@ use std::io::{Read, Write};
 pub fn run<R: Read, D: Write, W: Write>(
     alloc: Global,
     command: Command,
+    style: Style,
     name: &str,
     reader: &mut R,
     out: &mut D,
@@ -38,9 +45,9 @@ pub fn run<R: Read, D: Write, W: Write>(
     counts: &mut Counts,
     digests: &mut Digests,
 ) -> Result<Ending, Failure>
-    ensures ends { IfOk result (Ends command name.now (R.remaining reader.old) (R.remaining reader.new)
+    ensures ends { IfOk result (Ends command style name.now (R.remaining reader.old) (R.remaining reader.new)
         (D.contents out.old) (D.contents out.new) (W.contents report.old) (W.contents report.new) counts.old counts.new digests.old digests.new) }
-    ensures stops { IfErr result (λ failure. IsReading failure → Stops command name.now (R.remaining reader.old) (R.remaining reader.new)
+    ensures stops { IfErr result (λ failure. IsReading failure → Stops command style name.now (R.remaining reader.old) (R.remaining reader.new)
         (D.contents out.old) (D.contents out.new) (W.contents report.old) (W.contents report.new) counts.old counts.new digests.old digests.new) }
 {
     let mut buffer = Vec::new(alloc);
@@ -49,12 +56,14 @@ pub fn run<R: Read, D: Write, W: Write>(
         match read_document(reader, &mut buffer) {
             Ok(None) => {}
             Ok(Some(ending)) => {
-                put_ending(alloc, name, offset, ending, report)?;
+                put_ending(alloc, style, name, offset, ending, report)?;
                 return Ok(ending);
             }
             Err(failure) => return Err(failure),
         }
-        let finding = pass(alloc, command, name, offset, &buffer, out, report, digests)?;
+        let finding = pass(
+            alloc, command, style, name, offset, &buffer, out, report, digests,
+        )?;
         let (Some(more), Some(behind)) = (
             counts.with(buffer.len(), finding),
             offset.checked_add(buffer.len() as u64),
@@ -71,6 +80,7 @@ pub fn run<R: Read, D: Write, W: Write>(
 fn pass<D: Write, W: Write>(
     alloc: Global,
     command: Command,
+    style: Style,
     name: &str,
     offset: u64,
     bytes: &[u8],
@@ -79,12 +89,12 @@ fn pass<D: Write, W: Write>(
     digests: &mut Digests,
 ) -> Result<Finding, Failure>
     requires { IsPiece bytes.now }
-    ensures passed { IfOk result (PassesOne command name.now offset bytes.now
+    ensures passed { IfOk result (PassesOne command style name.now offset bytes.now
         (D.contents out.old) (D.contents out.new) (W.contents report.old) (W.contents report.new) digests.old digests.new) }
     ensures failed { IfErr result (λ failure. ¬ IsReading failure) }
 {
     let found = find(alloc, bytes)?;
-    report_found(alloc, command, name, offset, bytes, &found, report)?;
+    report_found(alloc, command, style, name, offset, bytes, &found, report)?;
     emit(alloc, command, found.finding, bytes, out, digests)?;
     Ok(found.finding)
 }
@@ -93,22 +103,23 @@ fn pass<D: Write, W: Write>(
 fn report_found<W: Write>(
     alloc: Global,
     command: Command,
+    style: Style,
     name: &str,
     offset: u64,
     bytes: &[u8],
-    found: &Found,
+    found: &Found<'_>,
     report: &mut W,
 ) -> Result<(), Failure>
     requires { IsPiece bytes.now }
     ensures reported { OnOk result ((lines : List ℕ)
-        × Reports command name.now offset bytes.now found.now.finding found.now.words.items lines
+        × Reports command style name.now offset bytes.now found.now.finding (option_map account_of found.now.told) lines
         × Appends (W.contents report.old) (W.contents report.new) lines) }
     ensures failed { IfErr result (λ failure. ¬ IsReading failure) }
 {
     match (command, found.finding) {
-        (Command::List, _) => put_listing(alloc, name, offset, bytes, &found.words, report),
+        (Command::List, _) => put_listing(alloc, name, offset, bytes, &found.told, report),
         (_, Finding::Damaged) | (Command::Check, Finding::Breached) => {
-            put_line(alloc, name, offset, &found.words, report)
+            put_told(alloc, style, name, offset, &found.told, report)
         }
         (Command::Check, Finding::Canonical)
         | (
@@ -124,15 +135,15 @@ fn put_listing<W: Write>(
     name: &str,
     offset: u64,
     bytes: &[u8],
-    words: &[u8],
+    told: &Option<Told<'_>>,
     report: &mut W,
 ) -> Result<(), Failure>
     requires { IsPiece bytes.now }
     ensures listed { OnOk result ((listing : List ℕ) × ListsDocument bytes.now listing
-        × Appends (W.contents report.old) (W.contents report.new) (line name.now offset (head_text bytes.now words.now) ++ listing)) }
+        × Appends (W.contents report.old) (W.contents report.new) (line name.now offset (head_text bytes.now (option_map account_of told.now)) ++ listing)) }
     ensures failed { IfErr result (λ failure. ¬ IsReading failure) }
 {
-    let head = sized(alloc, bytes.len(), words)?;
+    let head = sized(alloc, bytes.len(), told)?;
     put_line(alloc, name, offset, &head, report)?;
     match RawDocument::from_bytes(bytes) {
         Ok(document) => list_level(alloc, document, 500, 1, report),
@@ -155,34 +166,82 @@ fn put_line<W: Write>(
     put(report, &text)
 }
 
+/// Writes the line of a document of which this is told.
+fn put_told<W: Write>(
+    alloc: Global,
+    style: Style,
+    name: &str,
+    offset: u64,
+    told: &Option<Told<'_>>,
+    report: &mut W,
+) -> Result<(), Failure>
+    ensures written { OnOk result (Appends (W.contents report.old) (W.contents report.new)
+        (says.told_line style name.now offset (option_map account_of told.now))) }
+    ensures failed { IfErr result (λ failure. ¬ IsReading failure) }
+{
+    let Some(told) = told else {
+        return put(report, b"");
+    };
+    let text = match style {
+        Style::Words => told_line(alloc, name, offset, told)?,
+        Style::Json => told_object(alloc, name, offset, told)?,
+    };
+    put(report, &text)
+}
+
+/// The line of how an input ends; empty where it ends behind a document.
+fn ending_text(
+    alloc: Global,
+    style: Style,
+    name: &str,
+    offset: u64,
+    ending: Ending,
+) -> Result<Vec<u8>, AllocError>
+    ensures { IfOk result (λ text. text.items ≡ ending_line style name.now offset ending) }
+{
+    match (style, ending) {
+        (_, Ending::Whole) => Ok(Vec::new(alloc)),
+        (Style::Words, Ending::CutOff(count)) => {
+            let words = cut_off_words(alloc, count)?;
+            line_of(alloc, name, offset, &words)
+        }
+        (Style::Words, Ending::Unsound) => line_of(alloc, name, offset, b"unsound length"),
+        (Style::Json, Ending::CutOff(count)) => cut_off_object(alloc, name, offset, count),
+        (Style::Json, Ending::Unsound) => unsound_object(alloc, name, offset),
+    }
+}
+
 fn put_ending<W: Write>(
     alloc: Global,
+    style: Style,
     name: &str,
     offset: u64,
     ending: Ending,
     report: &mut W,
 ) -> Result<(), Failure>
     ensures written { OnOk result
-        (Appends (W.contents report.old) (W.contents report.new) (ending_line name.now offset ending)) }
+        (Appends (W.contents report.old) (W.contents report.new) (ending_line style name.now offset ending)) }
     ensures failed { IfErr result (λ failure. ¬ IsReading failure) }
 {
-    match ending {
-        Ending::Whole => put(report, b""),
-        Ending::CutOff(count) => {
-            let words = cut_off_words(alloc, count)?;
-            put_line(alloc, name, offset, &words, report)
-        }
-        Ending::Unsound => put_line(alloc, name, offset, b"unsound length", report),
-    }
+    let text = ending_text(alloc, style, name, offset, ending)?;
+    put(report, &text)
 }
 
 /// Writes the line behind all that a check reports.
-pub fn put_summary<W: Write>(alloc: Global, counts: &Counts, report: &mut W) -> Result<(), Failure>
+pub fn put_summary<W: Write>(
+    alloc: Global,
+    style: Style,
+    counts: &Counts,
+    report: &mut W,
+) -> Result<(), Failure>
     ensures written { OnOk result
-        (Appends (W.contents report.old) (W.contents report.new) (summary_line counts.now)) }
+        (Appends (W.contents report.old) (W.contents report.new) (summary_line style counts.now)) }
     ensures failed { IfErr result (λ failure. ¬ IsReading failure) }
 {
-    let text = summary(alloc, counts)?;
+    let text = match style {
+        Style::Words => summary(alloc, counts)?,
+        Style::Json => summary_object(alloc, counts)?,
+    };
     put(report, &text)
 }
 
@@ -195,7 +254,7 @@ fn emit<D: Write>(
     out: &mut D,
     digests: &mut Digests,
 ) -> Result<(), Failure>
-    ensures written { (text : List ℕ) → Finds bytes.now finding text → OnOk result
+    ensures written { (told : Option Account) → Finds bytes.now finding told → OnOk result
         (Emits command bytes.now finding (D.contents out.old) (D.contents out.new) digests.old digests.new) }
     ensures failed { IfErr result (λ failure. ¬ IsReading failure) }
 {

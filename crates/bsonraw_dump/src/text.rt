@@ -1,18 +1,21 @@
 //! What is found in documents, in words.
 #![tactic(auto)]
 
-ghost use Rattle.std.specs.Prelude.{◌≡◌, ◌++◌, [], ℕ, List, codes, decimal, IfOk, flat_map, length, map, OnOk};
+ghost use Rattle.std.specs.Prelude.{◌≡◌, ◌++◌, ℕ, List, Some, codes, decimal, IfOk, flat_map, length, map, OnOk};
+ghost use Rattle.std.specs.Option.{option_map};
 ghost use Rattle.json.specs.Print.{quoted};
-ghost use Rattle.raw_form.specs.Barriers.{IsBarrier, step_of, steps_of};
-ghost use Rattle.raw_tree.specs.WithinLimits as within;
-ghost use Rattle.bsonraw_dump.specs.Find.{place_text, step_text, SaysBarrier};
-ghost use Rattle.bsonraw_dump.specs.Run.{head_text, line, summary_line};
+ghost use Rattle.raw_form.specs.Barriers.{step_of};
+ghost use Rattle.bsonraw_dump.specs.Find.{account_of, spot_of};
+ghost use Rattle.bsonraw_dump.specs.Told.{line, spot_text, step_text, summary_line};
+ghost use Rattle.bsonraw_dump.specs.Told as says;
+ghost use Rattle.bsonraw_dump.specs.Run.{head_text};
+ghost use Rattle.bsonraw_dump.specs.declared.style.Style.TheVariants.{Words};
 
 use crate::counts::Counts;
-use crate::reason::kind_words;
+use crate::find::Told;
 use itoa::Buffer;
 use json::Writer;
-use raw_form::{Barrier, BarrierKind, PathStep, Place};
+use raw_form::{PathStep, Place};
 use std::alloc::{AllocError, Global};
 
 /// A text in quotes, as JSON has it.
@@ -60,34 +63,44 @@ fn push_path(alloc: Global, text: &mut Vec<u8>, path: &[PathStep<'_>]) -> Result
     Ok(())
 }
 
-/// Words, and a place behind them.
-pub fn placed(alloc: Global, words: &str, place: &Place<'_>) -> Result<Vec<u8>, AllocError>
-    ensures { IfOk result
-        (λ text. text.items ≡ words.now ++ place_text (steps_of place.now) place.now.offset) }
+/// Behind the text, a place.
+fn push_place(alloc: Global, text: &mut Vec<u8>, place: &Place<'_>) -> Result<(), AllocError>
+    ensures { OnOk result
+        (text.new.items ≡ text.old.items ++ spot_text (Some (spot_of place.now))) }
 {
-    let mut text = Vec::from_slice(alloc, words.as_bytes())?;
-    push_words(&mut text, " at ")?;
-    push_path(alloc, &mut text, &place.path)?;
-    push_words(&mut text, ", byte ")?;
-    push_number(&mut text, place.offset as u64)?;
+    push_words(text, " at ")?;
+    push_path(alloc, text, &place.path)?;
+    push_words(text, ", byte ")?;
+    push_number(text, place.offset as u64)
+}
+
+/// What is told of a document, in words.
+fn words_of(alloc: Global, told: &Told<'_>) -> Result<Vec<u8>, AllocError>
+    ensures { IfOk result (λ text. text.items ≡ says.words_of (account_of told.now)) }
+{
+    let mut text = Vec::from_slice(alloc, told.word.as_bytes())?;
+    if let Some(place) = &told.place {
+        push_place(alloc, &mut text, place)?;
+    }
+    if let Some(reason) = told.reason {
+        push_words(&mut text, ": ")?;
+        push_words(&mut text, reason)?;
+    }
     Ok(text)
 }
 
-/// What ends the reading of a document, and where.
-pub fn barrier_words(alloc: Global, barrier: &Barrier<'_>) -> Result<Vec<u8>, AllocError>
-    ensures { (x : within.Barrier) → IsBarrier barrier.now.kind x → IfOk result
-        (λ text. SaysBarrier x (place_text (steps_of barrier.now.place) barrier.now.place.offset) text.items) }
+/// The line of a document of which this is told.
+pub fn told_line(
+    alloc: Global,
+    name: &str,
+    offset: u64,
+    told: &Told<'_>,
+) -> Result<Vec<u8>, AllocError>
+    ensures { IfOk result
+        (λ text. text.items ≡ line name.now offset (says.words_of (account_of told.now))) }
 {
-    match &barrier.kind {
-        BarrierKind::TooManyBytes => placed(alloc, "too long", &barrier.place),
-        BarrierKind::TooDeep => placed(alloc, "too deep", &barrier.place),
-        BarrierKind::Fault(error) => {
-            let mut text = placed(alloc, "damaged", &barrier.place)?;
-            push_words(&mut text, ": ")?;
-            push_words(&mut text, kind_words(&error.kind))?;
-            Ok(text)
-        }
-    }
+    let words = words_of(alloc, told)?;
+    line_of(alloc, name, offset, &words)
 }
 
 /// A line of a report.
@@ -114,24 +127,24 @@ pub fn cut_off_words(alloc: Global, count: usize) -> Result<Vec<u8>, AllocError>
     Ok(text)
 }
 
-/// How many bytes a document has, and the words behind that.
-pub fn sized(alloc: Global, len: usize, words: &[u8]) -> Result<Vec<u8>, AllocError>
+/// How many bytes a document has, and behind that what is told of it.
+pub fn sized(alloc: Global, len: usize, told: &Option<Told<'_>>) -> Result<Vec<u8>, AllocError>
     ensures { (b : List ℕ) → length b ≡ len → IfOk result
-        (λ text. text.items ≡ head_text b words.now) }
+        (λ text. text.items ≡ head_text b (option_map account_of told.now)) }
 {
     let mut text = Vec::new(alloc);
     push_number(&mut text, len as u64)?;
     push_words(&mut text, " bytes")?;
-    if !words.is_empty() {
+    if let Some(told) = told {
         push_words(&mut text, ": ")?;
+        text.extend_from_slice(&words_of(alloc, told)?)?;
     }
-    text.extend_from_slice(words)?;
     Ok(text)
 }
 
 /// The line behind all that a check reports.
 pub fn summary(alloc: Global, counts: &Counts) -> Result<Vec<u8>, AllocError>
-    ensures { IfOk result (λ text. text.items ≡ summary_line counts.now) }
+    ensures { IfOk result (λ text. text.items ≡ summary_line Words counts.now) }
 {
     let mut text = Vec::from_slice(alloc, b"documents: ")?;
     push_number(&mut text, counts.documents)?;

@@ -1,9 +1,12 @@
 use Rattle.std.proofs.Common.{rules, ◌≡◌, ◌++◌, ◌∙◌, [], List, ℕ, subst}
 use Rattle.std.specs.Io.KnownBytes.{Appends}
+use Rattle.std.specs.Option.{option_map}
 use Rattle.raw_view.specs.Document.{bytes_of}
 use Rattle.raw_view.specs.Envelope.{IsEnvelope}
+use Rattle.bsonraw_dump.specs.Find.{account_of}
 use Rattle.bsonraw_dump.specs.Listing.{ListsDocument}
-use Rattle.bsonraw_dump.specs.Run.{head_text, line}
+use Rattle.bsonraw_dump.specs.Run.{head_text}
+use Rattle.bsonraw_dump.specs.Told.{line}
 use Rattle.bsonraw_dump.proofs.Listed.{IsWritten, listed_behind, listed_nothing, on_ok}
 use Rattle.bsonraw_dump.proofs.run.put_listing.Goals as goal
 
@@ -13,7 +16,7 @@ returns-in-Ok-clause-listed g c =
     let old = g.W.Write.contents c.args.report.now in
     let mid = g.W.Write.contents c.put_line.new.report in
     let new = g.W.Write.contents c.list_level.new.out in
-    let head = line c.args.name.now c.args.offset (head_text b c.args.words.now) in
+    let head = line c.args.name.now c.args.offset (head_text b (option_map account_of c.args.told.now)) in
     let first = subst (λ (x : List ℕ). Appends old mid (line c.args.name.now c.args.offset x)) (c.deref.ensures.value ∙ c.in_ok-head.ensures b (search rules)) c.in_ok-put_line.ensures.written in
     let same : bytes_of c.in-Ok.document ≡ b = c.in-Ok.ensures.same in
     let is : IsEnvelope b = subst IsEnvelope same c.in-Ok.document.envelope in
@@ -26,7 +29,7 @@ returns-clause-listed g c =
     let old = g.W.Write.contents c.args.report.now in
     let mid = g.W.Write.contents c.put_line.new.report in
     let new = g.W.Write.contents c.put.new.writer in
-    let head = line c.args.name.now c.args.offset (head_text b c.args.words.now) in
+    let head = line c.args.name.now c.args.offset (head_text b (option_map account_of c.args.told.now)) in
     let first = subst (λ (x : List ℕ). Appends old mid (line c.args.name.now c.args.offset x)) (c.deref.ensures.value ∙ c.in_ok-head.ensures b (search rules)) c.in_ok-put_line.ensures.written in
     on_ok c.put.result (Appends mid new []) ((listing : List ℕ) × ListsDocument b listing × Appends old new (head ++ listing))
     (λ none. listed_nothing b head c.in-Err.field-0 old mid new c.in-Err.ensures.refused first none) c.put.ensures.written

@@ -6,5 +6,5 @@ use Rattle.bsonraw_dump.proofs.run.run.Given as goal
 abbrev pub invariant-loop : goal.invariant-loop
 invariant-loop g l =
     (es : List Entry)
-    × Passed l.command l.name (g.R.Read.remaining l.initial.reader) (g.R.Read.remaining l.reader) (g.D.Write.contents l.initial.out) (g.D.Write.contents l.out) (g.W.Write.contents l.initial.report) (g.W.Write.contents l.report) l.initial.counts l.counts l.initial.digests l.digests es
+    × Passed l.command l.style l.name (g.R.Read.remaining l.initial.reader) (g.R.Read.remaining l.reader) (g.D.Write.contents l.initial.out) (g.D.Write.contents l.out) (g.W.Write.contents l.initial.report) (g.W.Write.contents l.report) l.initial.counts l.counts l.initial.digests l.digests es
     × (l.offset ≡ length (bytes_of_entries es))

@@ -1,0 +1,12 @@
+-- How the tokens of an object grow.
+use Rattle.std.proofs.Common.{◌≡◌, List, [], ◌++◌, ap, ◌∙◌}
+use Rattle.json.specs.Token.{Token}
+use Rattle.json.specs.Written.{Written}
+use Rattle.bsonraw_dump.specs.Told.{Grows}
+
+-- an object has these tokens, and nothing before them
+abbrev pub Has : Written → List Token → Type 0
+Has w tokens = (w.before ≡ []) × (w.tokens ≡ tokens)
+
+pub has_more : (a b : Written) (tokens more : List Token) → Has a tokens → Grows a b more → Has b (tokens ++ more)
+has_more a b tokens more is grows = (grows.0 ∙ is.0, grows.1 ∙ ap (λ l. l ++ more) is.1)

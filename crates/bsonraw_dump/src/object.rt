@@ -1,0 +1,200 @@
+//! What is found in documents, as objects of JSON, a line each.
+#![tactic(auto)]
+
+ghost use Rattle.std.specs.Prelude.{◌≡◌, ◌++◌, ◌∷◌, [], List, Some, codes, decimal, IfOk, map, OnOk};
+ghost use Rattle.std.specs.Option.{option_copied};
+ghost use Rattle.json.specs.Token.{Token, begin_object, end_object, key, number, string};
+ghost use Rattle.json.specs.Written.{Written};
+ghost use Rattle.raw_form.specs.Barriers.{step_of};
+ghost use Rattle.bsonraw_dump.specs.Find.{account_of, spot_of};
+ghost use Rattle.bsonraw_dump.specs.Told.{head_members, key_token, keys_members, members_of, number_token, numbers_members, object_line, report_line, spot_members, summary_line, text_or_null, Grows};
+ghost use Rattle.bsonraw_dump.specs.declared.style.Style.TheVariants.{Json};
+
+use crate::counts::Counts;
+use crate::find::Told;
+use json::Writer;
+use raw_form::{PathStep, Place};
+use std::alloc::{AllocError, Global};
+
+/// An object that is begun.
+fn begun(alloc: Global) -> Result<Writer, AllocError>
+    ensures { IfOk result (λ object. (object.before ≡ []) × (object.tokens ≡ begin_object ∷ [])) }
+{
+    let mut object = Writer::new(Vec::new(alloc));
+    object.begin_object()?;
+    Ok(object)
+}
+
+/// The line of an object to which these members were put.
+fn ended(object: Writer) -> Result<Vec<u8>, AllocError>
+    ensures { (members : List Token) → object.before ≡ [] → object.tokens ≡ begin_object ∷ members
+        → IfOk result (λ text. text.items ≡ object_line members) }
+{
+    let mut object = object;
+    object.end_object()?;
+    let mut text = object.into_inner();
+    text.push(b'\n')?;
+    Ok(text)
+}
+
+/// Puts a member that is a number.
+fn put_number(object: &mut Writer, name: &str, value: u64) -> Result<(), AllocError>
+    ensures { OnOk result (Grows object.old object.new (key name.now ∷ number (decimal value) ∷ [])) }
+{
+    object.key(name)?;
+    object.u64(value)
+}
+
+/// Puts a member that is a text.
+fn put_text(object: &mut Writer, name: &str, value: &str) -> Result<(), AllocError>
+    ensures { OnOk result (Grows object.old object.new (key name.now ∷ string value.now ∷ [])) }
+{
+    object.key(name)?;
+    object.string(value)
+}
+
+/// Puts the numbers of a path, from the outermost level on.
+fn push_numbers(object: &mut Writer, path: &[PathStep<'_>]) -> Result<(), AllocError>
+    ensures { OnOk result (Grows object.old object.new (map number_token (map step_of path.now))) }
+{
+    for step in path {
+        object.u64(step.number as u64)?;
+    }
+    Ok(())
+}
+
+/// Puts a key, or null.
+fn put_key(object: &mut Writer, key: Option<&str>) -> Result<(), AllocError>
+    ensures { OnOk result (Grows object.old object.new (text_or_null (option_copied key.entry) ∷ [])) }
+{
+    match key {
+        Some(key) => object.string(key),
+        None => object.null(),
+    }
+}
+
+/// Puts the keys of a path, from the outermost level on.
+fn push_keys(object: &mut Writer, path: &[PathStep<'_>]) -> Result<(), AllocError>
+    ensures { OnOk result (Grows object.old object.new (map key_token (map step_of path.now))) }
+{
+    for step in path {
+        put_key(object, step.key)?;
+    }
+    Ok(())
+}
+
+/// Puts the member with the numbers of a path.
+fn put_numbers(object: &mut Writer, path: &[PathStep<'_>]) -> Result<(), AllocError>
+    ensures { OnOk result (Grows object.old object.new (numbers_members (map step_of path.now))) }
+{
+    object.key("path")?;
+    object.begin_array()?;
+    push_numbers(object, path)?;
+    object.end_array()
+}
+
+/// Puts the member with the keys of a path.
+fn put_keys(object: &mut Writer, path: &[PathStep<'_>]) -> Result<(), AllocError>
+    ensures { OnOk result (Grows object.old object.new (keys_members (map step_of path.now))) }
+{
+    object.key("keys")?;
+    object.begin_array()?;
+    push_keys(object, path)?;
+    object.end_array()
+}
+
+/// Puts the members of a place.
+fn put_place(object: &mut Writer, place: &Place<'_>) -> Result<(), AllocError>
+    ensures { OnOk result
+        (Grows object.old object.new (spot_members (Some (spot_of place.now)))) }
+{
+    put_numbers(object, &place.path)?;
+    put_keys(object, &place.path)?;
+    put_number(object, "byte", place.offset as u64)
+}
+
+/// Puts the members that tell of a document.
+fn put_told(object: &mut Writer, told: &Told<'_>) -> Result<(), AllocError>
+    ensures { OnOk result (Grows object.old object.new (members_of (account_of told.now))) }
+{
+    put_text(object, "finding", told.word)?;
+    if let Some(place) = &told.place {
+        put_place(object, place)?;
+    }
+    if let Some(reason) = told.reason {
+        put_text(object, "reason", reason)?;
+    }
+    Ok(())
+}
+
+/// An object with the name of an input and an offset in it.
+fn placed(alloc: Global, name: &str, offset: u64) -> Result<Writer, AllocError>
+    ensures { IfOk result (λ object. (object.before ≡ [])
+        × (object.tokens ≡ begin_object ∷ head_members name.now offset)) }
+{
+    let mut object = begun(alloc)?;
+    put_text(&mut object, "file", name)?;
+    put_number(&mut object, "offset", offset)?;
+    Ok(object)
+}
+
+/// The line of a document of which this is told.
+pub fn told_object(
+    alloc: Global,
+    name: &str,
+    offset: u64,
+    told: &Told<'_>,
+) -> Result<Vec<u8>, AllocError>
+    ensures { IfOk result
+        (λ text. text.items ≡ report_line Json name.now offset (account_of told.now)) }
+{
+    let mut object = placed(alloc, name, offset)?;
+    put_told(&mut object, told)?;
+    ended(object)
+}
+
+/// The line of an input that is cut off behind so many bytes of a document.
+pub fn cut_off_object(
+    alloc: Global,
+    name: &str,
+    offset: u64,
+    count: usize,
+) -> Result<Vec<u8>, AllocError>
+    ensures { IfOk result (λ text. text.items
+        ≡ object_line (head_members name.now offset ++ key (codes "finding") ∷ string (codes "cut off") ∷ key (codes "bytes") ∷ number (decimal count) ∷ [])) }
+{
+    let mut object = placed(alloc, name, offset)?;
+    put_text(&mut object, "finding", "cut off")?;
+    put_number(&mut object, "bytes", count as u64)?;
+    ended(object)
+}
+
+/// The line of an input in which no document can have the next length.
+pub fn unsound_object(alloc: Global, name: &str, offset: u64) -> Result<Vec<u8>, AllocError>
+    ensures { IfOk result (λ text. text.items
+        ≡ object_line (head_members name.now offset ++ key (codes "finding") ∷ string (codes "unsound length") ∷ [])) }
+{
+    let mut object = placed(alloc, name, offset)?;
+    put_text(&mut object, "finding", "unsound length")?;
+    ended(object)
+}
+
+/// The line behind all that a check reports.
+pub fn summary_object(alloc: Global, counts: &Counts) -> Result<Vec<u8>, AllocError>
+    ensures { IfOk result (λ text. text.items ≡ summary_line Json counts.now) }
+{
+    let mut object = begun(alloc)?;
+    put_number(&mut object, "documents", counts.documents)?;
+    put_number(&mut object, "bytes", counts.bytes)?;
+    put_number(&mut object, "not canonical", counts.breached)?;
+    put_number(&mut object, "damaged", counts.damaged)?;
+    ended(object)
+}
+
+/// The line of what goes wrong with a file.
+pub fn error_object(alloc: Global, name: &str, text: &str) -> Result<Vec<u8>, AllocError> {
+    let mut object = begun(alloc)?;
+    put_text(&mut object, "file", name)?;
+    put_text(&mut object, "error", text)?;
+    ended(object)
+}

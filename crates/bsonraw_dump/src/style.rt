@@ -1,0 +1,8 @@
+/// How what is found is printed.
+#[derive(Clone, Copy)]
+pub enum Style {
+    /// a line of words
+    Words,
+    /// a line that is an object of JSON
+    Json,
+}
