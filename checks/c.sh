@@ -7,7 +7,8 @@
 #
 #   - the libraries export the functions of the header and nothing else, and need the C library alone;
 #   - the header compiles as each C and C++ with all warnings on, and so do its examples and the blocks `c` of the pages;
-#     a block with a `main` is run on the greeting, and the page says what it prints;
+#     the examples are run on two documents, and print c/tests/examples.txt; a block with a `main` is run on the greeting, and
+#     the page says what it prints;
 #   - c/tests/print.c prints what is beside each example, and what bsonraw prints of each document of the tests;
 #   - the programs of c/tests: every buffer at its edges, each request for memory refused in turn, threads, reasons, the header's
 #     numbers beside those that the library returns; and
@@ -111,7 +112,24 @@ END
         }
         inside { print "}"; inside = 0 }
         { is_behind = /^ \*$/ }
+        END {
+            print "int main(void) {\nstatic uint8_t bytes[4096];\nsize_t len = fread(bytes, 1, sizeof bytes, stdin);"
+            for (n = 1; n <= count; n++) print "printf(\"" n ": \");\nexample_" n "(bytes, len);\nputchar(10);"
+            print "return 0;\n}"
+        }
     ' "$1"
+}
+
+# what the examples of the header print of a document, one behind the other, with a dot for each byte that isn't printable
+run_examples() {
+    # {"name": "Emmy", "born": 1882, "authors": [{"name": "Ada"}]}, and the same without the 0 of the last text
+    printf '\102\0\0\0\2name\0\5\0\0\0Emmy\0\20born\0\132\7\0\0\4authors\0\33\0\0\0\0030\0\23\0\0\0\2name\0\4\0\0\0Ada\0\0\0\0' >"$work/sound"
+    sed 's/Ada./Ada!/' "$work/sound" >"$work/damaged"
+    link libbsonraw.a "$work/examples" "$work/examples.o" || return 1
+    for name in sound damaged; do
+        echo "$name"
+        "$work/examples" <"$work/$name" | LC_ALL=C tr -c '[:print:]\n' .
+    done | diff c/tests/examples.txt - >&2
 }
 
 # blocks PAGE: writes each block of C into a file of its own of $work/blocks
@@ -143,7 +161,8 @@ look_at_examples() {
     examples c/bsonraw.h >"$work/examples.c"
     [ "$(grep -c '^void example_.*{$' "$work/examples.c")" = 18 ] || fails "the header doesn't have an example of each group of calls"
     # shellcheck disable=SC2086
-    compile -std=c99 $warnings -Wno-unused-variable -Wno-shadow -c -o "$work/examples.o" "$work/examples.c" || fails "an example of the header doesn't compile"
+    compile -std=c99 $warnings -Wno-unused-variable -Wno-shadow -O1 -fPIE -c -o "$work/examples.o" "$work/examples.c" &&
+        run_examples || fails "an example of the header doesn't do what it says"
 
     printf '\23\0\0\0\2hi\0\6\0\0\0y\47all\0\0' >"$work/greeting"
     { echo 'It prints `02 hi`.'; echo '```c'; cat c/tests/greeting.c; echo '```'; } >"$work/right.md"
