@@ -1,0 +1,146 @@
+//! Why a text isn't read, and where.
+ghost use Rattle.std.specs.Prelude.{◌≡◌, ◌≤◌, length};
+ghost use Rattle.bson_from_json.specs.Place.{IsPlaceIn};
+
+use crate::place::{count_characters, count_line_feeds, last_line};
+use crate::wrapper::Wrapper;
+use std::alloc::{AllocError, AllocFailed};
+use std::fmt;
+
+/// Why a text isn't read as a document.
+#[derive(Clone, Copy, Debug, PartialEq, Eq)]
+pub enum JsonReason {
+    /// No memory was left.
+    OutOfMemory,
+    /// The document would have more bytes than allowed, or over 2147483647.
+    TooManyBytes,
+    /// Objects, arrays and scopes are deeper in one another than allowed.
+    TooDeep,
+    /// The text ends inside the document.
+    EndOfText,
+    /// A document has to be here, and no other value.
+    ExpectedDocument,
+    /// A key, in quotes, has to be here.
+    ExpectedKey,
+    /// A colon has to be here.
+    ExpectedColon,
+    /// A comma or the end of the object or array has to be here.
+    ExpectedComma,
+    /// A value has to be here.
+    ExpectedValue,
+    /// The text goes on behind the document.
+    TextBehind,
+    /// This is no number as JSON writes them.
+    BadNumber,
+    /// This number is beyond the greatest double.
+    NumberTooLarge,
+    /// A string has a control character, which has to be escaped.
+    ControlCharacter,
+    /// JSON has no such escape.
+    BadEscape,
+    /// An escape is one half of a surrogate pair, and the other half isn't beside it.
+    LoneSurrogate,
+    /// A key, a pattern or options hold U+0000, which BSON ends them with.
+    InteriorNul,
+    /// The object begins as this one, and isn't one.
+    Malformed(Wrapper),
+    /// No Decimal128 is exactly this decimal.
+    InexactDecimal,
+    /// The object is a regular expression or a binary of version 1 of the format.
+    Version1,
+    /// The bytes that were written aren't a document. No text is known to give this error.
+    Unsound,
+}
+
+impl From<AllocError> for JsonReason {
+    fn from(_: AllocError) -> JsonReason {
+        JsonReason::OutOfMemory
+    }
+}
+
+impl<T: Drop> From<AllocFailed<T>> for JsonReason {
+    fn from(_: AllocFailed<T>) -> JsonReason {
+        JsonReason::OutOfMemory
+    }
+}
+
+impl fmt::Display for JsonReason {
+    fn fmt<W: fmt::Write>(&self, f: &mut fmt::Formatter<W>) -> fmt::Result {
+        match self {
+            JsonReason::Malformed(wrapper) => write!(f, "this is not {wrapper}"),
+            reason => f.write_str(reason.text()),
+        }
+    }
+}
+
+impl JsonReason {
+    /// What it says.
+    fn text(self) -> &'static str {
+        match self {
+            JsonReason::OutOfMemory => "out of memory",
+            JsonReason::TooManyBytes => "more bytes than allowed",
+            JsonReason::TooDeep => "deeper than allowed",
+            JsonReason::EndOfText => "the text ends too early",
+            JsonReason::ExpectedDocument => "expected a document",
+            JsonReason::ExpectedKey => "expected a key in quotes",
+            JsonReason::ExpectedColon => "expected a colon",
+            JsonReason::ExpectedComma => "expected a comma or the end of the object or array",
+            JsonReason::ExpectedValue => "expected a value",
+            JsonReason::TextBehind => "text behind the document",
+            JsonReason::BadNumber => "not a number of JSON",
+            JsonReason::NumberTooLarge => "a number beyond the greatest double",
+            JsonReason::ControlCharacter => "a control character that is not escaped",
+            JsonReason::BadEscape => "not an escape of JSON",
+            JsonReason::LoneSurrogate => "half a surrogate pair",
+            JsonReason::InteriorNul => "U+0000 in a key, a pattern or options",
+            JsonReason::Malformed(_) => "a malformed value",
+            JsonReason::InexactDecimal => "a decimal that no Decimal128 is exactly",
+            JsonReason::Version1 => "a form of version 1 of Extended JSON",
+            JsonReason::Unsound => "the bytes written are not a document",
+        }
+    }
+}
+
+/// Why a text isn't read, and where.
+#[derive(Clone, Copy, Debug, PartialEq, Eq)]
+pub struct JsonError {
+    /// why
+    pub reason: JsonReason,
+    /// how many bytes of the text are before the place
+    pub offset: usize,
+    /// the number of the place's line, from 1 on
+    pub line: usize,
+    /// the number of the place's character in its line, from 1 on
+    pub column: usize,
+}
+
+impl JsonError {
+    /// The error at this place of a text.
+    pub(crate) fn at(reason: JsonReason, text: &[u8], offset: usize) -> JsonError
+        requires { offset ≤ length text.now }
+        ensures reason { result.reason ≡ reason }
+        ensures place { IsPlaceIn text.now result }
+    {
+        let before = &text[..offset];
+        JsonError {
+            reason,
+            offset,
+            line: count_line_feeds(before) + 1,
+            column: count_characters(last_line(before)) + 1,
+        }
+    }
+}
+
+impl fmt::Display for JsonError {
+    fn fmt<W: fmt::Write>(&self, f: &mut fmt::Formatter<W>) -> fmt::Result {
+        let JsonError {
+            reason,
+            line,
+            column,
+            ..
+        } = *self;
+        write!(f, "line {line}, column {column}: {reason}")
+    }
+}
+
+impl std::error::Error for JsonError {}
