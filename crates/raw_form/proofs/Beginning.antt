@@ -1,8 +1,7 @@
 -- A search for the first barrier may begin at the element of the outermost level that breaches.
-use Rattle.std.proofs.Common.{◌≡◌, ◌∙◌, ◌≤◌, ◌+◌, ◌-◌, ◌++◌, ◌∷◌, [], ℕ, zero, suc, List, Option, None, Some, inl, inr, ◌⊎◌, ◌<◌, map, slice_index_or, length, drop, arith, ap, refl, sym, subst, length-drop}
-use Rattle.std.proofs.lemmas.List.{drop-drop}
+use Rattle.std.proofs.Common.{◌≡◌, ◌∙◌, ◌≤◌, ◌-◌, ◌∷◌, [], ℕ, zero, suc, List, Option, None, Some, inl, inr, ◌⊎◌, ◌<◌, map, slice_index_or, length, drop, arith, ap, refl, sym, subst, length-drop}
 use Rattle.raw_view.specs.ElementSteps.{HasRead}
-use Rattle.raw_view.specs.Frame.{Frame, IsFrame, LeadsTo}
+use Rattle.raw_view.specs.Envelope.{IsEnvelope}
 use Rattle.raw_view.specs.Meaning.{Meaning, value, faulty}
 use Rattle.raw_view.specs.Meaning as raw
 use Rattle.raw_view.proofs.Face.{LeadsTo-bound}
@@ -11,29 +10,14 @@ use Rattle.raw_tree.specs.Reading.{Sort, as_document}
 use Rattle.raw_tree.proofs.Face.{canonical_frames_read}
 use Rattle.raw_form.specs.Barriers.{step_of, steps_of}
 use Rattle.raw_form.specs.Judging.{TellsFound, verdict_of}
-use Rattle.raw_form.specs.Looking.{AreReadBefore, HasNoneBefore, size_of}
+use Rattle.raw_form.specs.Looking.{AreReadBefore, HasNoneBefore}
 use Rattle.raw_form.specs.Places.{Step, BeginsAt, IsOffsetOf}
 use Rattle.raw_form.specs.Verdicts.{Verdict, JudgesNestedAt, JudgesMeaningAt, JudgesFrontAt, FirstVerdictTo}
-use Rattle.raw_form.specs.declared.level.Waiting.{Waiting}
+use Rattle.raw_form.specs.Waits.{Wait}
 use Rattle.raw_form.specs.declared.place.PathStep.{PathStep}
 use Rattle.raw_form.specs.declared.verdict.Found.{Found}
-use Rattle.raw_form.proofs.Lasting.{drop_frame, frame_size}
 use Rattle.raw_form.proofs.Levels.{IsAt}
-
--- what frames lead to is what is behind so many bytes
-leads_behind : (s : List ℕ) (fs : List Frame) (r : List ℕ) → LeadsTo s fs r → r ≡ drop (length s - length r) s
-leads_behind s [] r l =
-    let none : 0 ≡ length s - length r = omega (arith, ap length l) in
-    sym l ∙ ap (λ (n : ℕ). drop n s) none
-leads_behind s (f ∷ fs) r (t, at, l) =
-    let far : size_of f + (length t - length r) ≡ length s - length r = omega (arith, frame_size s f t at, LeadsTo-bound t fs r l) in
-    leads_behind t fs r l ∙ sym (drop_frame s f t (length t - length r) at) ∙ ap (λ (n : ℕ). drop n s) far
-
--- counted from the header on, and from the first byte
-drop_both : (b : List ℕ) (o n : ℕ) → n + 4 ≡ o → drop n (drop 4 b) ≡ drop o b
-drop_both b o n e =
-    let far : 4 + n ≡ o = omega (arith, e) in
-    drop-drop n 4 b ∙ ap (λ (m : ℕ). drop m b) far
+use Rattle.raw_form.proofs.Lying.{drop_both, leads_behind, whole_lies}
 
 -- the number of the first step
 abbrev first_number : List Step → ℕ
@@ -104,8 +88,9 @@ not_outside offset n within (inl before) = omega (arith, within.0, before)
 not_outside offset n within (inr behind) = omega (arith, within.1, behind)
 
 -- what the loop over levels keeps holds at a start
-pub at_start : (most depth : ℕ) (b : List ℕ) (ws : List Waiting) (left : Option (List ℕ)) (number offset : ℕ) → 5 ≤ length b → suc most ≡ depth → ws ≡ [] → left ≡ Some (drop offset b) → AreReadBefore most b number offset → IsAt depth b ws left number offset
-at_start most depth b ws left number offset enough whole none e is =
+pub at_start : (most depth : ℕ) (b : List ℕ) (ws : List Wait) (left : Option (List ℕ)) (number offset : ℕ) → IsEnvelope b → suc most ≡ depth → ws ≡ [] → left ≡ Some (drop offset b) → AreReadBefore most b number offset → IsAt depth b ws left number offset 0
+at_start most depth b ws left number offset envelope whole none e is =
+    let enough : 5 ≤ length b = envelope.enough in
     let bound = LeadsTo-bound (drop 4 b) is.frames is.s is.reaches in
     let behind : drop (length (drop 4 b) - length is.s) (drop 4 b) ≡ drop offset b = drop_both b offset (length (drop 4 b) - length is.s) (omega (arith, bound, length-drop 4 b, enough, is.begins)) in
     let same : is.s ≡ drop offset b = leads_behind (drop 4 b) is.frames is.s is.reaches ∙ behind in
@@ -125,4 +110,6 @@ at_start most depth b ws left number offset enough whole none e is =
       };
       levels = rw none (omega (arith, whole));
       begins = rw e (omega (arith, is.begins, size));
+      lies = whole_lies b 0 envelope refl;
+      whole = omega arith;
     }

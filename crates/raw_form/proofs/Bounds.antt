@@ -1,5 +1,5 @@
 -- What is told of a document is within it.
-use Rattle.std.proofs.Common.{◌≡◌, ◌≤◌, ◌+◌, ◌++◌, ◌∷◌, [], inl, inr, ℕ, zero, suc, List, Some, length, arith, length-append}
+use Rattle.std.proofs.Common.{◌≤◌, ◌∷◌, [], inl, inr, ℕ, zero, suc, List, Some, length, arith, length-append}
 use Rattle.raw_tree.specs.Reading.{Sort, as_array, as_document}
 use Rattle.raw_tree.specs.WithinLimits.{Barrier}
 use Rattle.raw_tree.specs.declared.limits.Limits.{Limits}

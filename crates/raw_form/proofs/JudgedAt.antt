@@ -1,8 +1,9 @@
 -- What the loop of a validation keeps, and what it tells where it ends.
-use Rattle.std.proofs.Common.{◌≡◌, ◌∙◌, ◌≤◌, ◌<◌, ◌+◌, ◌-◌, ◌++◌, ◌∷◌, [], ℕ, zero, suc, List, Bool, Bor, Option, Some, map, length, drop, arith, ap, refl, sym, subst, length-append, length-drop}
+use Rattle.std.proofs.Common.{◌≡◌, ◌≤◌, ◌<◌, ◌+◌, ◌-◌, ◌++◌, ◌∷◌, [], ℕ, zero, suc, List, Bool, Bor, Option, Some, map, length, drop, arith, ap, refl, sym, subst, length-append, length-drop}
 use Rattle.std.specs.Option.{option_copied}
 use Rattle.raw_view.specs.Document.{bytes_of}
 use Rattle.raw_view.specs.ElementSteps.{frame_of}
+use Rattle.raw_view.specs.Envelope.{IsEnvelope}
 use Rattle.raw_view.specs.Meaning.{RawValue}
 use Rattle.raw_view.specs.Meaning as raw
 use Rattle.raw_view.proofs.Face.{LeadsTo-bound}
@@ -23,15 +24,16 @@ use Rattle.raw_form.specs.Verdicts.{Verdict, too_deep, breach_of, FirstVerdictTo
 use Rattle.raw_form.specs.declared.judge.Judged.{Judged}
 use Rattle.raw_form.specs.declared.judge.Judged.TheVariants as judged
 use Rattle.raw_form.specs.declared.level.Next.TheVariants as next
+use Rattle.raw_form.specs.Waits.{Stores, StoreEach, Wait}
 use Rattle.raw_form.specs.declared.level.Waiting.{Waiting}
 use Rattle.raw_form.proofs.JudgedLevels.{AreHeld, IsInFront, IsJudged, as_held, begun, held_less, held_more, numbered, passed_breach, passed_deep, passed_end, passed_inside, passed_whole, resumed, verdict_outward}
-use Rattle.raw_form.proofs.Levels.{IsAt, IsOpened, at_begin, at_inside, at_inside_size, at_resumed, at_whole, at_whole_size}
+use Rattle.raw_form.proofs.Levels.{IsAt, IsOpened, at_begin, at_inside, at_inside_size, at_resumed, at_whole, at_whole_size, waiting_then}
 use Rattle.raw_form.proofs.Passing.{left_behind}
 
 -- the levels are those that first faults are looked for in; and the innermost judges some bytes, for which the others wait,
 -- with their keys
-pub record IsJudgedAt (depth : ℕ) (b : List ℕ) (ws : List Waiting) (ks : List KeysSoFar) (listed : List (Bor (List ℕ))) (left : Option (List ℕ)) (number offset : ℕ) (k : KeysSoFar) : Type 0 where
-  pub at : IsAt depth b ws left number offset
+pub record IsJudgedAt (depth : ℕ) (b : List ℕ) (ws : List Wait) (ks : List KeysSoFar) (listed : List (Bor (List ℕ))) (left : Option (List ℕ)) (number offset start : ℕ) (k : KeysSoFar) : Type 0 where
+  pub at : IsAt depth b ws left number offset start
   pub inside : ℕ
   pub sort : Sort
   pub d : List ℕ
@@ -48,11 +50,11 @@ holds_none (raw.document e) h d k = absurd h
 holds_none (raw.array e) h d k = absurd h
 holds_none (raw.scoped code e) h d k = absurd h
 
-pub judged_begin : (most depth : ℕ) (b : List ℕ) (ws : List Waiting) (ks : List KeysSoFar) (listed : List (Bor (List ℕ))) (left : Option (List ℕ)) (number offset : ℕ) (k : KeysSoFar) → suc most ≡ depth → ws ≡ [] → ks ≡ [] → listed ≡ [] → left ≡ Some (drop 4 b) → number ≡ 0 → offset + length (drop 4 b) ≡ length b → HasKeysSoFar k listed as_document (texts listed) [] → IsJudgedAt depth b ws ks listed left number offset k
-judged_begin most depth b ws ks listed left number offset k whole none no_keys empty e first begins has =
+pub judged_begin : (most depth : ℕ) (b : List ℕ) (ws : List Wait) (ks : List KeysSoFar) (listed : List (Bor (List ℕ))) (left : Option (List ℕ)) (number offset start : ℕ) (k : KeysSoFar) → suc most ≡ depth → ws ≡ [] → ks ≡ [] → listed ≡ [] → left ≡ Some (drop 4 b) → number ≡ 0 → offset + length (drop 4 b) ≡ length b → IsEnvelope b → start + length b ≡ length b → HasKeysSoFar k listed as_document (texts listed) [] → IsJudgedAt depth b ws ks listed left number offset start k
+judged_begin most depth b ws ks listed left number offset start k whole none no_keys empty e first begins envelope starts has =
     let is = begun most as_document b listed left number k e first has in
     record {
-      at = at_begin most depth b ws left number offset whole none e first begins;
+      at = at_begin most depth b ws left number offset start whole none e first begins envelope starts;
       inside = most;
       sort = as_document;
       d = b;
@@ -64,7 +66,7 @@ judged_begin most depth b ws ks listed left number offset k whole none no_keys e
       begins = rw e begins;
     }
 
-module _ (depth : ℕ) (b : List ℕ) (ws : List Waiting) (ks : List KeysSoFar) (listed : List (Bor (List ℕ))) (left : Option (List ℕ)) (number offset : ℕ) (k : KeysSoFar) (at : IsJudgedAt depth b ws ks listed left number offset k) where
+module _ (depth : ℕ) (b : List ℕ) (ws : List Wait) (ks : List KeysSoFar) (listed : List (Bor (List ℕ))) (left : Option (List ℕ)) (number offset start : ℕ) (k : KeysSoFar) (at : IsJudgedAt depth b ws ks listed left number offset start k) where
   pub open_keys : AreOpenKeys k listed
   open_keys = (at.sort, at.below, keys_of_frames at.is.frames, at.is.keys, at.is.keys_canonical)
 
@@ -82,14 +84,14 @@ module _ (depth : ℕ) (b : List ℕ) (ws : List Waiting) (ks : List KeysSoFar) 
   pub looks_inside : (new : Option (List ℕ)) (i : KeysSoFar) (after : List (Bor (List ℕ))) (e : RawElement) (inner : RawDocument) (is_array : Bool) → Told new i after (judged.Inside e inner is_array) → Looks left new (next.Inside e inner)
   looks_inside new i after e inner is_array (r, v, frame, m, new_is, has, more, holds) = rw (at.is.left_is) (r, v, frame, m, as_held v (sort_of is_array) (bytes_of inner) holds, new_is)
 
-  looks_end : (new : Option (List ℕ)) (i : KeysSoFar) (after : List (Bor (List ℕ))) → Told new i after judged.End → Looks left new next.End
+  pub looks_end : (new : Option (List ℕ)) (i : KeysSoFar) (after : List (Bor (List ℕ))) → Told new i after judged.End → Looks left new next.End
   looks_end new i after h = rw (at.is.left_is) (h.0)
 
-  pub judged_whole : (new : Option (List ℕ)) (i : KeysSoFar) (after : List (Bor (List ℕ))) (e : RawElement) (behind : ℕ) → Told new i after (judged.Whole e) → behind ≡ offset + size_of (frame_of e) → IsJudgedAt depth b ws ks after new (number + 1) behind i
+  pub judged_whole : (new : Option (List ℕ)) (i : KeysSoFar) (after : List (Bor (List ℕ))) (e : RawElement) (behind : ℕ) → Told new i after (judged.Whole e) → behind ≡ offset + size_of (frame_of e) → IsJudgedAt depth b ws ks after new (number + 1) behind start i
   judged_whole new i after e behind h far =
       let looks = looks_whole new i after e h in
       record {
-        at = at_whole depth b ws left new number offset behind e at.at looks far;
+        at = at_whole depth b ws left new number offset start behind e at.at looks far;
         inside = at.inside;
         sort = at.sort;
         d = at.d;
@@ -98,34 +100,34 @@ module _ (depth : ℕ) (b : List ℕ) (ws : List Waiting) (ks : List KeysSoFar) 
         held = at.held;
         is = passed_whole at.inside at.sort at.d at.below listed left number k at.is e new after i h;
         levels = at.levels;
-        begins = omega (arith, far, at.begins, (at_whole_size depth b ws left new number offset e at.at looks).0);
+        begins = omega (arith, far, at.begins, (at_whole_size depth b ws left new number offset start e at.at looks).0);
       }
 
   -- the next level, for which this one waits
-  opened : (inside : ℕ) (held : AreHeld inside as_document b (length b) [] ws ks at.sort at.d at.end at.below) (is : IsJudged inside at.sort at.d at.below listed left number k) → suc (length ws + inside) ≡ depth → (new : Option (List ℕ)) (i : KeysSoFar) (after : List (Bor (List ℕ))) (e : RawElement) (inner : RawDocument) (is_array : Bool) (behind : ℕ) (w : Waiting) (left2 : Option (List ℕ)) (first begin : ℕ) (k2 : KeysSoFar)
-      → TellsJudged at.sort at.below (keys_of_frames is.frames) is.rest new i after (judged.Inside e inner is_array) → Looks left new (next.Inside e inner) → suc (length ws) < depth → behind ≡ offset + size_of (frame_of e) → IsOpened new number behind e inner w left2 first begin → HasKeysSoFar k2 after (sort_of is_array) (texts after) []
-      → IsJudgedAt depth b (ws ++ w ∷ []) (ks ++ i ∷ []) after left2 first begin k2
-  opened zero held is levels new i after e inner is_array behind w left2 first begin k2 h looks few far opens has = absurd (omega (arith, levels, few))
-  opened (suc inside) held is levels new i after e inner is_array behind w left2 first begin k2 h looks few far opens has =
-      let waits = passed_inside (suc inside) at.sort at.d at.below listed left number k is e inner is_array new after i w h opens.elements opens.number_is opens.key_is in
-      let rest : left_behind w ≡ left_of new = ap left_of opens.elements in
-      let ends : w.level.offset + left_behind w ≡ at.end = omega (arith, opens.offset_is, rest, far, at.begins, (at_inside_size depth b ws left new number offset e inner at.at looks).0) in
+  opened : (inside : ℕ) (held : AreHeld inside as_document b (length b) [] ws ks at.sort at.d at.end at.below) (is : IsJudged inside at.sort at.d at.below listed left number k) → suc (length ws + inside) ≡ depth → (new : Option (List ℕ)) (i : KeysSoFar) (after : List (Bor (List ℕ))) (e : RawElement) (inner : RawDocument) (is_array : Bool) (behind : ℕ) (left2 : Option (List ℕ)) (first begin starts : ℕ) (k2 : KeysSoFar)
+      → TellsJudged at.sort at.below (keys_of_frames is.frames) is.rest new i after (judged.Inside e inner is_array) → (looks : Looks left new (next.Inside e inner)) → suc (length ws) < depth → (far : behind ≡ offset + size_of (frame_of e)) → IsOpened behind inner left2 first begin starts → HasKeysSoFar k2 after (sort_of is_array) (texts after) []
+      → IsJudgedAt depth b (ws ++ waiting_then depth b ws left new number offset start behind e inner at.at looks far ∷ []) (ks ++ i ∷ []) after left2 first begin starts k2
+  opened zero held is levels new i after e inner is_array behind left2 first begin starts k2 h looks few far opens has = absurd (omega (arith, levels, few))
+  opened (suc inside) held is levels new i after e inner is_array behind left2 first begin starts k2 h looks few far opens has =
+      let w : Wait = waiting_then depth b ws left new number offset start behind e inner at.at looks far in
+      let waits = passed_inside (suc inside) at.sort at.d at.below listed left number k is e inner is_array new after i w h refl refl refl in
+      let ends : w.offset + left_behind w ≡ at.end = omega (arith, far, at.begins, (at_inside_size depth b ws left new number offset start e inner at.at looks).0) in
       record {
-        at = at_inside depth b ws left new number offset behind e inner w left2 first begin at.at looks few far opens;
+        at = at_inside depth b ws left new number offset start behind e inner at.at looks far left2 first begin starts few opens;
         inside = inside;
         sort = sort_of is_array;
         d = bytes_of inner;
-        end = w.level.offset;
+        end = behind;
         below = texts after;
         held = held_more inside as_document b (length b) [] ws ks at.sort at.d at.end at.below w i (sort_of is_array) (bytes_of inner) (texts after) held waits ends;
         is = begun inside (sort_of is_array) (bytes_of inner) after left2 first k2 opens.left_is opens.first_is has;
         levels = omega (arith, levels, length-append ws (w ∷ []));
-        begins = rw (opens.left_is) (opens.begins ∙ sym opens.offset_is);
+        begins = rw (opens.left_is) (opens.begins);
       }
 
-  pub judged_inside : (new : Option (List ℕ)) (i : KeysSoFar) (after : List (Bor (List ℕ))) (e : RawElement) (inner : RawDocument) (is_array : Bool) (behind : ℕ) (w : Waiting) (left2 : Option (List ℕ)) (first begin : ℕ) (k2 : KeysSoFar) → Told new i after (judged.Inside e inner is_array) → suc (length ws) < depth → behind ≡ offset + size_of (frame_of e) → IsOpened new number behind e inner w left2 first begin → HasKeysSoFar k2 after (sort_of is_array) (texts after) [] → IsJudgedAt depth b (ws ++ w ∷ []) (ks ++ i ∷ []) after left2 first begin k2
-  judged_inside new i after e inner is_array behind w left2 first begin k2 h few far opens has =
-      opened at.inside at.held at.is at.levels new i after e inner is_array behind w left2 first begin k2 h (looks_inside new i after e inner is_array h) few far opens has
+  pub judged_inside : (new : Option (List ℕ)) (i : KeysSoFar) (after : List (Bor (List ℕ))) (e : RawElement) (inner : RawDocument) (is_array : Bool) (behind : ℕ) (left2 : Option (List ℕ)) (first begin starts : ℕ) (k2 : KeysSoFar) (h : Told new i after (judged.Inside e inner is_array)) → suc (length ws) < depth → (far : behind ≡ offset + size_of (frame_of e)) → IsOpened behind inner left2 first begin starts → HasKeysSoFar k2 after (sort_of is_array) (texts after) [] → IsJudgedAt depth b (ws ++ waiting_then depth b ws left new number offset start behind e inner at.at (looks_inside new i after e inner is_array h) far ∷ []) (ks ++ i ∷ []) after left2 first begin starts k2
+  judged_inside new i after e inner is_array behind left2 first begin starts k2 h few far opens has =
+      opened at.inside at.held at.is at.levels new i after e inner is_array behind left2 first begin starts k2 h (looks_inside new i after e inner is_array h) few far opens has
 
   -- a verdict in front of what is left of the innermost level is that on b, at the offset of what is left
   front_outward : (x : Verdict) (step : Step) → IsInFront at.inside at.sort at.d left x step → FirstVerdictTo depth as_document b x (map step_at ws ++ step ∷ []) offset
@@ -149,7 +151,7 @@ module _ (depth : ℕ) (b : List ℕ) (ws : List Waiting) (ks : List KeysSoFar) 
   pub judged_deep : (new : Option (List ℕ)) (i : KeysSoFar) (after : List (Bor (List ℕ))) (e : RawElement) (inner : RawDocument) (is_array : Bool) → Told new i after (judged.Inside e inner is_array) → depth ≤ suc (length ws) → FirstVerdictTo depth as_document b too_deep (map step_at ws ++ record { number = number; key = Some (frame_of e).key } ∷ []) offset
   judged_deep new i after e inner is_array h many = front_outward too_deep (record { number = number; key = Some (frame_of e).key }) (deep_front at.inside at.is at.levels new i after e inner is_array h many)
 
-  whole_end : (xs : List Waiting) (ys : List KeysSoFar) (n : ℕ) → length xs ≡ 0 → suc n ≡ depth → AreHeld n as_document b (length b) [] xs ys at.sort at.d at.end at.below → IsCanonicalUpTo (suc n) at.sort at.d → IsCanonicalUpTo depth as_document b
+  whole_end : (xs : List Wait) (ys : List KeysSoFar) (n : ℕ) → length xs ≡ 0 → suc n ≡ depth → AreHeld n as_document b (length b) [] xs ys at.sort at.d at.end at.below → IsCanonicalUpTo (suc n) at.sort at.d → IsCanonicalUpTo depth as_document b
   whole_end [] [] n none same held c = subst (λ (m : ℕ). IsCanonicalUpTo m as_document b) same (subst (λ (x : List ℕ). IsCanonicalUpTo (suc n) as_document x) (sym held.1) (subst (λ (s : Sort). IsCanonicalUpTo (suc n) s at.d) (sym held.0) c))
   whole_end [] (y ∷ ys) n none same held c = absurd held
   whole_end (x ∷ xs) ys n none same held c = absurd (omega (arith, none))
@@ -159,31 +161,37 @@ module _ (depth : ℕ) (b : List ℕ) (ws : List Waiting) (ks : List KeysSoFar) 
       whole_end ws ks at.inside none (omega (arith, at.levels, none)) at.held (passed_end at.inside at.sort at.d at.below listed left number k at.is new after i h)
 
 -- as many wait as there are keys of levels that wait
-same_many : (inside : ℕ) (outer : Sort) (b : List ℕ) (end : ℕ) (under : List (List ℕ)) (ws : List Waiting) (ks : List KeysSoFar) (sort : Sort) (d : List ℕ) (last : ℕ) (below : List (List ℕ)) → AreHeld inside outer b end under ws ks sort d last below → length ws ≡ length ks
+same_many : (inside : ℕ) (outer : Sort) (b : List ℕ) (end : ℕ) (under : List (List ℕ)) (ws : List Wait) (ks : List KeysSoFar) (sort : Sort) (d : List ℕ) (last : ℕ) (below : List (List ℕ)) → AreHeld inside outer b end under ws ks sort d last below → length ws ≡ length ks
 same_many inside outer b end under [] [] sort d last below h = refl
 same_many inside outer b end under [] (k ∷ ks) sort d last below h = absurd h
 same_many inside outer b end under (w ∷ ws) [] sort d last below h = absurd h
-same_many inside outer b end under (w ∷ ws) (k ∷ ks) sort d last below h = omega (arith, same_many inside h.0 h.1 w.level.offset h.2 ws ks sort d last below h.5)
+same_many inside outer b end under (w ∷ ws) (k ∷ ks) sort d last below h = omega (arith, same_many inside h.0 h.1 w.offset h.2 ws ks sort d last below h.5)
 
-pub as_many : (depth : ℕ) (b : List ℕ) (ws : List Waiting) (ks : List KeysSoFar) (listed : List (Bor (List ℕ))) (left : Option (List ℕ)) (number offset : ℕ) (k : KeysSoFar) → IsJudgedAt depth b ws ks listed left number offset k → length ws ≡ length ks
-as_many depth b ws ks listed left number offset k at = same_many at.inside as_document b (length b) [] ws ks at.sort at.d at.end at.below at.held
+pub as_many : (depth : ℕ) (b : List ℕ) (ws : List Wait) (ks : List KeysSoFar) (listed : List (Bor (List ℕ))) (left : Option (List ℕ)) (number offset start : ℕ) (k : KeysSoFar) → IsJudgedAt depth b ws ks listed left number offset start k → length ws ≡ length ks
+as_many depth b ws ks listed left number offset start k at = same_many at.inside as_document b (length b) [] ws ks at.sort at.d at.end at.below at.held
 
 -- the level that waits for the innermost goes on
-pub judged_resumed : (depth : ℕ) (b : List ℕ) (ws : List Waiting) (w : Waiting) (ks : List KeysSoFar) (j : KeysSoFar) (listed : List (Bor (List ℕ))) (left : Option (List ℕ)) (number offset : ℕ) (k : KeysSoFar) (at : IsJudgedAt depth b (ws ++ w ∷ []) (ks ++ j ∷ []) listed left number offset k) (new : Option (List ℕ)) (i : KeysSoFar) (after left_list : List (Bor (List ℕ))) → TellsJudged at.sort at.below (keys_of_frames at.is.frames) at.is.rest new i after judged.End → LeavesOpenKeys i after left_list → IsJudgedAt depth b ws ks left_list w.level.elements (w.level.number + 1) w.level.offset j
-judged_resumed depth b ws w ks j listed left number offset k at new i after left_list h leaves =
+pub judged_resumed : (depth : ℕ) (b : List ℕ) (ws : List Wait) (w : Wait) (ks : List KeysSoFar) (j : KeysSoFar) (listed : List (Bor (List ℕ))) (left : Option (List ℕ)) (number offset start : ℕ) (k : KeysSoFar) (c : Waiting) (at : IsJudgedAt depth b (ws ++ w ∷ []) (ks ++ j ∷ []) listed left number offset start k) (new : Option (List ℕ)) (i : KeysSoFar) (after left_list : List (Bor (List ℕ))) → TellsJudged at.sort at.below (keys_of_frames at.is.frames) at.is.rest new i after judged.End → LeavesOpenKeys i after left_list → Stores b c w → IsJudgedAt depth b ws ks left_list w.elements (w.number + 1) w.offset w.start j
+judged_resumed depth b ws w ks j listed left number offset start k c at new i after left_list h leaves stored =
     let less = held_less at.inside as_document b (length b) [] ws ks w j at.sort at.d at.end at.below at.held in
-    let c = passed_end at.inside at.sort at.d at.below listed left number k at.is new after i h in
+    let canonical = passed_end at.inside at.sort at.d at.below listed left number k at.is new after i h in
     let same : texts left_list ≡ at.below = leaves at.sort at.below (keys_of_frames at.is.frames) h.1 in
     let looks : Looks left new next.End = rw (at.is.left_is) (h.0) in
     record {
-      at = at_resumed depth b ws w left new number offset at.at looks;
+      at = at_resumed depth b ws w left new number offset start c at.at looks stored;
       inside = suc at.inside;
       sort = less.sort;
       d = less.d;
       end = less.last;
       below = less.below;
       held = less.held;
-      is = resumed (suc at.inside) less.sort less.d less.below w j at.sort at.d at.below left_list less.is c same;
+      is = resumed (suc at.inside) less.sort less.d less.below w j at.sort at.d at.below left_list less.is canonical same;
       levels = omega (arith, at.levels, length-append ws (w ∷ []));
       begins = less.ends;
     }
+
+-- so it is for levels that are stored
+pub record IsJudgedStored (depth : ℕ) (b : List ℕ) (stored : List Waiting) (ks : List KeysSoFar) (listed : List (Bor (List ℕ))) (left : Option (List ℕ)) (number offset start : ℕ) (k : KeysSoFar) : Type 0 where
+  pub waits : List Wait
+  pub are_stored : StoreEach b stored waits
+  pub at : IsJudgedAt depth b waits ks listed left number offset start k

@@ -26,7 +26,7 @@ use Rattle.raw_form.specs.Looking.{step_at}
 use Rattle.raw_form.specs.Places.{Step, BeginsAt, IsOffsetOf}
 use Rattle.raw_form.specs.Verdicts.{Verdict, too_deep, breach_of, JudgesNestedAt, JudgesMeaningAt, FirstVerdictTo}
 use Rattle.raw_form.specs.declared.judge.Judged.TheVariants as judged
-use Rattle.raw_form.specs.declared.level.Waiting.{Waiting}
+use Rattle.raw_form.specs.Waits.{Wait}
 use Rattle.raw_form.proofs.Passing.{left_behind}
 
 -- frames and values
@@ -70,7 +70,7 @@ pub record IsJudged (inside : ℕ) (sort : Sort) (d : List ℕ) (below : List (L
   pub canonical : AreFramesCanonical (IsCanonicalUpTo inside) frames
 
 -- and the value of the frame behind them, whose key is canonical, holds the bytes d; in the list are these keys then
-pub record IsHeld (inside : ℕ) (sort : Sort) (b : List ℕ) (below : List (List ℕ)) (w : Waiting) (k : KeysSoFar) (inner : Sort) (d : List ℕ) (above : List (List ℕ)) : Type 0 where
+pub record IsHeld (inside : ℕ) (sort : Sort) (b : List ℕ) (below : List (List ℕ)) (w : Wait) (k : KeysSoFar) (inner : Sort) (d : List ℕ) (above : List (List ℕ)) : Type 0 where
   pub frames : List Frame
   pub s : List ℕ
   pub f : Frame
@@ -78,9 +78,9 @@ pub record IsHeld (inside : ℕ) (sort : Sort) (b : List ℕ) (below : List (Lis
   pub v : RawValue
   pub reaches : LeadsTo (drop 4 b) frames s
   pub frame : IsFrame s f r
-  pub left_is : w.level.elements ≡ Some r
-  pub number_is : w.level.number ≡ length frames
-  pub key_is : w.key.now ≡ f.key
+  pub left_is : w.elements ≡ Some r
+  pub number_is : w.number ≡ length frames
+  pub key_is : w.key ≡ f.key
   pub keys : (refs : List (Bor (List ℕ))) → texts refs ≡ above → HasKeysSoFar k refs sort below (keys_of_frames frames ++ f.key ∷ [])
   pub keys_canonical : AreKeysCanonical sort (keys_of_frames frames ++ f.key ∷ [])
   pub canonical : AreFramesCanonical (IsCanonicalUpTo inside) frames
@@ -121,7 +121,7 @@ module _ (inside : ℕ) (sort : Sort) (d : List ℕ) (below : List (List ℕ)) (
     canonical = frames_more (IsCanonicalUpTo inside) is.frames (frame_of e) v is.canonical m (single_canonical (IsCanonicalUpTo inside) v single);
   }
 
-  pub passed_inside : (e : RawElement) (inner : RawDocument) (is_array : Bool) (new : Option (List ℕ)) (after : List (Bor (List ℕ))) (ks : KeysSoFar) (w : Waiting) → TellsJudged sort below (keys_of_frames is.frames) is.rest new ks after (judged.Inside e inner is_array) → w.level.elements ≡ new → w.level.number ≡ number → w.key.now ≡ (frame_of e).key → IsHeld inside sort d below w ks (sort_of is_array) (bytes_of inner) (texts after)
+  pub passed_inside : (e : RawElement) (inner : RawDocument) (is_array : Bool) (new : Option (List ℕ)) (after : List (Bor (List ℕ))) (ks : KeysSoFar) (w : Wait) → TellsJudged sort below (keys_of_frames is.frames) is.rest new ks after (judged.Inside e inner is_array) → w.elements ≡ new → w.number ≡ number → w.key ≡ (frame_of e).key → IsHeld inside sort d below w ks (sort_of is_array) (bytes_of inner) (texts after)
   passed_inside e inner is_array new after ks w (r, v, at, m, new_is, has, more, holds) left_is number_is key_is = record {
     frames = is.frames;
     s = is.rest;
@@ -145,7 +145,7 @@ module _ (inside : ℕ) (sort : Sort) (d : List ℕ) (below : List (List ℕ)) (
       (is.frames, LeadsTo-walk (drop 4 d) is.frames is.rest Done is.reaches told.0, is.keys_canonical, is.canonical)
 
 -- where nested bytes are canonical, the level that waits for them goes on
-pub resumed : (inside : ℕ) (sort : Sort) (b : List ℕ) (below : List (List ℕ)) (w : Waiting) (k : KeysSoFar) (inner : Sort) (d : List ℕ) (above : List (List ℕ)) (refs : List (Bor (List ℕ))) → IsHeld inside sort b below w k inner d above → IsCanonicalUpTo inside inner d → texts refs ≡ above → IsJudged inside sort b below refs w.level.elements (w.level.number + 1) k
+pub resumed : (inside : ℕ) (sort : Sort) (b : List ℕ) (below : List (List ℕ)) (w : Wait) (k : KeysSoFar) (inner : Sort) (d : List ℕ) (above : List (List ℕ)) (refs : List (Bor (List ℕ))) → IsHeld inside sort b below w k inner d above → IsCanonicalUpTo inside inner d → texts refs ≡ above → IsJudged inside sort b below refs w.elements (w.number + 1) k
 resumed inside sort b below w k inner d above refs is c same = record {
   frames = is.frames ++ is.f ∷ [];
   rest = is.r;
@@ -208,7 +208,7 @@ passed_deep sort d below listed left number k is e inner is_array new after ks (
 -- levels that wait
 
 -- what is left behind a frame of b, and the bytes that its value holds, are within b
-pub held_within : (inside : ℕ) (sort : Sort) (b : List ℕ) (below : List (List ℕ)) (w : Waiting) (k : KeysSoFar) (inner : Sort) (d : List ℕ) (above : List (List ℕ)) (is : IsHeld inside sort b below w k inner d above) → length d + length is.r ≤ length b
+pub held_within : (inside : ℕ) (sort : Sort) (b : List ℕ) (below : List (List ℕ)) (w : Wait) (k : KeysSoFar) (inner : Sort) (d : List ℕ) (above : List (List ℕ)) (is : IsHeld inside sort b below w k inner d above) → length d + length is.r ≤ length b
 held_within inside sort b below w k inner d above is =
     omega (arith, nested_beside is.s is.f is.r is.v d is.frame is.means (as_held is.v inner d is.holds), LeadsTo-bound (drop 4 b) is.frames is.s is.reaches, length-drop 4 b)
 
@@ -217,7 +217,7 @@ outward_offset b s d q [] inside offset start some begins e = absurd (omega (ari
 outward_offset b s d q (step ∷ steps) inside offset start some begins e = (start, begins, e)
 
 -- a verdict on the bytes that a level waits for
-held_verdict : (inside : ℕ) (sort : Sort) (b : List ℕ) (below : List (List ℕ)) (w : Waiting) (k : KeysSoFar) (inner : Sort) (d : List ℕ) (above : List (List ℕ)) (x : Verdict) (steps : List Step) (at offset : ℕ) → IsHeld inside sort b below w k inner d above → 0 < length steps → FirstVerdictTo inside inner d x steps at → offset + (length d + left_behind w) ≡ length b + at → FirstVerdictTo (suc inside) sort b x (step_at w ∷ steps) offset
+held_verdict : (inside : ℕ) (sort : Sort) (b : List ℕ) (below : List (List ℕ)) (w : Wait) (k : KeysSoFar) (inner : Sort) (d : List ℕ) (above : List (List ℕ)) (x : Verdict) (steps : List Step) (at offset : ℕ) → IsHeld inside sort b below w k inner d above → 0 < length steps → FirstVerdictTo inside inner d x steps at → offset + (length d + left_behind w) ≡ length b + at → FirstVerdictTo (suc inside) sort b x (step_at w ∷ steps) offset
 held_verdict inside sort b below w k inner d above x steps at offset is some judges far =
     let left : left_behind w ≡ length is.r = ap left_of is.left_is in
     let behind : length (d ++ is.r) ≡ length d + length is.r = length-append d is.r in
@@ -230,15 +230,15 @@ held_verdict inside sort b below w k inner d above x steps at offset is some jud
 
 -- levels that wait, the outermost first: from the bytes b, which end at this offset of the document, inward to the bytes d,
 -- which end at that one; in the list their keys are one behind the other
-abbrev pub AreHeld : ℕ → Sort → List ℕ → ℕ → List (List ℕ) → List Waiting → List KeysSoFar → Sort → List ℕ → ℕ → List (List ℕ) → Type 0
+abbrev pub AreHeld : ℕ → Sort → List ℕ → ℕ → List (List ℕ) → List Wait → List KeysSoFar → Sort → List ℕ → ℕ → List (List ℕ) → Type 0
 AreHeld inside outer b end under [] [] sort d last below = (outer ≡ sort) × (b ≡ d) × (end ≡ last) × (under ≡ below)
 AreHeld inside outer b end under [] (k ∷ ks) sort d last below = ⊥
 AreHeld inside outer b end under (w ∷ ws) [] sort d last below = ⊥
 AreHeld inside outer b end under (w ∷ ws) (k ∷ ks) sort d last below =
-    (s : Sort) × (c : List ℕ) × (above : List (List ℕ)) × IsHeld (suc (length ws + inside)) outer b under w k s c above × (w.level.offset + left_behind w ≡ end)
-    × AreHeld inside s c w.level.offset above ws ks sort d last below
+    (s : Sort) × (c : List ℕ) × (above : List (List ℕ)) × IsHeld (suc (length ws + inside)) outer b under w k s c above × (w.offset + left_behind w ≡ end)
+    × AreHeld inside s c w.offset above ws ks sort d last below
 
-pub held_more : (inside : ℕ) (outer : Sort) (b : List ℕ) (end : ℕ) (under : List (List ℕ)) (ws : List Waiting) (ks : List KeysSoFar) (sort : Sort) (d : List ℕ) (last : ℕ) (below : List (List ℕ)) (w : Waiting) (k : KeysSoFar) (inner : Sort) (c : List ℕ) (above : List (List ℕ)) → AreHeld (suc inside) outer b end under ws ks sort d last below → IsHeld (suc inside) sort d below w k inner c above → w.level.offset + left_behind w ≡ last → AreHeld inside outer b end under (ws ++ w ∷ []) (ks ++ k ∷ []) inner c w.level.offset above
+pub held_more : (inside : ℕ) (outer : Sort) (b : List ℕ) (end : ℕ) (under : List (List ℕ)) (ws : List Wait) (ks : List KeysSoFar) (sort : Sort) (d : List ℕ) (last : ℕ) (below : List (List ℕ)) (w : Wait) (k : KeysSoFar) (inner : Sort) (c : List ℕ) (above : List (List ℕ)) → AreHeld (suc inside) outer b end under ws ks sort d last below → IsHeld (suc inside) sort d below w k inner c above → w.offset + left_behind w ≡ last → AreHeld inside outer b end under (ws ++ w ∷ []) (ks ++ k ∷ []) inner c w.offset above
 held_more inside outer b end under [] [] sort d last below w k inner c above h is far =
     let same : suc inside ≡ suc (0 + inside) = omega arith in
     let waits : IsHeld (suc (0 + inside)) sort d below w k inner c above = subst (λ (i : ℕ). IsHeld i sort d below w k inner c above) same is in
@@ -247,19 +247,19 @@ held_more inside outer b end under [] (l ∷ ks) sort d last below w k inner c a
 held_more inside outer b end under (x ∷ ws) [] sort d last below w k inner c above h is far = absurd h
 held_more inside outer b end under (x ∷ ws) (l ∷ ks) sort d last below w k inner c above h is far =
     let same : suc (length ws + suc inside) ≡ suc (length (ws ++ w ∷ []) + inside) = omega (arith, length-append ws (w ∷ [])) in
-    (h.0, h.1, h.2, subst (λ (i : ℕ). IsHeld i outer b under x l h.0 h.1 h.2) same h.3, h.4, held_more inside h.0 h.1 x.level.offset h.2 ws ks sort d last below w k inner c above h.5 is far)
+    (h.0, h.1, h.2, subst (λ (i : ℕ). IsHeld i outer b under x l h.0 h.1 h.2) same h.3, h.4, held_more inside h.0 h.1 x.offset h.2 ws ks sort d last below w k inner c above h.5 is far)
 
 -- the innermost of them
-pub record IsLast (inside : ℕ) (outer : Sort) (b : List ℕ) (end : ℕ) (under : List (List ℕ)) (ws : List Waiting) (ks : List KeysSoFar) (w : Waiting) (k : KeysSoFar) (inner : Sort) (c : List ℕ) (above : List (List ℕ)) : Type 0 where
+pub record IsLast (inside : ℕ) (outer : Sort) (b : List ℕ) (end : ℕ) (under : List (List ℕ)) (ws : List Wait) (ks : List KeysSoFar) (w : Wait) (k : KeysSoFar) (inner : Sort) (c : List ℕ) (above : List (List ℕ)) : Type 0 where
   pub sort : Sort
   pub d : List ℕ
   pub last : ℕ
   pub below : List (List ℕ)
   pub held : AreHeld (suc inside) outer b end under ws ks sort d last below
   pub is : IsHeld (suc inside) sort d below w k inner c above
-  pub ends : w.level.offset + left_behind w ≡ last
+  pub ends : w.offset + left_behind w ≡ last
 
-pub held_less : (inside : ℕ) (outer : Sort) (b : List ℕ) (end : ℕ) (under : List (List ℕ)) (ws : List Waiting) (ks : List KeysSoFar) (w : Waiting) (k : KeysSoFar) (inner : Sort) (c : List ℕ) (m : ℕ) (above : List (List ℕ)) → AreHeld inside outer b end under (ws ++ w ∷ []) (ks ++ k ∷ []) inner c m above → IsLast inside outer b end under ws ks w k inner c above
+pub held_less : (inside : ℕ) (outer : Sort) (b : List ℕ) (end : ℕ) (under : List (List ℕ)) (ws : List Wait) (ks : List KeysSoFar) (w : Wait) (k : KeysSoFar) (inner : Sort) (c : List ℕ) (m : ℕ) (above : List (List ℕ)) → AreHeld inside outer b end under (ws ++ w ∷ []) (ks ++ k ∷ []) inner c m above → IsLast inside outer b end under ws ks w k inner c above
 held_less inside outer b end under [] [] w k inner c m above h =
     let same : suc (0 + inside) ≡ suc inside = omega arith in
     let waits : IsHeld (suc inside) outer b under w k h.0 h.1 h.2 = subst (λ (i : ℕ). IsHeld i outer b under w k h.0 h.1 h.2) same h.3 in
@@ -269,12 +269,12 @@ held_less inside outer b end under [] (l ∷ j ∷ ks) w k inner c m above h = a
 held_less inside outer b end under (x ∷ []) [] w k inner c m above h = absurd h.5
 held_less inside outer b end under (x ∷ y ∷ ws) [] w k inner c m above h = absurd h.5
 held_less inside outer b end under (x ∷ ws) (l ∷ ks) w k inner c m above h =
-    let less = held_less inside h.0 h.1 x.level.offset h.2 ws ks w k inner c m above h.5 in
+    let less = held_less inside h.0 h.1 x.offset h.2 ws ks w k inner c m above h.5 in
     let same : suc (length (ws ++ w ∷ []) + inside) ≡ suc (length ws + suc inside) = omega (arith, length-append ws (w ∷ [])) in
     record { sort = less.sort; d = less.d; last = less.last; below = less.below; held = (h.0, h.1, h.2, subst (λ (i : ℕ). IsHeld i outer b under x l h.0 h.1 h.2) same h.3, h.4, less.held); is = less.is; ends = less.ends }
 
 -- a verdict on the bytes d, at this offset of the document, is one on b
-pub verdict_outward : (inside : ℕ) (outer : Sort) (b : List ℕ) (end : ℕ) (under : List (List ℕ)) (ws : List Waiting) (ks : List KeysSoFar) (sort : Sort) (d : List ℕ) (last : ℕ) (below : List (List ℕ)) (x : Verdict) (step : Step) (at offset : ℕ) → AreHeld inside outer b end under ws ks sort d last below → FirstVerdictTo (suc inside) sort d x (step ∷ []) at → at + last ≡ offset + length d → (u : ℕ) × FirstVerdictTo (suc (length ws + inside)) outer b x (map step_at ws ++ step ∷ []) u × (u + end ≡ offset + length b)
+pub verdict_outward : (inside : ℕ) (outer : Sort) (b : List ℕ) (end : ℕ) (under : List (List ℕ)) (ws : List Wait) (ks : List KeysSoFar) (sort : Sort) (d : List ℕ) (last : ℕ) (below : List (List ℕ)) (x : Verdict) (step : Step) (at offset : ℕ) → AreHeld inside outer b end under ws ks sort d last below → FirstVerdictTo (suc inside) sort d x (step ∷ []) at → at + last ≡ offset + length d → (u : ℕ) × FirstVerdictTo (suc (length ws + inside)) outer b x (map step_at ws ++ step ∷ []) u × (u + end ≡ offset + length b)
 verdict_outward inside outer b end under [] [] sort d last below x step at offset h judges far =
     let same : suc inside ≡ suc (0 + inside) = omega arith in
     let here : FirstVerdictTo (suc (0 + inside)) sort d x (step ∷ []) at = subst (λ (depth : ℕ). FirstVerdictTo depth sort d x (step ∷ []) at) same judges in
@@ -283,7 +283,7 @@ verdict_outward inside outer b end under [] [] sort d last below x step at offse
 verdict_outward inside outer b end under [] (k ∷ ks) sort d last below x step at offset h judges far = absurd h
 verdict_outward inside outer b end under (w ∷ ws) [] sort d last below x step at offset h judges far = absurd h
 verdict_outward inside outer b end under (w ∷ ws) (k ∷ ks) sort d last below x step at offset h judges far =
-    let there = verdict_outward inside h.0 h.1 w.level.offset h.2 ws ks sort d last below x step at offset h.5 judges far in
+    let there = verdict_outward inside h.0 h.1 w.offset h.2 ws ks sort d last below x step at offset h.5 judges far in
     let left : left_behind w ≡ length h.3.r = ap left_of h.3.left_is in
     let fits : length h.1 + length h.3.r ≤ length b = held_within (suc (length ws + inside)) outer b under w k h.0 h.1 h.2 h.3 in
     let u : ℕ = length b - (length h.1 + left_behind w) + there.0 in

@@ -1,6 +1,7 @@
 pub mod Looking
 pub mod Passing
 pub mod Outward
+pub mod Lying
 pub mod Levels
 pub mod Told
 pub mod Keeping
@@ -14,6 +15,8 @@ pub mod Writing
 pub mod Formed
 pub mod JudgedLevels
 pub mod JudgedAt
+pub mod OnePlace
+pub mod OneBarrier
 pub mod OneVerdict
 pub mod Rooms
 pub mod Flattening

@@ -1,5 +1,5 @@
 -- A document has one verdict at most within a depth, at one place, and none where it is canonical.
-use Rattle.std.proofs.Common.{◌≡◌, inl, inr, ◌++◌, ◌∷◌, [], ℕ, zero, suc, List, None, Some, length, drop, arith, ap, refl, sym, ◌∙◌, subst, append_assoc}
+use Rattle.std.proofs.Common.{◌≡◌, inl, inr, ◌++◌, ◌∷◌, [], ℕ, zero, suc, List, None, Some, length, drop, ap, refl, sym, ◌∙◌, subst, append_assoc}
 use Rattle.std.proofs.lemmas.List.{append-nil}
 use Rattle.raw_view.specs.Frame.{Frame, IsFrame, IsWalk, Done, LeadsTo}
 use Rattle.raw_view.specs.Meaning.{RawValue, Meaning, Means, value, faulty}
@@ -11,8 +11,9 @@ use Rattle.raw_tree.specs.Reading.{Sort, as_document, as_array}
 use Rattle.raw_tree.specs.declared.breach.Cause.{Cause}
 use Rattle.raw_tree.specs.declared.limits.Limits.{Limits}
 use Rattle.raw_tree.proofs.Face.{keys_front, key_nor_breach}
-use Rattle.raw_form.specs.Places.{Step, IsNext, IsOffsetOf}
+use Rattle.raw_form.specs.Places.{Step, IsOffsetOf}
 use Rattle.raw_form.specs.Verdicts.{Verdict, breach_of, JudgesNestedAt, JudgesMeaningAt, JudgesFrameAt, JudgesFrontAt, FirstVerdictTo, AllAreJudgedOneWayWithin}
+use Rattle.raw_form.proofs.OnePlace.{one_next, one_offset}
 
 -- the same verdict at the same place
 abbrev pub AreSame : Verdict → List Step → ℕ → Verdict → List Step → ℕ → Type 0
@@ -74,13 +75,6 @@ module _ (P : Sort → List ℕ → Type 0) (N : Sort → List ℕ → Verdict �
 
   -- and are the same there, where those of nested bytes are
   module _ (one : (sort : Sort) (d : List ℕ) (x y : Verdict) (path other : List Step) (offset at : ℕ) → N sort d x path offset → N sort d y other at → AreSame x path offset y other at) where
-    one_next : (b s : List ℕ) (step : Step) (path other : List Step) (offset at : ℕ) → IsNext b s step path offset → IsNext b s step other at → (other ≡ path) × (at ≡ offset)
-    one_next b s step path other offset at h g = (g.0 ∙ sym h.0, omega (arith, h.1, g.1))
-
-    one_offset : (b s d q : List ℕ) (steps : List Step) (inside offset at : ℕ) → IsOffsetOf b s d q steps inside offset → IsOffsetOf b s d q steps inside at → at ≡ offset
-    one_offset b s d q [] inside offset at h g = omega (arith, h, g)
-    one_offset b s d q (step ∷ steps) inside offset at h g = omega (arith, h.1, h.2, g.1, g.2)
-
     one_nested : (b s : List ℕ) (step : Step) (q : List ℕ) (sort : Sort) (d : List ℕ) (x y : Verdict) (path other : List Step) (offset at : ℕ) → JudgesNestedAt P N b s step q sort d x path offset → JudgesNestedAt P N b s step q sort d y other at → AreSame x path offset y other at
     one_nested b s step q sort d x y path other offset at (steps, inside, h, path_is, offset_is) (steps2, inside2, g, other_is, at_is) =
         let same = one sort d x y steps steps2 inside inside2 h g in

@@ -6,54 +6,59 @@ use Rattle.raw_tree.specs.Validating.{left_of}
 use Rattle.raw_tree.specs.WithinLimits.{Barrier}
 use Rattle.raw_form.specs.Looking.{step_at}
 use Rattle.raw_form.specs.Places.{Step, FirstFaultAt}
-use Rattle.raw_form.specs.declared.level.Waiting.{Waiting}
+use Rattle.raw_form.specs.Waits.{Wait}
 use Rattle.raw_form.proofs.Passing.{held_within, held_barrier, IsHeld, left_behind}
 
 -- levels that wait, the outermost first: from the bytes b, which end at this offset of the document, inward to the bytes d,
 -- which end at that one; at most so many levels may be inside d. Nested bytes end where what is left of their level begins.
-abbrev pub AreHeld : ℕ → Sort → List ℕ → ℕ → List Waiting → Sort → List ℕ → ℕ → Type 0
+abbrev pub AreHeld : ℕ → Sort → List ℕ → ℕ → List Wait → Sort → List ℕ → ℕ → Type 0
 AreHeld inside outer b end [] sort d last = (outer ≡ sort) × (b ≡ d) × (end ≡ last)
 AreHeld inside outer b end (w ∷ ws) sort d last =
-    (s : Sort) × (c : List ℕ) × IsHeld (suc (length ws + inside)) b w s c × (w.level.offset + left_behind w ≡ end) × AreHeld inside s c w.level.offset ws sort d last
+    (s : Sort) × (c : List ℕ) × IsHeld (suc (length ws + inside)) b w s c × (w.offset + left_behind w ≡ end) × AreHeld inside s c w.offset ws sort d last
 
-pub held_more : (inside : ℕ) (outer : Sort) (b : List ℕ) (end : ℕ) (ws : List Waiting) (sort : Sort) (d : List ℕ) (last : ℕ) (w : Waiting) (inner : Sort) (c : List ℕ) → AreHeld (suc inside) outer b end ws sort d last → IsHeld (suc inside) d w inner c → w.level.offset + left_behind w ≡ last → AreHeld inside outer b end (ws ++ w ∷ []) inner c w.level.offset
+pub held_more : (inside : ℕ) (outer : Sort) (b : List ℕ) (end : ℕ) (ws : List Wait) (sort : Sort) (d : List ℕ) (last : ℕ) (w : Wait) (inner : Sort) (c : List ℕ) → AreHeld (suc inside) outer b end ws sort d last → IsHeld (suc inside) d w inner c → w.offset + left_behind w ≡ last → AreHeld inside outer b end (ws ++ w ∷ []) inner c w.offset
 held_more inside outer b end [] sort d last w inner c h is far =
     let same : suc inside ≡ suc (0 + inside) = omega arith in
     let waits : IsHeld (suc (0 + inside)) d w inner c = subst (λ (i : ℕ). IsHeld i d w inner c) same is in
     (inner, c, rw (h.1) waits, far ∙ sym h.2, (refl, refl, refl))
 held_more inside outer b end (x ∷ ws) sort d last w inner c h is far =
     let same : suc (length ws + suc inside) ≡ suc (length (ws ++ w ∷ []) + inside) = omega (arith, length-append ws (w ∷ [])) in
-    (h.0, h.1, subst (λ (i : ℕ). IsHeld i b x h.0 h.1) same h.2, h.3, held_more inside h.0 h.1 x.level.offset ws sort d last w inner c h.4 is far)
+    (h.0, h.1, subst (λ (i : ℕ). IsHeld i b x h.0 h.1) same h.2, h.3, held_more inside h.0 h.1 x.offset ws sort d last w inner c h.4 is far)
 
-pub held_less : (inside : ℕ) (outer : Sort) (b : List ℕ) (end : ℕ) (ws : List Waiting) (w : Waiting) (inner : Sort) (c : List ℕ) (m : ℕ) → AreHeld inside outer b end (ws ++ w ∷ []) inner c m → (sort : Sort) × (d : List ℕ) × (last : ℕ) × AreHeld (suc inside) outer b end ws sort d last × IsHeld (suc inside) d w inner c × (w.level.offset + left_behind w ≡ last)
+pub held_less : (inside : ℕ) (outer : Sort) (b : List ℕ) (end : ℕ) (ws : List Wait) (w : Wait) (inner : Sort) (c : List ℕ) (m : ℕ) → AreHeld inside outer b end (ws ++ w ∷ []) inner c m → (sort : Sort) × (d : List ℕ) × (last : ℕ) × AreHeld (suc inside) outer b end ws sort d last × IsHeld (suc inside) d w inner c × (w.offset + left_behind w ≡ last)
 held_less inside outer b end [] w inner c m h =
     let same : suc (0 + inside) ≡ suc inside = omega arith in
     let waits : IsHeld (suc inside) b w h.0 h.1 = subst (λ (i : ℕ). IsHeld i b w h.0 h.1) same h.2 in
     let there : IsHeld (suc inside) b w inner c = subst (λ (x : List ℕ). IsHeld (suc inside) b w inner x) h.4.1 (subst (λ (x : Sort). IsHeld (suc inside) b w x h.1) h.4.0 waits) in
     (outer, b, end, (refl, refl, refl), there, h.3)
 held_less inside outer b end (x ∷ ws) w inner c m h =
-    let less = held_less inside h.0 h.1 x.level.offset ws w inner c m h.4 in
+    let less = held_less inside h.0 h.1 x.offset ws w inner c m h.4 in
     let same : suc (length (ws ++ w ∷ []) + inside) ≡ suc (length ws + suc inside) = omega (arith, length-append ws (w ∷ [])) in
     (less.0, less.1, less.2, (h.0, h.1, subst (λ (i : ℕ). IsHeld i b x h.0 h.1) same h.2, h.3, less.3), less.4, less.5)
 
+-- the innermost bytes end where the innermost level that waits goes on
+pub held_last : (inside : ℕ) (outer : Sort) (b : List ℕ) (end : ℕ) (ws : List Wait) (w : Wait) (inner : Sort) (c : List ℕ) (m : ℕ) → AreHeld inside outer b end (ws ++ w ∷ []) inner c m → w.offset ≡ m
+held_last inside outer b end [] w inner c m h = h.4.2
+held_last inside outer b end (x ∷ ws) w inner c m h = held_last inside h.0 h.1 x.offset ws w inner c m h.4
+
 -- nested bytes end no later than those that hold them, and begin no earlier
-pub held_ends : (inside : ℕ) (outer : Sort) (b : List ℕ) (end : ℕ) (ws : List Waiting) (sort : Sort) (d : List ℕ) (last : ℕ) → AreHeld inside outer b end ws sort d last → length b ≤ end → (length d ≤ last) × (last ≤ end)
+pub held_ends : (inside : ℕ) (outer : Sort) (b : List ℕ) (end : ℕ) (ws : List Wait) (sort : Sort) (d : List ℕ) (last : ℕ) → AreHeld inside outer b end ws sort d last → length b ≤ end → (length d ≤ last) × (last ≤ end)
 held_ends inside outer b end [] sort d last h fits = (omega (arith, ap length h.1, h.2, fits), omega (arith, h.2))
 held_ends inside outer b end (w ∷ ws) sort d last h fits =
     let left : left_behind w ≡ length h.2.r = ap left_of h.2.left_is in
     let here : length h.1 + length h.2.r ≤ length b = held_within (suc (length ws + inside)) b w h.0 h.1 h.2 in
-    let there = held_ends inside h.0 h.1 w.level.offset ws sort d last h.4 (omega (arith, left, here, fits, h.3)) in
+    let there = held_ends inside h.0 h.1 w.offset ws sort d last h.4 (omega (arith, left, here, fits, h.3)) in
     (there.0, omega (arith, there.1, h.3))
 
 -- a barrier of the bytes d, at this offset of the document, is one of b
-pub barrier_outward : (inside : ℕ) (outer : Sort) (b : List ℕ) (end : ℕ) (ws : List Waiting) (sort : Sort) (d : List ℕ) (last : ℕ) (x : Barrier) (step : Step) (at offset : ℕ) → AreHeld inside outer b end ws sort d last → FirstFaultAt (suc inside) d x (step ∷ []) at → at + last ≡ offset + length d → (u : ℕ) × FirstFaultAt (suc (length ws + inside)) b x (map step_at ws ++ step ∷ []) u × (u + end ≡ offset + length b)
+pub barrier_outward : (inside : ℕ) (outer : Sort) (b : List ℕ) (end : ℕ) (ws : List Wait) (sort : Sort) (d : List ℕ) (last : ℕ) (x : Barrier) (step : Step) (at offset : ℕ) → AreHeld inside outer b end ws sort d last → FirstFaultAt (suc inside) d x (step ∷ []) at → at + last ≡ offset + length d → (u : ℕ) × FirstFaultAt (suc (length ws + inside)) b x (map step_at ws ++ step ∷ []) u × (u + end ≡ offset + length b)
 barrier_outward inside outer b end [] sort d last x step at offset h bars far =
     let same : suc inside ≡ suc (0 + inside) = omega arith in
     let here : FirstFaultAt (suc (0 + inside)) d x (step ∷ []) at = subst (λ (depth : ℕ). FirstFaultAt depth d x (step ∷ []) at) same bars in
     let size : length b ≡ length d = ap length h.1 in
     (at, rw (h.1) here, omega (arith, far, h.2, size))
 barrier_outward inside outer b end (w ∷ ws) sort d last x step at offset h bars far =
-    let there = barrier_outward inside h.0 h.1 w.level.offset ws sort d last x step at offset h.4 bars far in
+    let there = barrier_outward inside h.0 h.1 w.offset ws sort d last x step at offset h.4 bars far in
     let left : left_behind w ≡ length h.2.r = ap left_of h.2.left_is in
     let fits : length h.1 + length h.2.r ≤ length b = held_within (suc (length ws + inside)) b w h.0 h.1 h.2 in
     let u : ℕ = length b - (length h.1 + left_behind w) + there.0 in

@@ -21,7 +21,7 @@ use Rattle.raw_tree.specs.WithinLimits.{Barrier, fault_of, too_deep}
 use Rattle.raw_tree.proofs.Face.{stand_more, nested_beside}
 use Rattle.raw_form.specs.Looking.{FailsAt, HoldsNone, Looks, step_at}
 use Rattle.raw_form.specs.Places.{Step, BeginsAt, IsOffsetOf, FirstFaultAt}
-use Rattle.raw_form.specs.declared.level.Waiting.{Waiting}
+use Rattle.raw_form.specs.Waits.{Wait}
 use Rattle.raw_form.specs.declared.level.Next.TheVariants as next
 
 -- values
@@ -72,7 +72,7 @@ pub record IsPassed (inside : ℕ) (b : List ℕ) (left : Option (List ℕ)) (nu
   pub number_is : number ≡ length frames
 
 -- and the value of the frame behind them, under this key, holds the bytes d
-pub record IsHeld (inside : ℕ) (b : List ℕ) (w : Waiting) (sort : Sort) (d : List ℕ) : Type 0 where
+pub record IsHeld (inside : ℕ) (b : List ℕ) (w : Wait) (sort : Sort) (d : List ℕ) : Type 0 where
   pub frames : List Frame
   pub pairs : List (List ℕ × Tree)
   pub s : List ℕ
@@ -81,16 +81,17 @@ pub record IsHeld (inside : ℕ) (b : List ℕ) (w : Waiting) (sort : Sort) (d :
   pub v : RawValue
   pub passed : LeadsTo (drop 4 b) frames s
   pub frame : IsFrame s f r
-  pub left_is : w.level.elements ≡ Some r
-  pub number_is : w.level.number ≡ length frames
-  pub key_is : w.key.now ≡ f.key
+  pub bytes_are : w.bytes ≡ b
+  pub left_is : w.elements ≡ Some r
+  pub number_is : w.number ≡ length frames
+  pub key_is : w.key ≡ f.key
   pub each : StandForEach (ReadsUpTo inside) frames pairs
   pub means : Means f (value v)
   pub holds : HoldsAs v sort d
 
 -- what is left of the level that waits
-abbrev pub left_behind : Waiting → ℕ
-left_behind w = left_of w.level.elements
+abbrev pub left_behind : Wait → ℕ
+left_behind w = left_of w.elements
 
 pub begun : (inside : ℕ) (d : List ℕ) (left : Option (List ℕ)) (number : ℕ) → left ≡ Some (drop 4 d) → number ≡ 0 → IsPassed inside d left number
 begun inside d left number e none = record { frames = []; pairs = []; passed = rw e refl; each = refl; number_is = none }
@@ -109,9 +110,9 @@ passed_whole inside b (Some s) new number e is (r, v, at, m, none, new_is) =
     }
 
 -- a level waits at the frame whose value holds the next one
-pub passed_inside : (inside : ℕ) (b : List ℕ) (old new : Option (List ℕ)) (number : ℕ) (e : RawElement) (inner : RawDocument) (w : Waiting) → IsPassed inside b old number → Looks old new (next.Inside e inner) → w.level.elements ≡ new → w.level.number ≡ number → w.key.now ≡ (frame_of e).key → (sort : Sort) × IsHeld inside b w sort (bytes_of inner)
-passed_inside inside b None new number e inner w is looks left n k = absurd is.passed
-passed_inside inside b (Some s) new number e inner w is (r, v, at, m, holds, new_is) left n k =
+pub passed_inside : (inside : ℕ) (b : List ℕ) (old new : Option (List ℕ)) (number : ℕ) (e : RawElement) (inner : RawDocument) (w : Wait) → IsPassed inside b old number → Looks old new (next.Inside e inner) → w.bytes ≡ b → w.elements ≡ new → w.number ≡ number → w.key ≡ (frame_of e).key → (sort : Sort) × IsHeld inside b w sort (bytes_of inner)
+passed_inside inside b None new number e inner w is looks same left n k = absurd is.passed
+passed_inside inside b (Some s) new number e inner w is (r, v, at, m, holds, new_is) same left n k =
     let sorted = held_as v (bytes_of inner) holds in (
       sorted.0,
       record {
@@ -123,6 +124,7 @@ passed_inside inside b (Some s) new number e inner w is (r, v, at, m, holds, new
         v = v;
         passed = is.passed;
         frame = at;
+        bytes_are = same;
         left_is = left ∙ new_is;
         number_is = n ∙ is.number_is;
         key_is = k;
@@ -164,7 +166,7 @@ passed_deep b (Some s) new number e inner is (r, v, at, m, holds, new_is) offset
     (is.frames, is.pairs, s, is.passed, is.each, inr (frame_of e, r, at, inr (v, bytes_of inner, [], 0, m, holds, (refl, refl, refl), step, begins)))
 
 -- what is left behind a frame of b, and the bytes that its value holds, are within b
-pub held_within : (inside : ℕ) (b : List ℕ) (w : Waiting) (sort : Sort) (d : List ℕ) → (is : IsHeld inside b w sort d) → length d + length is.r ≤ length b
+pub held_within : (inside : ℕ) (b : List ℕ) (w : Wait) (sort : Sort) (d : List ℕ) → (is : IsHeld inside b w sort d) → length d + length is.r ≤ length b
 held_within inside b w sort d is =
     omega (arith, nested_beside is.s is.f is.r is.v d is.frame is.means (as_held is.v sort d is.holds), LeadsTo-bound (drop 4 b) is.frames is.s is.passed, length-drop 4 b)
 
@@ -173,7 +175,7 @@ outward_offset b s d q [] inside offset start some begins e = absurd (omega (ari
 outward_offset b s d q (step ∷ steps) inside offset start some begins e = (start, begins, e)
 
 -- a barrier of the bytes that a level waits for
-pub held_barrier : (inside : ℕ) (b : List ℕ) (w : Waiting) (sort : Sort) (d : List ℕ) (x : Barrier) (steps : List Step) (at offset : ℕ) → IsHeld inside b w sort d → 0 < length steps → FirstFaultAt inside d x steps at → offset + (length d + left_behind w) ≡ length b + at → FirstFaultAt (suc inside) b x (step_at w ∷ steps) offset
+pub held_barrier : (inside : ℕ) (b : List ℕ) (w : Wait) (sort : Sort) (d : List ℕ) (x : Barrier) (steps : List Step) (at offset : ℕ) → IsHeld inside b w sort d → 0 < length steps → FirstFaultAt inside d x steps at → offset + (length d + left_behind w) ≡ length b + at → FirstFaultAt (suc inside) b x (step_at w ∷ steps) offset
 held_barrier inside b w sort d x steps at offset is some bars far =
     let left : left_behind w ≡ length is.r = ap left_of is.left_is in
     let behind : length (d ++ is.r) ≡ length d + length is.r = length-append d is.r in
@@ -184,7 +186,7 @@ held_barrier inside b w sort d x steps at offset is some bars far =
     (is.frames, is.pairs, is.s, is.passed, is.each, inr (is.f, is.r, is.frame, inr (is.v, d, steps, at, is.means, as_held is.v sort d is.holds, bars, step, outward_offset b is.s d is.r steps at offset start some begins there)))
 
 -- where they are read, it goes on
-pub resumed : (inside : ℕ) (b : List ℕ) (w : Waiting) (sort : Sort) (d : List ℕ) → IsHeld inside b w sort d → AreReadTo inside sort d → IsPassed inside b w.level.elements (w.level.number + 1)
+pub resumed : (inside : ℕ) (b : List ℕ) (w : Wait) (sort : Sort) (d : List ℕ) → IsHeld inside b w sort d → AreReadTo inside sort d → IsPassed inside b w.elements (w.number + 1)
 resumed inside b w sort d is read =
     let t = held_stands inside is.v sort d is.holds read in
     record {

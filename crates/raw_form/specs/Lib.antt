@@ -1,5 +1,6 @@
 pub mod Places
 pub mod Barriers
+pub mod Waits
 pub mod Looking
 pub mod Staying
 pub mod Rewriting

@@ -1,4 +1,4 @@
--- What a look at a level tells. No public contract cites this file.
+-- What a look at a level tells. Public contracts go by `size_of` alone of what is here.
 use Rattle.std.specs.Prelude.{◌≡◌, ◌+◌, ℕ, suc, List, [], ◌∷◌, drop, length, Option, None, Some}
 use Rattle.std.specs.Option.{option_copied}
 use Rattle.raw_view.specs.Document.{bytes_of}
@@ -11,13 +11,13 @@ use Rattle.raw_view.specs.Meaning as raw
 use Rattle.raw_view.specs.declared.document.RawDocument.{RawDocument}
 use Rattle.raw_tree.specs.Reading.{Holds, StandForEach, ReadsUpTo}
 use Rattle.raw_form.specs.Places.{Step, BeginsAt}
-use Rattle.raw_form.specs.declared.level.Waiting.{Waiting}
+use Rattle.raw_form.specs.Waits.{Wait}
 use Rattle.raw_form.specs.declared.level.Next.{Next}
 use Rattle.raw_form.specs.declared.level.Next.TheVariants as next
 
 -- the step at which a level waits
-abbrev pub step_at : Waiting → Step
-step_at w = record { number = w.level.number; key = Some w.key.now }
+abbrev pub step_at : Wait → Step
+step_at w = record { number = w.number; key = Some w.key }
 
 -- how many bytes a frame takes: a tag, its key with a 0, and its payload
 abbrev pub size_of : Frame → ℕ

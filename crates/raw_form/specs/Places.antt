@@ -63,3 +63,9 @@ abbrev pub FirstBarrierAt : Limits → List ℕ → Barrier → List Step → �
 FirstBarrierAt limits b x path offset =
     ((limits.bytes < length b) × (x ≡ too_many_bytes) × (path ≡ []) × (offset ≡ 0))
     ⊎ ((length b ≤ limits.bytes) × FirstFaultAt limits.depth b x path offset)
+
+-- a document has one first barrier at most, at one place
+abbrev pub AllAreBarredAtOnePlace : Limits → Type 0
+AllAreBarredAtOnePlace limits =
+    (b : List ℕ) (x other : Barrier) (path other_path : List Step) (offset other_offset : ℕ) → FirstBarrierAt limits b x path offset → FirstBarrierAt limits b other other_path other_offset
+    → (other ≡ x) × (other_path ≡ path) × (other_offset ≡ offset)

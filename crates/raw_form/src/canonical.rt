@@ -72,8 +72,9 @@ fn form_within(alloc: Global, document: RawDocument<'_>, limits: Limits) -> Resu
 /// no others, have equal canonical forms; one that is canonical is its own. The error is the first of: no envelope; more
 /// bytes than allowed; the first barrier, depth first in byte order, as `first_fault_within` tells it, with the key of a
 /// fault; a form of over 2147483647 bytes, which is told only once the whole document was read. Out of memory may come in
-/// place of the last two. No tree is built, it takes n log n steps whatever the keys are, and no depth fills the stack. BSON
-/// 1.1, `document`.
+/// place of the last two. BSON 1.1, `document`.
+///
+/// No clause says so: no tree is built, it takes n log n steps whatever the keys are, and no depth fills the stack.
 /// ```
 /// let limits = Limits { bytes: 1000, depth: 10 };
 /// let form = canonical_within(alloc, b"\x0C\0\0\0\x10a\0\x01\0\0\0\0", limits)?;

@@ -4,6 +4,7 @@
 ghost use Rattle.std.specs.Prelude.{◌<◌, IfOk, IfErr};
 ghost use Rattle.raw_form.specs.Barriers.{IsOutOfMemoryWithin, TellsBarrier, TellsBarrierWithin};
 ghost use Rattle.raw_form.specs.Looking.{HasNoneBefore};
+ghost use Rattle.raw_form.specs.Places.{AllAreBarredAtOnePlace};
 ghost use Rattle.raw_tree.specs.WithinLimits.{AllAreAnsweredOneWay};
 ghost use Rattle.raw_view.specs.Document.{bytes_of};
 ghost use Rattle.raw_view.specs.Errors.{IsOutOfMemory};
@@ -14,7 +15,6 @@ use crate::place::{Place, place_in};
 use raw_tree::Limits;
 use raw_view::{Elements, Error, RawDocument, Result};
 use std::alloc::Global;
-use std::mem;
 
 /// Where the first barrier is looked for.
 #[derive(Clone, Copy)]
@@ -53,11 +53,12 @@ pub(crate) fn first_behind<'a>(
     let Some(elements) = Elements::from_offset(document, start.offset) else {
         unreachable!()
     };
-    let mut waiting: Vec<Waiting<'a>> = Vec::new(alloc);
+    let mut waiting: Vec<Waiting> = Vec::new(alloc);
     let mut level = Level {
         elements,
         number: start.number,
         offset: start.offset,
+        start: 0,
     };
     'levels: loop {
         let offset = level.offset;
@@ -67,23 +68,26 @@ pub(crate) fn first_behind<'a>(
                 level.number += 1;
             }
             Next::Inside(element, inner) => {
-                let key = element.key();
                 if waiting.len() >= most_waiting {
-                    let place = place_in(alloc, &waiting, level.number, Some(key), offset)?;
+                    let key = Some(element.key());
+                    let place = place_in(alloc, document, &waiting, level.number, key, offset)?;
                     return Ok(Some(Barrier {
                         kind: BarrierKind::TooDeep,
                         place,
                     }));
                 }
-                level.offset = behind(offset, element);
-                let inner = Level::new(inner, level.offset);
-                let level = mem::replace(&mut level, inner);
-                if waiting.push(Waiting { level, key }).is_err() {
+                let outer = Waiting {
+                    start: level.start as u32,
+                    element: offset as u32,
+                    number: level.number as u32,
+                };
+                if waiting.push(outer).is_err() {
                     return Err(Error::out_of_memory());
                 }
+                level = Level::new(inner, behind(offset, element));
             }
             Next::Fault(key, error) => {
-                let place = place_in(alloc, &waiting, level.number, key, offset)?;
+                let place = place_in(alloc, document, &waiting, level.number, key, offset)?;
                 return Ok(Some(Barrier {
                     kind: BarrierKind::Fault(error),
                     place,
@@ -93,8 +97,7 @@ pub(crate) fn first_behind<'a>(
                 let Some(outer) = waiting.pop() else {
                     return Ok(None);
                 };
-                level = outer.level;
-                level.number += 1;
+                level = Level::behind(document, outer, offset + 1);
             }
         }
     }
@@ -103,9 +106,11 @@ pub(crate) fn first_behind<'a>(
 /// The first barrier of a document within limits, and where it is; none exactly where it has a tree within them, memory
 /// aside. More bytes than allowed are the barrier before all others; else it is the first, depth first in byte
 /// order, of a fault at any level, with the key that this fault itself carries, and of the entry into a level that is too
-/// deep. No tree is built, no key is copied, and no depth fills the stack; memory is taken for the levels that wait and for
-/// the path, and the only error is out of memory, which comes only where the bytes aren't too many and a level may be
-/// entered. BSON 1.1, `document`.
+/// deep. The only error is out of memory, which comes only where the bytes aren't too many and a level may be entered. BSON
+/// 1.1, `document`.
+///
+/// No clause says so: no tree is built, no key is copied, and no depth fills the stack. Memory is taken for the levels that
+/// wait and for the path.
 /// ```
 /// let document = RawDocument::from_bytes(b"\x09\0\0\0\x08a\0\x02\0")?;
 /// let limits = Limits { bytes: 1000, depth: 10 };
@@ -120,6 +125,7 @@ pub fn first_fault_within<'a>(
     ensures barrier { IfOk result (TellsBarrier limits (bytes_of document.entry)) }
     ensures err { IfErr result (IsOutOfMemoryWithin limits (bytes_of document.entry)) }
     ensures one_answer { AllAreAnsweredOneWay limits }
+    ensures one_place { AllAreBarredAtOnePlace limits }
 {
     if document.as_bytes().len() > limits.bytes {
         return Ok(Some(Barrier {

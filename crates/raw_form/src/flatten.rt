@@ -3,6 +3,7 @@
 
 ghost use Rattle.std.specs.Prelude.{◌≡◌, ◌+◌, ◌≤◌, length, None, IfOk, IfErr};
 ghost use Rattle.raw_form.specs.Flattening.{FlattensLevel, HaltsLevel};
+ghost use Rattle.raw_form.specs.Places.{AllAreBarredAtOnePlace};
 ghost use Rattle.raw_form.specs.Tokens.{Flattens};
 ghost use Rattle.raw_tree.specs.WithinLimits.{AllAreAnsweredOneWay};
 ghost use Rattle.raw_view.specs.Document.{bytes_of};
@@ -101,9 +102,11 @@ fn flatten_level<'a>(
 }
 
 /// The elements of all levels of a document within limits as tokens, depth first in byte order: how many there are, of which
-/// as many as there is room for are put there; a code with scope has the elements of its scope inside. Else the first
-/// barrier, as `first_fault_within` has it, and as many numbers of its path as there is room for. No memory is taken; a
-/// level takes stack. BSON 1.1, `document`.
+/// as many as there is room for are put there; a code with scope has the elements of its scope inside. The rest of the room,
+/// and that of the path, is as it was. Else the first barrier, as `first_fault_within` has it, and as many numbers of its path
+/// as there is room for; what is in the room for tokens then isn't said. BSON 1.1, `document`.
+///
+/// No clause says so: no memory is taken, and a level takes stack.
 /// ```
 /// let document = RawDocument::from_bytes(b"\x13\0\0\0\x10a\0\x01\0\0\0\x10b\0\x02\0\0\0\0")?;
 /// let limits = Limits { bytes: 1000, depth: 10 };
@@ -119,6 +122,7 @@ pub fn flatten_within<'a>(
 ) -> std::result::Result<usize, Halt<'a>>
     ensures flat { Flattens limits (bytes_of document.entry) tokens.old tokens.new path.old path.new result }
     ensures one_answer { AllAreAnsweredOneWay limits }
+    ensures one_place { AllAreBarredAtOnePlace limits }
 {
     let len = document.as_bytes().len();
     if len > limits.bytes {

@@ -186,7 +186,7 @@ impl<'a> Held<'a> {
 
 /// Ends a payload that starts at this place, with code of this length if it is code with a scope: puts the final 0, and sets
 /// the lengths.
-pub(crate) fn put_end(out: &mut Vec<u8>, start: usize, code_len: Option<usize>) -> Result<()>
+pub(crate) fn put_end(out: &mut Vec<u8>, start: u32, code_len: Option<u32>) -> Result<()>
     requires { start + header_len code_len ≤ vec_len out.old }
     ensures items { OnOk result
         (out.new.items ≡ ended_by code_len start (out.old.items ++ 0 ∷ [])) }
@@ -196,8 +196,9 @@ pub(crate) fn put_end(out: &mut Vec<u8>, start: usize, code_len: Option<usize>) 
 {
     make_room(out, 1)?;
     out.push_reserved(0);
+    let start = start as usize;
     if let Some(len) = code_len {
-        set_len(out, start + 9 + len);
+        set_len(out, start + 9 + len as usize);
     }
     set_len(out, start);
     Ok(())

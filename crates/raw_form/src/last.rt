@@ -77,7 +77,7 @@ pub(crate) fn places_of<'a>(
 }
 
 /// The element that begins at this offset.
-fn element_at(document: RawDocument<'_>, offset: usize) -> RawElement<'_>
+pub(crate) fn element_at(document: RawDocument<'_>, offset: usize) -> RawElement<'_>
     requires within { (4 ≤ offset) × (offset ≤ length (bytes_of document)) }
     requires frame { (f : Frame) × (r : List ℕ) × IsFrame (drop offset (bytes_of document)) f r }
     ensures { (f : Frame) (r : List ℕ)

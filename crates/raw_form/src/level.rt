@@ -1,8 +1,9 @@
 //! A level that is looked through: what is next in it.
 #![tactic(auto)]
 
-ghost use Rattle.std.specs.Prelude.{◌≡◌, ◌≤◌, ◌<◌, ◌+◌, ◌^◌, Some, drop, length};
+ghost use Rattle.std.specs.Prelude.{◌≡◌, ◌≤◌, ◌<◌, ◌+◌, ◌^◌, ℕ, List, Some, drop, length};
 ghost use Rattle.raw_form.specs.Looking.{HoldsBytes, Looks, size_of};
+ghost use Rattle.raw_form.specs.Waits.{GoesOn, LiesAt, Stores, Wait};
 ghost use Rattle.raw_view.specs.Document.{bytes_of};
 ghost use Rattle.raw_view.specs.ElementSteps.{frame_of};
 ghost use Rattle.raw_view.specs.Value.{value_of};
@@ -18,6 +19,8 @@ pub(crate) struct Level<'a> {
     pub(crate) number: usize,
     /// where that begins, counted from the document's first byte
     pub(crate) offset: usize,
+    /// where the level begins
+    pub(crate) start: usize,
 }
 
 impl<'a> Level<'a> {
@@ -27,21 +30,59 @@ impl<'a> Level<'a> {
         ensures elements { result.elements ≡ Some (drop 4 (bytes_of document.entry)) }
         ensures number { result.number ≡ 0 }
         ensures offset { result.offset + length (drop 4 (bytes_of document.entry)) ≡ end }
+        ensures start { result.start + length (bytes_of document.entry) ≡ end }
     {
+        let start = end - document.as_bytes().len();
         Level {
             elements: Elements::new(document),
             number: 0,
-            offset: end - document.as_bytes().len() + 4,
+            offset: start + 4,
+            start,
+        }
+    }
+
+    /// The level that waits, behind its element, which ends at this offset of the document.
+    pub(crate) fn behind(document: RawDocument<'a>, waiting: Waiting, offset: usize) -> Level<'a>
+        requires { (x : Wait) × Stores (bytes_of document) waiting x × (offset ≡ x.offset) }
+        ensures { (x : Wait)
+            → Stores (bytes_of document.entry) waiting x
+            → offset ≡ x.offset
+            → GoesOn x result.elements result.number result.offset result.start }
+    {
+        let start = waiting.start as usize;
+        let Some(elements) = Elements::from_offset(document_at(document, start), offset - start)
+        else {
+            unreachable!()
+        };
+        Level {
+            elements,
+            number: waiting.number as usize + 1,
+            offset,
+            start,
         }
     }
 }
 
-/// A level that waits for the one that the element before what is left holds.
-#[derive(Drop)]
-pub(crate) struct Waiting<'a> {
-    pub(crate) level: Level<'a>,
-    /// the key of that element
-    pub(crate) key: &'a str,
+/// The document or the array that begins at this offset.
+fn document_at(document: RawDocument<'_>, start: usize) -> RawDocument<'_>
+    requires { (d : List ℕ) × LiesAt (bytes_of document) start d }
+    ensures { (d : List ℕ) → LiesAt (bytes_of document.entry) start d → bytes_of result ≡ d }
+{
+    let Ok((level, _)) = RawDocument::split_first(document.as_bytes().split_at(start).1) else {
+        unreachable!()
+    };
+    level
+}
+
+/// A level that waits for the one that an element of it holds, by offsets, counted from the document's first byte.
+#[derive(Clone, Copy)]
+pub(crate) struct Waiting {
+    /// where the level begins
+    pub(crate) start: u32,
+    /// where that element begins
+    pub(crate) element: u32,
+    /// how many elements are before it
+    pub(crate) number: u32,
 }
 
 /// What is next in a level.

@@ -1,16 +1,19 @@
 //! Places in documents.
 #![tactic(auto)]
 
-ghost use Rattle.std.specs.Prelude.{◌≡◌, ◌++◌, ◌∷◌, [], map, IfOk, IfErr, OnOk};
+ghost use Rattle.std.specs.Prelude.{◌≡◌, ◌++◌, ◌∷◌, [], List, map, IfOk, IfErr, OnOk};
 ghost use Rattle.std.specs.Option.{option_copied};
 ghost use Rattle.raw_form.specs.Barriers.{step_of, steps_of};
 ghost use Rattle.raw_form.specs.Looking.{step_at};
 ghost use Rattle.raw_form.specs.Tokens.{filled_from, last_key};
+ghost use Rattle.raw_form.specs.Waits.{StoreEach, Wait};
+ghost use Rattle.raw_view.specs.Document.{bytes_of};
 ghost use Rattle.raw_view.specs.Errors.{IsOutOfMemory};
 
+use crate::last::element_at;
 use crate::level::Waiting;
 use crate::token::put_at;
-use raw_view::{Error, Result};
+use raw_view::{Error, RawDocument, Result};
 use std::alloc::Global;
 
 /// A step of a path: which element of its level it is.
@@ -71,22 +74,25 @@ fn put_step<'a>(path: &mut Vec<PathStep<'a>>, step: PathStep<'a>) -> Result<()>
     }
 }
 
-/// The steps at which these levels wait, from the outermost on, and this one behind them. The only error is out of
-/// memory.
+/// The steps at which these levels of a document wait, from the outermost on, and this one behind them. The only error is
+/// out of memory.
 fn path_to<'a>(
     alloc: Global,
-    waiting: &[Waiting<'a>],
+    document: RawDocument<'a>,
+    waiting: &[Waiting],
     last: PathStep<'a>,
 ) -> Result<Vec<PathStep<'a>>>
-    ensures path { IfOk result
-        (λ path. map step_of path.items ≡ map step_at waiting.now ++ step_of last.entry ∷ []) }
+    requires { (xs : List Wait) × StoreEach (bytes_of document) waiting.now xs }
+    ensures path { (xs : List Wait)
+        → StoreEach (bytes_of document.entry) waiting.now xs
+        → IfOk result (λ path. map step_of path.items ≡ map step_at xs ++ step_of last.entry ∷ []) }
     ensures err { IfErr result IsOutOfMemory }
 {
-    let mut path = Vec::new(alloc);
+    let mut path = Vec::with_capacity(alloc, waiting.len() + 1)?;
     for outer in waiting {
         let step = PathStep {
-            number: outer.level.number,
-            key: Some(outer.key),
+            number: outer.number as usize,
+            key: Some(element_at(document, outer.element as usize).key()),
         };
         put_step(&mut path, step)?;
     }
@@ -98,17 +104,21 @@ fn path_to<'a>(
 /// is out of memory.
 pub(crate) fn place_in<'a>(
     alloc: Global,
-    waiting: &[Waiting<'a>],
+    document: RawDocument<'a>,
+    waiting: &[Waiting],
     number: usize,
     key: Option<&'a str>,
     offset: usize,
 ) -> Result<Place<'a>>
-    ensures path { IfOk result
+    requires { (xs : List Wait) × StoreEach (bytes_of document) waiting.now xs }
+    ensures path { (xs : List Wait)
+        → StoreEach (bytes_of document.entry) waiting.now xs
+        → IfOk result
         (λ place. steps_of place
-        ≡ map step_at waiting.now ++ record { number = number; key = option_copied key.entry } ∷ []) }
+        ≡ map step_at xs ++ record { number = number; key = option_copied key.entry } ∷ []) }
     ensures offset { IfOk result (λ place. place.offset ≡ offset) }
     ensures err { IfErr result IsOutOfMemory }
 {
-    let path = path_to(alloc, waiting, PathStep { number, key })?;
+    let path = path_to(alloc, document, waiting, PathStep { number, key })?;
     Ok(Place { path, offset })
 }

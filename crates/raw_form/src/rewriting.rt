@@ -49,7 +49,7 @@ pub(crate) fn rewrite(alloc: Global, document: RawDocument<'_>) -> Result<Vec<u8
             continue 'levels;
         };
         inner.put_head(&mut out, key)?;
-        let start = out.len();
+        let start = out.len() as u32;
         inner.put_opening(&mut out)?;
         let inner = Rewritten::new(alloc, inner, start, &mut listed)?;
         let outer = mem::replace(&mut level, inner);

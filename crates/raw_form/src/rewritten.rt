@@ -1,17 +1,18 @@
 //! A level that is rewritten: which of its elements stay, and under which keys.
 #![tactic(auto)]
 
-ghost use Rattle.std.specs.Prelude.{◌≡◌, ℕ, List, Some, drop, IfErr, IfOk, IsTrue};
+ghost use Rattle.std.specs.Prelude.{◌≡◌, ◌≤◌, ℕ, List, Some, drop, length, IfErr, IfOk, IsTrue};
 ghost use Rattle.std.specs.List.{IsDistinct};
 ghost use Rattle.std.specs.Str.{bytes_eq};
 ghost use Rattle.bson_model.specs.Tree.{Tree};
-ghost use Rattle.raw_form.specs.Rewriting.{HasCode, IsLeft, TakesNext, held_value, member_key};
+ghost use Rattle.raw_form.specs.Rewriting.{HasCode, IsLeft, TakesNext, held_opening, held_value, member_key};
 ghost use Rattle.raw_tree.specs.Breaches.{keys_of_frames};
 ghost use Rattle.raw_tree.specs.Members.{MemberKey, key_bytes, members};
 ghost use Rattle.raw_tree.specs.Reading.{ReadsAs, StandsFor, as_document};
 ghost use Rattle.raw_view.specs.Document.{bytes_of};
 ghost use Rattle.raw_view.specs.Errors.{IsOutOfMemory};
 ghost use Rattle.raw_view.specs.Frame.{Done, Frame, IsWalk};
+ghost use Rattle.raw_view.specs.Number.{max_length};
 
 use crate::held::Held;
 use crate::last::{LastPlaces, next_element, places_of};
@@ -39,9 +40,9 @@ pub(crate) struct Rewritten<'a> {
     /// which of that stays
     pub(crate) keys: Keys<'a>,
     /// where the payload of its value starts in the output
-    pub(crate) start: usize,
+    pub(crate) start: u32,
     /// the length of the code, if it is a code's scope
-    pub(crate) code_len: Option<usize>,
+    pub(crate) code_len: Option<u32>,
 }
 
 /// An element that stays, and in an array its new number.
@@ -85,8 +86,8 @@ fn keys_of<'a>(
 fn level<'a>(
     document: RawDocument<'a>,
     keys: Keys<'a>,
-    start: usize,
-    code_len: Option<usize>,
+    start: u32,
+    code_len: Option<u32>,
 ) -> Rewritten<'a>
     ensures elements { result.elements ≡ Some (drop 4 (bytes_of document.entry)) }
     ensures keys { result.keys ≡ keys.entry }
@@ -102,14 +103,15 @@ fn level<'a>(
 }
 
 impl<'a> Rewritten<'a> {
-    /// The level that a value holds, which can be read as a tree, where its payload starts there. The only error is out of
-    /// memory. The list is used to see which keys are repeated.
+    /// The level that a value holds, which can be read as a tree, where its payload starts there. Its opening fits into a
+    /// document. The only error is out of memory. The list is used to see which keys are repeated.
     pub(crate) fn new(
         alloc: Global,
         held: Held<'a>,
-        start: usize,
+        start: u32,
         listed: &mut Vec<&'a str>,
     ) -> Result<Rewritten<'a>>
+        requires { length (held_opening held) ≤ max_length }
         ensures left { (t : Tree)
             → StandsFor ReadsAs (held_value held.entry) t
             → IfOk result
@@ -125,7 +127,7 @@ impl<'a> Rewritten<'a> {
             Held::Array(document) => Ok(level(document, Keys::Numbers(0), start, None)),
             Held::Code(code, document) => {
                 let keys = keys_of(alloc, document, listed)?;
-                Ok(level(document, keys, start, Some(code.len())))
+                Ok(level(document, keys, start, Some(code.len() as u32)))
             }
         }
     }

@@ -66,7 +66,7 @@ pub(crate) fn judge_to_depth<'a>(
         }));
     };
     let mut listed: Vec<&'a str> = Vec::new(alloc);
-    let mut waiting: Vec<Waiting<'a>> = Vec::new(alloc);
+    let mut waiting: Vec<Waiting> = Vec::new(alloc);
     let mut outer_keys: Vec<KeysSoFar<'a>> = Vec::new(alloc);
     let mut level = Level::new(document, document.as_bytes().len());
     let mut keys = KeysSoFar::of_document(&listed);
@@ -79,21 +79,27 @@ pub(crate) fn judge_to_depth<'a>(
                 level.number += 1;
             }
             Judged::Inside(element, inner, is_array) => {
-                let key = element.key();
                 if waiting.len() >= most_waiting {
-                    let place = place_in(alloc, &waiting, number, Some(key), offset)?;
+                    let key = Some(element.key());
+                    let place = place_in(alloc, document, &waiting, number, key, offset)?;
                     return Ok(Some(Found { cause: None, place }));
                 }
-                level.offset = behind(offset, element);
-                let inner = Level::new(inner, level.offset);
-                let level = mem::replace(&mut level, inner);
+                let outer = Waiting {
+                    start: level.start as u32,
+                    element: offset as u32,
+                    number: number as u32,
+                };
                 let keys = mem::replace(&mut keys, keys_of(is_array, &listed));
-                if waiting.push(Waiting { level, key }).is_err() || outer_keys.push(keys).is_err() {
+                if waiting.push(outer).is_err() || outer_keys.push(keys).is_err() {
                     return Err(Error::out_of_memory());
                 }
+                level = Level::new(inner, behind(offset, element));
             }
             Judged::Breach(key, cause) => {
-                let place = place_in(alloc, &waiting, number, key, offset)?;
+                // the path may take the memory of the keys
+                drop(listed);
+                drop(outer_keys);
+                let place = place_in(alloc, document, &waiting, number, key, offset)?;
                 return Ok(Some(Found {
                     cause: Some(cause),
                     place,
@@ -108,8 +114,7 @@ pub(crate) fn judge_to_depth<'a>(
                 };
                 keys.leave(&mut listed);
                 keys = outer_key;
-                level = outer.level;
-                level.number += 1;
+                level = Level::behind(document, outer, offset + 1);
             }
         }
     }
@@ -117,10 +122,11 @@ pub(crate) fn judge_to_depth<'a>(
 
 /// Whether a document is canonical within limits: `None` exactly where it is, has no more bytes than allowed and no deeper
 /// level. More bytes than allowed are an error before all others. Else it is the first, depth first in byte order, of a
-/// breach, as `validate` has it, and of the entry into a level that is too deep, which is an error: at each element its key
-/// is judged first, then the value, then what is inside. Both are told with their place. No tree is built, no key is copied,
-/// and no depth fills the stack; memory is taken for the keys of the levels that are open, for the levels that wait and for
-/// the path. BSON 1.1, `document`.
+/// breach and of the entry into a level that is too deep, which is an error: at each element its key is judged first, then
+/// the value, then what is inside. Both are told with their place. BSON 1.1, `document`.
+///
+/// No clause says so: no tree is built, no key is copied, and no depth fills the stack. Memory is taken for the keys of the
+/// levels that are open, for the levels that wait and for the path.
 /// ```
 /// let document = RawDocument::from_bytes(b"\x13\0\0\0\x10a\0\x01\0\0\0\x10a\0\x02\0\0\0\0")?;
 /// let limits = Limits { bytes: 1000, depth: 10 };

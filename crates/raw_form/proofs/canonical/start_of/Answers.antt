@@ -1,4 +1,4 @@
-use Rattle.std.proofs.Common.{rules, ◌≡◌, length, arith, subst}
+use Rattle.std.proofs.Common.{◌≡◌, length, arith, subst}
 use Rattle.raw_view.specs.Document.{bytes_of}
 use Rattle.raw_form.specs.Judging.{TellsFound}
 use Rattle.raw_form.proofs.Beginning.{found_begins}

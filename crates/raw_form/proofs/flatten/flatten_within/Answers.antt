@@ -5,6 +5,7 @@ use Rattle.raw_tree.proofs.Face.{answered_one_way}
 use Rattle.raw_form.specs.declared.barrier.BarrierKind.TheVariants as kind
 use Rattle.raw_form.specs.Places.{FirstFaultAt}
 use Rattle.raw_form.proofs.Flattened.{flattened, halts_whole}
+use Rattle.raw_form.proofs.OneBarrier.{barred_at_one_place}
 use Rattle.raw_form.proofs.Told.{first_somewhere}
 use Rattle.raw_form.proofs.flatten.flatten_within.Goals as goal
 
@@ -37,3 +38,12 @@ returns-clause-flat c =
 
 pub returns-clause-one_answer : goal.returns-clause-one_answer
 returns-clause-one_answer c = answered_one_way c.args.limits
+
+pub returns-then-len-limits-clause-one_place : goal.returns-then-len-limits-clause-one_place
+returns-then-len-limits-clause-one_place c = barred_at_one_place c.args.limits
+
+pub returns-in_default-clause-one_place : goal.returns-in_default-clause-one_place
+returns-in_default-clause-one_place c = barred_at_one_place c.args.limits
+
+pub returns-clause-one_place : goal.returns-clause-one_place
+returns-clause-one_place c = barred_at_one_place c.args.limits

@@ -1,8 +1,10 @@
-use Rattle.std.proofs.Common.{◌≡◌, map, take}
+use Rattle.std.proofs.Common.{◌≡◌, List, map, take}
+use Rattle.raw_view.specs.Document.{bytes_of}
 use Rattle.raw_form.specs.Barriers.{step_of}
 use Rattle.raw_form.specs.Looking.{step_at}
+use Rattle.raw_form.specs.Waits.{StoreEach, Wait}
 use Rattle.raw_form.proofs.place.path_to.Given as goal
 
 -- the steps so far
 abbrev pub invariant-loop-outer : goal.invariant-loop-outer
-invariant-loop-outer l = map step_of l.path.items ≡ map step_at (take l.outer-index l.waiting)
+invariant-loop-outer l = (xs : List Wait) → StoreEach (bytes_of l.fn.document) l.waiting xs → map step_of l.path.items ≡ map step_at (take l.outer-index xs)
