@@ -11,7 +11,7 @@ import sys
 from pathlib import Path
 from typing import Dict, Iterator, List, NamedTuple, Optional, Set
 
-USED = ["raw_bson", "raw_form", "raw_shelf", "bson_from_json"]
+USED = ["raw_bson", "raw_form", "raw_shelf", "bson_json", "bson_from_json"]
 CRATES = ["bson_model", "raw_view", "raw_tree", *USED]
 KINDS = "fn|struct|enum|type|const|trait"
 

@@ -127,6 +127,7 @@ GIVES = {
     "raw_form": "first faults, verdicts, forms; no tree",
     "raw_bson": "buffers, owned values, canonical forms",
     "raw_shelf": "canonical documents, each once",
+    "bson_json": "documents as Extended JSON",
     "bson_from_json": "documents from Extended JSON",
     "bsonraw": "the program",
     "bsonraw_c": "the library for C, and so for Python",

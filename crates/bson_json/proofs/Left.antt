@@ -1,0 +1,128 @@
+-- What is left of the levels of a document that is printed.
+use Rattle.std.proofs.Common.{◌≡◌, ◌+◌, ℕ, zero, suc, Bool, List, [], ◌∷◌, ◌++◌, Option, None, Some, length, drop, refl, sym, ap, ◌∙◌, subst, arith, append_assoc}
+use Rattle.bson_model.specs.Tree.{Tree, document}
+use Rattle.raw_view.specs.Frame.{Frame, IsFrame, IsWalk, Done}
+use Rattle.raw_view.specs.Meaning.{RawValue, Means, value}
+use Rattle.raw_view.specs.Meaning as raw
+use Rattle.raw_view.proofs.Face.{one_frame, no_frame_at_final, one_meaning}
+use Rattle.raw_tree.specs.Reading.{ReadsRest, ReadsUpTo, StandsFor, Holds}
+use Rattle.raw_tree.specs.Reading as reading
+use Rattle.bson_json.specs.Json.{AreMembersJson, IsJsonUpTo}
+use Rattle.bson_json.specs.Levels.{IsReadable, IsReadableUpTo, sort_of, after}
+use Rattle.bson_json.specs.declared.level.Level.{Level}
+use Rattle.bson_json.specs.declared.level.Sort.{Sort}
+use Rattle.bson_json.specs.declared.style.Style.{Style}
+
+-- readings
+
+-- what is left of each level is read
+abbrev pub AllReadable : ℕ → List Level → Level → Type 0
+AllReadable zero ws l = ⊥
+AllReadable (suc n) [] l = IsReadableUpTo n l.elements
+AllReadable (suc n) (w ∷ ws) l = AllReadable n ws l × IsReadableUpTo n w.elements
+
+pub readable_top : (n : ℕ) (ws : List Level) (l : Level) → AllReadable n ws l → IsReadable l.elements
+readable_top zero ws l h = absurd h
+readable_top (suc n) [] l h = (n, h)
+readable_top (suc n) (w ∷ ws) l h = readable_top n ws l h.0
+
+pub readable_changed : (n : ℕ) (ws : List Level) (old new : Level) → ((m : ℕ) → IsReadableUpTo m old.elements → IsReadableUpTo m new.elements) → AllReadable n ws old → AllReadable n ws new
+readable_changed zero ws old new f h = absurd h
+readable_changed (suc n) [] old new f h = f n h
+readable_changed (suc n) (w ∷ ws) old new f h = (readable_changed n ws old new f h.0, h.1)
+
+-- what is left behind an element is read, and so is what the element holds, with a level fewer
+abbrev pub ReadsOn : ℕ → Option (List ℕ) → Option (List ℕ) → Type 0
+ReadsOn m outer inner = IsReadableUpTo m outer × (k : ℕ) × (m ≡ suc k) × IsReadableUpTo k inner
+
+pub readable_entered : (n : ℕ) (ws : List Level) (old outer inner : Level) → ((m : ℕ) → IsReadableUpTo m old.elements → ReadsOn m outer.elements inner.elements) → AllReadable n ws old → AllReadable n (ws ++ outer ∷ []) inner
+readable_entered zero ws old outer inner f h = absurd h
+readable_entered (suc n) [] old outer inner f h =
+    let (reads, k, e, inside) = f n h in
+    (subst (λ (m : ℕ). AllReadable m [] inner) (sym e) inside, reads)
+readable_entered (suc n) (w ∷ ws) old outer inner f h = (readable_entered n ws old outer inner f h.0, h.1)
+
+pub readable_left : (n : ℕ) (ws : List Level) (w l : Level) → AllReadable n (ws ++ w ∷ []) l → AllReadable n ws w
+readable_left zero ws w l h = absurd h
+readable_left (suc n) [] w l h = h.1
+readable_left (suc n) (v ∷ ws) w l h = (readable_left n ws w l h.0, h.1)
+
+-- behind a frame that means a value
+module _ (s : List ℕ) (f : Frame) (r : List ℕ) (v : RawValue) (at : IsFrame s f r) (means : Means f (value v)) where
+  pub record Front (m : ℕ) : Type 0 where
+    pub stands : (t : Tree) × StandsFor (ReadsUpTo m) v t
+    pub rest : IsReadableUpTo m (Some r)
+
+  pub front : (m : ℕ) → IsReadableUpTo m (Some s) → Front m
+  front m (pairs, ([], walk, stand)) = absurd (no_frame_at_final s walk f r at)
+  front m (pairs, (g ∷ gs, (q, g_at, walk), (w, t, others, w_means, w_stands, e, stand))) =
+      let same = one_frame s g f q r g_at at in
+      let same_value : value w ≡ value v = one_meaning f (value w) (value v) (subst (λ (x : Frame). Means x (value w)) same.0 w_means) means in
+      let is : w ≡ v = cc in
+      record {
+        stands = (t, subst (λ (x : RawValue). StandsFor (ReadsUpTo m) x t) is w_stands);
+        rest = subst (λ (x : List ℕ). IsReadableUpTo m (Some x)) same.1 (others, (gs, walk, stand));
+      }
+
+  pub reads_on : (m : ℕ) → IsReadableUpTo m (Some s) → IsReadableUpTo m (Some r)
+  reads_on m h = (front m h).rest
+
+inside_read : (m : ℕ) (sort : reading.Sort) (d : List ℕ) (t : Tree) → ReadsUpTo m sort d t → (k : ℕ) × (m ≡ suc k) × IsReadableUpTo k (Some (drop 4 d))
+inside_read zero sort d t h = absurd h
+inside_read (suc k) sort d t h = (k, refl, (h.0, h.1))
+
+pub held_read : (m : ℕ) (v : RawValue) (d : List ℕ) (t : Tree) → Holds v d → StandsFor (ReadsUpTo m) v t → (k : ℕ) × (m ≡ suc k) × IsReadableUpTo k (Some (drop 4 d))
+held_read m (raw.single l) d t holds h = absurd holds
+held_read m (raw.document e) d t holds h = inside_read m reading.as_document d t (subst (λ (x : List ℕ). ReadsUpTo m reading.as_document x t) (sym holds) h)
+held_read m (raw.array e) d t holds h = inside_read m reading.as_array d t (subst (λ (x : List ℕ). ReadsUpTo m reading.as_array x t) (sym holds) h)
+held_read m (raw.scoped code e) d t holds h = inside_read m reading.as_document d (document h.0) (subst (λ (x : List ℕ). ReadsUpTo m reading.as_document x (document h.0)) (sym holds) h.1)
+
+-- texts
+
+module _ (style : Style) where
+  -- the text of what is left of a level, with what is behind it
+  abbrev pub LeftIn : ℕ → ℕ → Option (List ℕ) → Sort → Bool → List ℕ → Type 0
+  LeftIn n depth None sort first text = ⊥
+  LeftIn n depth (Some s) sort first text =
+      (frames : List Frame) × (members : List ℕ) × IsWalk s frames Done × AreMembersJson style depth (IsJsonUpTo style n (suc depth)) (sort_of sort) first frames members
+      × (text ≡ members ++ after sort)
+
+  abbrev pub LeftOf : ℕ → ℕ → Level → List ℕ → Type 0
+  LeftOf n depth l text = LeftIn n depth l.elements l.sort l.first text
+
+  -- the text of what is left of all levels, the innermost first
+  abbrev pub AllLeft : ℕ → ℕ → List Level → Level → List ℕ → Type 0
+  AllLeft zero depth ws l text = ⊥
+  AllLeft (suc n) depth [] l text = LeftOf n depth l text
+  AllLeft (suc n) depth (w ∷ ws) l text = (a b : List ℕ) × AllLeft n (suc depth) ws l a × LeftOf n depth w b × (text ≡ a ++ b)
+
+  pub left_changed : (n depth at : ℕ) (ws : List Level) (old new : Level) (piece text : List ℕ) → at ≡ depth + length ws
+      → ((m : ℕ) (a : List ℕ) → LeftOf m at new a → LeftOf m at old (piece ++ a)) → AllLeft n depth ws new text → AllLeft n depth ws old (piece ++ text)
+  left_changed zero depth at ws old new piece text e f h = absurd h
+  left_changed (suc n) depth at [] old new piece text e f h =
+      let here : at ≡ depth = omega arith in
+      subst (λ (k : ℕ). LeftOf n k old (piece ++ text)) here (f n text (subst (λ (k : ℕ). LeftOf n k new text) (sym here) h))
+  left_changed (suc n) depth at (w ∷ ws) old new piece text e f (a, b, inner, outer, is) =
+      (piece ++ a, b, left_changed n (suc depth) at ws old new piece a (omega arith) f inner, outer, ap (λ (x : List ℕ). piece ++ x) is ∙ sym (append_assoc piece a b))
+
+  pub left_entered : (n depth at : ℕ) (ws : List Level) (old outer inner : Level) (piece text : List ℕ) → at ≡ depth + length ws
+      → ((m : ℕ) (a b : List ℕ) → LeftOf m (suc at) inner a → LeftOf (suc m) at outer b → LeftOf (suc m) at old (piece ++ (a ++ b)))
+      → AllLeft n depth (ws ++ outer ∷ []) inner text → AllLeft n depth ws old (piece ++ text)
+  left_entered zero depth at ws old outer inner piece text e f h = absurd h
+  left_entered (suc zero) depth at [] old outer inner piece text e f (a, b, h, g, is) = absurd h
+  left_entered (suc (suc n)) depth at [] old outer inner piece text e f (a, b, h, g, is) =
+      let here : at ≡ depth = omega arith in
+      let whole = f n a b (subst (λ (k : ℕ). LeftOf n (suc k) inner a) (sym here) h) (subst (λ (k : ℕ). LeftOf (suc n) k outer b) (sym here) g) in
+      subst (λ (k : ℕ). LeftOf (suc n) k old (piece ++ text)) here (subst (λ (x : List ℕ). LeftOf (suc n) at old (piece ++ x)) (sym is) whole)
+  left_entered (suc n) depth at (w ∷ ws) old outer inner piece text e f (a, b, h, g, is) =
+      (piece ++ a, b, left_entered n (suc depth) at ws old outer inner piece a (omega arith) f h, g, ap (λ (x : List ℕ). piece ++ x) is ∙ sym (append_assoc piece a b))
+
+  pub left_closed : (n depth at : ℕ) (ws : List Level) (w l : Level) (piece text : List ℕ) → at ≡ suc depth + length ws → AllReadable n (ws ++ w ∷ []) l
+      → ((m : ℕ) → LeftOf m at l piece) → AllLeft n depth ws w text → AllLeft n depth (ws ++ w ∷ []) l (piece ++ text)
+  left_closed zero depth at ws w l piece text e reads f h = absurd h
+  left_closed (suc zero) depth at [] w l piece text e reads f h = absurd reads.0
+  left_closed (suc (suc n)) depth at [] w l piece text e reads f h =
+      let here : at ≡ suc depth = omega arith in
+      (piece, text, subst (λ (k : ℕ). LeftOf n k l piece) here (f n), h, refl)
+  left_closed (suc n) depth at (v ∷ ws) w l piece text e reads f (a, b, h, g, is) =
+      (piece ++ a, b, left_closed n (suc depth) at ws w l piece a (omega arith) reads.0 f h, g, ap (λ (x : List ℕ). piece ++ x) is ∙ sym (append_assoc piece a b))

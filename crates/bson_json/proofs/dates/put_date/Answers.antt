@@ -1,0 +1,27 @@
+use Rattle.std.proofs.Common.{rules, ◌≡◌, ◌++◌, ℕ, codes, sym, subst, refl, arith, pos, ◌≤ℤ◌, unsigned_abs}
+use Rattle.std.proofs.lemmas.Int.{ints}
+use Rattle.std.specs.Io.KnownBytes.{Appends}
+use Rattle.std.proofs.KnownBytes.{Appends-trans}
+use Rattle.bson_json.specs.Dates.{IsDateJson, IsInstantText}
+use Rattle.bson_json.specs.declared.style.Format.{Format}
+use Rattle.bson_json.specs.declared.style.Format.TheVariants.{Relaxed}
+use Rattle.bson_json.proofs.Days.{dated}
+use Rattle.bson_json.proofs.Puts.{on_ok}
+use Rattle.bson_json.proofs.dates.put_date.Goals as goal
+
+pub returns-then-millis-le-LAST_MILLIS : goal.returns-then-millis-le-LAST_MILLIS
+returns-then-millis-le-LAST_MILLIS g c =
+    let old = g.W.Write.contents c.args.out.now in
+    let one = g.W.Write.contents c.put.new.out in
+    let two = g.W.Write.contents c.put_instant.new.out in
+    let new = g.W.Write.contents c.put-then-millis-le-LAST_MILLIS.new.out in
+    let (instant, is, put) = c.in_ok-put_instant.ensures in
+    let A = codes "{\"$date\":\"" in
+    let C = codes "\"}" in
+    let z = c.args.millis in
+    let low : pos 0 ≤ℤ z = first_of (search rules, omega (arith, ints)) in
+    let high : z ≤ℤ pos 253402300799999 = first_of (search rules, omega (arith, ints)) in
+    let relaxed : c.args.format ≡ Relaxed = search rules in
+    let size : c.unsigned_abs.result ≡ unsigned_abs z = first_of (search rules, cc) in
+    let date = dated z (A ++ (instant ++ C)) instant low high (subst (λ (n : ℕ). IsInstantText n instant) size is) refl in
+    on_ok c.put-then-millis-le-LAST_MILLIS.result _ _ (λ (p : Appends two new C). (A ++ (instant ++ C), subst (λ (f : Format). IsDateJson f z (A ++ (instant ++ C))) (sym relaxed) date, Appends-trans old one new A (instant ++ C) c.in_ok-put.ensures (Appends-trans one two new instant C put p))) c.put-then-millis-le-LAST_MILLIS.ensures

@@ -1,0 +1,12 @@
+use Rattle.std.proofs.Common.{◌≡◌, ◌≤◌, ◌-◌, ◌%◌, length, take}
+use Rattle.std.specs.Io.KnownBytes.{Appends}
+use Rattle.base64.specs.Engines.{standard}
+use Rattle.base64.specs.GeneralPurpose.{encode_of}
+use Rattle.bson_json.proofs.leaf.put_base64.Given as goal
+
+-- so many bytes are written, in groups of three
+abbrev pub invariant-chunks : goal.invariant-chunks
+invariant-chunks g l = (l.at ≤ length l.bytes) × (l.at % 3 ≡ 0) × Appends (g.W.Write.contents l.fn.out) (g.W.Write.contents l.out) (encode_of standard (take l.at l.bytes))
+
+abbrev pub decreases-chunks : goal.decreases-chunks
+decreases-chunks g l = length l.bytes - l.at

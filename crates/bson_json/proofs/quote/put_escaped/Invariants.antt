@@ -1,0 +1,11 @@
+use Rattle.std.proofs.Common.{◌≤◌, ◌-◌, length, take}
+use Rattle.std.specs.Io.KnownBytes.{Appends}
+use Rattle.json.specs.Print.{escape}
+use Rattle.bson_json.proofs.quote.put_escaped.Given as goal
+
+-- so many bytes are written
+abbrev pub invariant-runs : goal.invariant-runs
+invariant-runs g l = (l.at ≤ length l.bytes) × Appends (g.W.Write.contents l.fn.out) (g.W.Write.contents l.out) (escape (take l.at l.bytes))
+
+abbrev pub decreases-runs : goal.decreases-runs
+decreases-runs g l = length l.bytes - l.at

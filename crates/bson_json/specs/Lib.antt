@@ -1,0 +1,7 @@
+pub mod Doubles
+pub mod Dates
+pub mod Decimals
+pub mod Leaves
+pub mod Json
+pub mod Errors
+pub mod Levels

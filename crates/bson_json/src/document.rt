@@ -1,0 +1,71 @@
+//! Documents as Extended JSON, within limits.
+#![tactic(auto)]
+
+ghost use Rattle.std.specs.Prelude.{ℕ, List, string_bytes, OnOk, IfOk, IfErr};
+ghost use Rattle.std.specs.Io.KnownBytes.{Appends};
+ghost use Rattle.bson_model.specs.Tree.{Tree};
+ghost use Rattle.raw_tree.specs.WithinLimits.{ReadsWithin};
+ghost use Rattle.raw_view.specs.Document.{bytes_of};
+ghost use Rattle.bson_json.specs.Errors.{TellsJsonError, TellsWriteError};
+ghost use Rattle.bson_json.specs.Json.{IsJson};
+
+use crate::error::{ToJsonError, WriteJsonError};
+use crate::print::{Failure, print};
+use crate::style::Style;
+use raw_form::first_fault_within;
+use raw_tree::Limits;
+use raw_view::RawDocument;
+use std::alloc::Global;
+use std::io::Write;
+
+/// Writes a document within limits as MongoDB Extended JSON v2, each element as it is: repeated keys in order, an array without
+/// its keys. The error is the first barrier, as `first_fault_within` has it, and then nothing was written; else the writer's
+/// own, or out of memory. Memory is taken for the levels alone, and no depth fills the stack. BSON 1.1, `document`.
+pub fn write_json<'a, W: Write>(
+    alloc: Global,
+    document: RawDocument<'a>,
+    style: Style,
+    limits: Limits,
+    out: &mut W,
+) -> Result<(), WriteJsonError<'a>>
+    ensures text { OnOk result ((text : List ℕ) × IsJson style (bytes_of document.entry) text
+        × Appends (W.contents out.old) (W.contents out.new) text) }
+    ensures within { OnOk result ((t : Tree) × ReadsWithin limits (bytes_of document.entry) t) }
+    ensures err { IfErr result
+        (TellsWriteError limits (bytes_of document.entry) (W.contents out.old) (W.contents out.new)) }
+{
+    match first_fault_within(alloc, document, limits) {
+        Ok(None) => {}
+        Ok(Some(barrier)) => return Err(WriteJsonError::Barrier(barrier)),
+        Err(_) => return Err(WriteJsonError::OutOfMemory),
+    }
+    match print(alloc, document, style, out) {
+        Ok(()) => Ok(()),
+        Err(Failure::OutOfMemory) => Err(WriteJsonError::OutOfMemory),
+        Err(Failure::Writing(error)) => Err(WriteJsonError::Writing(error)),
+    }
+}
+
+/// A document within limits as MongoDB Extended JSON v2, as `write_json` writes it. The error is the first barrier, as
+/// `first_fault_within` has it, or out of memory. BSON 1.1, `document`.
+pub fn to_json<'a>(
+    alloc: Global,
+    document: RawDocument<'a>,
+    style: Style,
+    limits: Limits,
+) -> Result<String, ToJsonError<'a>>
+    ensures text { IfOk result (λ text. IsJson style (bytes_of document.entry) (string_bytes text)) }
+    ensures within { OnOk result ((t : Tree) × ReadsWithin limits (bytes_of document.entry) t) }
+    ensures err { IfErr result (TellsJsonError limits (bytes_of document.entry)) }
+{
+    let mut text = Vec::new(alloc);
+    match write_json(alloc, document, style, limits, &mut text) {
+        Ok(()) => {}
+        Err(WriteJsonError::Barrier(barrier)) => return Err(ToJsonError::Barrier(barrier)),
+        Err(_) => return Err(ToJsonError::OutOfMemory),
+    }
+    match String::from_utf8(text) {
+        Ok(text) => Ok(text),
+        Err(_) => Err(ToJsonError::OutOfMemory),
+    }
+}

@@ -1,0 +1,213 @@
+//! A level that is printed, and what is next in it.
+#![tactic(auto)]
+
+ghost use Rattle.std.specs.Prelude.{◌≡◌, ◌++◌, ◌*◌, OnOk, IfOk, true, drop, replicate, Some};
+ghost use Rattle.std.specs.Io.KnownBytes.{Appends};
+ghost use Rattle.bson_json.specs.Json.{colon, end_text, head_text, line};
+ghost use Rattle.json.specs.Print.{quoted};
+ghost use Rattle.bson_json.specs.Levels.{Gives, IsReadable, PutsSingle, PutsValue, sort_of, after};
+ghost use Rattle.raw_view.specs.Document.{bytes_of};
+ghost use Rattle.raw_view.specs.Value.{value_of};
+
+use crate::dates::put_date;
+use crate::decimals::put_decimal;
+use crate::doubles::put_double;
+use crate::leaf::{
+    put_binary, put_id, put_int32, put_int64, put_pointer, put_regex, put_text, put_timestamp,
+};
+use crate::put::{put, put_repeated};
+use crate::quote::put_quoted;
+use crate::style::{Format, Layout};
+use raw_view::{Elements, RawBsonRef, RawDocument};
+use std::io;
+use std::io::Write;
+
+/// What a level is.
+#[derive(Clone, Copy, PartialEq, Eq)]
+pub(crate) enum Sort {
+    Document,
+    Array,
+    /// the scope of a code
+    Scope,
+}
+
+/// A level that is printed.
+#[derive(Drop)]
+pub(crate) struct Level<'a> {
+    /// what is left of it
+    pub(crate) elements: Elements<'a>,
+    pub(crate) sort: Sort,
+    /// whether nothing of it is printed yet
+    pub(crate) first: bool,
+}
+
+impl<'a> Level<'a> {
+    /// The level of these bytes.
+    pub(crate) fn new(document: RawDocument<'a>, sort: Sort) -> Level<'a>
+        ensures elements { result.elements ≡ Some (drop 4 (bytes_of document.entry)) }
+        ensures sort { result.sort ≡ sort }
+        ensures first { result.first ≡ true }
+    {
+        Level {
+            elements: Elements::new(document),
+            sort,
+            first: true,
+        }
+    }
+}
+
+/// The key and the value of the next element of a level without a fault.
+#[inline(always)]
+pub(crate) fn next_of<'a>(elements: &mut Elements<'a>) -> Option<(&'a str, RawBsonRef<'a>)>
+    requires { IsReadable elements.old }
+    ensures { Gives elements.old elements.new result }
+{
+    let Ok(element) = elements.next()? else {
+        unreachable!()
+    };
+    let Ok(value) = element.resolve() else {
+        unreachable!()
+    };
+    Some((element.key(), value))
+}
+
+/// Writes two spaces for each level.
+fn put_spaces<W: Write>(out: &mut W, depth: usize) -> io::Result<()>
+    ensures { OnOk result
+        (Appends (W.contents out.old) (W.contents out.new) (replicate (2 * depth) 32)) }
+{
+    put_repeated(out, b' ', depth)?;
+    put_repeated(out, b' ', depth)
+}
+
+/// Writes a new line, where there are lines, with two spaces for each level around it.
+fn put_line<W: Write>(out: &mut W, layout: Layout, depth: usize) -> io::Result<()>
+    ensures { OnOk result
+        (Appends (W.contents out.old) (W.contents out.new) (line layout depth)) }
+{
+    match layout {
+        Layout::OneLine => Ok(()),
+        Layout::Indented => {
+            put(out, b"\n")?;
+            put_spaces(out, depth)
+        }
+    }
+}
+
+/// Writes a key and a colon.
+fn put_key<W: Write>(out: &mut W, layout: Layout, key: &str) -> io::Result<()>
+    ensures { OnOk result
+        (Appends (W.contents out.old) (W.contents out.new) (quoted key.now ++ colon layout)) }
+{
+    put_quoted(out, key)?;
+    match layout {
+        Layout::OneLine => put(out, b":"),
+        Layout::Indented => put(out, b": "),
+    }
+}
+
+/// Writes what is before a member's value.
+#[inline]
+pub(crate) fn put_head<W: Write>(
+    out: &mut W,
+    layout: Layout,
+    depth: usize,
+    sort: Sort,
+    first: bool,
+    key: &str,
+) -> io::Result<()>
+    ensures { OnOk result
+        (Appends (W.contents out.old) (W.contents out.new) (head_text layout depth (sort_of sort) first key.now)) }
+{
+    if !first {
+        put(out, b",")?;
+    }
+    put_line(out, layout, depth)?;
+    match sort {
+        Sort::Array => Ok(()),
+        Sort::Document | Sort::Scope => put_key(out, layout, key),
+    }
+}
+
+/// Writes what is behind the last member of a level.
+pub(crate) fn put_end<W: Write>(
+    out: &mut W,
+    layout: Layout,
+    depth: usize,
+    sort: Sort,
+    first: bool,
+) -> io::Result<()>
+    ensures { OnOk result
+        (Appends (W.contents out.old) (W.contents out.new) (end_text layout depth (sort_of sort) first ++ after sort)) }
+{
+    if !first {
+        put_line(out, layout, depth)?;
+    }
+    match sort {
+        Sort::Document => put(out, b"}"),
+        Sort::Array => put(out, b"]"),
+        Sort::Scope => put(out, b"}}"),
+    }
+}
+
+/// Writes a value that holds no others; of another what is before its first member, and returns its level.
+pub(crate) fn put_value<'a, W: Write>(
+    out: &mut W,
+    format: Format,
+    value: RawBsonRef<'a>,
+) -> io::Result<Option<Level<'a>>>
+    ensures { IfOk result (PutsValue format (value_of value.entry) (W.contents out.old) (W.contents out.new)) }
+{
+    let level = match value {
+        RawBsonRef::Document(document) => {
+            put(out, b"{")?;
+            Level::new(document, Sort::Document)
+        }
+        RawBsonRef::Array(array) => {
+            put(out, b"[")?;
+            Level::new(array.as_doc(), Sort::Array)
+        }
+        RawBsonRef::JavaScriptCodeWithScope(code) => {
+            put_text(out, "{\"$code\":", code.code, ",\"$scope\":{")?;
+            Level::new(code.scope, Sort::Scope)
+        }
+        _ => {
+            put_single(out, format, value)?;
+            return Ok(None);
+        }
+    };
+    Ok(Some(level))
+}
+
+/// Writes a value that holds no others.
+fn put_single<W: Write>(out: &mut W, format: Format, value: RawBsonRef<'_>) -> io::Result<()>
+    ensures { OnOk result (PutsSingle format (value_of value.entry) (W.contents out.old) (W.contents out.new)) }
+{
+    match value {
+        RawBsonRef::Double(number) => put_double(out, format, number.0),
+        RawBsonRef::String(text) => put_quoted(out, text),
+        RawBsonRef::Binary(binary) => put_binary(out, binary),
+        RawBsonRef::ObjectId(id) => put_id(out, "{\"$oid\":\"", id, "\"}"),
+        RawBsonRef::Boolean(true) => put(out, b"true"),
+        RawBsonRef::Boolean(false) => put(out, b"false"),
+        RawBsonRef::DateTime(time) => put_date(out, format, time.timestamp_millis()),
+        RawBsonRef::RegularExpression(regex) => put_regex(out, regex),
+        RawBsonRef::DbPointer(pointer) => put_pointer(out, pointer),
+        RawBsonRef::JavaScriptCode(code) => put_text(out, "{\"$code\":", code, "}"),
+        RawBsonRef::Symbol(symbol) => put_text(out, "{\"$symbol\":", symbol, "}"),
+        RawBsonRef::Int32(number) => put_int32(out, format, number),
+        RawBsonRef::Timestamp(time) => put_timestamp(out, time),
+        RawBsonRef::Int64(number) => put_int64(out, format, number),
+        RawBsonRef::Decimal128(number) => {
+            put(out, b"{\"$numberDecimal\":\"")?;
+            put_decimal(out, number)?;
+            put(out, b"\"}")
+        }
+        RawBsonRef::Null => put(out, b"null"),
+        RawBsonRef::Undefined => put(out, b"{\"$undefined\":true}"),
+        RawBsonRef::MaxKey => put(out, b"{\"$maxKey\":1}"),
+        RawBsonRef::MinKey => put(out, b"{\"$minKey\":1}"),
+        RawBsonRef::Document(_) | RawBsonRef::Array(_) | RawBsonRef::JavaScriptCodeWithScope(_) =>
+            Ok(()),
+    }
+}
