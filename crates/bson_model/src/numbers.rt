@@ -1,8 +1,10 @@
-ghost use Rattle.std.specs.Prelude.{◌≡◌};
+ghost use Rattle.std.specs.Prelude.{◌≡◌, false, is_nan, from_bits, to_bits};
+ghost use Rattle.std.specs.Float.{binary64};
 ghost use Rattle.bson_model.specs.Bytes.{AreBytesOf};
 ghost use Rattle.bson_model.specs.Scalars.{bytes_of_decimal128};
 
-use crate::ranges::attest_bytes;
+use crate::ranges::{attest_bytes, attest_u64};
+use std::num::{f64_from_bits_with_nan, f64_to_bits_with_nan};
 
 /// A double by its 64 bits, so that equality is equality of bits (BSON 1.1, `double`).
 /// ```
@@ -14,6 +16,24 @@ pub struct DoubleBits(
     /// The sign, the exponent and the fraction, as IEEE 754 orders the bits of binary64.
     pub u64,
 );
+
+impl DoubleBits {
+    /// The number of these bits. A NaN is a NaN, but its sign and payload may be others.
+    pub fn to_f64(self) -> f64
+        ensures number { result ≡ from_bits binary64 self.0 }
+        ensures back { is_nan result ≡ false → to_bits binary64 result ≡ self.0 }
+    {
+        attest_u64(self.0);
+        f64_from_bits_with_nan(self.0)
+    }
+
+    /// The bits of this number. Every NaN has those of the quiet one with a clear sign.
+    pub fn from_f64(number: f64) -> DoubleBits
+        ensures bits { result.0 ≡ to_bits binary64 number }
+    {
+        DoubleBits(f64_to_bits_with_nan(number))
+    }
+}
 
 /// A decimal number by its sixteen bytes (BSON 1.1, `decimal128`).
 /// ```

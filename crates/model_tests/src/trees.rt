@@ -38,6 +38,15 @@ fn has_two_pairs(document: &Document) -> bool {
         && document.pair_at(0) == Some(("b", &Bson::Int32(3)))
         && document.pair_at(1) == Some(("a", &Bson::Int32(2)))
         && document.pair_at(2).is_none()
+        && are_iterated(document)
+}
+
+/// Whether iteration over the document gives those two pairs.
+fn are_iterated(document: &Document) -> bool {
+    let mut pairs = document.iter();
+    pairs.next() == Some(("b", &Bson::Int32(3)))
+        && pairs.next() == Some(("a", &Bson::Int32(2)))
+        && pairs.next().is_none()
 }
 
 /// Whether these are those two pairs, in that order and by their keys.

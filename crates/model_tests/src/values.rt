@@ -68,6 +68,29 @@ fn small_values_keep_what_they_are_given(rt: HostRuntime) {
     assert!(rt; has_debug(alloc, &seven, "DateTime { millis: 7 }"));
 }
 
+/// Bits, each with its number in IEEE 754.
+const NUMBERS: &[(u64, f64)] = &[
+    (0x3FE0_0000_0000_0000, 0.5),
+    (0xC008_0000_0000_0000, -3.0),
+    (0x0000_0000_0000_0001, 5e-324),
+    (0x7FEF_FFFF_FFFF_FFFF, 1.7976931348623157e308),
+];
+
+#[test]
+fn bits_are_numbers(rt: HostRuntime) {
+    for (bits, number) in NUMBERS {
+        assert!(rt; DoubleBits(*bits).to_f64() == *number);
+        assert_eq!(rt; DoubleBits::from_f64(*number), DoubleBits(*bits));
+    }
+    assert_eq!(rt; DoubleBits::from_f64(-0.0), NEGATIVE_ZERO);
+    let payload = DoubleBits(0xFFF0_0000_0000_0001).to_f64();
+    assert!(rt; payload.is_nan());
+    assert_eq!(rt;
+        DoubleBits::from_f64(payload),
+        DoubleBits(0x7FF8_0000_0000_0000)
+    );
+}
+
 /// Bytes, each with its subtype.
 const SUBTYPES: &[(u8, BinarySubtype)] = &[
     (0, BinarySubtype::Generic),

@@ -20,8 +20,8 @@ pub use any_error::AnyError;
 pub use array_buf::RawArrayBuf;
 pub use bson::{RawBson, RawJavaScriptCodeWithScope};
 pub use bson_model::{
-    Binary, BinarySubtype, Bson, DateTime, DbPointer, Decimal128, Document, DoubleBits,
-    JavaScriptCodeWithScope, NoMemory, ObjectId, Regex, Timestamp,
+    Binary, BinarySubtype, Bson, DateTime, DbPointer, Decimal128, Document, DocumentIter,
+    DoubleBits, JavaScriptCodeWithScope, NoMemory, ObjectId, Regex, Timestamp,
 };
 pub use canonical::canonical_bytes;
 pub use copies::{ToRawArrayBuf, ToRawBson, ToRawDocumentBuf};
