@@ -66,6 +66,21 @@ pub extern "C" fn bsonraw_iter_recurse(iter: &Iter, bytes: &[u8], child: &mut It
 pub extern "C" fn bsonraw_iter_next(iter: &mut Iter, bytes: &[u8]) -> i32
     ensures { Moves bytes.now iter.old iter.new result }
 {
+    let next = iter.next;
+    if let Some(mut elements) = iter.elements(bytes) {
+        if let Some(element) = elements.next_plain() {
+            iter.enter(next, element);
+            return Status::Done.number();
+        }
+    }
+    step(iter, bytes)
+}
+
+/// Goes on to the next element, or says why there is none.
+#[inline(never)]
+fn step(iter: &mut Iter, bytes: &[u8]) -> i32
+    ensures { Moves bytes.now iter.old iter.new result }
+{
     let end = end_of(bytes);
     let next = iter.next;
     let Some(mut elements) = iter.elements(bytes) else {

@@ -1,5 +1,6 @@
 pub mod AsciiLanes
 pub mod NulSearch
+pub mod LongerTexts
 pub mod Numbers
 pub mod Payloads
 pub mod Texts

@@ -90,6 +90,7 @@ impl ElementType {
     }
 
     /// The tag of the kind.
+    #[inline(always)]
     pub fn to_tag(self) -> u8
         ensures { result ≡ tag_of self }
     {

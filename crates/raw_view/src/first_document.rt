@@ -31,6 +31,7 @@ impl<'a> RawDocument<'a> {
     /// let (first, behind) = RawDocument::split_first(b"\x05\0\0\0\0and more")?;
     /// assert!(rt; first.is_empty() && behind == b"and more".as_slice());
     /// ```
+    #[inline(always)]
     pub fn split_first(
         bytes: &'a [u8],
     ) -> std::result::Result<(RawDocument<'a>, &'a [u8]), NoDocument>

@@ -1,4 +1,4 @@
-ghost use Rattle.std.specs.Prelude.{◌≡◌, ◌≢◌, ◌≤◌, ◌<◌, ◌+◌, ◌++◌, ℕ, List, length, take, drop, pos, IfOk, IfErr, OnErr};
+ghost use Rattle.std.specs.Prelude.{◌≡◌, ◌≢◌, ◌≤◌, ◌<◌, ◌+◌, ◌++◌, ℕ, List, length, take, drop, pos, IfOk, IfErr, IfSome, OnErr};
 ghost use Rattle.raw_view.specs.Envelope.{IsEnvelope};
 ghost use Rattle.raw_view.specs.Errors.{IsReadingKind, IsReadingReason};
 ghost use Rattle.raw_view.specs.Frame.{HasShape, HasText, HasDeclaredLength};
@@ -191,6 +191,23 @@ pub(crate) fn front_len(kind: ElementType, rest: &[u8]) -> Result<usize, ErrorKi
         _ => match sized_len(kind, rest) {
             Ok(len) => Ok(len),
             Err(reason) => Err(ErrorKind::MalformedValue { reason }),
+        },
+    }
+}
+
+/// How many bytes the payload at the front takes, of a kind whose length is fixed or declared; or nothing.
+#[inline(always)]
+pub(crate) fn plain_len(kind: ElementType, rest: &[u8]) -> Option<usize>
+    ensures within { IfSome result (λ n. n ≤ length rest.now) }
+    ensures found { IfSome result (λ n. HasShape kind (take n rest.now) (drop n rest.now)) }
+{
+    match kind {
+        ElementType::RegularExpression
+        | ElementType::DbPointer
+        | ElementType::JavaScriptCodeWithScope => None,
+        _ => match sized_len(kind, rest) {
+            Ok(len) => Some(len),
+            Err(_) => None,
         },
     }
 }

@@ -1,6 +1,6 @@
 //! UTF-8: texts from bytes, as `std::str::from_utf8` gives them.
 
-ghost use Rattle.std.specs.Prelude.{◌≡◌, ◌≤◌, length, take, IsTrue, IfOk, OnErr};
+ghost use Rattle.std.specs.Prelude.{◌≡◌, ◌≤◌, length, take, IsTrue, IfOk, IfSome, OnErr};
 ghost use Rattle.std.specs.Str.{IsAscii, IsUtf8};
 
 use std::simd::prelude::*;
@@ -37,6 +37,18 @@ fn begins_ascii(bytes: &[u8], len: usize) -> bool
     wide == 0 || len <= wide.trailing_zeros() as usize
 }
 
+/// The text of the first so many bytes, where a step tells that they are ASCII.
+#[inline(always)]
+pub(crate) fn short_text(bytes: &[u8], len: usize) -> Option<&str>
+    requires { len ≤ length bytes.now }
+    ensures { IfSome result (λ text. (text.now ≡ take len bytes.now) × IsUtf8 text.now) }
+{
+    if !begins_ascii(bytes, len) {
+        return None;
+    }
+    Some(ascii_text(bytes.split_at(len).0))
+}
+
 /// The text of bytes that aren't all ASCII. A fault in a long one is told by `std`, which reads it once more.
 #[inline(never)]
 fn wide_text(bytes: &[u8]) -> Result<&str, Utf8Error>
@@ -70,9 +82,8 @@ pub(crate) fn front_text(bytes: &[u8], len: usize) -> Result<&str, Utf8Error>
     ensures text { IfOk result (λ text. (text.now ≡ take len bytes.now) × IsUtf8 text.now) }
     ensures fault { OnErr result (¬ IsUtf8 (take len bytes.now)) }
 {
-    let text = bytes.split_at(len).0;
-    if begins_ascii(bytes, len) {
-        return Ok(ascii_text(text));
+    match short_text(bytes, len) {
+        Some(text) => Ok(text),
+        None => text_from(bytes.split_at(len).0),
     }
-    text_from(text)
 }

@@ -1,7 +1,7 @@
 use Rattle.std.proofs.Common.{◌≡◌, ◌≢◌, ◌∷◌, ◌++◌, [], rules, arith}
 use Rattle.std.proofs.lemmas.Grind.{common_steps}
 use Rattle.raw_view.proofs.Frames.{key_stop, tag_stop, payload_stop}
-use Rattle.raw_view.proofs.front.front_of.Goals as goal
+use Rattle.raw_view.proofs.front.any_front.Goals as goal
 
 pub returns-in-Err : goal.returns-in-Err
 returns-in-Err c =
