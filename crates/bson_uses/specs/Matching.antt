@@ -1,27 +1,18 @@
 -- What a filter wants of a document.
-use Rattle.std.specs.Prelude.{◌≡◌, ℕ, ℤ, Bool, true, false, List, codes, int_lt, IsTrue, Option, Some, None, Result, Ok, Err}
-use Rattle.raw_bson.specs.Answers.{Says}
-use Rattle.raw_bson.specs.EachItem.{SeeksOne, TriesEach}
+use Rattle.std.specs.Prelude.{◌≡◌, ◌≢◌, ◌⊎◌, ℕ, ℤ, Bool, true, false, List, codes, int_lt, IsTrue, Option, Some, None, Result, Ok, Err}
+use Rattle.raw_bson.specs.EachItem.{SeeksOne, TriesEach, AsksUnder}
 use Rattle.raw_bson.specs.Error.{Error}
 use Rattle.raw_bson.specs.Leaf.{int32}
-use Rattle.raw_bson.specs.LookUp.{LooksUp}
-use Rattle.raw_bson.specs.Meaning.{RawValue, single, document, array, KeyedFault, Meaning, value, faulty}
-use Rattle.raw_bson.specs.RawBsonRef.{RawBsonRef}
-use Rattle.raw_bson.specs.Value.{value_of, array_bytes_of}
+use Rattle.raw_bson.specs.Meaning.{RawValue, single, document, array}
+use Rattle.raw_bson.specs.Value.{array_bytes_of}
 use Rattle.bson_uses.specs.declared.filter.Operator.{Operator}
 use Rattle.bson_uses.specs.declared.filter.Operator.TheVariants as operator
 use Rattle.bson_uses.specs.declared.filter.Unmet.{Unmet}
 use Rattle.bson_uses.specs.declared.filter.Unmet.TheVariants as unmet
 
--- the value that was found
-abbrev pub value_in : Option RawBsonRef → Option RawValue
-value_in None = None
-value_in (Some v) = Some (value_of v)
-
--- it says this fault
-abbrev pub SaysDamage : KeyedFault → Unmet → Type 0
-SaysDamage fault (unmet.Damaged e) = Says e fault
-SaysDamage fault _ = ⊥
+-- an error of the library, as this filter has it
+abbrev pub damaged : Error → Unmet
+damaged e = unmet.Damaged e
 
 -- Ok where the fact holds, and else that the document differs
 abbrev pub Wants : Type 0 → Result (Unit {0}) Unmet → Type 0
@@ -48,7 +39,7 @@ of_search (Err e) = Err (unmet.Damaged e)
 abbrev pub MeetsOperator : Option RawValue → Operator → Result (Unit {0}) Unmet → Type 0
 MeetsOperator None op r = r ≡ Err unmet.Differs
 MeetsOperator (Some v) (operator.Over least) r = Wants (IsOver least v) r
-MeetsOperator (Some v) (operator.Among a) r = (sought : Result Bool Error) × SeeksOne (λ fault e. Says e fault) (λ key w. w ≡ v) (array_bytes_of a) sought × (r ≡ of_search sought)
+MeetsOperator (Some v) (operator.Among a) r = (sought : Result Bool Error) × SeeksOne (λ e. e) (λ key w. w ≡ v) (array_bytes_of a) sought × (r ≡ of_search sought)
 
 -- the operator of this name with this operand
 abbrev pub Names : List ℕ → RawValue → Operator → Type 0
@@ -60,22 +51,20 @@ abbrev pub MeetsNamed : Option RawValue → List ℕ → RawValue → Result (Un
 MeetsNamed found name operand (Err unmet.BadOperator) = (op : Operator) → ¬ Names name operand op
 MeetsNamed found name operand r = (op : Operator) × Names name operand op × MeetsOperator found op r
 
--- what was found is wanted: it meets each operator of a document, and equals any other value
-abbrev pub MeetsWanted : Option RawValue → RawValue → Result (Unit {0}) Unmet → Type 0
-MeetsWanted found (document condition) r = TriesEach SaysDamage (MeetsNamed found) condition r
-MeetsWanted found wanted r = Wants (IsThis found wanted) r
+-- what was found meets each operator of this condition; else the first that isn't met, or a fault before it
+abbrev pub MeetsCondition : List ℕ → Option RawValue → Result (Unit {0}) Unmet → Type 0
+MeetsCondition condition found r = TriesEach damaged (MeetsNamed found) condition r
 
--- what a look-up finds is wanted; or it finds a fault
-abbrev pub MeetsFound : Option Meaning → RawValue → Result (Unit {0}) Unmet → Type 0
-MeetsFound None wanted r = MeetsWanted None wanted r
-MeetsFound (Some (value v)) wanted r = MeetsWanted (Some v) wanted r
-MeetsFound (Some (faulty fault)) wanted (Ok _) = ⊥
-MeetsFound (Some (faulty fault)) wanted (Err e) = SaysDamage fault e
+-- what was found is wanted: a document is a condition, and any other value has to be equal
+abbrev pub MeetsWanted : RawValue → Option RawValue → Result (Unit {0}) Unmet → Type 0
+MeetsWanted wanted found r =
+    ((condition : List ℕ) × (wanted ≡ document condition) × MeetsCondition condition found r)
+    ⊎ (((condition : List ℕ) → wanted ≢ document condition) × Wants (IsThis found wanted) r)
 
 -- what the document b has under this key is wanted
 abbrev pub MeetsUnder : List ℕ → List ℕ → RawValue → Result (Unit {0}) Unmet → Type 0
-MeetsUnder b key wanted r = (found : Option Meaning) × LooksUp b key found × MeetsFound found wanted r
+MeetsUnder b key wanted r = AsksUnder damaged (MeetsWanted wanted) b key r
 
 -- what the document b has under each key of the filter is wanted; else the first that isn't, or a fault before it
 abbrev pub Matches : List ℕ → List ℕ → Result (Unit {0}) Unmet → Type 0
-Matches b filter r = TriesEach SaysDamage (MeetsUnder b) filter r
+Matches b filter r = TriesEach damaged (MeetsUnder b) filter r

@@ -1,9 +1,8 @@
 ghost use Rattle.std.specs.Prelude.{◌≡◌, ◌↔◌, IsTrue, Ok};
-ghost use Rattle.raw_bson.specs.Answers.{Says};
 ghost use Rattle.raw_bson.specs.Document.{bytes_of};
-ghost use Rattle.raw_bson.specs.EachItem.{SeeksOne, TriesEach};
+ghost use Rattle.raw_bson.specs.EachItem.{SeeksOne, value_in};
 ghost use Rattle.raw_bson.specs.Value.{value_of, array_bytes_of};
-ghost use Rattle.bson_uses.specs.Matching.{value_in, SaysDamage, IsThis, of_search, MeetsOperator, MeetsNamed, MeetsUnder, Matches};
+ghost use Rattle.bson_uses.specs.Matching.{Wants, IsThis, MeetsOperator, MeetsNamed, MeetsCondition, MeetsWanted, MeetsUnder, Matches};
 
 use raw_bson::{Error, RawArray, RawBsonRef, RawDocument, Result};
 use std::alloc::Global;
@@ -32,6 +31,9 @@ impl fmt::Display for Unmet {
 
 impl std::error::Error for Unmet {}
 
+/// Ok where something is as a filter wants it.
+pub type Met = std::result::Result<(), Unmet>;
+
 impl From<Error> for Unmet {
     ghost use Rattle.std.specs.Prelude.{◌≡◌};
     ghost use Rattle.bson_uses.specs.declared.filter.Unmet.TheVariants as unmet;
@@ -54,8 +56,7 @@ pub enum Operator<'a> {
 
 /// Whether the array has this value.
 fn is_among(alloc: Global, value: RawBsonRef<'_>, array: RawArray<'_>) -> Result<bool>
-    ensures { SeeksOne (λ fault e. Says e fault) (λ key v. v ≡ value_of value.entry)
-        (array_bytes_of array.entry) result }
+    ensures { SeeksOne (λ e. e) (λ key v. v ≡ value_of value.entry) (array_bytes_of array.entry) result }
 {
     for item in array.iter(alloc) {
         let element = item?;
@@ -66,19 +67,8 @@ fn is_among(alloc: Global, value: RawBsonRef<'_>, array: RawArray<'_>) -> Result
     Ok(false)
 }
 
-/// Ok where this holds, else that the document differs.
-fn differs_unless(holds: bool) -> std::result::Result<(), Unmet>
-    ensures { result ≡ of_search (Ok holds) }
-{
-    if holds { Ok(()) } else { Err(Unmet::Differs) }
-}
-
 /// Whether what was found is as the operator wants it; nothing never is.
-fn is_met(
-    alloc: Global,
-    found: Option<RawBsonRef<'_>>,
-    operator: Operator<'_>,
-) -> std::result::Result<(), Unmet>
+fn is_met(alloc: Global, found: Option<RawBsonRef<'_>>, operator: Operator<'_>) -> Met
     ensures { MeetsOperator (value_in found.entry) operator.entry result }
 {
     let Some(value) = found else {
@@ -100,7 +90,7 @@ fn is_met_named(
     found: Option<RawBsonRef<'_>>,
     name: &str,
     operand: RawBsonRef<'_>,
-) -> std::result::Result<(), Unmet>
+) -> Met
     ensures { MeetsNamed (value_in found.entry) name.now (value_of operand.entry) result }
 {
     match (name, operand) {
@@ -111,12 +101,8 @@ fn is_met_named(
 }
 
 /// Whether what was found is as all operators of a condition want it.
-fn are_met(
-    alloc: Global,
-    found: Option<RawBsonRef<'_>>,
-    condition: RawDocument<'_>,
-) -> std::result::Result<(), Unmet>
-    ensures { TriesEach SaysDamage (MeetsNamed (value_in found.entry)) (bytes_of condition.entry) result }
+fn are_met(alloc: Global, found: Option<RawBsonRef<'_>>, condition: RawDocument<'_>) -> Met
+    ensures { MeetsCondition (bytes_of condition.entry) (value_in found.entry) result }
 {
     for item in condition.iter(alloc) {
         let (name, operand) = item?;
@@ -125,38 +111,40 @@ fn are_met(
     Ok(())
 }
 
-/// Whether a value is found, and is this.
-fn is_equal(found: Option<RawBsonRef<'_>>, wanted: RawBsonRef<'_>) -> bool
-    ensures { IsTrue result ↔ IsThis (value_in found.entry) (value_of wanted.entry) }
+/// Whether a value was found, and is this.
+fn is_equal(found: Option<RawBsonRef<'_>>, wanted: RawBsonRef<'_>) -> Met
+    ensures { Wants (IsThis (value_in found.entry) (value_of wanted.entry)) result }
 {
-    match found {
-        Some(value) => value == wanted,
-        None => false,
+    let Some(value) = found else {
+        return Err(Unmet::Differs);
+    };
+    if value == wanted {
+        Ok(())
+    } else {
+        Err(Unmet::Differs)
     }
 }
 
-/// Whether what the document has under this key is wanted: a document is a condition, any other value has to be equal.
-fn has(
-    alloc: Global,
-    document: RawDocument<'_>,
-    key: &str,
-    wanted: RawBsonRef<'_>,
-) -> std::result::Result<(), Unmet>
+/// Whether what was found is wanted: a document is a condition, any other value has to be equal.
+fn is_wanted(alloc: Global, found: Option<RawBsonRef<'_>>, wanted: RawBsonRef<'_>) -> Met
+    ensures { MeetsWanted (value_of wanted.entry) (value_in found.entry) result }
+{
+    match wanted.as_document() {
+        Some(condition) => are_met(alloc, found, condition),
+        None => is_equal(found, wanted),
+    }
+}
+
+/// Whether what the document has under this key is wanted.
+fn has(alloc: Global, document: RawDocument<'_>, key: &str, wanted: RawBsonRef<'_>) -> Met
     ensures { MeetsUnder (bytes_of document.entry) key.now (value_of wanted.entry) result }
 {
     let found = document.get(alloc, key)?;
-    match wanted.as_document() {
-        Some(condition) => are_met(alloc, found, condition),
-        None => differs_unless(is_equal(found, wanted)),
-    }
+    is_wanted(alloc, found, wanted)
 }
 
 /// Whether the document is as the filter wants it, else the first thing that isn't, or that stands in the way.
-pub fn matches(
-    alloc: Global,
-    document: RawDocument<'_>,
-    filter: RawDocument<'_>,
-) -> std::result::Result<(), Unmet>
+pub fn matches(alloc: Global, document: RawDocument<'_>, filter: RawDocument<'_>) -> Met
     ensures { Matches (bytes_of document.entry) (bytes_of filter.entry) result }
 {
     for item in filter.iter(alloc) {

@@ -1,16 +1,19 @@
 -- What a caller's loop keeps that asks something of each item, also where it is left before the end.
-use Rattle.std.proofs.Common.{◌≡◌, ◌⊎◌, ◌++◌, ◌∷◌, [], ◌∙◌, ℕ, true, List, drop, ap, sym, subst, refl, inl, inr, Option, Some, None, Result, Ok, Err}
+use Rattle.std.proofs.Common.{◌≡◌, ◌⊎◌, ◌++◌, ◌∷◌, [], ◌∙◌, ℕ, Bool, true, false, List, drop, ap, sym, subst, refl, inl, inr, Option, Some, None, Result, Ok, Err}
+use Rattle.std.proofs.lemmas.Result.{err_from_is_err_and}
+use Rattle.std.specs.Prelude.{option_map, IsErrAnd}
 use denote.Ref.{Bor}
-use Rattle.raw_view.specs.Answers.{Says, TellsItem, TellsValue, StepsItems}
+use Rattle.raw_view.specs.Answers.{Says, TellsItem, TellsValue, TellsFound, StepsItems}
 use Rattle.raw_view.specs.ElementSteps.{HasReadItems}
 use Rattle.raw_view.specs.Frame.{Frame, IsFrame, End, Done, Stopped, EndsIn, IsWalk, LeadsTo}
 use Rattle.raw_view.specs.Item.{Item, entry, stopped, ItemsOf, AreItems}
+use Rattle.raw_view.specs.LookUp.{LooksUp}
 use Rattle.raw_view.specs.Meaning.{RawValue, KeyedFault, Meaning, value, faulty, Means}
 use Rattle.raw_view.specs.Value.{value_of}
 use Rattle.raw_view.specs.declared.bson_ref.RawBsonRef.{RawBsonRef}
 use Rattle.raw_view.specs.declared.error.Error.{Error}
 use Rattle.raw_view.proofs.Face.{one_frame, one_meaning, one_stop, the_items, no_frame_at_stop, no_frame_at_final, no_stop_at_final, HasReadItems-none, HasReadItems-pair, HasReadItems-value, HasReadItems-end}
-use Rattle.raw_bson.specs.EachItem.{EachItem, OneItem, HoldsOfEach, HoldsOfOne, ComesTo, ComesToFault, HasReadEach, TriesEach, SeeksOne}
+use Rattle.raw_bson.specs.EachItem.{EachItem, OneItem, HoldsOfEach, HoldsOfOne, ComesTo, ComesToFault, HasReadEach, TriesEach, SeeksOne, value_in, AsksUnder}
 
 -- lists of items
 
@@ -193,29 +196,81 @@ module _ {P : List ℕ → RawValue → Type 0} {b : List ℕ} where
 
 -- loops that are left at the first error
 
-module _ {E : Type 0} (Becomes : KeyedFault → E → Type 0) (Answers : List ℕ → RawValue → Result (Unit {0}) E → Type 0) where
-  -- what such a loop keeps
-  abbrev pub HasTried : List ℕ → Option (List ℕ) → Type 0
-  HasTried b left = HasReadEach (λ key v. Answers key v (Ok tt)) b left
+-- what such a loop keeps: what it has read, and Ok for each
+pub record HasTried {E : Type 0} (wrap : Error → E) (Answers : List ℕ → RawValue → Result (Unit {0}) E → Type 0) (b : List ℕ) (left : Option (List ℕ)) : Type 0 where
+  pub read : HasReadEach (λ key v. Answers key v (Ok tt)) b left
 
+module _ {E : Type 0} {wrap : Error → E} {Answers : List ℕ → RawValue → Result (Unit {0}) E → Type 0} {b : List ℕ} where
   -- the call returned Ok for one more
-  pub TriesEach-more : {b : List ℕ} {old new : Option (List ℕ)} {out : Result (Bor (List ℕ) × RawBsonRef) Error} {p : Bor (List ℕ) × RawBsonRef} (r : Result (Unit {0}) E) → HasTried b old → StepsItems TellsItem old (Some out) new → out ≡ Ok p → Answers p.0.now (value_of p.1) r → r ≡ Ok tt → HasTried b new
-  TriesEach-more {p = p} r h st was answers ok = HasReadEach-pair h st was (subst (Answers p.0.now (value_of p.1)) ok answers)
+  pub HasTried-more : {old new : Option (List ℕ)} {out : Result (Bor (List ℕ) × RawBsonRef) Error} {p : Bor (List ℕ) × RawBsonRef} {r : Result (Unit {0}) E} → HasTried wrap Answers b old → StepsItems TellsItem old (Some out) new → out ≡ Ok p → Answers p.0.now (value_of p.1) r → r ≡ Ok tt → HasTried wrap Answers b new
+  HasTried-more {p = p} h st was answers ok = record { read = HasReadEach-pair h.read st was (subst (Answers p.0.now (value_of p.1)) ok answers) }
 
-  -- it returned an error
-  pub TriesEach-error : {b : List ℕ} {old : Option (List ℕ)} (new : Option (List ℕ)) {all : List Item} {out : Result (Bor (List ℕ) × RawBsonRef) Error} {p : Bor (List ℕ) × RawBsonRef} {r : Result (Unit {0}) E} {e : E} → HasTried b old → StepsItems TellsItem old (Some out) new → out ≡ Ok p → AreItems b all → Answers p.0.now (value_of p.1) r → r ≡ Err e → TriesEach Becomes Answers b (Err e)
-  TriesEach-error new {p = p} h st was are answers bad = inl (p.0.now, value_of p.1, HasReadEach-comes new h st was are, subst (Answers p.0.now (value_of p.1)) bad answers)
+  -- it returned an error, with which the loop is left
+  pub HasTried-error : {old : Option (List ℕ)} (new : Option (List ℕ)) {all : List Item} {out : Result (Bor (List ℕ) × RawBsonRef) Error} {p : Bor (List ℕ) × RawBsonRef} {r : Result (Unit {0}) E} {e : E} (x : Result (Unit {0}) E) → HasTried wrap Answers b old → StepsItems TellsItem old (Some out) new → out ≡ Ok p → AreItems b all → Answers p.0.now (value_of p.1) r → r ≡ Err e → IsErrAnd x (λ y. y ≡ e) → TriesEach wrap Answers b x
+  HasTried-error new {p = p} x h st was are answers bad left =
+      let q = err_from_is_err_and x left in
+      rw (q.1, q.2) (inl (p.0.now, value_of p.1, HasReadEach-comes new h.read st was are, subst (Answers p.0.now (value_of p.1)) bad answers))
 
-  -- a fault was met
-  pub TriesEach-fault : {b : List ℕ} {old : Option (List ℕ)} (new : Option (List ℕ)) {all : List Item} {out : Result (Bor (List ℕ) × RawBsonRef) Error} {e : Error} (error : E) → HasTried b old → StepsItems TellsItem old (Some out) new → out ≡ Err e → AreItems b all → ((fault : KeyedFault) → Says e fault → Becomes fault error) → TriesEach Becomes Answers b (Err error)
-  TriesEach-fault new error h st was are becomes = let met = HasReadEach-fault new h st was are in inr (met.0, met.1, becomes met.0 met.2)
+  -- a fault was met, and its error wrapped
+  pub HasTried-fault : {old : Option (List ℕ)} (new : Option (List ℕ)) {all : List Item} {out : Result (Bor (List ℕ) × RawBsonRef) Error} {e : Error} (x : Result (Unit {0}) E) → HasTried wrap Answers b old → StepsItems TellsItem old (Some out) new → out ≡ Err e → AreItems b all → IsErrAnd x (λ y. y ≡ wrap e) → TriesEach wrap Answers b x
+  HasTried-fault new {e = e} x h st was are left =
+      let q = err_from_is_err_and x left in
+      let met = HasReadEach-fault new h.read st was are in
+      rw q.1 (inr (met.0, met.1, (e, met.2, q.2)))
 
--- searches
+  -- no item is left
+  pub HasTried-end : {old : Option (List ℕ)} (new : Option (List ℕ)) → HasTried wrap Answers b old → StepsItems TellsItem old None new → TriesEach wrap Answers b (Ok tt)
+  HasTried-end new h st = HasReadEach-end TellsItem new h.read st
 
-module _ {E : Type 0} (Becomes : KeyedFault → E → Type 0) (P : List ℕ → RawValue → Type 0) {b : List ℕ} where
-  -- a value of an array is what is sought
-  pub SeeksOne-value : {old : Option (List ℕ)} (new : Option (List ℕ)) {all : List Item} {out : Result RawBsonRef Error} {v : RawBsonRef} → HasReadEach (λ k w. ¬ P k w) b old → StepsItems TellsValue old (Some out) new → out ≡ Ok v → AreItems b all → ((key : List ℕ) → P key (value_of v)) → SeeksOne Becomes P b (Ok true)
-  SeeksOne-value new {v = v} h st was are holds = let met = HasReadEach-comes_value new h st was are in (met.0, value_of v, met.1, holds met.0)
+-- searches within an array
+
+-- what a search keeps: what it has read, none of it sought
+pub record HasSought {E : Type 0} (wrap : Error → E) (P : List ℕ → RawValue → Type 0) (b : List ℕ) (left : Option (List ℕ)) : Type 0 where
+  pub read : HasReadEach (λ key v. ¬ P key v) b left
+
+module _ {E : Type 0} {wrap : Error → E} {P : List ℕ → RawValue → Type 0} {b : List ℕ} where
+  -- one more isn't what is sought
+  pub HasSought-more : {old new : Option (List ℕ)} {out : Result RawBsonRef Error} {v : RawBsonRef} → HasSought wrap P b old → StepsItems TellsValue old (Some out) new → out ≡ Ok v → ((key : List ℕ) → ¬ P key (value_of v)) → HasSought wrap P b new
+  HasSought-more h st was other = record { read = HasReadEach-value h.read st was other }
+
+  -- one is
+  pub HasSought-found : {old : Option (List ℕ)} (new : Option (List ℕ)) {all : List Item} {out : Result RawBsonRef Error} {v : RawBsonRef} → HasSought wrap P b old → StepsItems TellsValue old (Some out) new → out ≡ Ok v → AreItems b all → ((key : List ℕ) → P key (value_of v)) → SeeksOne wrap P b (Ok true)
+  HasSought-found new {v = v} h st was are holds = let met = HasReadEach-comes_value new h.read st was are in (met.0, value_of v, met.1, holds met.0)
+
+  -- a fault was met, and its error wrapped
+  pub HasSought-fault : {old : Option (List ℕ)} (new : Option (List ℕ)) {all : List Item} {out : Result RawBsonRef Error} {e : Error} (x : Result Bool E) → HasSought wrap P b old → StepsItems TellsValue old (Some out) new → out ≡ Err e → AreItems b all → IsErrAnd x (λ y. y ≡ wrap e) → SeeksOne wrap P b x
+  HasSought-fault new {e = e} x h st was are left =
+      let q = err_from_is_err_and x left in
+      let met = HasReadEach-value_fault new h.read st was are in
+      rw q.1 (met.0, met.1, (e, met.2, q.2))
+
+  -- no item is left
+  pub HasSought-end : {old : Option (List ℕ)} (new : Option (List ℕ)) → HasSought wrap P b old → StepsItems TellsValue old None new → SeeksOne wrap P b (Ok false)
+  HasSought-end new h st = HasReadEach-end TellsValue new h.read st
+
+-- look-ups before something else
+
+-- what is found is what is told
+found_value : (x : Option RawBsonRef) (found : Option Meaning) → TellsFound (Ok x) found → found ≡ option_map value (value_in x)
+found_value None found t = t
+found_value (Some v) found t = t
+
+found_fault : (e : Error) (found : Option Meaning) → TellsFound (Err e) found → (fault : KeyedFault) × (found ≡ Some (faulty fault)) × Says e fault
+found_fault e None t = absurd t
+found_fault e (Some (value w)) t = absurd t
+found_fault e (Some (faulty fault)) t = (fault, refl, t)
+
+module _ {T E : Type 0} {wrap : Error → E} {Answers : Option RawValue → Result T E → Type 0} {b key : List ℕ} {r : Result T E} where
+  -- a value was found, or nothing
+  pub AsksUnder-found : (x : Option RawBsonRef) → (found : Option Meaning) × LooksUp b key found × TellsFound (Ok x) found → Answers (value_in x) r → AsksUnder wrap Answers b key r
+  AsksUnder-found x f answers = record { told = inl (value_in x, subst (LooksUp b key) (found_value x f.0 f.2) f.1, answers) }
+
+  -- a fault was
+  pub AsksUnder-fault : (e : Error) → (found : Option Meaning) × LooksUp b key found × TellsFound (Err e) found → IsErrAnd r (λ y. y ≡ wrap e) → AsksUnder wrap Answers b key r
+  AsksUnder-fault e f left =
+      let q = err_from_is_err_and r left in
+      let met = found_fault e f.0 f.2 in
+      record { told = inr (met.0, subst (LooksUp b key) met.1 f.1, q.0, (e, met.2, q.2), q.1) }
 
 -- what an item says of all
 

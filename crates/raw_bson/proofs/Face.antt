@@ -8,10 +8,12 @@ pub use Rattle.raw_view.proofs.Face.{HasReadItems-none, HasReadItems-bound, HasR
 pub use Rattle.raw_bson.proofs.EachItems.{LeadsTo-begins, HasReadItems-begins, HasReadItems-next}
 -- loops that ask something of each item, also where they are left early
 pub use Rattle.raw_bson.proofs.EachItems.{HasReadEach-none, HasReadEach-pair, HasReadEach-comes, HasReadEach-fault, HasReadEach-value, HasReadEach-comes_value, HasReadEach-value_fault, HasReadEach-end}
-pub use Rattle.raw_bson.proofs.EachItems.{HasTried, TriesEach-more, TriesEach-error, TriesEach-fault, SeeksOne-value}
+pub use Rattle.raw_bson.proofs.EachItems.{HasTried, HasTried-more, HasTried-error, HasTried-fault, HasTried-end, HasSought, HasSought-more, HasSought-found, HasSought-fault, HasSought-end}
+-- a look-up, and then what is asked of the value
+pub use Rattle.raw_bson.proofs.EachItems.{AsksUnder-found, AsksUnder-fault}
 pub use Rattle.raw_bson.proofs.EachItems.{EachItem-more, EachItem-at, OneItem-at, OneItem-none, ComesTo-not_each, ComesTo-one, HoldsOfEach-not_one}
 -- `==` of borrowed values
-pub use Rattle.raw_bson.proofs.SameViews.{same_view}
+pub use Rattle.raw_bson.proofs.SameViews.{same_view, view_same, view_differs}
 -- rows of appends, and what was read and is written again
 pub use Rattle.raw_bson.proofs.HeldFrames.{HoldsFrames-empty, HoldsFrames-value, HoldsFrames-element, HaveNoShortScope-more, HaveNoShortScope-last, value_is_long, value_means, frame_again}
 -- there is one walk alone, and one meaning of a frame

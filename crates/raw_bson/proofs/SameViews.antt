@@ -1,5 +1,6 @@
 -- `==` of two borrowed values holds exactly where they view the same value.
-use Rattle.std.proofs.Common.{◌≡◌, ℕ, ℤ, Bool, false, List, [], ◌∷◌, refl, ap, subst, inl, inr, Decides}
+use Rattle.std.proofs.Common.{◌≡◌, ◌∙◌, ℕ, ℤ, Bool, true, false, List, [], ◌∷◌, refl, ap, sym, subst, inl, inr, Decides}
+use Rattle.std.proofs.lemmas.Bool.{false≢true}
 use Rattle.std.specs.Cmp.{booleans_Decides}
 use Rattle.std.proofs.lemmas.Bool.Decides.{Decides-eqb, Decides-int_eq}
 use Rattle.std.proofs.lemmas.Slice.Eq.{bytes_eq-Decides}
@@ -177,3 +178,10 @@ same_made c d = rw (by_variants c d) (decided value_place variants 0 tests shows
 pub same_view : (x y : RawBsonRef) → Decides (equal x y) (value_of x ≡ value_of y)
 same_view x y =
     subst (λ z. IsDecided z y) (view.the_eta static_lft x) (subst (λ z. IsDecided (make (view.as_values static_lft x)) z) (view.the_eta static_lft y) (same_made (view.as_values static_lft x) (view.as_values static_lft y)))
+
+-- so does what `==` returned
+pub view_same : (x y : RawBsonRef) {same : Bool} → same ≡ equal x y → same ≡ true → value_of x ≡ value_of y
+view_same x y is here = (same_view x y).0 (sym is ∙ here)
+
+pub view_differs : (x y : RawBsonRef) {same : Bool} → same ≡ equal x y → same ≡ false → ¬ (value_of x ≡ value_of y)
+view_differs x y is here = λ same. false≢true (sym here ∙ is ∙ (same_view x y).1 same)

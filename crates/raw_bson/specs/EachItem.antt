@@ -1,8 +1,14 @@
--- What holds of each item of a document or an array, or of one; and which item is met first of which it doesn't hold.
-use Rattle.std.specs.Prelude.{◌⊎◌, ℕ, List, [], ◌∷◌, ◌++◌, Bool, true, false, Option, Result, Ok, Err, drop}
+-- What holds of each item of a document or an array, or of one; which item is met first of which it doesn't hold; and
+-- what a call returns that looks up a key first.
+use Rattle.std.specs.Prelude.{◌≡◌, ◌⊎◌, ℕ, List, [], ◌∷◌, ◌++◌, Bool, true, false, Option, Some, None, Result, Ok, Err, drop, option_map}
+use Rattle.raw_view.specs.Answers.{Says}
 use Rattle.raw_view.specs.ElementSteps.{HasReadItems}
 use Rattle.raw_view.specs.Item.{Item, entry, stopped, AreItems}
+use Rattle.raw_view.specs.LookUp.{LooksUp}
 use Rattle.raw_view.specs.Meaning.{RawValue, KeyedFault, value, faulty}
+use Rattle.raw_view.specs.Value.{value_of}
+use Rattle.raw_view.specs.declared.bson_ref.RawBsonRef.{RawBsonRef}
+use Rattle.raw_view.specs.declared.error.Error.{Error}
 
 -- each of these items is a key with a value of which P holds, and none is a fault
 abbrev pub EachItem : (List ℕ → RawValue → Type 0) → List Item → Type 0
@@ -45,21 +51,37 @@ pub record HasReadEach (P : List ℕ → RawValue → Type 0) (b : List ℕ) (le
   pub read : HasReadItems (drop 4 b) items left
   pub each : EachItem P items
 
--- Loops that are left at the first error. What a call for a key and a value answers is said by Answers, what error a
--- fault becomes by Becomes.
-module _ {E : Type 0} (Becomes : KeyedFault → E → Type 0) (Answers : List ℕ → RawValue → Result (Unit {0}) E → Type 0) where
-  -- What such a loop over the document b answers: Ok where the call answers Ok for each item; else the error of the
-  -- first item for which it doesn't, or that a fault before which all are Ok becomes.
+-- the error is one that says the fault, as the caller wraps it
+abbrev pub WrapsFault : {E : Type 0} → (Error → E) → KeyedFault → E → Type 0
+WrapsFault wrap fault e = (inner : Error) × Says inner fault × (e ≡ wrap inner)
+
+-- Loops that are left at the first error. What a call for a key and a value returns is said by Answers; an error of the
+-- library is wrapped.
+module _ {E : Type 0} (wrap : Error → E) (Answers : List ℕ → RawValue → Result (Unit {0}) E → Type 0) where
+  -- What such a loop over the document b returns: Ok where the call returns Ok for each item; else the error of the
+  -- first item for which it doesn't, or of a fault before which all are Ok.
   abbrev pub TriesEach : List ℕ → Result (Unit {0}) E → Type 0
   TriesEach b (Ok _) = HoldsOfEach (λ key v. Answers key v (Ok tt)) b
   TriesEach b (Err e) =
       ((key : List ℕ) × (v : RawValue) × ComesTo (λ k w. Answers k w (Ok tt)) b (entry key (value v)) × Answers key v (Err e))
-      ⊎ ((fault : KeyedFault) × ComesToFault (λ k w. Answers k w (Ok tt)) b fault × Becomes fault e)
+      ⊎ ((fault : KeyedFault) × ComesToFault (λ k w. Answers k w (Ok tt)) b fault × WrapsFault wrap fault e)
 
--- What a search for an item of which P holds answers, in the document b: whether there is one; or the error that a
--- fault before which there is none becomes.
-module _ {E : Type 0} (Becomes : KeyedFault → E → Type 0) (P : List ℕ → RawValue → Type 0) where
+-- What a search for an item of which P holds returns, in the document b: whether there is one; or the error of a fault
+-- before which there is none.
+module _ {E : Type 0} (wrap : Error → E) (P : List ℕ → RawValue → Type 0) where
   abbrev pub SeeksOne : List ℕ → Result Bool E → Type 0
   SeeksOne b (Ok true) = (key : List ℕ) × (v : RawValue) × ComesTo (λ k w. ¬ P k w) b (entry key (value v)) × P key v
   SeeksOne b (Ok false) = HoldsOfEach (λ k w. ¬ P k w) b
-  SeeksOne b (Err e) = (fault : KeyedFault) × ComesToFault (λ k w. ¬ P k w) b fault × Becomes fault e
+  SeeksOne b (Err e) = (fault : KeyedFault) × ComesToFault (λ k w. ¬ P k w) b fault × WrapsFault wrap fault e
+
+-- the value that was found
+abbrev pub value_in : Option RawBsonRef → Option RawValue
+value_in None = None
+value_in (Some v) = Some (value_of v)
+
+-- What a call returns that looks up a key in the document b first: what Answers says of the value, or of nothing; or the
+-- error of the fault that is found.
+pub record AsksUnder {T E : Type 0} (wrap : Error → E) (Answers : Option RawValue → Result T E → Type 0) (b key : List ℕ) (r : Result T E) : Type 0 where
+  pub told :
+      ((found : Option RawValue) × LooksUp b key (option_map value found) × Answers found r)
+      ⊎ ((fault : KeyedFault) × LooksUp b key (Some (faulty fault)) × (e : E) × WrapsFault wrap fault e × (r ≡ Err e))
