@@ -132,6 +132,7 @@ GIVES = {
     "bsonraw": "the program",
     "bsonraw_c": "the library for C, and so for Python",
     "bson_uses": "proved callers, to copy from",
+    "wire_message": "prints a message of the wire protocol",
 }
 
 
@@ -190,7 +191,7 @@ def crates_picture():
         end = port(name, [lower for upper, lower in edges if upper == name], below)
         picture.line([(start, place[below][1]), (end, place[name][1] + height + 2)], arrow=True)
     for name, (x, y) in place.items():
-        colour = BLUE if name.startswith("bsonraw") else GREY if name == "bson_uses" else GREEN
+        colour = BLUE if name.startswith("bsonraw") else GREY if name in ("bson_uses", "wire_message") else GREEN
         picture.box(x, y, width, height, colour, 6)
         kit = [below for below in crates[name] if below not in crates]
         picture.text(x + width / 2, y + 22, name, "#ffffff", 15, "middle", bold=True, mono=True)

@@ -8,6 +8,6 @@ mod filter;
 #[cfg(test)]
 mod memory;
 #[cfg(test)]
-mod message;
+mod op_msg;
 #[cfg(test)]
 mod shelf;

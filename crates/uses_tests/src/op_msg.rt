@@ -1,0 +1,142 @@
+//! Messages as MongoDB's wire protocol has them, and messages that are damaged.
+
+use bson_uses::{Message, MessageError, Section, message_of, read_message};
+use raw_bson::{NoDocument, RawDocument};
+use std::process::Abort;
+use std::test::Fail;
+
+/// The command `{ping: 1, $db: "admin"}` under the number 7, as MongoDB's package for Python writes it.
+const PING: &[u8] =
+    b"\x33\0\0\0\x07\0\0\0\0\0\0\0\xDD\x07\0\0\0\0\0\0\0\x1E\0\0\0\x10ping\0\x01\0\0\0\x02$db\0\x06\0\0\0admin\0\0";
+
+/// The document of a body.
+fn body_of<'a>(section: &Section<'a>) -> Option<RawDocument<'a>> {
+    match section {
+        Section::Body(document) => Some(*document),
+        Section::Sequence(_, _) => None,
+    }
+}
+
+/// The one document of a message with a single body.
+fn body<'a>(message: &Message<'a>) -> Option<RawDocument<'a>> {
+    match message.sections.as_slice() {
+        [section] => body_of(section),
+        _ => None,
+    }
+}
+
+#[test]
+fn a_command_is_read(rt: HostRuntime) -> std::result::Result<(), Fail> {
+    let message = read_message(rt.alloc(), PING)?;
+    assert!(rt; message.header.request_id == 7 && message.header.response_to == 0);
+    assert!(rt; message.header.flags == 0 && message.checksum.is_empty());
+    match body(&message) {
+        Some(document) => {
+            assert!(rt; document.get_i32(rt.alloc(), "ping") == Ok(1));
+            assert!(rt; document.get_str(rt.alloc(), "$db") == Ok("admin"));
+            let again = message_of(rt.alloc(), 7, document)?;
+            assert!(rt; again.as_slice() == PING);
+        }
+        None => assert!(rt; false),
+    }
+    Ok(())
+}
+
+/// A sequence `docs` of an empty document and the null under `a`, then an empty body, and a checksum.
+const SEQUENCE: &[u8] =
+    b"\x35\0\0\0\x02\0\0\0\x01\0\0\0\xDD\x07\0\0\x01\0\0\0\x01\x16\0\0\0docs\0\x05\0\0\0\0\x08\0\0\0\x0Aa\0\0\0\x05\0\0\0\0\x01\x02\x03\x04";
+
+/// Whether this is that sequence.
+fn is_docs(section: &Section<'_>) -> bool {
+    match section {
+        Section::Body(_) => false,
+        Section::Sequence(identifier, documents) => *identifier == "docs" && documents.len() == 2,
+    }
+}
+
+/// Whether these are that sequence and that body.
+fn are_two(sections: &[Section<'_>]) -> bool {
+    match sections {
+        [first, second] => is_docs(first) && body_of(second).is_some(),
+        _ => false,
+    }
+}
+
+#[test]
+fn a_sequence_and_a_checksum_are_read(rt: HostRuntime) -> std::result::Result<(), Fail> {
+    let message = read_message(rt.alloc(), SEQUENCE)?;
+    assert!(rt; message.header.response_to == 1);
+    assert!(rt; are_two(&message.sections));
+    assert!(rt; message.checksum == b"\x01\x02\x03\x04".as_slice());
+    Ok(())
+}
+
+/// Bytes, and why they are no message.
+const DAMAGED: &[(&[u8], MessageError)] = &[
+    (
+        b"\x10\0\0\0\x01\0\0\0\0\0\0\0\xDD\x07\0\0",
+        MessageError::TooShort,
+    ),
+    (
+        b"\x1B\0\0\0\x01\0\0\0\0\0\0\0\xDD\x07\0\0\0\0\0\0\0\x05\0\0\0\0",
+        MessageError::WrongSize,
+    ),
+    (
+        b"\x1A\0\0\0\x01\0\0\0\0\0\0\0\xDC\x07\0\0\0\0\0\0\0\x05\0\0\0\0",
+        MessageError::OtherCode,
+    ),
+    (
+        b"\x17\0\0\0\x01\0\0\0\0\0\0\0\xDD\x07\0\0\x01\0\0\0\0\0\0",
+        MessageError::NoChecksum,
+    ),
+    (
+        b"\x1A\0\0\0\x01\0\0\0\0\0\0\0\xDD\x07\0\0\0\0\0\0\x02\x05\0\0\0\0",
+        MessageError::OtherKind(2),
+    ),
+    (
+        b"\x15\0\0\0\x01\0\0\0\0\0\0\0\xDD\x07\0\0\0\0\0\0\0",
+        MessageError::NoDocument(NoDocument::TooShort),
+    ),
+    (
+        b"\x1A\0\0\0\x01\0\0\0\0\0\0\0\xDD\x07\0\0\0\0\0\0\0\x06\0\0\0\0",
+        MessageError::NoDocument(NoDocument::LengthIncorrect),
+    ),
+    (
+        b"\x20\0\0\0\x01\0\0\0\0\0\0\0\xDD\x07\0\0\0\0\0\0\0\x05\0\0\0\0\0\x05\0\0\0\x01",
+        MessageError::NoDocument(NoDocument::NotTerminated(5)),
+    ),
+    (
+        b"\x18\0\0\0\x01\0\0\0\0\0\0\0\xDD\x07\0\0\0\0\0\0\x01\x04\0\0",
+        MessageError::WrongSequenceSize,
+    ),
+    (
+        b"\x20\0\0\0\x01\0\0\0\0\0\0\0\xDD\x07\0\0\0\0\0\0\x01\x03\0\0\0d\0\x05\0\0\0\0",
+        MessageError::WrongSequenceSize,
+    ),
+    (
+        b"\x20\0\0\0\x01\0\0\0\0\0\0\0\xDD\x07\0\0\0\0\0\0\x01\x0C\0\0\0d\0\x05\0\0\0\0",
+        MessageError::WrongSequenceSize,
+    ),
+    (
+        b"\x1D\0\0\0\x01\0\0\0\0\0\0\0\xDD\x07\0\0\0\0\0\0\x01\x08\0\0\0docs",
+        MessageError::NoIdentifier,
+    ),
+    (
+        b"\x21\0\0\0\x01\0\0\0\0\0\0\0\xDD\x07\0\0\0\0\0\0\x01\x0C\0\0\0d\xFF\0\x05\0\0\0\0",
+        MessageError::NotText,
+    ),
+    (
+        b"\x24\0\0\0\x01\0\0\0\0\0\0\0\xDD\x07\0\0\0\0\0\0\x01\x0F\0\0\0d\0\x05\0\0\0\0\x05\0\0\0",
+        MessageError::NoDocument(NoDocument::TooShort),
+    ),
+];
+
+#[test]
+fn damage_is_told_by_its_cause(rt: HostRuntime) {
+    for (bytes, wanted) in DAMAGED {
+        match read_message(rt.alloc(), bytes) {
+            Ok(_) => assert!(rt; false, "{bytes:?}"),
+            Err(error) => assert!(rt; error == *wanted, "{bytes:?}: {error}"),
+        }
+    }
+}
