@@ -12,7 +12,7 @@ use Rattle.raw_bson.specs.NoDocument.{NoDocument as WhyNone}
 use Rattle.raw_bson.specs.Number.{le32, le_u32, IsLe32, max_length}
 use Rattle.raw_bson.specs.RawDocument.{RawDocument}
 use Rattle.raw_bson.specs.Reason.TheVariants as reason
-use Rattle.bson_uses.specs.Dump.{joined}
+use Rattle.bson_uses.specs.Dump.{joined, RefusesRest}
 use Rattle.bson_uses.specs.declared.op_msg.Header.{Header}
 use Rattle.bson_uses.specs.declared.op_msg.Message.{Message}
 use Rattle.bson_uses.specs.declared.op_msg.MessageError.{MessageError}
@@ -74,10 +74,10 @@ RefusesIdentifier s e =
     ((e ≡ NoIdentifier) × NulFree s)
     ⊎ ((e ≡ NotText) × (text behind : List ℕ) × IsIdentified s text behind × ¬ IsUtf8 text)
 
--- why s isn't documents end to end: behind some of them is no document, and why; or memory ran out
+-- why s isn't documents end to end: behind some of them is something that is no document, and why; or memory ran out
 abbrev pub RefusesDocuments : List ℕ → MessageError → Type 0
 RefusesDocuments s e =
-    ((why : WhyNone) × (e ≡ NoDocument why) × (ds : List RawDocument) × (rest : List ℕ) × (s ≡ joined ds ++ rest) × RefusesFirst rest why)
+    ((why : WhyNone) × (e ≡ NoDocument why) × (ds : List RawDocument) × (rest : List ℕ) × (s ≡ joined ds ++ rest) × RefusesRest rest why)
     ⊎ (e ≡ OutOfMemory)
 
 -- why what a size counts is no sequence: its identifier, else its documents

@@ -1,7 +1,6 @@
 ghost use Rattle.std.specs.Prelude.{◌≡◌, ◌++◌, [], IfOk, IfErr, MatchOption};
 ghost use Rattle.raw_bson.specs.Errors.{IsOutOfMemory};
-ghost use Rattle.raw_bson.specs.FirstDocument.{RefusesFirst};
-ghost use Rattle.bson_uses.specs.Dump.{joined};
+ghost use Rattle.bson_uses.specs.Dump.{joined, RefusesRest};
 
 use raw_bson::{NoDocument, RawDocument, Result};
 use std::alloc::Global;
@@ -22,7 +21,7 @@ pub fn split_dump<'a>(alloc: Global, bytes: &'a [u8]) -> Result<Dump<'a>>
     ensures pieces { IfOk result
         (λ dump. joined dump.documents.items ++ dump.rest.now ≡ bytes.now) }
     ensures whole { IfOk result
-        (λ dump. MatchOption dump.error (dump.rest.now ≡ []) (RefusesFirst dump.rest.now)) }
+        (λ dump. MatchOption dump.error (dump.rest.now ≡ []) (RefusesRest dump.rest.now)) }
     ensures err { IfErr result IsOutOfMemory }
 {
     let mut documents = Vec::new(alloc);
