@@ -30,6 +30,7 @@ documents = {
     "stop": "06000000 10 00",
     "tag": "08000000 20 6100 00",
     "unended": "0500000001",
+    "texts": "14000000 02 0a6b00 07000000 225c0a01c3a900 00",
     "cut3": "0c0000",
     "cut6": "0c000000 10 61",
     "under": "04000000 00",
@@ -52,6 +53,7 @@ made["most"] = (16793600).to_bytes(4, "little") + b"\x05b\0" + (16793600 - 13).t
 made["long"] = b"\x02s\0\x41\0\0\0" + b"x" * 64 + b"\0\x02t\0\x42\0\0\0" + b"x" * 65 + b"\0"
 made["long"] = (len(made["long"]) + 5).to_bytes(4, "little") + made["long"] + b"\0"
 made["million"] = made["one"] * 1000000
+made["many"] = b'{"a":1}\n' * 1000000
 made["distinct"] = b"".join(b"\x0c\0\0\0\x10a\0" + i.to_bytes(4, "little") + b"\0" for i in range(200000))
 dumps = {
     "sound.bson": "one empty one",
@@ -339,6 +341,68 @@ gzip -c million | gzip -dc | run 'one form of a gzip pipe' 0 unique || failed=1
 cat distinct >wanted.out
 run 'forms that are all new' 0 unique distinct
 
+# -- json
+
+wants '{"d":1.5,"e":{"$numberDouble":"NaN"},"s":"hello","o":{},"a":[1],"b":{"$binary":{"base64":"AQID","subType":"80"}},"u":{"$undefined":true},"i":{"$oid":"000102030405060708090a0b"},"t":true,"z":{"$date":"1970-01-01T00:00:01Z"},"n":null,"r":{"$regularExpression":{"pattern":"a","options":"i"}},"p":{"$dbPointer":{"$ref":"n","$id":{"$oid":"000102030405060708090a0b"}}},"j":{"$code":"x"},"y":{"$symbol":"y"},"w":{"$code":"x","$scope":{}},"k":-1,"m":{"$timestamp":{"t":1,"i":2}},"l":-1,"q":{"$numberDecimal":"2.64625479264658496900423911342336E-4217"},"x":{"$maxKey":1},"v":{"$minKey":1}}
+{"a":1}
+'
+run 'each kind as Extended JSON' 0 json kinds one
+wants '{"d":{"$numberDouble":"1.5"},"e":{"$numberDouble":"NaN"},"s":"hello","o":{},"a":[{"$numberInt":"1"}],"b":{"$binary":{"base64":"AQID","subType":"80"}},"u":{"$undefined":true},"i":{"$oid":"000102030405060708090a0b"},"t":true,"z":{"$date":{"$numberLong":"1000"}},"n":null,"r":{"$regularExpression":{"pattern":"a","options":"i"}},"p":{"$dbPointer":{"$ref":"n","$id":{"$oid":"000102030405060708090a0b"}}},"j":{"$code":"x"},"y":{"$symbol":"y"},"w":{"$code":"x","$scope":{}},"k":{"$numberInt":"-1"},"m":{"$timestamp":{"t":1,"i":2}},"l":{"$numberLong":"-1"},"q":{"$numberDecimal":"2.64625479264658496900423911342336E-4217"},"x":{"$maxKey":1},"v":{"$minKey":1}}
+{"a":{"$numberInt":"1"}}
+'
+run 'each kind as canonical Extended JSON' 0 json --canonical kinds one
+wants '{}
+{"a":1,"a":2}
+{"d":{"c":1,"c":2}}
+{"a":[null,null]}
+{"r":{"$regularExpression":{"pattern":"p","options":"xi"}}}
+{"\nk":"\"\\\n\u0001é"}
+'
+run 'what is not canonical, and texts, as Extended JSON' 0 json empty breaches.bson texts
+wants '{
+  "d": {
+    "c": 1,
+    "c": 2
+  }
+}
+{
+  "a": [
+    null,
+    null
+  ]
+}
+{}
+'
+run 'Extended JSON with two blanks a level' 0 json --indent nested array empty
+wants '{
+  "a": {"$numberInt":"1"}
+}
+'
+run 'canonical Extended JSON with two blanks a level' 0 json --canonical --indent one
+wants '{"a":1}
+{"a":1,"a":2}
+{"d":{"c":1,"c":2}}
+{"a":1}
+' '"mixed.bson":31: damaged at /0:"a", byte 4: a boolean is neither 0 nor 1
+"mixed.bson":67: damaged: no final 0
+'
+run 'damage beside Extended JSON' 1 json mixed.bson
+cp out mixed.json
+wants '' '{"file":"mixed.bson","offset":31,"finding":"damaged","path":[0],"keys":["a"],"byte":4,"reason":"a boolean is neither 0 nor 1"}
+{"file":"mixed.bson","offset":67,"finding":"damaged","reason":"no final 0"}
+'
+cat mixed.json >wanted.out
+run 'damage as JSON beside Extended JSON' 1 json --json mixed.bson
+wants '{"a":1}
+' '"cut.bson":12: cut off: only 6 bytes of a document
+"negative":0: unsound length
+'
+run 'lengths that are unsound beside Extended JSON' 3 json cut.bson negative
+wants ''
+python3 -c 'print("{\"d\":" * 499 + "{}" + "}" * 499)' >wanted.out
+run '500 levels as Extended JSON' 0 json levels500
+gzip -c million | gzip -dc | "$program" json 2>err | cmp -s - many || { echo "dumps.sh: a million documents as Extended JSON" >&2 && failed=1; }
+
 # -- OUTPUT
 
 # kept WHAT FILE: what is there is this file's content, and no file is left beside it
@@ -376,6 +440,12 @@ run 'one file read and written again' 0 canon -o output output
 kept 'one file read and written' sound.bson
 run 'a device' 0 canon -o /dev/null sound.bson
 [ -c /dev/null ] || { echo "dumps.sh: /dev/null is replaced" >&2 && failed=1; }
+wants '' '"mixed.bson":31: damaged at /0:"a", byte 4: a boolean is neither 0 nor 1
+"mixed.bson":67: damaged: no final 0
+'
+run 'Extended JSON in a file' 1 json -o output mixed.bson
+kept 'Extended JSON in a file' mixed.json
+cp sound.bson output
 wants '' 'bsonraw-dump: "nowhere/output": No such file or directory (os error 2)
 '
 run 'a folder that is missing' 5 canon -o nowhere/output sound.bson
@@ -397,6 +467,9 @@ tried 'canon on a full device' 5
 "$program" list sound.bson >/dev/full 2>err
 status=$?
 tried 'list on a full device' 5
+"$program" json sound.bson >/dev/full 2>err
+status=$?
+tried 'json on a full device' 5
 "$program" unique sound.bson >/dev/full 2>err
 status=$?
 tried 'unique on a full device' 5
@@ -434,7 +507,7 @@ tried 'a reader that leaves a pipe' 0
 { "$program" list million 2>err; echo $? >left; } | head -c 10 >/dev/null
 status=$(cat left)
 tried 'a reader that leaves a pipe of list' 0
-for command in canon unique list; do
+for command in canon unique list json; do
     head -c 10 pipe >/dev/null &
     "$program" "$command" distinct >pipe 2>err
     status=$?
@@ -459,7 +532,7 @@ END
 wants "bsonraw-dump $(cat "$root/VERSION")
 "
 run 'the version' 0 --version
-for words in '' 'lost' 'check --lost' 'check -o output' 'list --json'; do
+for words in '' 'lost' 'check --lost' 'check -o output' 'list --json' 'canon --canonical'; do
     # shellcheck disable=SC2086 # words
     "$program" $words >out 2>err </dev/null
     status=$?

@@ -1,13 +1,17 @@
 -- How what was written grows by more documents.
-use Rattle.std.proofs.Common.{◌≡◌, ℕ, List, [], ◌∷◌, ◌++◌, Bool, Option, flat_map, fold, sym, ap, ◌∙◌, subst, refl, append_assoc, append-nil}
+use Rattle.std.proofs.Common.{◌≡◌, ℕ, List, [], ◌∷◌, ◌++◌, Bool, Option, codes, flat_map, fold, sym, ap, ◌∙◌, subst, refl, append_assoc, append-nil}
 use Rattle.std.specs.Io.KnownBytes.{Appends}
 use Rattle.std.proofs.KnownBytes.{Appends-nil, Appends-trans}
 use Rattle.std.proofs.lemmas.Grind.{flat_map-append, fold-append}
-use Rattle.bsonraw_dump.specs.Run.{Writes}
+use Rattle.bson_json.specs.Json.{IsJson}
+use Rattle.bson_json.specs.declared.style.Style as json
+use Rattle.bsonraw_dump.specs.Run.{Emits, Writes}
 use Rattle.bsonraw_dump.specs.Unique.{knows, with_form, if_new, first_forms, joined, written_of, known_behind}
 use Rattle.bsonraw_dump.specs.declared.command.Command.{Command}
 use Rattle.bsonraw_dump.specs.declared.command.Command.TheVariants as command
 use Rattle.bsonraw_dump.specs.declared.digests.Digests.{Digests}
+use Rattle.bsonraw_dump.specs.declared.find.Finding.{Finding}
+use Rattle.bsonraw_dump.specs.declared.find.Finding.TheVariants as finding
 
 joined-append : (xs ys : List (List ℕ)) → joined (xs ++ ys) ≡ joined xs ++ joined ys
 joined-append xs ys = flat_map-append (λ (d : List ℕ). d) xs ys
@@ -24,6 +28,7 @@ written_of-append command.Check known xs ys = joined-append xs ys
 written_of-append command.List known xs ys = joined-append xs ys
 written_of-append command.Canon known xs ys = joined-append xs ys
 written_of-append command.Sound known xs ys = joined-append xs ys
+written_of-append (command.Json style) known xs ys = joined-append xs ys
 written_of-append command.Unique known xs ys = ap joined (first_forms-append known xs ys) ∙ joined-append (first_forms known xs) (first_forms (fold with_form known xs) ys)
 
 known_behind-append : (c : Command) (known : List ℕ → Bool) (xs ys : List (List ℕ)) → known_behind c known (xs ++ ys) ≡ known_behind c (known_behind c known xs) ys
@@ -31,6 +36,7 @@ known_behind-append command.Check known xs ys = refl
 known_behind-append command.List known xs ys = refl
 known_behind-append command.Canon known xs ys = refl
 known_behind-append command.Sound known xs ys = refl
+known_behind-append (command.Json style) known xs ys = refl
 known_behind-append command.Unique known xs ys = fold-append with_form known xs ys
 
 nothing_written : (c : Command) (known : List ℕ → Bool) → [] ≡ written_of c known []
@@ -38,6 +44,7 @@ nothing_written command.Check known = refl
 nothing_written command.List known = refl
 nothing_written command.Canon known = refl
 nothing_written command.Sound known = refl
+nothing_written (command.Json style) known = refl
 nothing_written command.Unique known = refl
 
 nothing_known : (c : Command) (known : List ℕ → Bool) (d : List ℕ) → known d ≡ known_behind c known [] d
@@ -45,6 +52,7 @@ nothing_known command.Check known d = refl
 nothing_known command.List known d = refl
 nothing_known command.Canon known d = refl
 nothing_known command.Sound known d = refl
+nothing_known (command.Json style) known d = refl
 nothing_known command.Unique known d = refl
 
 pub writes_none : (c : Command) (out : Option (List ℕ)) (k : Digests) → Writes c [] out out k k
@@ -61,3 +69,16 @@ writes_more c xs ys d d' d'' k k' k'' first second =
       is_written = subst (Appends d d'') (ap (λ (known : List ℕ → Bool). written_of c (knows k) xs ++ written_of c known ys) same ∙ sym (written_of-append c (knows k) xs ys)) (Appends-trans d d' d'' _ _ first.is_written second.is_written);
       is_known = λ x. second.is_known x ∙ ap (λ (known : List ℕ → Bool). known_behind c known ys x) same ∙ sym (ap (λ (known : List ℕ → Bool). known x) (known_behind-append c (knows k) xs ys));
     }
+
+line_written : (style : json.Style) (line : List ℕ) (d d' : Option (List ℕ)) (k : Digests) → Appends d d' line → Writes (command.Json style) (line ∷ []) d d' k k
+line_written style line d d' k put = record {
+  is_written = subst (Appends d d') (sym (append-nil line)) put;
+  is_known = λ x. refl;
+}
+
+-- a document without damage is written as Extended JSON
+pub json_emitted : (style : json.Style) (b : List ℕ) (f : Finding) (d d' : Option (List ℕ)) (k : Digests) → ¬ (f ≡ finding.Damaged)
+    → (text : List ℕ) × IsJson style b text × Appends d d' (text ++ codes "\n") → Emits (command.Json style) b f d d' k k
+json_emitted style b finding.Canonical d d' k sound (text, is, put) = ((text ++ codes "\n") ∷ [], (text, is, refl), line_written style (text ++ codes "\n") d d' k put)
+json_emitted style b finding.Breached d d' k sound (text, is, put) = ((text ++ codes "\n") ∷ [], (text, is, refl), line_written style (text ++ codes "\n") d d' k put)
+json_emitted style b finding.Damaged d d' k sound h = absurd (sound refl)

@@ -2,6 +2,8 @@
 use Rattle.std.specs.Prelude.{◌≡◌, ℕ, ◌+◌, List, [], ◌∷◌, ◌++◌, Option, None, Some, codes, decimal, flat_map, fold, length}
 use Rattle.std.specs.Io.KnownBytes.{Appends, Consumes}
 use Rattle.raw_tree.specs.CanonicalForm.{IsCanonicalForm}
+use Rattle.bson_json.specs.Json.{IsJson}
+use Rattle.bson_json.specs.declared.style.Style as json
 use Rattle.bsonraw_dump.specs.Cut.{IsPiece, EndsWith}
 use Rattle.bsonraw_dump.specs.Reading.{IsReadBehind, ReadsSome}
 use Rattle.bsonraw_dump.specs.Find.{Account, Finds}
@@ -44,8 +46,13 @@ MakesForm b finding.Canonical made = made ≡ b ∷ []
 MakesForm b finding.Breached made = (form : List ℕ) × IsCanonicalForm b form × (made ≡ form ∷ [])
 MakesForm b finding.Damaged made = made ≡ []
 
+-- the line of a piece b in which this is found, but for damage: its text as Extended JSON, and a line feed
+abbrev pub MakesJson : json.Style → List ℕ → Finding → List (List ℕ) → Type 0
+MakesJson style b finding.Damaged made = made ≡ []
+MakesJson style b _ made = (text : List ℕ) × IsJson style b text × (made ≡ (text ++ codes "\n") ∷ [])
+
 -- what a command makes of a piece b in which this is found: check and list nothing; sound the piece itself, but for damage; canon and
--- unique its canonical form
+-- unique its canonical form; json its line
 abbrev pub Makes : Command → List ℕ → Finding → List (List ℕ) → Type 0
 Makes command.Check b found made = made ≡ []
 Makes command.List b found made = made ≡ []
@@ -53,6 +60,7 @@ Makes command.Sound b finding.Damaged made = made ≡ []
 Makes command.Sound b _ made = made ≡ b ∷ []
 Makes command.Canon b found made = MakesForm b found made
 Makes command.Unique b found made = MakesForm b found made
+Makes (command.Json style) b found made = MakesJson style b found made
 
 -- what a command reports of a piece b at this offset, in which this is found: list its length, what is found and its elements;
 -- check what isn't canonical; the others damage

@@ -3,6 +3,7 @@
 
 use crate::command::Command;
 use crate::style::Style;
+use bson_json::{Format, Layout, Style as JsonStyle};
 use clap::{Arg, ArgAction, ArgMatches, Error};
 use std::alloc::Global;
 
@@ -42,6 +43,32 @@ fn json<'a>(alloc: Global) -> Arg<'a> {
         .action(ArgAction::SetTrue)
 }
 
+fn switch<'a>(alloc: Global, name: &'a str, help: &'a str) -> Arg<'a> {
+    Arg::new(alloc, name)
+        .long(name)
+        .help(help)
+        .action(ArgAction::SetTrue)
+}
+
+fn documents_as_json<'a>(alloc: Global) -> Result<clap::Command<'a>, Error> {
+    let command = clap::Command::new(alloc, "json")
+        .about("Writes each document without damage as MongoDB Extended JSON v2, a line each")
+        .arg(switch(
+            alloc,
+            "canonical",
+            "Prints each number and time with its kind",
+        ))?
+        .arg(switch(
+            alloc,
+            "indent",
+            "Prints a line for each member, indented by two spaces a level",
+        ))?
+        .arg(json(alloc))?
+        .arg(output(alloc))?
+        .arg(files(alloc))?;
+    Ok(command)
+}
+
 /// The command line as a whole.
 pub fn command_line<'a>(alloc: Global) -> Result<clap::Command<'a>, Error> {
     let check = clap::Command::new(alloc, "check")
@@ -74,7 +101,8 @@ pub fn command_line<'a>(alloc: Global) -> Result<clap::Command<'a>, Error> {
         .subcommand(list)?
         .subcommand(canon)?
         .subcommand(sound)?
-        .subcommand(unique)?;
+        .subcommand(unique)?
+        .subcommand(documents_as_json(alloc)?)?;
     Ok(line)
 }
 
@@ -86,6 +114,21 @@ fn style_of(matches: &ArgMatches<'_>) -> Style {
     }
 }
 
+fn json_style_of(matches: &ArgMatches<'_>) -> JsonStyle {
+    JsonStyle {
+        format: if matches.get_flag("canonical") {
+            Format::Canonical
+        } else {
+            Format::Relaxed
+        },
+        layout: if matches.get_flag("indent") {
+            Layout::Indented
+        } else {
+            Layout::OneLine
+        },
+    }
+}
+
 /// The task of a command that was given.
 fn task_of<'a>(
     alloc: Global,
@@ -94,11 +137,14 @@ fn task_of<'a>(
 ) -> Result<Task<'a>, Error> {
     let output = match command {
         Command::Check | Command::List => None,
-        Command::Canon | Command::Sound | Command::Unique => matches.get_str("output"),
+        Command::Canon | Command::Sound | Command::Unique | Command::Json(_) => {
+            matches.get_str("output")
+        }
     };
     let style = match command {
         Command::List => Style::Words,
-        Command::Check | Command::Canon | Command::Sound | Command::Unique => style_of(matches),
+        Command::Check | Command::Canon | Command::Sound | Command::Unique | Command::Json(_) =>
+            style_of(matches),
     };
     let mut inputs = Vec::new(alloc);
     if let Some(names) = matches.get_strs("FILE") {
@@ -134,6 +180,10 @@ pub fn parsed<'a>(alloc: Global, words: &'a [String]) -> Result<Option<Task<'a>>
     }
     if let Some(inner) = matches.subcommand_matches("unique") {
         return Ok(Some(task_of(alloc, Command::Unique, inner)?));
+    }
+    if let Some(inner) = matches.subcommand_matches("json") {
+        let command = Command::Json(json_style_of(inner));
+        return Ok(Some(task_of(alloc, command, inner)?));
     }
     Ok(None)
 }

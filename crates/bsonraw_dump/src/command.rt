@@ -1,3 +1,5 @@
+use bson_json::Style;
+
 /// What is asked of the documents of an input.
 #[derive(Clone, Copy)]
 pub enum Command {
@@ -11,4 +13,6 @@ pub enum Command {
     Sound,
     /// the canonical form of each without damage, where it is the first with its digest
     Unique,
+    /// each without damage as Extended JSON, with a line feed behind it
+    Json(Style),
 }

@@ -100,7 +100,7 @@ fn start(rt: &HostRuntime, task: &Task<'_>) -> Status {
     };
     match task.command {
         Command::Check | Command::List => told(rt, task, &mut out),
-        Command::Canon | Command::Sound | Command::Unique => each(
+        Command::Canon | Command::Sound | Command::Unique | Command::Json(_) => each(
             rt,
             task,
             &mut out,

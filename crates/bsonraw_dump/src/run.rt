@@ -1,7 +1,7 @@
 //! Runs a command over an input.
 #![tactic(auto)]
 
-ghost use Rattle.std.specs.Prelude.{◌≡◌, ℕ, List, Option, [], ◌∷◌, ◌++◌, IfOk, IfErr, OnOk};
+ghost use Rattle.std.specs.Prelude.{◌≡◌, ℕ, List, Option, [], ◌∷◌, ◌++◌, codes, IfOk, IfErr, OnOk};
 ghost use Rattle.std.specs.Option.{option_map};
 ghost use Rattle.std.specs.Io.KnownBytes.{Appends};
 ghost use Rattle.bsonraw_dump.specs.Cut.{IsPiece};
@@ -12,6 +12,8 @@ ghost use Rattle.bsonraw_dump.specs.Told.{ending_line, line, summary_line};
 ghost use Rattle.bsonraw_dump.specs.Run.{Emits, Ends, IsReading, PassesOne, Reports, Stops, Writes, head_text};
 ghost use Rattle.bsonraw_dump.specs.Run as says;
 ghost use Rattle.raw_tree.specs.CanonicalForm.{IsCanonicalForm};
+ghost use Rattle.raw_view.specs.Envelope.{IsEnvelope};
+ghost use Rattle.bson_json.specs.Json.{IsJson};
 ghost use Rattle.bsonraw_dump.specs.declared.command.Command.TheVariants.{Unique};
 
 use crate::command::Command;
@@ -26,6 +28,7 @@ use crate::object::{cut_off_object, summary_object, told_object, unsound_object}
 use crate::style::Style;
 use crate::text::{cut_off_words, line_of, sized, summary, told_line};
 use crate::write::put;
+use bson_json::{Style as JsonStyle, WriteJsonError, write_json};
 use raw_form::canonical_within;
 use raw_view::RawDocument;
 use std::alloc::{AllocError, Global};
@@ -123,7 +126,7 @@ fn report_found<W: Write>(
         }
         (Command::Check, Finding::Canonical)
         | (
-            Command::Canon | Command::Sound | Command::Unique,
+            Command::Canon | Command::Sound | Command::Unique | Command::Json(_),
             Finding::Canonical | Finding::Breached,
         ) => put(report, b""),
     }
@@ -254,7 +257,8 @@ fn emit<D: Write>(
     out: &mut D,
     digests: &mut Digests,
 ) -> Result<(), Failure>
-    ensures written { (told : Option Account) → Finds bytes.now finding told → OnOk result
+    requires { (told : Option Account) × Finds bytes.now finding told }
+    ensures written { OnOk result
         (Emits command bytes.now finding (D.contents out.old) (D.contents out.new) digests.old digests.new) }
     ensures failed { IfErr result (λ failure. ¬ IsReading failure) }
 {
@@ -271,6 +275,9 @@ fn emit<D: Write>(
         }
         (Command::Unique, Finding::Breached) => {
             put_form(alloc, Command::Unique, bytes, out, digests)
+        }
+        (Command::Json(style), Finding::Canonical | Finding::Breached) => {
+            put_json(alloc, style, bytes, out)
         }
     }
 }
@@ -293,6 +300,28 @@ fn put_form<D: Write>(
     }
 }
 
+/// Writes a document as Extended JSON, and a line feed. What would be over the limits counts as out of memory.
+fn put_json<D: Write>(
+    alloc: Global,
+    style: JsonStyle,
+    bytes: &[u8],
+    out: &mut D,
+) -> Result<(), Failure>
+    requires { IsEnvelope bytes.now }
+    ensures written { OnOk result ((text : List ℕ) × IsJson style bytes.now text
+        × Appends (D.contents out.old) (D.contents out.new) (text ++ codes "\n")) }
+    ensures failed { IfErr result (λ failure. ¬ IsReading failure) }
+{
+    let Ok(document) = RawDocument::from_bytes(bytes) else {
+        unreachable!()
+    };
+    match write_json(alloc, document, style, most_allowed(), out) {
+        Ok(()) => put(out, b"\n"),
+        Err(WriteJsonError::Writing(error)) => Err(Failure::Writing(error)),
+        Err(_) => Err(Failure::Memory),
+    }
+}
+
 /// Writes a document that the command makes: of `unique` where its digest is new.
 fn put_document<D: Write>(
     command: Command,
@@ -306,7 +335,9 @@ fn put_document<D: Write>(
 {
     match command {
         Command::Unique => put_new(document, out, digests),
-        Command::Check | Command::List | Command::Canon | Command::Sound => put(out, document),
+        Command::Check | Command::List | Command::Canon | Command::Sound | Command::Json(_) => put(
+            out, document,
+        ),
     }
 }
 
