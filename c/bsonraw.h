@@ -767,6 +767,20 @@ BSONRAW_USE int32_t bsonraw_check(const uint8_t *bytes, size_t len, size_t max_b
 BSONRAW_USE int32_t bsonraw_canonical(const uint8_t *bytes, size_t len, size_t max_bytes, size_t max_depth, uint8_t *form,
                                       size_t form_len, struct bsonraw_report *report, uint64_t *path, size_t path_room);
 
+/* The document as MongoDB's Extended JSON v2, relaxed or, where canonical isn't 0, canonical; on one line or, where indented isn't
+ * 0, with a line for each member, indented by two spaces a level. Each element is printed as it is: repeated keys in order, an
+ * array without its keys. BSONRAW_OK, and the text is at the front of text, with a 0 behind it; count is its bytes without that 0.
+ * BSONRAW_SMALL_BUFFER where text_len is less than 1 + count. With any status but BSONRAW_OK nothing is written to text.
+ *
+ *     char text[4096];
+ *     struct bsonraw_report r;
+ *     uint64_t path[16];
+ *     if (bsonraw_json(bytes, len, 1 << 20, 100, 0, 0, (uint8_t *)text, sizeof text, &r, path, 16) == BSONRAW_OK) puts(text);
+ */
+BSONRAW_USE int32_t bsonraw_json(const uint8_t *bytes, size_t len, size_t max_bytes, size_t max_depth, uint32_t canonical,
+                                 uint32_t indented, uint8_t *text, size_t text_len, struct bsonraw_report *report,
+                                 uint64_t *path, size_t path_room);
+
 #ifdef __cplusplus
 }
 #endif

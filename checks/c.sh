@@ -63,7 +63,7 @@ exports() {
 look_at_libraries() {
     ln -s "$kit/bin/clang" "$work/llvm-nm" && ln -s "$kit/bin/clang" "$work/llvm-readelf" || return 1
     declared >"$work/declared"
-    [ "$(wc -l <"$work/declared")" = 21 ] || fails "the header doesn't declare twenty-one functions"
+    [ "$(wc -l <"$work/declared")" = 22 ] || fails "the header doesn't declare twenty-two functions"
     exports libbsonraw.a "" | diff "$work/declared" - >&2 || fails "the static library has other names than the header"
     exports libbsonraw.so -D | diff "$work/declared" - >&2 || fails "the shared library has other names than the header"
     needed=$("$work/llvm-readelf" -d "$prefix/lib/libbsonraw.so" | sed -n 's/.*(NEEDED).*\[\(.*\)\]/\1/p')
@@ -159,7 +159,7 @@ page() {
 
 look_at_examples() {
     examples c/bsonraw.h >"$work/examples.c"
-    [ "$(grep -c '^void example_.*{$' "$work/examples.c")" = 18 ] || fails "the header doesn't have an example of each group of calls"
+    [ "$(grep -c '^void example_.*{$' "$work/examples.c")" = 19 ] || fails "the header doesn't have an example of each group of calls"
     # shellcheck disable=SC2086
     compile -std=c99 $warnings -Wno-unused-variable -Wno-shadow -O1 -fPIE -c -o "$work/examples.o" "$work/examples.c" &&
         run_examples || fails "an example of the header doesn't do what it says"
@@ -185,12 +185,13 @@ says() {
 }
 
 run_programs() {
-    for name in json merge path; do
+    for name in json json_text merge path; do
         # shellcheck disable=SC2086
         compile -std=c99 $warnings -O1 -fPIE -c -o "$work/$name.o" "examples/c/$name.c" &&
             link libbsonraw.a "$work/$name" "$work/$name.o" || return 1
     done
     says "{\"hi\": \"y'all\"}" "$work/json"
+    says "{\"hi\":\"y'all\"}" "$work/json_text"
     says "y'all" "$work/path" hi
     says "" "$work/path" ho
     # {"hi": "y'all"} with {"hi": 1, "ho": 2} laid over it

@@ -50,6 +50,11 @@ static int is_left(struct mapped m, size_t len) {
     return 1;
 }
 
+/* How many bytes a call wants for its form; a text has a 0 behind it, which isn't counted. */
+static size_t wanted(call *run, const struct whole *told) {
+    return (size_t)told->report.count + (run == call_json && told->status == BSONRAW_OK);
+}
+
 /* A call with this room for the form and for the path, both at this edge; told is what it returns with ample rooms. */
 static void fills_rooms(const struct document *d, call *run, const struct whole *told, const uint8_t *form, size_t form_room,
                         size_t path_room, enum edge edge) {
@@ -57,7 +62,7 @@ static void fills_rooms(const struct document *d, call *run, const struct whole 
     struct bsonraw_report r;
     int32_t status = run(d, forms.bytes, form_room, &r, (void *)path.bytes, path_room);
     size_t steps = told->report.path_len < path_room ? (size_t)told->report.path_len : path_room;
-    size_t form_len = (size_t)told->report.count;
+    size_t form_len = wanted(run, told);
     int fits = form_len <= form_room;
     expect(status == (told->status == BSONRAW_OK && !fits ? BSONRAW_SMALL_BUFFER : told->status), d->name, "another status with other room");
     expect(memcmp(&r, &told->report, sizeof r) == 0, d->name, "another report with other room");
@@ -74,7 +79,7 @@ static void fills(const struct document *d, call *run) {
     static uint8_t form[ROOM];
     size_t len, steps;
     ample.status = run(d, form, ROOM, &ample.report, ample.path, STEPS);
-    len = (size_t)ample.report.count, steps = (size_t)ample.report.path_len;
+    len = wanted(run, &ample), steps = (size_t)ample.report.path_len;
     for (enum edge edge = AT_FRONT; edge <= AT_END; edge++) {
         fills_rooms(d, run, &ample, form, len, steps, edge);
         fills_rooms(d, run, &ample, form, len + 1, steps + 1, edge);
@@ -223,6 +228,7 @@ static void flattens(const struct document *d) {
 
 static void look_at(const struct document *d) {
     fills(d, call_canonical);
+    fills(d, call_json);
     fills(d, call_first_fault);
     fills(d, call_check);
     flattens(d);

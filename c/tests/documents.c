@@ -60,6 +60,11 @@ int32_t call_canonical(const struct document *d, uint8_t *form, size_t form_len,
     return bsonraw_canonical(d->bytes, d->len, 1 << 24, LEVELS, form, form_len, report, path, path_room);
 }
 
+int32_t call_json(const struct document *d, uint8_t *form, size_t form_len, struct bsonraw_report *report, uint64_t *path,
+                  size_t path_room) {
+    return bsonraw_json(d->bytes, d->len, 1 << 24, LEVELS, 1, 0, form, form_len, report, path, path_room);
+}
+
 int32_t call_first_fault(const struct document *d, uint8_t *form, size_t form_len, struct bsonraw_report *report,
                          uint64_t *path, size_t path_room) {
     (void)form, (void)form_len;

@@ -27,11 +27,13 @@ struct whole {
     uint64_t path[STEPS];
 };
 
-/* Such a call, with this room for the path; form is for the canonical form alone. */
+/* Such a call, with this room for the path; form is for the canonical form, or for the text, alone. */
 typedef int32_t call(const struct document *d, uint8_t *form, size_t form_len, struct bsonraw_report *report, uint64_t *path,
                      size_t path_room);
 int32_t call_canonical(const struct document *d, uint8_t *form, size_t form_len, struct bsonraw_report *report, uint64_t *path,
                        size_t path_room);
+int32_t call_json(const struct document *d, uint8_t *form, size_t form_len, struct bsonraw_report *report, uint64_t *path,
+                  size_t path_room);
 int32_t call_first_fault(const struct document *d, uint8_t *form, size_t form_len, struct bsonraw_report *report,
                          uint64_t *path, size_t path_room);
 int32_t call_check(const struct document *d, uint8_t *form, size_t form_len, struct bsonraw_report *report, uint64_t *path,

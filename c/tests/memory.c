@@ -113,15 +113,16 @@ static void asks_for_nothing(const struct document *d) {
 
 int main(void) {
     static struct documents all;
-    size_t forms = 0, faults = 0, verdicts = 0;
+    size_t forms = 0, texts = 0, faults = 0, verdicts = 0;
     read_documents(&all);
     for (size_t at = 0; at < all.count; at++) {
         const struct document *d = &all.items[at];
         forms += refuse_both_ways(d, call_canonical);
+        texts += refuse_both_ways(d, call_json);
         faults += refuse_both_ways(d, call_first_fault);
         verdicts += refuse_both_ways(d, call_check);
         asks_for_nothing(d);
     }
-    expect(forms > 0 && faults > 0 && verdicts > 0, "memory", "a call never ran out of it");
+    expect(forms > 0 && texts > 0 && faults > 0 && verdicts > 0, "memory", "a call never ran out of it");
     return result("memory");
 }

@@ -7,6 +7,7 @@ pub mod Dumps
 pub mod Entries
 pub mod Forms
 pub mod Iters
+pub mod Json
 pub mod Values
 pub mod Verdicts
 pub mod Reports

@@ -14,6 +14,7 @@ mod finds;
 mod first_fault;
 mod flatten;
 mod iter;
+mod json;
 mod many;
 mod moves;
 mod paths;
