@@ -7,6 +7,8 @@
 uint32_t right_version(void);
 int32_t right_canonical(const uint8_t *bytes, size_t len, size_t max_bytes, size_t max_depth, uint8_t *form, size_t form_len,
                         struct bsonraw_report *report, uint64_t *path, size_t path_room);
+int32_t right_json(const uint8_t *bytes, size_t len, size_t max_bytes, size_t max_depth, uint32_t canonical, uint32_t indented,
+                   uint8_t *text, size_t text_len, struct bsonraw_report *report, uint64_t *path, size_t path_room);
 int32_t right_first_fault(const uint8_t *bytes, size_t len, size_t max_bytes, size_t max_depth, struct bsonraw_report *report,
                           uint64_t *path, size_t path_room);
 int32_t right_check(const uint8_t *bytes, size_t len, size_t max_bytes, size_t max_depth, struct bsonraw_report *report,
@@ -55,6 +57,15 @@ int32_t bsonraw_canonical(const uint8_t *bytes, size_t len, size_t max_bytes, si
     if (MISTAKE == 3 && status == BSONRAW_OK) form[report->count] = 0;
     if (MISTAKE == 4 && status == BSONRAW_SMALL_BUFFER) memset(form, 0, form_len);
     if (MISTAKE == 20 && status == BSONRAW_OK && len == report->count) memcpy(form, bytes, len);
+    return status;
+}
+
+/* 23: a byte behind the text and its 0 is written. */
+int32_t bsonraw_json(const uint8_t *bytes, size_t len, size_t max_bytes, size_t max_depth, uint32_t canonical,
+                     uint32_t indented, uint8_t *text, size_t text_len, struct bsonraw_report *report, uint64_t *path,
+                     size_t path_room) {
+    int32_t status = right_json(bytes, len, max_bytes, max_depth, canonical, indented, text, text_len, report, path, path_room);
+    if (MISTAKE == 23 && status == BSONRAW_OK) text[report->count + 1] = 0;
     return status;
 }
 
