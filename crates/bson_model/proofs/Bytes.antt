@@ -92,7 +92,8 @@ AreBytes-encode c l =
     let three : AreBytes (later (c / 4096) ∷ later (c / 64) ∷ later c ∷ []) = AreBytes-later (c / 4096) (later (c / 64) ∷ later c ∷ []) two in
     AreBytes-either (ltb c 128) (c ∷ []) _ (λ e. let h = ltb-true c 128 e in AreBytes-cons c [] (omega arith) AreBytes-nil)
     (AreBytes-either (ltb c 2048) ((192 + c / 64) ∷ later c ∷ []) _ (λ e. let h = ltb-true c 2048 e in AreBytes-cons (192 + c / 64) (later c ∷ []) (omega arith) one)
-    (AreBytes-either (ltb c 65536) ((224 + c / 4096) ∷ later (c / 64) ∷ later c ∷ []) _ (λ e. let h = ltb-true c 65536 e in AreBytes-cons (224 + c / 4096) (later (c / 64) ∷ later c ∷ []) (omega arith) two)
+    (AreBytes-either (ltb c 65536) ((224 + c / 4096) ∷ later (c / 64) ∷ later c ∷ []) _
+    (λ e. let h = ltb-true c 65536 e in AreBytes-cons (224 + c / 4096) (later (c / 64) ∷ later c ∷ []) (omega arith) two)
     (AreBytes-cons (240 + c / 262144) (later (c / 4096) ∷ later (c / 64) ∷ later c ∷ []) (omega arith) three)))
 
 -- a character is below 1114112

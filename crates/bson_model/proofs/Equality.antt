@@ -76,7 +76,16 @@ each_eq = (
                               λ a b. code_eqs.ghosts.eq a.0 b.0,
                               (
                                 λ a b. int_eq a.0 b.0,
-                                (λ a b. timestamp_eqs.ghosts.eq a.0 b.0, (λ a b. int_eq a.0 b.0, (λ a b. decimal_eqs.ghosts.eq a.0 b.0, (λ a b. true, (λ a b. true, tt))))),
+                                (
+                                  λ a b. timestamp_eqs.ghosts.eq a.0 b.0,
+                                  (
+                                    λ a b. int_eq a.0 b.0,
+                                    (
+                                      λ a b. decimal_eqs.ghosts.eq a.0 b.0,
+                                      (λ a b. true, (λ a b. true, tt)),
+                                    ),
+                                  ),
+                                ),
                               ),
                             ),
                           ),
@@ -147,7 +156,67 @@ make c = tree_of (bson.the_make c)
 
 kinds : Kinds place bson.enum.parts 0 make
 unfolding tree_of
-kinds = (λ u. refl, (λ u. refl, (λ u. ap place (tree_of-Document u.0), (λ u. ap place (tree_of-Array u.0), (λ u. refl, (λ u. refl, (λ u. refl, (λ u. refl, (λ u. refl, (λ u. refl, (λ u. refl, (λ u. refl, (λ u. refl, (λ u. refl, (λ u. ap place (tree_of-JavaScriptCodeWithScope u.0), (λ u. refl, (λ u. refl, (λ u. refl, (λ u. refl, (λ u. refl, (λ u. refl, tt)))))))))))))))))))))
+kinds = (
+  λ u. refl,
+  (
+    λ u. refl,
+    (
+      λ u. ap place (tree_of-Document u.0),
+      (
+        λ u. ap place (tree_of-Array u.0),
+        (
+          λ u. refl,
+          (
+            λ u. refl,
+            (
+              λ u. refl,
+              (
+                λ u. refl,
+                (
+                  λ u. refl,
+                  (
+                    λ u. refl,
+                    (
+                      λ u. refl,
+                      (
+                        λ u. refl,
+                        (
+                          λ u. refl,
+                          (
+                            λ u. refl,
+                            (
+                              λ u. ap place (tree_of-JavaScriptCodeWithScope u.0),
+                              (
+                                λ u. refl,
+                                (
+                                  λ u. refl,
+                                  (
+                                    λ u. refl,
+                                    (
+                                      λ u. refl,
+                                      (
+                                        λ u. refl,
+                                        (λ u. refl, tt),
+                                      ),
+                                    ),
+                                  ),
+                                ),
+                              ),
+                            ),
+                          ),
+                        ),
+                      ),
+                    ),
+                  ),
+                ),
+              ),
+            ),
+          ),
+        ),
+      ),
+    ),
+  ),
+)
 
 entries_inj : (es fs : List (List ℕ × Tree)) → entries es ≡ entries fs → es ≡ fs
 entries_inj [] [] h = refl
@@ -169,7 +238,8 @@ module _ (n : ℕ) (IH : (x y : Bson) → size-Bson x < n → Decides (E x y) (t
   by_pairs [] (y ∷ ys) h = (λ p. cc, λ q. cc)
   by_pairs (x ∷ xs) [] h = (λ p. cc, λ q. cc)
   by_pairs (x ∷ xs) (y ∷ ys) h =
-      let first : Decides (pointwise nat_eq x.0 y.0 && E x.1 y.1) ((x.0 ≡ y.0) × (tree_of x.1 ≡ tree_of y.1)) = joined (pointwise nat_eq x.0 y.0) (E x.1 y.1) (bytes_eq-Decides x.0 y.0) (IH x.1 y.1 (omega arith)) (λ p q. (p, q)) (λ r. r.0) (λ r. r.1) in
+      let first : Decides (pointwise nat_eq x.0 y.0 && E x.1 y.1) ((x.0 ≡ y.0) × (tree_of x.1 ≡ tree_of y.1)) =
+      joined (pointwise nat_eq x.0 y.0) (E x.1 y.1) (bytes_eq-Decides x.0 y.0) (IH x.1 y.1 (omega arith)) (λ p q. (p, q)) (λ r. r.0) (λ r. r.1) in
       joined (pointwise nat_eq x.0 y.0 && E x.1 y.1) (same_pairs xs ys) first (by_pairs xs ys (omega arith))
       (λ p q. λ i. (p.0 i, p.1 i) ∷ q i)
       (λ r. let e : ◌≡◌ {A = List ℕ × Tree} (x.0, tree_of x.1) (y.0, tree_of y.1) = cc in (ap (λ p. p.0) e, ap (λ p. p.1) e))
@@ -190,7 +260,8 @@ module _ (n : ℕ) (IH : (x y : Bson) → size-Bson x < n → Decides (E x y) (t
       (λ p. tree_of-Array v ∙ ap array p ∙ sym (tree_of-Array w))
       (λ q. let k = sym (tree_of-Array v) ∙ q ∙ tree_of-Array w in cc)
 
-  by_code : (c d : JavaScriptCodeWithScope) → size-Bson (b.JavaScriptCodeWithScope c) < suc n → Decides (code_eqs.ghosts.eq c d) (tree_of (b.JavaScriptCodeWithScope c) ≡ tree_of (b.JavaScriptCodeWithScope d))
+  by_code : (c d : JavaScriptCodeWithScope) → size-Bson (b.JavaScriptCodeWithScope c) < suc n
+      → Decides (code_eqs.ghosts.eq c d) (tree_of (b.JavaScriptCodeWithScope c) ≡ tree_of (b.JavaScriptCodeWithScope d))
   by_code c d h =
       let below = by_pairs c.scope.pairs d.scope.pairs (omega (arith, size_code c)) in
       let scopes = along _ _ (at_document c.scope d.scope) below (λ p. p) (λ p. p) in
@@ -211,7 +282,9 @@ module _ (n : ℕ) (IH : (x y : Bson) → size-Bson x < n → Decides (E x y) (t
         (
           λ u v s. by_list u.0 v.0 s,
           (
-            λ u v s. joined (subtype_eqs.ghosts.eq u.0.subtype v.0.subtype) (pointwise nat_eq u.0.bytes.items v.0.bytes.items) (same_subtype u.0.subtype v.0.subtype) (bytes_eq-Decides u.0.bytes.items v.0.bytes.items) (λ p q. λ i. leaf (binary (p i) (q i))) (λ r. cc) (λ r. cc),
+            λ u v s. joined (subtype_eqs.ghosts.eq u.0.subtype v.0.subtype) (pointwise nat_eq u.0.bytes.items v.0.bytes.items)
+                (same_subtype u.0.subtype v.0.subtype) (bytes_eq-Decides u.0.bytes.items v.0.bytes.items) (λ p q. λ i. leaf (binary (p i) (q i))) (λ r. cc)
+                (λ r. cc),
             (
               λ u v s. alike refl,
               (
@@ -223,9 +296,14 @@ module _ (n : ℕ) (IH : (x y : Bson) → size-Bson x < n → Decides (E x y) (t
                     (
                       λ u v s. alike refl,
                       (
-                        λ u v s. joined (string_eq u.0.pattern v.0.pattern) (string_eq u.0.options v.0.options) (bytes_eq-Decides (string_bytes u.0.pattern) (string_bytes v.0.pattern)) (bytes_eq-Decides (string_bytes u.0.options) (string_bytes v.0.options)) (λ p q. λ i. leaf (regular_expression (p i) (q i))) (λ r. cc) (λ r. cc),
+                        λ u v s. joined (string_eq u.0.pattern v.0.pattern) (string_eq u.0.options v.0.options)
+                            (bytes_eq-Decides (string_bytes u.0.pattern) (string_bytes v.0.pattern))
+                            (bytes_eq-Decides (string_bytes u.0.options) (string_bytes v.0.options)) (λ p q. λ i. leaf (regular_expression (p i) (q i)))
+                            (λ r. cc) (λ r. cc),
                         (
-                          λ u v s. joined (string_eq u.0.namespace v.0.namespace) (object_id_eqs.ghosts.eq u.0.id v.0.id) (bytes_eq-Decides (string_bytes u.0.namespace) (string_bytes v.0.namespace)) (bytes_eq-Decides u.0.id.bytes v.0.id.bytes) (λ p q. λ i. leaf (db_pointer (p i) (q i))) (λ r. cc) (λ r. cc),
+                          λ u v s. joined (string_eq u.0.namespace v.0.namespace) (object_id_eqs.ghosts.eq u.0.id v.0.id)
+                              (bytes_eq-Decides (string_bytes u.0.namespace) (string_bytes v.0.namespace)) (bytes_eq-Decides u.0.id.bytes v.0.id.bytes)
+                              (λ p q. λ i. leaf (db_pointer (p i) (q i))) (λ r. cc) (λ r. cc),
                           (
                             λ u v s. along _ _ refl (bytes_eq-Decides (string_bytes u.0) (string_bytes v.0)) (λ p. ap (λ z. leaf (javascript_code z)) p) (λ q. cc),
                             (
@@ -235,7 +313,8 @@ module _ (n : ℕ) (IH : (x y : Bson) → size-Bson x < n → Decides (E x y) (t
                                 (
                                   λ u v s. along _ _ refl (Decides-int_eq u.0 v.0) (λ p. ap (λ z. leaf (int32 z)) p) (λ q. cc),
                                   (
-                                    λ u v s. joined (nat_eq u.0.time v.0.time) (nat_eq u.0.increment v.0.increment) (Decides-eqb u.0.time v.0.time) (Decides-eqb u.0.increment v.0.increment) (λ p q. λ i. leaf (timestamp (p i) (q i))) (λ r. cc) (λ r. cc),
+                                    λ u v s. joined (nat_eq u.0.time v.0.time) (nat_eq u.0.increment v.0.increment) (Decides-eqb u.0.time v.0.time)
+                                        (Decides-eqb u.0.increment v.0.increment) (λ p q. λ i. leaf (timestamp (p i) (q i))) (λ r. cc) (λ r. cc),
                                     (
                                       λ u v s. along _ _ refl (Decides-int_eq u.0 v.0) (λ p. ap (λ z. leaf (int64 z)) p) (λ q. cc),
                                       (
@@ -267,7 +346,8 @@ module _ (n : ℕ) (IH : (x y : Bson) → size-Bson x < n → Decides (E x y) (t
   by_size : (x y : Bson) → size-Bson x < suc n → Decides (E x y) (tree_of x ≡ tree_of y)
   by_size x y h =
       let c = bson.as_values x in let d = bson.as_values y in
-      let m : Decides (E (bson.the_make c) (bson.the_make d)) (make c ≡ make d) = rw (at_choice c d) (decided place bson.enum.parts 0 each_eq make Small kinds all_decide c d (rw (bson.the_eta x) h)) in
+      let m : Decides (E (bson.the_make c) (bson.the_make d)) (make c ≡ make d) =
+      rw (at_choice c d) (decided place bson.enum.parts 0 each_eq make Small kinds all_decide c d (rw (bson.the_eta x) h)) in
       subst (λ z. Decides (E z y) (tree_of z ≡ tree_of y)) (bson.the_eta x) (subst (λ z. Decides (E (bson.the_make c) z) (make c ≡ tree_of z)) (bson.the_eta y) m)
 
 all_below : (n : ℕ) (x y : Bson) → size-Bson x < n → Decides (E x y) (tree_of x ≡ tree_of y)

@@ -42,7 +42,8 @@ keys_of-with_pair {T} k v (p ∷ ps) =
 list_any-filter : (k l : Key) (ks : List Key) → bytes_eq k l ≡ false → list_any (bytes_eq k) (filter (λ m. not (bytes_eq l m)) ks) ≡ list_any (bytes_eq k) ks
 list_any-filter k l [] h = refl
 list_any-filter k l (m ∷ ks) h =
-    elim (bytes_eq l m) as (λ b. bytes_eq l m ≡ b → list_any (bytes_eq k) (cond (not b) (m ∷ filter (λ m. not (bytes_eq l m)) ks) (filter (λ m. not (bytes_eq l m)) ks)) ≡ (bytes_eq k m || list_any (bytes_eq k) ks)) [
+    elim (bytes_eq l m) as (λ b. bytes_eq l m ≡ b → list_any (bytes_eq k)
+    (cond (not b) (m ∷ filter (λ m. not (bytes_eq l m)) ks) (filter (λ m. not (bytes_eq l m)) ks)) ≡ (bytes_eq k m || list_any (bytes_eq k) ks)) [
       | true ↦ λ e. let no : bytes_eq k m ≡ false = rw (same_key l m e) at h in list_any-filter k l ks h ∙ ap (λ b. b || list_any (bytes_eq k) ks) (sym no)
       | false ↦ λ e. ap (λ b. bytes_eq k m || b) (list_any-filter k l ks h)
     ] refl
@@ -95,7 +96,8 @@ kept false c new old rest h = refl
 value_at-with_pair : {T : Type 0} (q k : Key) (v : T) (ps : List (Key × T)) → value_at q (with_pair k v ps) ≡ cond (bytes_eq q k) (Some v) (value_at q ps)
 value_at-with_pair q k v [] = refl
 value_at-with_pair {T} q k v (p ∷ ps) =
-    elim (bytes_eq k p.0) as (λ b. bytes_eq k p.0 ≡ b → value_at {T = T} q (cond b ((p.0, v) ∷ ps) (p ∷ with_pair k v ps)) ≡ cond (bytes_eq q k) (Some v) (cond (bytes_eq q p.0) (Some p.1) (value_at q ps))) [
+    elim (bytes_eq k p.0) as (λ b. bytes_eq k p.0 ≡ b → value_at {T = T} q (cond b ((p.0, v) ∷ ps) (p ∷ with_pair k v ps)) ≡ cond (bytes_eq q k) (Some v)
+    (cond (bytes_eq q p.0) (Some p.1) (value_at q ps))) [
       | true ↦ λ e. replaced (bytes_eq q p.0) (bytes_eq q k) (Some v) (Some p.1) (value_at q ps) (ap (λ m. bytes_eq q m) (sym (same_key k p.0 e)))
       | false ↦ λ e. ap (λ o. cond (bytes_eq q p.0) (Some p.1) o) (value_at-with_pair q k v ps)
           ∙ kept (bytes_eq q p.0) (bytes_eq q k) (Some v) (Some p.1) (value_at q ps) (λ h. ap (λ m. bytes_eq m k) (same_key q p.0 h) ∙ flipped k p.0 e)
@@ -131,7 +133,8 @@ HasDistinctKeys-with_pair k v ps h = rw (keys_of-with_pair k v ps) (distinct_add
 abbrev look_up : {T : Type 0} → (Key → Option T) → List Key → List (Key × T)
 look_up value ks = filter_map (λ k. option_map (λ v. (k, v)) (value k)) ks
 
-look_up-others : {T : Type 0} (p : Key × T) (ps : List (Key × T)) (ks : List Key) → AllByRecursion (λ y. bytes_eq p.0 y ≡ false) ks → look_up (λ k. value_at k (p ∷ ps)) ks ≡ look_up (λ k. value_at k ps) ks
+look_up-others : {T : Type 0} (p : Key × T) (ps : List (Key × T)) (ks : List Key) → AllByRecursion (λ y. bytes_eq p.0 y ≡ false) ks
+    → look_up (λ k. value_at k (p ∷ ps)) ks ≡ look_up (λ k. value_at k ps) ks
 look_up-others p ps [] h = refl
 look_up-others p ps (k ∷ ks) h =
     let no = flipped p.0 k h.0 in

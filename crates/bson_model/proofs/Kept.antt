@@ -18,21 +18,29 @@ module _ {K T : Type 0} (f : K → List ℕ) (q : List ℕ) where
   abbrev pub Found : T → Option T → List (List ℕ × T) → List K → List T → ℕ → Type 0
   Found w o ps ks vs j = (o ≡ slice_get vs j) × (ps ≡ pairs_by f ks (slice_set vs j w)) × (j < length vs)
 
-  pub found : (w : T) (ks : List K) (vs : List T) → length vs ≡ length ks → list_any (test f q) ks ≡ true → Found w (value_at q (pairs_by f ks vs)) (with_pair q w (pairs_by f ks vs)) ks vs (position_or_len (test f q) ks)
+  pub found : (w : T) (ks : List K) (vs : List T) → length vs ≡ length ks → list_any (test f q) ks ≡ true
+      → Found w (value_at q (pairs_by f ks vs)) (with_pair q w (pairs_by f ks vs)) ks vs (position_or_len (test f q) ks)
   found w [] vs e p = cc
   found w (k ∷ ks) [] e p = absurd (omega arith)
   found w (k ∷ ks) (v ∷ vs) e p =
-      elim (test f q k) as (λ b. (b || list_any (test f q) ks) ≡ true → Found w (cond b (Some v) (value_at q (pairs_by f ks vs))) (cond b ((f k, w) ∷ pairs_by f ks vs) ((f k, v) ∷ with_pair q w (pairs_by f ks vs))) (k ∷ ks) (v ∷ vs) (cond (not b) (1 + position_or_len (test f q) ks) 0)) [
+      elim (test f q k) as (λ b. (b || list_any (test f q) ks) ≡ true
+      → Found w (cond b (Some v) (value_at q (pairs_by f ks vs))) (cond b ((f k, w) ∷ pairs_by f ks vs) ((f k, v) ∷ with_pair q w (pairs_by f ks vs)))
+      (k ∷ ks) (v ∷ vs) (cond (not b) (1 + position_or_len (test f q) ks) 0)) [
         | true ↦ λ h. (refl, refl, omega arith)
-        | false ↦ λ h. let r = found w ks vs (omega arith) h in let next : 1 + position_or_len (test f q) ks ≡ suc (position_or_len (test f q) ks) = omega arith in rw next (r.0, ap (λ l. (f k, v) ∷ l) r.1, omega (arith, r.2))
+        | false ↦ λ h. let r = found w ks vs (omega arith) h in let next : 1 + position_or_len (test f q) ks ≡ suc (position_or_len (test f q) ks) =
+            omega arith in rw next (r.0, ap (λ l. (f k, v) ∷ l) r.1, omega (arith, r.2))
       ] p
 
-  pub lost : (w : T) (ks : List K) (vs : List T) → length vs ≡ length ks → list_any (test f q) ks ≡ false → (value_at q (pairs_by f ks vs) ≡ None) × ((k : K) → f k ≡ q → with_pair q w (pairs_by f ks vs) ≡ pairs_by f (ks ++ k ∷ []) (vs ++ w ∷ []))
+  pub lost : (w : T) (ks : List K) (vs : List T) → length vs ≡ length ks → list_any (test f q) ks ≡ false
+      → (value_at q (pairs_by f ks vs) ≡ None) × ((k : K) → f k ≡ q → with_pair q w (pairs_by f ks vs) ≡ pairs_by f (ks ++ k ∷ []) (vs ++ w ∷ []))
   lost w [] [] e p = (refl, λ k h. ap (λ x. (x, w) ∷ []) (sym h))
   lost w [] (v ∷ vs) e p = absurd (omega arith)
   lost w (k ∷ ks) [] e p = absurd (omega arith)
   lost w (k ∷ ks) (v ∷ vs) e p =
-      elim (test f q k) as (λ b. (b || list_any (test f q) ks) ≡ false → (cond b (Some v) (value_at q (pairs_by f ks vs)) ≡ None) × ((l : K) → f l ≡ q → cond b ((f k, w) ∷ pairs_by f ks vs) ((f k, v) ∷ with_pair q w (pairs_by f ks vs)) ≡ pairs_by f ((k ∷ ks) ++ l ∷ []) ((v ∷ vs) ++ w ∷ []))) [
+      elim (test f q k) as (λ b. (b || list_any (test f q) ks) ≡ false
+      → (cond b (Some v) (value_at q (pairs_by f ks vs)) ≡ None)
+      × ((l : K) → f l ≡ q → cond b ((f k, w) ∷ pairs_by f ks vs) ((f k, v) ∷ with_pair q w (pairs_by f ks vs)) ≡ pairs_by f ((k ∷ ks) ++ l ∷ [])
+      ((v ∷ vs) ++ w ∷ []))) [
         | true ↦ λ h. cc
         | false ↦ λ h. let r = lost w ks vs (omega arith) h in (r.0, λ l s. ap (λ x. (f k, v) ∷ x) (r.1 l s))
       ] p

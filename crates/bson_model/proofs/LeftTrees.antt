@@ -51,11 +51,13 @@ trees-values : (ps : List (List ℕ × Bson)) → map (λ p. p.1) (pairs_in (ent
 trees-values [] = refl
 trees-values (p ∷ ps) = ap (λ l. tree_of p.1 ∷ l) (trees-values ps)
 
-pub members-Document : (d : Document) (r : Option (Vec Bson Global)) → IfSome r (λ values. values.items ≡ map (λ p. p.1) (pairs_of d)) → IfSome r (λ values. members (tree_of (b.Document d)) ≡ map tree_of values.items)
+pub members-Document : (d : Document) (r : Option (Vec Bson Global)) → IfSome r (λ values. values.items ≡ map (λ p. p.1) (pairs_of d))
+    → IfSome r (λ values. members (tree_of (b.Document d)) ≡ map tree_of values.items)
 members-Document d None h = tt
 members-Document d (Some values) h = ap members (tree_of-Document d) ∙ rw h (trees-values (pairs_of d))
 
-pub members-Code : (c : JavaScriptCodeWithScope) (r : Option (Vec Bson Global)) → IfSome r (λ values. values.items ≡ map (λ p. p.1) (pairs_of c.scope)) → IfSome r (λ values. members (tree_of (b.JavaScriptCodeWithScope c)) ≡ map tree_of values.items)
+pub members-Code : (c : JavaScriptCodeWithScope) (r : Option (Vec Bson Global)) → IfSome r (λ values. values.items ≡ map (λ p. p.1) (pairs_of c.scope))
+    → IfSome r (λ values. members (tree_of (b.JavaScriptCodeWithScope c)) ≡ map tree_of values.items)
 members-Code c None h = tt
 members-Code c (Some values) h = ap members (tree_of-JavaScriptCodeWithScope c) ∙ rw h (trees-values (pairs_of c.scope))
 
@@ -92,7 +94,8 @@ pub is_less-inside : (new : List Bson) (next : Option Bson) (values : List Bson)
 is_less-inside new next values h t m = omega (arith, load-cut new next values h, less-inside (map tree_of values) t (sym m))
 
 -- where the value is that one
-pub less-next : (new : List Bson) (next : Option Bson) (old : List Bson) (value : Bson) → load (left new next) < load (map tree_of old ++ tree_of value ∷ []) → load (left new next) < load (left old (Some value))
+pub less-next : (new : List Bson) (next : Option Bson) (old : List Bson) (value : Bson) → load (left new next) < load (map tree_of old ++ tree_of value ∷ [])
+    → load (left new next) < load (left old (Some value))
 less-next new next old value h = rw (map-append tree_of old (value ∷ [])) h
 
 -- those that are held wait in the place of the first

@@ -13,4 +13,5 @@ pub mod Measures
 pub mod Variants
 pub mod WellFormed
 pub mod Zips
+pub mod Columns
 pub mod Face

@@ -24,7 +24,28 @@ subtype_place (Reserved byte) = 10
 subtype_place (UserDefined byte) = 11
 
 abbrev subtype_each : Each Bool subtype.enum.parts
-subtype_each = (λ a b. true, (λ a b. true, (λ a b. true, (λ a b. true, (λ a b. true, (λ a b. true, (λ a b. true, (λ a b. true, (λ a b. true, (λ a b. true, (λ a b. nat_eq a.0 b.0, (λ a b. nat_eq a.0 b.0, tt))))))))))))
+subtype_each = (
+  λ a b. true,
+  (
+    λ a b. true,
+    (
+      λ a b. true,
+      (
+        λ a b. true,
+        (
+          λ a b. true,
+          (
+            λ a b. true,
+            (
+              λ a b. true,
+              (λ a b. true, (λ a b. true, (λ a b. true, (λ a b. nat_eq a.0 b.0, (λ a b. nat_eq a.0 b.0, tt))))),
+            ),
+          ),
+        ),
+      ),
+    ),
+  ),
+)
 
 subtype_kinds : Kinds subtype_place subtype.enum.parts 0 subtype.the_make
 subtype_kinds = (λ u. refl, (λ u. refl, (λ u. refl, (λ u. refl, (λ u. refl, (λ u. refl, (λ u. refl, (λ u. refl, (λ u. refl, (λ u. refl, (λ u. refl, (λ u. refl, tt))))))))))))
@@ -34,7 +55,40 @@ pub alike : {P : Type 0} → P → Decides true P
 alike p = (λ q. p, λ q. refl)
 
 subtype_all : AllDecide subtype_place subtype.enum.parts subtype_each subtype.the_make (λ c. Unit {0})
-subtype_all = (λ u v s. alike refl, (λ u v s. alike refl, (λ u v s. alike refl, (λ u v s. alike refl, (λ u v s. alike refl, (λ u v s. alike refl, (λ u v s. alike refl, (λ u v s. alike refl, (λ u v s. alike refl, (λ u v s. alike refl, (λ u v s. along _ _ refl (Decides-eqb u.0 v.0) (λ p. ap Reserved p) (λ q. cc), (λ u v s. along _ _ refl (Decides-eqb u.0 v.0) (λ p. ap UserDefined p) (λ q. cc), tt))))))))))))
+subtype_all = (
+  λ u v s. alike refl,
+  (
+    λ u v s. alike refl,
+    (
+      λ u v s. alike refl,
+      (
+        λ u v s. alike refl,
+        (
+          λ u v s. alike refl,
+          (
+            λ u v s. alike refl,
+            (
+              λ u v s. alike refl,
+              (
+                λ u v s. alike refl,
+                (
+                  λ u v s. alike refl,
+                  (
+                    λ u v s. alike refl,
+                    (
+                      λ u v s. along _ _ refl (Decides-eqb u.0 v.0) (λ p. ap Reserved p) (λ q. cc),
+                      (λ u v s. along _ _ refl (Decides-eqb u.0 v.0) (λ p. ap UserDefined p) (λ q. cc), tt),
+                    ),
+                  ),
+                ),
+              ),
+            ),
+          ),
+        ),
+      ),
+    ),
+  ),
+)
 
 -- `==` of two subtypes is equality
 pub same_subtype : (s t : BinarySubtype) → Decides (subtype_eqs.ghosts.eq s t) (s ≡ t)

@@ -103,7 +103,8 @@ entries_beside-values (p ∷ ps) = ap (λ es. entry_then p.0 (tree_of p.1) es) (
 
 entries_beside-pairs : (ps : List (List ℕ × Bson)) → entries_beside (shape-the_row-Bson-0 ps) (trees_of (hidden-the_row-Bson-0 ps)) ≡ entries (with_trees ps)
 unfolding shape-the_row-Bson-0
-entries_beside-pairs ps = ap (λ ts. entries_beside (shape-the_row-Bson-0 ps) ts) (trees_of-row _ (hidden-the_row-Bson-0 ps) ∙ ap (λ bs. trees (map tree_of bs)) (items_hidden-the_row-Bson-0 ps)) ∙ entries_beside-values ps
+entries_beside-pairs ps = ap (λ ts. entries_beside (shape-the_row-Bson-0 ps) ts)
+    (trees_of-row _ (hidden-the_row-Bson-0 ps) ∙ ap (λ bs. trees (map tree_of bs)) (items_hidden-the_row-Bson-0 ps)) ∙ entries_beside-values ps
 
 pub tree_of-Array : (v : Vec Bson Global) → tree_of (b.Array v) ≡ array (trees (map tree_of v.items))
 unfolding tree_of
@@ -118,12 +119,35 @@ unfolding tree_of
 tree_of-JavaScriptCodeWithScope c = ap (λ es. code_with_scope (string_bytes c.code) es) (entries_beside-pairs c.scope.pairs)
 
 -- the tree of a value of each variant
-pub ruleset tree_laws = (tree_of-Double, tree_of-String, tree_of-Document, tree_of-Array, tree_of-Binary, tree_of-Undefined, tree_of-ObjectId, tree_of-Boolean, tree_of-DateTime, tree_of-Null, tree_of-RegularExpression, tree_of-DbPointer, tree_of-JavaScriptCode, tree_of-Symbol, tree_of-JavaScriptCodeWithScope, tree_of-Int32, tree_of-Timestamp, tree_of-Int64, tree_of-Decimal128, tree_of-MaxKey, tree_of-MinKey)
+pub ruleset tree_laws = (
+  tree_of-Double,
+  tree_of-String,
+  tree_of-Document,
+  tree_of-Array,
+  tree_of-Binary,
+  tree_of-Undefined,
+  tree_of-ObjectId,
+  tree_of-Boolean,
+  tree_of-DateTime,
+  tree_of-Null,
+  tree_of-RegularExpression,
+  tree_of-DbPointer,
+  tree_of-JavaScriptCode,
+  tree_of-Symbol,
+  tree_of-JavaScriptCodeWithScope,
+  tree_of-Int32,
+  tree_of-Timestamp,
+  tree_of-Int64,
+  tree_of-Decimal128,
+  tree_of-MaxKey,
+  tree_of-MinKey,
+)
 
 pub with_trees-with_pair : (k : List ℕ) (v : Bson) (ps : List (List ℕ × Bson)) → with_trees (with_pair k v ps) ≡ with_pair k (tree_of v) (with_trees ps)
 with_trees-with_pair k v [] = refl
 with_trees-with_pair k v (p ∷ ps) =
-    elim (bytes_eq k p.0) as (λ b. with_trees (if b then (p.0, v) ∷ ps else p ∷ with_pair k v ps) ≡ (if b then (p.0, tree_of v) ∷ with_trees ps else (p.0, tree_of p.1) ∷ with_pair k (tree_of v) (with_trees ps))) [
+    elim (bytes_eq k p.0) as (λ b. with_trees (if b then (p.0, v) ∷ ps else p ∷ with_pair k v ps) ≡
+    (if b then (p.0, tree_of v) ∷ with_trees ps else (p.0, tree_of p.1) ∷ with_pair k (tree_of v) (with_trees ps))) [
       | true ↦ refl
       | false ↦ ap (λ qs. (p.0, tree_of p.1) ∷ qs) (with_trees-with_pair k v ps)
     ]

@@ -24,7 +24,8 @@ module _ {X : Type 0} (kind : X → ℕ) where
   AllDecide (Fs ∷ Fss) each make Small = ((u v : Values Fs) → Small (inl u) → Decides (each.0 u v) (make (inl u) ≡ make (inl v))) × AllDecide Fss each.1 (λ c. make (inr c)) (λ c. Small (inr c))
 
   -- then so does the test of all
-  pub decided : (Fss : List (List Field)) (n : ℕ) (each : Each Bool Fss) (make : Choice Fss → X) (Small : Choice Fss → Type 0) → Kinds Fss n make → AllDecide Fss each make Small → (c d : Choice Fss) → Small c → Decides (by false false Fss each c d) (make c ≡ make d)
+  pub decided : (Fss : List (List Field)) (n : ℕ) (each : Each Bool Fss) (make : Choice Fss → X) (Small : Choice Fss → Type 0) → Kinds Fss n make
+      → AllDecide Fss each make Small → (c d : Choice Fss) → Small c → Decides (by false false Fss each c d) (make c ≡ make d)
   decided [] n each make Small k s c d small = absurd c
   decided (Fs ∷ Fss) n each make Small k s (inl u) (inl v) small = s.0 u v small
   decided (Fs ∷ Fss) n each make Small k s (inl u) (inr d) small =

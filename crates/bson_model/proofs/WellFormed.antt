@@ -31,7 +31,8 @@ AreWellFormed-more (u ∷ vs) zero v e h w = let at : ◌≡◌ {A = Bson} v u =
 AreWellFormed-more (u ∷ vs) (suc i) v e h w = rw add-one (h.0, rw add-one at (AreWellFormed-more vs i v e h.1 w))
 
 -- one more pair
-pub ArePairsWellFormed-more : (ps : List (List ℕ × Bson)) (i : ℕ) (k : List ℕ) (v : Bson) → slice_get ps i ≡ Some (k, v) → ArePairsWellFormed (take i ps) → IsUtf8 k → IsWellFormed (tree_of v) → ArePairsWellFormed (take (i + 1) ps)
+pub ArePairsWellFormed-more : (ps : List (List ℕ × Bson)) (i : ℕ) (k : List ℕ) (v : Bson) → slice_get ps i ≡ Some (k, v) → ArePairsWellFormed (take i ps)
+    → IsUtf8 k → IsWellFormed (tree_of v) → ArePairsWellFormed (take (i + 1) ps)
 ArePairsWellFormed-more [] i k v e h u w = cc
 ArePairsWellFormed-more (p ∷ ps) zero k v e h u w =
     let at : ◌≡◌ {A = List ℕ × Bson} (k, v) p = cc in

@@ -1,4 +1,4 @@
--- The helpers of the drop: what a tree holds, and how much is left to let go. No public contract cites this file.
+-- The helpers of the drop: what a tree holds, and how much is left to drop. No public contract cites this file.
 use Rattle.std.specs.Prelude.{◌≡◌, ℕ, ◌+◌, ◌<◌, List, [], ◌∷◌, ◌++◌, Option, map}
 use Rattle.std.specs.Option.{option_to_list}
 use Rattle.bson_model.specs.Tree.{Tree, Trees, Entries, leaf, array, document, code_with_scope, no_tree, tree_then, no_entry, entry_then, items_in, pairs_in, tree_of}
@@ -52,7 +52,7 @@ abbrev pub load : List Tree → ℕ
 load [] = 0
 load (t ∷ ts) = load_of t + sizes ts
 
--- the trees that are left to let go: those of the values that are held, and of the next one
+-- the trees that are left to drop: those of the values that are held, and of the next one
 abbrev pub left : List Bson → Option Bson → List Tree
 left held next = map tree_of (held ++ option_to_list next)
 

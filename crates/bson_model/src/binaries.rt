@@ -78,6 +78,11 @@ impl BinarySubtype {
 
 /// Bytes with a subtype (BSON 1.1, `binary`). Of the old binary subtype these are the bytes without the
 /// inner length.
+/// ```
+/// let bytes = Vec::from_slice(alloc, &[1, 2])?;
+/// let value = RawBson::from(Binary { subtype: BinarySubtype::Generic, bytes });
+/// assert_eq!(rt; value.element_type(), ElementType::Binary);
+/// ```
 #[derive(Debug, PartialEq, Eq, Drop)]
 pub struct Binary {
     /// What the bytes are.

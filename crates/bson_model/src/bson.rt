@@ -1,8 +1,9 @@
-ghost use Rattle.std.specs.Prelude.{◌≡◌, ◌↔◌, ◌<◌, ◌+◌, ◌^◌, [], length, All, IsTrue, IsSome, IsOk, IfOk, OnOk};
+ghost use Rattle.std.specs.Prelude.{◌≡◌, ◌≢◌, ◌↔◌, ◌<◌, ◌+◌, ◌^◌, [], length, All, IsTrue, IsSome, IsOk, IfOk, OnOk};
 ghost use Rattle.std.specs.Prelude.{OnErr, IfSome, map, option_copied, option_map, slice_get};
 ghost use Rattle.std.specs.Str.{IsUtf8};
 ghost use Rattle.std.specs.String.{string_bytes};
-ghost use Rattle.bson_model.specs.Pairs.{keys_of, value_at, with_pair, HasDistinctKeys};
+ghost use Rattle.bson_model.specs.Pairs.{keep, keys_of, value_at, with_pair, HasDistinctKeys};
+ghost use Rattle.std.specs.List.{zip};
 ghost use Rattle.bson_model.specs.LeftTrees.{members};
 ghost use Rattle.bson_model.specs.Tree.{tree_of, pairs_of, with_trees};
 
@@ -17,7 +18,7 @@ use crate::times::{DateTime, Timestamp};
 use std::alloc::Global;
 
 /// A value of BSON (BSON 1.1, element). However deep it is, it is dropped by a loop, which takes no memory. `==` and
-/// `Debug` call themselves for each level: on a stack of 8 MB `==` bears at least 40,000 levels, and `Debug` 15,000.
+/// `Debug` call themselves for each level: a stack of 8 MB is enough for 40,000 levels of `==`, and for 15,000 of `Debug`.
 /// ```
 /// let value = RawBson::try_from_bson(alloc, Bson::Int32(7))?;
 /// assert_eq!(rt; value.into_bson(alloc)?, Bson::Int32(7));
@@ -83,6 +84,10 @@ pub struct Document {
 }
 
 /// Code with the values of its variables (BSON 1.1, JavaScript code with scope, deprecated).
+/// ```
+/// let code = JavaScriptCodeWithScope { code: String::from_str(alloc, "f()")?, scope: Document::new(alloc) };
+/// assert!(rt; code.scope.is_empty());
+/// ```
 #[derive(Debug, PartialEq, Eq, Drop)]
 #[cycle(tree)]
 pub struct JavaScriptCodeWithScope {
@@ -109,7 +114,7 @@ impl Drop for Document {
 }
 
 impl Bson {
-    /// The value, unless all of it is in its own place, so that nothing is to be let go.
+    /// The value, unless all of it is in its own place, so that nothing is left to drop.
     #[inline(always)]
     pub(crate) fn unless_plain(self) -> Option<Bson>
         ensures { IfSome result (λ value. value ≡ self) }
@@ -131,7 +136,7 @@ impl Bson {
         }
     }
 
-    /// The values right inside the value in order; the rest of it is let go.
+    /// The values right inside the value in order; the rest of it is dropped.
     #[inline(always)]
     pub(crate) fn into_values(self) -> Option<Vec<Bson>>
         ensures { IfSome result (λ values. members (tree_of self) ≡ map tree_of values.items) }
@@ -166,7 +171,7 @@ impl Bson {
 }
 
 impl Document {
-    /// The values in order, if there was ever a pair; the keys are let go.
+    /// The values in order, if there was ever a pair; the keys are dropped.
     fn into_values(self) -> Option<Vec<Bson>>
         ensures { IfSome result (λ values. values.items ≡ map (λ p. p.1) (pairs_of self)) }
     {
@@ -181,6 +186,31 @@ impl Document {
         Document {
             pairs: Pairs::new(alloc),
         }
+    }
+
+    /// The document of these keys, each with its value in turn: a repeated key is in the place of its first
+    /// occurrence, with the value of its last. What one list has beyond the other is left out. It fails only if
+    /// memory runs out, and never without a key.
+    /// ```
+    /// let mut values = Vec::new(alloc);
+    /// values.push(Bson::Int32(1))?;
+    /// let document = Document::from_columns(alloc, &["a"], values)?;
+    /// assert_eq!(rt; document.get("a"), Some(&Bson::Int32(1)));
+    /// ```
+    pub fn from_columns(
+        alloc: Global,
+        keys: &[&str],
+        values: Vec<Bson>,
+    ) -> Result<Document, NoMemory>
+        ensures pairs { IfOk result (λ document. pairs_of document
+            ≡ keep (zip (map (λ key. key.now) keys.now) values.items)) }
+        ensures trees { IfOk result (λ document. with_trees (pairs_of document)
+            ≡ keep (zip (map (λ key. key.now) keys.now) (map tree_of values.items))) }
+        ensures none { OnErr result (keys.now ≢ []) }
+    {
+        Ok(Document {
+            pairs: Pairs::from_columns(alloc, keys, values)?,
+        })
     }
 
     /// How many pairs there are.
@@ -217,6 +247,11 @@ impl Document {
 
     /// Puts a pair last, or where its key is, and returns the value that was there. It fails only
     /// for a key that is not there, and then changes nothing and drops the pair.
+    /// ```
+    /// let mut document = Document::new(alloc);
+    /// assert_eq!(rt; document.insert(String::from_str(alloc, "a")?, Bson::Int32(1))?, None);
+    /// assert_eq!(rt; document.insert(String::from_str(alloc, "a")?, Bson::Null)?, Some(Bson::Int32(1)));
+    /// ```
     pub fn insert(&mut self, key: String, value: Bson) -> Result<Option<Bson>, NoMemory>
         ensures inserted { OnOk result (pairs_of self.new
             ≡ with_pair (string_bytes key) value (pairs_of self.old)) }

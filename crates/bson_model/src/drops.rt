@@ -1,4 +1,4 @@
-//! How values that hold others are let go.
+//! How values that hold others are dropped.
 
 ghost use Rattle.std.specs.Prelude.{◌≡◌, [], IfNone};
 ghost use Rattle.bson_model.specs.LeftTrees.{IsCutFrom, IsLess};
@@ -19,7 +19,7 @@ pub(crate) fn drop_values(mut held: Vec<Bson>) {
     held.destroy_empty();
 }
 
-/// Goes on with these values, and lets those that are held wait among them; returns which is to be let go next.
+/// Goes on with these values, and lets those that are held wait among them; returns which is dropped next.
 fn enter(held: &mut Vec<Bson>, values: Vec<Bson>) -> Option<Bson>
     ensures less { IsLess held.new.items result held.old.items values.items }
     ensures none { IfNone result (held.new.items ≡ []) }
@@ -36,7 +36,7 @@ fn enter(held: &mut Vec<Bson>, values: Vec<Bson>) -> Option<Bson>
     Some(mem::replace(&mut held[0], Bson::Array(outer)))
 }
 
-/// The last of the values that has something to let go. Those behind it have nothing.
+/// The last of the values that holds something to drop. Those behind it hold nothing.
 fn next_of(held: &mut Vec<Bson>) -> Option<Bson>
     ensures cut { IsCutFrom held.new.items result held.old.items }
     ensures none { IfNone result (held.new.items ≡ []) }

@@ -16,7 +16,7 @@ pub fn is_same_tree(a: &Bson, b: &Bson) -> bool
 }
 
 /// Whether two documents have one tree, which is what `==` returns: the same keys with the same
-/// trees in the same order; it bears the levels that `==` bears. Programs never need it; proofs do.
+/// trees in the same order; it takes the stack that `==` takes. Programs never need it; proofs do.
 pub fn is_same_document(left: &Document, right: &Document) -> bool
     ensures { IsTrue result ↔ (tree_of_document left.now ≡ tree_of_document right.now) }
 {

@@ -65,6 +65,10 @@ impl fmt::Display for ObjectId {
 }
 
 /// A pointer to an object of a database (BSON 1.1, DBPointer, deprecated).
+/// ```
+/// let pointer = DbPointer { namespace: String::from_str(alloc, "db.c")?, id: ObjectId::from_bytes([7; 12]) };
+/// assert_eq!(rt; RawBson::from(pointer).element_type(), ElementType::DbPointer);
+/// ```
 #[derive(Debug, PartialEq, Eq, Drop)]
 pub struct DbPointer {
     /// The name of the database and of the collection, UTF-8.

@@ -1,9 +1,10 @@
-ghost use Rattle.std.specs.Prelude.{◌≡◌, ◌&&◌, ◌<◌, ◌+◌, ◌^◌, [], ◌∷◌, length, nat_eq, All, IsSome, IsOk, IfOk, OnOk};
+ghost use Rattle.std.specs.Prelude.{◌≡◌, ◌≢◌, ◌&&◌, ◌<◌, ◌+◌, ◌^◌, [], ◌∷◌, length, nat_eq, All, IsSome, IsOk, IfOk, OnOk};
 ghost use Rattle.std.specs.Prelude.{OnErr, IfSome, map, option_copied, option_map, slice_get};
 ghost use Rattle.std.specs.Cmp.Lexicographic.{pointwise, lists_per, lists_equiv};
 ghost use Rattle.std.specs.Cmp.{on_per, and_per, on_equiv, and_equiv, nat_eq_equiv, partial_equiv_from_equiv};
 ghost use Rattle.std.specs.String.{string_bytes};
-ghost use Rattle.bson_model.specs.Pairs.{keys_of, value_at, with_pair, HasDistinctKeys};
+ghost use Rattle.bson_model.specs.Pairs.{keep, keys_of, value_at, with_pair, HasDistinctKeys};
+ghost use Rattle.std.specs.List.{zip};
 ghost use Rattle.std.specs.Str.{IsUtf8};
 
 use crate::errors::NoMemory;
@@ -35,6 +36,24 @@ impl<T> Pairs<T> {
         ensures { result ≡ [] }
     {
         Pairs { alloc, parts: None }
+    }
+
+    /// The pairs of these keys and values: a repeated key in the place of its first occurrence with the value of
+    /// its last.
+    pub fn from_columns(alloc: Global, keys: &[&str], values: Vec<T>) -> Result<Pairs<T>, NoMemory>
+    where
+        T: Drop,
+        ensures pairs { IfOk result (λ pairs. pairs ≡ keep (zip (map (λ key. key.now) keys.now) values.items)) }
+        ensures none { OnErr result (keys.now ≢ []) }
+    {
+        if keys.is_empty() {
+            return Ok(Pairs::new(alloc));
+        }
+        let parts = Box::new(alloc, Parts::from_columns(alloc, keys, values)?)?;
+        Ok(Pairs {
+            alloc,
+            parts: Some(parts),
+        })
     }
 
     /// How many pairs there are.
@@ -107,7 +126,7 @@ impl<T> Pairs<T> {
         }
     }
 
-    /// The values in order, if there was ever a pair; the keys are let go.
+    /// The values in order, if there was ever a pair; the keys are dropped.
     pub fn into_values(self) -> Option<Vec<T>>
         ensures { IfSome result (λ values. values.items ≡ map (λ p. p.1) self) }
     {

@@ -3,7 +3,8 @@ ghost use Rattle.std.specs.Prelude.{OnErr, map, option_copied, option_map, slice
 ghost use Rattle.std.specs.Cmp.Lexicographic.{pointwise, lists_per, lists_equiv};
 ghost use Rattle.std.specs.Cmp.{on_per, and_per, on_equiv, and_equiv, nat_eq_equiv, partial_equiv_from_equiv};
 ghost use Rattle.std.specs.String.{string_bytes};
-ghost use Rattle.bson_model.specs.Pairs.{keys_of, value_at, with_pair, HasDistinctKeys};
+ghost use Rattle.bson_model.specs.Pairs.{keep, keys_of, value_at, with_pair, HasDistinctKeys};
+ghost use Rattle.std.specs.List.{zip};
 ghost use Rattle.std.specs.Str.{IsUtf8};
 ghost use Rattle.std.specs.Vec.{vec_capacity, vec_len};
 ghost use Rattle.indexmap.specs.IndexSet.{contains_text};
@@ -42,6 +43,44 @@ impl<T> Parts<T> {
             keys: IndexSet::new(alloc),
             values: Vec::new(alloc),
         }
+    }
+
+    /// The pairs of these keys and values, with the set and the values in their exact sizes where no key is
+    /// there twice.
+    pub fn from_columns(alloc: Global, keys: &[&str], values: Vec<T>) -> Result<Parts<T>, NoMemory>
+    where
+        T: Drop,
+        ensures { IfOk result (λ parts. parts ≡ keep (zip (map (λ key. key.now) keys.now) values.items)) }
+    {
+        if keys.len() != values.len() {
+            return Parts::from_repeated(alloc, keys, values);
+        }
+        let mut set = IndexSet::with_capacity(alloc, keys.len())?;
+        for key in keys {
+            let is_new = set.insert(String::from_str(alloc, key)?)?;
+            if !is_new {
+                return Parts::from_repeated(alloc, keys, values);
+            }
+        }
+        Ok(Parts { keys: set, values })
+    }
+
+    /// The same, pair by pair.
+    #[inline(never)]
+    fn from_repeated(alloc: Global, keys: &[&str], values: Vec<T>) -> Result<Parts<T>, NoMemory>
+    where
+        T: Drop,
+        ensures { IfOk result (λ parts. parts ≡ keep (zip (map (λ key. key.now) keys.now) values.items)) }
+    {
+        let mut parts = Parts::new(alloc);
+        let mut left = values.into_iter();
+        for key in keys {
+            let Some(value) = left.next() else {
+                return Ok(parts);
+            };
+            parts.put(String::from_str(alloc, key)?, value)?;
+        }
+        Ok(parts)
     }
 
     /// How many pairs there are.
@@ -110,7 +149,7 @@ impl<T> Parts<T> {
         Ok(())
     }
 
-    /// The values in order; the keys are let go.
+    /// The values in order; the keys are dropped.
     pub fn into_values(self) -> Vec<T>
         ensures { result.items ≡ map (λ p. p.1) self }
     {

@@ -18,4 +18,5 @@ returns-clause-less c =
     let outer : c.replace-outer.result.items ≡ c.args.held.now.items = ap (λ v. v.items) c.replace-outer.ensures.value in
     let held : 0 < length c.replace-outer.result.items = grind (arith, outer, c.args.held.now.ok.0, c.if-is_empty-2.ensures) in
     let some : 0 < length c.replace-outer.new.dest.items = grind (arith, values, c.args.values.ok.0, c.if-is_empty.ensures) in
-    rw (c.replace-2.ensures.after, ← outer, ← values) (is_less-outside c.replace-outer.result c.replace-outer.new.dest.items c.replace-2.result held some (rw c.replace-2.ensures.value c.index_mut.ensures.value))
+    rw (c.replace-2.ensures.after, ← outer, ← values) (is_less-outside c.replace-outer.result c.replace-outer.new.dest.items c.replace-2.result held some
+    (rw c.replace-2.ensures.value c.index_mut.ensures.value))

@@ -50,7 +50,8 @@ attest_document-loop-index-preserved t c =
     let i = c.loop-index.index in
     let more : ArePairsWellFormed (take (i + 1) ps) =
     elim c.match-pair_at.branch [
-      | attest_document-in-Some w ↦ ArePairsWellFormed-more ps i w.in-Some._key.now w.in-Some.value.now (sym w.in-Some.ensures.pair) c.loop-index.invariant.1 (text_at ps c.len-index-end.ensures.texts i w.in-Some._key.now w.in-Some.value.now (sym w.in-Some.ensures.pair)) w.attest_value.ensures
+      | attest_document-in-Some w ↦ ArePairsWellFormed-more ps i w.in-Some._key.now w.in-Some.value.now (sym w.in-Some.ensures.pair) c.loop-index.invariant.1
+          (text_at ps c.len-index-end.ensures.texts i w.in-Some._key.now w.in-Some.value.now (sym w.in-Some.ensures.pair)) w.attest_value.ensures
       | attest_document-in_default w ↦ absurd (not_past ps i (let h = c.loop-index-test.true in let e = c.len-index-end.ensures.len in omega arith) (sym w.in_default.ensures.pair))
     ] in
     (c.loop-index.invariant.0, more)
@@ -62,5 +63,6 @@ attest_document-returns t c =
 
 pub attest_list-loop-member-preserved : goal.attest_list-loop-member-preserved
 attest_list-loop-member-preserved t c =
-    let at : slice_get c.args.values.now c.loop-member.member-index ≡ Some c.member-item.result = slice_get-get_or c.args.values.now c.loop-member.member-index c.member-item.result c.loop-member-test.true ∙ ap Some (sym c.member-item.is) in
+    let at : slice_get c.args.values.now c.loop-member.member-index ≡ Some c.member-item.result =
+    slice_get-get_or c.args.values.now c.loop-member.member-index c.member-item.result c.loop-member-test.true ∙ ap Some (sym c.member-item.is) in
     AreWellFormed-more c.args.values.now c.loop-member.member-index c.member-item.result at c.loop-member.invariant c.attest_value.ensures

@@ -22,10 +22,17 @@ gave_front steps (x ∷ xs) (z ∷ ys) s t y a =
     (rest.0, (λ i. sym on.0 i ∷ rest.1 i))
 
 -- a front of numbers that never descend is told to be in order
-told_ascending : (xs more : List ℕ) (r : Bool) → MatchBool r (IsNonDecreasing xs) ((k : ℕ) × (k + 1 < length xs) × ((d : ℕ) → get_or xs (k + 1) d < get_or xs k d)) → IsNonDecreasing (xs ++ more) → IsTrue r
+told_ascending : (xs more : List ℕ) (r : Bool) → MatchBool r (IsNonDecreasing xs)
+    ((k : ℕ) × (k + 1 < length xs) × ((d : ℕ) → get_or xs (k + 1) d < get_or xs k d)) → IsNonDecreasing (xs ++ more) → IsTrue r
 told_ascending xs more true m h = refl
 told_ascending xs more false m h =
-    absurd (omega (arith, m.2 0, h m.0 (m.0 + 1) 0 (omega arith) (omega (arith, m.1, length-append xs more)), get_or_append_left xs more 0 m.0 (omega (arith, m.1)), get_or_append_left xs more 0 (m.0 + 1) m.1))
+    absurd (omega (
+      arith,
+      m.2 0,
+      h m.0 (m.0 + 1) 0 (omega arith) (omega (arith, m.1, length-append xs more)),
+      get_or_append_left xs more 0 m.0 (omega (arith, m.1)),
+      get_or_append_left xs more 0 (m.0 + 1) m.1,
+    ))
 
 pub returns : goal.returns
 unfolding YieldsRun

@@ -102,7 +102,8 @@ module _ (R S : RattleType) (h : R.Denot → S.Denot) where
       ((refl, (λ n. refl, λ n. refl)), (laid _ _ _ (vec.the_places heap.the_row ghosts R S h a), tt)))
 
   pub the_codes_placed : Recodes R S h → Recodes (C.the_row R) (C.the_row S) ((the_former this).map R.Denot S.Denot h)
-  the_codes_placed e d = sym (code_map (coded× (coded_list coded_ℕ) R.coded).code (coded× (coded_list coded_ℕ) S.coded).code (on_value h) (λ x i. gcons ((coded_list coded_ℕ).code x.0) (sym (e x.1) i)) d)
+  the_codes_placed e d = sym (code_map (coded× (coded_list coded_ℕ) R.coded).code (coded× (coded_list coded_ℕ) S.coded).code (on_value h)
+      (λ x i. gcons ((coded_list coded_ℕ).code x.0) (sym (e x.1) i)) d)
 
 -- `==` looks at the values through a map as it would at what they are mapped to
 pub the_eq_natural : (X Y : Type 0) (h : X → Y) (V : eq.Ghosts Y) (m n : List (List ℕ × X))

@@ -10,7 +10,22 @@ use Rattle.bson_model.proofs.object_id.ObjectIdDisplay.fmt.Goals as goal
 -- the sixteen digits
 table : IsAscii lower_digits
 table =
-    IsAscii-from_all lower_digits (All-from_recursion (λ b. b < 128) lower_digits (lit< tt, (lit< tt, (lit< tt, (lit< tt, (lit< tt, (lit< tt, (lit< tt, (lit< tt, (lit< tt, (lit< tt, (lit< tt, (lit< tt, (lit< tt, (lit< tt, (lit< tt, (lit< tt, tt)))))))))))))))))
+    IsAscii-from_all lower_digits (All-from_recursion (λ b. b < 128) lower_digits (
+      lit< tt,
+      (
+        lit< tt,
+        (
+          lit< tt,
+          (
+            lit< tt,
+            (
+              lit< tt,
+              (lit< tt, (lit< tt, (lit< tt, (lit< tt, (lit< tt, (lit< tt, (lit< tt, (lit< tt, (lit< tt, (lit< tt, (lit< tt, tt))))))))))),
+            ),
+          ),
+        ),
+      ),
+    ))
 
 pub unreachable-requires-in_default-from_utf8 : goal.unreachable-requires-in_default-from_utf8
 unreachable-requires-in_default-from_utf8 g c =

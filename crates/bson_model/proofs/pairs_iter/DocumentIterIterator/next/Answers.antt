@@ -14,7 +14,9 @@ one_more (y ∷ xs) zero x at = ap (λ z. z ∷ xs) cc
 one_more (y ∷ xs) (suc n) x at = one_more xs n x at
 
 pub returns-in-Some-clause-steps : goal.returns-in-Some-clause-steps
-returns-in-Some-clause-steps c = sym c.self.view_is ∙ rw add-one (one_more (pairs_of c.self.inside.document.now) c.self.inside.next (c.in-Some.pair.0.now, c.in-Some.pair.1.now) (sym (rw c.in-Some.is at c.pair_at.ensures.pair)))
+returns-in-Some-clause-steps c = sym c.self.view_is ∙ rw add-one
+    (one_more (pairs_of c.self.inside.document.now) c.self.inside.next (c.in-Some.pair.0.now, c.in-Some.pair.1.now)
+    (sym (rw c.in-Some.is at c.pair_at.ensures.pair)))
 
 pub returns-in-None-clause-steps : goal.returns-in-None-clause-steps
 returns-in-None-clause-steps c = let none = sym c.self.view_is ∙ none_left (pairs_of c.self.inside.document.now) c.self.inside.next (sym c.in-None.ensures.pair) in (none, none)
