@@ -42,7 +42,8 @@ scoped_counted code d n (inl all) =
 scoped_counted code d n (inr to) = inr (d, to.0, refl, to.1, to.2)
 
 -- so is that of a document, or of an array, where its bytes are
-whole_counted : (sort : Sort) (d : List ℕ) (n : ℕ) → IsCounted sort d n → ((t : Tree) × ReadsAs sort d t × HasFrameCount d n) ⊎ ((e : List ℕ) × (fault : KeyedFault) × (e ≡ d) × FirstFault e fault × HasFramesToFault e n)
+whole_counted : (sort : Sort) (d : List ℕ) (n : ℕ) → IsCounted sort d n
+    → ((t : Tree) × ReadsAs sort d t × HasFrameCount d n) ⊎ ((e : List ℕ) × (fault : KeyedFault) × (e ≡ d) × FirstFault e fault × HasFramesToFault e n)
 whole_counted sort d n (inl all) = inl all
 whole_counted sort d n (inr to) = inr (d, to.0, refl, to.1, to.2)
 
@@ -92,7 +93,8 @@ value_or_fault f (faulty fault) m = inr (fault, m)
 
 -- Along a walk, behind frames that are read: at the end the bytes are read, and a stop, a fault of a frame
 -- or one of its value is the first fault.
-along : (n : ℕ) → AreCountedWithin n → (sort : Sort) (b : List ℕ) (passed : List Frame) (pairs : List (List ℕ × Tree)) (before : ℕ) (s : List ℕ) (frames : List Frame) (end : End) → LeadsTo (drop 4 b) passed s → StandForEach ReadsAs passed pairs → CountsFrames HasFrameCount passed before
+along : (n : ℕ) → AreCountedWithin n → (sort : Sort) (b : List ℕ) (passed : List Frame) (pairs : List (List ℕ × Tree)) (before : ℕ) (s : List ℕ)
+    (frames : List Frame) (end : End) → LeadsTo (drop 4 b) passed s → StandForEach ReadsAs passed pairs → CountsFrames HasFrameCount passed before
     → AreBytes s → length s ≤ n + 1 → IsWalk s frames end → IsCountedFrom sort b (before + least_of frames)
 along n shorter sort b passed pairs before s [] Done lead h c bytes l w =
     let whole = LeadsTo-walk (drop 4 b) passed s Done lead w in
@@ -107,12 +109,21 @@ along n shorter sort b passed pairs before s (f ∷ frames) end lead h c bytes l
       | inl v ↦ (
           let k = value_within n shorter s f w.0 v.0 l w.1 v.1 in
           elim k.1 [
-            | inr to ↦ (before + 1 + k.0, omega arith, inr (to.1, fault_inside b passed pairs s f w.0 v.0 to.1 lead h w.1 v.1 (to.0, to.2, to.3), to_inside b passed pairs s before lead h c f w.0 v.0 to.0 to.1 k.0 w.1 v.1 to.2 to.3 to.4))
+            | inr to ↦ (
+              before + 1 + k.0,
+              omega arith,
+              inr (
+                to.1,
+                fault_inside b passed pairs s f w.0 v.0 to.1 lead h w.1 v.1 (to.0, to.2, to.3),
+                to_inside b passed pairs s before lead h c f w.0 v.0 to.0 to.1 k.0 w.1 v.1 to.2 to.3 to.4,
+              ),
+            )
             | inl t ↦ (
                 let on : LeadsTo (drop 4 b) (passed ++ f ∷ []) w.0 = LeadsTo-more (drop 4 b) passed s f w.0 lead w.1 in
                 let each : StandForEach ReadsAs (passed ++ f ∷ []) (pairs ++ (f.key, t.0) ∷ []) = stand_more ReadsAs passed pairs f v.0 t.0 h v.1 t.1 in
                 let more : CountsFrames HasFrameCount (passed ++ f ∷ []) (before + 1 + k.0) = counts_more passed before f (value v.0) k.0 c v.1 t.2 in
-                let rest = along n shorter sort b (passed ++ f ∷ []) (pairs ++ (f.key, t.0) ∷ []) (before + 1 + k.0) w.0 frames end on each more (AreBytes-rest s f w.0 w.1 bytes) (omega (arith, IsFrame-shorter s f w.0 w.1)) w.2 in
+                let rest = along n shorter sort b (passed ++ f ∷ []) (pairs ++ (f.key, t.0) ∷ []) (before + 1 + k.0) w.0 frames end on each more
+                (AreBytes-rest s f w.0 w.1 bytes) (omega (arith, IsFrame-shorter s f w.0 w.1)) w.2 in
                 (rest.0, omega (arith, rest.1), rest.2))
           ])
     ]
@@ -153,12 +164,18 @@ AreBytes-behind : (s : List ℕ) (passed : List Frame) (r : List ℕ) → LeadsT
 AreBytes-behind s [] r l bytes = subst AreBytes l bytes
 AreBytes-behind s (f ∷ fs) r l bytes = AreBytes-behind l.0 fs r l.2 (AreBytes-rest s f l.0 l.1 bytes)
 
-module _ (sort : Sort) (b : List ℕ) (env : IsEnvelope b) (passed : List Frame) (pairs : List (List ℕ × Tree)) (before : ℕ) (s : List ℕ) (lead : LeadsTo (drop 4 b) passed s) (each : StandForEach ReadsAs passed pairs) (c : CountsFrames HasFrameCount passed before) where
+module _ (sort : Sort) (b : List ℕ) (env : IsEnvelope b) (passed : List Frame) (pairs : List (List ℕ × Tree)) (before : ℕ) (s : List ℕ)
+    (lead : LeadsTo (drop 4 b) passed s) (each : StandForEach ReadsAs passed pairs) (c : CountsFrames HasFrameCount passed before) where
   counted_on : (frames : List Frame) × (end : End) × IsWalk s frames end × IsCountedFrom sort b (before + least_of frames)
   counted_on =
       let whole = document_has_walk b env in
-      let rest = rest_of_walk (drop 4 b) passed s whole.0 whole.1 lead whole.2 in
-      (rest.0, whole.1, rest.1, along (length s) (λ of_sort d l e. counted of_sort d e) sort b passed pairs before s rest.0 whole.1 lead each c (AreBytes-behind (drop 4 b) passed s lead (AreBytes-drop 4 b env.bytes)) (omega arith) rest.1)
+      let rest = rest_of_walk (drop 4 b) passed s whole.0 whole.1 lead whole.2 in (
+        rest.0,
+        whole.1,
+        rest.1,
+        along (length s) (λ of_sort d l e. counted of_sort d e) sort b passed pairs before s rest.0 whole.1 lead each c
+            (AreBytes-behind (drop 4 b) passed s lead (AreBytes-drop 4 b env.bytes)) (omega arith) rest.1,
+      )
 
   -- frames that have been read are counted
   pub counted_from : IsCountedFrom sort b before

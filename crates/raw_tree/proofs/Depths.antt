@@ -54,7 +54,8 @@ value_to levels m n nested (raw.document d) t k h deep few = nested as_document 
 value_to levels m n nested (raw.array d) t k h deep few = nested as_array d t k h deep few
 value_to levels m n nested (raw.scoped code d) t k h deep few = (h.0, nested as_document d (document h.0) k h.1 deep few, h.2)
 
-each_to : (levels m n : ℕ) → AreReadTo levels m n → (fs : List Frame) (pairs : List (List ℕ × Tree)) (k : ℕ) → StandForEach (ReadsUpTo levels) fs pairs → IsGreatestDepth (HasDepthUpTo m) fs k → k ≤ n → StandForEach (ReadsUpTo n) fs pairs
+each_to : (levels m n : ℕ) → AreReadTo levels m n → (fs : List Frame) (pairs : List (List ℕ × Tree)) (k : ℕ) → StandForEach (ReadsUpTo levels) fs pairs
+    → IsGreatestDepth (HasDepthUpTo m) fs k → k ≤ n → StandForEach (ReadsUpTo n) fs pairs
 each_to levels m n nested [] pairs k h deep few = h
 each_to levels m n nested (f ∷ fs) pairs k h deep few =
     let same : deep.0 ≡ value h.0 = one_meaning f deep.0 (value h.0) deep.3 h.3 in
@@ -116,7 +117,8 @@ meaning_deep : (n : ℕ) → HaveDepthWithin n → (s : List ℕ) (f : Frame) (r
 meaning_deep n shorter s f r (value (raw.single l)) few at m = (0, refl)
 meaning_deep n shorter s f r (value (raw.document d)) few at m = shorter d (omega (arith, few, nested_shorter s f r (raw.document d) d at m refl)) (nested_envelope s f r (raw.document d) d at m refl)
 meaning_deep n shorter s f r (value (raw.array d)) few at m = shorter d (omega (arith, few, nested_shorter s f r (raw.array d) d at m refl)) (nested_envelope s f r (raw.array d) d at m refl)
-meaning_deep n shorter s f r (value (raw.scoped code d)) few at m = shorter d (omega (arith, few, nested_shorter s f r (raw.scoped code d) d at m refl)) (nested_envelope s f r (raw.scoped code d) d at m refl)
+meaning_deep n shorter s f r (value (raw.scoped code d)) few at m =
+    shorter d (omega (arith, few, nested_shorter s f r (raw.scoped code d) d at m refl)) (nested_envelope s f r (raw.scoped code d) d at m refl)
 meaning_deep n shorter s f r (faulty x) few at m = (0, refl)
 
 walk_deep : (n : ℕ) → HaveDepthWithin n → (s : List ℕ) (frames : List Frame) (end : End) → AreBytes s → length s ≤ n + 1 → IsWalk s frames end → (k : ℕ) × IsGreatestDepth (HasDepthUpTo n) frames k

@@ -86,12 +86,15 @@ abbrev AreEitherWithin : ℕ → Type 0
 AreEitherWithin n = (sort : Sort) (d : List ℕ) → length d ≤ n → IsEnvelope d → IsEither sort d
 
 -- behind canonical frames a breach at the front is the first
-module _ (sort : Sort) (b : List ℕ) (passed : List Frame) (s : List ℕ) (lead : LeadsTo (drop 4 b) passed s) (keys : AreKeysCanonical sort (keys_of_frames passed)) (each : AreFramesCanonical IsCanonicalAs passed) where
+module _ (sort : Sort) (b : List ℕ) (passed : List Frame) (s : List ℕ) (lead : LeadsTo (drop 4 b) passed s)
+    (keys : AreKeysCanonical sort (keys_of_frames passed)) (each : AreFramesCanonical IsCanonicalAs passed) where
   breach_at : (n : ℕ) (inside : List ℕ) (why : Cause) → BreachesFront (HasBreachUpTo n) sort (keys_of_frames passed) s inside why → IsEither sort b
   breach_at n inside why front = inr (length passed ∷ inside, why, (suc n, (passed, s, inside, lead, keys, each, front, refl)))
 
   -- a frame there whose key is canonical has that breach, or its value is canonical, too
-  frame_decided : (n : ℕ) → AreEitherWithin n → length s ≤ n + 1 → (f : Frame) (r : List ℕ) → IsFrame s f r → AreKeysCanonical sort (keys_of_frames passed ++ f.key ∷ []) → (m : Meaning) → Means f m → IsEither sort b ⊎ ((v : RawValue) × Means f (value v) × IsValueCanonical IsCanonicalAs v)
+  frame_decided : (n : ℕ) → AreEitherWithin n → length s ≤ n + 1 → (f : Frame) (r : List ℕ) → IsFrame s f r
+      → AreKeysCanonical sort (keys_of_frames passed ++ f.key ∷ []) → (m : Meaning) → Means f m
+      → IsEither sort b ⊎ ((v : RawValue) × Means f (value v) × IsValueCanonical IsCanonicalAs v)
   frame_decided n shorter l f r at more (faulty fault) m = inl (breach_at 0 [] cause.Value (inr (f, r, at, inr (more, faulty fault, m, (refl, refl)))))
   frame_decided n shorter l f r at more (value v) m =
       elim (value_decided v (λ of_sort d h. shorter of_sort d (omega (arith, nested_shorter s f r v d at m h)) (nested_envelope s f r v d at m h))) [
@@ -100,7 +103,8 @@ module _ (sort : Sort) (b : List ℕ) (passed : List Frame) (s : List ℕ) (lead
       ]
 
 -- along a walk, behind frames that are canonical
-along : (n : ℕ) → AreEitherWithin n → (sort : Sort) (b : List ℕ) (passed : List Frame) (s : List ℕ) (frames : List Frame) (end : End) → LeadsTo (drop 4 b) passed s → AreKeysCanonical sort (keys_of_frames passed) → AreFramesCanonical IsCanonicalAs passed
+along : (n : ℕ) → AreEitherWithin n → (sort : Sort) (b : List ℕ) (passed : List Frame) (s : List ℕ) (frames : List Frame) (end : End)
+    → LeadsTo (drop 4 b) passed s → AreKeysCanonical sort (keys_of_frames passed) → AreFramesCanonical IsCanonicalAs passed
     → AreBytes s → length s ≤ n + 1 → IsWalk s frames end → IsEither sort b
 along n shorter sort b passed s [] Done lead keys each bytes l w =
     inl (canonical_of sort b passed (LeadsTo-walk (drop 4 b) passed s Done lead w) keys each)
@@ -116,7 +120,8 @@ along n shorter sort b passed s (f ∷ frames) end lead keys each bytes l w =
             | inr v ↦ (
                 let on : LeadsTo (drop 4 b) (passed ++ f ∷ []) w.0 = LeadsTo-more (drop 4 b) passed s f w.0 lead w.1 in
                 let kept : AreKeysCanonical sort (keys_of_frames (passed ++ f ∷ [])) = subst (AreKeysCanonical sort) (sym (map-append (λ (x : Frame). x.key) passed (f ∷ []))) more in
-                along n shorter sort b (passed ++ f ∷ []) w.0 frames end on kept (frames_more passed f v.0 each v.1 v.2) (AreBytes-rest s f w.0 w.1 bytes) (omega (arith, IsFrame-shorter s f w.0 w.1)) w.2)
+                along n shorter sort b (passed ++ f ∷ []) w.0 frames end on kept (frames_more passed f v.0 each v.1 v.2) (AreBytes-rest s f w.0 w.1 bytes)
+                (omega (arith, IsFrame-shorter s f w.0 w.1)) w.2)
           ])
     ]
 

@@ -21,7 +21,9 @@ mutual
   length-tree_payload (leaf l) = refl
   length-tree_payload (array ts) = let h = length-items_bytes 0 ts in omega (arith, length-append {A = ℕ})
   length-tree_payload (document es) = let h = length-entries_bytes es in omega (arith, length-append {A = ℕ})
-  length-tree_payload (code_with_scope code es) = let h = length-entries_bytes es in length-scoped_payload code (framed (entries_bytes es)) ∙ ap (λ (n : ℕ). 4 + (5 + length code) + n) (length-framed (entries_bytes es) ∙ ap (λ (n : ℕ). 5 + n) h)
+  length-tree_payload (code_with_scope code es) = let h = length-entries_bytes es in
+      length-scoped_payload code (framed (entries_bytes es))
+      ∙ ap (λ (n : ℕ). 4 + (5 + length code) + n) (length-framed (entries_bytes es) ∙ ap (λ (n : ℕ). 5 + n) h)
 
   pub length-items_bytes : (n : ℕ) (ts : Trees) → length (items_bytes n ts) ≡ items_len n ts
   length-items_bytes n no_tree = refl
@@ -46,7 +48,8 @@ pub length-shown : (t : Tree) (v : RawValue) (key : List ℕ) → ShowsLeaf t v 
 length-shown t v key e = ap length (shown_element t v key e) ∙ omega (arith, length-append key (0 ∷ tree_payload t), length-tree_payload t)
 
 -- four bytes that are set to how many bytes there are from them on
-pub set_head : (before body whole : List ℕ) (start n : ℕ) → whole ≡ before ++ 0 ∷ 0 ∷ 0 ∷ 0 ∷ body → start ≡ length before → n ≡ length whole → take start whole ++ (le32 (pos (n - start)) ++ drop (start + 4) whole) ≡ before ++ (le32 (pos (4 + length body)) ++ body)
+pub set_head : (before body whole : List ℕ) (start n : ℕ) → whole ≡ before ++ 0 ∷ 0 ∷ 0 ∷ 0 ∷ body → start ≡ length before → n ≡ length whole
+    → take start whole ++ (le32 (pos (n - start)) ++ drop (start + 4) whole) ≡ before ++ (le32 (pos (4 + length body)) ++ body)
 set_head before body whole start n w s l =
     let len : n - length before ≡ 4 + length body = omega (arith, ap length w, length-append before (0 ∷ 0 ∷ 0 ∷ 0 ∷ body)) in
     rw (s, len, w, take-append_seam before (0 ∷ 0 ∷ 0 ∷ 0 ∷ body), drop-append-add before (0 ∷ 0 ∷ 0 ∷ 0 ∷ body) 4) refl

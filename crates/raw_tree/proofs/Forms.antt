@@ -28,13 +28,17 @@ read_returns as_array b t (suc n, r) p l =
     rw r.2 (array_returns (trees (map (λ q. q.1) r.0)) (subst IsProper r.2 p) (subst (λ (u : Tree). encoded_len u ≤ max_length) r.2 l))
 
 -- what is canonical is read, where nested bytes that are canonical are
-value_reads : (N : Sort → List ℕ → Type 0) (M : Sort → List ℕ → Tree → Type 0) → ((d : List ℕ) → N as_document d → (es : Entries) × M as_document d (document es)) → ((d : List ℕ) → N as_array d → (t : Tree) × M as_array d t) → (v : RawValue) → IsValueCanonical N v → (t : Tree) × StandsFor M v t
+value_reads : (N : Sort → List ℕ → Type 0) (M : Sort → List ℕ → Tree → Type 0)
+    → ((d : List ℕ) → N as_document d → (es : Entries) × M as_document d (document es)) → ((d : List ℕ) → N as_array d → (t : Tree) × M as_array d t)
+    → (v : RawValue) → IsValueCanonical N v → (t : Tree) × StandsFor M v t
 value_reads N M documents arrays (raw.single l) h = (leaf (leaf_in_order l), refl)
 value_reads N M documents arrays (raw.document d) h = let read = documents d h in (document read.0, read.1)
 value_reads N M documents arrays (raw.array d) h = arrays d h
 value_reads N M documents arrays (raw.scoped code d) h = let read = documents d h in (code_with_scope code read.0, (read.0, read.1, refl))
 
-frames_read : (N : Sort → List ℕ → Type 0) (M : Sort → List ℕ → Tree → Type 0) → ((d : List ℕ) → N as_document d → (es : Entries) × M as_document d (document es)) → ((d : List ℕ) → N as_array d → (t : Tree) × M as_array d t) → (fs : List Frame) → AreFramesCanonical N fs → (pairs : List (List ℕ × Tree)) × StandForEach M fs pairs
+frames_read : (N : Sort → List ℕ → Type 0) (M : Sort → List ℕ → Tree → Type 0)
+    → ((d : List ℕ) → N as_document d → (es : Entries) × M as_document d (document es)) → ((d : List ℕ) → N as_array d → (t : Tree) × M as_array d t)
+    → (fs : List Frame) → AreFramesCanonical N fs → (pairs : List (List ℕ × Tree)) × StandForEach M fs pairs
 frames_read N M documents arrays [] h = ([], refl)
 frames_read N M documents arrays (f ∷ fs) h =
     let first = value_reads N M documents arrays h.0 h.2 in

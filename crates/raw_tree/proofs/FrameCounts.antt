@@ -62,13 +62,15 @@ count_of_walk b frames end n w h =
     (suc each.0, (frames, end, w, each.1))
 
 -- one frame more
-pub counts_more : (fs : List Frame) (n : ℕ) (f : Frame) (m : Meaning) (inside : ℕ) → CountsFrames HasFrameCount fs n → Means f m → CountsIn HasFrameCount m inside → CountsFrames HasFrameCount (fs ++ f ∷ []) (n + 1 + inside)
+pub counts_more : (fs : List Frame) (n : ℕ) (f : Frame) (m : Meaning) (inside : ℕ) → CountsFrames HasFrameCount fs n → Means f m
+    → CountsIn HasFrameCount m inside → CountsFrames HasFrameCount (fs ++ f ∷ []) (n + 1 + inside)
 counts_more [] n f m inside h is c = (m, inside, 0, is, c, refl, omega (arith, h))
 counts_more (g ∷ fs) n f m inside h is c = (h.0, h.1, h.2 + 1 + inside, h.3, h.4, counts_more fs h.2 f m inside h.5 is c, omega (arith, h.6))
 
 -- until a fault
 
-module _ (b : List ℕ) (passed : List Frame) (pairs : List (List ℕ × Tree)) (r : List ℕ) (before : ℕ) (leads : LeadsTo (drop 4 b) passed r) (each : StandForEach ReadsAs passed pairs) (c : CountsFrames HasFrameCount passed before) where
+module _ (b : List ℕ) (passed : List Frame) (pairs : List (List ℕ × Tree)) (r : List ℕ) (before : ℕ) (leads : LeadsTo (drop 4 b) passed r)
+    (each : StandForEach ReadsAs passed pairs) (c : CountsFrames HasFrameCount passed before) where
   -- the walk stops behind frames that are read
   pub to_stop : (fault : KeyedFault) → IsStop r fault.fault fault.key → HasFramesToFault b before
   to_stop fault stop = (1, (passed, pairs, r, before, leads, each, c, inl (fault, stop, refl)))
@@ -78,7 +80,8 @@ module _ (b : List ℕ) (passed : List Frame) (pairs : List (List ℕ × Tree)) 
   to_frame f q fault at m = (1, (passed, pairs, r, before, leads, each, c, inr (f, q, 0, at, inl (fault, m, refl), omega arith)))
 
   -- nested bytes of a frame behind them have a fault
-  pub to_inside : (f : Frame) (q : List ℕ) (v : RawValue) (d : List ℕ) (fault : KeyedFault) (inside : ℕ) → IsFrame r f q → Means f (value v) → Holds v d → FirstFault d fault → HasFramesToFault d inside → HasFramesToFault b (before + 1 + inside)
+  pub to_inside : (f : Frame) (q : List ℕ) (v : RawValue) (d : List ℕ) (fault : KeyedFault) (inside : ℕ) → IsFrame r f q → Means f (value v) → Holds v d
+      → FirstFault d fault → HasFramesToFault d inside → HasFramesToFault b (before + 1 + inside)
   to_inside f q v d fault inside at m holds first k =
       (suc k.0, (passed, pairs, r, before, leads, each, c, inr (f, q, inside, at, inr (v, d, fault, m, holds, first, k.1), refl)))
 
@@ -89,7 +92,8 @@ abbrev AreSmall : (List ℕ → ℕ → Type 0) → Type 0
 AreSmall N = (d : List ℕ) (n : ℕ) → N d n → 2 * n ≤ length d - 4
 
 -- then a frame holds two bytes, and two for each that is in it
-value_small : (N : List ℕ → ℕ → Type 0) → AreSmall N → (s : List ℕ) (f : Frame) (r : List ℕ) (v : RawValue) (d : List ℕ) (n : ℕ) → IsFrame s f r → Means f (value v) → Holds v d → N d n → 2 * n + length r + 2 ≤ length s
+value_small : (N : List ℕ → ℕ → Type 0) → AreSmall N → (s : List ℕ) (f : Frame) (r : List ℕ) (v : RawValue) (d : List ℕ) (n : ℕ) → IsFrame s f r
+    → Means f (value v) → Holds v d → N d n → 2 * n + length r + 2 ≤ length s
 value_small N small s f r v d n at m holds h = omega (arith, small d n h, nested_beside s f r v d at m holds)
 
 meaning_small : (N : List ℕ → ℕ → Type 0) → AreSmall N → (s : List ℕ) (f : Frame) (r : List ℕ) (m : Meaning) (n : ℕ) → IsFrame s f r → Means f m → CountsIn N m n → 2 * n + length r + 2 ≤ length s
@@ -127,7 +131,14 @@ to_fault_small_within (suc levels) b n h =
       | inl stop ↦ omega (arith, length-drop 4 b, before, stop.2)
       | inr at ↦ elim at.4 [
         | inl m ↦ omega (arith, length-drop 4 b, before, at.5, m.2, IsFrame-shorter h.2 at.0 at.1 at.3)
-        | inr in_value ↦ omega (arith, length-drop 4 b, before, at.5, value_small (HasFramesToFaultUpTo levels) (to_fault_small_within levels) h.2 at.0 at.1 in_value.0 in_value.1 at.2 at.3 in_value.3 in_value.4 in_value.6)
+        | inr in_value ↦ omega (
+          arith,
+          length-drop 4 b,
+          before,
+          at.5,
+          value_small (HasFramesToFaultUpTo levels) (to_fault_small_within levels) h.2 at.0 at.1 in_value.0 in_value.1 at.2 at.3 in_value.3 in_value.4
+              in_value.6,
+        )
       ]
     ]
 

@@ -56,7 +56,8 @@ module _ (t : Tree) (ws : List Members) (m : MemberKey × Tree) (old left : List
   is = rw step at was
 
   -- a member is judged
-  pub judging_member : (same : List Members) (new : List (MemberKey × Tree)) (len after : ℕ) → same ≡ ws → new ≡ left → IsKeyFree m.0 → Judges m.1 (Some len) → after ≡ min (min (min (total + 2) (2 ^ 64 - 1) + length (key_bytes m.0)) (2 ^ 64 - 1) + len) (2 ^ 64 - 1) → IsJudging t same new after
+  pub judging_member : (same : List Members) (new : List (MemberKey × Tree)) (len after : ℕ) → same ≡ ws → new ≡ left → IsKeyFree m.0 → Judges m.1 (Some len)
+      → after ≡ min (min (min (total + 2) (2 ^ 64 - 1) + length (key_bytes m.0)) (2 ^ 64 - 1) + len) (2 ^ 64 - 1) → IsJudging t same new after
   judging_member same new len after f l key judged a =
       let before = is.total_is in
       let on : IsJudging t ws left after = record {
@@ -69,7 +70,9 @@ module _ (t : Tree) (ws : List Members) (m : MemberKey × Tree) (old left : List
       rw (f, l) on
 
   -- its own members are judged first
-  pub judging_inside : (w : Members) (more : List Members) (new : List (MemberKey × Tree)) (c : Container) (len after : ℕ) → more ≡ ws ++ w ∷ [] → new ≡ members (tree_of_container c) → left_of w ≡ left → m.1 ≡ tree_of_container c → IsKeyFree m.0 → len ≡ opening_len (tree_of_container c) + 1 → after ≡ min (min (min (total + 2) (2 ^ 64 - 1) + length (key_bytes m.0)) (2 ^ 64 - 1) + len) (2 ^ 64 - 1) → IsJudging t more new after
+  pub judging_inside : (w : Members) (more : List Members) (new : List (MemberKey × Tree)) (c : Container) (len after : ℕ) → more ≡ ws ++ w ∷ []
+      → new ≡ members (tree_of_container c) → left_of w ≡ left → m.1 ≡ tree_of_container c → IsKeyFree m.0 → len ≡ opening_len (tree_of_container c) + 1
+      → after ≡ min (min (min (total + 2) (2 ^ 64 - 1) + length (key_bytes m.0)) (2 ^ 64 - 1) + len) (2 ^ 64 - 1) → IsJudging t more new after
   judging_inside w more new c len after f n l e key frame a =
       let before = is.total_is in
       let on : IsJudging t (ws ++ w ∷ []) (members (tree_of_container c)) after = record {
@@ -93,7 +96,8 @@ module _ (t : Tree) (ws : List Members) (m : MemberKey × Tree) (old left : List
   member_smaller = omega (arith, is.whole)
 
 -- the members of the innermost are judged
-pub judging_ends : (t : Tree) (ws less : List Members) (w : Members) (left : List (MemberKey × Tree)) (total : ℕ) → IsJudging t ws left total → left ≡ [] → ws ≡ less ++ w ∷ [] → IsJudging t less (left_of w) total
+pub judging_ends : (t : Tree) (ws less : List Members) (w : Members) (left : List (MemberKey × Tree)) (total : ℕ) → IsJudging t ws left total → left ≡ []
+    → ws ≡ less ++ w ∷ [] → IsJudging t less (left_of w) total
 judging_ends t ws less w left total is none f =
     let before = is.total_is in
     record {
@@ -117,11 +121,14 @@ leaf_judged t (array_value d) r e h = absurd e
 leaf_judged t (scoped code d) r e h = absurd e
 
 -- less is left as a member is judged, as its own members are to be judged first, and as those that wait are judged on
-pub leaf_smaller : (ws same : List Members) (old new after : List (MemberKey × Tree)) (m : MemberKey × Tree) → same ≡ ws → old ≡ m ∷ new → after ≡ new → members_len after + (len_waiting same + length same) < members_len old + (len_waiting ws + length ws)
+pub leaf_smaller : (ws same : List Members) (old new after : List (MemberKey × Tree)) (m : MemberKey × Tree) → same ≡ ws → old ≡ m ∷ new → after ≡ new
+    → members_len after + (len_waiting same + length same) < members_len old + (len_waiting ws + length ws)
 leaf_smaller ws same old new after m f step e =
     omega (arith, ap members_len step, ap members_len e, ap len_waiting f, ap (λ (l : List Members). length l) f)
 
-pub inward_smaller : (ws more : List Members) (w inner : Members) (old after : List (MemberKey × Tree)) (m : MemberKey × Tree) (c : Container) → more ≡ ws ++ w ∷ [] → old ≡ m ∷ left_of w → m.1 ≡ tree_of_container c → after ≡ members (tree_of_container c) → members_len after + (len_waiting more + length more) < members_len old + (len_waiting ws + length ws)
+pub inward_smaller : (ws more : List Members) (w inner : Members) (old after : List (MemberKey × Tree)) (m : MemberKey × Tree) (c : Container)
+    → more ≡ ws ++ w ∷ [] → old ≡ m ∷ left_of w → m.1 ≡ tree_of_container c → after ≡ members (tree_of_container c)
+    → members_len after + (len_waiting more + length more) < members_len old + (len_waiting ws + length ws)
 inward_smaller ws more w inner old after m c f step e l =
     omega (arith, ap len_waiting f, len_waiting-last ws w, ap (λ (l : List Members). length l) f, length-append ws (w ∷ []), ap members_len step, ap encoded_len e, ap members_len l, container_len c)
 

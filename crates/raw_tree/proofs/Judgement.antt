@@ -34,7 +34,8 @@ use Rattle.raw_tree.proofs.Returns.{canonical_of}
 
 -- frames and values
 
-pub frames_more : (fs : List Frame) (f : Frame) (v : RawValue) → AreFramesCanonical IsCanonicalAs fs → Means f (value v) → IsValueCanonical IsCanonicalAs v → AreFramesCanonical IsCanonicalAs (fs ++ f ∷ [])
+pub frames_more : (fs : List Frame) (f : Frame) (v : RawValue) → AreFramesCanonical IsCanonicalAs fs → Means f (value v) → IsValueCanonical IsCanonicalAs v
+    → AreFramesCanonical IsCanonicalAs (fs ++ f ∷ [])
 frames_more [] f v h m c = (v, m, c, tt)
 frames_more (g ∷ fs) f v h m c = (h.0, h.1, h.2, frames_more fs f v h.3 m c)
 
@@ -73,10 +74,13 @@ module _ (sort : Sort) (d : List ℕ) (passed : List Frame) (s : List ℕ) (reac
   pub stop_breaches : (fault : Fault) (key : Option (List ℕ)) → AreKeysCanonical sort (keys_of_frames passed) → IsStop s fault key → HasBreachAs sort d (length passed ∷ []) cause.Stop
   stop_breaches fault key keys stop = (1, (passed, s, [], reaches, keys, canonical, inl (fault, key, stop, refl, refl), refl))
 
-  pub key_breaches : (f : Frame) (r : List ℕ) (why : Cause) → AreKeysCanonical sort (keys_of_frames passed) → IsFrame s f r → BreachesKeys sort (keys_of_frames passed) f.key why → HasBreachAs sort d (length passed ∷ []) why
+  pub key_breaches : (f : Frame) (r : List ℕ) (why : Cause) → AreKeysCanonical sort (keys_of_frames passed) → IsFrame s f r
+      → BreachesKeys sort (keys_of_frames passed) f.key why → HasBreachAs sort d (length passed ∷ []) why
   key_breaches f r why keys stands b = (1, (passed, s, [], reaches, keys, canonical, inr (f, r, stands, inl (b, refl)), refl))
 
-  pub meaning_breaches : (f : Frame) (r : List ℕ) (m : Meaning) (path : List ℕ) (why : Cause) → AreKeysCanonical sort (keys_of_frames passed) → IsFrame s f r → AreKeysCanonical sort (keys_of_frames passed ++ f.key ∷ []) → Means f m → BreachesMeaning HasBreachAs m path why → HasBreachAs sort d (length passed ∷ path) why
+  pub meaning_breaches : (f : Frame) (r : List ℕ) (m : Meaning) (path : List ℕ) (why : Cause) → AreKeysCanonical sort (keys_of_frames passed) → IsFrame s f r
+      → AreKeysCanonical sort (keys_of_frames passed ++ f.key ∷ []) → Means f m → BreachesMeaning HasBreachAs m path why
+      → HasBreachAs sort d (length passed ∷ path) why
   meaning_breaches f r m path why keys stands more means b =
       let within = within_levels m path why b in
       (suc within.0, (passed, s, path, reaches, keys, canonical, inr (f, r, stands, inr (more, m, means, within.1)), refl))
@@ -123,11 +127,13 @@ module _ (sort : Sort) (d : List ℕ) (below : List (List ℕ)) (before : List (
     pub level_key_breaches : (why : Cause) → BreachesKeys sort (keys_of_frames is.passed) (frame_of e).key why → HasBreachAs sort d (level.number ∷ []) why
     level_key_breaches why b = rw (is.number) (key_breaches sort d is.passed is.rest is.reaches is.canonical (frame_of e) next.0 why is.keys_canonical next.1 b)
 
-    pub level_meaning_breaches : (m : Meaning) (why : Cause) → AreKeysCanonical sort (keys_of_frames is.passed ++ (frame_of e).key ∷ []) → Means (frame_of e) m → BreachesMeaning HasBreachAs m [] why → HasBreachAs sort d (level.number ∷ []) why
+    pub level_meaning_breaches : (m : Meaning) (why : Cause) → AreKeysCanonical sort (keys_of_frames is.passed ++ (frame_of e).key ∷ []) → Means (frame_of e) m
+        → BreachesMeaning HasBreachAs m [] why → HasBreachAs sort d (level.number ∷ []) why
     level_meaning_breaches m why more means b = rw (is.number) (meaning_breaches sort d is.passed is.rest is.reaches is.canonical (frame_of e) next.0 m [] why is.keys_canonical next.1 more means b)
 
     -- its key is canonical
-    module _ (ks : Keys) (after : List (Bor (List ℕ))) (has : HasKeys ks after sort below (keys_of_frames is.passed ++ (frame_of e).key ∷ [])) (more : AreKeysCanonical sort (keys_of_frames is.passed ++ (frame_of e).key ∷ [])) (v : RawValue) (means : Means (frame_of e) (value v)) where
+    module _ (ks : Keys) (after : List (Bor (List ℕ))) (has : HasKeys ks after sort below (keys_of_frames is.passed ++ (frame_of e).key ∷ []))
+        (more : AreKeysCanonical sort (keys_of_frames is.passed ++ (frame_of e).key ∷ [])) (v : RawValue) (means : Means (frame_of e) (value v)) where
       pub level_passes : IsValueCanonical IsCanonicalAs v → IsJudged sort d below after (record { elements = new; number = level.number + 1; keys = ks })
       level_passes c = record {
         envelope = is.envelope;
@@ -170,11 +176,13 @@ module _ (sort : Sort) (d : List ℕ) (below : List (List ℕ)) (before : List (
     pub less_left : left_of new < left_of level.elements
     less_left = rw (is.left, next.2) (omega (arith, IsFrame-shorter is.rest (frame_of e) next.0 next.1))
 
-    pub less_inside : (v : RawValue) (s : Sort) (nested : List ℕ) (inner : Option (List ℕ)) → Means (frame_of e) (value v) → HoldsAs v s nested → inner ≡ Some (drop 4 nested) → left_of inner + left_of new + 1 < left_of level.elements
+    pub less_inside : (v : RawValue) (s : Sort) (nested : List ℕ) (inner : Option (List ℕ)) → Means (frame_of e) (value v) → HoldsAs v s nested
+        → inner ≡ Some (drop 4 nested) → left_of inner + left_of new + 1 < left_of level.elements
     less_inside v s nested inner means h i =
         rw (is.left, next.2, i) (omega (arith, length-drop 4 nested, nested_beside is.rest (frame_of e) next.0 v nested next.1 means (held v s nested h)))
 
-    pub shrinks : (ks : Keys) (after : List (Bor (List ℕ))) (v : RawValue) (answer : Step) → Means (frame_of e) (value v) → answer ≢ step.Whole → JudgesValue v after answer → Shrinks level (record { elements = new; number = level.number; keys = ks }) answer
+    pub shrinks : (ks : Keys) (after : List (Bor (List ℕ))) (v : RawValue) (answer : Step) → Means (frame_of e) (value v) → answer ≢ step.Whole
+        → JudgesValue v after answer → Shrinks level (record { elements = new; number = level.number; keys = ks }) answer
     shrinks ks after v step.End means other j = tt
     shrinks ks after v step.Whole means other j = absurd (other refl)
     shrinks ks after v (step.Inside inner) means other j = less_inside v j.0 j.1 inner.elements means j.2 j.3.left
@@ -193,11 +201,15 @@ abbrev pub AreAwaiting : Sort → List ℕ → List (List ℕ) → List Judged �
 AreAwaiting sort b under [] s d below = (sort ≡ s) × (b ≡ d) × (under ≡ below)
 AreAwaiting sort b under (w ∷ ws) s d below = (t : Sort) × (e : List ℕ) × (above : List (List ℕ)) × IsAwaiting sort b under w t e above × AreAwaiting t e above ws s d below
 
-pub awaiting_more : (sort : Sort) (b : List ℕ) (under : List (List ℕ)) (ws : List Judged) (s : Sort) (d : List ℕ) (below : List (List ℕ)) (w : Judged) (t : Sort) (e : List ℕ) (above : List (List ℕ)) → AreAwaiting sort b under ws s d below → IsAwaiting s d below w t e above → AreAwaiting sort b under (ws ++ w ∷ []) t e above
+pub awaiting_more : (sort : Sort) (b : List ℕ) (under : List (List ℕ)) (ws : List Judged) (s : Sort) (d : List ℕ) (below : List (List ℕ)) (w : Judged)
+    (t : Sort) (e : List ℕ) (above : List (List ℕ)) → AreAwaiting sort b under ws s d below → IsAwaiting s d below w t e above
+    → AreAwaiting sort b under (ws ++ w ∷ []) t e above
 awaiting_more sort b under [] s d below w t e above h at = (t, e, above, rw (h.0, h.1, h.2) at, (refl, refl, refl))
 awaiting_more sort b under (x ∷ ws) s d below w t e above h at = (h.0, h.1, h.2, h.3, awaiting_more h.0 h.1 h.2 ws s d below w t e above h.4 at)
 
-pub awaiting_less : (sort : Sort) (b : List ℕ) (under : List (List ℕ)) (ws : List Judged) (w : Judged) (t : Sort) (e : List ℕ) (above : List (List ℕ)) → AreAwaiting sort b under (ws ++ w ∷ []) t e above → (s : Sort) × (d : List ℕ) × (below : List (List ℕ)) × AreAwaiting sort b under ws s d below × IsAwaiting s d below w t e above
+pub awaiting_less : (sort : Sort) (b : List ℕ) (under : List (List ℕ)) (ws : List Judged) (w : Judged) (t : Sort) (e : List ℕ) (above : List (List ℕ))
+    → AreAwaiting sort b under (ws ++ w ∷ []) t e above
+    → (s : Sort) × (d : List ℕ) × (below : List (List ℕ)) × AreAwaiting sort b under ws s d below × IsAwaiting s d below w t e above
 awaiting_less sort b under [] w t e above h =
     let at : IsAwaiting sort b under w t e above = rw (← h.4.0, ← h.4.1, ← h.4.2) h.3 in
     (sort, b, under, (refl, refl, refl), at)
@@ -206,17 +218,23 @@ awaiting_less sort b under (x ∷ ws) w t e above h =
     (less.0, less.1, less.2, (h.0, h.1, h.2, h.3, less.3), less.4)
 
 -- the breach of the innermost bytes is that of the outermost, behind the numbers at which the levels wait
-awaiting_breach : (sort : Sort) (b : List ℕ) (under : List (List ℕ)) (w : Judged) (s : Sort) (d : List ℕ) (below : List (List ℕ)) (path : List ℕ) (why : Cause) → IsAwaiting sort b under w s d below → HasBreachAs s d path why → HasBreachAs sort b (w.number ∷ path) why
+awaiting_breach : (sort : Sort) (b : List ℕ) (under : List (List ℕ)) (w : Judged) (s : Sort) (d : List ℕ) (below : List (List ℕ)) (path : List ℕ) (why : Cause)
+    → IsAwaiting sort b under w s d below → HasBreachAs s d path why → HasBreachAs sort b (w.number ∷ path) why
 awaiting_breach sort b under w s d below path why at breach =
-    rw (at.number) (meaning_breaches sort b at.passed at.front at.reaches at.canonical at.frame at.rest (value at.held) path why (keys_front sort (keys_of_frames at.passed) (at.frame.key ∷ []) at.keys_canonical) at.stands at.keys_canonical at.means (held_breach at.held s d path why at.holds breach))
+    rw (at.number) (meaning_breaches sort b at.passed at.front at.reaches at.canonical at.frame at.rest (value at.held) path why
+    (keys_front sort (keys_of_frames at.passed) (at.frame.key ∷ []) at.keys_canonical) at.stands at.keys_canonical at.means
+    (held_breach at.held s d path why at.holds breach))
 
-pub outward_breach : (sort : Sort) (b : List ℕ) (under : List (List ℕ)) (ws : List Judged) (s : Sort) (d : List ℕ) (below : List (List ℕ)) (path : List ℕ) (why : Cause) → AreAwaiting sort b under ws s d below → HasBreachAs s d path why → HasBreachAs sort b (map (λ w. w.number) ws ++ path) why
+pub outward_breach : (sort : Sort) (b : List ℕ) (under : List (List ℕ)) (ws : List Judged) (s : Sort) (d : List ℕ) (below : List (List ℕ)) (path : List ℕ)
+    (why : Cause) → AreAwaiting sort b under ws s d below → HasBreachAs s d path why → HasBreachAs sort b (map (λ w. w.number) ws ++ path) why
 outward_breach sort b under [] s d below path why h breach = rw (h.0, h.1) breach
 outward_breach sort b under (w ∷ ws) s d below path why h breach =
     awaiting_breach sort b under w h.0 h.1 h.2 (map (λ x. x.number) ws ++ path) why h.3 (outward_breach h.0 h.1 h.2 ws s d below path why h.4 breach)
 
 -- where the nested bytes are canonical, the level that waits for them goes on
-pub level_resumes : (sort : Sort) (b : List ℕ) (under : List (List ℕ)) (w : Judged) (s : Sort) (d : List ℕ) (below : List (List ℕ)) (refs : List (Bor (List ℕ))) → IsAwaiting sort b under w s d below → IsCanonicalAs s d → texts refs ≡ below → IsJudged sort b under refs (record { elements = w.elements; number = w.number + 1; keys = w.keys })
+pub level_resumes : (sort : Sort) (b : List ℕ) (under : List (List ℕ)) (w : Judged) (s : Sort) (d : List ℕ) (below : List (List ℕ)) (refs : List (Bor (List ℕ)))
+    → IsAwaiting sort b under w s d below → IsCanonicalAs s d → texts refs ≡ below
+    → IsJudged sort b under refs (record { elements = w.elements; number = w.number + 1; keys = w.keys })
 level_resumes sort b under w s d below refs at c e = record {
   envelope = at.envelope;
   passed = at.passed ++ at.frame ∷ [];
@@ -256,6 +274,7 @@ pub left_in_more : (ws : List Judged) (w : Judged) → left_in (ws ++ w ∷ []) 
 left_in_more ws w = sum_by_push (λ (x : Judged). left_of x.elements + 1) ws w
 
 -- where nothing waits, the innermost bytes are the outermost
-pub whole_canonical : (b : List ℕ) (ws : List Judged) (s : Sort) (d : List ℕ) (below : List (List ℕ)) → length ws ≡ 0 → AreAwaiting as_document b [] ws s d below → IsCanonicalAs s d → IsCanonicalAs as_document b
+pub whole_canonical : (b : List ℕ) (ws : List Judged) (s : Sort) (d : List ℕ) (below : List (List ℕ)) → length ws ≡ 0
+    → AreAwaiting as_document b [] ws s d below → IsCanonicalAs s d → IsCanonicalAs as_document b
 whole_canonical b [] s d below e h c = rw (h.0, h.1) c
 whole_canonical b (w ∷ ws) s d below e h c = absurd (omega (arith, e))

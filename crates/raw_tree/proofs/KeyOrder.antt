@@ -21,7 +21,8 @@ either true false = refl
 either false true = refl
 either false false = refl
 
-pub in_order : (old new : BTreeSet (Bor (List ℕ))) (key : Bor (List ℕ)) → ((q : Bor (List ℕ)) → has_text new q ≡ cond (is_eq (slice_cmp nat_cmp key.now q.now)) true (has_text old q)) → PutsInOrder old key.now new
+pub in_order : (old new : BTreeSet (Bor (List ℕ))) (key : Bor (List ℕ))
+    → ((q : Bor (List ℕ)) → has_text new q ≡ cond (is_eq (slice_cmp nat_cmp key.now q.now)) true (has_text old q)) → PutsInOrder old key.now new
 in_order old new key puts keys has q =
     puts q
     ∙ ap (λ (b : Bool). cond b true (has_text old q)) (same_test key.now q.now ∙ nat_list_eq_equiv.symm key.now q.now)
@@ -34,7 +35,8 @@ new_where : (keys : List (List ℕ)) (key : List ℕ) (there new : Bool) → lis
 new_where keys key true new e n = rw n (Contains-found keys key e, refl)
 new_where keys key false new e n = rw n (not_found keys key e, refl)
 
-pub inserts_where : (keys after : List (List ℕ)) (key : List ℕ) (there new b : Bool) → list_any (bytes_eq key) keys ≡ there → new ≡ not there → new ≡ b → after ≡ cond b (keys ++ key ∷ []) keys → InsertsKey keys key new after
+pub inserts_where : (keys after : List (List ℕ)) (key : List ℕ) (there new b : Bool) → list_any (bytes_eq key) keys ≡ there → new ≡ not there → new ≡ b
+    → after ≡ cond b (keys ++ key ∷ []) keys → InsertsKey keys key new after
 inserts_where keys after key there new b e n is a =
     let same : after ≡ cond new (keys ++ key ∷ []) keys = a ∙ ap (λ (x : Bool). cond x (keys ++ key ∷ []) keys) (sym is) in
     rw same (new_where keys key there new e n)

@@ -109,15 +109,22 @@ inserted_last before after rest key false h i =
     absurd (not_found before key (distinct_apart before key front) i.0)
 
 -- so each of distinct references is put last in turn
-pub each_inserted : (refs : List (Bor (List ℕ))) (i : ℕ) (d : Bor (List ℕ)) (last : List ℕ) (before after : List (List ℕ)) (new : Bool) → i < length refs → before ≡ texts (take i refs) → IsDistinct bytes_eq (texts refs ++ last ∷ []) → InsertsKey before (get_or refs i d).now new after → after ≡ texts (take (i + 1) refs)
+pub each_inserted : (refs : List (Bor (List ℕ))) (i : ℕ) (d : Bor (List ℕ)) (last : List ℕ) (before after : List (List ℕ)) (new : Bool) → i < length refs
+    → before ≡ texts (take i refs) → IsDistinct bytes_eq (texts refs ++ last ∷ []) → InsertsKey before (get_or refs i d).now new after
+    → after ≡ texts (take (i + 1) refs)
 each_inserted refs i d last before after new l e distinct put =
     let k : Bor (List ℕ) = get_or refs i d in
     let whole : refs ≡ take i refs ++ k ∷ drop (suc i) refs = sym (take-append-drop i refs) ∙ ap (λ (xs : List (Bor (List ℕ))). take i refs ++ xs) (drop-cons refs i d l) in
     let behind : List (List ℕ) = texts (drop (suc i) refs) ++ last ∷ [] in
-    let cut : texts refs ++ last ∷ [] ≡ before ++ k.now ∷ behind = ap (λ (xs : List (Bor (List ℕ))). texts xs ++ last ∷ []) whole ∙ ap (λ (xs : List (List ℕ)). xs ++ last ∷ []) (map-append (λ (x : Bor (List ℕ)). x.now) (take i refs) (k ∷ drop (suc i) refs)) ∙ append_assoc (texts (take i refs)) (k.now ∷ texts (drop (suc i) refs)) (last ∷ []) ∙ ap (λ (xs : List (List ℕ)). xs ++ k.now ∷ behind) (sym e) in
-    inserted_last before after behind k.now new (subst (IsDistinct bytes_eq) cut distinct) put ∙ ap (λ (xs : List (List ℕ)). xs ++ k.now ∷ []) e ∙ sym (map-append (λ (x : Bor (List ℕ)). x.now) (take i refs) (k ∷ [])) ∙ sym (ap texts (take_more refs i d l))
+    let cut : texts refs ++ last ∷ [] ≡ before ++ k.now ∷ behind =
+    ap (λ (xs : List (Bor (List ℕ))). texts xs ++ last ∷ []) whole
+    ∙ ap (λ (xs : List (List ℕ)). xs ++ last ∷ []) (map-append (λ (x : Bor (List ℕ)). x.now) (take i refs) (k ∷ drop (suc i) refs))
+    ∙ append_assoc (texts (take i refs)) (k.now ∷ texts (drop (suc i) refs)) (last ∷ []) ∙ ap (λ (xs : List (List ℕ)). xs ++ k.now ∷ behind) (sym e) in
+    inserted_last before after behind k.now new (subst (IsDistinct bytes_eq) cut distinct) put ∙ ap (λ (xs : List (List ℕ)). xs ++ k.now ∷ []) e
+    ∙ sym (map-append (λ (x : Bor (List ℕ)). x.now) (take i refs) (k ∷ [])) ∙ sym (ap texts (take_more refs i d l))
 
-pub all_inserted : (refs : List (Bor (List ℕ))) (i : ℕ) (last : List ℕ) (before after : List (List ℕ)) (new : Bool) → length refs ≤ i → before ≡ texts (take i refs) → IsDistinct bytes_eq (texts refs ++ last ∷ []) → InsertsKey before last new after → after ≡ texts refs ++ last ∷ []
+pub all_inserted : (refs : List (Bor (List ℕ))) (i : ℕ) (last : List ℕ) (before after : List (List ℕ)) (new : Bool) → length refs ≤ i
+    → before ≡ texts (take i refs) → IsDistinct bytes_eq (texts refs ++ last ∷ []) → InsertsKey before last new after → after ≡ texts refs ++ last ∷ []
 all_inserted refs i last before after new l e distinct put =
     let whole : before ≡ texts refs = e ∙ ap texts (take_all i refs l) in
     inserted_last before after [] last new (rw whole distinct) put ∙ ap (λ (xs : List (List ℕ)). xs ++ last ∷ []) whole
@@ -139,28 +146,35 @@ module _ (refs : List (Bor (List ℕ))) (sort : Sort) (below own : List (List �
   pub listed_texts : texts (refs ++ key ∷ []) ≡ below ++ (own ++ key.now ∷ [])
   listed_texts = map-append (λ (k : Bor (List ℕ)). k.now) refs (key ∷ []) ∙ ap (λ (xs : List (List ℕ)). xs ++ key.now ∷ []) has.2 ∙ append_assoc below own (key.now ∷ [])
 
-  pub listed_more : (after : ℕ) → ((n : ℕ) → HasNote notes n → HasNote after n) → HasNote after (note_of key.now) → HasKeys (keys.Listed first after) (refs ++ key ∷ []) sort below (own ++ key.now ∷ [])
+  pub listed_more : (after : ℕ) → ((n : ℕ) → HasNote notes n → HasNote after n) → HasNote after (note_of key.now)
+      → HasKeys (keys.Listed first after) (refs ++ key ∷ []) sort below (own ++ key.now ∷ [])
   listed_more after kept here = (has.0, has.1, listed_texts, noted_more notes after own key.now has.3 kept here)
 
-  pub listed_moved : (set : Box (List (List ℕ)) Global) → set.value ≡ texts (take (length refs - first) (drop first refs)) ++ key.now ∷ [] → HasKeys (keys.Indexed set) (take first refs) sort below (own ++ key.now ∷ [])
+  pub listed_moved : (set : Box (List (List ℕ)) Global) → set.value ≡ texts (take (length refs - first) (drop first refs)) ++ key.now ∷ []
+      → HasKeys (keys.Indexed set) (take first refs) sort below (own ++ key.now ∷ [])
   listed_moved set e = (has.0, texts_front refs below own first has.1 has.2, e ∙ ap (λ (xs : List (List ℕ)). xs ++ key.now ∷ []) (own_texts refs below own first has.1 has.2))
 
 -- the keys of an array, and one more
-pub numbers_more : (refs : List (Bor (List ℕ))) (sort : Sort) (below own : List (List ℕ)) (key : List ℕ) (number : ℕ) → HasKeys keys.Numbers refs sort below own → AreKeysCanonical sort own → number ≡ length own → key ≡ decimal number → TellsKey sort below own key keys.Numbers refs None
+pub numbers_more : (refs : List (Bor (List ℕ))) (sort : Sort) (below own : List (List ℕ)) (key : List ℕ) (number : ℕ) → HasKeys keys.Numbers refs sort below own
+    → AreKeysCanonical sort own → number ≡ length own → key ≡ decimal number → TellsKey sort below own key keys.Numbers refs None
 numbers_more refs sort below own key number has canonical n e =
     (has, subst (λ (s : Sort). AreKeysCanonical s (own ++ key ∷ [])) (sym has.0) (array_key own key (subst (λ (s : Sort). AreKeysCanonical s own) has.0 canonical) (e ∙ ap decimal n)))
 
-pub numbers_breach : (refs : List (Bor (List ℕ))) (sort : Sort) (below own : List (List ℕ)) (key : List ℕ) (number : ℕ) → HasKeys keys.Numbers refs sort below own → number ≡ length own → key ≢ decimal number → BreachesKeys sort own key cause.ArrayKey
+pub numbers_breach : (refs : List (Bor (List ℕ))) (sort : Sort) (below own : List (List ℕ)) (key : List ℕ) (number : ℕ)
+    → HasKeys keys.Numbers refs sort below own → number ≡ length own → key ≢ decimal number → BreachesKeys sort own key cause.ArrayKey
 numbers_breach refs sort below own key number has n e =
     subst (λ (s : Sort). BreachesKeys s own key cause.ArrayKey) (sym has.0) (λ same. e (same ∙ ap decimal (sym n)), refl)
 
 -- the keys of a level in a set, and one more
-pub indexed_more : (old new : Box (List (List ℕ)) Global) (refs : List (Bor (List ℕ))) (sort : Sort) (below own : List (List ℕ)) (key : List ℕ) → HasKeys (keys.Indexed old) refs sort below own → AreKeysCanonical sort own → InsertsKey old.value key true new.value → TellsKey sort below own key (keys.Indexed new) refs None
+pub indexed_more : (old new : Box (List (List ℕ)) Global) (refs : List (Bor (List ℕ))) (sort : Sort) (below own : List (List ℕ)) (key : List ℕ)
+    → HasKeys (keys.Indexed old) refs sort below own → AreKeysCanonical sort own → InsertsKey old.value key true new.value
+    → TellsKey sort below own key (keys.Indexed new) refs None
 indexed_more old new refs sort below own key has canonical put =
     let distinct = document_key own key (subst (λ (s : Sort). AreKeysCanonical s own) has.0 canonical) (subst (λ (xs : List (List ℕ)). ¬ Contains xs key) has.2 put.0) in
     ((has.0, has.1, put.1 ∙ ap (λ (xs : List (List ℕ)). xs ++ key ∷ []) has.2), subst (λ (s : Sort). AreKeysCanonical s (own ++ key ∷ [])) (sym has.0) distinct)
 
-pub indexed_breach : (old new : Box (List (List ℕ)) Global) (refs : List (Bor (List ℕ))) (sort : Sort) (below own : List (List ℕ)) (key : List ℕ) → HasKeys (keys.Indexed old) refs sort below own → InsertsKey old.value key false new.value → BreachesKeys sort own key cause.RepeatedKey
+pub indexed_breach : (old new : Box (List (List ℕ)) Global) (refs : List (Bor (List ℕ))) (sort : Sort) (below own : List (List ℕ)) (key : List ℕ)
+    → HasKeys (keys.Indexed old) refs sort below own → InsertsKey old.value key false new.value → BreachesKeys sort own key cause.RepeatedKey
 indexed_breach old new refs sort below own key has put =
     subst (λ (s : Sort). BreachesKeys s own key cause.RepeatedKey) (sym has.0) (subst (λ (xs : List (List ℕ)). Contains xs key) has.2 put.0, refl)
 
@@ -225,16 +239,22 @@ last_behind_at (x ∷ []) n last key l e b =
 last_behind_at (x ∷ y ∷ refs) zero last key l e b = absurd (omega (arith, l))
 last_behind_at (x ∷ y ∷ refs) (suc n) last key l e b = last_behind_at (y ∷ refs) n last key (omega (arith, l)) e b
 
-pub last_behind : (refs : List (Bor (List ℕ))) (last : Bor (List ℕ)) (key : List ℕ) → 0 < length refs → last ≡ get_or refs (length refs - 1) last → IsBehind last.now key → IsBehindLast (texts refs) key
+pub last_behind : (refs : List (Bor (List ℕ))) (last : Bor (List ℕ)) (key : List ℕ) → 0 < length refs → last ≡ get_or refs (length refs - 1) last
+    → IsBehind last.now key → IsBehindLast (texts refs) key
 last_behind refs last key some e b = last_behind_at refs (length refs - 1) last key (omega (arith, some)) e b
 
 -- keys that ascend in the list, and one more behind them
-pub listed_of : (refs : List (Bor (List ℕ))) (sort : Sort) (below own : List (List ℕ)) (first notes : ℕ) → HasKeys (keys.Ascending first) refs sort below own → AreNoted notes own → HasKeys (keys.Listed first notes) refs sort below own
+pub listed_of : (refs : List (Bor (List ℕ))) (sort : Sort) (below own : List (List ℕ)) (first notes : ℕ) → HasKeys (keys.Ascending first) refs sort below own
+    → AreNoted notes own → HasKeys (keys.Listed first notes) refs sort below own
 listed_of refs sort below own first notes has noted = (has.0, has.1, has.2, noted)
 
-pub ascending_kept : (refs : List (Bor (List ℕ))) (sort : Sort) (below own : List (List ℕ)) (key : Bor (List ℕ)) (first : ℕ) → HasKeys (keys.Ascending first) refs sort below own → AreKeysCanonical sort own → IsBehindLast own key.now → TellsKey sort below own key.now (keys.Ascending first) (refs ++ key ∷ []) None
+pub ascending_kept : (refs : List (Bor (List ℕ))) (sort : Sort) (below own : List (List ℕ)) (key : Bor (List ℕ)) (first : ℕ)
+    → HasKeys (keys.Ascending first) refs sort below own → AreKeysCanonical sort own → IsBehindLast own key.now
+    → TellsKey sort below own key.now (keys.Ascending first) (refs ++ key ∷ []) None
 ascending_kept refs sort below own key first has canonical behind =
-    let listed : texts (refs ++ key ∷ []) ≡ below ++ (own ++ key.now ∷ []) = map-append (λ (k : Bor (List ℕ)). k.now) refs (key ∷ []) ∙ ap (λ (xs : List (List ℕ)). xs ++ key.now ∷ []) has.2 ∙ append_assoc below own (key.now ∷ []) in
+    let listed : texts (refs ++ key ∷ []) ≡ below ++ (own ++ key.now ∷ []) =
+    map-append (λ (k : Bor (List ℕ)). k.now) refs (key ∷ []) ∙ ap (λ (xs : List (List ℕ)). xs ++ key.now ∷ []) has.2
+    ∙ append_assoc below own (key.now ∷ []) in
     let distinct = document_key own key.now (subst (λ (s : Sort). AreKeysCanonical s own) has.0 canonical) (not_found own key.now (ascending_test own key.now has.3 behind)) in
     ((has.0, has.1, listed, ascending_more own key.now has.3 behind), subst (λ (s : Sort). AreKeysCanonical s (own ++ key.now ∷ [])) (sym has.0) distinct)
 

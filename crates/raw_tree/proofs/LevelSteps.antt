@@ -20,30 +20,32 @@ use Rattle.raw_view.specs.declared.element.RawElement.{RawElement}
 use Rattle.raw_view.specs.declared.error.Error.{Error}
 use Rattle.raw_view.proofs.Face.{HasRead-more, HasRead-end, LeadsTo-more, IsFrame-shorter}
 use Rattle.raw_tree.specs.FrameCount.{CountsIn, CountsFrames, HasFrameCount, HasFramesToFault, TellsFrames}
-use Rattle.raw_tree.specs.Levels.{sort_of, holding, holder_of, tree_of_contents, AreContents, IsEmpty, IsOneMore, HoldsNone, Closes, TellsFramesWithin}
+use Rattle.raw_tree.specs.Levels.{sort_of, holding, holder_of, tree_of_contents, AreDrafted, IsOneMore, HoldsNone, Finishes, Ends, TellsFramesWithin}
 use Rattle.raw_tree.specs.WithinLimits.{Barrier, fault_of, too_deep, FirstFaultWithin, TellsFirstFaultWithin}
 use Rattle.raw_tree.specs.Reading.{Sort, tree_of_pairs, StandsFor, StandForEach, ReadsUpTo, ReadsAs}
 use Rattle.raw_tree.specs.declared.levels.Contents.{Contents}
+use Rattle.raw_tree.specs.declared.levels.Draft.{Draft}
 use Rattle.raw_tree.specs.declared.levels.Holder.{Holder}
 use Rattle.raw_tree.specs.declared.levels.Level.{Level}
 use Rattle.raw_tree.specs.declared.levels.Waiting.{Waiting}
 use Rattle.raw_tree.proofs.Decides.{IsCountedFrom, counted_until, counted_from, counted_from_frame}
 use Rattle.raw_tree.proofs.FrameCounts.{count_of_walk, counts_more, to_stop, to_frame, until_small}
-use Rattle.raw_tree.proofs.Stacks.{contents_tree, none_stands, held_within, held_counts, held_holds, IsReading, IsWaiting, AreWaiting, barrier_outward, to_fault_outward, counted_outward, envelope_inward}
+use Rattle.raw_tree.proofs.Stacks.{drafted_none, none_stands, held_within, held_counts, held_holds, IsReading, IsWaiting, AreWaiting, barrier_outward, to_fault_outward, counted_outward, envelope_inward}
 use Rattle.raw_tree.proofs.Loops.{each_read, stand_more, nested_beside}
 use Rattle.raw_tree.proofs.OneTree.{tree_or_fault}
 use Rattle.raw_tree.proofs.Within.{first_fault}
 
 -- elements
 
-pub level_begins : (inside : ℕ) (b : List ℕ) (holder : Holder) (level : Level) → level.elements ≡ Some (drop 4 b) → holder_of level.contents ≡ holder → IsEmpty level.contents → IsReading inside b holder level 0
-level_begins inside b holder level e held empty = record {
+pub level_begins : (inside : ℕ) (b : List ℕ) (holder : Holder) (level : Level) → level.elements ≡ Some (drop 4 b) → level.holder ≡ holder
+    → level.draft.keys.items ≡ [] → level.draft.values.items ≡ [] → IsReading inside b holder level 0
+level_begins inside b holder level e held keys values = record {
   frames = [];
   pairs = [];
   passed = rw e refl;
   each = refl;
   counts = refl;
-  contains = empty;
+  drafted = drafted_none level.holder level.draft keys values;
   held = held;
 }
 
@@ -54,25 +56,35 @@ none_counted (raw.document d) h = absurd h
 none_counted (raw.array d) h = absurd h
 none_counted (raw.scoped code d) h = absurd h
 
+-- what is drafted with a pair more
+more_drafted : (old new : Level) (key at : List ℕ) (t : Tree) (pairs : List (List ℕ × Tree)) → key ≡ at → IsOneMore old key t new
+    → AreDrafted old.holder old.draft pairs → AreDrafted new.holder new.draft (pairs ++ (at, t) ∷ [])
+more_drafted old new key at t pairs k more h = rw (more.1, sym k) (more.2 pairs h)
+
 -- an element whose value holds no nested bytes is put
-pub level_more : (inside : ℕ) (b : List ℕ) (holder : Holder) (level new : Level) (n : ℕ) (e : RawElement) (v : RawValue) (key : List ℕ) (t : Tree) → IsReading inside b holder level n → StepsElement level.elements (Some (Ok e)) new.elements → Means (frame_of e) (value v) → HoldsNone v × StandsFor ReadsAs v t → key ≡ (frame_of e).key → IsOneMore level.contents key t new.contents → IsReading inside b holder new (n + 1)
-level_more inside b holder level new n e v key t is st m whole k more = record {
+pub level_more : (inside : ℕ) (b : List ℕ) (holder : Holder) (level new : Level) (left : Option (List ℕ)) (n : ℕ) (e : RawElement) (v : RawValue) (key : List ℕ)
+    (t : Tree) → IsReading inside b holder level n → StepsElement level.elements (Some (Ok e)) left → Means (frame_of e) (value v)
+    → HoldsNone v × StandsFor ReadsAs v t → key ≡ (frame_of e).key
+    → IsOneMore (record { elements = left; holder = level.holder; draft = level.draft }) key t new → IsReading inside b holder new (n + 1)
+level_more inside b holder level new left n e v key t is st m whole k more = record {
   frames = is.frames ++ frame_of e ∷ [];
   pairs = is.pairs ++ ((frame_of e).key, t) ∷ [];
-  passed = HasRead-more (drop 4 b) is.frames level.elements new.elements e is.passed st;
+  passed = rw more.0 (HasRead-more (drop 4 b) is.frames level.elements left e is.passed st);
   each = stand_more (ReadsUpTo inside) is.frames is.pairs (frame_of e) v t is.each m (none_stands inside v t whole.0 whole.1);
   counts = subst (λ (c : ℕ). CountsFrames HasFrameCount (is.frames ++ frame_of e ∷ []) c) (omega arith) (counts_more is.frames n (frame_of e) (value v) 0 is.counts m (none_counted v whole.0));
-  contains = subst (λ (x : List ℕ). AreContents new.contents (is.pairs ++ (x, t) ∷ [])) k (more.1 is.pairs is.contains);
-  held = more.0 ∙ is.held;
+  drafted = more_drafted (record { elements = left; holder = level.holder; draft = level.draft }) new key (frame_of e).key t is.pairs k more is.drafted;
+  held = more.1 ∙ is.held;
 }
 
 -- where the element's value holds bytes, the level waits for them
-level_waits_at : (old : Option (List ℕ)) (inside : ℕ) (b : List ℕ) (holder : Holder) (contents : Contents) (n : ℕ) (w : Waiting) (e : RawElement) (d : List ℕ) (nested : Holder) (frames : List Frame) (pairs : List (List ℕ × Tree)) → HasRead (drop 4 b) frames old → StandForEach (ReadsUpTo inside) frames pairs → CountsFrames HasFrameCount frames n → AreContents contents pairs → holder_of contents ≡ holder
-    → StepsElement old (Some (Ok e)) w.level.elements → w.level.contents ≡ contents → w.key.now ≡ (frame_of e).key → Means (frame_of e) (value (holding nested d)) → IsWaiting inside b holder w d nested (n + 1)
-level_waits_at None inside b holder contents n w e d nested frames pairs l each counts has held st c k m = absurd l
-level_waits_at (Some s) inside b holder contents n w e d nested frames pairs l each counts has held st c k m = record {
-  frames = frames;
-  pairs = pairs;
+level_waits_at : (old : Option (List ℕ)) (inside : ℕ) (b : List ℕ) (holder : Holder) (level : Level) (n : ℕ) (w : Waiting) (e : RawElement) (d : List ℕ)
+    (nested : Holder) → (is : IsReading inside b holder level n) → HasRead (drop 4 b) is.frames old → StepsElement old (Some (Ok e)) w.level.elements
+    → w.level.holder ≡ level.holder → w.level.draft ≡ level.draft → w.key.now ≡ (frame_of e).key → Means (frame_of e) (value (holding nested d))
+    → IsWaiting inside b holder w d nested (n + 1)
+level_waits_at None inside b holder level n w e d nested is l st h c k m = absurd l
+level_waits_at (Some s) inside b holder level n w e d nested is l st h c k m = record {
+  frames = is.frames;
+  pairs = is.pairs;
   before = n;
   s = s;
   f = frame_of e;
@@ -80,41 +92,50 @@ level_waits_at (Some s) inside b holder contents n w e d nested frames pairs l e
   passed = l;
   frame = st.1;
   left = st.2;
-  each = each;
-  counts = counts;
-  contains = rw c has;
-  held = rw c held;
+  each = is.each;
+  counts = is.counts;
+  drafted = rw (h, c) is.drafted;
+  held = h ∙ is.held;
   key = k;
   means = m;
   total = refl;
 }
 
-pub level_waits : (inside : ℕ) (b : List ℕ) (holder : Holder) (level : Level) (n : ℕ) (w : Waiting) (e : RawElement) (d : List ℕ) (nested : Holder) → IsReading inside b holder level n → StepsElement level.elements (Some (Ok e)) w.level.elements → w.level.contents ≡ level.contents → w.key.now ≡ (frame_of e).key → Means (frame_of e) (value (holding nested d)) → IsWaiting inside b holder w d nested (n + 1)
-level_waits inside b holder level n w e d nested is st c k m =
-    level_waits_at level.elements inside b holder level.contents n w e d nested is.frames is.pairs is.passed is.each is.counts is.contains is.held st c k m
+pub level_waits : (inside : ℕ) (b : List ℕ) (holder : Holder) (level : Level) (n : ℕ) (w : Waiting) (e : RawElement) (d : List ℕ) (nested : Holder)
+    → IsReading inside b holder level n → StepsElement level.elements (Some (Ok e)) w.level.elements → w.level.holder ≡ level.holder
+    → w.level.draft ≡ level.draft → w.key.now ≡ (frame_of e).key → Means (frame_of e) (value (holding nested d)) → IsWaiting inside b holder w d nested (n + 1)
+level_waits inside b holder level n w e d nested is st h c k m =
+    level_waits_at level.elements inside b holder level n w e d nested is is.passed st h c k m
 
 -- the bytes of a level are read to their end
-pub level_end : (inside : ℕ) (b : List ℕ) (holder : Holder) (level : Level) (n : ℕ) (new : Option (List ℕ)) → IsReading inside b holder level n → StepsElement level.elements None new → ReadsUpTo (suc inside) (sort_of holder) b (tree_of_contents level.contents) × HasFrameCount b n
+pub level_end : (inside : ℕ) (b : List ℕ) (holder : Holder) (level : Level) (n : ℕ) (new : Option (List ℕ)) (is : IsReading inside b holder level n)
+    → StepsElement level.elements None new → ReadsUpTo (suc inside) (sort_of holder) b (tree_of_pairs (sort_of holder) is.pairs) × HasFrameCount b n
 level_end inside b holder level n new is st =
     let walk = HasRead-end (drop 4 b) is.frames level.elements new is.passed st in
-    let same : tree_of_contents level.contents ≡ tree_of_pairs (sort_of holder) is.pairs = contents_tree level.contents is.pairs is.contains ∙ ap (λ h. tree_of_pairs (sort_of h) is.pairs) is.held in
-    ((is.pairs, (is.frames, walk, is.each), same), count_of_walk b is.frames _ n walk is.counts)
+    ((is.pairs, (is.frames, walk, is.each), refl), count_of_walk b is.frames _ n walk is.counts)
 
--- and with the value of those bytes the level that waits reads on
-pub level_resumes : (inside : ℕ) (b : List ℕ) (holder : Holder) (w : Waiting) (d : List ℕ) (nested : Holder) (here n : ℕ) (c : Contents) (t : Bson) (new : Level) → IsWaiting inside b holder w d nested here → holder_of c ≡ nested → ReadsUpTo inside (sort_of nested) d (tree_of_contents c) × HasFrameCount d n → Closes c t → IsOneMore w.level.contents w.key.now (tree_of t) new.contents → new.elements ≡ w.level.elements → IsReading inside b holder new (here + n)
-level_resumes inside b holder w d nested here n c t new is held read closes more same =
-    let whole : ReadsAs (sort_of nested) d (tree_of_contents c) = (inside, read.0) in
-    let stands : StandsFor ReadsAs (holding nested d) (tree_of t) = subst (λ (h : Holder). StandsFor ReadsAs (holding h d) (tree_of t)) held (closes d (rw held whole)) in
-    let within : StandsFor (ReadsUpTo inside) (holding nested d) (tree_of t) = held_within inside nested d (tree_of_contents c) (tree_of t) read.0 stands in
-    record {
-      frames = is.frames ++ is.f ∷ [];
-      pairs = is.pairs ++ (is.f.key, tree_of t) ∷ [];
-      passed = rw (same ∙ is.left) (LeadsTo-more (drop 4 b) is.frames is.s is.f is.r is.passed is.frame);
-      each = stand_more (ReadsUpTo inside) is.frames is.pairs is.f (holding nested d) (tree_of t) is.each is.means within;
-      counts = rw is.total (counts_more is.frames is.before is.f (value (holding nested d)) n is.counts is.means (held_counts nested d n read.1));
-      contains = subst (λ (x : List ℕ). AreContents new.contents (is.pairs ++ (x, tree_of t) ∷ [])) is.key (more.1 is.pairs is.contains);
-      held = more.0 ∙ is.held;
-    }
+-- so the value that is made of them is the one that holds them, within as many levels
+pub level_stands : (inside : ℕ) (b : List ℕ) (holder : Holder) (level : Level) (n : ℕ) (new : Option (List ℕ)) (t : Bson) → IsReading inside b holder level n
+    → StepsElement level.elements None new → Ends level.holder level.draft t → StandsFor (ReadsUpTo (suc inside)) (holding holder b) (tree_of t)
+level_stands inside b holder level n new t is st ends =
+    let read = (level_end inside b holder level n new is st).0 in
+    let whole : ReadsAs (sort_of level.holder) b (tree_of_pairs (sort_of level.holder) is.pairs) = rw is.held (suc inside, read) in
+    let stands : StandsFor ReadsAs (holding holder b) (tree_of t) = subst (λ (h : Holder). StandsFor ReadsAs (holding h b) (tree_of t)) is.held (ends is.pairs b is.drafted whole) in
+    held_within (suc inside) holder b (tree_of_pairs (sort_of holder) is.pairs) (tree_of t) read stands
+
+-- and with that value the level that waits reads on
+pub level_resumes : (inside : ℕ) (b : List ℕ) (holder : Holder) (w : Waiting) (d : List ℕ) (nested : Holder) (here n : ℕ) (t : Bson) (new : Level)
+    → IsWaiting inside b holder w d nested here → StandsFor (ReadsUpTo inside) (holding nested d) (tree_of t) → HasFrameCount d n
+    → IsOneMore w.level w.key.now (tree_of t) new → IsReading inside b holder new (here + n)
+level_resumes inside b holder w d nested here n t new is within count more = record {
+  frames = is.frames ++ is.f ∷ [];
+  pairs = is.pairs ++ (is.f.key, tree_of t) ∷ [];
+  passed = rw (more.0 ∙ is.left) (LeadsTo-more (drop 4 b) is.frames is.s is.f is.r is.passed is.frame);
+  each = stand_more (ReadsUpTo inside) is.frames is.pairs is.f (holding nested d) (tree_of t) is.each is.means within;
+  counts = rw is.total (counts_more is.frames is.before is.f (value (holding nested d)) n is.counts is.means (held_counts nested d n count));
+  drafted = more_drafted w.level new w.key.now is.f.key (tree_of t) is.pairs is.key more is.drafted;
+  held = more.1 ∙ is.held;
+}
 
 -- returns
 
@@ -144,33 +165,43 @@ pub tells_small : {X : Type 0} (b : List ℕ) (result : Result X Error) (n : ℕ
 tells_small b (Ok x) n h = until_small b n h.0
 tells_small b (Err e) n h = omega (arith, until_small b h.0 h.1, h.2)
 
-stop_ends : (old new : Option (List ℕ)) (inside : ℕ) (d : List ℕ) (frames : List Frame) (pairs : List (List ℕ × Tree)) (n : ℕ) (e : Error) → HasRead (drop 4 d) frames old → StandForEach (ReadsUpTo inside) frames pairs → CountsFrames HasFrameCount frames n → StepsElement old (Some (Err e)) new → EndsWith (suc inside) d e n
+stop_ends : (old new : Option (List ℕ)) (inside : ℕ) (d : List ℕ) (frames : List Frame) (pairs : List (List ℕ × Tree)) (n : ℕ) (e : Error)
+    → HasRead (drop 4 d) frames old → StandForEach (ReadsUpTo inside) frames pairs → CountsFrames HasFrameCount frames n → StepsElement old (Some (Err e)) new
+    → EndsWith (suc inside) d e n
 stop_ends None new inside d frames pairs n e l each counts st = absurd l
 stop_ends (Some s) new inside d frames pairs n e l each counts st =
     let fault : KeyedFault = record { fault = st.0; key = st.1 } in
     (fault, (frames, pairs, s, l, each, inl st.2), st.3, to_stop d frames pairs s n l (each_read inside frames pairs each) counts fault st.2)
 
-frame_ends : (old new : Option (List ℕ)) (inside : ℕ) (d : List ℕ) (frames : List Frame) (pairs : List (List ℕ × Tree)) (n : ℕ) (e : RawElement) (err : Error) (fault : KeyedFault) → HasRead (drop 4 d) frames old → StandForEach (ReadsUpTo inside) frames pairs → CountsFrames HasFrameCount frames n → StepsElement old (Some (Ok e)) new → Means (frame_of e) (faulty fault) → Says err fault → EndsWith (suc inside) d err (n + 1)
+frame_ends : (old new : Option (List ℕ)) (inside : ℕ) (d : List ℕ) (frames : List Frame) (pairs : List (List ℕ × Tree)) (n : ℕ) (e : RawElement) (err : Error)
+    (fault : KeyedFault) → HasRead (drop 4 d) frames old → StandForEach (ReadsUpTo inside) frames pairs → CountsFrames HasFrameCount frames n
+    → StepsElement old (Some (Ok e)) new → Means (frame_of e) (faulty fault) → Says err fault → EndsWith (suc inside) d err (n + 1)
 frame_ends None new inside d frames pairs n e err fault l each counts st m says = absurd l
 frame_ends (Some s) new inside d frames pairs n e err fault l each counts st m says =
     (fault, (frames, pairs, s, l, each, inr (frame_of e, st.0, st.1, inl m)), says, to_frame d frames pairs s n l (each_read inside frames pairs each) counts (frame_of e) st.0 fault st.1 m)
 
-deep_ends : (old new : Option (List ℕ)) (inside : ℕ) (d : List ℕ) (frames : List Frame) (pairs : List (List ℕ × Tree)) (e : RawElement) (c : List ℕ) (inner : Holder) → HasRead (drop 4 d) frames old → StandForEach (ReadsUpTo inside) frames pairs → StepsElement old (Some (Ok e)) new → Means (frame_of e) (value (holding inner c)) → FirstFaultWithin inside c too_deep → FirstFaultWithin (suc inside) d too_deep
+deep_ends : (old new : Option (List ℕ)) (inside : ℕ) (d : List ℕ) (frames : List Frame) (pairs : List (List ℕ × Tree)) (e : RawElement) (c : List ℕ)
+    (inner : Holder) → HasRead (drop 4 d) frames old → StandForEach (ReadsUpTo inside) frames pairs → StepsElement old (Some (Ok e)) new
+    → Means (frame_of e) (value (holding inner c)) → FirstFaultWithin inside c too_deep → FirstFaultWithin (suc inside) d too_deep
 deep_ends None new inside d frames pairs e c inner l each st m entered = absurd l
 deep_ends (Some s) new inside d frames pairs e c inner l each st m entered =
     (frames, pairs, s, l, each, inr (frame_of e, st.0, st.1, inr (holding inner c, c, m, held_holds inner c, entered)))
 
-read_counted : (old : Option (List ℕ)) (inside : ℕ) (sort : Sort) (d : List ℕ) (frames : List Frame) (pairs : List (List ℕ × Tree)) (n : ℕ) → IsEnvelope d → HasRead (drop 4 d) frames old → StandForEach (ReadsUpTo inside) frames pairs → CountsFrames HasFrameCount frames n → IsCountedFrom sort d n
+read_counted : (old : Option (List ℕ)) (inside : ℕ) (sort : Sort) (d : List ℕ) (frames : List Frame) (pairs : List (List ℕ × Tree)) (n : ℕ) → IsEnvelope d
+    → HasRead (drop 4 d) frames old → StandForEach (ReadsUpTo inside) frames pairs → CountsFrames HasFrameCount frames n → IsCountedFrom sort d n
 read_counted None inside sort d frames pairs n env l each counts = absurd l
 read_counted (Some s) inside sort d frames pairs n env l each counts = counted_from sort d env frames pairs n s l (each_read inside frames pairs each) counts
 
-frame_counted : (old new : Option (List ℕ)) (inside : ℕ) (sort : Sort) (d : List ℕ) (frames : List Frame) (pairs : List (List ℕ × Tree)) (n : ℕ) (e : RawElement) → IsEnvelope d → HasRead (drop 4 d) frames old → StandForEach (ReadsUpTo inside) frames pairs → CountsFrames HasFrameCount frames n → StepsElement old (Some (Ok e)) new → IsCountedFrom sort d (n + 1)
+frame_counted : (old new : Option (List ℕ)) (inside : ℕ) (sort : Sort) (d : List ℕ) (frames : List Frame) (pairs : List (List ℕ × Tree)) (n : ℕ)
+    (e : RawElement) → IsEnvelope d → HasRead (drop 4 d) frames old → StandForEach (ReadsUpTo inside) frames pairs → CountsFrames HasFrameCount frames n
+    → StepsElement old (Some (Ok e)) new → IsCountedFrom sort d (n + 1)
 frame_counted None new inside sort d frames pairs n e env l each counts st = absurd l
 frame_counted (Some s) new inside sort d frames pairs n e env l each counts st = counted_from_frame sort d env frames pairs n s l (each_read inside frames pairs each) counts (frame_of e) st.0 st.1
 
 -- the state of the loop: levels wait from the bytes b inward to the bytes d, which the level reads; with the
 -- levels that may be inside d they are as many as the depth
-module _ (inside depth : ℕ) (b : List ℕ) (holder : Holder) (ws : List Waiting) (d : List ℕ) (nested : Holder) (level : Level) (n k : ℕ) (h : AreWaiting inside b holder ws d nested n) (is : IsReading inside d nested level k) (whole : suc (length ws + inside) ≡ depth) where
+module _ (inside depth : ℕ) (b : List ℕ) (holder : Holder) (ws : List Waiting) (d : List ℕ) (nested : Holder) (level : Level) (n k : ℕ)
+    (h : AreWaiting inside b holder ws d nested n) (is : IsReading inside d nested level k) (whole : suc (length ws + inside) ≡ depth) where
   within_outward : (x : Barrier) → FirstFaultWithin (suc inside) d x → FirstFaultWithin depth b x
   within_outward x bars = subst (λ (levels : ℕ). FirstFaultWithin levels b x) whole (barrier_outward inside b holder ws d nested n x h bars)
 
@@ -178,7 +209,8 @@ module _ (inside depth : ℕ) (b : List ℕ) (holder : Holder) (ws : List Waitin
   outward e m at = (at.0, within_outward (fault_of at.0) at.1, at.2, to_fault_outward inside b holder ws d nested n at.0 m h (first_fault (suc inside) d at.0 at.1) at.3)
 
   -- a value that holds nested bytes, where no level may be inside
-  pub too_deep_inside : (e : RawElement) (c : List ℕ) (inner : Holder) (new : Option (List ℕ)) → inside ≡ 0 → StepsElement level.elements (Some (Ok e)) new → Means (frame_of e) (value (holding inner c)) → FirstFaultWithin depth b too_deep
+  pub too_deep_inside : (e : RawElement) (c : List ℕ) (inner : Holder) (new : Option (List ℕ)) → inside ≡ 0 → StepsElement level.elements (Some (Ok e)) new
+      → Means (frame_of e) (value (holding inner c)) → FirstFaultWithin depth b too_deep
   too_deep_inside e c inner new none st m =
       let entered : FirstFaultWithin inside c too_deep = rw none refl in
       within_outward too_deep (deep_ends level.elements new inside d is.frames is.pairs e c inner is.passed is.each st m entered)
@@ -186,23 +218,29 @@ module _ (inside depth : ℕ) (b : List ℕ) (holder : Holder) (ws : List Waitin
   pub stopped : (e : Error) (new : Option (List ℕ)) → StepsElement level.elements (Some (Err e)) new → EndsWith depth b e (n + k)
   stopped e new st = outward e k (stop_ends level.elements new inside d is.frames is.pairs k e is.passed is.each is.counts st)
 
-  failed_as : (e : RawElement) (err : Error) (new : Option (List ℕ)) (m : Meaning) → StepsElement level.elements (Some (Ok e)) new → Means (frame_of e) m → TellsMeaning (Err err) m → EndsWith depth b err (n + k + 1)
+  failed_as : (e : RawElement) (err : Error) (new : Option (List ℕ)) (m : Meaning) → StepsElement level.elements (Some (Ok e)) new → Means (frame_of e) m
+      → TellsMeaning (Err err) m → EndsWith depth b err (n + k + 1)
   failed_as e err new (value v) st m told = absurd told
   failed_as e err new (faulty fault) st m told =
       let same : n + (k + 1) ≡ n + k + 1 = omega arith in
       subst (EndsWith depth b err) same (outward err (k + 1) (frame_ends level.elements new inside d is.frames is.pairs k e err fault is.passed is.each is.counts st m told))
 
-  pub failed : (e : RawElement) (err : Error) (new : Option (List ℕ)) → StepsElement level.elements (Some (Ok e)) new → ((m : Meaning) × Means (frame_of e) m × TellsMeaning (Err err) m) → EndsWith depth b err (n + k + 1)
+  pub failed : (e : RawElement) (err : Error) (new : Option (List ℕ)) → StepsElement level.elements (Some (Ok e)) new
+      → ((m : Meaning) × Means (frame_of e) m × TellsMeaning (Err err) m) → EndsWith depth b err (n + k + 1)
   failed e err new st told = failed_as e err new told.0 st told.1 told.2
 
   -- what has been read is counted
   pub level_counted : IsEnvelope b → IsCountedFrom (sort_of holder) b (n + k)
-  level_counted env = counted_outward inside b holder ws d nested n k env h (read_counted level.elements inside (sort_of nested) d is.frames is.pairs k (envelope_inward inside b holder ws d nested n env h) is.passed is.each is.counts)
+  level_counted env = counted_outward inside b holder ws d nested n k env h
+      (read_counted level.elements inside (sort_of nested) d is.frames is.pairs k
+      (envelope_inward inside b holder ws d nested n env h) is.passed is.each is.counts)
 
   -- and so is the element behind it
   pub element_counted : IsEnvelope b → (e : RawElement) (new : Option (List ℕ)) → StepsElement level.elements (Some (Ok e)) new → IsCountedFrom (sort_of holder) b (n + k + 1)
   element_counted env e new st =
-      let on = counted_outward inside b holder ws d nested n (k + 1) env h (frame_counted level.elements new inside (sort_of nested) d is.frames is.pairs k e (envelope_inward inside b holder ws d nested n env h) is.passed is.each is.counts st) in
+      let on = counted_outward inside b holder ws d nested n (k + 1) env h
+      (frame_counted level.elements new inside (sort_of nested) d is.frames is.pairs k e
+      (envelope_inward inside b holder ws d nested n env h) is.passed is.each is.counts st) in
       (on.0, omega (arith, on.1), on.2)
 
 -- where nothing is popped, nothing waits
@@ -211,16 +249,21 @@ no_more n [] new l e f = refl
 no_more n (w ∷ ws) new l e f = absurd (omega (arith, l, ap length e, ap length f, length-append new [], length-take (n - 1) (w ∷ ws)))
 
 -- the outermost level is read
-pub all_read : (inside depth : ℕ) (b : List ℕ) (holder : Holder) (ws : List Waiting) (d : List ℕ) (nested : Holder) (level : Level) (n k : ℕ) (new : Option (List ℕ)) → ws ≡ [] → suc (length ws + inside) ≡ depth → AreWaiting inside b holder ws d nested n → IsReading inside d nested level k → StepsElement level.elements None new → (holder_of level.contents ≡ holder) × ReadsUpTo depth (sort_of holder) b (tree_of_contents level.contents) × HasFrameCount b (n + k)
-all_read inside depth b holder [] d nested level n k new e whole h is st =
+pub all_read : (inside depth : ℕ) (b : List ℕ) (holder : Holder) (ws : List Waiting) (d : List ℕ) (nested : Holder) (level : Level) (n k : ℕ)
+    (new : Option (List ℕ)) (c : Contents) → ws ≡ [] → suc (length ws + inside) ≡ depth → AreWaiting inside b holder ws d nested n
+    → IsReading inside d nested level k → StepsElement level.elements None new → Finishes level.holder level.draft c
+    → (holder_of c ≡ holder) × ReadsUpTo depth (sort_of holder) b (tree_of_contents c) × HasFrameCount b (n + k)
+all_read inside depth b holder [] d nested level n k new c e whole h is st fin =
     let end = level_end inside d nested level k new is st in
     let same : n + k ≡ k = omega (arith, h.2) in
     let levels : suc inside ≡ depth = omega (arith, whole) in
-    let read : ReadsUpTo depth (sort_of nested) d (tree_of_contents level.contents) = subst (λ (x : ℕ). ReadsUpTo x (sort_of nested) d (tree_of_contents level.contents)) levels end.0 in
-    (is.held ∙ sym h.1, rw (h.0, h.1) read, rw (h.0, same) end.1)
-all_read inside depth b holder (w ∷ ws) d nested level n k new e whole h is st = absurd (omega (arith, ap length e))
+    let tree : tree_of_contents c ≡ tree_of_pairs (sort_of nested) is.pairs = fin.1 is.pairs is.drafted ∙ ap (λ x. tree_of_pairs (sort_of x) is.pairs) is.held in
+    let read : ReadsUpTo depth (sort_of nested) d (tree_of_contents c) = rw tree (subst (λ (x : ℕ). ReadsUpTo x (sort_of nested) d (tree_of_pairs (sort_of nested) is.pairs)) levels end.0) in
+    (fin.0 ∙ is.held ∙ sym h.1, rw (h.0, h.1) read, rw (h.0, same) end.1)
+all_read inside depth b holder (w ∷ ws) d nested level n k new c e whole h is st fin = absurd (omega (arith, ap length e))
 
-pub read_frames : {X : Type 0} (depth : ℕ) (sort : Sort) (b : List ℕ) (result : Result X Error) (x : X) (t : Tree) (n : ℕ) → result ≡ Ok x → ReadsUpTo depth sort b t → HasFrameCount b n → TellsFramesWithin depth b result n
+pub read_frames : {X : Type 0} (depth : ℕ) (sort : Sort) (b : List ℕ) (result : Result X Error) (x : X) (t : Tree) (n : ℕ) → result ≡ Ok x
+    → ReadsUpTo depth sort b t → HasFrameCount b n → TellsFramesWithin depth b result n
 read_frames depth sort b result x t n is read count =
     let told : TellsFrames b result n = rw is (inl (λ fault bad. tree_or_fault sort b t fault (depth, read) bad, count), count) in
     inr told
@@ -247,13 +290,16 @@ step_smaller None new e st = absurd (none-some _ (sym st.0))
 step_smaller (Some s) new e st = rw st.2 (omega (arith, IsFrame-shorter s (frame_of e) st.0 st.1))
 
 -- and more than its nested bytes
-pub step_inward : (old new : Option (List ℕ)) (e : RawElement) (d : List ℕ) (nested : Holder) → StepsElement old (Some (Ok e)) new → Means (frame_of e) (value (holding nested d)) → left_of (Some (drop 4 d)) + left_of new + 1 < left_of old
+pub step_inward : (old new : Option (List ℕ)) (e : RawElement) (d : List ℕ) (nested : Holder) → StepsElement old (Some (Ok e)) new
+    → Means (frame_of e) (value (holding nested d)) → left_of (Some (drop 4 d)) + left_of new + 1 < left_of old
 step_inward None new e d nested st m = absurd (none-some _ (sym st.0))
 step_inward (Some s) new e d nested st m =
     rw st.2 (omega (arith, length-drop 4 d, nested_beside s (frame_of e) st.0 (holding nested d) d st.1 m (held_holds nested d)))
 
 -- so what is left shrinks as it begins to wait
-pub inward_smaller : (old inner : Level) (ws more : List Waiting) (w : Waiting) (d : List ℕ) → more ≡ ws ++ w ∷ [] → inner.elements ≡ Some (drop 4 d) → left_of (Some (drop 4 d)) + left_of w.level.elements + 1 < left_of old.elements → left_of inner.elements + left_in more < left_of old.elements + left_in ws
+pub inward_smaller : (old inner : Level) (ws more : List Waiting) (w : Waiting) (d : List ℕ) → more ≡ ws ++ w ∷ [] → inner.elements ≡ Some (drop 4 d)
+    → left_of (Some (drop 4 d)) + left_of w.level.elements + 1 < left_of old.elements
+    → left_of inner.elements + left_in more < left_of old.elements + left_in ws
 inward_smaller old inner ws more w d e f h =
     rw (e, f) (omega (arith, sum_by_push (λ (x : Waiting). left_of x.level.elements + 1) ws w, h))
 

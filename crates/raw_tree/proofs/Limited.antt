@@ -44,12 +44,14 @@ value_or_deep n N nested (raw.scoped code d) t h =
     ]
 
 -- a barrier behind one frame more
-bars_behind : (n : ℕ) (s : List ℕ) (f : Frame) (r : List ℕ) (v : RawValue) (t : Tree) (x : Barrier) → IsFrame s f r → Means f (value v) → StandsFor (ReadsUpTo n) v t → BarsRest (ReadsUpTo n) (FirstFaultWithin n) r x → BarsRest (ReadsUpTo n) (FirstFaultWithin n) s x
+bars_behind : (n : ℕ) (s : List ℕ) (f : Frame) (r : List ℕ) (v : RawValue) (t : Tree) (x : Barrier) → IsFrame s f r → Means f (value v)
+    → StandsFor (ReadsUpTo n) v t → BarsRest (ReadsUpTo n) (FirstFaultWithin n) r x → BarsRest (ReadsUpTo n) (FirstFaultWithin n) s x
 bars_behind n s f r v t x at m stands bars =
     (f ∷ bars.0, (f.key, t) ∷ bars.1, bars.2, (r, at, bars.3), (v, t, bars.1, m, stands, refl, bars.4), bars.5)
 
 -- frames that stand for trees do so within n levels, or one of them has a level that is too deep
-frames_or_deep : (n : ℕ) (N : Sort → List ℕ → Tree → Type 0) → AreReadOrDeep n N → (s : List ℕ) (fs : List Frame) (r : List ℕ) (pairs : List (List ℕ × Tree)) → LeadsTo s fs r → StandForEach N fs pairs → StandForEach (ReadsUpTo n) fs pairs ⊎ BarsRest (ReadsUpTo n) (FirstFaultWithin n) s too_deep
+frames_or_deep : (n : ℕ) (N : Sort → List ℕ → Tree → Type 0) → AreReadOrDeep n N → (s : List ℕ) (fs : List Frame) (r : List ℕ) (pairs : List (List ℕ × Tree))
+    → LeadsTo s fs r → StandForEach N fs pairs → StandForEach (ReadsUpTo n) fs pairs ⊎ BarsRest (ReadsUpTo n) (FirstFaultWithin n) s too_deep
 frames_or_deep n N nested s [] r pairs l h = inl h
 frames_or_deep n N nested s (f ∷ fs) r pairs l h =
     elim (value_or_deep n N nested h.0 h.1 h.4) [
@@ -111,7 +113,8 @@ value_apart n apart (raw.scoped code e) t d x h holds bars = apart as_document e
 abbrev BarsAt : ℕ → List ℕ → Barrier → Type 0
 BarsAt n s x = BarsFront (ReadsUpTo n) (FirstFaultWithin n) s x
 
-frame_apart : (n : ℕ) → AreApartWithin n → (s : List ℕ) (f : Frame) (r : List ℕ) (v : RawValue) (t : Tree) (x : Barrier) → IsFrame s f r → Means f (value v) → StandsFor (ReadsUpTo n) v t → BarsAt n s x → ⊥
+frame_apart : (n : ℕ) → AreApartWithin n → (s : List ℕ) (f : Frame) (r : List ℕ) (v : RawValue) (t : Tree) (x : Barrier) → IsFrame s f r → Means f (value v)
+    → StandsFor (ReadsUpTo n) v t → BarsAt n s x → ⊥
 frame_apart n apart s f r v t x at m h (inl stop) =
     let fault = some_fault (λ y. IsStop s y.fault y.key) x stop in
     no_frame_at_stop s fault.0.fault fault.0.key fault.1 f r at
@@ -132,7 +135,8 @@ final_apart n s x e (inl stop) =
     no_stop_at_final s fault.0.fault fault.0.key e fault.1
 final_apart n s x e (inr bars) = no_frame_at_final s e bars.0 bars.1 bars.2
 
-walk_apart : (n : ℕ) → AreApartWithin n → (s : List ℕ) (frames passed : List Frame) (r : List ℕ) (pairs : List (List ℕ × Tree)) (x : Barrier) → IsWalk s frames Done → StandForEach (ReadsUpTo n) frames pairs → LeadsTo s passed r → BarsAt n r x → ⊥
+walk_apart : (n : ℕ) → AreApartWithin n → (s : List ℕ) (frames passed : List Frame) (r : List ℕ) (pairs : List (List ℕ × Tree)) (x : Barrier)
+    → IsWalk s frames Done → StandForEach (ReadsUpTo n) frames pairs → LeadsTo s passed r → BarsAt n r x → ⊥
 walk_apart n apart s [] [] r pairs x w h l bars = final_apart n s x w (subst (λ (y : List ℕ). BarsAt n y x) (sym l) bars)
 walk_apart n apart s [] (g ∷ passed) r pairs x w h l bars = no_frame_at_final s w g l.0 l.1
 walk_apart n apart s (f ∷ frames) [] r pairs x w h l bars = frame_apart n apart s f w.0 h.0 h.1 x w.1 h.3 h.4 (subst (λ (y : List ℕ). BarsAt n y x) (sym l) bars)

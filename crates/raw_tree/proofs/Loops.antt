@@ -82,7 +82,8 @@ stands_on N M on (raw.array d) t h = on as_array d t h
 stands_on N M on (raw.scoped code d) t h = (h.0, on as_document d (document h.0) h.1, h.2)
 
 -- so do the values of frames
-stand_each_on : (N M : Sort → List ℕ → Tree → Type 0) → ((sort : Sort) (b : List ℕ) (t : Tree) → N sort b t → M sort b t) → (fs : List Frame) (pairs : List (List ℕ × Tree)) → StandForEach N fs pairs → StandForEach M fs pairs
+stand_each_on : (N M : Sort → List ℕ → Tree → Type 0) → ((sort : Sort) (b : List ℕ) (t : Tree) → N sort b t → M sort b t)
+    → (fs : List Frame) (pairs : List (List ℕ × Tree)) → StandForEach N fs pairs → StandForEach M fs pairs
 stand_each_on N M on [] pairs h = h
 stand_each_on N M on (f ∷ fs) pairs h = (h.0, h.1, h.2, h.3, stands_on N M on h.0 h.1 h.4, h.5, stand_each_on N M on fs h.2 h.6)
 
@@ -116,7 +117,8 @@ stand_each_level (f ∷ fs) pairs h =
     (n, (h.0, h.1, h.2, h.3, here, h.5, behind))
 
 -- bytes whose walk is done and whose frames all stand for trees are read
-pub reads_of : (sort : Sort) (b : List ℕ) (frames : List Frame) (pairs : List (List ℕ × Tree)) → IsWalk (drop 4 b) frames Done → StandForEach ReadsAs frames pairs → ReadsAs sort b (tree_of_pairs sort pairs)
+pub reads_of : (sort : Sort) (b : List ℕ) (frames : List Frame) (pairs : List (List ℕ × Tree)) → IsWalk (drop 4 b) frames Done
+    → StandForEach ReadsAs frames pairs → ReadsAs sort b (tree_of_pairs sort pairs)
 reads_of sort b frames pairs w h =
     let each = stand_each_level frames pairs h in
     (suc each.0, (pairs, (frames, w, each.1), refl))
@@ -124,20 +126,24 @@ reads_of sort b frames pairs w h =
 -- a caller's loop
 
 -- one frame more is read
-pub stand_more : (Nested : Sort → List ℕ → Tree → Type 0) (fs : List Frame) (pairs : List (List ℕ × Tree)) (f : Frame) (v : RawValue) (t : Tree) → StandForEach Nested fs pairs → Means f (value v) → StandsFor Nested v t → StandForEach Nested (fs ++ f ∷ []) (pairs ++ (f.key, t) ∷ [])
+pub stand_more : (Nested : Sort → List ℕ → Tree → Type 0) (fs : List Frame) (pairs : List (List ℕ × Tree)) (f : Frame) (v : RawValue) (t : Tree)
+    → StandForEach Nested fs pairs → Means f (value v) → StandsFor Nested v t → StandForEach Nested (fs ++ f ∷ []) (pairs ++ (f.key, t) ∷ [])
 stand_more Nested [] pairs f v t h m st = (v, t, [], m, st, ap (λ x. x ++ (f.key, t) ∷ []) h, refl)
 stand_more Nested (g ∷ fs) pairs f v t h m st =
     (h.0, h.1, h.2 ++ (f.key, t) ∷ [], h.3, h.4, ap (λ x. x ++ (f.key, t) ∷ []) h.5, stand_more Nested fs h.2 f v t h.6 m st)
 
 -- behind the frames that are read the walk stops
-pub fault_at_stop : (b : List ℕ) (passed : List Frame) (pairs : List (List ℕ × Tree)) (s : List ℕ) (fault : KeyedFault) → LeadsTo (drop 4 b) passed s → StandForEach ReadsAs passed pairs → IsStop s fault.fault fault.key → FirstFault b fault
+pub fault_at_stop : (b : List ℕ) (passed : List Frame) (pairs : List (List ℕ × Tree)) (s : List ℕ) (fault : KeyedFault) → LeadsTo (drop 4 b) passed s
+    → StandForEach ReadsAs passed pairs → IsStop s fault.fault fault.key → FirstFault b fault
 fault_at_stop b passed pairs s fault l h stop = (1, (passed, pairs, s, l, h, inl stop))
 
 -- a frame behind them means a fault
-pub fault_at_frame : (b : List ℕ) (passed : List Frame) (pairs : List (List ℕ × Tree)) (s : List ℕ) (f : Frame) (r : List ℕ) (fault : KeyedFault) → LeadsTo (drop 4 b) passed s → StandForEach ReadsAs passed pairs → IsFrame s f r → Means f (faulty fault) → FirstFault b fault
+pub fault_at_frame : (b : List ℕ) (passed : List Frame) (pairs : List (List ℕ × Tree)) (s : List ℕ) (f : Frame) (r : List ℕ) (fault : KeyedFault)
+    → LeadsTo (drop 4 b) passed s → StandForEach ReadsAs passed pairs → IsFrame s f r → Means f (faulty fault) → FirstFault b fault
 fault_at_frame b passed pairs s f r fault l h at m = (1, (passed, pairs, s, l, h, inr (f, r, at, inl m)))
 
 -- nested bytes of a frame behind them have a fault
-pub fault_inside : (b : List ℕ) (passed : List Frame) (pairs : List (List ℕ × Tree)) (s : List ℕ) (f : Frame) (r : List ℕ) (v : RawValue) (fault : KeyedFault) → LeadsTo (drop 4 b) passed s → StandForEach ReadsAs passed pairs → IsFrame s f r → Means f (value v) → FirstFaultOfValue v fault → FirstFault b fault
+pub fault_inside : (b : List ℕ) (passed : List Frame) (pairs : List (List ℕ × Tree)) (s : List ℕ) (f : Frame) (r : List ℕ) (v : RawValue) (fault : KeyedFault)
+    → LeadsTo (drop 4 b) passed s → StandForEach ReadsAs passed pairs → IsFrame s f r → Means f (value v) → FirstFaultOfValue v fault → FirstFault b fault
 fault_inside b passed pairs s f r v fault l h at m inside =
     (suc inside.2.0, (passed, pairs, s, l, h, inr (f, r, at, inr (v, m, (inside.0, inside.1, inside.2.1)))))

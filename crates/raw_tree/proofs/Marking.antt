@@ -1,11 +1,12 @@
 -- Marks of keys in a table: what a free slot says, and that marks stay.
-use Rattle.std.proofs.Common.{zero, suc, inl, inr, nat_cmp, ◌≡◌, ◌≢◌, ◌<◌, ◌≤◌, ◌+◌, ◌++◌, ◌∷◌, [], ℕ, List, Bor, Some, length, take, get_or, arith, ap, refl, sym, subst, ◌∙◌}
+use Rattle.std.proofs.Common.{zero, suc, inl, inr, nat_cmp, ◌≡◌, ◌≢◌, ◌<◌, ◌≤◌, ◌+◌, ◌++◌, ◌∷◌, [], ℕ, List, Bor, Some, length, take, get_or, arith, ap, refl, sym, subst, ◌∙◌, Bool, true, false}
 use Rattle.std.proofs.Math.ListN.{set, length-set}
 use Rattle.std.proofs.lemmas.Cmp.{by_ranked, ranked}
 use Rattle.std.proofs.lemmas.List.{get_or-set_same, map-append, take_more, take_all}
 use Rattle.std.proofs.lemmas.List.Elements.{Contains-push_cases}
 use Rattle.std.proofs.lemmas.Option.{slice_get-get_or, slice_get_within}
 use Rattle.std.specs.List.{slice_get}
+use Rattle.raw_tree.specs.KeySets.{InsertsKey}
 use Rattle.raw_tree.specs.Marks.{mark_of, AreMarked, AreTaken, IsFreeFrom, IsMarkAt, IsMarked}
 use Rattle.raw_tree.specs.References.{texts}
 use Rattle.raw_tree.specs.declared.marks.Marks.{Marks}
@@ -42,7 +43,8 @@ passed_none slots start mark = record {
 }
 
 -- up to the next place, if up to this one
-one_more : (slots : List ℕ) (start at other : ℕ) → ((i : ℕ) → start ≤ i → i < at → slice_get slots i ≢ Some other) → slice_get slots at ≢ Some other → (i : ℕ) → start ≤ i → i < at + 1 → slice_get slots i ≢ Some other
+one_more : (slots : List ℕ) (start at other : ℕ) → ((i : ℕ) → start ≤ i → i < at → slice_get slots i ≢ Some other) → slice_get slots at ≢ Some other → (i : ℕ)
+    → start ≤ i → i < at + 1 → slice_get slots i ≢ Some other
 one_more slots start at other before here i s l e =
     by_ranked (i < at) (i ≡ at) (at < i) (nat_cmp i at) (ranked i at (nat_cmp i at) refl)
     (λ _ m. before i s m e)
@@ -69,6 +71,9 @@ free_here slots start mark at slot p is none = record {
   taken = p.taken;
   apart = p.apart;
 }
+
+pub mark_here : (slots : List ℕ) (start mark at slot : ℕ) → ArePassed slots start mark at → slice_get slots at ≡ Some slot → slot ≡ mark → IsMarkAt slots start mark
+mark_here slots start mark at slot p is same = (at, p.behind, is ∙ ap Some same, p.taken)
 
 pub none_marked : (slots : List ℕ) (start mark at : ℕ) → mark ≢ 0 → IsFreeFrom slots start mark at → ¬ IsMarkAt slots start mark
 none_marked slots start mark at some f h =
@@ -113,8 +118,18 @@ texts_more refs i d l = ap texts (take_more refs i d l) ∙ texts_push (take i r
 pub texts_all : (refs : List (Bor (List ℕ))) (i : ℕ) → length refs ≤ i → texts (take i refs) ≡ texts refs
 texts_all refs i l = ap texts (take_all i refs l)
 
-pub marked_each : (refs : List (Bor (List ℕ))) (i : ℕ) (d : Bor (List ℕ)) (old new : Marks) → i < length refs → AreMarked old (texts (take i refs)) → ((k : List ℕ) → IsMarked old k → IsMarked new k) → IsMarked new (get_or refs i d).now → AreMarked new (texts (take (i + 1) refs))
+pub marked_each : (refs : List (Bor (List ℕ))) (i : ℕ) (d : Bor (List ℕ)) (old new : Marks) → i < length refs → AreMarked old (texts (take i refs))
+    → ((k : List ℕ) → IsMarked old k → IsMarked new k) → IsMarked new (get_or refs i d).now → AreMarked new (texts (take (i + 1) refs))
 marked_each refs i d old new l h kept here = subst (AreMarked new) (sym (texts_more refs i d l)) (marked_more old new (texts (take i refs)) (get_or refs i d).now h kept here)
 
 pub marked_push : (refs after : List (Bor (List ℕ))) (key : Bor (List ℕ)) (marks : Marks) → after ≡ refs ++ key ∷ [] → AreMarked marks (texts refs ++ key.now ∷ []) → AreMarked marks (texts after)
 marked_push refs after key marks e h = subst (AreMarked marks) (sym (ap texts e ∙ texts_push refs key)) h
+
+pub marked_kept : (old new : Marks) (keys after : List (List ℕ)) → ((k : List ℕ) → IsMarked old k → IsMarked new k) → after ≡ keys → AreMarked old keys → AreMarked new after
+marked_kept old new keys after kept same h = subst (AreMarked new) (sym same) (λ k c. kept k (h k c))
+
+-- a key that was there or was put last
+pub marked_inserted : (old new : Marks) (before after : List (List ℕ)) (key : List ℕ) (b : Bool) → AreMarked old before
+    → ((k : List ℕ) → IsMarked old k → IsMarked new k) → IsMarked new key → InsertsKey before key b after → AreMarked new after
+marked_inserted old new before after key true h kept here inserts = subst (AreMarked new) (sym inserts.1) (marked_more old new before key h kept here)
+marked_inserted old new before after key false h kept here inserts = subst (AreMarked new) (sym inserts.1) (λ k c. kept k (h k c))

@@ -24,5 +24,6 @@ noted_more old new keys key h kept here k c =
       | inr e ↦ subst (λ (x : List ℕ). HasNote new (note_of x)) e here
     ]
 
-pub noted_each : (refs : List (Bor (List ℕ))) (i : ℕ) (d : Bor (List ℕ)) (old new : ℕ) → i < length refs → AreNoted old (texts (take i refs)) → ((n : ℕ) → HasNote old n → HasNote new n) → HasNote new (note_of (get_or refs i d).now) → AreNoted new (texts (take (i + 1) refs))
+pub noted_each : (refs : List (Bor (List ℕ))) (i : ℕ) (d : Bor (List ℕ)) (old new : ℕ) → i < length refs → AreNoted old (texts (take i refs))
+    → ((n : ℕ) → HasNote old n → HasNote new n) → HasNote new (note_of (get_or refs i d).now) → AreNoted new (texts (take (i + 1) refs))
 noted_each refs i d old new l h kept here = subst (AreNoted new) (sym (texts_more refs i d l)) (noted_more old new (texts (take i refs)) (get_or refs i d).now h kept here)

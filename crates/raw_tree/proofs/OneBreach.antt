@@ -26,7 +26,8 @@ module _ (N : Sort → List ℕ → List ℕ → Cause → Type 0) (apart : (sor
   value_nor_breach (raw.array d) path why c b = apart as_array d path why b c
   value_nor_breach (raw.scoped code d) path why c b = apart as_document d path why b c
 
-  frame_nor_breach : (s : List ℕ) (f : Frame) (r : List ℕ) (sort : Sort) (keys : List (List ℕ)) (v : RawValue) (path : List ℕ) (why : Cause) → IsFrame s f r → Means f (value v) → IsValueCanonical IsCanonicalAs v → AreKeysCanonical sort (keys ++ f.key ∷ []) → BreachesFront N sort keys s path why → ⊥
+  frame_nor_breach : (s : List ℕ) (f : Frame) (r : List ℕ) (sort : Sort) (keys : List (List ℕ)) (v : RawValue) (path : List ℕ) (why : Cause) → IsFrame s f r
+      → Means f (value v) → IsValueCanonical IsCanonicalAs v → AreKeysCanonical sort (keys ++ f.key ∷ []) → BreachesFront N sort keys s path why → ⊥
   frame_nor_breach s f r sort keys v path why stands means c more b =
       elim b [
         | inl stop ↦ no_frame_at_stop s stop.0 stop.1 stop.2 f r stands
@@ -39,7 +40,9 @@ module _ (N : Sort → List ℕ → List ℕ → Cause → Type 0) (apart : (sor
             ])
       ]
 
-  rest_nor_breach : (frames passed : List Frame) (sort : Sort) (ks : List (List ℕ)) (s r path : List ℕ) (why : Cause) → IsWalk s frames Done → AreFramesCanonical IsCanonicalAs frames → AreKeysCanonical sort (ks ++ keys_of_frames frames) → LeadsTo s passed r → BreachesFront N sort (ks ++ keys_of_frames passed) r path why → ⊥
+  rest_nor_breach : (frames passed : List Frame) (sort : Sort) (ks : List (List ℕ)) (s r path : List ℕ) (why : Cause) → IsWalk s frames Done
+      → AreFramesCanonical IsCanonicalAs frames → AreKeysCanonical sort (ks ++ keys_of_frames frames) → LeadsTo s passed r
+      → BreachesFront N sort (ks ++ keys_of_frames passed) r path why → ⊥
   rest_nor_breach [] [] sort ks s r path why w c k l b =
       elim b [
         | inl stop ↦ no_stop_at_final r stop.0 stop.1 (sym l ∙ w) stop.2
@@ -52,8 +55,11 @@ module _ (N : Sort → List ℕ → List ℕ → Cause → Type 0) (apart : (sor
       frame_nor_breach s f w.0 sort ks c.0 path why w.1 c.1 c.2 more here
   rest_nor_breach (f ∷ frames) (g ∷ passed) sort ks s r path why w c k l b =
       let same = one_frame s g f l.0 w.0 l.1 w.1 in
-      let on : BreachesFront N sort ((ks ++ f.key ∷ []) ++ keys_of_frames passed) r path why = subst (λ (x : List (List ℕ)). BreachesFront N sort x r path why) (ap (λ (x : Frame). ks ++ x.key ∷ keys_of_frames passed) same.0 ∙ keys_shift ks f.key passed) b in
-      rest_nor_breach frames passed sort (ks ++ f.key ∷ []) w.0 r path why w.2 c.3 (subst (AreKeysCanonical sort) (keys_shift ks f.key frames) k) (subst (λ (x : List ℕ). LeadsTo x passed r) same.1 l.2) on
+      let on : BreachesFront N sort ((ks ++ f.key ∷ []) ++ keys_of_frames passed) r path why =
+      subst (λ (x : List (List ℕ)). BreachesFront N sort x r path why)
+      (ap (λ (x : Frame). ks ++ x.key ∷ keys_of_frames passed) same.0 ∙ keys_shift ks f.key passed) b in
+      rest_nor_breach frames passed sort (ks ++ f.key ∷ []) w.0 r path why w.2 c.3 (subst (AreKeysCanonical sort) (keys_shift ks f.key frames) k)
+      (subst (λ (x : List ℕ). LeadsTo x passed r) same.1 l.2) on
 
 -- so it is at any level
 nor_breach : (n : ℕ) (sort : Sort) (b path : List ℕ) (why : Cause) → HasBreachUpTo n sort b path why → ¬ IsCanonicalAs sort b
@@ -63,18 +69,25 @@ nor_breach (suc n) sort b path why h (suc m, c) =
     rest_nor_breach (HasBreachUpTo n) (nor_breach n) c.0 h.0 sort [] (drop 4 b) h.1 h.2 why c.1 (frames_canonical_on (IsCanonicalUpTo m) IsCanonicalAs (λ t d i. (m, i)) c.0 c.3) c.2 h.3 h.6
 
 -- two breaches are behind the same frames
-module _ (N M : Sort → List ℕ → List ℕ → Cause → Type 0) (n_apart : (sort : Sort) (b path : List ℕ) (why : Cause) → N sort b path why → ¬ IsCanonicalAs sort b) (m_apart : (sort : Sort) (b path : List ℕ) (why : Cause) → M sort b path why → ¬ IsCanonicalAs sort b) where
-  same_passed : (ps qs : List Frame) (sort : Sort) (ks : List (List ℕ)) (s r t path other : List ℕ) (why cause : Cause) → LeadsTo s ps r → AreFramesCanonical IsCanonicalAs ps → AreKeysCanonical sort (ks ++ keys_of_frames ps) → BreachesFront N sort (ks ++ keys_of_frames ps) r path why
+module _ (N M : Sort → List ℕ → List ℕ → Cause → Type 0) (n_apart : (sort : Sort) (b path : List ℕ) (why : Cause) → N sort b path why → ¬ IsCanonicalAs sort b)
+    (m_apart : (sort : Sort) (b path : List ℕ) (why : Cause) → M sort b path why → ¬ IsCanonicalAs sort b) where
+  same_passed : (ps qs : List Frame) (sort : Sort) (ks : List (List ℕ)) (s r t path other : List ℕ) (why cause : Cause) → LeadsTo s ps r
+      → AreFramesCanonical IsCanonicalAs ps → AreKeysCanonical sort (ks ++ keys_of_frames ps) → BreachesFront N sort (ks ++ keys_of_frames ps) r path why
       → LeadsTo s qs t → AreFramesCanonical IsCanonicalAs qs → AreKeysCanonical sort (ks ++ keys_of_frames qs) → BreachesFront M sort (ks ++ keys_of_frames qs) t other cause → (ps ≡ qs) × (r ≡ t)
   same_passed [] [] sort ks s r t path other why cause l c k b l2 c2 k2 b2 = (refl, sym l ∙ l2)
   same_passed [] (g ∷ qs) sort ks s r t path other why cause l c k b l2 c2 k2 b2 =
-      absurd (frame_nor_breach N n_apart s g l2.0 sort ks c2.0 path why l2.1 c2.1 c2.2 (keys_front sort (ks ++ g.key ∷ []) (keys_of_frames qs) (subst (AreKeysCanonical sort) (keys_shift ks g.key qs) k2)) (rw (← append-nil ks, l) b))
+      absurd (frame_nor_breach N n_apart s g l2.0 sort ks c2.0 path why l2.1 c2.1 c2.2
+      (keys_front sort (ks ++ g.key ∷ []) (keys_of_frames qs) (subst (AreKeysCanonical sort) (keys_shift ks g.key qs) k2)) (rw (← append-nil ks, l) b))
   same_passed (f ∷ ps) [] sort ks s r t path other why cause l c k b l2 c2 k2 b2 =
-      absurd (frame_nor_breach M m_apart s f l.0 sort ks c.0 other cause l.1 c.1 c.2 (keys_front sort (ks ++ f.key ∷ []) (keys_of_frames ps) (subst (AreKeysCanonical sort) (keys_shift ks f.key ps) k)) (rw (← append-nil ks, l2) b2))
+      absurd (frame_nor_breach M m_apart s f l.0 sort ks c.0 other cause l.1 c.1 c.2
+      (keys_front sort (ks ++ f.key ∷ []) (keys_of_frames ps) (subst (AreKeysCanonical sort) (keys_shift ks f.key ps) k)) (rw (← append-nil ks, l2) b2))
   same_passed (f ∷ ps) (g ∷ qs) sort ks s r t path other why cause l c k b l2 c2 k2 b2 =
       let same = one_frame s g f l2.0 l.0 l2.1 l.1 in
       let shift : ks ++ g.key ∷ keys_of_frames qs ≡ (ks ++ f.key ∷ []) ++ keys_of_frames qs = ap (λ (x : Frame). ks ++ x.key ∷ keys_of_frames qs) same.0 ∙ keys_shift ks f.key qs in
-      let on = same_passed ps qs sort (ks ++ f.key ∷ []) l.0 r t path other why cause l.2 c.3 (subst (AreKeysCanonical sort) (keys_shift ks f.key ps) k) (subst (λ (x : List (List ℕ)). BreachesFront N sort x r path why) (keys_shift ks f.key ps) b) (subst (λ (x : List ℕ). LeadsTo x qs t) same.1 l2.2) c2.3 (subst (AreKeysCanonical sort) shift k2) (subst (λ (x : List (List ℕ)). BreachesFront M sort x t other cause) shift b2) in
+      let on = same_passed ps qs sort (ks ++ f.key ∷ []) l.0 r t path other why cause l.2 c.3 (subst (AreKeysCanonical sort) (keys_shift ks f.key ps) k)
+      (subst (λ (x : List (List ℕ)). BreachesFront N sort x r path why) (keys_shift ks f.key ps) b)
+      (subst (λ (x : List ℕ). LeadsTo x qs t) same.1 l2.2) c2.3 (subst (AreKeysCanonical sort) shift k2)
+      (subst (λ (x : List (List ℕ)). BreachesFront M sort x t other cause) shift b2) in
       (λ i. sym same.0 i ∷ on.0 i, on.1)
 
   -- and are the same there, where those of nested bytes are
@@ -90,7 +103,8 @@ module _ (N M : Sort → List ℕ → List ℕ → Cause → Type 0) (n_apart : 
     one_of_meaning (value (raw.array d)) path other why cause b c = one as_array d path other why cause b c
     one_of_meaning (value (raw.scoped code d)) path other why cause b c = one as_document d path other why cause b c
 
-    one_of_frame : (sort : Sort) (keys : List (List ℕ)) (f : Frame) (path other : List ℕ) (why cause : Cause) → BreachesFrame N sort keys f path why → BreachesFrame M sort keys f other cause → (other ≡ path) × (cause ≡ why)
+    one_of_frame : (sort : Sort) (keys : List (List ℕ)) (f : Frame) (path other : List ℕ) (why cause : Cause) → BreachesFrame N sort keys f path why
+        → BreachesFrame M sort keys f other cause → (other ≡ path) × (cause ≡ why)
     one_of_frame sort keys f path other why cause b c =
         elim b [
           | inl x ↦ elim c [
@@ -103,7 +117,8 @@ module _ (N M : Sort → List ℕ → List ℕ → Cause → Type 0) (n_apart : 
           ]
         ]
 
-    one_of_front : (sort : Sort) (keys : List (List ℕ)) (r path other : List ℕ) (why cause : Cause) → BreachesFront N sort keys r path why → BreachesFront M sort keys r other cause → (other ≡ path) × (cause ≡ why)
+    one_of_front : (sort : Sort) (keys : List (List ℕ)) (r path other : List ℕ) (why cause : Cause) → BreachesFront N sort keys r path why
+        → BreachesFront M sort keys r other cause → (other ≡ path) × (cause ≡ why)
     one_of_front sort keys r path other why cause b c =
         elim b [
           | inl x ↦ elim c [

@@ -83,14 +83,17 @@ abbrev AreApart : (Sort → List ℕ → Tree → Type 0) → (List ℕ → Keye
 AreApart N Inner = (sort : Sort) (b : List ℕ) (t : Tree) (x : KeyedFault) → N sort b t → Inner b x → ⊥
 
 -- then no value stands for a tree and holds nested bytes with the fault
-value_apart : (N : Sort → List ℕ → Tree → Type 0) (Inner : List ℕ → KeyedFault → Type 0) → AreApart N Inner → (v : RawValue) (t : Tree) (d : List ℕ) (x : KeyedFault) → StandsFor N v t → Holds v d → Inner d x → ⊥
+value_apart : (N : Sort → List ℕ → Tree → Type 0) (Inner : List ℕ → KeyedFault → Type 0) → AreApart N Inner
+    → (v : RawValue) (t : Tree) (d : List ℕ) (x : KeyedFault) → StandsFor N v t → Holds v d → Inner d x → ⊥
 value_apart N Inner apart (raw.single l) t d x h holds bad = holds
 value_apart N Inner apart (raw.document e) t d x h holds bad = apart as_document e t x h (subst (λ (y : List ℕ). Inner y x) holds bad)
 value_apart N Inner apart (raw.array e) t d x h holds bad = apart as_array e t x h (subst (λ (y : List ℕ). Inner y x) holds bad)
 value_apart N Inner apart (raw.scoped code e) t d x h holds bad = apart as_document e (document h.0) x h.1 (subst (λ (y : List ℕ). Inner y x) holds bad)
 
 -- no frame at the front whose value stands for a tree has the fault
-frame_apart : (N : Sort → List ℕ → Tree → Type 0) (Inner : List ℕ → KeyedFault → Type 0) → AreApart N Inner → (s : List ℕ) (f : Frame) (r : List ℕ) (v : RawValue) (t : Tree) (x : KeyedFault) → IsFrame s f r → Means f (value v) → StandsFor N v t → FailsAt Inner s x → ⊥
+frame_apart : (N : Sort → List ℕ → Tree → Type 0) (Inner : List ℕ → KeyedFault → Type 0) → AreApart N Inner
+    → (s : List ℕ) (f : Frame) (r : List ℕ) (v : RawValue) (t : Tree) (x : KeyedFault) → IsFrame s f r → Means f (value v) → StandsFor N v t → FailsAt Inner s x
+    → ⊥
 frame_apart N Inner apart s f r v t x at m h (inl stop) = no_frame_at_stop s x.fault x.key stop f r at
 frame_apart N Inner apart s f r v t x at m h (inr bad) =
     let frames : bad.0 ≡ f = (one_frame s bad.0 f bad.1 r bad.2 at).0 in
@@ -107,7 +110,9 @@ final_apart Inner s x e (inl stop) = no_stop_at_final s x.fault x.key e stop
 final_apart Inner s x e (inr bad) = no_frame_at_final s e bad.0 bad.1 bad.2
 
 -- along a walk whose frames all stand for trees the fault is nowhere
-walk_apart : (N : Sort → List ℕ → Tree → Type 0) (Inner : List ℕ → KeyedFault → Type 0) → AreApart N Inner → (s : List ℕ) (frames passed : List Frame) (r : List ℕ) (pairs : List (List ℕ × Tree)) (x : KeyedFault) → IsWalk s frames Done → StandForEach N frames pairs → LeadsTo s passed r → FailsAt Inner r x → ⊥
+walk_apart : (N : Sort → List ℕ → Tree → Type 0) (Inner : List ℕ → KeyedFault → Type 0) → AreApart N Inner
+    → (s : List ℕ) (frames passed : List Frame) (r : List ℕ) (pairs : List (List ℕ × Tree)) (x : KeyedFault) → IsWalk s frames Done
+    → StandForEach N frames pairs → LeadsTo s passed r → FailsAt Inner r x → ⊥
 walk_apart N Inner apart s [] [] r pairs x w h l bad = final_apart Inner s x w (subst (λ (y : List ℕ). FailsAt Inner y x) (sym l) bad)
 walk_apart N Inner apart s [] (g ∷ passed) r pairs x w h l bad = no_frame_at_final s w g l.0 l.1
 walk_apart N Inner apart s (f ∷ frames) [] r pairs x w h l bad = frame_apart N Inner apart s f w.0 h.0 h.1 x w.1 h.3 h.4 (subst (λ (y : List ℕ). FailsAt Inner y x) (sym l) bad)
@@ -162,7 +167,8 @@ front_fault_same Inner Other same s x y (inr a) (inr b) =
     frame_fault_same Inner Other same a.0 x y a.3 (rw frames at b.3)
 
 -- frames that stand for trees lead to one fault alone
-pub passed_same : (Inner Other : List ℕ → KeyedFault → Type 0) → AreApart ReadsAs Inner → AreApart ReadsAs Other → (s : List ℕ) (fs gs : List Frame) (r q : List ℕ) (ps qs : List (List ℕ × Tree)) (x y : KeyedFault)
+pub passed_same : (Inner Other : List ℕ → KeyedFault → Type 0) → AreApart ReadsAs Inner → AreApart ReadsAs Other
+    → (s : List ℕ) (fs gs : List Frame) (r q : List ℕ) (ps qs : List (List ℕ × Tree)) (x y : KeyedFault)
     → LeadsTo s fs r → StandForEach ReadsAs fs ps → FailsAt Inner r x → LeadsTo s gs q → StandForEach ReadsAs gs qs → FailsAt Other q y → (fs ≡ gs) × (r ≡ q)
 passed_same Inner Other apart away s [] [] r q ps qs x y l h a m k b = (refl, sym l ∙ m)
 passed_same Inner Other apart away s [] (g ∷ gs) r q ps qs x y l h a m k b =

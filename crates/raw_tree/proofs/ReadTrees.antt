@@ -177,7 +177,8 @@ module _ (OfLeaf : Leaf → Type 0) (OfCode OfKey : List ℕ → Type 0) (OfKeys
   HoldRead N = (sort : Sort) (b : List ℕ) (t : Tree) → IsEnvelope b → N sort b t → IsMet t
 
   -- then in the tree that a frame's value stands for
-  of_value : (N : Sort → List ℕ → Tree → Type 0) → HoldRead N → (s : List ℕ) (f : Frame) (r : List ℕ) (v : RawValue) (t : Tree) → AreBytes s → IsFrame s f r → Means f (value v) → StandsFor N v t → IsMet t
+  of_value : (N : Sort → List ℕ → Tree → Type 0) → HoldRead N → (s : List ℕ) (f : Frame) (r : List ℕ) (v : RawValue) (t : Tree) → AreBytes s → IsFrame s f r
+      → Means f (value v) → StandsFor N v t → IsMet t
   of_value N read s f r (raw.single l) t bytes at m h =
       let proper = leaf_proper f.kind f.payload r l (payload_bytes s f r at bytes) at.payload_is m in
       subst IsMet (sym h) (leaves (leaf_in_order l) proper)
@@ -188,7 +189,8 @@ module _ (OfLeaf : Leaf → Type 0) (OfCode OfKey : List ℕ → Type 0) (OfKeys
       subst IsMet (sym h.2) (codes code (code_text f.kind f.payload code d m), scope.0, scope.1)
 
   -- and in the pairs of a walk
-  of_walk : (N : Sort → List ℕ → Tree → Type 0) → HoldRead N → (s : List ℕ) (frames : List Frame) (pairs : List (List ℕ × Tree)) → AreBytes s → IsWalk s frames Done → StandForEach N frames pairs → InPairs pairs
+  of_walk : (N : Sort → List ℕ → Tree → Type 0) → HoldRead N → (s : List ℕ) (frames : List Frame) (pairs : List (List ℕ × Tree)) → AreBytes s
+      → IsWalk s frames Done → StandForEach N frames pairs → InPairs pairs
   of_walk N read s [] pairs bytes w h = subst InPairs (sym h) tt
   of_walk N read s (f ∷ frames) pairs bytes w h =
       let here = of_value N read s f w.0 h.0 h.1 bytes w.1 h.3 h.4 in

@@ -65,7 +65,8 @@ frames_canonical_level (f ∷ fs) h =
     (n, (h.0, h.1, here, behind))
 
 -- bytes whose walk is done, and whose keys and frames are canonical, are canonical
-pub canonical_of : (sort : Sort) (b : List ℕ) (frames : List Frame) → IsWalk (drop 4 b) frames Done → AreKeysCanonical sort (map (λ f. f.key) frames) → AreFramesCanonical IsCanonicalAs frames → IsCanonicalAs sort b
+pub canonical_of : (sort : Sort) (b : List ℕ) (frames : List Frame) → IsWalk (drop 4 b) frames Done → AreKeysCanonical sort (map (λ f. f.key) frames)
+    → AreFramesCanonical IsCanonicalAs frames → IsCanonicalAs sort b
 canonical_of sort b frames w k h =
     let each = frames_canonical_level frames h in
     (suc each.0, (frames, w, k, each.1))
@@ -174,7 +175,8 @@ entries_canonical (entry_then key t es) h = (h.2.value, h.2.means, h.2.canonical
 -- the written elements are bytes
 entries_are_bytes : (es : Entries) → AreReturned es → AreBytes (entries_bytes es)
 entries_are_bytes no_entry h = AreBytes-nil
-entries_are_bytes (entry_then key t es) h = AreBytes-append (element_of (kind_of_tree t) key (tree_payload t)) (entries_bytes es) (AreBytes-element (kind_of_tree t) key (tree_payload t) h.0 h.2.bytes) (entries_are_bytes es h.3)
+entries_are_bytes (entry_then key t es) h = AreBytes-append (element_of (kind_of_tree t) key (tree_payload t)) (entries_bytes es)
+    (AreBytes-element (kind_of_tree t) key (tree_payload t) h.0 h.2.bytes) (entries_are_bytes es h.3)
 
 -- documents and lists
 
@@ -186,7 +188,8 @@ Returns sort b t = IsEnvelope b × ReadsAs sort b t × IsCanonicalAs sort b
 framed_document : (es : Entries) → IsDistinct bytes_eq (keys_in es) → AreReturned es → 5 + entries_len es ≤ max_length → Returns as_document (framed (entries_bytes es)) (document es)
 framed_document es distinct h l =
     let w = entries_walk es h in
-    let same : tree_of_pairs as_document (pairs_in es) ≡ document es = ap (λ ps. document (entries ps)) (keep-distinct (pairs_in es) (rw (keys_of-pairs_in es) distinct)) ∙ ap document (entries-pairs_in es) in
+    let same : tree_of_pairs as_document (pairs_in es) ≡ document es =
+    ap (λ ps. document (entries ps)) (keep-distinct (pairs_in es) (rw (keys_of-pairs_in es) distinct)) ∙ ap document (entries-pairs_in es) in
     let keys : AreKeysCanonical as_document (map (λ f. f.key) (frames_in es)) = rw (keys-frames_in es) distinct in
     let b : List ℕ = framed (entries_bytes es) in (
       framed_is_envelope (entries_bytes es) (AreBytes-framed (entries_bytes es) (entries_are_bytes es h)) (omega (arith, length-entries_bytes es)),
@@ -220,7 +223,8 @@ array_returned : (ts : Trees) → Returns as_array (framed (items_bytes 0 ts)) (
 array_returned ts h = record { bytes = h.0.bytes; shape = λ r. h.0; value = raw.array (framed (items_bytes 0 ts)); means = refl; stands = h.1; canonical = h.2 }
 
 -- a code returns whose scope does
-code_returned : (code : List ℕ) (es : Entries) → IsUtf8 code → Returns as_document (framed (entries_bytes es)) (document es) → 4 + (5 + length code) + (5 + entries_len es) ≤ max_length → IsReturned (code_with_scope code es)
+code_returned : (code : List ℕ) (es : Entries) → IsUtf8 code → Returns as_document (framed (entries_bytes es)) (document es)
+    → 4 + (5 + length code) + (5 + entries_len es) ≤ max_length → IsReturned (code_with_scope code es)
 code_returned code es u h l =
     let scope : List ℕ = framed (entries_bytes es) in
     let inside : List ℕ = string_payload code ++ scope in
@@ -246,11 +250,13 @@ IsTreeProper t = IsWellFormed t × IsNulFree t × DoOptionsAscend t × AreSubtyp
 
 -- each member is proper
 abbrev AreItemsProper : Trees → Type 0
-AreItemsProper ts = InTrees IsLeafInRange IsUtf8 IsUtf8 (IsDistinct bytes_eq) ts × InTrees IsLeafNulFree Whatever NulFree Whatever ts × InTrees DoLeafOptionsAscend Whatever Whatever Whatever ts × InTrees IsLeafSubtypeProper Whatever Whatever Whatever ts
+AreItemsProper ts = InTrees IsLeafInRange IsUtf8 IsUtf8 (IsDistinct bytes_eq) ts × InTrees IsLeafNulFree Whatever NulFree Whatever ts
+    × InTrees DoLeafOptionsAscend Whatever Whatever Whatever ts × InTrees IsLeafSubtypeProper Whatever Whatever Whatever ts
 
 -- each key and tree is proper
 abbrev AreEntriesProper : Entries → Type 0
-AreEntriesProper es = InEntries IsLeafInRange IsUtf8 IsUtf8 (IsDistinct bytes_eq) es × InEntries IsLeafNulFree Whatever NulFree Whatever es × InEntries DoLeafOptionsAscend Whatever Whatever Whatever es × InEntries IsLeafSubtypeProper Whatever Whatever Whatever es
+AreEntriesProper es = InEntries IsLeafInRange IsUtf8 IsUtf8 (IsDistinct bytes_eq) es × InEntries IsLeafNulFree Whatever NulFree Whatever es
+    × InEntries DoLeafOptionsAscend Whatever Whatever Whatever es × InEntries IsLeafSubtypeProper Whatever Whatever Whatever es
 
 mutual
   -- a proper tree of a size in range returns
@@ -264,8 +270,12 @@ mutual
   items_returned : (n : ℕ) (ts : Trees) → AreItemsProper ts → n + items_len n ts ≤ max_length → AreReturned (numbered n ts)
   items_returned n no_tree p b = tt
   items_returned n (tree_then t ts) p b =
-      let small : n < 2 ^ 64 = omega arith in
-      (IsUtf8-from_ascii (decimal n) (IsAscii-decimal n small), decimal_nul_free n small, tree_returned t (p.0.0, p.1.0, p.2.0, p.3.0) (omega arith), items_returned (n + 1) ts (p.0.1, p.1.1, p.2.1, p.3.1) (omega arith))
+      let small : n < 2 ^ 64 = omega arith in (
+        IsUtf8-from_ascii (decimal n) (IsAscii-decimal n small),
+        decimal_nul_free n small,
+        tree_returned t (p.0.0, p.1.0, p.2.0, p.3.0) (omega arith),
+        items_returned (n + 1) ts (p.0.1, p.1.1, p.2.1, p.3.1) (omega arith),
+      )
 
   -- and the entries of a document
   entries_returned : (es : Entries) → AreEntriesProper es → entries_len es ≤ max_length → AreReturned es
@@ -275,9 +285,11 @@ mutual
 
 -- the encoding of a proper document of a size in range has an envelope, is read as that document, and is
 -- canonical
-pub document_returns : (es : Entries) → IsProper (document es) → encoded_len (document es) ≤ max_length → IsEnvelope (encoding (document es)) × ReadsAs as_document (encoding (document es)) (document es) × IsCanonicalAs as_document (encoding (document es))
+pub document_returns : (es : Entries) → IsProper (document es) → encoded_len (document es) ≤ max_length
+    → IsEnvelope (encoding (document es)) × ReadsAs as_document (encoding (document es)) (document es) × IsCanonicalAs as_document (encoding (document es))
 document_returns es p b = framed_document es p.well_formed.0 (entries_returned es (p.well_formed.1, p.nul_free.1, p.options_ascend.1, p.subtypes_proper.1) (omega arith)) b
 
 -- so has the encoding of such a list
-pub array_returns : (ts : Trees) → IsProper (array ts) → encoded_len (array ts) ≤ max_length → IsEnvelope (encoding (array ts)) × ReadsAs as_array (encoding (array ts)) (array ts) × IsCanonicalAs as_array (encoding (array ts))
+pub array_returns : (ts : Trees) → IsProper (array ts) → encoded_len (array ts) ≤ max_length
+    → IsEnvelope (encoding (array ts)) × ReadsAs as_array (encoding (array ts)) (array ts) × IsCanonicalAs as_array (encoding (array ts))
 array_returns ts p b = framed_array ts (items_returned 0 ts (p.well_formed, p.nul_free, p.options_ascend, p.subtypes_proper) (omega arith)) b

@@ -148,7 +148,9 @@ through_value s f r v t at m e k =
     (e ∙ h.0, k ∙ h.1)
 
 -- the tree of a frame's value, which is canonical
-tree_spelled : (N : Sort → List ℕ → Tree → Type 0) (C : Sort → List ℕ → Type 0) → AreSpelled N C → (s : List ℕ) (f : Frame) (r : List ℕ) (v : RawValue) (t : Tree) → IsFrame s f r → Means f (value v) → StandsFor N v t → IsValueCanonical C v → IsTreeSpelled f t
+tree_spelled : (N : Sort → List ℕ → Tree → Type 0) (C : Sort → List ℕ → Type 0) → AreSpelled N C
+    → (s : List ℕ) (f : Frame) (r : List ℕ) (v : RawValue) (t : Tree) → IsFrame s f r → Means f (value v) → StandsFor N v t → IsValueCanonical C v
+    → IsTreeSpelled f t
 tree_spelled N C spelled s f r (raw.single l) t at m h c =
     let kept : leaf_in_order l ≡ l = (leaf_spelled f.kind f.payload r l at.payload_is m).2 c in
     let whole : t ≡ leaf l = h ∙ ap leaf kept in
@@ -164,13 +166,16 @@ tree_spelled N C spelled s f r (raw.scoped code d) t at m h c =
     through_value s f r (raw.scoped code d) t at m (ap tree_payload h.2 ∙ ap (scoped_payload code) inside.0) (ap kind_of_tree h.2)
 
 -- the elements of pairs that are read along a walk, and the final 0, are the bytes of the walk
-walk_spelled : (N : Sort → List ℕ → Tree → Type 0) (C : Sort → List ℕ → Type 0) → AreSpelled N C → (s : List ℕ) (frames : List Frame) (pairs : List (List ℕ × Tree)) → IsWalk s frames Done → StandForEach N frames pairs → AreFramesCanonical C frames → entries_bytes (entries pairs) ++ 0 ∷ [] ≡ s
+walk_spelled : (N : Sort → List ℕ → Tree → Type 0) (C : Sort → List ℕ → Type 0) → AreSpelled N C
+    → (s : List ℕ) (frames : List Frame) (pairs : List (List ℕ × Tree)) → IsWalk s frames Done → StandForEach N frames pairs → AreFramesCanonical C frames
+    → entries_bytes (entries pairs) ++ 0 ∷ [] ≡ s
 walk_spelled N C spelled s [] pairs w h c = ap (λ ps. entries_bytes (entries ps) ++ 0 ∷ []) h ∙ sym w
 walk_spelled N C spelled s (f ∷ frames) pairs w h c =
     let values : c.0 ≡ h.0 = one_value_of f c.0 h.0 c.1 h.3 in
     let here = tree_spelled N C spelled s f w.0 h.0 h.1 w.1 h.3 h.4 (subst (λ (v : RawValue). IsValueCanonical C v) values c.2) in
     let rest : entries_bytes (entries h.2) ++ 0 ∷ [] ≡ w.0 = walk_spelled N C spelled w.0 frames h.2 w.2 h.6 c.3 in
-    let element : element_of (kind_of_tree h.1) f.key (tree_payload h.1) ≡ element_of f.kind f.key f.payload = ap (λ k. element_of k f.key (tree_payload h.1)) here.1 ∙ ap (λ p. element_of f.kind f.key p) here.0 in
+    let element : element_of (kind_of_tree h.1) f.key (tree_payload h.1) ≡ element_of f.kind f.key f.payload =
+    ap (λ k. element_of k f.key (tree_payload h.1)) here.1 ∙ ap (λ p. element_of f.kind f.key p) here.0 in
     ap (λ ps. entries_bytes (entries ps) ++ 0 ∷ []) h.5
     ∙ append_assoc (element_of (kind_of_tree h.1) f.key (tree_payload h.1)) (entries_bytes (entries h.2)) (0 ∷ [])
     ∙ ap (λ (x : List ℕ). x ++ (entries_bytes (entries h.2) ++ 0 ∷ [])) element
@@ -190,7 +195,8 @@ items_are_entries n (p ∷ pairs) h =
     ∙ ap (λ (x : List ℕ). element_of (kind_of_tree p.1) p.0 (tree_payload p.1) ++ x) (items_are_entries (n + 1) pairs h.1)
 
 -- the tree of pairs with canonical keys is encoded as their elements in a frame, and is of its kind
-pairs_spelled : (sort : Sort) (pairs : List (List ℕ × Tree)) → AreKeysCanonical sort (keys_of pairs) → (encoding (tree_of_pairs sort pairs) ≡ framed (entries_bytes (entries pairs))) × (kind_of_tree (tree_of_pairs sort pairs) ≡ kind_of_sort sort)
+pairs_spelled : (sort : Sort) (pairs : List (List ℕ × Tree)) → AreKeysCanonical sort (keys_of pairs)
+    → (encoding (tree_of_pairs sort pairs) ≡ framed (entries_bytes (entries pairs))) × (kind_of_tree (tree_of_pairs sort pairs) ≡ kind_of_sort sort)
 pairs_spelled as_document pairs h = (ap (λ ps. framed (entries_bytes (entries ps))) (keep-distinct pairs h), refl)
 pairs_spelled as_array pairs h = (ap framed (items_are_entries 0 pairs h), refl)
 
@@ -201,7 +207,8 @@ spelled_within (suc n) zero sort b t env h c = absurd c
 spelled_within (suc n) (suc m) sort b t env h c =
     let frames : c.0 ≡ h.1.0 = (one_walk (drop 4 b) c.0 h.1.0 Done Done c.1 h.1.1).0 in
     let each : AreFramesCanonical (IsCanonicalUpTo m) h.1.0 = subst (λ (fs : List Frame). AreFramesCanonical (IsCanonicalUpTo m) fs) frames c.3 in
-    let keys : AreKeysCanonical sort (keys_of h.0) = subst (λ (ks : List (List ℕ)). AreKeysCanonical sort ks) (ap (λ fs. map (λ (f : Frame). f.key) fs) frames ∙ keys_read (ReadsUpTo n) h.1.0 h.0 h.1.2) c.2 in
+    let keys : AreKeysCanonical sort (keys_of h.0) = subst (λ (ks : List (List ℕ)). AreKeysCanonical sort ks)
+    (ap (λ fs. map (λ (f : Frame). f.key) fs) frames ∙ keys_read (ReadsUpTo n) h.1.0 h.0 h.1.2) c.2 in
     let inside = walk_spelled (ReadsUpTo n) (IsCanonicalUpTo m) (spelled_within n m) (drop 4 b) h.1.0 h.0 h.1.1 h.1.2 each in
     let made = pairs_spelled sort h.0 keys in
     (ap encoding h.2 ∙ made.0 ∙ sym (counted_whole b (entries_bytes (entries h.0) ++ 0 ∷ []) env.header (sym inside)), ap kind_of_tree h.2 ∙ made.1)

@@ -1,13 +1,13 @@
--- What a loop over levels knows of the bytes: each level has passed frames that stand for the pairs of its
--- contents, and each but the innermost waits for the value of the frame behind them.
-use Rattle.std.proofs.Common.{◌≡◌, Option, None, Some, inl, inr, ◌+◌, ◌++◌, ◌∷◌, [], ℕ, suc, List, length, Some, drop, arith, ap, refl, sym, ◌∙◌, subst, map, length-append, Vec, Global}
+-- What a loop over levels knows of the bytes: each level has passed frames that stand for the pairs that it has
+-- drafted, and each but the innermost waits for the value of the frame behind them.
+use Rattle.std.proofs.Common.{◌≡◌, ◌⊎◌, Option, None, Some, inl, inr, ◌+◌, ◌++◌, ◌∷◌, [], ℕ, suc, List, length, Some, drop, arith, ap, refl, sym, ◌∙◌, subst, map, length-append, Vec, Global}
 use Rattle.std.proofs.lemmas.List.{map-append}
 use denote.Ref.{Bor}
-use Rattle.bson_model.specs.Pairs.{with_pair}
+use Rattle.std.specs.List.{zip}
+use Rattle.bson_model.specs.Pairs.{keep}
 use Rattle.bson_model.specs.Tree.{Tree, document, array, code_with_scope, trees, entries, tree_of, with_trees, pairs_of}
 use Rattle.bson_model.specs.declared.bson.Bson.{Bson}
 use Rattle.bson_model.specs.declared.bson.Document.{Document}
-use Rattle.bson_model.proofs.Face.{keep-last}
 use Rattle.raw_view.specs.ElementSteps.{HasRead}
 use Rattle.raw_view.specs.Envelope.{IsEnvelope}
 use Rattle.raw_view.specs.Frame.{Frame, IsFrame, LeadsTo}
@@ -15,11 +15,12 @@ use Rattle.raw_view.specs.Meaning.{RawValue, KeyedFault, Means, value}
 use Rattle.raw_view.specs.Meaning as raw
 use Rattle.raw_view.proofs.Face.{LeadsTo-more}
 use Rattle.raw_tree.specs.FrameCount.{CountsIn, CountsFrames, HasFrameCount, HasFramesToFault}
-use Rattle.raw_tree.specs.Levels.{sort_of, holding, holder_of, tree_of_contents, AreContents, IsOneMore, HoldsNone, Closes}
+use Rattle.raw_tree.specs.Levels.{sort_of, holding, holder_of, tree_of_contents, texts_of, AreColumns, AreDrafted, IsPairMore, IsSameDraft, HoldsNone, Closes, Finishes, Ends}
 use Rattle.raw_tree.specs.WithinLimits.{Barrier, FirstFaultWithin}
 use Rattle.raw_tree.specs.Reading.{Sort, as_document, as_array, tree_of_pairs, StandsFor, StandForEach, ReadsUpTo, ReadsAs, Holds, FirstFault}
 use Rattle.raw_tree.specs.declared.levels.Contents.{Contents}
 use Rattle.raw_tree.specs.declared.levels.Contents.TheVariants as contents
+use Rattle.raw_tree.specs.declared.levels.Draft.{Draft}
 use Rattle.raw_tree.specs.declared.levels.Holder.{Holder}
 use Rattle.raw_tree.specs.declared.levels.Holder.TheVariants as of
 use Rattle.raw_tree.specs.declared.levels.Level.{Level}
@@ -31,28 +32,99 @@ use Rattle.raw_tree.proofs.OneTree.{one_tree}
 
 -- contents
 
--- the tree of contents is that of their pairs
-pub contents_tree : (c : Contents) (pairs : List (List ℕ × Tree)) → AreContents c pairs → tree_of_contents c ≡ tree_of_pairs (sort_of (holder_of c)) pairs
-contents_tree (contents.Document None d) pairs h = ap (λ ps. document (entries ps)) h
-contents_tree (contents.Document (Some code) d) pairs h = ap (λ ps. document (entries ps)) h
-contents_tree (contents.Array l) pairs h = ap (λ ts. array (trees ts)) h
+-- nothing is drafted
+pub drafted_none : (h : Holder) (d : Draft) → d.keys.items ≡ [] → d.values.items ≡ [] → AreDrafted h d []
+drafted_none of.Document d k v = (ap texts_of k, ap (λ vs. map tree_of vs) v)
+drafted_none of.Array d k v = ap (λ vs. map tree_of vs) v
+drafted_none (of.Code _) d k v = (ap texts_of k, ap (λ vs. map tree_of vs) v)
 
--- a pair put into a document
-same_holder : (code : Option (Bor (List ℕ))) (old new : Document) → holder_of (contents.Document code new) ≡ holder_of (contents.Document code old)
-same_holder None old new = refl
-same_holder (Some code) old new = refl
+no_trees : (pairs : List (List ℕ × Tree)) → [] ≡ map (λ (p : List ℕ × Tree). p.1) pairs → pairs ≡ []
+no_trees [] h = refl
+no_trees (p ∷ ps) h = absurd (omega (arith, ap length h))
 
-pub document_more : (code : Option (Bor (List ℕ))) (old new : Document) (key : List ℕ) (t : Tree) → with_trees (pairs_of new) ≡ with_pair key t (with_trees (pairs_of old)) → IsOneMore (contents.Document code old) key t (contents.Document code new)
-document_more code old new key t e =
-    (same_holder code old new, λ pairs h. e ∙ ap (λ ps. with_pair key t ps) h ∙ sym (keep-last pairs key t))
+values_none : (h : Holder) (d : Draft) (pairs : List (List ℕ × Tree)) → d.values.items ≡ [] → AreDrafted h d pairs → pairs ≡ []
+values_none of.Document d pairs e h = no_trees pairs (sym (ap (λ vs. map tree_of vs) e) ∙ h.1)
+values_none of.Array d pairs e h = no_trees pairs (sym (ap (λ vs. map tree_of vs) e) ∙ h)
+values_none (of.Code _) d pairs e h = no_trees pairs (sym (ap (λ vs. map tree_of vs) e) ∙ h.1)
 
--- a value put into a list
-pub list_more : (old new : Vec Bson Global) (key : List ℕ) (v : Bson) → new.items ≡ old.items ++ v ∷ [] → IsOneMore (contents.Array old) key (tree_of v) (contents.Array new)
-list_more old new key v e =
-    (refl, λ pairs h. ap (λ bs. map tree_of bs) e ∙ map-append tree_of old.items (v ∷ []) ∙ ap (λ ts. ts ++ tree_of v ∷ []) h ∙ sym (map-append (λ p. p.1) pairs ((key, tree_of v) ∷ [])))
+-- nothing is drafted anew
+pub same_none : (old new : Draft) → old.values.items ≡ [] → new.keys.items ≡ [] → new.values.items ≡ [] → IsSameDraft old new
+same_none old new e k v h pairs are = rw (values_none h old pairs e are) (drafted_none h new k v)
+
+-- a pair more
+keys_more : (ks : List (List ℕ)) (pairs : List (List ℕ × Tree)) (new : List (List ℕ)) (key : List ℕ) (t : Tree) → new ≡ ks ++ key ∷ []
+    → ks ≡ map (λ (p : List ℕ × Tree). p.0) pairs → new ≡ map (λ (p : List ℕ × Tree). p.0) (pairs ++ (key, t) ∷ [])
+keys_more ks pairs new key t e h = e ∙ ap (λ x. x ++ key ∷ []) h ∙ sym (map-append (λ (p : List ℕ × Tree). p.0) pairs ((key, t) ∷ []))
+
+trees_more : (ts : List Tree) (pairs : List (List ℕ × Tree)) (new : List Tree) (key : List ℕ) (t : Tree) → new ≡ ts ++ t ∷ []
+    → ts ≡ map (λ (p : List ℕ × Tree). p.1) pairs → new ≡ map (λ (p : List ℕ × Tree). p.1) (pairs ++ (key, t) ∷ [])
+trees_more ts pairs new key t e h = e ∙ ap (λ x. x ++ t ∷ []) h ∙ sym (map-append (λ (p : List ℕ × Tree). p.1) pairs ((key, t) ∷ []))
+
+pub columns_more : (old new : Draft) (key : List ℕ) (t : Tree) (pairs : List (List ℕ × Tree)) → IsPairMore old key t new → AreColumns old pairs → AreColumns new (pairs ++ (key, t) ∷ [])
+columns_more old new key t pairs more h =
+    (keys_more (texts_of old.keys.items) pairs (texts_of new.keys.items) key t more.0 h.0, trees_more (map tree_of old.values.items) pairs (map tree_of new.values.items) key t more.1 h.1)
+
+pub values_more : (old new : Draft) (key : List ℕ) (t : Tree) (pairs : List (List ℕ × Tree))
+    → map tree_of new.values.items ≡ map tree_of old.values.items ++ t ∷ [] → map tree_of old.values.items ≡ map (λ (p : List ℕ × Tree). p.1) pairs
+    → map tree_of new.values.items ≡ map (λ (p : List ℕ × Tree). p.1) (pairs ++ (key, t) ∷ [])
+values_more old new key t pairs more h = trees_more (map tree_of old.values.items) pairs (map tree_of new.values.items) key t more h
+
+-- a pair more of a document or a scope, and a value more of an array
+pub pair_put : (h : Holder) (old mid new : Draft) (key : List ℕ) (t : Tree) (pairs : List (List ℕ × Tree))
+    → (h ≡ of.Document) ⊎ ((code : Bor (List ℕ)) × (h ≡ of.Code code)) → IsSameDraft old mid → IsPairMore mid key t new → AreDrafted h old pairs
+    → AreDrafted h new (pairs ++ (key, t) ∷ [])
+pair_put h old mid new key t pairs (inl e) same more are =
+    let drafted : AreDrafted of.Document old pairs = subst (λ (x : Holder). AreDrafted x old pairs) e are in
+    rw e (columns_more mid new key t pairs more (same of.Document pairs drafted))
+pair_put h old mid new key t pairs (inr e) same more are =
+    let drafted : AreDrafted (of.Code e.0) old pairs = subst (λ (x : Holder). AreDrafted x old pairs) e.1 are in
+    rw e.1 (columns_more mid new key t pairs more (same (of.Code e.0) pairs drafted))
+
+pub value_put : (h : Holder) (old mid new : Draft) (key : List ℕ) (t : Tree) (pairs : List (List ℕ × Tree)) → h ≡ of.Array → IsSameDraft old mid
+    → map tree_of new.values.items ≡ map tree_of mid.values.items ++ t ∷ [] → AreDrafted h old pairs → AreDrafted h new (pairs ++ (key, t) ∷ [])
+value_put h old mid new key t pairs e same more are =
+    let drafted : AreDrafted of.Array old pairs = subst (λ (x : Holder). AreDrafted x old pairs) e are in
+    rw e (values_more mid new key t pairs more (same of.Array pairs drafted))
+
+-- pairs that are taken apart
+pub zip_pairs : (pairs : List (List ℕ × Tree)) → zip (map (λ (p : List ℕ × Tree). p.0) pairs) (map (λ (p : List ℕ × Tree). p.1) pairs) ≡ pairs
+zip_pairs [] = refl
+zip_pairs (p ∷ ps) = ap (λ l. p ∷ l) (zip_pairs ps)
+
+-- what the columns are kept as
+pub columns_kept : (d : Draft) (pairs : List (List ℕ × Tree)) → AreColumns d pairs → keep (zip (texts_of d.keys.items) (map tree_of d.values.items)) ≡ keep pairs
+columns_kept d pairs h = rw (h.0, h.1) (ap keep (zip_pairs pairs))
+
+-- what is finished of a document or a scope
+columns_finished : (d : Draft) (made : Document) (values : List Bson) (pairs : List (List ℕ × Tree)) → values ≡ d.values.items
+    → with_trees (pairs_of made) ≡ keep (zip (texts_of d.keys.items) (map tree_of values)) → AreColumns d pairs → with_trees (pairs_of made) ≡ keep pairs
+columns_finished d made values pairs all trees are = trees ∙ ap (λ vs. keep (zip (texts_of d.keys.items) (map tree_of vs))) all ∙ columns_kept d pairs are
+
+pub document_finished : (d : Draft) (made : Document) (h : Holder) (values : List Bson) → h ≡ of.Document → values ≡ d.values.items
+    → with_trees (pairs_of made) ≡ keep (zip (texts_of d.keys.items) (map tree_of values)) → Finishes h d (contents.Document None made)
+document_finished d made h values e all trees =
+    rw e (refl, λ pairs are. ap (λ ps. document (entries ps)) (columns_finished d made values pairs all trees are))
+
+pub scope_finished : (d : Draft) (made : Document) (code : Bor (List ℕ)) (h : Holder) (values : List Bson) → h ≡ of.Code code → values ≡ d.values.items
+    → with_trees (pairs_of made) ≡ keep (zip (texts_of d.keys.items) (map tree_of values)) → Finishes h d (contents.Document (Some code) made)
+scope_finished d made code h values e all trees =
+    rw e (refl, λ pairs are. ap (λ ps. document (entries ps)) (columns_finished d made values pairs all trees are))
+
+-- and of an array
+pub array_finished : (d : Draft) (made : Vec Bson Global) (h : Holder) → h ≡ of.Array → made.items ≡ d.values.items → Finishes h d (contents.Array made)
+array_finished d made h e all =
+    rw e (refl, λ pairs are. ap (λ ts. array (trees ts)) (ap (λ vs. map tree_of vs) all ∙ are))
+
+-- the value that holds what a level is read as
+pub ended : (h : Holder) (d : Draft) (c : Contents) (t : Bson) → Finishes h d c → Closes c t → Ends h d t
+ended h d c t fin closes pairs b are read =
+    let same : tree_of_contents c ≡ tree_of_pairs (sort_of h) pairs = fin.1 pairs are in
+    let whole : ReadsAs (sort_of (holder_of c)) b (tree_of_contents c) = rw (fin.0, same) read in
+    subst (λ (x : Holder). StandsFor ReadsAs (holding x b) (tree_of t)) fin.0 (closes b whole)
 
 -- the value of a code and the contents of its scope
-pub closes_scope : (c : Contents) (held : Option (Bor (List ℕ))) (code : Bor (List ℕ)) (d : Document) (t : Bson) → c ≡ contents.Document held d → held ≡ Some code → tree_of t ≡ code_with_scope code.now (entries (with_trees (pairs_of d))) → Closes c t
+pub closes_scope : (c : Contents) (held : Option (Bor (List ℕ))) (code : Bor (List ℕ)) (d : Document) (t : Bson) → c ≡ contents.Document held d
+    → held ≡ Some code → tree_of t ≡ code_with_scope code.now (entries (with_trees (pairs_of d))) → Closes c t
 closes_scope c held code d t is some same = rw (is, some) (λ b read. (entries (with_trees (pairs_of d)), read, same))
 
 -- what holds bytes that are read as a tree stands for one, and the frames of the bytes are in it
@@ -92,7 +164,7 @@ held_within levels (of.Code code) d t u read stands = (stands.0, read_within lev
 
 -- a level
 
--- the frames of b that the level has passed stand for the pairs of its contents, with at most so many levels
+-- the frames of b that the level has passed stand for the pairs that it has drafted, with at most so many levels
 -- inside, and are so many with those that are in them
 pub record IsReading (inside : ℕ) (b : List ℕ) (holder : Holder) (level : Level) (n : ℕ) : Type 0 where
   pub frames : List Frame
@@ -100,8 +172,8 @@ pub record IsReading (inside : ℕ) (b : List ℕ) (holder : Holder) (level : Le
   pub passed : HasRead (drop 4 b) frames level.elements
   pub each : StandForEach (ReadsUpTo inside) frames pairs
   pub counts : CountsFrames HasFrameCount frames n
-  pub contains : AreContents level.contents pairs
-  pub held : holder_of level.contents ≡ holder
+  pub drafted : AreDrafted level.holder level.draft pairs
+  pub held : level.holder ≡ holder
 
 -- and the value of the frame behind them, which is counted, holds the bytes d
 pub record IsWaiting (inside : ℕ) (b : List ℕ) (holder : Holder) (w : Waiting) (d : List ℕ) (nested : Holder) (n : ℕ) : Type 0 where
@@ -116,8 +188,8 @@ pub record IsWaiting (inside : ℕ) (b : List ℕ) (holder : Holder) (w : Waitin
   pub left : w.level.elements ≡ Some r
   pub each : StandForEach (ReadsUpTo inside) frames pairs
   pub counts : CountsFrames HasFrameCount frames before
-  pub contains : AreContents w.level.contents pairs
-  pub held : holder_of w.level.contents ≡ holder
+  pub drafted : AreDrafted w.level.holder w.level.draft pairs
+  pub held : w.level.holder ≡ holder
   pub key : w.key.now ≡ f.key
   pub means : Means f (value (holding nested d))
   pub total : n ≡ before + 1
@@ -126,10 +198,13 @@ pub record IsWaiting (inside : ℕ) (b : List ℕ) (holder : Holder) (w : Waitin
 -- most so many levels may be inside d
 abbrev pub AreWaiting : ℕ → List ℕ → Holder → List Waiting → List ℕ → Holder → ℕ → Type 0
 AreWaiting inside b holder [] d nested n = (b ≡ d) × (holder ≡ nested) × (n ≡ 0)
-AreWaiting inside b holder (w ∷ ws) d nested n = (e : List ℕ) × (inner : Holder) × (here : ℕ) × (others : ℕ) × IsWaiting (suc (length ws + inside)) b holder w e inner here × AreWaiting inside e inner ws d nested others × (n ≡ here + others)
+AreWaiting inside b holder (w ∷ ws) d nested n = (e : List ℕ) × (inner : Holder) × (here : ℕ) × (others : ℕ)
+    × IsWaiting (suc (length ws + inside)) b holder w e inner here × AreWaiting inside e inner ws d nested others × (n ≡ here + others)
 
 -- one more, innermost
-pub waiting_more : (inside : ℕ) (b : List ℕ) (holder : Holder) (ws : List Waiting) (d : List ℕ) (nested : Holder) (n : ℕ) (w : Waiting) (e : List ℕ) (inner : Holder) (here : ℕ) → AreWaiting (suc inside) b holder ws d nested n → IsWaiting (suc inside) d nested w e inner here → AreWaiting inside b holder (ws ++ w ∷ []) e inner (n + here)
+pub waiting_more : (inside : ℕ) (b : List ℕ) (holder : Holder) (ws : List Waiting) (d : List ℕ) (nested : Holder) (n : ℕ) (w : Waiting) (e : List ℕ)
+    (inner : Holder) (here : ℕ) → AreWaiting (suc inside) b holder ws d nested n → IsWaiting (suc inside) d nested w e inner here
+    → AreWaiting inside b holder (ws ++ w ∷ []) e inner (n + here)
 waiting_more inside b holder [] d nested n w e inner here h is =
     let same : suc inside ≡ suc (0 + inside) = omega arith in
     let waits : IsWaiting (suc (0 + inside)) d nested w e inner here = subst (λ (i : ℕ). IsWaiting i d nested w e inner here) same is in
@@ -139,7 +214,10 @@ waiting_more inside b holder (x ∷ ws) d nested n w e inner here h is =
     (h.0, h.1, h.2, h.3 + here, subst (λ (i : ℕ). IsWaiting i b holder x h.0 h.1 h.2) same h.4, waiting_more inside h.0 h.1 ws d nested h.3 w e inner here h.5 is, omega (arith, h.6))
 
 -- one less
-pub waiting_less : (inside : ℕ) (b : List ℕ) (holder : Holder) (ws : List Waiting) (w : Waiting) (e : List ℕ) (inner : Holder) (n : ℕ) → AreWaiting inside b holder (ws ++ w ∷ []) e inner n → (d : List ℕ) × (nested : Holder) × (others : ℕ) × (here : ℕ) × AreWaiting (suc inside) b holder ws d nested others × IsWaiting (suc inside) d nested w e inner here × (n ≡ others + here)
+pub waiting_less : (inside : ℕ) (b : List ℕ) (holder : Holder) (ws : List Waiting) (w : Waiting) (e : List ℕ) (inner : Holder) (n : ℕ)
+    → AreWaiting inside b holder (ws ++ w ∷ []) e inner n
+    → (d : List ℕ) × (nested : Holder) × (others : ℕ) × (here : ℕ) × AreWaiting (suc inside) b holder ws d nested others
+    × IsWaiting (suc inside) d nested w e inner here × (n ≡ others + here)
 waiting_less inside b holder [] w e inner n h =
     let same : suc (0 + inside) ≡ suc inside = omega arith in
     let waits : IsWaiting (suc inside) b holder w h.0 h.1 h.2 = subst (λ (i : ℕ). IsWaiting i b holder w h.0 h.1 h.2) same h.4 in
@@ -191,13 +269,15 @@ module _ (inside : ℕ) (b : List ℕ) (holder : Holder) (w : Waiting) (d : List
       ]
 
 -- the first fault of the innermost bytes is that of the outermost
-pub fault_outward : (inside : ℕ) (b : List ℕ) (holder : Holder) (ws : List Waiting) (d : List ℕ) (nested : Holder) (n : ℕ) (fault : KeyedFault) → AreWaiting inside b holder ws d nested n → FirstFault d fault → FirstFault b fault
+pub fault_outward : (inside : ℕ) (b : List ℕ) (holder : Holder) (ws : List Waiting) (d : List ℕ) (nested : Holder) (n : ℕ) (fault : KeyedFault)
+    → AreWaiting inside b holder ws d nested n → FirstFault d fault → FirstFault b fault
 fault_outward inside b holder [] d nested n fault h bad = rw h.0 bad
 fault_outward inside b holder (w ∷ ws) d nested n fault h bad =
     inner_fault (suc (length ws + inside)) b holder w h.0 h.1 h.2 h.4 fault (fault_outward inside h.0 h.1 ws d nested h.3 fault h.5 bad)
 
 -- and their first fault within a depth
-pub barrier_outward : (inside : ℕ) (b : List ℕ) (holder : Holder) (ws : List Waiting) (d : List ℕ) (nested : Holder) (n : ℕ) (x : Barrier) → AreWaiting inside b holder ws d nested n → FirstFaultWithin (suc inside) d x → FirstFaultWithin (suc (length ws + inside)) b x
+pub barrier_outward : (inside : ℕ) (b : List ℕ) (holder : Holder) (ws : List Waiting) (d : List ℕ) (nested : Holder) (n : ℕ) (x : Barrier)
+    → AreWaiting inside b holder ws d nested n → FirstFaultWithin (suc inside) d x → FirstFaultWithin (suc (length ws + inside)) b x
 barrier_outward inside b holder [] d nested n x h bars =
     let same : suc inside ≡ suc (0 + inside) = omega arith in
     let here : FirstFaultWithin (suc (0 + inside)) d x = subst (λ (depth : ℕ). FirstFaultWithin depth d x) same bars in
@@ -208,7 +288,8 @@ barrier_outward inside b holder (w ∷ ws) d nested n x h bars =
     subst (λ (depth : ℕ). FirstFaultWithin depth b x) same here
 
 -- and so are the frames until there
-pub to_fault_outward : (inside : ℕ) (b : List ℕ) (holder : Holder) (ws : List Waiting) (d : List ℕ) (nested : Holder) (n : ℕ) (fault : KeyedFault) (m : ℕ) → AreWaiting inside b holder ws d nested n → FirstFault d fault → HasFramesToFault d m → HasFramesToFault b (n + m)
+pub to_fault_outward : (inside : ℕ) (b : List ℕ) (holder : Holder) (ws : List Waiting) (d : List ℕ) (nested : Holder) (n : ℕ) (fault : KeyedFault) (m : ℕ)
+    → AreWaiting inside b holder ws d nested n → FirstFault d fault → HasFramesToFault d m → HasFramesToFault b (n + m)
 to_fault_outward inside b holder [] d nested n fault m h bad to =
     let same : n + m ≡ m = omega (arith, h.2) in
     rw (h.0, same) to
@@ -218,7 +299,8 @@ to_fault_outward inside b holder (w ∷ ws) d nested n fault m h bad to =
     subst (λ (k : ℕ). HasFramesToFault b k) (omega (arith, h.6)) here
 
 -- where the innermost bytes are counted, the outermost are
-pub counted_outward : (inside : ℕ) (b : List ℕ) (holder : Holder) (ws : List Waiting) (d : List ℕ) (nested : Holder) (n m : ℕ) → IsEnvelope b → AreWaiting inside b holder ws d nested n → IsCountedFrom (sort_of nested) d m → IsCountedFrom (sort_of holder) b (n + m)
+pub counted_outward : (inside : ℕ) (b : List ℕ) (holder : Holder) (ws : List Waiting) (d : List ℕ) (nested : Holder) (n m : ℕ) → IsEnvelope b
+    → AreWaiting inside b holder ws d nested n → IsCountedFrom (sort_of nested) d m → IsCountedFrom (sort_of holder) b (n + m)
 counted_outward inside b holder [] d nested n m env h from =
     let same : n + m ≡ m = omega (arith, h.2) in
     rw (h.0, h.1, same) from

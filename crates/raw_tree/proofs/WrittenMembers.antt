@@ -37,7 +37,9 @@ framed_at : (before inside : List ℕ) → measured (length before) ((before ++ 
 framed_at before inside =
     set_head before (inside ++ 0 ∷ []) ((before ++ unset) ++ (inside ++ 0 ∷ [])) (length before) _ (append_assoc before unset (inside ++ 0 ∷ [])) refl refl
 
-scoped_at : (before code inside : List ℕ) → measured (length before) (measured (length before + 9 + length code) ((before ++ (unset ++ string_payload code ++ unset)) ++ (inside ++ 0 ∷ []))) ≡ before ++ scoped_payload code (framed inside)
+scoped_at : (before code inside : List ℕ) → measured (length before)
+    (measured (length before + 9 + length code) ((before ++ (unset ++ string_payload code ++ unset)) ++ (inside ++ 0 ∷ []))) ≡ before
+    ++ scoped_payload code (framed inside)
 scoped_at before code inside =
     let text = string_payload code in
     let head = before ++ (unset ++ text) in
@@ -168,13 +170,26 @@ module _ (t : Tree) (ws : List Begun) (old : Begun) (out : List ℕ) (is : IsWri
     }
 
     -- or its level waits for its own members
-    pub writing_inside : (start : ℕ) (head more : List ℕ) → HoldsTrees m.1 → start ≡ length head → head ≡ out ++ tagged (tag_of (kind_of_tree m.1)) (key_bytes m.0) [] → more ≡ head ++ opening m.1 → IsWriting t (ws ++ left_with old ms ∷ []) (begun_at m.1 start) more
+    pub writing_inside : (start : ℕ) (head more : List ℕ) → HoldsTrees m.1 → start ≡ length head
+        → head ≡ out ++ tagged (tag_of (kind_of_tree m.1)) (key_bytes m.0) [] → more ≡ head ++ opening m.1
+        → IsWriting t (ws ++ left_with old ms ∷ []) (begun_at m.1 start) more
     writing_inside start head more holds s h o =
         let begun : complete (begun_at m.1 start) more ≡ head ++ tree_payload m.1 = rw o (complete_begun m.1 start head holds s) in
         let element : head ++ tree_payload m.1 ≡ out ++ element_of (kind_of_tree m.1) (key_bytes m.0) (tree_payload m.1) = rw h (behind out (key_bytes m.0) _ _) in
         record {
-          written = finish-last ws (left_with old ms) (complete (begun_at m.1 start) more) ∙ ap (λ (b : List ℕ). finish ws b) (passed (complete (begun_at m.1 start) more) (begun ∙ element)) ∙ is.written;
-          begun = rw (last_opening-last ws (left_with old ms)) (omega (arith, s, is.begun, ap length o, ap length h, length-append head (opening m.1), length-append out (tagged (tag_of (kind_of_tree m.1)) (key_bytes m.0) []), length-opening m.1));
+          written = finish-last ws (left_with old ms) (complete (begun_at m.1 start) more)
+              ∙ ap (λ (b : List ℕ). finish ws b) (passed (complete (begun_at m.1 start) more) (begun ∙ element)) ∙ is.written;
+          begun = rw (last_opening-last ws (left_with old ms))
+              (omega (
+                arith,
+                s,
+                is.begun,
+                ap length o,
+                ap length h,
+                length-append head (opening m.1),
+                length-append out (tagged (tag_of (kind_of_tree m.1)) (key_bytes m.0) []),
+                length-opening m.1,
+              ));
         }
 
   -- none is left: the level is ended
@@ -199,14 +214,17 @@ module _ (t : Tree) (ws : List Begun) (old : Begun) (out : List ℕ) (is : IsWri
         }
 
 -- the levels of the writer: one that begins, and one more
-pub begins : (c : Container) (level : Level) (start : ℕ) → level.members.container ≡ c → left_of level.members ≡ members (tree_of_container c) → level.start ≡ start → begun_of level ≡ begun_at (tree_of_container c) start
+pub begins : (c : Container) (level : Level) (start : ℕ) → level.members.container ≡ c → left_of level.members ≡ members (tree_of_container c)
+    → level.start ≡ start → begun_of level ≡ begun_at (tree_of_container c) start
 begins c level start k l s = λ i. record { tree = tree_of_container (k i); start = s i; left = l i }
 
 pub begun_last : (ws more : List Level) (w : Level) → more ≡ ws ++ w ∷ [] → map begun_of more ≡ map begun_of ws ++ begun_of w ∷ []
 begun_last ws more w f = ap (λ (l : List Level). map begun_of l) f ∙ map-append begun_of ws (w ∷ [])
 
 -- less is left as a level waits for its own members, and as one that waits goes on
-pub inward_smaller : (ws more : List Level) (old w inner : Level) (m : MemberKey × Tree) (c : Container) → more ≡ ws ++ w ∷ [] → left_of old.members ≡ m ∷ left_of w.members → m.1 ≡ tree_of_container c → left_of inner.members ≡ members (tree_of_container c) → members_len (left_of inner.members) + left_in (map begun_of more) < members_len (left_of old.members) + left_in (map begun_of ws)
+pub inward_smaller : (ws more : List Level) (old w inner : Level) (m : MemberKey × Tree) (c : Container) → more ≡ ws ++ w ∷ []
+    → left_of old.members ≡ m ∷ left_of w.members → m.1 ≡ tree_of_container c → left_of inner.members ≡ members (tree_of_container c)
+    → members_len (left_of inner.members) + left_in (map begun_of more) < members_len (left_of old.members) + left_in (map begun_of ws)
 inward_smaller ws more old w inner m c f step e l =
     let grown : map begun_of more ≡ map begun_of ws ++ begun_of w ∷ [] = begun_last ws more w f in
     omega (arith, ap left_in grown, left_in-last (map begun_of ws) (begun_of w), ap members_len step, ap encoded_len e, ap members_len l, container_len c)

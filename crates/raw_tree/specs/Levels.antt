@@ -1,8 +1,8 @@
 -- The helpers of the converter: what is read so far of a document, of an array or of a scope, and how a value
 -- is made of it. No public contract cites this file.
 use Rattle.std.specs.Prelude.{◌≡◌, ◌⊎◌, ℕ, ◌+◌, List, [], ◌∷◌, ◌++◌, Option, None, Some, Result, Ok, Err, map}
-use Rattle.bson_model.specs.Pairs.{keep}
-use Rattle.bson_model.specs.Tree.{Tree, tree_of, tree_of_document, tree_of_list, pairs_of, with_trees}
+use denote.Ref.{Bor}
+use Rattle.bson_model.specs.Tree.{Tree, tree_of, tree_of_document, tree_of_list}
 use Rattle.bson_model.specs.declared.bson.Bson.{Bson}
 use Rattle.raw_view.specs.Document.{bytes_of}
 use Rattle.raw_view.specs.Meaning.{RawValue}
@@ -11,11 +11,13 @@ use Rattle.raw_view.specs.declared.element.RawElement.{RawElement}
 use Rattle.raw_view.specs.declared.error.Error.{Error}
 use Rattle.raw_tree.specs.FrameCount.{TellsFrames}
 use Rattle.raw_tree.specs.WithinLimits.{FirstFaultWithin, too_deep}
-use Rattle.raw_tree.specs.Reading.{Sort, as_document, as_array, StandsFor, ReadsUpTo, ReadsAs}
+use Rattle.raw_tree.specs.Reading.{Sort, as_document, as_array, tree_of_pairs, StandsFor, ReadsUpTo, ReadsAs}
 use Rattle.raw_tree.specs.declared.levels.Contents.{Contents}
 use Rattle.raw_tree.specs.declared.levels.Contents.TheVariants as contents
+use Rattle.raw_tree.specs.declared.levels.Draft.{Draft}
 use Rattle.raw_tree.specs.declared.levels.Holder.{Holder}
 use Rattle.raw_tree.specs.declared.levels.Holder.TheVariants as of
+use Rattle.raw_tree.specs.declared.levels.Level.{Level}
 use Rattle.raw_tree.specs.declared.levels.Opened.{Opened}
 use Rattle.raw_tree.specs.declared.levels.Opened.TheVariants as opened
 
@@ -42,19 +44,33 @@ abbrev pub tree_of_contents : Contents → Tree
 tree_of_contents (contents.Document _ d) = tree_of_document d
 tree_of_contents (contents.Array l) = tree_of_list l.items
 
--- these are the contents of the pairs
-abbrev pub AreContents : Contents → List (List ℕ × Tree) → Type 0
-AreContents (contents.Document _ d) pairs = with_trees (pairs_of d) ≡ keep pairs
-AreContents (contents.Array l) pairs = map tree_of l.items ≡ map (λ p. p.1) pairs
+-- the bytes of keys
+abbrev pub texts_of : List (Bor (List ℕ)) → List (List ℕ)
+texts_of keys = map (λ key. key.now) keys
 
--- contents before any pair
-abbrev pub IsEmpty : Contents → Type 0
-IsEmpty c = AreContents c []
+-- the keys and values of the draft are those of the pairs
+abbrev pub AreColumns : Draft → List (List ℕ × Tree) → Type 0
+AreColumns d pairs = (texts_of d.keys.items ≡ map (λ p. p.0) pairs) × (map tree_of d.values.items ≡ map (λ p. p.1) pairs)
 
--- new is old with a pair more
-abbrev pub IsOneMore : Contents → List ℕ → Tree → Contents → Type 0
+-- the pairs are drafted; of an array their keys are left out
+abbrev pub AreDrafted : Holder → Draft → List (List ℕ × Tree) → Type 0
+AreDrafted of.Document d pairs = AreColumns d pairs
+AreDrafted of.Array d pairs = map tree_of d.values.items ≡ map (λ p. p.1) pairs
+AreDrafted (of.Code _) d pairs = AreColumns d pairs
+
+-- what is drafted in old is drafted in new
+abbrev pub IsSameDraft : Draft → Draft → Type 0
+IsSameDraft old new = (h : Holder) (pairs : List (List ℕ × Tree)) → AreDrafted h old pairs → AreDrafted h new pairs
+
+-- new has a key and a value more
+abbrev pub IsPairMore : Draft → List ℕ → Tree → Draft → Type 0
+IsPairMore old key t new = (texts_of new.keys.items ≡ texts_of old.keys.items ++ key ∷ []) × (map tree_of new.values.items ≡ map tree_of old.values.items ++ t ∷ [])
+
+-- new is the level old with a pair more
+abbrev pub IsOneMore : Level → List ℕ → Tree → Level → Type 0
 IsOneMore old key t new =
-    (holder_of new ≡ holder_of old) × ((pairs : List (List ℕ × Tree)) → AreContents old pairs → AreContents new (pairs ++ (key, t) ∷ []))
+    (new.elements ≡ old.elements) × (new.holder ≡ old.holder)
+    × ((pairs : List (List ℕ × Tree)) → AreDrafted old.holder old.draft pairs → AreDrafted old.holder new.draft (pairs ++ (key, t) ∷ []))
 
 -- the value holds no nested bytes
 abbrev pub HoldsNone : RawValue → Type 0
@@ -71,6 +87,14 @@ Opens v (opened.Nested n) = v ≡ holding n.holder (bytes_of n.document)
 -- the tree is that of the value which holds bytes that are read as the contents
 abbrev pub Closes : Contents → Bson → Type 0
 Closes c t = (d : List ℕ) → ReadsAs (sort_of (holder_of c)) d (tree_of_contents c) → StandsFor ReadsAs (holding (holder_of c) d) (tree_of t)
+
+-- the contents are those of the pairs that are drafted
+abbrev pub Finishes : Holder → Draft → Contents → Type 0
+Finishes h d c = (holder_of c ≡ h) × ((pairs : List (List ℕ × Tree)) → AreDrafted h d pairs → tree_of_contents c ≡ tree_of_pairs (sort_of h) pairs)
+
+-- the tree is that of the value which holds bytes that are read as the pairs that are drafted
+abbrev pub Ends : Holder → Draft → Bson → Type 0
+Ends h d t = (pairs : List (List ℕ × Tree)) (b : List ℕ) → AreDrafted h d pairs → ReadsAs (sort_of h) b (tree_of_pairs (sort_of h) pairs) → StandsFor ReadsAs (holding h b) (tree_of t)
 
 -- the bytes that this holds are read as the contents
 abbrev pub AreRead : Holder → List ℕ → Contents → Type 0

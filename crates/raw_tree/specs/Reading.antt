@@ -13,7 +13,7 @@ use Rattle.raw_view.specs.Meaning.{RawValue, KeyedFault, Means, value, faulty}
 use Rattle.raw_view.specs.Meaning as raw
 use Rattle.raw_view.specs.declared.error.Error.{Error}
 
--- bytes are read as a document, or as an array, whose keys are left away
+-- bytes are read as a document, or as an array, whose keys are left out
 pub data Sort : Type 0 where
   as_document : Sort
   as_array : Sort

@@ -21,6 +21,10 @@ pub enum Cause {
 }
 
 /// The first place, depth first in byte order, at which a document fails to be canonical.
+/// ```
+/// let breach = validate(alloc, RawDocument::from_bytes(b"\x13\0\0\0\x10a\0\x01\0\0\0\x10a\0\x02\0\0\0\0")?)?;
+/// assert!(rt; matches!(breach, Some(Breach { cause: Cause::RepeatedKey, .. })));
+/// ```
 #[derive(Debug, PartialEq, Eq, Drop)]
 pub struct Breach {
     /// for each level, from the outermost on, the number of the element, counted from 0; for a stop, how many elements

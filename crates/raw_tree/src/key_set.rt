@@ -1,9 +1,11 @@
 //! A set of keys, which finds a repeated one in n log n steps whatever the keys are.
 #![tactic(auto)]
 
-ghost use Rattle.std.specs.Prelude.{◌≡◌, ◌++◌, ◌∷◌, [], IfOk, IfErr, OnOk, OnErr};
+ghost use Rattle.std.specs.Prelude.{◌≡◌, ◌↔◌, ◌++◌, ◌∷◌, [], IsTrue, IfOk, IfErr, IfSome, IfNone, OnOk, OnErr};
+ghost use Rattle.std.specs.List.{Contains};
 ghost use Rattle.std.specs.Bool.{OnFalse};
 ghost use Rattle.raw_tree.specs.KeySets.{Finds, HasSorted, InsertsKey, IsUnordered, PutsInOrder};
+ghost use Rattle.raw_tree.specs.Marks.{AreMarked};
 ghost use Rattle.raw_tree.specs.References.{texts};
 ghost use Rattle.raw_view.specs.Errors.{IsOutOfMemory};
 
@@ -16,9 +18,9 @@ use std::marker::Model;
 /// How a key is looked for among the keys of a set.
 #[derive(Drop)]
 pub(crate) enum Finder<'a> {
-    /// by marks, all of which differ where they could be taken for one another
+    /// by marks, and one by one where its own is found
     Marked(Marks),
-    /// in order, where marks weren't enough: the keys were chosen for their hashes, or one of them is repeated
+    /// in order, where marks weren't enough, since the keys were chosen for their hashes
     Sorted(BTreeSet<&'a str>),
 }
 
@@ -103,13 +105,85 @@ fn insert_sorted<'a>(
     Ok(is_new)
 }
 
-/// Inserts a key that its mark didn't tell from the others: with more room for marks if that was wanting, else in order.
+/// Whether a key is one of these.
+fn is_one_of(keys: &[&str], key: &str) -> bool
+    ensures { IsTrue result ↔ Contains (texts keys.now) key.now }
+{
+    keys.contains(&key)
+}
+
+/// Puts a key last, unless it is one of these, which are looked through; whether it wasn't. The only error is out of
+/// memory.
+#[inline(never)]
+fn insert_met<'a>(keys: &mut Vec<&'a str>, key: &'a str) -> Result<bool>
+    ensures inserts { IfOk result
+        (λ new. InsertsKey (texts keys.old.items) key.now new (texts keys.new.items)) }
+    ensures same { OnErr result (keys.new.items ≡ keys.old.items) }
+    ensures err { IfErr result IsOutOfMemory }
+{
+    if is_one_of(keys, key) {
+        return Ok(false);
+    }
+    list(keys, key)?;
+    Ok(true)
+}
+
+/// Inserts a key by its mark, unless it is there; whether it wasn't. `None`, and nothing is inserted, where there is no
+/// room or too many keys met their marks. The only error is out of memory.
+fn insert_marked<'a>(
+    keys: &mut Vec<&'a str>,
+    marks: &mut Marks,
+    key: &'a str,
+) -> Result<Option<bool>>
+    requires { AreMarked marks.old (texts keys.old.items) }
+    ensures inserts { IfOk result
+        (λ inserted. IfSome inserted
+        (λ new. InsertsKey (texts keys.old.items) key.now new (texts keys.new.items))) }
+    ensures none { IfOk result (λ inserted. IfNone inserted (keys.new.items ≡ keys.old.items)) }
+    ensures same { OnErr result (keys.new.items ≡ keys.old.items) }
+    ensures marked { AreMarked marks.new (texts keys.new.items) }
+    ensures err { IfErr result IsOutOfMemory }
+{
+    if marks.put(key) {
+        list(keys, key)?;
+        return Ok(Some(true));
+    }
+    if !marks.meet(key) {
+        return Ok(None);
+    }
+    Ok(Some(insert_met(keys, key)?))
+}
+
+/// The marks of these keys, with this one inserted, unless it is there; whether it wasn't. `None`, and nothing is inserted,
+/// where there is no room for all. The only error is out of memory.
+fn insert_wider<'a>(
+    alloc: Global,
+    keys: &mut Vec<&'a str>,
+    key: &'a str,
+) -> Result<Option<(Marks, bool)>>
+    ensures inserts { IfOk result
+        (λ wider. IfSome wider
+        (λ w. InsertsKey (texts keys.old.items) key.now w.1 (texts keys.new.items) × AreMarked w.0 (texts keys.new.items))) }
+    ensures none { IfOk result (λ wider. IfNone wider (keys.new.items ≡ keys.old.items)) }
+    ensures same { OnErr result (keys.new.items ≡ keys.old.items) }
+    ensures err { IfErr result IsOutOfMemory }
+{
+    let Some(mut marks) = Marks::of(alloc, keys)? else {
+        return Ok(None);
+    };
+    let Some(is_new) = insert_marked(keys, &mut marks, key)? else {
+        return Ok(None);
+    };
+    Ok(Some((marks, is_new)))
+}
+
+/// Inserts a key that its mark didn't tell from the others: one by one where its mark is found; else with more room for
+/// marks if there was none, or in order.
 #[inline(never)]
 fn insert_anew<'a>(
     alloc: Global,
     keys: &mut Vec<&'a str>,
     finder: &mut Finder<'a>,
-    is_full: bool,
     key: &'a str,
 ) -> Result<bool>
     requires { Finds finder.old (texts keys.old.items) }
@@ -118,11 +192,19 @@ fn insert_anew<'a>(
     ensures finds { Finds finder.new (texts keys.new.items) }
     ensures err { IfErr result IsOutOfMemory }
 {
+    let is_full = match finder {
+        Finder::Marked(marks) => {
+            if let Some(is_new) = insert_marked(keys, marks, key)? {
+                return Ok(is_new);
+            }
+            marks.is_full()
+        }
+        Finder::Sorted(sorted) => return insert_sorted(keys, sorted, key),
+    };
     if is_full {
-        if let Some(marks) = Marks::of(alloc, keys, key)? {
-            list(keys, key)?;
+        if let Some((marks, is_new)) = insert_wider(alloc, keys, key)? {
             *finder = Finder::Marked(marks);
-            return Ok(true);
+            return Ok(is_new);
         }
     }
     let mut sorted = sorted_keys(alloc, keys)?;
@@ -145,17 +227,16 @@ fn insert_key<'a>(
     ensures finds { Finds finder.new (texts keys.new.items) }
     ensures err { IfErr result IsOutOfMemory }
 {
-    let is_full = match finder {
+    match finder {
         Finder::Marked(marks) => {
             if marks.put(key) {
                 list(keys, key)?;
                 return Ok(true);
             }
-            marks.is_full()
         }
         Finder::Sorted(sorted) => return insert_sorted(keys, sorted, key),
-    };
-    insert_anew(alloc, keys, finder, is_full, key)
+    }
+    insert_anew(alloc, keys, finder, key)
 }
 
 impl<'a> KeySet<'a> {

@@ -1,12 +1,11 @@
 //! The levels of bytes that are being read: what is read of each so far.
 #![tactic(auto, using(std::proofs::lemmas::Grind::common_steps, bson_model::proofs::Face::tree_laws))]
 
-ghost use Rattle.std.specs.Prelude.{◌≡◌, Some, drop, IfOk, IfErr, OnOk};
+ghost use Rattle.std.specs.Prelude.{◌≡◌, [], ◌∷◌, ◌++◌, Some, drop, map, IfOk, IfErr, OnOk};
 ghost use Rattle.std.specs.String.{string_bytes};
 ghost use Rattle.bson_model.specs.Scalars.{bytes_of_object_id};
-ghost use Rattle.bson_model.specs.Pairs.{with_pair};
-ghost use Rattle.bson_model.specs.Tree.{tree_of, pairs_of, with_trees};
-ghost use Rattle.raw_tree.specs.Levels.{Closes, IsEmpty, IsOneMore, Opens, holder_of};
+ghost use Rattle.bson_model.specs.Tree.{tree_of};
+ghost use Rattle.raw_tree.specs.Levels.{Closes, Ends, Finishes, IsOneMore, IsPairMore, IsSameDraft, Opens};
 ghost use Rattle.raw_view.specs.Document.{bytes_of};
 ghost use Rattle.raw_view.specs.Errors.{IsOutOfMemory};
 ghost use Rattle.raw_view.specs.Value.{id_of, namespace_of, value_of};
@@ -14,6 +13,10 @@ ghost use Rattle.raw_view.specs.Value.{id_of, namespace_of, value_of};
 use bson_model::{Bson, DbPointer, Document, JavaScriptCodeWithScope, Regex};
 use raw_view::{Error, RawBsonRef, RawDbPointerRef, RawDocument, RawIter, Result};
 use std::alloc::Global;
+use std::mem;
+
+/// A level of more values gives them away with the room that they are in; of fewer they are moved to exact room.
+const MOST_MOVED: usize = 256;
 
 /// What holds nested bytes: a document, an array, or this code, whose scope they are.
 #[derive(Clone, Copy)]
@@ -30,18 +33,26 @@ pub(crate) struct Nested<'a> {
     pub(crate) holder: Holder<'a>,
 }
 
-/// What is read so far: of a document, or of the scope of this code; or of an array.
+/// What bytes are read as: a document, or the scope of this code; or an array.
 #[derive(Drop)]
 pub(crate) enum Contents<'a> {
     Document(Option<&'a str>, Document),
     Array(Vec<Bson>),
 }
 
-/// Bytes that are being read: what is left of them, and what is read of them so far.
+/// What is read so far of a level: its keys, unless it is an array, and its values.
+#[derive(Drop)]
+pub(crate) struct Draft<'a> {
+    pub(crate) keys: Vec<&'a str>,
+    pub(crate) values: Vec<Bson>,
+}
+
+/// Bytes that are being read: what is left of them, what holds them, and what is read of them so far.
 #[derive(Drop)]
 pub(crate) struct Level<'a> {
     pub(crate) elements: RawIter<'a>,
-    pub(crate) contents: Contents<'a>,
+    pub(crate) holder: Holder<'a>,
+    pub(crate) draft: Draft<'a>,
 }
 
 /// A level that waits for the value under this key, whose bytes are the next level.
@@ -119,22 +130,148 @@ pub(crate) fn open<'a>(alloc: Global, value: RawBsonRef<'a>) -> Result<Opened<'a
     }
 }
 
+impl<'a> Draft<'a> {
+    /// A draft of nothing. It takes no memory.
+    pub(crate) fn new(alloc: Global) -> Draft<'a>
+        ensures keys { result.keys.items ≡ [] }
+        ensures values { result.values.items ≡ [] }
+    {
+        Draft {
+            keys: Vec::new(alloc),
+            values: Vec::new(alloc),
+        }
+    }
+
+    /// Where nothing is read yet, takes the room that a spare draft has.
+    #[inline(always)]
+    fn take_room(&mut self, spare: &mut Draft<'a>)
+        ensures { IsSameDraft self.old self.new }
+    {
+        if self.values.len() > 0 {
+            return;
+        }
+        spare.keys.clear();
+        spare.values.clear();
+        mem::swap(self, spare);
+    }
+
+    /// Puts a pair last; the only error is out of memory.
+    #[inline(always)]
+    fn put_pair(&mut self, key: &'a str, value: Bson) -> Result<()>
+        ensures put { OnOk result (IsPairMore self.old key.now (tree_of value) self.new) }
+        ensures err { IfErr result IsOutOfMemory }
+    {
+        if self.keys.push(key).is_err() {
+            return Err(Error::out_of_memory());
+        }
+        if self.values.push(value).is_err() {
+            return Err(Error::out_of_memory());
+        }
+        Ok(())
+    }
+
+    /// Puts a value last; the only error is out of memory.
+    #[inline(always)]
+    fn put_value(&mut self, value: Bson) -> Result<()>
+        ensures put { OnOk result (map tree_of self.new.values.items ≡ map tree_of self.old.values.items ++ tree_of value ∷ []) }
+        ensures err { IfErr result IsOutOfMemory }
+    {
+        if self.values.push(value).is_err() {
+            return Err(Error::out_of_memory());
+        }
+        Ok(())
+    }
+
+    /// Leaves its room to a later level, if that is more than is spared already.
+    fn leave_room(self, spare: &mut Draft<'a>) {
+        if self.values.capacity() > spare.values.capacity() {
+            *spare = self;
+        }
+    }
+}
+
 /// A level of which nothing is read.
 #[inline(always)]
 pub(crate) fn begin<'a>(alloc: Global, nested: Nested<'a>) -> Level<'a>
     ensures elements { result.elements ≡ Some (drop 4 (bytes_of nested.entry.document)) }
-    ensures holder { holder_of result.contents ≡ nested.entry.holder }
-    ensures empty { IsEmpty result.contents }
+    ensures holder { result.holder ≡ nested.entry.holder }
+    ensures keys { result.draft.keys.items ≡ [] }
+    ensures values { result.draft.values.items ≡ [] }
 {
-    let contents = match nested.holder {
-        Holder::Document => Contents::Document(None, Document::new(alloc)),
-        Holder::Array => Contents::Array(Vec::new(alloc)),
-        Holder::Code(code) => Contents::Document(Some(code), Document::new(alloc)),
-    };
     Level {
         elements: nested.document.iter_elements(alloc),
-        contents,
+        holder: nested.holder,
+        draft: Draft::new(alloc),
     }
+}
+
+/// Puts a value last, under this key unless the level is an array; the only error is out of memory. The
+/// first takes the room that another level left.
+#[inline(always)]
+pub(crate) fn put<'a>(
+    level: &mut Level<'a>,
+    spare: &mut Draft<'a>,
+    key: &'a str,
+    value: Bson,
+) -> Result<()>
+    ensures put { OnOk result (IsOneMore level.old key.now (tree_of value) level.new) }
+    ensures err { IfErr result IsOutOfMemory }
+{
+    level.draft.take_room(spare);
+    match level.holder {
+        Holder::Document => level.draft.put_pair(key, value),
+        Holder::Array => level.draft.put_value(value),
+        Holder::Code(_) => level.draft.put_pair(key, value),
+    }
+}
+
+/// What the bytes of a level are read as, once all are; the only error is out of memory.
+pub(crate) fn finish<'a>(
+    alloc: Global,
+    holder: Holder<'a>,
+    draft: &mut Draft<'a>,
+) -> Result<Contents<'a>>
+    ensures finished { IfOk result (Finishes holder.entry draft.old) }
+    ensures err { IfErr result IsOutOfMemory }
+{
+    let values = taken(alloc, &mut draft.values)?;
+    match holder {
+        Holder::Document => {
+            let document = Document::from_columns(alloc, draft.keys.as_slice(), values)?;
+            Ok(Contents::Document(None, document))
+        }
+        Holder::Array => Ok(Contents::Array(values)),
+        Holder::Code(code) => {
+            let scope = Document::from_columns(alloc, draft.keys.as_slice(), values)?;
+            Ok(Contents::Document(Some(code), scope))
+        }
+    }
+}
+
+/// All of the values, in room of their exact size unless they are many.
+fn taken(alloc: Global, values: &mut Vec<Bson>) -> Result<Vec<Bson>>
+    ensures all { IfOk result (λ all. all.items ≡ values.old.items) }
+    ensures err { IfErr result IsOutOfMemory }
+{
+    if values.len() > MOST_MOVED {
+        return Ok(mem::replace(values, Vec::new(alloc)));
+    }
+    match values.split_off(0) {
+        Ok(all) => Ok(all),
+        Err(_) => Err(Error::out_of_memory()),
+    }
+}
+
+/// The value that holds the bytes of a level, once all are read; the only error is out of memory. Its
+/// room goes to a later level.
+#[inline(always)]
+pub(crate) fn end<'a>(alloc: Global, mut level: Level<'a>, spare: &mut Draft<'a>) -> Result<Bson>
+    ensures ended { IfOk result (Ends level.entry.holder level.entry.draft) }
+    ensures err { IfErr result IsOutOfMemory }
+{
+    let contents = finish(alloc, level.holder, &mut level.draft)?;
+    level.draft.leave_room(spare);
+    close(alloc, contents)
 }
 
 /// The value that holds these contents; the only error is out of memory, for the copy of a code.
@@ -150,32 +287,5 @@ pub(crate) fn close(alloc: Global, contents: Contents<'_>) -> Result<Bson>
             Ok(Bson::JavaScriptCodeWithScope(JavaScriptCodeWithScope { code, scope }))
         }
         Contents::Array(list) => Ok(Bson::Array(list)),
-    }
-}
-
-/// Puts a pair last, or where its key is; the only error is out of memory.
-#[inline(always)]
-fn put_pair(alloc: Global, document: &mut Document, key: &str, value: Bson) -> Result<()>
-    ensures put { OnOk result (with_trees (pairs_of document.new)
-        ≡ with_pair key.now (tree_of value) (with_trees (pairs_of document.old))) }
-    ensures err { IfErr result IsOutOfMemory }
-{
-    document.put(String::from_str(alloc, key)?, value)?;
-    Ok(())
-}
-
-/// Puts a value last, in a document under this key or where the key is; the only error is out of
-/// memory.
-#[inline(always)]
-pub(crate) fn put(alloc: Global, contents: &mut Contents<'_>, key: &str, value: Bson) -> Result<()>
-    ensures put { OnOk result (IsOneMore contents.old key.now (tree_of value) contents.new) }
-    ensures err { IfErr result IsOutOfMemory }
-{
-    match contents {
-        Contents::Document(_, document) => put_pair(alloc, document, key, value),
-        Contents::Array(list) => match list.push(value) {
-            Ok(()) => Ok(()),
-            Err(_) => Err(Error::out_of_memory()),
-        },
     }
 }

@@ -1,9 +1,8 @@
 //! Marks of keys: parts of their hashes in a table, where most keys are told apart by one look.
 #![tactic(auto)]
 
-ghost use Rattle.std.specs.Prelude.{◌≡◌, ◌≢◌, ◌++◌, ◌∷◌, [], ℕ, List, IsTrue, IfOk, IfErr, IfSome};
-ghost use Rattle.std.specs.List.{Contains};
-ghost use Rattle.raw_tree.specs.Marks.{hash_of, mark_of, AreMarked, IsFreeFrom, IsMarked};
+ghost use Rattle.std.specs.Prelude.{◌≡◌, ◌≢◌, ℕ, List, IsTrue, IfOk, IfErr, IfSome};
+ghost use Rattle.raw_tree.specs.Marks.{hash_of, mark_of, AreMarked, IsFreeFrom, IsMarkAt, IsMarked};
 ghost use Rattle.raw_tree.specs.References.{texts};
 ghost use Rattle.raw_view.specs.Errors.{IsOutOfMemory};
 
@@ -19,6 +18,10 @@ const MANY: usize = 131072;
 
 const FEWEST: usize = 64;
 
+/// So many keys may meet their mark before there is room for twice as many keys. Each costs a look through all keys; of
+/// keys that nobody chose next to none does.
+const MOST_MEETINGS: usize = 8;
+
 /// How many slots there are for each key that room is made for, and where they are many.
 const SLOTS_FOR_A_KEY: usize = 8;
 
@@ -33,6 +36,8 @@ pub(crate) struct Marks {
     mask: usize,
     /// how many more marks there is room for
     room: usize,
+    /// how many more keys may meet their mark
+    meetings: usize,
 }
 
 fn hash_of(key: &str) -> u64
@@ -70,6 +75,26 @@ fn free_slot(slots: &[u32], start: usize, mark: u32) -> Option<usize>
     None
 }
 
+/// Whether the mark is found from this place on, with no free slot before it and not too many slots to look at.
+fn has_mark(slots: &[u32], start: usize, mark: u32) -> bool
+    ensures { IsTrue result → IsMarkAt slots.now start mark }
+{
+    let mut at = start;
+    'looks: for _ in 0..MOST_LOOKS {
+        let Some(found) = slots.get(at) else {
+            return false;
+        };
+        if *found == mark {
+            return true;
+        }
+        if *found == 0 {
+            return false;
+        }
+        at += 1;
+    }
+    false
+}
+
 impl Marks {
     /// No marks, and room for those of more than so many keys. The only error is out of memory.
     pub(crate) fn for_keys(alloc: Global, keys: usize) -> Result<Marks>
@@ -92,6 +117,7 @@ impl Marks {
                 slots,
                 mask: starts.saturating_sub(1),
                 room: starts / 2,
+                meetings: MOST_MEETINGS,
             }),
             Err(_) => Err(Error::out_of_memory()),
         }
@@ -122,29 +148,60 @@ impl Marks {
         true
     }
 
-    /// Marks each of these keys; or returns false, where there is no room for all or two may be equal.
-    fn put_all(&mut self, keys: &[&str]) -> bool
+    /// Whether the mark of a key is found, which may be that of another key.
+    #[inline(never)]
+    fn has(&self, key: &str) -> bool
+        ensures { IsTrue result → IsMarked self.now key.now }
+    {
+        let hash = hash_of(key);
+        has_mark(&self.slots, hash as usize & self.mask, mark_of(hash))
+    }
+
+    /// Counts a key whose mark is found; or returns false, where it isn't or too many were counted.
+    pub(crate) fn meet(&mut self, key: &str) -> bool
+        ensures marked { IsTrue result → IsMarked self.new key.now }
+        ensures kept { (k : List ℕ) → IsMarked self.old k → IsMarked self.new k }
+    {
+        if self.meetings == 0 || !self.has(key) {
+            return false;
+        }
+        self.meetings -= 1;
+        true
+    }
+
+    /// Marks a key, unless its mark is found; or returns false, where there is no room.
+    fn mark(&mut self, key: &str) -> bool
+        ensures marked { IsTrue result → IsMarked self.new key.now }
+        ensures kept { (k : List ℕ) → IsMarked self.old k → IsMarked self.new k }
+    {
+        if self.put(key) {
+            return true;
+        }
+        self.has(key)
+    }
+
+    /// Marks each of these keys; or returns false, where there is no room for all.
+    fn mark_all(&mut self, keys: &[&str]) -> bool
         ensures marked { IsTrue result → AreMarked self.new (texts keys.now) }
     {
         for key in keys {
-            if !self.put(*key) {
+            if !self.mark(*key) {
                 return false;
             }
         }
         true
     }
 
-    /// The marks of these keys and of one more that none of them is equal to; `None` where two may be equal. The only
-    /// error is out of memory.
-    pub(crate) fn of(alloc: Global, keys: &[&str], last: &str) -> Result<Option<Marks>>
-        ensures marks { IfOk result (λ marks. IfSome marks
-            (λ marks. (¬ Contains (texts keys.now) last.now) × AreMarked marks (texts keys.now ++ last.now ∷ []))) }
+    /// The marks of these keys, and room for more; `None` where there is none for all. The only error is out of memory.
+    pub(crate) fn of(alloc: Global, keys: &[&str]) -> Result<Option<Marks>>
+        ensures marks { IfOk result (λ marks. IfSome marks (λ marks. AreMarked marks (texts keys.now))) }
         ensures err { IfErr result IsOutOfMemory }
     {
         let mut marks = Marks::for_keys(alloc, keys.len())?;
-        if marks.put_all(keys) && marks.put(last) {
-            return Ok(Some(marks));
-        }
-        Ok(None)
+        Ok(if marks.mark_all(keys) {
+            Some(marks)
+        } else {
+            None
+        })
     }
 }

@@ -12,7 +12,9 @@ ghost use Rattle.raw_view.specs.Document.{bytes_of};
 ghost use Rattle.raw_view.specs.ElementSteps.{frame_of};
 ghost use Rattle.raw_view.specs.Value.{array_bytes_of, value_of};
 
-use crate::levels::{Contents, Holder, Nested, Opened, Waiting, begin, close, open, put};
+use crate::levels::{
+    Contents, Draft, Holder, Nested, Opened, Waiting, begin, close, end, finish, open, put,
+};
 use crate::steps::Steps;
 use bson_model::{Bson, Document};
 use raw_view::{Error, RawArray, RawBsonRef, RawDocument, RawElement, Reason, Result};
@@ -36,6 +38,7 @@ pub(crate) fn read<'a>(
         return Err(Error::malformed(Reason::TooDeep));
     };
     let mut waiting: Vec<Waiting<'a>> = Vec::new(alloc);
+    let mut spare = Draft::new(alloc);
     let mut level = begin(alloc, nested);
     'levels: loop {
         let (key, value) = match steps.frame(&mut level.elements) {
@@ -59,14 +62,17 @@ pub(crate) fn read<'a>(
             }
             None => match waiting.pop() {
                 Some(outer) => {
-                    let value = close(alloc, level.contents)?;
+                    let value = end(alloc, level, &mut spare)?;
                     level = outer.level;
                     (outer.key, value)
                 }
-                None => return Ok(level.contents),
+                None => {
+                    let contents = finish(alloc, level.holder, &mut level.draft)?;
+                    return Ok(contents);
+                }
             },
         };
-        put(alloc, &mut level.contents, key, value)?;
+        put(&mut level, &mut spare, key, value)?;
     }
 }
 
@@ -159,7 +165,7 @@ pub fn document_from_raw_counted(
     (tree, steps)
 }
 
-/// The values of an array in order; its keys are left away. It fails as `document_from_raw` does, and
+/// The values of an array in order, without its keys. It fails as `document_from_raw` does, and
 /// the same holds of every array. BSON 1.1, `array`.
 /// ```
 /// let array = RawArray::from_doc(RawDocument::from_bytes(b"\x13\0\0\0\x10a\0\x01\0\0\0\x10b\0\x02\0\0\0\0")?);

@@ -174,7 +174,7 @@ fn first_breach(alloc: Global, document: RawDocument<'_>) -> Result<Option<Breac
 /// `document`.
 /// ```
 /// let document = RawDocument::from_bytes(b"\x13\0\0\0\x10a\0\x01\0\0\0\x10a\0\x02\0\0\0\0")?;
-/// let Some(breach) = validate(alloc, document)? else { return Ok(()) };
+/// let Some(breach) = validate(alloc, document)? else { unreachable!() };
 /// assert_eq!(rt; (breach.cause, breach.path.as_slice()), (Cause::RepeatedKey, [1].as_slice()));
 /// ```
 pub fn validate(alloc: Global, document: RawDocument<'_>) -> Result<Option<Breach>>

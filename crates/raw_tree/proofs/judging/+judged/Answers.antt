@@ -19,7 +19,8 @@ members-smaller-in_default t c =
 
 pub members-preserved-in_default : goal.members-preserved-in_default
 members-preserved-in_default t c =
-    judging_ends (tree_of_container c.args.container) c.members.waiting.items c.pop.new.self.items c.in-Some-pop.outer (left_of c.members.members) c.members.total c.members.invariant c.in_default.ensures.step c.in-Some-pop.ensures.items
+    judging_ends (tree_of_container c.args.container) c.members.waiting.items c.pop.new.self.items c.in-Some-pop.outer
+    (left_of c.members.members) c.members.total c.members.invariant c.in_default.ensures.step c.in-Some-pop.ensures.items
 
 pub members-smaller : goal.members-smaller
 members-smaller t c =
@@ -28,15 +29,19 @@ members-smaller t c =
     elim c.match-show.branch [
       | in-Leaf+in_ok-len-in-Leaf w ↦ (
           let same : c.match-show.waiting.items ≡ ws = ap (λ (v : Vec Members Global). v.items) w.waiting-is in
-          leaf_smaller ws c.match-show.waiting.items old (left_of c.next.new.self) (left_of c.match-show.members) (key_of c.in-Some.key, tree_of c.in-Some.value.now) same c.in-Some.ensures.step (ap left_of w.members-is))
+          leaf_smaller ws c.match-show.waiting.items old (left_of c.next.new.self) (left_of c.match-show.members)
+          (key_of c.in-Some.key, tree_of c.in-Some.value.now) same c.in-Some.ensures.step (ap left_of w.members-is))
       | in-Container+then-is_ok w ↦ (
           let grown : w.push.new.self.items ≡ ws ++ c.next.new.self ∷ [] = search rules in
           let more : c.match-show.waiting.items ≡ w.push.new.self.items = ap (λ (v : Vec Members Global). v.items) w.waiting-is in
-          inward_smaller ws c.match-show.waiting.items c.next.new.self c.match-show.members old (left_of c.match-show.members) (key_of c.in-Some.key, tree_of c.in-Some.value.now) w.in-Container.inner (more ∙ grown) c.in-Some.ensures.step w.in-Container.ensures (ap left_of w.members-is ∙ w.of-members-then-is_ok.ensures.all))
+          inward_smaller ws c.match-show.waiting.items c.next.new.self c.match-show.members old (left_of c.match-show.members)
+          (key_of c.in-Some.key, tree_of c.in-Some.value.now) w.in-Container.inner (more ∙ grown) c.in-Some.ensures.step w.in-Container.ensures
+          (ap left_of w.members-is ∙ w.of-members-then-is_ok.ensures.all))
       | in-Container+else-is_ok+in_ok-len-in-Container w ↦ (
           let kept : w.push.new.self.items ≡ ws = search rules in
           let same : c.match-show.waiting.items ≡ w.push.new.self.items = ap (λ (v : Vec Members Global). v.items) w.waiting-is in
-          leaf_smaller ws c.match-show.waiting.items old (left_of c.next.new.self) (left_of c.match-show.members) (key_of c.in-Some.key, tree_of c.in-Some.value.now) (same ∙ kept) c.in-Some.ensures.step (ap left_of w.members-is))
+          leaf_smaller ws c.match-show.waiting.items old (left_of c.next.new.self) (left_of c.match-show.members)
+          (key_of c.in-Some.key, tree_of c.in-Some.value.now) (same ∙ kept) c.in-Some.ensures.step (ap left_of w.members-is))
     ]
 
 pub members-preserved : goal.members-preserved
@@ -49,15 +54,27 @@ members-preserved t c =
     elim c.match-show.branch [
       | in-Leaf+in_ok-len-in-Leaf w ↦ (
           let same : c.match-show.waiting.items ≡ ws = ap (λ (v : Vec Members Global). v.items) w.waiting-is in
-          let judged : Judges (tree_of c.in-Some.value.now) (Some w.in_ok-len-in-Leaf.len) = leaf_judged (tree_of c.in-Some.value.now) (value_of w.in-Leaf.leaf) (Some w.in_ok-len-in-Leaf.len) w.in-Leaf.ensures w.in_ok-len-in-Leaf.ensures in
-          judging_member tree ws (key_of c.in-Some.key, tree_of c.in-Some.value.now) old (left_of c.next.new.self) c.members.total c.members.invariant c.in-Some.ensures.step c.match-show.waiting.items (left_of c.match-show.members) w.in_ok-len-in-Leaf.len c.saturating_add-total.result same (ap left_of w.members-is) key.0 judged (omega (arith, a, b, d, key.1, w.len-is)))
+          let judged : Judges (tree_of c.in-Some.value.now) (Some w.in_ok-len-in-Leaf.len) =
+          leaf_judged (tree_of c.in-Some.value.now) (value_of w.in-Leaf.leaf)
+          (Some w.in_ok-len-in-Leaf.len) w.in-Leaf.ensures w.in_ok-len-in-Leaf.ensures in
+          judging_member tree ws (key_of c.in-Some.key, tree_of c.in-Some.value.now) old
+          (left_of c.next.new.self) c.members.total c.members.invariant c.in-Some.ensures.step c.match-show.waiting.items
+          (left_of c.match-show.members) w.in_ok-len-in-Leaf.len c.saturating_add-total.result same (ap left_of w.members-is) key.0 judged
+          (omega (arith, a, b, d, key.1, w.len-is)))
       | in-Container+then-is_ok w ↦ (
           let grown : w.push.new.self.items ≡ ws ++ c.next.new.self ∷ [] = search rules in
           let more : c.match-show.waiting.items ≡ w.push.new.self.items = ap (λ (v : Vec Members Global). v.items) w.waiting-is in
-          judging_inside tree ws (key_of c.in-Some.key, tree_of c.in-Some.value.now) old (left_of c.next.new.self) c.members.total c.members.invariant c.in-Some.ensures.step c.next.new.self c.match-show.waiting.items (left_of c.match-show.members) w.in-Container.inner w.frame_len.result c.saturating_add-total.result (more ∙ grown) (ap left_of w.members-is ∙ w.of-members-then-is_ok.ensures.all) refl w.in-Container.ensures key.0 w.frame_len.ensures (omega (arith, a, b, d, key.1, w.len-is)))
+          judging_inside tree ws (key_of c.in-Some.key, tree_of c.in-Some.value.now) old
+          (left_of c.next.new.self) c.members.total c.members.invariant c.in-Some.ensures.step c.next.new.self c.match-show.waiting.items
+          (left_of c.match-show.members) w.in-Container.inner w.frame_len.result c.saturating_add-total.result (more ∙ grown)
+          (ap left_of w.members-is ∙ w.of-members-then-is_ok.ensures.all) refl w.in-Container.ensures key.0 w.frame_len.ensures
+          (omega (arith, a, b, d, key.1, w.len-is)))
       | in-Container+else-is_ok+in_ok-len-in-Container w ↦ (
           let kept : w.push.new.self.items ≡ ws = search rules in
           let same : c.match-show.waiting.items ≡ w.push.new.self.items = ap (λ (v : Vec Members Global). v.items) w.waiting-is in
           let judged : Judges (tree_of c.in-Some.value.now) (Some w.in_ok-len-in-Container.len) = rw w.in-Container.ensures w.in_ok-len-in-Container.ensures in
-          judging_member tree ws (key_of c.in-Some.key, tree_of c.in-Some.value.now) old (left_of c.next.new.self) c.members.total c.members.invariant c.in-Some.ensures.step c.match-show.waiting.items (left_of c.match-show.members) w.in_ok-len-in-Container.len c.saturating_add-total.result (same ∙ kept) (ap left_of w.members-is) key.0 judged (omega (arith, a, b, d, key.1, w.len-is)))
+          judging_member tree ws (key_of c.in-Some.key, tree_of c.in-Some.value.now) old
+          (left_of c.next.new.self) c.members.total c.members.invariant c.in-Some.ensures.step c.match-show.waiting.items
+          (left_of c.match-show.members) w.in_ok-len-in-Container.len c.saturating_add-total.result (same ∙ kept) (ap left_of w.members-is) key.0 judged
+          (omega (arith, a, b, d, key.1, w.len-is)))
     ]

@@ -9,4 +9,5 @@ pub returns-then-put-clause-finds : goal.returns-then-put-clause-finds
 returns-then-put-clause-finds c =
     let keys = texts c.args.keys.now.items in
     let before = subst (λ (f : Finder). Finds f keys) c.in-Marked.is c.requires in
-    marked_push c.args.keys.now.items c.list.new.listed.items c.args.key c.put.new.self c.in_ok-list-in-Marked.ensures.listed (marked_more c.in-Marked.marks c.put.new.self keys c.args.key.now before c.put.ensures.kept (c.put.ensures.new c.if-put.true).1)
+    marked_push c.args.keys.now.items c.list.new.listed.items c.args.key c.put.new.self c.in_ok-list-in-Marked.ensures.listed
+    (marked_more c.in-Marked.marks c.put.new.self keys c.args.key.now before c.put.ensures.kept (c.put.ensures.new c.if-put.true).1)

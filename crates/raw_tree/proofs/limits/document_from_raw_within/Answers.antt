@@ -55,7 +55,8 @@ returns-in_err-tree-clause-one_depth c = one_depth
 pub returns-clause-tree : goal.returns-clause-tree
 returns-clause-tree c =
     let b = bytes_of c.args.document in
-    let read : AreReadUpTo c.args.limits.depth of.Document b (contents.Document c.in-Document.field-0 c.in-Document.tree) = subst (λ (x : Contents). AreReadUpTo c.args.limits.depth of.Document b x) c.in-Document.is c.in_ok-tree.ensures.tree in
+    let read : AreReadUpTo c.args.limits.depth of.Document b (contents.Document c.in-Document.field-0 c.in-Document.tree) =
+    subst (λ (x : Contents). AreReadUpTo c.args.limits.depth of.Document b x) c.in-Document.is c.in_ok-tree.ensures.tree in
     let few : length b ≤ c.args.limits.bytes = omega (arith, ap length c.as_bytes.ensures.bytes) in
     read_within c.args.limits b (tree_of_document c.in-Document.tree) few read.1
 

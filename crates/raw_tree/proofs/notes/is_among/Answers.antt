@@ -8,5 +8,7 @@ use Rattle.raw_tree.proofs.notes.is_among.Goals as goal
 pub returns-then-has_note : goal.returns-then-has_note
 returns-then-has_note c =
     let keys = c.args.keys.now in
-    let key = c.args.key.now in
-    (λ is. Contains-found (texts keys) key (sym (texts_found keys key) ∙ (sym c.contains.ensures.value ∙ is)), λ there. c.contains.ensures.value ∙ (texts_found keys key ∙ list_any-from_Contains nat_list_eq_equiv key (texts keys) there))
+    let key = c.args.key.now in (
+      λ is. Contains-found (texts keys) key (sym (texts_found keys key) ∙ (sym c.contains.ensures.value ∙ is)),
+      λ there. c.contains.ensures.value ∙ (texts_found keys key ∙ list_any-from_Contains nat_list_eq_equiv key (texts keys) there),
+    )

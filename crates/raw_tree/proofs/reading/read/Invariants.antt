@@ -9,7 +9,9 @@ use Rattle.raw_tree.proofs.reading.read.Given as goal
 -- levels have passed is counted
 abbrev pub invariant-levels : goal.invariant-levels
 invariant-levels l =
-    (inside : ℕ) × (d : List ℕ) × (nested : Holder) × (n : ℕ) × (k : ℕ) × AreWaiting inside (bytes_of l.fn.nested.document) l.fn.nested.holder l.waiting.items d nested n × IsReading inside d nested l.level k × (l.steps ≡ n + k) × (suc (length l.waiting.items + inside) ≡ l.fn.depth)
+    (inside : ℕ) × (d : List ℕ) × (nested : Holder) × (n : ℕ) × (k : ℕ)
+    × AreWaiting inside (bytes_of l.fn.nested.document) l.fn.nested.holder l.waiting.items d nested n × IsReading inside d nested l.level k
+    × (l.steps ≡ n + k) × (suc (length l.waiting.items + inside) ≡ l.fn.depth)
 
 -- the bytes that are left, and the levels
 abbrev pub decreases-levels : goal.decreases-levels

@@ -10,4 +10,5 @@ pub returns-clause-fault : goal.returns-clause-fault
 returns-clause-fault c = fault_of_all (2 ^ 64 - 1) c.args.nested.holder (bytes_of c.args.nested.document) c.args.nested.document.envelope (omega arith) c.read.result c.read.ensures.fault
 
 pub returns-clause-count : goal.returns-clause-count
-returns-clause-count c = frames_of_all (2 ^ 64 - 1) c.args.nested.holder (bytes_of c.args.nested.document) c.args.nested.document.envelope (omega arith) c.read.result c.read.new.steps c.read.ensures.count
+returns-clause-count c = frames_of_all (2 ^ 64 - 1) c.args.nested.holder (bytes_of c.args.nested.document) c.args.nested.document.envelope
+    (omega arith) c.read.result c.read.new.steps c.read.ensures.count

@@ -1,7 +1,7 @@
 use Rattle.std.proofs.Common.{take}
 use Rattle.raw_tree.specs.Marks.{AreMarked}
 use Rattle.raw_tree.specs.References.{texts}
-use Rattle.raw_tree.proofs.marks.Marks.put_all.Given as goal
+use Rattle.raw_tree.proofs.marks.Marks.mark_all.Given as goal
 
 -- the keys so far are marked
 abbrev pub invariant-loop-key : goal.invariant-loop-key
