@@ -19,11 +19,14 @@ behind_header b more h =
     drop-append-le 4 (take (length b - 1) b) more enough ∙ ap (λ (x : List ℕ). x ++ more) (front_dropped b h)
 
 -- an element in place of the final 0, a 0 behind it, and then the header
-pub written_is_appended : (b : List ℕ) (f : Frame) (total : ℤ) → 5 ≤ length b → total ≡ pos (length b + (length f.key + (2 + length f.payload))) → le32 total ++ drop 4 (take (length b - 1) b ++ (frame_bytes f ++ 0 ∷ [])) ≡ appended_bytes b f
+pub written_is_appended : (b : List ℕ) (f : Frame) (total : ℤ) → 5 ≤ length b → total ≡ pos (length b + (length f.key + (2 + length f.payload)))
+    → le32 total ++ drop 4 (take (length b - 1) b ++ (frame_bytes f ++ 0 ∷ [])) ≡ appended_bytes b f
 written_is_appended b f total h t =
     let inside = inside_of b ++ frame_bytes f in
-    let n : length b + (length f.key + (2 + length f.payload)) ≡ 4 + length (inside ++ 0 ∷ []) = omega (arith, h, length-inside b h, length-frame_bytes f, length-append (inside_of b) (frame_bytes f), length-append inside (0 ∷ [])) in
-    let back : drop 4 (take (length b - 1) b ++ (frame_bytes f ++ 0 ∷ [])) ≡ inside ++ 0 ∷ [] = behind_header b (frame_bytes f ++ 0 ∷ []) h ∙ sym (append_assoc (inside_of b) (frame_bytes f) (0 ∷ [])) in
+    let n : length b + (length f.key + (2 + length f.payload)) ≡ 4 + length (inside ++ 0 ∷ []) =
+    omega (arith, h, length-inside b h, length-frame_bytes f, length-append (inside_of b) (frame_bytes f), length-append inside (0 ∷ [])) in
+    let back : drop 4 (take (length b - 1) b ++ (frame_bytes f ++ 0 ∷ [])) ≡ inside ++ 0 ∷ [] =
+    behind_header b (frame_bytes f ++ 0 ∷ []) h ∙ sym (append_assoc (inside_of b) (frame_bytes f) (0 ∷ [])) in
     ap (λ (z : ℤ). le32 z ++ drop 4 (take (length b - 1) b ++ (frame_bytes f ++ 0 ∷ []))) (t ∙ ap (λ (x : ℕ). pos x) n) ∙ ap (λ (x : List ℕ). le32 (pos (4 + length (inside ++ 0 ∷ []))) ++ x) back
 
 -- as many bytes as there were, and those of the element

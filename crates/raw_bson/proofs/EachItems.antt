@@ -82,7 +82,9 @@ behind all items more item after h first = h ∙ ap (λ x. items ++ x) first
 
 module _ {X : Type 0} (Tells : Result X Error → Item → Type 0) where
   -- what a step tells is the first of the items that are left
-  told_first : (r : List ℕ) (rest : List Frame) (end : End) (more : List Item) (out : Result X Error) (new : Option (List ℕ)) → StepsItems Tells (Some r) (Some out) new → IsWalk r rest end → ItemsOf rest end more → (item : Item) × (after : List Item) × (more ≡ item ∷ after) × Tells out item
+  told_first : (r : List ℕ) (rest : List Frame) (end : End) (more : List Item) (out : Result X Error) (new : Option (List ℕ))
+      → StepsItems Tells (Some r) (Some out) new → IsWalk r rest end → ItemsOf rest end more
+      → (item : Item) × (after : List Item) × (more ≡ item ∷ after) × Tells out item
   told_first r [] end more out new (inl g) w i = absurd (no_frame_at_end r end g.0 g.1 w g.3)
   told_first r [] Done more out new (inr g) w i = absurd (no_stop_at_final r g.0.fault g.0.key w g.1)
   told_first r [] (Stopped fault key) more out new (inr g) w i =
@@ -97,7 +99,9 @@ module _ {X : Type 0} (Tells : Result X Error → Item → Type 0) where
   told_first r (f ∷ rest) end more out new (inr g) w i = absurd (no_frame_at_stop r g.0.fault g.0.key g.1 f w.0 w.1)
 
   -- behind the items that were read is, in every list of items, the one that a step tells
-  pub HasReadItems-next : (b : List ℕ) (items : List Item) (old new : Option (List ℕ)) (out : Result X Error) (all : List Item) → HasReadItems (drop 4 b) items old → StepsItems Tells old (Some out) new → AreItems b all → (item : Item) × (after : List Item) × (all ≡ items ++ item ∷ after) × Tells out item
+  pub HasReadItems-next : (b : List ℕ) (items : List Item) (old new : Option (List ℕ)) (out : Result X Error) (all : List Item)
+      → HasReadItems (drop 4 b) items old → StepsItems Tells old (Some out) new → AreItems b all
+      → (item : Item) × (after : List Item) × (all ≡ items ++ item ∷ after) × Tells out item
   HasReadItems-next b items None new out all h st are = absurd h.read
   HasReadItems-next b items (Some r) new out all h st are =
       let walk = LeadsTo-begins (drop 4 b) h.frames r are.0 are.1 h.read are.2 in
@@ -142,12 +146,14 @@ module _ {P : List ℕ → RawValue → Type 0} {b : List ℕ} where
   comes_to : {left : Option (List ℕ)} {all : List Item} (h : HasReadEach P b left) (item : Item) (after : List Item) → AreItems b all → all ≡ h.items ++ item ∷ after → ComesTo P b item
   comes_to h item after are same = record { before = h.items; after = after; are_items = subst (AreItems b) same are; each = h.each }
 
-  comes_to_fault : {left : Option (List ℕ)} {all : List Item} (h : HasReadEach P b left) (item : Item) (after : List Item) (fault : KeyedFault) → AreItems b all → all ≡ h.items ++ item ∷ after → IsFaultOf fault item → ComesToFault P b fault
+  comes_to_fault : {left : Option (List ℕ)} {all : List Item} (h : HasReadEach P b left) (item : Item) (after : List Item) (fault : KeyedFault) → AreItems b all
+      → all ≡ h.items ++ item ∷ after → IsFaultOf fault item → ComesToFault P b fault
   comes_to_fault h item after fault are same (inl k) = inl (k.0, subst (ComesTo P b) k.1 (comes_to h item after are same))
   comes_to_fault h item after fault are same (inr k) = inr (subst (ComesTo P b) k (comes_to h item after are same))
 
   -- one more key and value was read, of which it holds
-  pub HasReadEach-pair : {old new : Option (List ℕ)} {out : Result (Bor (List ℕ) × RawBsonRef) Error} {p : Bor (List ℕ) × RawBsonRef} → HasReadEach P b old → StepsItems TellsItem old (Some out) new → out ≡ Ok p → P p.0.now (value_of p.1) → HasReadEach P b new
+  pub HasReadEach-pair : {old new : Option (List ℕ)} {out : Result (Bor (List ℕ) × RawBsonRef) Error} {p : Bor (List ℕ) × RawBsonRef} → HasReadEach P b old
+      → StepsItems TellsItem old (Some out) new → out ≡ Ok p → P p.0.now (value_of p.1) → HasReadEach P b new
   HasReadEach-pair {old = old} {new = new} {p = p} h st was holds = record {
     items = h.items ++ entry p.0.now (value (value_of p.1)) ∷ [];
     read = HasReadItems-pair (drop 4 b) h.items old new p h.read (subst (λ (x : Result (Bor (List ℕ) × RawBsonRef) Error). StepsItems TellsItem old (Some x) new) was st);
@@ -155,21 +161,26 @@ module _ {P : List ℕ → RawValue → Type 0} {b : List ℕ} where
   }
 
   -- one key and value was read behind those of which it holds
-  pub HasReadEach-comes : {old : Option (List ℕ)} (new : Option (List ℕ)) {all : List Item} {out : Result (Bor (List ℕ) × RawBsonRef) Error} {p : Bor (List ℕ) × RawBsonRef} → HasReadEach P b old → StepsItems TellsItem old (Some out) new → out ≡ Ok p → AreItems b all → ComesTo P b (entry p.0.now (value (value_of p.1)))
+  pub HasReadEach-comes : {old : Option (List ℕ)} (new : Option (List ℕ)) {all : List Item} {out : Result (Bor (List ℕ) × RawBsonRef) Error}
+      {p : Bor (List ℕ) × RawBsonRef} → HasReadEach P b old → StepsItems TellsItem old (Some out) new → out ≡ Ok p → AreItems b all
+      → ComesTo P b (entry p.0.now (value (value_of p.1)))
   HasReadEach-comes {old = old} new {all = all} {out = out} {p = p} h st was are =
       let next = HasReadItems-next TellsItem b h.items old new out all h.read st are in
       let this = told_pair p next.0 (subst (λ (x : Result (Bor (List ℕ) × RawBsonRef) Error). TellsItem x next.0) was next.3) in
       subst (ComesTo P b) this (comes_to h next.0 next.1 are next.2)
 
   -- a fault is met behind them
-  pub HasReadEach-fault : {old : Option (List ℕ)} (new : Option (List ℕ)) {all : List Item} {out : Result (Bor (List ℕ) × RawBsonRef) Error} {e : Error} → HasReadEach P b old → StepsItems TellsItem old (Some out) new → out ≡ Err e → AreItems b all → (fault : KeyedFault) × ComesToFault P b fault × Says e fault
+  pub HasReadEach-fault : {old : Option (List ℕ)} (new : Option (List ℕ)) {all : List Item} {out : Result (Bor (List ℕ) × RawBsonRef) Error} {e : Error}
+      → HasReadEach P b old → StepsItems TellsItem old (Some out) new → out ≡ Err e → AreItems b all
+      → (fault : KeyedFault) × ComesToFault P b fault × Says e fault
   HasReadEach-fault {old = old} new {all = all} {out = out} {e = e} h st was are =
       let next = HasReadItems-next TellsItem b h.items old new out all h.read st are in
       let told = told_pair_fault e next.0 (subst (λ (x : Result (Bor (List ℕ) × RawBsonRef) Error). TellsItem x next.0) was next.3) in
       (told.0, comes_to_fault h next.0 next.1 told.0 are next.2 told.1, told.2)
 
   -- the same where values of an array are read, under some keys
-  pub HasReadEach-value : {old new : Option (List ℕ)} {out : Result RawBsonRef Error} {v : RawBsonRef} → HasReadEach P b old → StepsItems TellsValue old (Some out) new → out ≡ Ok v → ((key : List ℕ) → P key (value_of v)) → HasReadEach P b new
+  pub HasReadEach-value : {old new : Option (List ℕ)} {out : Result RawBsonRef Error} {v : RawBsonRef} → HasReadEach P b old
+      → StepsItems TellsValue old (Some out) new → out ≡ Ok v → ((key : List ℕ) → P key (value_of v)) → HasReadEach P b new
   HasReadEach-value {old = old} {new = new} {v = v} h st was holds =
       let more = HasReadItems-value (drop 4 b) h.items old new v h.read (subst (λ (x : Result RawBsonRef Error). StepsItems TellsValue old (Some x) new) was st) in
       record {
@@ -178,13 +189,17 @@ module _ {P : List ℕ → RawValue → Type 0} {b : List ℕ} where
         each = EachItem-more P h.items more.0 (value_of v) h.each (holds more.0);
       }
 
-  pub HasReadEach-comes_value : {old : Option (List ℕ)} (new : Option (List ℕ)) {all : List Item} {out : Result RawBsonRef Error} {v : RawBsonRef} → HasReadEach P b old → StepsItems TellsValue old (Some out) new → out ≡ Ok v → AreItems b all → (key : List ℕ) × ComesTo P b (entry key (value (value_of v)))
+  pub HasReadEach-comes_value : {old : Option (List ℕ)} (new : Option (List ℕ)) {all : List Item} {out : Result RawBsonRef Error} {v : RawBsonRef}
+      → HasReadEach P b old → StepsItems TellsValue old (Some out) new → out ≡ Ok v → AreItems b all
+      → (key : List ℕ) × ComesTo P b (entry key (value (value_of v)))
   HasReadEach-comes_value {old = old} new {all = all} {out = out} {v = v} h st was are =
       let next = HasReadItems-next TellsValue b h.items old new out all h.read st are in
       let this = told_value v next.0 (subst (λ (x : Result RawBsonRef Error). TellsValue x next.0) was next.3) in
       (this.0, subst (ComesTo P b) this.1 (comes_to h next.0 next.1 are next.2))
 
-  pub HasReadEach-value_fault : {old : Option (List ℕ)} (new : Option (List ℕ)) {all : List Item} {out : Result RawBsonRef Error} {e : Error} → HasReadEach P b old → StepsItems TellsValue old (Some out) new → out ≡ Err e → AreItems b all → (fault : KeyedFault) × ComesToFault P b fault × Says e fault
+  pub HasReadEach-value_fault : {old : Option (List ℕ)} (new : Option (List ℕ)) {all : List Item} {out : Result RawBsonRef Error} {e : Error}
+      → HasReadEach P b old → StepsItems TellsValue old (Some out) new → out ≡ Err e → AreItems b all
+      → (fault : KeyedFault) × ComesToFault P b fault × Says e fault
   HasReadEach-value_fault {old = old} new {all = all} {out = out} {e = e} h st was are =
       let next = HasReadItems-next TellsValue b h.items old new out all h.read st are in
       let told = told_value_fault e next.0 (subst (λ (x : Result RawBsonRef Error). TellsValue x next.0) was next.3) in
@@ -202,17 +217,24 @@ pub record HasTried {E : Type 0} (wrap : Error → E) (Answers : List ℕ → Ra
 
 module _ {E : Type 0} {wrap : Error → E} {Answers : List ℕ → RawValue → Result (Unit {0}) E → Type 0} {b : List ℕ} where
   -- the call returned Ok for one more
-  pub HasTried-more : {old new : Option (List ℕ)} {out : Result (Bor (List ℕ) × RawBsonRef) Error} {p : Bor (List ℕ) × RawBsonRef} {r : Result (Unit {0}) E} → HasTried wrap Answers b old → StepsItems TellsItem old (Some out) new → out ≡ Ok p → Answers p.0.now (value_of p.1) r → r ≡ Ok tt → HasTried wrap Answers b new
+  pub HasTried-more : {old new : Option (List ℕ)} {out : Result (Bor (List ℕ) × RawBsonRef) Error} {p : Bor (List ℕ) × RawBsonRef} {r : Result (Unit {0}) E}
+      → HasTried wrap Answers b old → StepsItems TellsItem old (Some out) new → out ≡ Ok p → Answers p.0.now (value_of p.1) r → r ≡ Ok tt
+      → HasTried wrap Answers b new
   HasTried-more {p = p} h st was answers ok = record { read = HasReadEach-pair h.read st was (subst (Answers p.0.now (value_of p.1)) ok answers) }
 
   -- it returned an error, with which the loop is left
-  pub HasTried-error : {old : Option (List ℕ)} (new : Option (List ℕ)) {all : List Item} {out : Result (Bor (List ℕ) × RawBsonRef) Error} {p : Bor (List ℕ) × RawBsonRef} {r : Result (Unit {0}) E} {e : E} (x : Result (Unit {0}) E) → HasTried wrap Answers b old → StepsItems TellsItem old (Some out) new → out ≡ Ok p → AreItems b all → Answers p.0.now (value_of p.1) r → r ≡ Err e → IsErrAnd x (λ y. y ≡ e) → TriesEach wrap Answers b x
+  pub HasTried-error : {old : Option (List ℕ)} (new : Option (List ℕ)) {all : List Item} {out : Result (Bor (List ℕ) × RawBsonRef) Error}
+      {p : Bor (List ℕ) × RawBsonRef} {r : Result (Unit {0}) E} {e : E} (x : Result (Unit {0}) E) → HasTried wrap Answers b old
+      → StepsItems TellsItem old (Some out) new → out ≡ Ok p → AreItems b all → Answers p.0.now (value_of p.1) r → r ≡ Err e → IsErrAnd x (λ y. y ≡ e)
+      → TriesEach wrap Answers b x
   HasTried-error new {p = p} x h st was are answers bad left =
       let q = err_from_is_err_and x left in
       rw (q.1, q.2) (inl (p.0.now, value_of p.1, HasReadEach-comes new h.read st was are, subst (Answers p.0.now (value_of p.1)) bad answers))
 
   -- a fault was met, and its error wrapped
-  pub HasTried-fault : {old : Option (List ℕ)} (new : Option (List ℕ)) {all : List Item} {out : Result (Bor (List ℕ) × RawBsonRef) Error} {e : Error} (x : Result (Unit {0}) E) → HasTried wrap Answers b old → StepsItems TellsItem old (Some out) new → out ≡ Err e → AreItems b all → IsErrAnd x (λ y. y ≡ wrap e) → TriesEach wrap Answers b x
+  pub HasTried-fault : {old : Option (List ℕ)} (new : Option (List ℕ)) {all : List Item} {out : Result (Bor (List ℕ) × RawBsonRef) Error} {e : Error}
+      (x : Result (Unit {0}) E) → HasTried wrap Answers b old → StepsItems TellsItem old (Some out) new → out ≡ Err e → AreItems b all
+      → IsErrAnd x (λ y. y ≡ wrap e) → TriesEach wrap Answers b x
   HasTried-fault new {e = e} x h st was are left =
       let q = err_from_is_err_and x left in
       let met = HasReadEach-fault new h.read st was are in
@@ -230,15 +252,19 @@ pub record HasSought {E : Type 0} (wrap : Error → E) (P : List ℕ → RawValu
 
 module _ {E : Type 0} {wrap : Error → E} {P : List ℕ → RawValue → Type 0} {b : List ℕ} where
   -- one more isn't what is sought
-  pub HasSought-more : {old new : Option (List ℕ)} {out : Result RawBsonRef Error} {v : RawBsonRef} → HasSought wrap P b old → StepsItems TellsValue old (Some out) new → out ≡ Ok v → ((key : List ℕ) → ¬ P key (value_of v)) → HasSought wrap P b new
+  pub HasSought-more : {old new : Option (List ℕ)} {out : Result RawBsonRef Error} {v : RawBsonRef} → HasSought wrap P b old
+      → StepsItems TellsValue old (Some out) new → out ≡ Ok v → ((key : List ℕ) → ¬ P key (value_of v)) → HasSought wrap P b new
   HasSought-more h st was other = record { read = HasReadEach-value h.read st was other }
 
   -- one is
-  pub HasSought-found : {old : Option (List ℕ)} (new : Option (List ℕ)) {all : List Item} {out : Result RawBsonRef Error} {v : RawBsonRef} → HasSought wrap P b old → StepsItems TellsValue old (Some out) new → out ≡ Ok v → AreItems b all → ((key : List ℕ) → P key (value_of v)) → SeeksOne wrap P b (Ok true)
+  pub HasSought-found : {old : Option (List ℕ)} (new : Option (List ℕ)) {all : List Item} {out : Result RawBsonRef Error} {v : RawBsonRef}
+      → HasSought wrap P b old → StepsItems TellsValue old (Some out) new → out ≡ Ok v → AreItems b all → ((key : List ℕ) → P key (value_of v))
+      → SeeksOne wrap P b (Ok true)
   HasSought-found new {v = v} h st was are holds = let met = HasReadEach-comes_value new h.read st was are in (met.0, value_of v, met.1, holds met.0)
 
   -- a fault was met, and its error wrapped
-  pub HasSought-fault : {old : Option (List ℕ)} (new : Option (List ℕ)) {all : List Item} {out : Result RawBsonRef Error} {e : Error} (x : Result Bool E) → HasSought wrap P b old → StepsItems TellsValue old (Some out) new → out ≡ Err e → AreItems b all → IsErrAnd x (λ y. y ≡ wrap e) → SeeksOne wrap P b x
+  pub HasSought-fault : {old : Option (List ℕ)} (new : Option (List ℕ)) {all : List Item} {out : Result RawBsonRef Error} {e : Error} (x : Result Bool E)
+      → HasSought wrap P b old → StepsItems TellsValue old (Some out) new → out ≡ Err e → AreItems b all → IsErrAnd x (λ y. y ≡ wrap e) → SeeksOne wrap P b x
   HasSought-fault new {e = e} x h st was are left =
       let q = err_from_is_err_and x left in
       let met = HasReadEach-value_fault new h.read st was are in
@@ -276,7 +302,9 @@ module _ {T E : Type 0} {wrap : Error → E} {Answers : Option RawValue → Resu
 
 -- where one is met of which it doesn't hold, it doesn't hold of each
 pub ComesTo-not_each : {P : List ℕ → RawValue → Type 0} {b : List ℕ} {key : List ℕ} {v : RawValue} → ComesTo P b (entry key (value v)) → ¬ P key v → ¬ HoldsOfEach P b
-ComesTo-not_each {P = P} {b = b} {key = key} {v = v} c bad = λ h. bad (EachItem-at P c.before key v c.after (subst (EachItem P) ((the_items b (c.before ++ entry key (value v) ∷ c.after) c.are_items).1 h.items h.are_items) h.each))
+ComesTo-not_each {P = P} {b = b} {key = key} {v = v} c bad =
+    λ h. bad (EachItem-at P c.before key v c.after (subst (EachItem P)
+    ((the_items b (c.before ++ entry key (value v) ∷ c.after) c.are_items).1 h.items h.are_items) h.each))
 
 -- where one is met of which it holds, it holds of one
 pub ComesTo-one : {P Q : List ℕ → RawValue → Type 0} {b : List ℕ} {key : List ℕ} {v : RawValue} → ComesTo Q b (entry key (value v)) → P key v → HoldsOfOne P b

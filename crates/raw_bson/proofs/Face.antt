@@ -16,6 +16,8 @@ pub use Rattle.raw_bson.proofs.EachItems.{EachItem-more, EachItem-at, OneItem-at
 pub use Rattle.raw_bson.proofs.SameViews.{same_view, view_same, view_differs}
 -- rows of appends, and what was read and is written again
 pub use Rattle.raw_bson.proofs.HeldFrames.{HoldsFrames-empty, HoldsFrames-value, HoldsFrames-element, HaveNoShortScope-more, HaveNoShortScope-last, value_is_long, value_means, frame_again}
+-- rows of appends of keys and values, and where one fails
+pub use Rattle.raw_bson.proofs.Rows.{HoldsRow-empty, HoldsRow-more, RefusesRow-at}
 -- there is one walk alone, and one meaning of a frame
 pub use Rattle.raw_view.proofs.Face.{one_frame, one_walk, one_meaning}
 -- the document at the front of bytes, and the length that they begin with: four bytes read one
@@ -26,3 +28,6 @@ pub use Rattle.raw_tree.proofs.Face.{bytes_one_way, canonical_form}
 pub use Rattle.bson_model.proofs.Face.{AreBytes-from_elements}
 -- the tree of each kind of value
 pub use Rattle.bson_model.proofs.Face.{tree_laws, tree_of-Double, tree_of-String, tree_of-Document, tree_of-Array, tree_of-Binary, tree_of-Undefined, tree_of-ObjectId, tree_of-Boolean, tree_of-DateTime, tree_of-Null, tree_of-RegularExpression, tree_of-DbPointer, tree_of-JavaScriptCode, tree_of-Symbol, tree_of-JavaScriptCodeWithScope, tree_of-Int32, tree_of-Timestamp, tree_of-Int64, tree_of-Decimal128, tree_of-MaxKey, tree_of-MinKey}
+-- what is smaller than a value or a document, for calls that go down a tree
+pub use Rattle.bson_model.proofs.Face.{value_smaller, document_smaller, code_smaller, scope_smaller, at_most_member}
+pub use Rattle.raw_bson.proofs.SmallerValues.{AreSmaller, values_smaller}

@@ -64,7 +64,8 @@ HoldsFrames-element b frames f left h long keeps = record {
 }
 
 -- one more value
-pub HoldsFrames-value : (b : List ℕ) (frames : List Frame) (key : List ℕ) (v : RawValue) (left : List ℕ) → HoldsFrames b frames → KeepsWalk b (value_frame key v) left → HoldsFrames left (frames ++ value_frame key v ∷ [])
+pub HoldsFrames-value : (b : List ℕ) (frames : List Frame) (key : List ℕ) (v : RawValue) (left : List ℕ) → HoldsFrames b frames
+    → KeepsWalk b (value_frame key v) left → HoldsFrames left (frames ++ value_frame key v ∷ [])
 HoldsFrames-value b frames key v left h keeps = HoldsFrames-element b frames (value_frame key v) left h (value_is_long key v) keeps
 
 -- the frame of a value means it
@@ -75,7 +76,8 @@ value_means key (array bytes) h n s l = refl
 value_means key (scoped code scope) h n s l = scoped_means code scope h.0 h.1 (omega arith)
 
 -- so an append adds it
-pub adds_value : (b key : List ℕ) (v : RawValue) (left : List ℕ) → IsRawInRange v → IsValueNulFree v → length (payload_of v) ≤ max_length → KeepsWalk b (value_frame key v) left → AddsValue b key v left
+pub adds_value : (b key : List ℕ) (v : RawValue) (left : List ℕ) → IsRawInRange v → IsValueNulFree v → length (payload_of v) ≤ max_length
+    → KeepsWalk b (value_frame key v) left → AddsValue b key v left
 adds_value b key v left range nul_free fits keeps = record {
   holds = λ frames h. HoldsFrames-value b frames key v left h keeps;
   means = λ proper. value_means key v range nul_free proper fits;
@@ -83,7 +85,8 @@ adds_value b key v left range nul_free fits keeps = record {
 
 -- rows of appends
 
-pub frames_of_pairs-more : (pairs : List (Bor (List ℕ) × RawBson)) (pair : Bor (List ℕ) × RawBson) → frames_of_pairs (pairs ++ pair ∷ []) ≡ frames_of_pairs pairs ++ value_frame pair.0.now (owned_value pair.1) ∷ []
+pub frames_of_pairs-more : (pairs : List (Bor (List ℕ) × RawBson)) (pair : Bor (List ℕ) × RawBson)
+    → frames_of_pairs (pairs ++ pair ∷ []) ≡ frames_of_pairs pairs ++ value_frame pair.0.now (owned_value pair.1) ∷ []
 frames_of_pairs-more [] pair = refl
 frames_of_pairs-more (p ∷ pairs) pair = ap (λ fs. value_frame p.0.now (owned_value p.1) ∷ fs) (frames_of_pairs-more pairs pair)
 

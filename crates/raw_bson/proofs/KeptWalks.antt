@@ -126,7 +126,8 @@ frame_on : (m t e : List ℕ) (f : Frame) (frames : List Frame) → IsFrame (m +
 frame_on m t e f frames b w none =
     let front : m ≡ tag_of f.kind ∷ (f.key ++ 0 ∷ (f.payload ++ t)) = (same_from_push m _ 0 0 (b.spelled ∙ sym (frame-append (tag_of f.kind) f.key f.payload t (0 ∷ [])))).0 in
     let other : f.kind ≡ kind.JavaScriptCodeWithScope → frames ≡ [] → length f.payload ≢ 3 = λ scoped last three. none ([], f, ap (λ x. f ∷ x) last, (scoped, omega (arith, three))) in
-    let declared : f.kind ≡ kind.JavaScriptCodeWithScope → HasDeclaredLength f.payload (t ++ 0 ∷ []) → HasDeclaredLength f.payload (t ++ e) = λ scoped d. declared_on f.payload t (0 ∷ []) e (length_before_end f.payload t frames w (other scoped) d) d in
+    let declared : f.kind ≡ kind.JavaScriptCodeWithScope → HasDeclaredLength f.payload (t ++ 0 ∷ []) → HasDeclaredLength f.payload (t ++ e) =
+    λ scoped d. declared_on f.payload t (0 ∷ []) e (length_before_end f.payload t frames w (other scoped) d) d in
     record {
       spelled = ap (λ x. x ++ e) front ∙ frame-append (tag_of f.kind) f.key f.payload t e;
       key_nul_free = b.key_nul_free;
@@ -161,5 +162,7 @@ pub keeps_walk : (b : List ℕ) (f : Frame) → IsEnvelope b → StandsAnywhere 
 keeps_walk b f envelope stands frames w none =
     let old : IsWalk (inside_of b ++ 0 ∷ []) frames Done = subst (λ (x : List ℕ). IsWalk x frames Done) (inside_and_end b envelope) w in
     let after : inside_of b ++ (frame_bytes f ++ 0 ∷ []) ≡ drop 4 (appended_bytes b f) = sym (append_assoc (inside_of b) (frame_bytes f) (0 ∷ [])) in
-    let on : IsWalk (drop 4 (appended_bytes b f)) (frames ++ f ∷ []) Done = subst (λ (x : List ℕ). IsWalk x (frames ++ f ∷ []) Done) after (walk_on (inside_of b) (frame_bytes f ++ 0 ∷ []) frames f (stands_last f stands) old none) in
+    let on : IsWalk (drop 4 (appended_bytes b f)) (frames ++ f ∷ []) Done =
+    subst (λ (x : List ℕ). IsWalk x (frames ++ f ∷ []) Done) after
+    (walk_on (inside_of b) (frame_bytes f ++ 0 ∷ []) frames f (stands_last f stands) old none) in
     the_walk (drop 4 (appended_bytes b f)) (frames ++ f ∷ []) Done on

@@ -7,4 +7,6 @@ pub mod SameValues
 pub mod Appended
 pub mod EachItems
 pub mod SameViews
+pub mod Rows
+pub mod SmallerValues
 pub mod Face

@@ -181,7 +181,61 @@ shows c = shown (make c)
 
 -- each variant's values show its place, so values of two variants show different things
 places : Kinds place bson.enum.parts 0 shows
-places = (λ u. refl, (λ u. refl, (λ u. refl, (λ u. refl, (λ u. refl, (λ u. refl, (λ u. refl, (λ u. refl, (λ u. refl, (λ u. refl, (λ u. refl, (λ u. refl, (λ u. refl, (λ u. refl, (λ u. refl, (λ u. refl, (λ u. refl, (λ u. refl, (λ u. refl, (λ u. refl, (λ u. refl, tt)))))))))))))))))))))
+places = (
+  λ u. refl,
+  (
+    λ u. refl,
+    (
+      λ u. refl,
+      (
+        λ u. refl,
+        (
+          λ u. refl,
+          (
+            λ u. refl,
+            (
+              λ u. refl,
+              (
+                λ u. refl,
+                (
+                  λ u. refl,
+                  (
+                    λ u. refl,
+                    (
+                      λ u. refl,
+                      (
+                        λ u. refl,
+                        (
+                          λ u. refl,
+                          (
+                            λ u. refl,
+                            (
+                              λ u. refl,
+                              (
+                                λ u. refl,
+                                (
+                                  λ u. refl,
+                                  (
+                                    λ u. refl,
+                                    (λ u. refl, (λ u. refl, (λ u. refl, tt))),
+                                  ),
+                                ),
+                              ),
+                            ),
+                          ),
+                        ),
+                      ),
+                    ),
+                  ),
+                ),
+              ),
+            ),
+          ),
+        ),
+      ),
+    ),
+  ),
+)
 
 -- for each of some variants, `==` of two of its values
 abbrev tests_of : (Fss : List (List Field)) → (Choice Fss → RawBson) → Each Bool Fss

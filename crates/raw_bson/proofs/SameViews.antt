@@ -129,7 +129,61 @@ shows c = value_of (make c)
 
 -- each variant views values of one place, so two variants view different values
 places : Kinds value_place variants 0 shows
-places = (λ u. refl, (λ u. refl, (λ u. refl, (λ u. refl, (λ u. refl, (λ u. refl, (λ u. refl, (λ u. refl, (λ u. refl, (λ u. refl, (λ u. refl, (λ u. refl, (λ u. refl, (λ u. refl, (λ u. refl, (λ u. refl, (λ u. refl, (λ u. refl, (λ u. refl, (λ u. refl, (λ u. refl, tt)))))))))))))))))))))
+places = (
+  λ u. refl,
+  (
+    λ u. refl,
+    (
+      λ u. refl,
+      (
+        λ u. refl,
+        (
+          λ u. refl,
+          (
+            λ u. refl,
+            (
+              λ u. refl,
+              (
+                λ u. refl,
+                (
+                  λ u. refl,
+                  (
+                    λ u. refl,
+                    (
+                      λ u. refl,
+                      (
+                        λ u. refl,
+                        (
+                          λ u. refl,
+                          (
+                            λ u. refl,
+                            (
+                              λ u. refl,
+                              (
+                                λ u. refl,
+                                (
+                                  λ u. refl,
+                                  (
+                                    λ u. refl,
+                                    (λ u. refl, (λ u. refl, (λ u. refl, tt))),
+                                  ),
+                                ),
+                              ),
+                            ),
+                          ),
+                        ),
+                      ),
+                    ),
+                  ),
+                ),
+              ),
+            ),
+          ),
+        ),
+      ),
+    ),
+  ),
+)
 
 -- for each of some variants, `==` of two of its values
 abbrev tests_of : (Fss : List (List Field)) → (Choice Fss → RawBsonRef) → Each Bool Fss
@@ -177,7 +231,9 @@ same_made c d = rw (by_variants c d) (decided value_place variants 0 tests shows
 -- and every value is made so: `==` of two borrowed values decides whether they view the same value
 pub same_view : (x y : RawBsonRef) → Decides (equal x y) (value_of x ≡ value_of y)
 same_view x y =
-    subst (λ z. IsDecided z y) (view.the_eta static_lft x) (subst (λ z. IsDecided (make (view.as_values static_lft x)) z) (view.the_eta static_lft y) (same_made (view.as_values static_lft x) (view.as_values static_lft y)))
+    subst (λ z. IsDecided z y) (view.the_eta static_lft x)
+    (subst (λ z. IsDecided (make (view.as_values static_lft x)) z) (view.the_eta static_lft y)
+    (same_made (view.as_values static_lft x) (view.as_values static_lft y)))
 
 -- so does what `==` returned
 pub view_same : (x y : RawBsonRef) {same : Bool} → same ≡ equal x y → same ≡ true → value_of x ≡ value_of y

@@ -20,7 +20,7 @@ use Rattle.raw_tree.specs.Payload.{payload_of, IsValueNulFree}
 abbrev pub value_frame : List ℕ → RawValue → Frame
 value_frame key v = record { kind = kind_of_raw v; key = key; payload = payload_of v }
 
--- the element that a frame stands as
+-- the element of a frame
 abbrev pub frame_bytes : Frame → List ℕ
 frame_bytes f = element_of f.kind f.key f.payload
 

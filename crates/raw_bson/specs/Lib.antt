@@ -9,6 +9,7 @@ pub mod Fills
 pub mod Lending
 pub mod Owned
 pub mod OwnedAccessors
+pub mod Rows
 -- what the crates below say, for whoever lists this crate alone
 pub use Rattle.bson_model.specs.Bytes
 pub use Rattle.bson_model.specs.Leaf

@@ -29,6 +29,9 @@ impl RawBson {
     }
 
     /// The value of this kind: the text; `None` for every other kind.
+    /// ```
+    /// assert_eq!(rt; RawBson::from_str(alloc, "Ada")?.as_str(), Some("Ada"));
+    /// ```
     pub fn as_str(&self) -> Option<&str>
         ensures part { option_copied result ≡ accessors.as_str self.now }
         ensures meaning { Shows typed.str_value variants.String (owned_value self.now) result }
@@ -73,6 +76,10 @@ impl RawBson {
     }
 
     /// The value of this kind: the number; `None` for every other kind.
+    /// ```
+    /// assert_eq!(rt; RawBson::from(7).as_i32(), Some(7));
+    /// assert_eq!(rt; RawBson::Null.as_i32(), None);
+    /// ```
     pub fn as_i32(&self) -> Option<i32>
         ensures part { result ≡ accessors.as_i32 self.now }
         ensures meaning { Shows typed.i32_value variants.Int32 (owned_value self.now) result }

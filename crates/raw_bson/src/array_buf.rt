@@ -58,6 +58,10 @@ impl RawArrayBuf {
     }
 
     /// The array of these values, pushed in order; or the first error. The iterator has to end.
+    /// ```
+    /// let array = RawArrayBuf::from_iter(alloc, [RawBson::from(1), RawBson::from(2)].into_iter())?;
+    /// assert_eq!(rt; (array.count(), array.get_i32(1)?), (2, 2));
+    /// ```
     pub fn from_iter<I: Iterator<Item = RawBson> + Drop>(
         alloc: Global,
         values: I,

@@ -72,6 +72,11 @@ pub enum RawBson {
 }
 
 /// JavaScript code with a scope, owned. BSON 1.1, `code_w_s`.
+/// ```
+/// let scope = RawDocumentBuf::new(alloc)?;
+/// let code = RawJavaScriptCodeWithScope { code: String::from_str(alloc, "f()")?, scope };
+/// assert_eq!(rt; RawBson::from(code).element_type(), ElementType::JavaScriptCodeWithScope);
+/// ```
 #[derive(Debug, PartialEq, Eq, Drop)]
 pub struct RawJavaScriptCodeWithScope {
     /// the code

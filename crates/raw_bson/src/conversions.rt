@@ -65,6 +65,10 @@ impl RawDocumentBuf {
     }
 
     /// The tree of the document within limits, as `document_from_raw_within` gives it.
+    /// ```
+    /// let document = RawDocumentBuf::new(alloc)?;
+    /// assert!(rt; document.to_document_within(Limits { bytes: 1000, depth: 10 })?.is_empty());
+    /// ```
     pub fn to_document_within(&self, limits: Limits) -> Result<Document>
         ensures tree { IfOk result (λ d. ReadsWithin limits self.now (tree_of_document d)) }
         ensures fault { IfErr result (TellsFirstBarrier limits self.now) }

@@ -54,6 +54,11 @@ impl RawDocumentBuf {
     }
 
     /// The document of these pairs, appended in order; or the first error. The iterator has to end.
+    /// ```
+    /// let pairs = [("a", RawBson::from(1)), ("b", RawBson::Null)];
+    /// let document = RawDocumentBuf::from_iter(alloc, pairs.into_iter())?;
+    /// assert_eq!(rt; document.get_i32("a")?, 1);
+    /// ```
     pub fn from_iter<'k, I: Iterator<Item = (&'k str, RawBson)> + Drop>(
         alloc: Global,
         pairs: I,

@@ -48,6 +48,13 @@ impl RawDocumentBuf {
     /// The keys and values in order, each fault in its value's place, and then the fault at which the
     /// elements stop, if there is one. Nothing is copied but the key that a fault carries. On n bytes at
     /// most (n - 4) / 2 + 1 items.
+    /// ```
+    /// let mut document = RawDocumentBuf::new(alloc)?;
+    /// document.append("a", RawBson::from(1))?;
+    /// for item in document.iter() {
+    ///     assert_eq!(rt; item?, ("a", RawBsonRef::Int32(1)));
+    /// }
+    /// ```
     pub fn iter(&self) -> Iter<'_>
         ensures begins { result ≡ Some (drop 4 self.now) }
         ensures items { (outs : List (Result (Bor (List ℕ) × RawBsonRef) Error)) →
@@ -147,6 +154,11 @@ impl RawDocumentBuf {
     }
 
     /// A signed 32-bit number under this key; else why there is none, with the key.
+    /// ```
+    /// let mut document = RawDocumentBuf::new(alloc)?;
+    /// document.append("a", RawBson::from(1))?;
+    /// assert_eq!(rt; document.get_i32("a")?, 1);
+    /// ```
     pub fn get_i32(&self, key: &str) -> ValueAccessResult<i32>
         ensures { GetsByKey typed.i32_value variants.Int32 self.now key.now result }
     {

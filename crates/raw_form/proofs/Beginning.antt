@@ -29,19 +29,22 @@ behind_first [] = []
 behind_first (step ∷ steps) = steps
 
 module _ (P : Sort → List ℕ → Type 0) (N : Sort → List ℕ → Verdict → List Step → ℕ → Type 0) where
-  nested_begins : (b s : List ℕ) (step here : Step) (q : List ℕ) (sort : Sort) (d : List ℕ) (x : Verdict) (offset : ℕ) → JudgesNestedAt P N b s step q sort d x (here ∷ []) offset → (here.number ≡ step.number) × BeginsAt b s offset
+  nested_begins : (b s : List ℕ) (step here : Step) (q : List ℕ) (sort : Sort) (d : List ℕ) (x : Verdict) (offset : ℕ)
+      → JudgesNestedAt P N b s step q sort d x (here ∷ []) offset → (here.number ≡ step.number) × BeginsAt b s offset
   nested_begins b s step here q sort d x offset (steps, inside, nested, path_is, far) =
       let none : steps ≡ [] = sym (ap behind_first path_is) in
       (ap first_number path_is, subst (λ (p : List Step). IsOffsetOf b s d q p inside offset) none far)
 
-  meaning_begins : (b s : List ℕ) (step here : Step) (q : List ℕ) (m : Meaning) (x : Verdict) (offset : ℕ) → JudgesMeaningAt P N b s step q m x (here ∷ []) offset → (here.number ≡ step.number) × BeginsAt b s offset
+  meaning_begins : (b s : List ℕ) (step here : Step) (q : List ℕ) (m : Meaning) (x : Verdict) (offset : ℕ)
+      → JudgesMeaningAt P N b s step q m x (here ∷ []) offset → (here.number ≡ step.number) × BeginsAt b s offset
   meaning_begins b s step here q (faulty fault) x offset h = (ap first_number h.1.0, h.1.1)
   meaning_begins b s step here q (value (raw.single l)) x offset h = (ap first_number h.2.0, h.2.1)
   meaning_begins b s step here q (value (raw.document d)) x offset h = nested_begins b s step here q as_document d x offset h
   meaning_begins b s step here q (value (raw.array d)) x offset h = nested_begins b s step here q _ d x offset h
   meaning_begins b s step here q (value (raw.scoped code d)) x offset h = nested_begins b s step here q as_document d x offset h
 
-  front_begins : (sort : Sort) (keys : List (List ℕ)) (b s : List ℕ) (number : ℕ) (here : Step) (x : Verdict) (offset : ℕ) → JudgesFrontAt P N sort keys b s number x (here ∷ []) offset → (here.number ≡ number) × BeginsAt b s offset
+  front_begins : (sort : Sort) (keys : List (List ℕ)) (b s : List ℕ) (number : ℕ) (here : Step) (x : Verdict) (offset : ℕ)
+      → JudgesFrontAt P N sort keys b s number x (here ∷ []) offset → (here.number ≡ number) × BeginsAt b s offset
   front_begins sort keys b s number here x offset (inl stop) = (ap first_number stop.4.0, stop.4.1)
   front_begins sort keys b s number here x offset (inr (f, q, at, inl key)) = (ap first_number key.3.0, key.3.1)
   front_begins sort keys b s number here x offset (inr (f, q, at, inr (more, m, means, judged))) =
@@ -58,11 +61,13 @@ verdict_begins (suc n) b here x offset (passed, s, reaches, keys, canonical, fro
     subst (λ (i : ℕ). AreReadBefore i b here.number offset) same there
 
 -- nor before what was found there
-pub found_begins : (depth : ℕ) (b : List ℕ) (found : Found) (path : List PathStep) → TellsFound depth b (Some found) → path ≡ found.place.path.items → length path ≡ 1 → HasNoneBefore depth b (slice_index_or path 0 (record { number = 0; key = None })).number found.place.offset
+pub found_begins : (depth : ℕ) (b : List ℕ) (found : Found) (path : List PathStep) → TellsFound depth b (Some found) → path ≡ found.place.path.items
+    → length path ≡ 1 → HasNoneBefore depth b (slice_index_or path 0 (record { number = 0; key = None })).number found.place.offset
 found_begins depth b found [] told same one = absurd (omega (arith, one))
 found_begins depth b found (p ∷ []) told same one =
     let steps : steps_of found.place ≡ step_of p ∷ [] = sym (ap (map step_of) same) in
-    verdict_begins depth b (step_of p) (verdict_of found.cause) found.place.offset (subst (λ (q : List Step). FirstVerdictTo depth as_document b (verdict_of found.cause) q found.place.offset) steps told)
+    verdict_begins depth b (step_of p) (verdict_of found.cause) found.place.offset
+    (subst (λ (q : List Step). FirstVerdictTo depth as_document b (verdict_of found.cause) q found.place.offset) steps told)
 found_begins depth b found (p ∷ q ∷ r) told same one = absurd (omega (arith, one))
 
 -- nor before the first element
@@ -88,7 +93,8 @@ not_outside offset n within (inl before) = omega (arith, within.0, before)
 not_outside offset n within (inr behind) = omega (arith, within.1, behind)
 
 -- what the loop over levels keeps holds at a start
-pub at_start : (most depth : ℕ) (b : List ℕ) (ws : List Wait) (left : Option (List ℕ)) (number offset : ℕ) → IsEnvelope b → suc most ≡ depth → ws ≡ [] → left ≡ Some (drop offset b) → AreReadBefore most b number offset → IsAt depth b ws left number offset 0
+pub at_start : (most depth : ℕ) (b : List ℕ) (ws : List Wait) (left : Option (List ℕ)) (number offset : ℕ) → IsEnvelope b → suc most ≡ depth → ws ≡ []
+    → left ≡ Some (drop offset b) → AreReadBefore most b number offset → IsAt depth b ws left number offset 0
 at_start most depth b ws left number offset envelope whole none e is =
     let enough : 5 ≤ length b = envelope.enough in
     let bound = LeadsTo-bound (drop 4 b) is.frames is.s is.reaches in

@@ -26,7 +26,9 @@ barrier_bound limits b x path offset (inl many) = omega (arith, many.3)
 barrier_bound limits b x path offset (inr few) = fault_bound limits.depth b x path offset few.1
 
 -- where the first verdict does
-meaning_bound : (n : ℕ) → ((sort : Sort) (d : List ℕ) (x : Verdict) (path : List Step) (offset : ℕ) → FirstVerdictTo n sort d x path offset → offset ≤ length d) → (b s : List ℕ) (step : Step) (q : List ℕ) (m : Meaning) (x : Verdict) (path : List Step) (offset : ℕ) → JudgesMeaningAt (IsCanonicalUpTo n) (FirstVerdictTo n) b s step q m x path offset → offset ≤ length b
+meaning_bound : (n : ℕ) → ((sort : Sort) (d : List ℕ) (x : Verdict) (path : List Step) (offset : ℕ) → FirstVerdictTo n sort d x path offset → offset ≤ length d)
+    → (b s : List ℕ) (step : Step) (q : List ℕ) (m : Meaning) (x : Verdict) (path : List Step) (offset : ℕ)
+    → JudgesMeaningAt (IsCanonicalUpTo n) (FirstVerdictTo n) b s step q m x path offset → offset ≤ length b
 meaning_bound n bound b s step q (faulty fault) x path offset h = omega (arith, h.1.1)
 meaning_bound n bound b s step q (value (raw.single l)) x path offset h = omega (arith, h.2.1)
 meaning_bound n bound b s step q (value (raw.document d)) x path offset (steps, inside, first, path_is, is) =

@@ -38,10 +38,12 @@ refused_form limits b t e env read (inr (u, reads, long)) =
     inr (env, inr (t, read, subst (λ (x : Tree). TellsTooLong x e) same long))
 
 -- of a whole answer
-pub form_told : (limits : Limits) (b : List ℕ) (t : Tree) (result : Result (Vec ℕ Global) Error) → IsEnvelope b → ReadsWithin limits b t → IfOk result (λ form. IsFormOf b form.items) → IfOk result (λ form. IsFormWithin limits b form.items)
+pub form_told : (limits : Limits) (b : List ℕ) (t : Tree) (result : Result (Vec ℕ Global) Error) → IsEnvelope b → ReadsWithin limits b t
+    → IfOk result (λ form. IsFormOf b form.items) → IfOk result (λ form. IsFormWithin limits b form.items)
 form_told limits b t (Ok form) env read told = rewritten_told limits b form.items t env read told
 form_told limits b t (Err e) env read told = tt
 
-pub refusal_told : (limits : Limits) (b : List ℕ) (t : Tree) (result : Result (Vec ℕ Global) Error) → IsEnvelope b → ReadsWithin limits b t → IfErr result (RefusesFormOf b) → IfErr result (RefusesFormWithin limits b)
+pub refusal_told : (limits : Limits) (b : List ℕ) (t : Tree) (result : Result (Vec ℕ Global) Error) → IsEnvelope b → ReadsWithin limits b t
+    → IfErr result (RefusesFormOf b) → IfErr result (RefusesFormWithin limits b)
 refusal_told limits b t (Ok form) env read told = tt
 refusal_told limits b t (Err e) env read told = refused_form limits b t e env read told

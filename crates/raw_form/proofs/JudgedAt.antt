@@ -27,7 +27,7 @@ use Rattle.raw_form.specs.declared.level.Next.TheVariants as next
 use Rattle.raw_form.specs.Waits.{Stores, StoreEach, Wait}
 use Rattle.raw_form.specs.declared.level.Waiting.{Waiting}
 use Rattle.raw_form.proofs.JudgedLevels.{AreHeld, IsInFront, IsJudged, as_held, begun, held_less, held_more, numbered, passed_breach, passed_deep, passed_end, passed_inside, passed_whole, resumed, verdict_outward}
-use Rattle.raw_form.proofs.Levels.{IsAt, IsOpened, at_begin, at_inside, at_inside_size, at_resumed, at_whole, at_whole_size, waiting_then}
+use Rattle.raw_form.proofs.Levels.{IsAt, IsOpened, at_inside, at_inside_size, at_resumed, at_whole, at_whole_size, waiting_then}
 use Rattle.raw_form.proofs.Passing.{left_behind}
 
 -- the levels are those that first faults are looked for in; and the innermost judges some bytes, for which the others wait,
@@ -50,23 +50,27 @@ holds_none (raw.document e) h d k = absurd h
 holds_none (raw.array e) h d k = absurd h
 holds_none (raw.scoped code e) h d k = absurd h
 
-pub judged_begin : (most depth : ℕ) (b : List ℕ) (ws : List Wait) (ks : List KeysSoFar) (listed : List (Bor (List ℕ))) (left : Option (List ℕ)) (number offset start : ℕ) (k : KeysSoFar) → suc most ≡ depth → ws ≡ [] → ks ≡ [] → listed ≡ [] → left ≡ Some (drop 4 b) → number ≡ 0 → offset + length (drop 4 b) ≡ length b → IsEnvelope b → start + length b ≡ length b → HasKeysSoFar k listed as_document (texts listed) [] → IsJudgedAt depth b ws ks listed left number offset start k
-judged_begin most depth b ws ks listed left number offset start k whole none no_keys empty e first begins envelope starts has =
+pub judged_begin : (most depth : ℕ) (b : List ℕ) (ks : List KeysSoFar) (listed : List (Bor (List ℕ))) (left : Option (List ℕ))
+    (number offset start : ℕ) (k : KeysSoFar) → IsAt depth b [] left number offset start → suc most ≡ depth → ks ≡ [] → listed ≡ []
+    → left ≡ Some (drop 4 b) → number ≡ 0 → offset + length (drop 4 b) ≡ length b → HasKeysSoFar k listed as_document (texts listed) []
+    → IsJudgedAt depth b [] ks listed left number offset start k
+judged_begin most depth b ks listed left number offset start k at whole no_keys empty e first begins has =
     let is = begun most as_document b listed left number k e first has in
     record {
-      at = at_begin most depth b ws left number offset start whole none e first begins envelope starts;
+      at = at;
       inside = most;
       sort = as_document;
       d = b;
       end = length b;
       below = [];
-      held = rw (none, no_keys) (refl, refl, refl, refl);
+      held = rw no_keys (refl, refl, refl, refl);
       is = subst (λ (below : List (List ℕ)). IsJudged most as_document b below listed left number k) (ap texts empty) is;
-      levels = rw none (omega (arith, whole));
+      levels = omega (arith, whole);
       begins = rw e begins;
     }
 
-module _ (depth : ℕ) (b : List ℕ) (ws : List Wait) (ks : List KeysSoFar) (listed : List (Bor (List ℕ))) (left : Option (List ℕ)) (number offset start : ℕ) (k : KeysSoFar) (at : IsJudgedAt depth b ws ks listed left number offset start k) where
+module _ (depth : ℕ) (b : List ℕ) (ws : List Wait) (ks : List KeysSoFar) (listed : List (Bor (List ℕ))) (left : Option (List ℕ)) (number offset start : ℕ)
+    (k : KeysSoFar) (at : IsJudgedAt depth b ws ks listed left number offset start k) where
   pub open_keys : AreOpenKeys k listed
   open_keys = (at.sort, at.below, keys_of_frames at.is.frames, at.is.keys, at.is.keys_canonical)
 
@@ -76,18 +80,21 @@ module _ (depth : ℕ) (b : List ℕ) (ws : List Wait) (ks : List KeysSoFar) (li
 
   pub told : (new : Option (List ℕ)) (i : KeysSoFar) (after : List (Bor (List ℕ))) (answer : Judged) → Judges left k listed number new i after answer → Told new i after answer
   told new i after answer judges =
-      subst (λ (x : Option (List ℕ)). Judges x k listed number new i after answer) at.is.left_is judges at.sort at.below (keys_of_frames at.is.frames) at.is.keys at.is.keys_canonical (numbered at.inside at.sort at.d at.below listed left number k at.is)
+      subst (λ (x : Option (List ℕ)). Judges x k listed number new i after answer) at.is.left_is judges at.sort at.below
+      (keys_of_frames at.is.frames) at.is.keys at.is.keys_canonical (numbered at.inside at.sort at.d at.below listed left number k at.is)
 
   pub looks_whole : (new : Option (List ℕ)) (i : KeysSoFar) (after : List (Bor (List ℕ))) (e : RawElement) → Told new i after (judged.Whole e) → Looks left new (next.Whole e)
   looks_whole new i after e (r, v, frame, m, new_is, has, more, single) = rw (at.is.left_is) (r, v, frame, m, holds_none v single, new_is)
 
-  pub looks_inside : (new : Option (List ℕ)) (i : KeysSoFar) (after : List (Bor (List ℕ))) (e : RawElement) (inner : RawDocument) (is_array : Bool) → Told new i after (judged.Inside e inner is_array) → Looks left new (next.Inside e inner)
+  pub looks_inside : (new : Option (List ℕ)) (i : KeysSoFar) (after : List (Bor (List ℕ))) (e : RawElement) (inner : RawDocument) (is_array : Bool)
+      → Told new i after (judged.Inside e inner is_array) → Looks left new (next.Inside e inner)
   looks_inside new i after e inner is_array (r, v, frame, m, new_is, has, more, holds) = rw (at.is.left_is) (r, v, frame, m, as_held v (sort_of is_array) (bytes_of inner) holds, new_is)
 
   pub looks_end : (new : Option (List ℕ)) (i : KeysSoFar) (after : List (Bor (List ℕ))) → Told new i after judged.End → Looks left new next.End
   looks_end new i after h = rw (at.is.left_is) (h.0)
 
-  pub judged_whole : (new : Option (List ℕ)) (i : KeysSoFar) (after : List (Bor (List ℕ))) (e : RawElement) (behind : ℕ) → Told new i after (judged.Whole e) → behind ≡ offset + size_of (frame_of e) → IsJudgedAt depth b ws ks after new (number + 1) behind start i
+  pub judged_whole : (new : Option (List ℕ)) (i : KeysSoFar) (after : List (Bor (List ℕ))) (e : RawElement) (behind : ℕ) → Told new i after (judged.Whole e)
+      → behind ≡ offset + size_of (frame_of e) → IsJudgedAt depth b ws ks after new (number + 1) behind start i
   judged_whole new i after e behind h far =
       let looks = looks_whole new i after e h in
       record {
@@ -104,8 +111,13 @@ module _ (depth : ℕ) (b : List ℕ) (ws : List Wait) (ks : List KeysSoFar) (li
       }
 
   -- the next level, for which this one waits
-  opened : (inside : ℕ) (held : AreHeld inside as_document b (length b) [] ws ks at.sort at.d at.end at.below) (is : IsJudged inside at.sort at.d at.below listed left number k) → suc (length ws + inside) ≡ depth → (new : Option (List ℕ)) (i : KeysSoFar) (after : List (Bor (List ℕ))) (e : RawElement) (inner : RawDocument) (is_array : Bool) (behind : ℕ) (left2 : Option (List ℕ)) (first begin starts : ℕ) (k2 : KeysSoFar)
-      → TellsJudged at.sort at.below (keys_of_frames is.frames) is.rest new i after (judged.Inside e inner is_array) → (looks : Looks left new (next.Inside e inner)) → suc (length ws) < depth → (far : behind ≡ offset + size_of (frame_of e)) → IsOpened behind inner left2 first begin starts → HasKeysSoFar k2 after (sort_of is_array) (texts after) []
+  opened : (inside : ℕ) (held : AreHeld inside as_document b (length b) [] ws ks at.sort at.d at.end at.below)
+      (is : IsJudged inside at.sort at.d at.below listed left number k) → suc (length ws + inside) ≡ depth
+      → (new : Option (List ℕ)) (i : KeysSoFar) (after : List (Bor (List ℕ))) (e : RawElement) (inner : RawDocument) (is_array : Bool) (behind : ℕ)
+      (left2 : Option (List ℕ)) (first begin starts : ℕ) (k2 : KeysSoFar)
+      → TellsJudged at.sort at.below (keys_of_frames is.frames) is.rest new i after (judged.Inside e inner is_array)
+      → (looks : Looks left new (next.Inside e inner)) → suc (length ws) < depth → (far : behind ≡ offset + size_of (frame_of e))
+      → IsOpened behind inner left2 first begin starts → HasKeysSoFar k2 after (sort_of is_array) (texts after) []
       → IsJudgedAt depth b (ws ++ waiting_then depth b ws left new number offset start behind e inner at.at looks far ∷ []) (ks ++ i ∷ []) after left2 first begin starts k2
   opened zero held is levels new i after e inner is_array behind left2 first begin starts k2 h looks few far opens has = absurd (omega (arith, levels, few))
   opened (suc inside) held is levels new i after e inner is_array behind left2 first begin starts k2 h looks few far opens has =
@@ -125,7 +137,12 @@ module _ (depth : ℕ) (b : List ℕ) (ws : List Wait) (ks : List KeysSoFar) (li
         begins = rw (opens.left_is) (opens.begins);
       }
 
-  pub judged_inside : (new : Option (List ℕ)) (i : KeysSoFar) (after : List (Bor (List ℕ))) (e : RawElement) (inner : RawDocument) (is_array : Bool) (behind : ℕ) (left2 : Option (List ℕ)) (first begin starts : ℕ) (k2 : KeysSoFar) (h : Told new i after (judged.Inside e inner is_array)) → suc (length ws) < depth → (far : behind ≡ offset + size_of (frame_of e)) → IsOpened behind inner left2 first begin starts → HasKeysSoFar k2 after (sort_of is_array) (texts after) [] → IsJudgedAt depth b (ws ++ waiting_then depth b ws left new number offset start behind e inner at.at (looks_inside new i after e inner is_array h) far ∷ []) (ks ++ i ∷ []) after left2 first begin starts k2
+  pub judged_inside : (new : Option (List ℕ)) (i : KeysSoFar) (after : List (Bor (List ℕ))) (e : RawElement) (inner : RawDocument) (is_array : Bool)
+      (behind : ℕ) (left2 : Option (List ℕ)) (first begin starts : ℕ) (k2 : KeysSoFar) (h : Told new i after (judged.Inside e inner is_array))
+      → suc (length ws) < depth → (far : behind ≡ offset + size_of (frame_of e)) → IsOpened behind inner left2 first begin starts
+      → HasKeysSoFar k2 after (sort_of is_array) (texts after) []
+      → IsJudgedAt depth b (ws ++ waiting_then depth b ws left new number offset start behind e inner at.at (looks_inside new i after e inner is_array h) far
+      ∷ []) (ks ++ i ∷ []) after left2 first begin starts k2
   judged_inside new i after e inner is_array behind left2 first begin starts k2 h few far opens has =
       opened at.inside at.held at.is at.levels new i after e inner is_array behind left2 first begin starts k2 h (looks_inside new i after e inner is_array h) few far opens has
 
@@ -136,23 +153,35 @@ module _ (depth : ℕ) (b : List ℕ) (ws : List Wait) (ks : List KeysSoFar) (li
       let there : here + left_of left ≡ length at.d = omega (arith, ends) in
       let out = verdict_outward at.inside as_document b (length b) [] ws ks at.sort at.d at.end at.below x step here offset at.held (judges here there) (omega (arith, there, at.begins)) in
       let same : out.0 ≡ offset = omega (arith, out.2) in
-      subst (λ (u : ℕ). FirstVerdictTo depth as_document b x (map step_at ws ++ step ∷ []) u) same (subst (λ (n : ℕ). FirstVerdictTo n as_document b x (map step_at ws ++ step ∷ []) out.0) at.levels out.1)
+      subst (λ (u : ℕ). FirstVerdictTo depth as_document b x (map step_at ws ++ step ∷ []) u) same
+      (subst (λ (n : ℕ). FirstVerdictTo n as_document b x (map step_at ws ++ step ∷ []) out.0) at.levels out.1)
     where
       ends : left_of left ≤ length at.d
       ends = rw (at.is.left_is) (omega (arith, LeadsTo-bound (drop 4 at.d) at.is.frames at.is.rest at.is.reaches, length-drop 4 at.d))
 
-  pub judged_breach : (new : Option (List ℕ)) (i : KeysSoFar) (after : List (Bor (List ℕ))) (key : Option (Bor (List ℕ))) (why : Cause) → Told new i after (judged.Breach key why) → FirstVerdictTo depth as_document b (breach_of why) (map step_at ws ++ record { number = number; key = option_copied key } ∷ []) offset
-  judged_breach new i after key why h = front_outward (breach_of why) (record { number = number; key = option_copied key }) (passed_breach at.inside at.sort at.d at.below listed left number k at.is (option_copied key) why h)
+  pub judged_breach : (new : Option (List ℕ)) (i : KeysSoFar) (after : List (Bor (List ℕ))) (key : Option (Bor (List ℕ))) (why : Cause)
+      → Told new i after (judged.Breach key why) → FirstVerdictTo depth as_document b (breach_of why)
+      (map step_at ws ++ record { number = number; key = option_copied key } ∷ []) offset
+  judged_breach new i after key why h = front_outward (breach_of why) (record { number = number; key = option_copied key })
+      (passed_breach at.inside at.sort at.d at.below listed left number k at.is (option_copied key) why h)
 
-  deep_front : (inside : ℕ) (is : IsJudged inside at.sort at.d at.below listed left number k) → suc (length ws + inside) ≡ depth → (new : Option (List ℕ)) (i : KeysSoFar) (after : List (Bor (List ℕ))) (e : RawElement) (inner : RawDocument) (is_array : Bool) → TellsJudged at.sort at.below (keys_of_frames is.frames) is.rest new i after (judged.Inside e inner is_array) → depth ≤ suc (length ws) → IsInFront inside at.sort at.d left too_deep (record { number = number; key = Some (frame_of e).key })
+  deep_front : (inside : ℕ) (is : IsJudged inside at.sort at.d at.below listed left number k) → suc (length ws + inside) ≡ depth
+      → (new : Option (List ℕ)) (i : KeysSoFar) (after : List (Bor (List ℕ))) (e : RawElement) (inner : RawDocument) (is_array : Bool)
+      → TellsJudged at.sort at.below (keys_of_frames is.frames) is.rest new i after (judged.Inside e inner is_array) → depth ≤ suc (length ws)
+      → IsInFront inside at.sort at.d left too_deep (record { number = number; key = Some (frame_of e).key })
   deep_front (suc inside) is levels new i after e inner is_array h many = absurd (omega (arith, levels, many))
   deep_front zero is levels new i after e inner is_array h many = passed_deep at.sort at.d at.below listed left number k is e inner is_array new after i h
 
-  pub judged_deep : (new : Option (List ℕ)) (i : KeysSoFar) (after : List (Bor (List ℕ))) (e : RawElement) (inner : RawDocument) (is_array : Bool) → Told new i after (judged.Inside e inner is_array) → depth ≤ suc (length ws) → FirstVerdictTo depth as_document b too_deep (map step_at ws ++ record { number = number; key = Some (frame_of e).key } ∷ []) offset
-  judged_deep new i after e inner is_array h many = front_outward too_deep (record { number = number; key = Some (frame_of e).key }) (deep_front at.inside at.is at.levels new i after e inner is_array h many)
+  pub judged_deep : (new : Option (List ℕ)) (i : KeysSoFar) (after : List (Bor (List ℕ))) (e : RawElement) (inner : RawDocument) (is_array : Bool)
+      → Told new i after (judged.Inside e inner is_array) → depth ≤ suc (length ws)
+      → FirstVerdictTo depth as_document b too_deep (map step_at ws ++ record { number = number; key = Some (frame_of e).key } ∷ []) offset
+  judged_deep new i after e inner is_array h many = front_outward too_deep (record { number = number; key = Some (frame_of e).key })
+      (deep_front at.inside at.is at.levels new i after e inner is_array h many)
 
-  whole_end : (xs : List Wait) (ys : List KeysSoFar) (n : ℕ) → length xs ≡ 0 → suc n ≡ depth → AreHeld n as_document b (length b) [] xs ys at.sort at.d at.end at.below → IsCanonicalUpTo (suc n) at.sort at.d → IsCanonicalUpTo depth as_document b
-  whole_end [] [] n none same held c = subst (λ (m : ℕ). IsCanonicalUpTo m as_document b) same (subst (λ (x : List ℕ). IsCanonicalUpTo (suc n) as_document x) (sym held.1) (subst (λ (s : Sort). IsCanonicalUpTo (suc n) s at.d) (sym held.0) c))
+  whole_end : (xs : List Wait) (ys : List KeysSoFar) (n : ℕ) → length xs ≡ 0 → suc n ≡ depth
+      → AreHeld n as_document b (length b) [] xs ys at.sort at.d at.end at.below → IsCanonicalUpTo (suc n) at.sort at.d → IsCanonicalUpTo depth as_document b
+  whole_end [] [] n none same held c = subst (λ (m : ℕ). IsCanonicalUpTo m as_document b) same
+      (subst (λ (x : List ℕ). IsCanonicalUpTo (suc n) as_document x) (sym held.1) (subst (λ (s : Sort). IsCanonicalUpTo (suc n) s at.d) (sym held.0) c))
   whole_end [] (y ∷ ys) n none same held c = absurd held
   whole_end (x ∷ xs) ys n none same held c = absurd (omega (arith, none))
 
@@ -161,17 +190,23 @@ module _ (depth : ℕ) (b : List ℕ) (ws : List Wait) (ks : List KeysSoFar) (li
       whole_end ws ks at.inside none (omega (arith, at.levels, none)) at.held (passed_end at.inside at.sort at.d at.below listed left number k at.is new after i h)
 
 -- as many wait as there are keys of levels that wait
-same_many : (inside : ℕ) (outer : Sort) (b : List ℕ) (end : ℕ) (under : List (List ℕ)) (ws : List Wait) (ks : List KeysSoFar) (sort : Sort) (d : List ℕ) (last : ℕ) (below : List (List ℕ)) → AreHeld inside outer b end under ws ks sort d last below → length ws ≡ length ks
+same_many : (inside : ℕ) (outer : Sort) (b : List ℕ) (end : ℕ) (under : List (List ℕ)) (ws : List Wait) (ks : List KeysSoFar) (sort : Sort) (d : List ℕ)
+    (last : ℕ) (below : List (List ℕ)) → AreHeld inside outer b end under ws ks sort d last below → length ws ≡ length ks
 same_many inside outer b end under [] [] sort d last below h = refl
 same_many inside outer b end under [] (k ∷ ks) sort d last below h = absurd h
 same_many inside outer b end under (w ∷ ws) [] sort d last below h = absurd h
 same_many inside outer b end under (w ∷ ws) (k ∷ ks) sort d last below h = omega (arith, same_many inside h.0 h.1 w.offset h.2 ws ks sort d last below h.5)
 
-pub as_many : (depth : ℕ) (b : List ℕ) (ws : List Wait) (ks : List KeysSoFar) (listed : List (Bor (List ℕ))) (left : Option (List ℕ)) (number offset start : ℕ) (k : KeysSoFar) → IsJudgedAt depth b ws ks listed left number offset start k → length ws ≡ length ks
+pub as_many : (depth : ℕ) (b : List ℕ) (ws : List Wait) (ks : List KeysSoFar) (listed : List (Bor (List ℕ))) (left : Option (List ℕ)) (number offset start : ℕ)
+    (k : KeysSoFar) → IsJudgedAt depth b ws ks listed left number offset start k → length ws ≡ length ks
 as_many depth b ws ks listed left number offset start k at = same_many at.inside as_document b (length b) [] ws ks at.sort at.d at.end at.below at.held
 
 -- the level that waits for the innermost goes on
-pub judged_resumed : (depth : ℕ) (b : List ℕ) (ws : List Wait) (w : Wait) (ks : List KeysSoFar) (j : KeysSoFar) (listed : List (Bor (List ℕ))) (left : Option (List ℕ)) (number offset start : ℕ) (k : KeysSoFar) (c : Waiting) (at : IsJudgedAt depth b (ws ++ w ∷ []) (ks ++ j ∷ []) listed left number offset start k) (new : Option (List ℕ)) (i : KeysSoFar) (after left_list : List (Bor (List ℕ))) → TellsJudged at.sort at.below (keys_of_frames at.is.frames) at.is.rest new i after judged.End → LeavesOpenKeys i after left_list → Stores b c w → IsJudgedAt depth b ws ks left_list w.elements (w.number + 1) w.offset w.start j
+pub judged_resumed : (depth : ℕ) (b : List ℕ) (ws : List Wait) (w : Wait) (ks : List KeysSoFar) (j : KeysSoFar) (listed : List (Bor (List ℕ)))
+    (left : Option (List ℕ)) (number offset start : ℕ) (k : KeysSoFar) (c : Waiting)
+    (at : IsJudgedAt depth b (ws ++ w ∷ []) (ks ++ j ∷ []) listed left number offset start k) (new : Option (List ℕ)) (i : KeysSoFar)
+    (after left_list : List (Bor (List ℕ))) → TellsJudged at.sort at.below (keys_of_frames at.is.frames) at.is.rest new i after judged.End
+    → LeavesOpenKeys i after left_list → Stores b c w → IsJudgedAt depth b ws ks left_list w.elements (w.number + 1) w.offset w.start j
 judged_resumed depth b ws w ks j listed left number offset start k c at new i after left_list h leaves stored =
     let less = held_less at.inside as_document b (length b) [] ws ks w j at.sort at.d at.end at.below at.held in
     let canonical = passed_end at.inside at.sort at.d at.below listed left number k at.is new after i h in
@@ -191,7 +226,8 @@ judged_resumed depth b ws w ks j listed left number offset start k c at new i af
     }
 
 -- so it is for levels that are stored
-pub record IsJudgedStored (depth : ℕ) (b : List ℕ) (stored : List Waiting) (ks : List KeysSoFar) (listed : List (Bor (List ℕ))) (left : Option (List ℕ)) (number offset start : ℕ) (k : KeysSoFar) : Type 0 where
+pub record IsJudgedStored (depth : ℕ) (b : List ℕ) (stored : List Waiting) (ks : List KeysSoFar) (listed : List (Bor (List ℕ))) (left : Option (List ℕ))
+    (number offset start : ℕ) (k : KeysSoFar) : Type 0 where
   pub waits : List Wait
   pub are_stored : StoreEach b stored waits
   pub at : IsJudgedAt depth b waits ks listed left number offset start k

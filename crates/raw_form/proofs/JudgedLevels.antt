@@ -93,7 +93,8 @@ unfolding IsDistinct
 no_keys as_document = tt
 no_keys as_array = tt
 
-pub begun : (inside : ℕ) (sort : Sort) (d : List ℕ) (listed : List (Bor (List ℕ))) (left : Option (List ℕ)) (number : ℕ) (k : KeysSoFar) → left ≡ Some (drop 4 d) → number ≡ 0 → HasKeysSoFar k listed sort (texts listed) [] → IsJudged inside sort d (texts listed) listed left number k
+pub begun : (inside : ℕ) (sort : Sort) (d : List ℕ) (listed : List (Bor (List ℕ))) (left : Option (List ℕ)) (number : ℕ) (k : KeysSoFar)
+    → left ≡ Some (drop 4 d) → number ≡ 0 → HasKeysSoFar k listed sort (texts listed) [] → IsJudged inside sort d (texts listed) listed left number k
 begun inside sort d listed left number k e none has = record {
   frames = [];
   rest = drop 4 d;
@@ -105,11 +106,13 @@ begun inside sort d listed left number k e none has = record {
   canonical = tt;
 }
 
-module _ (inside : ℕ) (sort : Sort) (d : List ℕ) (below : List (List ℕ)) (listed : List (Bor (List ℕ))) (left : Option (List ℕ)) (number : ℕ) (k : KeysSoFar) (is : IsJudged inside sort d below listed left number k) where
+module _ (inside : ℕ) (sort : Sort) (d : List ℕ) (below : List (List ℕ)) (listed : List (Bor (List ℕ))) (left : Option (List ℕ)) (number : ℕ) (k : KeysSoFar)
+    (is : IsJudged inside sort d below listed left number k) where
   pub numbered : number ≡ length (keys_of_frames is.frames)
   numbered = is.number_is ∙ sym (length-map is.frames (λ (f : Frame). f.key))
 
-  pub passed_whole : (e : RawElement) (new : Option (List ℕ)) (after : List (Bor (List ℕ))) (ks : KeysSoFar) → TellsJudged sort below (keys_of_frames is.frames) is.rest new ks after (judged.Whole e) → IsJudged inside sort d below after new (number + 1) ks
+  pub passed_whole : (e : RawElement) (new : Option (List ℕ)) (after : List (Bor (List ℕ))) (ks : KeysSoFar)
+      → TellsJudged sort below (keys_of_frames is.frames) is.rest new ks after (judged.Whole e) → IsJudged inside sort d below after new (number + 1) ks
   passed_whole e new after ks (r, v, at, m, new_is, has, more, single) = record {
     frames = is.frames ++ frame_of e ∷ [];
     rest = r;
@@ -121,7 +124,9 @@ module _ (inside : ℕ) (sort : Sort) (d : List ℕ) (below : List (List ℕ)) (
     canonical = frames_more (IsCanonicalUpTo inside) is.frames (frame_of e) v is.canonical m (single_canonical (IsCanonicalUpTo inside) v single);
   }
 
-  pub passed_inside : (e : RawElement) (inner : RawDocument) (is_array : Bool) (new : Option (List ℕ)) (after : List (Bor (List ℕ))) (ks : KeysSoFar) (w : Wait) → TellsJudged sort below (keys_of_frames is.frames) is.rest new ks after (judged.Inside e inner is_array) → w.elements ≡ new → w.number ≡ number → w.key ≡ (frame_of e).key → IsHeld inside sort d below w ks (sort_of is_array) (bytes_of inner) (texts after)
+  pub passed_inside : (e : RawElement) (inner : RawDocument) (is_array : Bool) (new : Option (List ℕ)) (after : List (Bor (List ℕ))) (ks : KeysSoFar) (w : Wait)
+      → TellsJudged sort below (keys_of_frames is.frames) is.rest new ks after (judged.Inside e inner is_array) → w.elements ≡ new → w.number ≡ number
+      → w.key ≡ (frame_of e).key → IsHeld inside sort d below w ks (sort_of is_array) (bytes_of inner) (texts after)
   passed_inside e inner is_array new after ks w (r, v, at, m, new_is, has, more, holds) left_is number_is key_is = record {
     frames = is.frames;
     s = is.rest;
@@ -140,12 +145,15 @@ module _ (inside : ℕ) (sort : Sort) (d : List ℕ) (below : List (List ℕ)) (
     holds = holds;
   }
 
-  pub passed_end : (new : Option (List ℕ)) (after : List (Bor (List ℕ))) (ks : KeysSoFar) → TellsJudged sort below (keys_of_frames is.frames) is.rest new ks after judged.End → IsCanonicalUpTo (suc inside) sort d
+  pub passed_end : (new : Option (List ℕ)) (after : List (Bor (List ℕ))) (ks : KeysSoFar)
+      → TellsJudged sort below (keys_of_frames is.frames) is.rest new ks after judged.End → IsCanonicalUpTo (suc inside) sort d
   passed_end new after ks told =
       (is.frames, LeadsTo-walk (drop 4 d) is.frames is.rest Done is.reaches told.0, is.keys_canonical, is.canonical)
 
 -- where nested bytes are canonical, the level that waits for them goes on
-pub resumed : (inside : ℕ) (sort : Sort) (b : List ℕ) (below : List (List ℕ)) (w : Wait) (k : KeysSoFar) (inner : Sort) (d : List ℕ) (above : List (List ℕ)) (refs : List (Bor (List ℕ))) → IsHeld inside sort b below w k inner d above → IsCanonicalUpTo inside inner d → texts refs ≡ above → IsJudged inside sort b below refs w.elements (w.number + 1) k
+pub resumed : (inside : ℕ) (sort : Sort) (b : List ℕ) (below : List (List ℕ)) (w : Wait) (k : KeysSoFar) (inner : Sort) (d : List ℕ) (above : List (List ℕ))
+    (refs : List (Bor (List ℕ))) → IsHeld inside sort b below w k inner d above → IsCanonicalUpTo inside inner d → texts refs ≡ above
+    → IsJudged inside sort b below refs w.elements (w.number + 1) k
 resumed inside sort b below w k inner d above refs is c same = record {
   frames = is.frames ++ is.f ∷ [];
   rest = is.r;
@@ -159,14 +167,17 @@ resumed inside sort b below w k inner d above refs is c same = record {
 
 -- verdicts in front of what is left
 
-itself_at : (P : Sort → List ℕ → Type 0) (N : Sort → List ℕ → Verdict → List Step → ℕ → Type 0) (b s : List ℕ) (step : Step) (q : List ℕ) (m : Meaning) (why : Cause) (offset : ℕ) → BreachesItself m why → BeginsAt b s offset → JudgesMeaningAt P N b s step q m (breach_of why) (step ∷ []) offset
+itself_at : (P : Sort → List ℕ → Type 0) (N : Sort → List ℕ → Verdict → List Step → ℕ → Type 0) (b s : List ℕ) (step : Step) (q : List ℕ) (m : Meaning)
+    (why : Cause) (offset : ℕ) → BreachesItself m why → BeginsAt b s offset → JudgesMeaningAt P N b s step q m (breach_of why) (step ∷ []) offset
 itself_at P N b s step q (faulty fault) why offset h begins = (ap breach_of h, (refl, begins))
 itself_at P N b s step q (value (raw.single l)) why offset h begins = (h.0, ap breach_of h.1, (refl, begins))
 itself_at P N b s step q (value (raw.document d)) why offset h begins = absurd h
 itself_at P N b s step q (value (raw.array d)) why offset h begins = absurd h
 itself_at P N b s step q (value (raw.scoped code d)) why offset h begins = absurd h
 
-inside_at : (P : Sort → List ℕ → Type 0) (N : Sort → List ℕ → Verdict → List Step → ℕ → Type 0) (b s : List ℕ) (step : Step) (q : List ℕ) (v : RawValue) (inner : Sort) (d : List ℕ) (x : Verdict) (path : List Step) (offset : ℕ) → HoldsAs v inner d → JudgesNestedAt P N b s step q inner d x path offset → JudgesMeaningAt P N b s step q (value v) x path offset
+inside_at : (P : Sort → List ℕ → Type 0) (N : Sort → List ℕ → Verdict → List Step → ℕ → Type 0) (b s : List ℕ) (step : Step) (q : List ℕ) (v : RawValue)
+    (inner : Sort) (d : List ℕ) (x : Verdict) (path : List Step) (offset : ℕ) → HoldsAs v inner d → JudgesNestedAt P N b s step q inner d x path offset
+    → JudgesMeaningAt P N b s step q (value v) x path offset
 inside_at P N b s step q (raw.single l) inner d x path offset h judges = absurd h
 inside_at P N b s step q (raw.document e) inner d x path offset h judges = rw (← h.0, ← h.1) judges
 inside_at P N b s step q (raw.array e) inner d x path offset h judges = rw (← h.0, ← h.1) judges
@@ -176,39 +187,81 @@ inside_at P N b s step q (raw.scoped code e) inner d x path offset h judges = rw
 abbrev pub IsInFront : ℕ → Sort → List ℕ → Option (List ℕ) → Verdict → Step → Type 0
 IsInFront inside sort d left x step = (offset : ℕ) → offset + left_of left ≡ length d → FirstVerdictTo (suc inside) sort d x (step ∷ []) offset
 
-module _ (inside : ℕ) (sort : Sort) (d : List ℕ) (below : List (List ℕ)) (listed : List (Bor (List ℕ))) (left : Option (List ℕ)) (number : ℕ) (k : KeysSoFar) (is : IsJudged inside sort d below listed left number k) where
+module _ (inside : ℕ) (sort : Sort) (d : List ℕ) (below : List (List ℕ)) (listed : List (Bor (List ℕ))) (left : Option (List ℕ)) (number : ℕ) (k : KeysSoFar)
+    (is : IsJudged inside sort d below listed left number k) where
   here : (key : Option (List ℕ)) → ◌≡◌ {A = List Step} (record { number = number; key = key } ∷ []) (record { number = length is.frames; key = key } ∷ [])
   here key = ap (λ (n : ℕ). record { number = n; key = key } ∷ []) is.number_is
 
   begins_here : (offset : ℕ) → offset + left_of left ≡ length d → BeginsAt d is.rest offset
   begins_here offset begins = omega (arith, begins, ap left_of is.left_is)
 
-  pub passed_breach : (key : Option (List ℕ)) (why : Cause) → BreachesHere sort (keys_of_frames is.frames) is.rest key why → IsInFront inside sort d left (breach_of why) (record { number = number; key = key })
+  pub passed_breach : (key : Option (List ℕ)) (why : Cause) → BreachesHere sort (keys_of_frames is.frames) is.rest key why
+      → IsInFront inside sort d left (breach_of why) (record { number = number; key = key })
   passed_breach None why told offset begins =
       (is.frames, is.rest, is.reaches, is.keys_canonical, is.canonical, inl (told.0, told.1, told.2, ap breach_of told.3, (here None, begins_here offset begins)))
   passed_breach (Some key) why told offset begins =
       let f : Frame = told.0 in
-      let path : ◌≡◌ {A = List Step} (record { number = number; key = Some key } ∷ []) (record { number = length is.frames; key = Some f.key } ∷ []) = here (Some key) ∙ ap (λ (x : List ℕ). record { number = length is.frames; key = Some x } ∷ []) told.3 in
+      let path : ◌≡◌ {A = List Step} (record { number = number; key = Some key } ∷ []) (record { number = length is.frames; key = Some f.key } ∷ []) =
+      here (Some key) ∙ ap (λ (x : List ℕ). record { number = length is.frames; key = Some x } ∷ []) told.3 in
       elim told.4 [
         | inl b ↦ (is.frames, is.rest, is.reaches, is.keys_canonical, is.canonical, inr (f, told.1, told.2, inl (why, b, refl, (path, begins_here offset begins))))
         | inr meant ↦ (
-            let at = itself_at (IsCanonicalUpTo inside) (FirstVerdictTo inside) d is.rest (record { number = length is.frames; key = Some f.key }) told.1 meant.1 why offset meant.3 (begins_here offset begins) in
-            (is.frames, is.rest, is.reaches, is.keys_canonical, is.canonical, inr (f, told.1, told.2, inr (meant.0, meant.1, meant.2, subst (λ (p : List Step). JudgesMeaningAt (IsCanonicalUpTo inside) (FirstVerdictTo inside) d is.rest (record { number = length is.frames; key = Some f.key }) told.1 meant.1 (breach_of why) p offset) (sym path) at))))
+            let at = itself_at (IsCanonicalUpTo inside) (FirstVerdictTo inside) d is.rest
+            (record { number = length is.frames; key = Some f.key }) told.1 meant.1 why offset meant.3 (begins_here offset begins) in (
+              is.frames,
+              is.rest,
+              is.reaches,
+              is.keys_canonical,
+              is.canonical,
+              inr (
+                f,
+                told.1,
+                told.2,
+                inr (
+                  meant.0,
+                  meant.1,
+                  meant.2,
+                  subst (λ (p : List Step). JudgesMeaningAt (IsCanonicalUpTo inside) (FirstVerdictTo inside) d is.rest
+                      (record { number = length is.frames; key = Some f.key }) told.1 meant.1 (breach_of why) p offset) (sym path) at,
+                ),
+              ),
+            ))
       ]
 
 -- a frame whose value holds a level, where no more may be entered
-pub passed_deep : (sort : Sort) (d : List ℕ) (below : List (List ℕ)) (listed : List (Bor (List ℕ))) (left : Option (List ℕ)) (number : ℕ) (k : KeysSoFar) (is : IsJudged 0 sort d below listed left number k) (e : RawElement) (inner : RawDocument) (is_array : Bool) (new : Option (List ℕ)) (after : List (Bor (List ℕ))) (ks : KeysSoFar) → TellsJudged sort below (keys_of_frames is.frames) is.rest new ks after (judged.Inside e inner is_array) → IsInFront 0 sort d left too_deep (record { number = number; key = Some (frame_of e).key })
+pub passed_deep : (sort : Sort) (d : List ℕ) (below : List (List ℕ)) (listed : List (Bor (List ℕ))) (left : Option (List ℕ)) (number : ℕ) (k : KeysSoFar)
+    (is : IsJudged 0 sort d below listed left number k) (e : RawElement) (inner : RawDocument) (is_array : Bool) (new : Option (List ℕ))
+    (after : List (Bor (List ℕ))) (ks : KeysSoFar) → TellsJudged sort below (keys_of_frames is.frames) is.rest new ks after (judged.Inside e inner is_array)
+    → IsInFront 0 sort d left too_deep (record { number = number; key = Some (frame_of e).key })
 passed_deep sort d below listed left number k is e inner is_array new after ks (r, v, at, m, new_is, has, more, holds) offset begins =
     let key : List ℕ = (frame_of e).key in
     let step : Step = record { number = length is.frames; key = Some key } in
     let path : ◌≡◌ {A = List Step} (record { number = number; key = Some key } ∷ []) (step ∷ []) = ap (λ (n : ℕ). record { number = n; key = Some key } ∷ []) is.number_is in
-    let there : BeginsAt d is.rest offset = omega (arith, begins, ap left_of is.left_is) in
-    (is.frames, is.rest, is.reaches, is.keys_canonical, is.canonical, inr (frame_of e, r, at, inr (more, value v, m, inside_at (IsCanonicalUpTo 0) (FirstVerdictTo 0) d is.rest step r v (sort_of is_array) (bytes_of inner) too_deep (record { number = number; key = Some key } ∷ []) offset holds ([], 0, (refl, refl, refl), path, there))))
+    let there : BeginsAt d is.rest offset = omega (arith, begins, ap left_of is.left_is) in (
+      is.frames,
+      is.rest,
+      is.reaches,
+      is.keys_canonical,
+      is.canonical,
+      inr (
+        frame_of e,
+        r,
+        at,
+        inr (
+          more,
+          value v,
+          m,
+          inside_at (IsCanonicalUpTo 0) (FirstVerdictTo 0) d is.rest step r v (sort_of is_array) (bytes_of inner) too_deep
+              (record { number = number; key = Some key } ∷ []) offset holds ([], 0, (refl, refl, refl), path, there),
+        ),
+      ),
+    )
 
 -- levels that wait
 
 -- what is left behind a frame of b, and the bytes that its value holds, are within b
-pub held_within : (inside : ℕ) (sort : Sort) (b : List ℕ) (below : List (List ℕ)) (w : Wait) (k : KeysSoFar) (inner : Sort) (d : List ℕ) (above : List (List ℕ)) (is : IsHeld inside sort b below w k inner d above) → length d + length is.r ≤ length b
+pub held_within : (inside : ℕ) (sort : Sort) (b : List ℕ) (below : List (List ℕ)) (w : Wait) (k : KeysSoFar) (inner : Sort) (d : List ℕ) (above : List (List ℕ))
+    (is : IsHeld inside sort b below w k inner d above) → length d + length is.r ≤ length b
 held_within inside sort b below w k inner d above is =
     omega (arith, nested_beside is.s is.f is.r is.v d is.frame is.means (as_held is.v inner d is.holds), LeadsTo-bound (drop 4 b) is.frames is.s is.reaches, length-drop 4 b)
 
@@ -217,7 +270,10 @@ outward_offset b s d q [] inside offset start some begins e = absurd (omega (ari
 outward_offset b s d q (step ∷ steps) inside offset start some begins e = (start, begins, e)
 
 -- a verdict on the bytes that a level waits for
-held_verdict : (inside : ℕ) (sort : Sort) (b : List ℕ) (below : List (List ℕ)) (w : Wait) (k : KeysSoFar) (inner : Sort) (d : List ℕ) (above : List (List ℕ)) (x : Verdict) (steps : List Step) (at offset : ℕ) → IsHeld inside sort b below w k inner d above → 0 < length steps → FirstVerdictTo inside inner d x steps at → offset + (length d + left_behind w) ≡ length b + at → FirstVerdictTo (suc inside) sort b x (step_at w ∷ steps) offset
+held_verdict : (inside : ℕ) (sort : Sort) (b : List ℕ) (below : List (List ℕ)) (w : Wait) (k : KeysSoFar) (inner : Sort) (d : List ℕ) (above : List (List ℕ))
+    (x : Verdict) (steps : List Step) (at offset : ℕ) → IsHeld inside sort b below w k inner d above → 0 < length steps
+    → FirstVerdictTo inside inner d x steps at → offset + (length d + left_behind w) ≡ length b + at
+    → FirstVerdictTo (suc inside) sort b x (step_at w ∷ steps) offset
 held_verdict inside sort b below w k inner d above x steps at offset is some judges far =
     let left : left_behind w ≡ length is.r = ap left_of is.left_is in
     let behind : length (d ++ is.r) ≡ length d + length is.r = length-append d is.r in
@@ -225,8 +281,25 @@ held_verdict inside sort b below w k inner d above x steps at offset is some jud
     let begins : BeginsAt b (d ++ is.r) start = omega (arith, behind, held_within inside sort b below w k inner d above is) in
     let step : ◌≡◌ {A = List Step} (step_at w ∷ steps) (record { number = length is.frames; key = Some is.f.key } ∷ steps) = rw (is.number_is, is.key_is) refl in
     let there : offset ≡ start + at = omega (arith, far, left, behind, begins) in
-    let front : AreKeysCanonical sort (keys_of_frames is.frames) = keys_front sort (keys_of_frames is.frames) (is.f.key ∷ []) is.keys_canonical in
-    (is.frames, is.s, is.reaches, front, is.canonical, inr (is.f, is.r, is.frame, inr (is.keys_canonical, value is.v, is.means, inside_at (IsCanonicalUpTo inside) (FirstVerdictTo inside) b is.s (record { number = length is.frames; key = Some is.f.key }) is.r is.v inner d x (step_at w ∷ steps) offset is.holds (steps, at, judges, step, outward_offset b is.s d is.r steps at offset start some begins there))))
+    let front : AreKeysCanonical sort (keys_of_frames is.frames) = keys_front sort (keys_of_frames is.frames) (is.f.key ∷ []) is.keys_canonical in (
+      is.frames,
+      is.s,
+      is.reaches,
+      front,
+      is.canonical,
+      inr (
+        is.f,
+        is.r,
+        is.frame,
+        inr (
+          is.keys_canonical,
+          value is.v,
+          is.means,
+          inside_at (IsCanonicalUpTo inside) (FirstVerdictTo inside) b is.s (record { number = length is.frames; key = Some is.f.key }) is.r is.v inner d x
+              (step_at w ∷ steps) offset is.holds (steps, at, judges, step, outward_offset b is.s d is.r steps at offset start some begins there),
+        ),
+      ),
+    )
 
 -- levels that wait, the outermost first: from the bytes b, which end at this offset of the document, inward to the bytes d,
 -- which end at that one; in the list their keys are one behind the other
@@ -238,7 +311,10 @@ AreHeld inside outer b end under (w ∷ ws) (k ∷ ks) sort d last below =
     (s : Sort) × (c : List ℕ) × (above : List (List ℕ)) × IsHeld (suc (length ws + inside)) outer b under w k s c above × (w.offset + left_behind w ≡ end)
     × AreHeld inside s c w.offset above ws ks sort d last below
 
-pub held_more : (inside : ℕ) (outer : Sort) (b : List ℕ) (end : ℕ) (under : List (List ℕ)) (ws : List Wait) (ks : List KeysSoFar) (sort : Sort) (d : List ℕ) (last : ℕ) (below : List (List ℕ)) (w : Wait) (k : KeysSoFar) (inner : Sort) (c : List ℕ) (above : List (List ℕ)) → AreHeld (suc inside) outer b end under ws ks sort d last below → IsHeld (suc inside) sort d below w k inner c above → w.offset + left_behind w ≡ last → AreHeld inside outer b end under (ws ++ w ∷ []) (ks ++ k ∷ []) inner c w.offset above
+pub held_more : (inside : ℕ) (outer : Sort) (b : List ℕ) (end : ℕ) (under : List (List ℕ)) (ws : List Wait) (ks : List KeysSoFar) (sort : Sort) (d : List ℕ)
+    (last : ℕ) (below : List (List ℕ)) (w : Wait) (k : KeysSoFar) (inner : Sort) (c : List ℕ) (above : List (List ℕ))
+    → AreHeld (suc inside) outer b end under ws ks sort d last below → IsHeld (suc inside) sort d below w k inner c above → w.offset + left_behind w ≡ last
+    → AreHeld inside outer b end under (ws ++ w ∷ []) (ks ++ k ∷ []) inner c w.offset above
 held_more inside outer b end under [] [] sort d last below w k inner c above h is far =
     let same : suc inside ≡ suc (0 + inside) = omega arith in
     let waits : IsHeld (suc (0 + inside)) sort d below w k inner c above = subst (λ (i : ℕ). IsHeld i sort d below w k inner c above) same is in
@@ -250,7 +326,8 @@ held_more inside outer b end under (x ∷ ws) (l ∷ ks) sort d last below w k i
     (h.0, h.1, h.2, subst (λ (i : ℕ). IsHeld i outer b under x l h.0 h.1 h.2) same h.3, h.4, held_more inside h.0 h.1 x.offset h.2 ws ks sort d last below w k inner c above h.5 is far)
 
 -- the innermost of them
-pub record IsLast (inside : ℕ) (outer : Sort) (b : List ℕ) (end : ℕ) (under : List (List ℕ)) (ws : List Wait) (ks : List KeysSoFar) (w : Wait) (k : KeysSoFar) (inner : Sort) (c : List ℕ) (above : List (List ℕ)) : Type 0 where
+pub record IsLast (inside : ℕ) (outer : Sort) (b : List ℕ) (end : ℕ) (under : List (List ℕ)) (ws : List Wait) (ks : List KeysSoFar) (w : Wait) (k : KeysSoFar)
+    (inner : Sort) (c : List ℕ) (above : List (List ℕ)) : Type 0 where
   pub sort : Sort
   pub d : List ℕ
   pub last : ℕ
@@ -259,7 +336,9 @@ pub record IsLast (inside : ℕ) (outer : Sort) (b : List ℕ) (end : ℕ) (unde
   pub is : IsHeld (suc inside) sort d below w k inner c above
   pub ends : w.offset + left_behind w ≡ last
 
-pub held_less : (inside : ℕ) (outer : Sort) (b : List ℕ) (end : ℕ) (under : List (List ℕ)) (ws : List Wait) (ks : List KeysSoFar) (w : Wait) (k : KeysSoFar) (inner : Sort) (c : List ℕ) (m : ℕ) (above : List (List ℕ)) → AreHeld inside outer b end under (ws ++ w ∷ []) (ks ++ k ∷ []) inner c m above → IsLast inside outer b end under ws ks w k inner c above
+pub held_less : (inside : ℕ) (outer : Sort) (b : List ℕ) (end : ℕ) (under : List (List ℕ)) (ws : List Wait) (ks : List KeysSoFar) (w : Wait) (k : KeysSoFar)
+    (inner : Sort) (c : List ℕ) (m : ℕ) (above : List (List ℕ)) → AreHeld inside outer b end under (ws ++ w ∷ []) (ks ++ k ∷ []) inner c m above
+    → IsLast inside outer b end under ws ks w k inner c above
 held_less inside outer b end under [] [] w k inner c m above h =
     let same : suc (0 + inside) ≡ suc inside = omega arith in
     let waits : IsHeld (suc inside) outer b under w k h.0 h.1 h.2 = subst (λ (i : ℕ). IsHeld i outer b under w k h.0 h.1 h.2) same h.3 in
@@ -271,10 +350,21 @@ held_less inside outer b end under (x ∷ y ∷ ws) [] w k inner c m above h = a
 held_less inside outer b end under (x ∷ ws) (l ∷ ks) w k inner c m above h =
     let less = held_less inside h.0 h.1 x.offset h.2 ws ks w k inner c m above h.5 in
     let same : suc (length (ws ++ w ∷ []) + inside) ≡ suc (length ws + suc inside) = omega (arith, length-append ws (w ∷ [])) in
-    record { sort = less.sort; d = less.d; last = less.last; below = less.below; held = (h.0, h.1, h.2, subst (λ (i : ℕ). IsHeld i outer b under x l h.0 h.1 h.2) same h.3, h.4, less.held); is = less.is; ends = less.ends }
+    record {
+      sort = less.sort;
+      d = less.d;
+      last = less.last;
+      below = less.below;
+      held = (h.0, h.1, h.2, subst (λ (i : ℕ). IsHeld i outer b under x l h.0 h.1 h.2) same h.3, h.4, less.held);
+      is = less.is;
+      ends = less.ends;
+    }
 
 -- a verdict on the bytes d, at this offset of the document, is one on b
-pub verdict_outward : (inside : ℕ) (outer : Sort) (b : List ℕ) (end : ℕ) (under : List (List ℕ)) (ws : List Wait) (ks : List KeysSoFar) (sort : Sort) (d : List ℕ) (last : ℕ) (below : List (List ℕ)) (x : Verdict) (step : Step) (at offset : ℕ) → AreHeld inside outer b end under ws ks sort d last below → FirstVerdictTo (suc inside) sort d x (step ∷ []) at → at + last ≡ offset + length d → (u : ℕ) × FirstVerdictTo (suc (length ws + inside)) outer b x (map step_at ws ++ step ∷ []) u × (u + end ≡ offset + length b)
+pub verdict_outward : (inside : ℕ) (outer : Sort) (b : List ℕ) (end : ℕ) (under : List (List ℕ)) (ws : List Wait) (ks : List KeysSoFar) (sort : Sort)
+    (d : List ℕ) (last : ℕ) (below : List (List ℕ)) (x : Verdict) (step : Step) (at offset : ℕ) → AreHeld inside outer b end under ws ks sort d last below
+    → FirstVerdictTo (suc inside) sort d x (step ∷ []) at → at + last ≡ offset + length d
+    → (u : ℕ) × FirstVerdictTo (suc (length ws + inside)) outer b x (map step_at ws ++ step ∷ []) u × (u + end ≡ offset + length b)
 verdict_outward inside outer b end under [] [] sort d last below x step at offset h judges far =
     let same : suc inside ≡ suc (0 + inside) = omega arith in
     let here : FirstVerdictTo (suc (0 + inside)) sort d x (step ∷ []) at = subst (λ (depth : ℕ). FirstVerdictTo depth sort d x (step ∷ []) at) same judges in

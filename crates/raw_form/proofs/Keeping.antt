@@ -77,7 +77,9 @@ unseen seen keys = filter (λ key. not (is_among seen key)) keys
 others_unseen : (seen : List (List ℕ)) (k : List ℕ) (keys : List (List ℕ)) → unseen seen (filter (λ other. not (bytes_eq k other)) keys) ≡ unseen (seen ++ k ∷ []) keys
 others_unseen seen k [] = refl
 others_unseen seen k (x ∷ keys) =
-    elim (bytes_eq k x) as (λ b. bytes_eq k x ≡ b → unseen seen (cond (not b) (x ∷ filter (λ other. not (bytes_eq k other)) keys) (filter (λ other. not (bytes_eq k other)) keys)) ≡ cond (not (is_among (seen ++ k ∷ []) x)) (x ∷ unseen (seen ++ k ∷ []) keys) (unseen (seen ++ k ∷ []) keys)) [
+    elim (bytes_eq k x) as (λ b. bytes_eq k x ≡ b → unseen seen
+    (cond (not b) (x ∷ filter (λ other. not (bytes_eq k other)) keys) (filter (λ other. not (bytes_eq k other)) keys)) ≡ cond
+    (not (is_among (seen ++ k ∷ []) x)) (x ∷ unseen (seen ++ k ∷ []) keys) (unseen (seen ++ k ∷ []) keys)) [
       | true ↦ λ e.
           let same : is_among (seen ++ k ∷ []) x ≡ true = among_last seen k x (flipped x k ∙ e) in
           others_unseen seen k keys ∙ ap (λ (b : Bool). cond (not b) (x ∷ unseen (seen ++ k ∷ []) keys) (unseen (seen ++ k ∷ []) keys)) (sym same)
@@ -100,13 +102,15 @@ pub staying_all : (pairs : List (List ℕ × Tree)) → staying [] pairs (keys_o
 staying_all pairs = ap (λ ks. look_up pairs ks) (all_unseen (first_keys (keys_of pairs)))
 
 -- a key that was seen is passed over
-pub staying_seen : (seen : List (List ℕ)) (pairs : List (List ℕ × Tree)) (k : List ℕ) (keys : List (List ℕ)) → is_among seen k ≡ true → staying seen pairs (k ∷ keys) ≡ staying (seen ++ k ∷ []) pairs keys
+pub staying_seen : (seen : List (List ℕ)) (pairs : List (List ℕ × Tree)) (k : List ℕ) (keys : List (List ℕ)) → is_among seen k ≡ true
+    → staying seen pairs (k ∷ keys) ≡ staying (seen ++ k ∷ []) pairs keys
 staying_seen seen pairs k keys e =
     let rest : List (List ℕ) = unseen seen (filter (λ other. not (bytes_eq k other)) (first_keys keys)) in
     ap (λ (b : Bool). look_up pairs (cond (not b) (k ∷ rest) rest)) e ∙ ap (λ ks. look_up pairs ks) (others_unseen seen k (first_keys keys))
 
 -- another stays with the value that it has last
-pub staying_new : (seen : List (List ℕ)) (pairs : List (List ℕ × Tree)) (k : List ℕ) (keys : List (List ℕ)) (t : Tree) → is_among seen k ≡ false → last_value_at k pairs ≡ Some t → staying seen pairs (k ∷ keys) ≡ (k, t) ∷ staying (seen ++ k ∷ []) pairs keys
+pub staying_new : (seen : List (List ℕ)) (pairs : List (List ℕ × Tree)) (k : List ℕ) (keys : List (List ℕ)) (t : Tree) → is_among seen k ≡ false
+    → last_value_at k pairs ≡ Some t → staying seen pairs (k ∷ keys) ≡ (k, t) ∷ staying (seen ++ k ∷ []) pairs keys
 staying_new seen pairs k keys t e last =
     let rest : List (List ℕ) = unseen seen (filter (λ other. not (bytes_eq k other)) (first_keys keys)) in
     let one : look_up pairs (k ∷ rest) ≡ (k, t) ∷ look_up pairs rest = rw last refl in
@@ -143,7 +147,8 @@ has_place at (x ∷ fs) f gs =
     (there.0, last_front f.key (x.key, at) (placed (at + size_of x) (fs ++ f ∷ gs)) ∙ there.1)
 
 -- the last place of a key tells whether it was seen
-pub found_unseen : (seen : List (List ℕ)) (frames : List Frame) (key : List ℕ) (o : ℕ) → last_unseen seen frames key ≡ Some o → (is_among seen key ≡ false) × (last_value_at key (placed 4 frames) ≡ Some o)
+pub found_unseen : (seen : List (List ℕ)) (frames : List Frame) (key : List ℕ) (o : ℕ) → last_unseen seen frames key ≡ Some o
+    → (is_among seen key ≡ false) × (last_value_at key (placed 4 frames) ≡ Some o)
 found_unseen seen frames key o h =
     elim (is_among seen key) as (λ b. is_among seen key ≡ b → cond b None (last_value_at key (placed 4 frames)) ≡ Some o → (b ≡ false) × (last_value_at key (placed 4 frames) ≡ Some o)) [
       | true ↦ λ e k. cc

@@ -115,7 +115,8 @@ no_value key at (f ∷ fs) pairs h e =
     ∙ ap (λ (o : Option Tree). first_or o (here key (f.key, h.1))) rest
     ∙ ap (λ (b : Bool). cond b (Some h.1) None) apart
 
-last_frame : (key : List ℕ) (at : ℕ) (s : List ℕ) (frames : List Frame) (pairs : List (List ℕ × Tree)) (o : ℕ) → IsWalk s frames Done → StandForEach ReadsAs frames pairs → last_value_at key (placed at frames) ≡ Some o → IsLast at s pairs key o
+last_frame : (key : List ℕ) (at : ℕ) (s : List ℕ) (frames : List Frame) (pairs : List (List ℕ × Tree)) (o : ℕ) → IsWalk s frames Done
+    → StandForEach ReadsAs frames pairs → last_value_at key (placed at frames) ≡ Some o → IsLast at s pairs key o
 last_frame key at s [] pairs o w h e = cc
 last_frame key at s (f ∷ fs) pairs o w h e =
     let size : size_of f + length w.0 ≡ length s = frame_size s f w.0 w.1 in
@@ -164,7 +165,8 @@ none_has q (f ∷ fs) pairs h e =
     ∙ last_front q (f.key, h.1) h.2
     ∙ (λ i. first_or (none_has q fs h.2 h.6 both.1 i) (cond (both.0 i) (Some h.1) None))
 
-only_value : (q : List ℕ) (passed : List Frame) (f : Frame) (fs : List Frame) (pairs : List (List ℕ × Tree)) → StandForEach ReadsAs (passed ++ f ∷ fs) pairs → bytes_eq q f.key ≡ true → is_among (keys_of_frames fs) q ≡ false → (t : Tree) × FrameStandsFor f t × (last_value_at q pairs ≡ Some t)
+only_value : (q : List ℕ) (passed : List Frame) (f : Frame) (fs : List Frame) (pairs : List (List ℕ × Tree)) → StandForEach ReadsAs (passed ++ f ∷ fs) pairs
+    → bytes_eq q f.key ≡ true → is_among (keys_of_frames fs) q ≡ false → (t : Tree) × FrameStandsFor f t × (last_value_at q pairs ≡ Some t)
 only_value q [] f fs pairs h e none =
     (h.1, (h.0, h.3, h.4), ap (λ (ps : List (List ℕ × Tree)). last_value_at q ps) h.5 ∙ last_front q (f.key, h.1) h.2 ∙ (λ i. first_or (none_has q fs h.2 h.6 none i) (cond (e i) (Some h.1) None)))
 only_value q (x ∷ passed) f fs pairs h e none =
@@ -183,7 +185,9 @@ module _ (old new : LastPlaces) (s : List ℕ) (ms : List (MemberKey × Tree)) (
       (there.0, ap (λ (fs : List Frame). last_value_at f.key (placed 4 fs)) (is.parts ∙ ap (λ (l : List Frame). is.passed ++ l) step.1) ∙ there.1)
 
   -- the frame is passed
-  left_behind : (fs : List Frame) (rest : List (MemberKey × Tree)) → is.left ≡ f ∷ fs → IsWalk r fs Done → bytes_of new.document ≡ bytes_of old.document → HasPlaces new.places (place_of is.mapped (keys_of_frames is.passed ++ f.key ∷ []) is.frames) → rest ≡ keyed (entries (staying (keys_of_frames is.passed ++ f.key ∷ []) is.pairs (keys_of_frames fs))) → IsLeftOf new r rest
+  left_behind : (fs : List Frame) (rest : List (MemberKey × Tree)) → is.left ≡ f ∷ fs → IsWalk r fs Done → bytes_of new.document ≡ bytes_of old.document
+      → HasPlaces new.places (place_of is.mapped (keys_of_frames is.passed ++ f.key ∷ []) is.frames)
+      → rest ≡ keyed (entries (staying (keys_of_frames is.passed ++ f.key ∷ []) is.pairs (keys_of_frames fs))) → IsLeftOf new r rest
   left_behind fs rest e w same places members = record {
     frames = is.frames;
     pairs = is.pairs;
@@ -205,19 +209,23 @@ module _ (old new : LastPlaces) (s : List ℕ) (ms : List (MemberKey × Tree)) (
   found_so k x key has = ap (λ (q : List ℕ). place_of is.mapped (keys_of_frames is.passed) is.frames q) (sym key) ∙ sym (is.places k) ∙ has
 
   members_so : (fs : List Frame) (l : List (List ℕ × Tree)) → is.left ≡ f ∷ fs → staying (keys_of_frames is.passed) is.pairs (f.key ∷ keys_of_frames fs) ≡ l → ms ≡ keyed (entries l)
-  members_so fs l e stay = is.members_are ∙ ap (λ (gs : List Frame). keyed (entries (staying (keys_of_frames is.passed) is.pairs (keys_of_frames gs)))) e ∙ ap (λ (ps : List (List ℕ × Tree)). keyed (entries ps)) stay
+  members_so fs l e stay = is.members_are ∙ ap (λ (gs : List Frame). keyed (entries (staying (keys_of_frames is.passed) is.pairs (keys_of_frames gs)))) e
+      ∙ ap (λ (ps : List (List ℕ × Tree)). keyed (entries ps)) stay
 
   -- a frame whose key was seen is passed over
-  pub left_skips : (k : Bor (List ℕ)) → bytes_of new.document ≡ bytes_of old.document → UpdatesBy text_cmp (text_cmp k) old.places new.places (Some None) → k.now ≡ f.key → get text_cmp old.places k ≡ Some None → IsLeftOf new r ms
+  pub left_skips : (k : Bor (List ℕ)) → bytes_of new.document ≡ bytes_of old.document → UpdatesBy text_cmp (text_cmp k) old.places new.places (Some None)
+      → k.now ≡ f.key → get text_cmp old.places k ≡ Some None → IsLeftOf new r ms
   left_skips k same u key none =
       let step = walk_step s is.left f r is.left_walk at in
       let found = found_some is.mapped (keys_of_frames is.passed) is.frames f.key None (found_so k (Some None) key none) in
       let seen : is_among (keys_of_frames is.passed) f.key ≡ true = missed_seen (keys_of_frames is.passed) is.frames f.key placed_here.0 found.1 placed_here.1 in
-      let members = members_so step.0 (staying (keys_of_frames is.passed ++ f.key ∷ []) is.pairs (keys_of_frames step.0)) step.1 (staying_seen (keys_of_frames is.passed) is.pairs f.key (keys_of_frames step.0) seen) in
+      let members = members_so step.0 (staying (keys_of_frames is.passed ++ f.key ∷ []) is.pairs (keys_of_frames step.0)) step.1
+      (staying_seen (keys_of_frames is.passed) is.pairs f.key (keys_of_frames step.0) seen) in
       left_behind step.0 ms step.1 step.2 same (place_taken old.places new.places is.mapped (keys_of_frames is.passed) is.frames k f.key is.places u key found.0) members
 
   -- a frame whose key isn't repeated stands for the member
-  pub left_keeps : (k : Bor (List ℕ)) (e : RawElement) → bytes_of new.document ≡ bytes_of old.document → new.places ≡ old.places → k.now ≡ f.key → get text_cmp old.places k ≡ None → frame_of e ≡ f → TakesMember ms (Some e) new (Some r)
+  pub left_keeps : (k : Bor (List ℕ)) (e : RawElement) → bytes_of new.document ≡ bytes_of old.document → new.places ≡ old.places → k.now ≡ f.key
+      → get text_cmp old.places k ≡ None → frame_of e ≡ f → TakesMember ms (Some e) new (Some r)
   left_keeps k e same unchanged key none element =
       let step = walk_step s is.left f r is.left_walk at in
       let absent : is_among is.mapped f.key ≡ false = found_none is.mapped (keys_of_frames is.passed) is.frames f.key (found_so k None key none) in
@@ -226,18 +234,28 @@ module _ (old new : LastPlaces) (s : List ℕ) (ms : List (MemberKey × Tree)) (
       let apart = unrepeated is.passed f step.0 f.key (ap (λ (fs : List Frame). is_repeated f.key fs) (sym parts) ∙ once) (itself f.key) in
       let only = only_value f.key is.passed f step.0 is.pairs (subst (λ (fs : List Frame). StandForEach ReadsAs fs is.pairs) parts is.stand) (itself f.key) apart.1 in
       let rest : List (MemberKey × Tree) = keyed (entries (staying (keys_of_frames is.passed ++ f.key ∷ []) is.pairs (keys_of_frames step.0))) in
-      let members : ms ≡ (text f.key, only.0) ∷ rest = members_so step.0 ((f.key, only.0) ∷ staying (keys_of_frames is.passed ++ f.key ∷ []) is.pairs (keys_of_frames step.0)) step.1 (staying_new (keys_of_frames is.passed) is.pairs f.key (keys_of_frames step.0) only.0 apart.0 only.2) in
-      let places : HasPlaces new.places (place_of is.mapped (keys_of_frames is.passed ++ f.key ∷ []) is.frames) = rw unchanged (place_over old.places is.mapped (keys_of_frames is.passed) is.frames f.key is.places absent) in
-      (only.0, rest, members ∙ ap (λ (x : Frame). (text x.key, only.0) ∷ rest) (sym element), subst (λ (g : Frame). FrameStandsFor g only.0) (sym element) only.1, left_behind step.0 rest step.1 step.2 same places refl)
+      let members : ms ≡ (text f.key, only.0) ∷ rest =
+      members_so step.0 ((f.key, only.0) ∷ staying (keys_of_frames is.passed ++ f.key ∷ []) is.pairs (keys_of_frames step.0)) step.1
+      (staying_new (keys_of_frames is.passed) is.pairs f.key (keys_of_frames step.0) only.0 apart.0 only.2) in
+      let places : HasPlaces new.places (place_of is.mapped (keys_of_frames is.passed ++ f.key ∷ []) is.frames) =
+      rw unchanged (place_over old.places is.mapped (keys_of_frames is.passed) is.frames f.key is.places absent) in (
+        only.0,
+        rest,
+        members ∙ ap (λ (x : Frame). (text x.key, only.0) ∷ rest) (sym element),
+        subst (λ (g : Frame). FrameStandsFor g only.0) (sym element) only.1,
+        left_behind step.0 rest step.1 step.2 same places refl,
+      )
 
-  found_last : (k : Bor (List ℕ)) (o : ℕ) → k.now ≡ f.key → get text_cmp old.places k ≡ Some (Some o) → (is_among (keys_of_frames is.passed) f.key ≡ false) × IsLast 4 (drop 4 (bytes_of old.document)) is.pairs f.key o
+  found_last : (k : Bor (List ℕ)) (o : ℕ) → k.now ≡ f.key → get text_cmp old.places k ≡ Some (Some o)
+      → (is_among (keys_of_frames is.passed) f.key ≡ false) × IsLast 4 (drop 4 (bytes_of old.document)) is.pairs f.key o
   found_last k o key some =
       let there = found_some is.mapped (keys_of_frames is.passed) is.frames f.key (Some o) (found_so k (Some (Some o)) key some) in
       let found = found_unseen (keys_of_frames is.passed) is.frames f.key o there.1 in
       (found.0, last_frame f.key 4 (drop 4 (bytes_of old.document)) is.frames is.pairs o is.walk is.stand found.1)
 
   -- the last frame of another key is within the document
-  pub last_within : (k : Bor (List ℕ)) (o : ℕ) → k.now ≡ f.key → get text_cmp old.places k ≡ Some (Some o) → 5 ≤ length (bytes_of old.document) → (4 ≤ o) × (o ≤ length (bytes_of old.document)) × (g : Frame) × (q : List ℕ) × IsFrame (drop o (bytes_of old.document)) g q
+  pub last_within : (k : Bor (List ℕ)) (o : ℕ) → k.now ≡ f.key → get text_cmp old.places k ≡ Some (Some o) → 5 ≤ length (bytes_of old.document)
+      → (4 ≤ o) × (o ≤ length (bytes_of old.document)) × (g : Frame) × (q : List ℕ) × IsFrame (drop o (bytes_of old.document)) g q
   last_within k o key some long =
       let b : List ℕ = bytes_of old.document in
       let last = (found_last k o key some).1 in
@@ -245,7 +263,9 @@ module _ (old new : LastPlaces) (s : List ℕ) (ms : List (MemberKey × Tree)) (
       (last.first, omega (arith, last.within, length-drop 4 b, long), last.f, last.r, subst (λ (x : List ℕ). IsFrame x last.f last.r) there last.frame)
 
   -- and stands for the member
-  pub left_takes : (k : Bor (List ℕ)) (o : ℕ) (e : RawElement) → bytes_of new.document ≡ bytes_of old.document → UpdatesBy text_cmp (text_cmp k) old.places new.places (Some None) → k.now ≡ f.key → get text_cmp old.places k ≡ Some (Some o) → ((g : Frame) (q : List ℕ) → IsFrame (drop o (bytes_of old.document)) g q → frame_of e ≡ g) → TakesMember ms (Some e) new (Some r)
+  pub left_takes : (k : Bor (List ℕ)) (o : ℕ) (e : RawElement) → bytes_of new.document ≡ bytes_of old.document
+      → UpdatesBy text_cmp (text_cmp k) old.places new.places (Some None) → k.now ≡ f.key → get text_cmp old.places k ≡ Some (Some o)
+      → ((g : Frame) (q : List ℕ) → IsFrame (drop o (bytes_of old.document)) g q → frame_of e ≡ g) → TakesMember ms (Some e) new (Some r)
   left_takes k o e same u key some is_there =
       let b : List ℕ = bytes_of old.document in
       let step = walk_step s is.left f r is.left_walk at in
@@ -255,8 +275,17 @@ module _ (old new : LastPlaces) (s : List ℕ) (ms : List (MemberKey × Tree)) (
       let element : frame_of e ≡ last.f = is_there last.f last.r (subst (λ (x : List ℕ). IsFrame x last.f last.r) there last.frame) in
       let rest : List (MemberKey × Tree) = keyed (entries (staying (keys_of_frames is.passed ++ f.key ∷ []) is.pairs (keys_of_frames step.0))) in
       let same_key : (frame_of e).key ≡ f.key = ap (λ (x : Frame). x.key) element ∙ last.key_is in
-      let members : ms ≡ (text f.key, last.t) ∷ rest = is.members_are ∙ ap (λ (l : List Frame). keyed (entries (staying (keys_of_frames is.passed) is.pairs (keys_of_frames l)))) step.1 ∙ ap (λ (ps : List (List ℕ × Tree)). keyed (entries ps)) (staying_new (keys_of_frames is.passed) is.pairs f.key (keys_of_frames step.0) last.t found.0 last.last) in
-      (last.t, rest, members ∙ ap (λ (x : List ℕ). (text x, last.t) ∷ rest) (sym same_key), subst (λ (g : Frame). FrameStandsFor g last.t) (sym element) last.stands, left_behind step.0 rest step.1 step.2 same (place_taken old.places new.places is.mapped (keys_of_frames is.passed) is.frames k f.key is.places u key (found_some is.mapped (keys_of_frames is.passed) is.frames f.key (Some o) (found_so k (Some (Some o)) key some)).0) refl)
+      let members : ms ≡ (text f.key, last.t) ∷ rest =
+      is.members_are ∙ ap (λ (l : List Frame). keyed (entries (staying (keys_of_frames is.passed) is.pairs (keys_of_frames l)))) step.1
+      ∙ ap (λ (ps : List (List ℕ × Tree)). keyed (entries ps))
+      (staying_new (keys_of_frames is.passed) is.pairs f.key (keys_of_frames step.0) last.t found.0 last.last) in (
+        last.t,
+        rest,
+        members ∙ ap (λ (x : List ℕ). (text x, last.t) ∷ rest) (sym same_key),
+        subst (λ (g : Frame). FrameStandsFor g last.t) (sym element) last.stands,
+        left_behind step.0 rest step.1 step.2 same (place_taken old.places new.places is.mapped (keys_of_frames is.passed) is.frames k f.key is.places u key
+            (found_some is.mapped (keys_of_frames is.passed) is.frames f.key (Some o) (found_so k (Some (Some o)) key some)).0) refl,
+      )
 
 -- the loop that looks for the next key
 
@@ -271,21 +300,31 @@ nothing_left last (Some s) new ms is none =
     is.members_are ∙ ap (λ (fs : List Frame). keyed (entries (staying (keys_of_frames is.passed) is.pairs (keys_of_frames fs)))) (walk_over s is.left is.left_walk none)
 
 module _ (last : LastPlaces) (places : BTreeMap (Bor (List ℕ)) (Option ℕ)) (e : RawElement) (k : Bor (List ℕ)) (key : k.now ≡ (frame_of e).key) where
-  pub skipped : (old new : Option (List ℕ)) (ms : List (MemberKey × Tree)) → TakesFrame old (Some e) new → IsLeftAt last old ms → UpdatesBy text_cmp (text_cmp k) last.places places (Some None) → get text_cmp last.places k ≡ Some None → IsLeftAt (record { document = last.document; places = places }) new ms
+  pub skipped : (old new : Option (List ℕ)) (ms : List (MemberKey × Tree)) → TakesFrame old (Some e) new → IsLeftAt last old ms
+      → UpdatesBy text_cmp (text_cmp k) last.places places (Some None) → get text_cmp last.places k ≡ Some None
+      → IsLeftAt (record { document = last.document; places = places }) new ms
   skipped None new ms takes is u none = absurd is
   skipped (Some s) new ms (r, at, new_is) is u none =
       rw new_is (left_skips last (record { document = last.document; places = places }) s ms is (frame_of e) r at k refl u key none)
 
-  pub place_within : (old new : Option (List ℕ)) (o : ℕ) (ms : List (MemberKey × Tree)) → TakesFrame old (Some e) new → IsLeftAt last old ms → get text_cmp last.places k ≡ Some (Some o) → 5 ≤ length (bytes_of last.document) → (4 ≤ o) × (o ≤ length (bytes_of last.document)) × (g : Frame) × (q : List ℕ) × IsFrame (drop o (bytes_of last.document)) g q
+  pub place_within : (old new : Option (List ℕ)) (o : ℕ) (ms : List (MemberKey × Tree)) → TakesFrame old (Some e) new → IsLeftAt last old ms
+      → get text_cmp last.places k ≡ Some (Some o) → 5 ≤ length (bytes_of last.document)
+      → (4 ≤ o) × (o ≤ length (bytes_of last.document)) × (g : Frame) × (q : List ℕ) × IsFrame (drop o (bytes_of last.document)) g q
   place_within None new o ms takes is some long = absurd is
   place_within (Some s) new o ms (r, at, new_is) is some long = last_within last last s ms is (frame_of e) r at k o key some long
 
-  pub member_taken : (old new : Option (List ℕ)) (o : ℕ) (x : RawElement) (ms : List (MemberKey × Tree)) → TakesFrame old (Some e) new → IsLeftAt last old ms → UpdatesBy text_cmp (text_cmp k) last.places places (Some None) → get text_cmp last.places k ≡ Some (Some o) → ((g : Frame) (q : List ℕ) → IsFrame (drop o (bytes_of last.document)) g q → frame_of x ≡ g) → TakesMember ms (Some x) (record { document = last.document; places = places }) new
+  pub member_taken : (old new : Option (List ℕ)) (o : ℕ) (x : RawElement) (ms : List (MemberKey × Tree)) → TakesFrame old (Some e) new → IsLeftAt last old ms
+      → UpdatesBy text_cmp (text_cmp k) last.places places (Some None) → get text_cmp last.places k ≡ Some (Some o)
+      → ((g : Frame) (q : List ℕ) → IsFrame (drop o (bytes_of last.document)) g q → frame_of x ≡ g)
+      → TakesMember ms (Some x) (record { document = last.document; places = places }) new
   member_taken None new o x ms takes is u some is_there = absurd is
   member_taken (Some s) new o x ms (r, at, new_is) is u some is_there =
-      subst (λ (l : Option (List ℕ)). TakesMember ms (Some x) (record { document = last.document; places = places }) l) (sym new_is) (left_takes last (record { document = last.document; places = places }) s ms is (frame_of e) r at k o x refl u key some is_there)
+      subst (λ (l : Option (List ℕ)). TakesMember ms (Some x) (record { document = last.document; places = places }) l) (sym new_is)
+      (left_takes last (record { document = last.document; places = places }) s ms is (frame_of e) r at k o x refl u key some is_there)
 
-  pub member_kept : (old new : Option (List ℕ)) (ms : List (MemberKey × Tree)) → TakesFrame old (Some e) new → IsLeftAt last old ms → places ≡ last.places → get text_cmp last.places k ≡ None → TakesMember ms (Some e) (record { document = last.document; places = places }) new
+  pub member_kept : (old new : Option (List ℕ)) (ms : List (MemberKey × Tree)) → TakesFrame old (Some e) new → IsLeftAt last old ms → places ≡ last.places
+      → get text_cmp last.places k ≡ None → TakesMember ms (Some e) (record { document = last.document; places = places }) new
   member_kept None new ms takes is unchanged none = absurd is
   member_kept (Some s) new ms (r, at, new_is) is unchanged none =
-      subst (λ (l : Option (List ℕ)). TakesMember ms (Some e) (record { document = last.document; places = places }) l) (sym new_is) (left_keeps last (record { document = last.document; places = places }) s ms is (frame_of e) r at k e refl unchanged key none refl)
+      subst (λ (l : Option (List ℕ)). TakesMember ms (Some e) (record { document = last.document; places = places }) l) (sym new_is)
+      (left_keeps last (record { document = last.document; places = places }) s ms is (frame_of e) r at k e refl unchanged key none refl)

@@ -30,7 +30,8 @@ use Rattle.raw_form.proofs.Lasting.{nothing_left, walk_over, walk_step}
 
 -- pairs
 
-taken : (s r : List ℕ) (frames : List Frame) (pairs : List (List ℕ × Tree)) (e : RawElement) → IsWalk s frames Done → StandForEach ReadsAs frames pairs → IsFrame s (frame_of e) r → TakesPair (Some s) pairs (Some e) (Some r)
+taken : (s r : List ℕ) (frames : List Frame) (pairs : List (List ℕ × Tree)) (e : RawElement) → IsWalk s frames Done → StandForEach ReadsAs frames pairs
+    → IsFrame s (frame_of e) r → TakesPair (Some s) pairs (Some e) (Some r)
 taken s r frames pairs e walk stand at =
     let step = walk_step s frames (frame_of e) r walk at in
     let each : StandForEach ReadsAs (frame_of e ∷ step.0) pairs = subst (λ (fs : List Frame). StandForEach ReadsAs fs pairs) step.1 stand in
@@ -48,11 +49,19 @@ pair_over (Some s) new pairs h none =
 
 -- members
 
-pub number_taken : (n : ℕ) (old new : Option (List ℕ)) (ms : List (MemberKey × Tree)) (pairs : List (List ℕ × Tree)) (e : RawElement) → n + left_of old < 2 ^ 64 → ms ≡ numbered n (trees (map (λ p. p.1) pairs)) → TakesPair old pairs (Some e) new → TakesNext ms (Some (record { number = Some n; element = e })) (keys.Numbers (n + 1)) new
-number_taken n old new ms pairs e small is (t, rest, pairs_are, stands, left, shorter) =
-    (t, numbered (n + 1) (trees (map (λ p. p.1) rest)), is ∙ ap (λ (ps : List (List ℕ × Tree)). numbered n (trees (map (λ p. p.1) ps))) pairs_are, stands, (omega (arith, small, shorter), rest, left, refl))
+pub number_taken : (n : ℕ) (old new : Option (List ℕ)) (ms : List (MemberKey × Tree)) (pairs : List (List ℕ × Tree)) (e : RawElement) → n + left_of old < 2 ^ 64
+    → ms ≡ numbered n (trees (map (λ p. p.1) pairs)) → TakesPair old pairs (Some e) new
+    → TakesNext ms (Some (record { number = Some n; element = e })) (keys.Numbers (n + 1)) new
+number_taken n old new ms pairs e small is (t, rest, pairs_are, stands, left, shorter) = (
+  t,
+  numbered (n + 1) (trees (map (λ p. p.1) rest)),
+  is ∙ ap (λ (ps : List (List ℕ × Tree)). numbered n (trees (map (λ p. p.1) ps))) pairs_are,
+  stands,
+  (omega (arith, small, shorter), rest, left, refl),
+)
 
-pub distinct_taken : (old new : Option (List ℕ)) (ms : List (MemberKey × Tree)) (pairs : List (List ℕ × Tree)) (e : RawElement) → ms ≡ keyed (entries pairs) → TakesPair old pairs (Some e) new → TakesNext ms (Some (record { number = None; element = e })) keys.Distinct new
+pub distinct_taken : (old new : Option (List ℕ)) (ms : List (MemberKey × Tree)) (pairs : List (List ℕ × Tree)) (e : RawElement) → ms ≡ keyed (entries pairs)
+    → TakesPair old pairs (Some e) new → TakesNext ms (Some (record { number = None; element = e })) keys.Distinct new
 distinct_taken old new ms pairs e is (t, rest, pairs_are, stands, left, shorter) =
     (t, keyed (entries rest), is ∙ ap (λ (ps : List (List ℕ × Tree)). keyed (entries ps)) pairs_are, stands, (rest, left, refl))
 
@@ -65,12 +74,14 @@ left_over keys.Distinct old new ms (pairs, rest, ms_are) none =
 left_over (keys.Repeated last) old new ms left none = nothing_left last.value old new ms left none
 
 -- the next member by its number, and by its key
-pub next_number : (k : Keys) (n : ℕ) (old new : Option (List ℕ)) (ms : List (MemberKey × Tree)) (e : RawElement) → k ≡ keys.Numbers n → IsLeft k old ms → TakesFrame old (Some e) new → TakesNext ms (Some (record { number = Some n; element = e })) (keys.Numbers (n + 1)) new
+pub next_number : (k : Keys) (n : ℕ) (old new : Option (List ℕ)) (ms : List (MemberKey × Tree)) (e : RawElement) → k ≡ keys.Numbers n → IsLeft k old ms
+    → TakesFrame old (Some e) new → TakesNext ms (Some (record { number = Some n; element = e })) (keys.Numbers (n + 1)) new
 next_number k n old new ms e same left takes =
     let here : IsLeft (keys.Numbers n) old ms = subst (λ (x : Keys). IsLeft x old ms) same left in
     number_taken n old new ms here.1 e here.0 here.3 (pair_taken old new here.1 e here.2 takes)
 
-pub next_distinct : (k : Keys) (old new : Option (List ℕ)) (ms : List (MemberKey × Tree)) (e : RawElement) → k ≡ keys.Distinct → IsLeft k old ms → TakesFrame old (Some e) new → TakesNext ms (Some (record { number = None; element = e })) k new
+pub next_distinct : (k : Keys) (old new : Option (List ℕ)) (ms : List (MemberKey × Tree)) (e : RawElement) → k ≡ keys.Distinct → IsLeft k old ms
+    → TakesFrame old (Some e) new → TakesNext ms (Some (record { number = None; element = e })) k new
 next_distinct k old new ms e same left takes =
     let here : IsLeft keys.Distinct old ms = subst (λ (x : Keys). IsLeft x old ms) same left in
     subst (λ (x : Keys). TakesNext ms (Some (record { number = None; element = e })) x new) (sym same) (distinct_taken old new ms here.0 e here.2 (pair_taken old new here.0 e here.1 takes))
@@ -87,14 +98,17 @@ array_begins d t small (suc n, h) =
     subst (λ (x : Tree). HasCode x None × IsLeft (keys.Numbers 0) (Some (drop 4 d)) (members x)) (sym h.2)
     (refl, (omega (arith, small), h.0, (h.1.0, h.1.1, each_read n h.1.0 h.0 h.1.2), refl))
 
-pub distinct_begins : (d : List ℕ) (t : Tree) → ((frames : List Frame) → IsWalk (drop 4 d) frames Done → IsDistinct bytes_eq (keys_of_frames frames)) → ReadsAs as_document d t → IsLeft keys.Distinct (Some (drop 4 d)) (members t)
+pub distinct_begins : (d : List ℕ) (t : Tree) → ((frames : List Frame) → IsWalk (drop 4 d) frames Done → IsDistinct bytes_eq (keys_of_frames frames))
+    → ReadsAs as_document d t → IsLeft keys.Distinct (Some (drop 4 d)) (members t)
 distinct_begins d t distinct (zero, h) = absurd h
 distinct_begins d t distinct (suc n, h) =
     let each = each_read n h.1.0 h.0 h.1.2 in
     let apart : IsDistinct bytes_eq (keys_of h.0) = subst (λ (ks : List (List ℕ)). IsDistinct bytes_eq ks) (keys_stand h.1.0 h.0 each) (distinct h.1.0 h.1.1) in
     (h.0, (h.1.0, h.1.1, each), ap members h.2 ∙ ap (λ (ps : List (List ℕ × Tree)). keyed (entries ps)) (keep-distinct h.0 apart))
 
-pub repeated_begins : (d : List ℕ) (t : Tree) (last : LastPlaces) → bytes_of last.document ≡ d → ((frames : List Frame) → IsWalk (drop 4 d) frames Done → HasRepeated (Some last.places) frames) → ReadsAs as_document d t → IsLeftOf last (drop 4 d) (members t)
+pub repeated_begins : (d : List ℕ) (t : Tree) (last : LastPlaces) → bytes_of last.document ≡ d
+    → ((frames : List Frame) → IsWalk (drop 4 d) frames Done → HasRepeated (Some last.places) frames) → ReadsAs as_document d t
+    → IsLeftOf last (drop 4 d) (members t)
 repeated_begins d t last same places (zero, h) = absurd h
 repeated_begins d t last same places (suc n, h) =
     let each = each_read n h.1.0 h.0 h.1.2 in
@@ -111,7 +125,8 @@ repeated_begins d t last same places (suc n, h) =
       mapped = (places h.1.0 h.1.1).0;
       are_mapped = (places h.1.0 h.1.1).1;
       places = (places h.1.0 h.1.1).2;
-      members_are = ap members h.2 ∙ ap (λ (ps : List (List ℕ × Tree)). keyed (entries ps)) (sym (staying_all h.0)) ∙ ap (λ (ks : List (List ℕ)). keyed (entries (staying [] h.0 ks))) (sym (keys_stand h.1.0 h.0 each));
+      members_are = ap members h.2 ∙ ap (λ (ps : List (List ℕ × Tree)). keyed (entries ps)) (sym (staying_all h.0))
+          ∙ ap (λ (ks : List (List ℕ)). keyed (entries (staying [] h.0 ks))) (sym (keys_stand h.1.0 h.0 each));
     }
 
 pub document_code : (d : List ℕ) (t : Tree) → ReadsAs as_document d t → HasCode t None
@@ -132,10 +147,12 @@ shows_held (raw.array d) h e = e
 shows_held (raw.scoped code d) h e = e
 
 -- a scope has the members of its code
-pub scope_left : (k : Keys) (left : Option (List ℕ)) (code d : List ℕ) (t : Tree) → StandsFor ReadsAs (raw.scoped code d) t → ((u : Tree) → ReadsAs as_document d u → IsLeft k left (members u)) → HasCode t (Some (length code)) × IsLeft k left (members t)
+pub scope_left : (k : Keys) (left : Option (List ℕ)) (code d : List ℕ) (t : Tree) → StandsFor ReadsAs (raw.scoped code d) t
+    → ((u : Tree) → ReadsAs as_document d u → IsLeft k left (members u)) → HasCode t (Some (length code)) × IsLeft k left (members t)
 scope_left k left code d t (es, read, is) kept =
     subst (λ (x : Tree). HasCode x (Some (length code)) × IsLeft k left (members x)) (sym is) (refl, kept (document es) read)
 
 -- a level with these parts
-pub level_left : (t : Tree) (level : Rewritten) (k : Keys) (left : Option (List ℕ)) (len : Option ℕ) → level.keys ≡ k → level.elements ≡ left → level.code_len ≡ len → HasCode t len → IsLeft k left (members t) → HasCode t level.code_len × IsLeft level.keys level.elements (members t)
+pub level_left : (t : Tree) (level : Rewritten) (k : Keys) (left : Option (List ℕ)) (len : Option ℕ) → level.keys ≡ k → level.elements ≡ left
+    → level.code_len ≡ len → HasCode t len → IsLeft k left (members t) → HasCode t level.code_len × IsLeft level.keys level.elements (members t)
 level_left t level k left len ks es ls code is = (rw ls code, rw (ks, es) is)

@@ -24,7 +24,7 @@ use Rattle.raw_form.specs.declared.level.Waiting.{Waiting}
 use Rattle.raw_form.specs.declared.level.Next.TheVariants as next
 use Rattle.raw_form.proofs.Passing.{read_as, begun, passed_whole, passed_inside, passed_end, IsInFront, passed_fault, passed_deep, resumed, IsPassed, left_behind}
 use Rattle.raw_form.proofs.Outward.{AreHeld, held_more, held_less, held_last, held_ends, barrier_outward}
-use Rattle.raw_form.proofs.Lying.{behind_in, frame_more, led_behind, nested_lies, stored_whole, whole_lies}
+use Rattle.raw_form.proofs.Lying.{behind_in, frame_more, led_behind, nested_last, nested_lies, stored_whole, whole_lies}
 
 -- what the loop keeps: the innermost level passes over some bytes, for which the others wait, and what is left of them begins
 -- at this offset of b; so many levels may be inside
@@ -45,7 +45,8 @@ passed_left inside d None number is = absurd is.passed
 passed_left inside d (Some s) number is = omega (arith, LeadsTo-bound (drop 4 d) is.frames s is.passed, length-drop 4 d, is.number_is)
 
 -- the number and the offset of what is left are within b
-pub at_within : (depth : ℕ) (b : List ℕ) (ws : List Wait) (left : Option (List ℕ)) (number offset start : ℕ) → IsAt depth b ws left number offset start → (2 * number + left_of left ≤ length b) × (offset + left_of left ≤ length b)
+pub at_within : (depth : ℕ) (b : List ℕ) (ws : List Wait) (left : Option (List ℕ)) (number offset start : ℕ) → IsAt depth b ws left number offset start
+    → (2 * number + left_of left ≤ length b) × (offset + left_of left ≤ length b)
 at_within depth b ws left number offset start at =
     let ends = held_ends at.inside as_document b (length b) ws at.sort at.d at.end at.held (omega arith) in
     (omega (arith, passed_left at.inside at.d left number at.is, ends.0, ends.1), omega (arith, at.begins, ends.1))
@@ -53,35 +54,45 @@ at_within depth b ws left number offset start at =
 pub frame_size : (s : List ℕ) (f : Frame) (r : List ℕ) → IsFrame s f r → size_of f + length r ≡ length s
 frame_size s f r b = omega (arith, ap length b.spelled, length-append f.key (0 ∷ (f.payload ++ r)), length-append f.payload r)
 
-pub whole_size : (inside : ℕ) (d : List ℕ) (old new : Option (List ℕ)) (number : ℕ) (e : RawElement) → IsPassed inside d old number → Looks old new (next.Whole e) → size_of (frame_of e) + left_of new ≡ left_of old
+pub whole_size : (inside : ℕ) (d : List ℕ) (old new : Option (List ℕ)) (number : ℕ) (e : RawElement) → IsPassed inside d old number
+    → Looks old new (next.Whole e) → size_of (frame_of e) + left_of new ≡ left_of old
 whole_size inside d None new number e is looks = absurd is.passed
 whole_size inside d (Some s) new number e is (r, v, at, m, none, new_is) = rw new_is (frame_size s (frame_of e) r at)
 
-pub inside_size : (inside : ℕ) (d : List ℕ) (old new : Option (List ℕ)) (number : ℕ) (e : RawElement) (inner : RawDocument) → IsPassed inside d old number → Looks old new (next.Inside e inner) → size_of (frame_of e) + left_of new ≡ left_of old
+pub inside_size : (inside : ℕ) (d : List ℕ) (old new : Option (List ℕ)) (number : ℕ) (e : RawElement) (inner : RawDocument) → IsPassed inside d old number
+    → Looks old new (next.Inside e inner) → size_of (frame_of e) + left_of new ≡ left_of old
 inside_size inside d None new number e inner is looks = absurd is.passed
 inside_size inside d (Some s) new number e inner is (r, v, at, m, holds, new_is) = rw new_is (frame_size s (frame_of e) r at)
 
 -- what is behind an element begins behind it
-pub at_whole_size : (depth : ℕ) (b : List ℕ) (ws : List Wait) (old new : Option (List ℕ)) (number offset start : ℕ) (e : RawElement) → IsAt depth b ws old number offset start → Looks old new (next.Whole e) → (size_of (frame_of e) + left_of new ≡ left_of old) × (offset + size_of (frame_of e) ≤ length b)
+pub at_whole_size : (depth : ℕ) (b : List ℕ) (ws : List Wait) (old new : Option (List ℕ)) (number offset start : ℕ) (e : RawElement)
+    → IsAt depth b ws old number offset start → Looks old new (next.Whole e)
+    → (size_of (frame_of e) + left_of new ≡ left_of old) × (offset + size_of (frame_of e) ≤ length b)
 at_whole_size depth b ws old new number offset start e at looks =
     let size = whole_size at.inside at.d old new number e at.is looks in
     (size, omega (arith, size, (at_within depth b ws old number offset start at).1))
 
-pub at_inside_size : (depth : ℕ) (b : List ℕ) (ws : List Wait) (old new : Option (List ℕ)) (number offset start : ℕ) (e : RawElement) (inner : RawDocument) → IsAt depth b ws old number offset start → Looks old new (next.Inside e inner) → (size_of (frame_of e) + left_of new ≡ left_of old) × (offset + size_of (frame_of e) ≤ length b)
+pub at_inside_size : (depth : ℕ) (b : List ℕ) (ws : List Wait) (old new : Option (List ℕ)) (number offset start : ℕ) (e : RawElement) (inner : RawDocument)
+    → IsAt depth b ws old number offset start → Looks old new (next.Inside e inner)
+    → (size_of (frame_of e) + left_of new ≡ left_of old) × (offset + size_of (frame_of e) ≤ length b)
 at_inside_size depth b ws old new number offset start e inner at looks =
     let size = inside_size at.inside at.d old new number e inner at.is looks in
     (size, omega (arith, size, (at_within depth b ws old number offset start at).1))
 
 -- nested bytes begin no earlier than the element that holds them
-inside_fits : (inside : ℕ) (d : List ℕ) (old new : Option (List ℕ)) (number : ℕ) (e : RawElement) (inner : RawDocument) → IsPassed inside d old number → Looks old new (next.Inside e inner) → length (bytes_of inner) ≤ size_of (frame_of e)
+inside_fits : (inside : ℕ) (d : List ℕ) (old new : Option (List ℕ)) (number : ℕ) (e : RawElement) (inner : RawDocument) → IsPassed inside d old number
+    → Looks old new (next.Inside e inner) → length (bytes_of inner) ≤ size_of (frame_of e)
 inside_fits inside d None new number e inner is looks = absurd is.passed
 inside_fits inside d (Some s) new number e inner is (r, v, at, m, holds, new_is) =
     omega (arith, nested_beside s (frame_of e) r v (bytes_of inner) at m holds, frame_size s (frame_of e) r at)
 
-pub at_inside_fits : (depth : ℕ) (b : List ℕ) (ws : List Wait) (old new : Option (List ℕ)) (number offset start : ℕ) (e : RawElement) (inner : RawDocument) → IsAt depth b ws old number offset start → Looks old new (next.Inside e inner) → length (bytes_of inner) ≤ size_of (frame_of e)
+pub at_inside_fits : (depth : ℕ) (b : List ℕ) (ws : List Wait) (old new : Option (List ℕ)) (number offset start : ℕ) (e : RawElement) (inner : RawDocument)
+    → IsAt depth b ws old number offset start → Looks old new (next.Inside e inner) → length (bytes_of inner) ≤ size_of (frame_of e)
 at_inside_fits depth b ws old new number offset start e inner at looks = inside_fits at.inside at.d old new number e inner at.is looks
 
-pub at_begin : (most depth : ℕ) (b : List ℕ) (ws : List Wait) (left : Option (List ℕ)) (number offset start : ℕ) → suc most ≡ depth → ws ≡ [] → left ≡ Some (drop 4 b) → number ≡ 0 → offset + length (drop 4 b) ≡ length b → IsEnvelope b → start + length b ≡ length b → IsAt depth b ws left number offset start
+pub at_begin : (most depth : ℕ) (b : List ℕ) (ws : List Wait) (left : Option (List ℕ)) (number offset start : ℕ) → suc most ≡ depth → ws ≡ []
+    → left ≡ Some (drop 4 b) → number ≡ 0 → offset + length (drop 4 b) ≡ length b → IsEnvelope b → start + length b ≡ length b
+    → IsAt depth b ws left number offset start
 at_begin most depth b ws left number offset start whole none e first begins envelope starts = record {
   inside = most;
   sort = as_document;
@@ -95,7 +106,9 @@ at_begin most depth b ws left number offset start whole none e first begins enve
   whole = starts;
 }
 
-pub at_whole : (depth : ℕ) (b : List ℕ) (ws : List Wait) (old new : Option (List ℕ)) (number offset start behind : ℕ) (e : RawElement) → IsAt depth b ws old number offset start → Looks old new (next.Whole e) → behind ≡ offset + size_of (frame_of e) → IsAt depth b ws new (number + 1) behind start
+pub at_whole : (depth : ℕ) (b : List ℕ) (ws : List Wait) (old new : Option (List ℕ)) (number offset start behind : ℕ) (e : RawElement)
+    → IsAt depth b ws old number offset start → Looks old new (next.Whole e) → behind ≡ offset + size_of (frame_of e)
+    → IsAt depth b ws new (number + 1) behind start
 at_whole depth b ws old new number offset start behind e at looks far = record {
   inside = at.inside;
   sort = at.sort;
@@ -121,15 +134,22 @@ pub record IsOpened (behind : ℕ) (inner : RawDocument) (left : Option (List �
   pub starts : start + length (bytes_of inner) ≡ behind
 
 -- nested bytes lie in the document, where they end with their element
-inside_lies : (inside : ℕ) (b d : List ℕ) (start : ℕ) (old new : Option (List ℕ)) (number offset : ℕ) (e : RawElement) (inner : RawDocument) (first : ℕ) → LiesAt b start d → IsPassed inside d old number → offset + left_of old ≡ start + length d → Looks old new (next.Inside e inner) → first + length (bytes_of inner) ≡ offset + size_of (frame_of e) → LiesAt b first (bytes_of inner)
+inside_lies : (inside : ℕ) (b d : List ℕ) (start : ℕ) (old new : Option (List ℕ)) (number offset : ℕ) (e : RawElement) (inner : RawDocument) (first : ℕ)
+    → LiesAt b start d → IsPassed inside d old number → offset + left_of old ≡ start + length d → Looks old new (next.Inside e inner)
+    → first + length (bytes_of inner) ≡ offset + size_of (frame_of e) → LiesAt b first (bytes_of inner)
 inside_lies inside b d start None new number offset e inner first lies is begins looks far = absurd is.passed
 inside_lies inside b d start (Some s) new number offset e inner first lies is begins (r, v, at, m, holds, new_is) far =
     let bound = LeadsTo-bound (drop 4 d) is.frames s is.passed in
     let fits : length s ≤ length d = omega (arith, bound, length-drop 4 d) in
-    nested_lies b d start s (frame_of e) r v (bytes_of inner) offset first lies (omega (arith, begins, fits)) fits (led_behind d is.frames s (length d - length s) lies.envelope.enough is.passed (omega (arith, fits))) at m holds inner.envelope far
+    nested_lies b d start s (frame_of e) r (bytes_of inner) offset first lies (omega (arith, begins, fits)) fits
+    (led_behind d is.frames s (length d - length s) lies.envelope.enough is.passed (omega (arith, fits))) at
+    (nested_last (frame_of e).kind (frame_of e).payload v (bytes_of inner) m holds) inner.envelope far
 
 -- what is stored of the level around it
-inside_stored : (inside : ℕ) (b d : List ℕ) (start : ℕ) (old new : Option (List ℕ)) (number offset behind : ℕ) (e : RawElement) (inner : RawDocument) (w : Waiting) → LiesAt b start d → IsPassed inside d old number → offset + left_of old ≡ start + length d → Looks old new (next.Inside e inner) → behind ≡ offset + size_of (frame_of e) → w.start ≡ start → w.element ≡ offset → w.number ≡ number → Stores b w (wait_behind start d new number behind (frame_of e).key)
+inside_stored : (inside : ℕ) (b d : List ℕ) (start : ℕ) (old new : Option (List ℕ)) (number offset behind : ℕ) (e : RawElement) (inner : RawDocument)
+    (w : Waiting) → LiesAt b start d → IsPassed inside d old number → offset + left_of old ≡ start + length d → Looks old new (next.Inside e inner)
+    → behind ≡ offset + size_of (frame_of e) → w.start ≡ start → w.element ≡ offset → w.number ≡ number
+    → Stores b w (wait_behind start d new number behind (frame_of e).key)
 inside_stored inside b d start None new number offset behind e inner w lies is begins looks far starts there n = absurd is.passed
 inside_stored inside b d start (Some s) new number offset behind e inner w lies is begins (r, v, at, m, holds, new_is) far starts there n =
     let f : Frame = frame_of e in
@@ -140,8 +160,10 @@ inside_stored inside b d start (Some s) new number offset behind e inner w lies 
     let n_left : ℕ = length d - length s in
     let here : s ≡ drop n_left d = led_behind d is.frames s n_left enough is.passed (omega (arith, fits)) in
     let place : start + n_left ≡ w.element = omega (arith, there, begins, fits) in
-    let left : drop w.element b ≡ s ++ lies.behind = ap (λ (m : ℕ). drop m b) (sym place) ∙ behind_in b d lies.behind start n_left lies.lies (omega arith) ∙ ap (λ (x : List ℕ). x ++ lies.behind) (sym here) in
-    let rest : r ≡ drop (behind - start) d = led_behind d (is.frames ++ f ∷ []) r (behind - start) enough (LeadsTo-more (drop 4 d) is.frames s f r is.passed at) (omega (arith, far, begins, size, fits)) in
+    let left : drop w.element b ≡ s ++ lies.behind = ap (λ (m : ℕ). drop m b) (sym place) ∙ behind_in b d lies.behind start n_left lies.lies (omega arith)
+    ∙ ap (λ (x : List ℕ). x ++ lies.behind) (sym here) in
+    let rest : r ≡ drop (behind - start) d = led_behind d (is.frames ++ f ∷ []) r (behind - start) enough (LeadsTo-more (drop 4 d) is.frames s f r is.passed at)
+    (omega (arith, far, begins, size, fits)) in
     record {
       start_is = starts;
       number_is = n;
@@ -156,12 +178,25 @@ inside_stored inside b d start (Some s) new number offset behind e inner w lies 
       ends = omega (arith, far, begins, size);
     }
 
-opened_at : (inside depth : ℕ) (b : List ℕ) (ws : List Wait) (old new : Option (List ℕ)) (number offset start behind : ℕ) (e : RawElement) (inner : RawDocument) (left : Option (List ℕ)) (first begin starts : ℕ) (sort : Sort) (d : List ℕ) (end : ℕ) → AreHeld inside as_document b (length b) ws sort d end → IsPassed inside d old number → suc (length ws + inside) ≡ depth → offset + left_of old ≡ end → LiesAt b start d → start + length d ≡ end → Looks old new (next.Inside e inner) → suc (length ws) < depth → behind ≡ offset + size_of (frame_of e) → IsOpened behind inner left first begin starts → IsAt depth b (ws ++ wait_behind start d new number behind (frame_of e).key ∷ []) left first begin starts
-opened_at zero depth b ws old new number offset start behind e inner left first begin starts sort d end held is levels begins lies whole looks few far opens = absurd (omega (arith, levels, few))
-opened_at (suc inside) depth b ws old new number offset start behind e inner left first begin starts sort d end held is levels begins lies whole looks few far opens =
+-- a level, so many more being allowed inside it
+record IsIn (inside depth : ℕ) (b : List ℕ) (ws : List Wait) (d : List ℕ) (end : ℕ) (left : Option (List ℕ)) (number offset start : ℕ) : Type 0 where
+  is : IsPassed inside d left number
+  levels : suc (length ws + inside) ≡ depth
+  begins : offset + left_of left ≡ end
+  lies : LiesAt b start d
+  whole : start + length d ≡ end
+
+opened_at : (inside depth : ℕ) (b : List ℕ) (ws : List Wait) (old new : Option (List ℕ)) (number offset start behind : ℕ) (e : RawElement) (inner : RawDocument)
+    (left : Option (List ℕ)) (first begin starts : ℕ) (sort : Sort) (d : List ℕ) (end : ℕ) → AreHeld inside as_document b (length b) ws sort d end
+    → IsIn inside depth b ws d end old number offset start → Looks old new (next.Inside e inner) → suc (length ws) < depth
+    → behind ≡ offset + size_of (frame_of e) → IsOpened behind inner left first begin starts
+    → IsAt depth b (ws ++ wait_behind start d new number behind (frame_of e).key ∷ []) left first begin starts
+opened_at zero depth b ws old new number offset start behind e inner left first begin starts sort d end held at looks few far opens =
+    absurd (omega (arith, at.levels, few))
+opened_at (suc inside) depth b ws old new number offset start behind e inner left first begin starts sort d end held at looks few far opens =
     let w : Wait = wait_behind start d new number behind (frame_of e).key in
-    let waits = passed_inside (suc inside) d old new number e inner w is looks refl refl refl refl in
-    let ends : w.offset + left_behind w ≡ end = omega (arith, far, begins, inside_size (suc inside) d old new number e inner is looks) in
+    let waits = passed_inside (suc inside) d old new number e inner w at.is looks refl refl refl refl in
+    let ends : w.offset + left_behind w ≡ end = omega (arith, far, at.begins, inside_size (suc inside) d old new number e inner at.is looks) in
     record {
       inside = inside;
       sort = waits.0;
@@ -169,26 +204,30 @@ opened_at (suc inside) depth b ws old new number offset start behind e inner lef
       end = behind;
       held = held_more inside as_document b (length b) ws sort d end w waits.0 (bytes_of inner) held waits.1 ends;
       is = begun inside (bytes_of inner) left first opens.left_is opens.first_is;
-      levels = omega (arith, levels, length-append ws (w ∷ []));
+      levels = omega (arith, at.levels, length-append ws (w ∷ []));
       begins = rw (opens.left_is) (opens.begins);
-      lies = inside_lies (suc inside) b d start old new number offset e inner starts lies is (begins ∙ sym whole) looks (opens.starts ∙ far);
+      lies = inside_lies (suc inside) b d start old new number offset e inner starts at.lies at.is (at.begins ∙ sym at.whole) looks (opens.starts ∙ far);
       whole = opens.starts;
     }
 
-module _ (depth : ℕ) (b : List ℕ) (ws : List Wait) (old new : Option (List ℕ)) (number offset start behind : ℕ) (e : RawElement) (inner : RawDocument) (at : IsAt depth b ws old number offset start) (looks : Looks old new (next.Inside e inner)) (far : behind ≡ offset + size_of (frame_of e)) where
+module _ (depth : ℕ) (b : List ℕ) (ws : List Wait) (old new : Option (List ℕ)) (number offset start behind : ℕ) (e : RawElement) (inner : RawDocument)
+    (at : IsAt depth b ws old number offset start) (looks : Looks old new (next.Inside e inner)) (far : behind ≡ offset + size_of (frame_of e)) where
   -- the level that waits then
   abbrev pub waiting_then : Wait
   waiting_then = wait_behind start at.d new number behind (frame_of e).key
 
-  pub at_inside : (left : Option (List ℕ)) (first begin starts : ℕ) → suc (length ws) < depth → IsOpened behind inner left first begin starts → IsAt depth b (ws ++ waiting_then ∷ []) left first begin starts
+  pub at_inside : (left : Option (List ℕ)) (first begin starts : ℕ) → suc (length ws) < depth → IsOpened behind inner left first begin starts
+      → IsAt depth b (ws ++ waiting_then ∷ []) left first begin starts
   at_inside left first begin starts few opens =
-      opened_at at.inside depth b ws old new number offset start behind e inner left first begin starts at.sort at.d at.end at.held at.is at.levels at.begins at.lies at.whole looks few far opens
+      opened_at at.inside depth b ws old new number offset start behind e inner left first begin starts at.sort at.d at.end at.held
+      (record { is = at.is; levels = at.levels; begins = at.begins; lies = at.lies; whole = at.whole }) looks few far opens
 
   pub at_stored : (w : Waiting) → w.start ≡ start → w.element ≡ offset → w.number ≡ number → Stores b w waiting_then
   at_stored w starts there n =
       inside_stored at.inside b at.d start old new number offset behind e inner w at.lies at.is (at.begins ∙ sym at.whole) looks far starts there n
 
-pub at_resumed : (depth : ℕ) (b : List ℕ) (ws : List Wait) (w : Wait) (old new : Option (List ℕ)) (number offset start : ℕ) (c : Waiting) → IsAt depth b (ws ++ w ∷ []) old number offset start → Looks old new next.End → Stores b c w → IsAt depth b ws w.elements (w.number + 1) w.offset w.start
+pub at_resumed : (depth : ℕ) (b : List ℕ) (ws : List Wait) (w : Wait) (old new : Option (List ℕ)) (number offset start : ℕ) (c : Waiting)
+    → IsAt depth b (ws ++ w ∷ []) old number offset start → Looks old new next.End → Stores b c w → IsAt depth b ws w.elements (w.number + 1) w.offset w.start
 at_resumed depth b ws w old new number offset start c at looks stored =
     let less = held_less at.inside as_document b (length b) ws w at.sort at.d at.end at.held in
     let read = passed_end at.inside at.sort at.d old new number at.is looks in
@@ -210,16 +249,19 @@ over inside d None new number is looks = absurd is.passed
 over inside d (Some s) new number is looks = ap length looks
 
 -- behind the final 0 of a level what is left of the one around it begins
-pub at_over : (depth : ℕ) (b : List ℕ) (ws : List Wait) (w : Wait) (old new : Option (List ℕ)) (number offset start : ℕ) → IsAt depth b (ws ++ w ∷ []) old number offset start → Looks old new next.End → offset + 1 ≡ w.offset
+pub at_over : (depth : ℕ) (b : List ℕ) (ws : List Wait) (w : Wait) (old new : Option (List ℕ)) (number offset start : ℕ)
+    → IsAt depth b (ws ++ w ∷ []) old number offset start → Looks old new next.End → offset + 1 ≡ w.offset
 at_over depth b ws w old new number offset start at looks =
     omega (arith, at.begins, over at.inside at.d old new number at.is looks, held_last at.inside as_document b (length b) ws w at.sort at.d at.end at.held)
 
 -- and within b
-pub at_over_within : (depth : ℕ) (b : List ℕ) (ws : List Wait) (old new : Option (List ℕ)) (number offset start : ℕ) → IsAt depth b ws old number offset start → Looks old new next.End → offset + 1 ≤ length b
+pub at_over_within : (depth : ℕ) (b : List ℕ) (ws : List Wait) (old new : Option (List ℕ)) (number offset start : ℕ) → IsAt depth b ws old number offset start
+    → Looks old new next.End → offset + 1 ≤ length b
 at_over_within depth b ws old new number offset start at looks =
     omega (arith, over at.inside at.d old new number at.is looks, (at_within depth b ws old number offset start at).1)
 
-pub at_end : (depth : ℕ) (b : List ℕ) (ws : List Wait) (old new : Option (List ℕ)) (number offset start : ℕ) → IsAt depth b ws old number offset start → ws ≡ [] → Looks old new next.End → (t : Tree) × ReadsUpTo depth as_document b t
+pub at_end : (depth : ℕ) (b : List ℕ) (ws : List Wait) (old new : Option (List ℕ)) (number offset start : ℕ) → IsAt depth b ws old number offset start → ws ≡ []
+    → Looks old new next.End → (t : Tree) × ReadsUpTo depth as_document b t
 at_end depth b ws old new number offset start at none looks =
     let here : AreHeld at.inside as_document b (length b) [] at.sort at.d at.end = subst (λ (x : List Wait). AreHeld at.inside as_document b (length b) x at.sort at.d at.end) none at.held in
     let read = read_as (suc at.inside) at.sort as_document at.d b (sym here.0) (sym here.1) (passed_end at.inside at.sort at.d old new number at.is looks) in
@@ -227,7 +269,9 @@ at_end depth b ws old new number offset start at none looks =
     (tree_of_pairs as_document read.0, subst (λ (n : ℕ). ReadsUpTo n as_document b (tree_of_pairs as_document read.0)) same read.1)
 
 -- a barrier in front of what is left of the innermost level is that of b, at the offset of what is left
-front_outward : (inside depth : ℕ) (b : List ℕ) (ws : List Wait) (left : Option (List ℕ)) (number offset start : ℕ) (sort : Sort) (d : List ℕ) (end : ℕ) (x : Barrier) (step : Step) → AreHeld inside as_document b (length b) ws sort d end → IsPassed inside d left number → suc (length ws + inside) ≡ depth → offset + left_of left ≡ end → IsInFront inside d left x step → FirstFaultAt depth b x (map step_at ws ++ step ∷ []) offset
+front_outward : (inside depth : ℕ) (b : List ℕ) (ws : List Wait) (left : Option (List ℕ)) (number offset start : ℕ) (sort : Sort) (d : List ℕ) (end : ℕ)
+    (x : Barrier) (step : Step) → AreHeld inside as_document b (length b) ws sort d end → IsPassed inside d left number → suc (length ws + inside) ≡ depth
+    → offset + left_of left ≡ end → IsInFront inside d left x step → FirstFaultAt depth b x (map step_at ws ++ step ∷ []) offset
 front_outward inside depth b ws left number offset start sort d end x step held is levels begins bars =
     let at : ℕ = length d - left_of left in
     let there : at + left_of left ≡ length d = omega (arith, passed_left inside d left number is) in
@@ -235,22 +279,36 @@ front_outward inside depth b ws left number offset start sort d end x step held 
     let same : out.0 ≡ offset = omega (arith, out.2) in
     subst (λ (u : ℕ). FirstFaultAt depth b x (map step_at ws ++ step ∷ []) u) same (subst (λ (n : ℕ). FirstFaultAt n b x (map step_at ws ++ step ∷ []) out.0) levels out.1)
 
-pub at_fault : (depth : ℕ) (b : List ℕ) (ws : List Wait) (old new : Option (List ℕ)) (number offset start : ℕ) (key : Option (Bor (List ℕ))) (e : BorrowedError) → IsAt depth b ws old number offset start → Looks old new (next.Fault key e) → (fault : KeyedFault) × FirstFaultAt depth b (fault_of fault) (map step_at ws ++ record { number = number; key = option_copied key } ∷ []) offset × TellsBorrowed e fault
+pub at_fault : (depth : ℕ) (b : List ℕ) (ws : List Wait) (old new : Option (List ℕ)) (number offset start : ℕ) (key : Option (Bor (List ℕ))) (e : BorrowedError)
+    → IsAt depth b ws old number offset start → Looks old new (next.Fault key e)
+    → (fault : KeyedFault) × FirstFaultAt depth b (fault_of fault) (map step_at ws ++ record { number = number; key = option_copied key } ∷ []) offset
+    × TellsBorrowed e fault
 at_fault depth b ws old new number offset start key e at looks =
-    let bad = passed_fault at.inside at.d old new number key e at.is looks in
-    (bad.0, front_outward at.inside depth b ws old number offset start at.sort at.d at.end (fault_of bad.0) (record { number = number; key = option_copied key }) at.held at.is at.levels at.begins bad.1, bad.2)
+    let bad = passed_fault at.inside at.d old new number key e at.is looks in (
+      bad.0,
+      front_outward at.inside depth b ws old number offset start at.sort at.d at.end (fault_of bad.0)
+          (record { number = number; key = option_copied key }) at.held at.is at.levels at.begins bad.1,
+      bad.2,
+    )
 
-deep_at : (inside depth : ℕ) (b : List ℕ) (ws : List Wait) (old new : Option (List ℕ)) (number offset start : ℕ) (sort : Sort) (d : List ℕ) (end : ℕ) (e : RawElement) (inner : RawDocument) → AreHeld inside as_document b (length b) ws sort d end → IsPassed inside d old number → suc (length ws + inside) ≡ depth → offset + left_of old ≡ end → Looks old new (next.Inside e inner) → depth ≤ suc (length ws) → FirstFaultAt depth b too_deep (map step_at ws ++ record { number = number; key = Some (frame_of e).key } ∷ []) offset
+deep_at : (inside depth : ℕ) (b : List ℕ) (ws : List Wait) (old new : Option (List ℕ)) (number offset start : ℕ) (sort : Sort) (d : List ℕ) (end : ℕ)
+    (e : RawElement) (inner : RawDocument) → AreHeld inside as_document b (length b) ws sort d end → IsPassed inside d old number
+    → suc (length ws + inside) ≡ depth → offset + left_of old ≡ end → Looks old new (next.Inside e inner) → depth ≤ suc (length ws)
+    → FirstFaultAt depth b too_deep (map step_at ws ++ record { number = number; key = Some (frame_of e).key } ∷ []) offset
 deep_at (suc inside) depth b ws old new number offset start sort d end e inner held is levels begins looks many = absurd (omega (arith, levels, many))
 deep_at zero depth b ws old new number offset start sort d end e inner held is levels begins looks many =
-    front_outward 0 depth b ws old number offset start sort d end too_deep (record { number = number; key = Some (frame_of e).key }) held is levels begins (passed_deep d old new number e inner is looks)
+    front_outward 0 depth b ws old number offset start sort d end too_deep (record { number = number; key = Some (frame_of e).key }) held is levels begins
+    (passed_deep d old new number e inner is looks)
 
-pub at_deep : (depth : ℕ) (b : List ℕ) (ws : List Wait) (old new : Option (List ℕ)) (number offset start : ℕ) (e : RawElement) (inner : RawDocument) → IsAt depth b ws old number offset start → Looks old new (next.Inside e inner) → depth ≤ suc (length ws) → FirstFaultAt depth b too_deep (map step_at ws ++ record { number = number; key = Some (frame_of e).key } ∷ []) offset
+pub at_deep : (depth : ℕ) (b : List ℕ) (ws : List Wait) (old new : Option (List ℕ)) (number offset start : ℕ) (e : RawElement) (inner : RawDocument)
+    → IsAt depth b ws old number offset start → Looks old new (next.Inside e inner) → depth ≤ suc (length ws)
+    → FirstFaultAt depth b too_deep (map step_at ws ++ record { number = number; key = Some (frame_of e).key } ∷ []) offset
 at_deep depth b ws old new number offset start e inner at looks many =
     deep_at at.inside depth b ws old new number offset start at.sort at.d at.end e inner at.held at.is at.levels at.begins looks many
 
 -- nested bytes are shorter than what is left
-pub inside_smaller : (inside : ℕ) (d : List ℕ) (old new : Option (List ℕ)) (number : ℕ) (e : RawElement) (inner : RawDocument) → IsPassed inside d old number → Looks old new (next.Inside e inner) → length (bytes_of inner) + left_of new + 1 < left_of old
+pub inside_smaller : (inside : ℕ) (d : List ℕ) (old new : Option (List ℕ)) (number : ℕ) (e : RawElement) (inner : RawDocument) → IsPassed inside d old number
+    → Looks old new (next.Inside e inner) → length (bytes_of inner) + left_of new + 1 < left_of old
 inside_smaller inside d None new number e inner is looks = absurd is.passed
 inside_smaller inside d (Some s) new number e inner is (r, v, at, m, holds, new_is) =
     rw new_is (omega (arith, nested_beside s (frame_of e) r v (bytes_of inner) at m holds))

@@ -31,7 +31,8 @@ holds_none (raw.document e) h d k = absurd h
 holds_none (raw.array e) h d k = absurd h
 holds_none (raw.scoped code e) h d k = absurd h
 
-pub looks_whole : (old new : Option (List ℕ)) (e : RawElement) (v : RawValue) (x : Option RawDocument) → StepsFront old (Some (Ok e)) new → Means (frame_of e) (value v) → HoldsBytes v x → x ≡ None → Looks old new (next.Whole e)
+pub looks_whole : (old new : Option (List ℕ)) (e : RawElement) (v : RawValue) (x : Option RawDocument) → StepsFront old (Some (Ok e)) new
+    → Means (frame_of e) (value v) → HoldsBytes v x → x ≡ None → Looks old new (next.Whole e)
 looks_whole None new e v x st m h none = tt
 looks_whole (Some s) new e v x st m h none =
     (st.0, v, st.1, m, holds_none v (subst (HoldsBytes v) none h), st.2)

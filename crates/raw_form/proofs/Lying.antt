@@ -71,13 +71,13 @@ frame_more s f r q at =
 single_holds_none : (v : RawValue) (l : Leaf) (d : List ℕ) → v ≡ raw.single l → Holds v d → ⊥
 single_holds_none v l d e h = subst (λ (x : RawValue). Holds x d) e h
 
-abbrev EndsWith : List ℕ → List ℕ → Type 0
+abbrev pub EndsWith : List ℕ → List ℕ → Type 0
 EndsWith p d = (front : List ℕ) × (p ≡ front ++ d)
 
 whole_payload : (p d : List ℕ) → d ≡ p → EndsWith p d
 whole_payload p d e = ([], sym e)
 
-nested_last : (k : ElementType) (p : List ℕ) (v : RawValue) (d : List ℕ) → MeansValue k p v → Holds v d → EndsWith p d
+pub nested_last : (k : ElementType) (p : List ℕ) (v : RawValue) (d : List ℕ) → MeansValue k p v → Holds v d → EndsWith p d
 nested_last kind.EmbeddedDocument p v d m h = whole_payload p d (subst (λ (y : RawValue). Holds y d) m h)
 nested_last kind.Array p v d m h = whole_payload p d (subst (λ (y : RawValue). Holds y d) m h)
 nested_last kind.JavaScriptCodeWithScope p v d m h =
@@ -109,19 +109,24 @@ behind_in b d behind start n lies within =
     sym (drop-drop n start b) ∙ ap (drop n) lies ∙ drop-append-le n d behind within
 
 -- the nested bytes of a frame lie in front of what is behind it
-pub nested_lies : (b d : List ℕ) (start : ℕ) (s : List ℕ) (f : Frame) (r : List ℕ) (v : RawValue) (inner : List ℕ) (offset first : ℕ) → LiesAt b start d → (offset ≡ start + (length d - length s)) → length s ≤ length d → s ≡ drop (length d - length s) d → IsFrame s f r → Means f (value v) → Holds v inner → IsEnvelope inner → first + length inner ≡ offset + size_of f → LiesAt b first inner
-nested_lies b d start s f r v inner offset first lies off within is at m holds envelope far =
-    let ends = nested_last f.kind f.payload v inner m holds in
+pub nested_lies : (b d : List ℕ) (start : ℕ) (s : List ℕ) (f : Frame) (r inner : List ℕ) (offset first : ℕ) → LiesAt b start d
+    → (offset ≡ start + (length d - length s)) → length s ≤ length d → s ≡ drop (length d - length s) d → IsFrame s f r → EndsWith f.payload inner
+    → IsEnvelope inner → first + length inner ≡ offset + size_of f → LiesAt b first inner
+nested_lies b d start s f r inner offset first lies off within is at ends envelope far =
     let front : List ℕ = tag_of f.kind ∷ (f.key ++ 0 ∷ ends.0) in
     let behind : List ℕ = lies.behind in
     let there : drop (start + (length d - length s)) b ≡ s ++ behind = behind_in b d behind start (length d - length s) lies.lies (omega arith) ∙ ap (λ (x : List ℕ). x ++ behind) (sym is) in
-    let whole : tag_of f.kind ∷ (f.key ++ 0 ∷ f.payload) ≡ front ++ inner = ap (λ (x : List ℕ). tag_of f.kind ∷ (f.key ++ 0 ∷ x)) ends.1 ∙ ap (λ (x : List ℕ). tag_of f.kind ∷ x) (sym (append_assoc f.key (0 ∷ ends.0) inner)) in
-    let spelled : s ++ behind ≡ front ++ (inner ++ (r ++ behind)) = ap (λ (x : List ℕ). x ++ behind) (front_and_rest s f r at ∙ ap (λ (x : List ℕ). x ++ r) whole ∙ append_assoc front inner r) ∙ append_assoc front (inner ++ r) behind ∙ ap (λ (x : List ℕ). front ++ x) (append_assoc inner r behind) in
+    let whole : tag_of f.kind ∷ (f.key ++ 0 ∷ f.payload) ≡ front ++ inner =
+    ap (λ (x : List ℕ). tag_of f.kind ∷ (f.key ++ 0 ∷ x)) ends.1 ∙ ap (λ (x : List ℕ). tag_of f.kind ∷ x) (sym (append_assoc f.key (0 ∷ ends.0) inner)) in
+    let spelled : s ++ behind ≡ front ++ (inner ++ (r ++ behind)) =
+    ap (λ (x : List ℕ). x ++ behind) (front_and_rest s f r at ∙ ap (λ (x : List ℕ). x ++ r) whole ∙ append_assoc front inner r)
+    ∙ append_assoc front (inner ++ r) behind ∙ ap (λ (x : List ℕ). front ++ x) (append_assoc inner r behind) in
     let size : length front + length inner ≡ size_of f = omega (arith, length-append f.key (0 ∷ ends.0), ap length ends.1, length-append ends.0 inner) in
     let place : start + (length d - length s) + length front ≡ first = omega (arith, off, far, size) in
     record {
       behind = r ++ behind;
-      lies = ap (λ (n : ℕ). drop n b) (sym place) ∙ sym (drop-drop (length front) (start + (length d - length s)) b) ∙ ap (drop (length front)) (there ∙ spelled) ∙ drop-append_seam front (inner ++ (r ++ behind));
+      lies = ap (λ (n : ℕ). drop n b) (sym place) ∙ sym (drop-drop (length front) (start + (length d - length s)) b)
+          ∙ ap (drop (length front)) (there ∙ spelled) ∙ drop-append_seam front (inner ++ (r ++ behind));
       envelope = envelope;
     }
 
@@ -165,7 +170,8 @@ module _ (b : List ℕ) (w : Waiting) (x : Wait) (d : List ℕ) (offset : ℕ) (
       }
 
 -- the level of some number
-pub stored_at : (b : List ℕ) (ws : List Waiting) (xs : List Wait) (n : ℕ) (other : Waiting) → StoreEach b ws xs → n < length ws → (x : Wait) × Stores b (slice_index_or ws n other) x × (take (suc n) xs ≡ take n xs ++ x ∷ [])
+pub stored_at : (b : List ℕ) (ws : List Waiting) (xs : List Wait) (n : ℕ) (other : Waiting) → StoreEach b ws xs → n < length ws
+    → (x : Wait) × Stores b (slice_index_or ws n other) x × (take (suc n) xs ≡ take n xs ++ x ∷ [])
 stored_at b [] xs n other h few = absurd (omega (arith, few))
 stored_at b (w ∷ ws) [] n other h few = absurd h
 stored_at b (w ∷ ws) (x ∷ xs) zero other h few = (x, h.0, refl)
@@ -179,12 +185,15 @@ stored_within b w x is =
     (is.first, omega (arith, IsFrame-shorter (drop w.element b) is.frame is.rest is.at, length-drop w.element b))
 
 -- the steps at which they wait
-pub steps_more : (steps more : List PathStep) (step : PathStep) (xs : List Wait) (n : ℕ) (x : Wait) → map step_of steps ≡ map step_at (take n xs) → more ≡ steps ++ step ∷ [] → step_of step ≡ step_at x → take (suc n) xs ≡ take n xs ++ x ∷ [] → map step_of more ≡ map step_at (take (n + 1) xs)
+pub steps_more : (steps more : List PathStep) (step : PathStep) (xs : List Wait) (n : ℕ) (x : Wait) → map step_of steps ≡ map step_at (take n xs)
+    → more ≡ steps ++ step ∷ [] → step_of step ≡ step_at x → take (suc n) xs ≡ take n xs ++ x ∷ [] → map step_of more ≡ map step_at (take (n + 1) xs)
 steps_more steps more step xs n x h e same next =
     let one : suc n ≡ n + 1 = omega arith in
-    ap (map step_of) e ∙ map-append step_of steps (step ∷ []) ∙ (λ i. h i ++ same i ∷ []) ∙ sym (map-append step_at (take n xs) (x ∷ [])) ∙ ap (map step_at) (sym next) ∙ ap (λ (m : ℕ). map step_at (take m xs)) one
+    ap (map step_of) e ∙ map-append step_of steps (step ∷ []) ∙ (λ i. h i ++ same i ∷ []) ∙ sym (map-append step_at (take n xs) (x ∷ []))
+    ∙ ap (map step_at) (sym next) ∙ ap (λ (m : ℕ). map step_at (take m xs)) one
 
-pub steps_done : (steps more : List PathStep) (step : PathStep) (xs : List Wait) (n : ℕ) → map step_of steps ≡ map step_at (take n xs) → more ≡ steps ++ step ∷ [] → length xs ≡ n → map step_of more ≡ map step_at xs ++ step_of step ∷ []
+pub steps_done : (steps more : List PathStep) (step : PathStep) (xs : List Wait) (n : ℕ) → map step_of steps ≡ map step_at (take n xs)
+    → more ≡ steps ++ step ∷ [] → length xs ≡ n → map step_of more ≡ map step_at xs ++ step_of step ∷ []
 steps_done steps more step xs n h e all =
     let whole : take n xs ≡ xs = ap (λ (m : ℕ). take m xs) (sym all) ∙ take-length xs in
     ap (map step_of) e ∙ map-append step_of steps (step ∷ []) ∙ ap (λ (l : List Step). l ++ step_of step ∷ []) (h ∙ ap (map step_at) whole)
@@ -194,7 +203,8 @@ stored_more b [] w xs x h is = subst (λ (ys : List Wait). StoreEach b (w ∷ []
 stored_more b (v ∷ ws) w [] x h is = absurd h
 stored_more b (v ∷ ws) w (y ∷ xs) x h is = (h.0, stored_more b ws w xs x h.1 is)
 
-pub stored_less : (b : List ℕ) (ws : List Waiting) (w : Waiting) (xs : List Wait) → StoreEach b (ws ++ w ∷ []) xs → (ys : List Wait) × (x : Wait) × (xs ≡ ys ++ x ∷ []) × StoreEach b ws ys × Stores b w x
+pub stored_less : (b : List ℕ) (ws : List Waiting) (w : Waiting) (xs : List Wait) → StoreEach b (ws ++ w ∷ []) xs
+    → (ys : List Wait) × (x : Wait) × (xs ≡ ys ++ x ∷ []) × StoreEach b ws ys × Stores b w x
 stored_less b [] w [] h = absurd h
 stored_less b [] w (x ∷ xs) h = ([], x, ap (λ (ys : List Wait). x ∷ ys) h.1, refl, h.0)
 stored_less b (v ∷ ws) w [] h = absurd h

@@ -46,14 +46,16 @@ one_nested (raw.array x) d e a b = b ∙ sym a
 one_nested (raw.scoped code x) d e a b = b ∙ sym a
 
 -- bytes that are read have no barrier, where their nested bytes have none
-module _ (P : Sort → List ℕ → Tree → Type 0) (N : List ℕ → Barrier → List Step → ℕ → Type 0) (apart : (sort : Sort) (d : List ℕ) (t : Tree) (x : Barrier) (path : List Step) (offset : ℕ) → P sort d t → ¬ N d x path offset) where
+module _ (P : Sort → List ℕ → Tree → Type 0) (N : List ℕ → Barrier → List Step → ℕ → Type 0)
+    (apart : (sort : Sort) (d : List ℕ) (t : Tree) (x : Barrier) (path : List Step) (offset : ℕ) → P sort d t → ¬ N d x path offset) where
   value_nor : (v : RawValue) (t : Tree) (d : List ℕ) (x : Barrier) (path : List Step) (offset : ℕ) → StandsFor P v t → Holds v d → N d x path offset → ⊥
   value_nor (raw.single l) t d x path offset h holds bars = holds
   value_nor (raw.document e) t d x path offset h holds bars = apart as_document e t x path offset h (subst (λ (y : List ℕ). N y x path offset) holds bars)
   value_nor (raw.array e) t d x path offset h holds bars = apart as_array e t x path offset h (subst (λ (y : List ℕ). N y x path offset) holds bars)
   value_nor (raw.scoped code e) t d x path offset h holds bars = apart as_document e (document h.0) x path offset h.1 (subst (λ (y : List ℕ). N y x path offset) holds bars)
 
-  frame_nor : (b s : List ℕ) (f : Frame) (r : List ℕ) (v : RawValue) (t : Tree) (number : ℕ) (x : Barrier) (path : List Step) (offset : ℕ) → IsFrame s f r → Means f (value v) → StandsFor P v t → BarsFrontAt P N b s number x path offset → ⊥
+  frame_nor : (b s : List ℕ) (f : Frame) (r : List ℕ) (v : RawValue) (t : Tree) (number : ℕ) (x : Barrier) (path : List Step) (offset : ℕ) → IsFrame s f r
+      → Means f (value v) → StandsFor P v t → BarsFrontAt P N b s number x path offset → ⊥
   frame_nor b s f r v t number x path offset at m h (inl stop) =
       let fault = some_fault (λ y. IsStop s y.fault y.key) x stop.0 in
       no_frame_at_stop s fault.0.fault fault.0.key fault.1 f r at
@@ -74,10 +76,12 @@ module _ (P : Sort → List ℕ → Tree → Type 0) (N : List ℕ → Barrier �
       no_stop_at_final s fault.0.fault fault.0.key e fault.1
   final_nor b s number x path offset e (inr bars) = no_frame_at_final s e bars.0 bars.1 bars.2
 
-  walk_nor : (b s : List ℕ) (frames passed : List Frame) (r : List ℕ) (pairs : List (List ℕ × Tree)) (number : ℕ) (x : Barrier) (path : List Step) (offset : ℕ) → IsWalk s frames Done → StandForEach P frames pairs → LeadsTo s passed r → BarsFrontAt P N b r number x path offset → ⊥
+  walk_nor : (b s : List ℕ) (frames passed : List Frame) (r : List ℕ) (pairs : List (List ℕ × Tree)) (number : ℕ) (x : Barrier) (path : List Step) (offset : ℕ)
+      → IsWalk s frames Done → StandForEach P frames pairs → LeadsTo s passed r → BarsFrontAt P N b r number x path offset → ⊥
   walk_nor b s [] [] r pairs number x path offset w h l bars = final_nor b s number x path offset w (subst (λ (y : List ℕ). BarsFrontAt P N b y number x path offset) (sym l) bars)
   walk_nor b s [] (g ∷ passed) r pairs number x path offset w h l bars = no_frame_at_final s w g l.0 l.1
-  walk_nor b s (f ∷ frames) [] r pairs number x path offset w h l bars = frame_nor b s f w.0 h.0 h.1 number x path offset w.1 h.3 h.4 (subst (λ (y : List ℕ). BarsFrontAt P N b y number x path offset) (sym l) bars)
+  walk_nor b s (f ∷ frames) [] r pairs number x path offset w h l bars =
+      frame_nor b s f w.0 h.0 h.1 number x path offset w.1 h.3 h.4 (subst (λ (y : List ℕ). BarsFrontAt P N b y number x path offset) (sym l) bars)
   walk_nor b s (f ∷ frames) (g ∷ passed) r pairs number x path offset w h l bars =
       let same : l.0 ≡ w.0 = (one_frame s g f l.0 w.0 l.1 w.1).1 in
       walk_nor b w.0 frames passed r h.2 number x path offset w.2 h.6 (subst (λ (y : List ℕ). LeadsTo y passed r) same l.2) bars
@@ -105,7 +109,8 @@ module _ (P : Sort → List ℕ → Tree → Type 0) (N : List ℕ → Barrier �
         let there : IsOffsetOf b s d q steps inside at = subst (λ (u : ℕ). IsOffsetOf b s d q steps u at) same.2 (subst (λ (z : List Step). IsOffsetOf b s d q z within at) same.1 at_is) in
         (same.0, other_is ∙ (ap (λ (z : List Step). step ∷ z) same.1 ∙ sym path_is), one_offset b s d q steps inside offset at offset_is there)
 
-    one_of_frame : (b s : List ℕ) (number : ℕ) (f : Frame) (q : List ℕ) (x y : Barrier) (path other : List Step) (offset at : ℕ) → BarsFrameAt P N b s number f q x path offset → BarsFrameAt P N b s number f q y other at → AreSame x path offset y other at
+    one_of_frame : (b s : List ℕ) (number : ℕ) (f : Frame) (q : List ℕ) (x y : Barrier) (path other : List Step) (offset at : ℕ)
+        → BarsFrameAt P N b s number f q x path offset → BarsFrameAt P N b s number f q y other at → AreSame x path offset y other at
     one_of_frame b s number f q x y path other offset at (inl a) (inl c) =
         let next = one_next b s (record { number = number; key = Some f.key }) path other offset at a.1 c.1 in
         (one_fault_with (λ z. Means f (faulty z)) (one_meant f) x y a.0 c.0, next.0, next.1)
@@ -117,12 +122,15 @@ module _ (P : Sort → List ℕ → Tree → Type 0) (N : List ℕ → Barrier �
         one_inside b s q a.1 (record { number = number; key = Some f.key }) x y path other a.2 c.2 a.3 c.3 offset at a.6 a.7 a.8
         (subst (λ (d : List ℕ). N d y c.2 c.3) nested c.6) c.7 (subst (λ (d : List ℕ). IsOffsetOf b s d q c.2 c.3 at) nested c.8)
 
-    one_front : (b s : List ℕ) (number : ℕ) (x y : Barrier) (path other : List Step) (offset at : ℕ) → BarsFrontAt P N b s number x path offset → BarsFrontAt P N b s number y other at → AreSame x path offset y other at
+    one_front : (b s : List ℕ) (number : ℕ) (x y : Barrier) (path other : List Step) (offset at : ℕ) → BarsFrontAt P N b s number x path offset
+        → BarsFrontAt P N b s number y other at → AreSame x path offset y other at
     one_front b s number x y path other offset at (inl a) (inl c) =
         let next = one_next b s (record { number = number; key = None }) path other offset at a.1 c.1 in
         (one_fault_with (λ z. IsStop s z.fault z.key) (stop_same s) x y a.0 c.0, next.0, next.1)
-    one_front b s number x y path other offset at (inl a) (inr c) = let fault = some_fault (λ z. IsStop s z.fault z.key) x a.0 in absurd (no_frame_at_stop s fault.0.fault fault.0.key fault.1 c.0 c.1 c.2)
-    one_front b s number x y path other offset at (inr a) (inl c) = let fault = some_fault (λ z. IsStop s z.fault z.key) y c.0 in absurd (no_frame_at_stop s fault.0.fault fault.0.key fault.1 a.0 a.1 a.2)
+    one_front b s number x y path other offset at (inl a) (inr c) = let fault = some_fault (λ z. IsStop s z.fault z.key) x a.0 in
+        absurd (no_frame_at_stop s fault.0.fault fault.0.key fault.1 c.0 c.1 c.2)
+    one_front b s number x y path other offset at (inr a) (inl c) = let fault = some_fault (λ z. IsStop s z.fault z.key) y c.0 in
+        absurd (no_frame_at_stop s fault.0.fault fault.0.key fault.1 a.0 a.1 a.2)
     one_front b s number x y path other offset at (inr a) (inr c) =
         let frames = one_frame s c.0 a.0 c.1 a.1 c.2 a.2 in
         let first : BarsFrameAt P N b s number a.0 c.1 y other at = subst (λ (f : Frame). BarsFrameAt P N b s number f c.1 y other at) frames.0 c.3 in
@@ -138,7 +146,9 @@ one_barrier : (n : ℕ) (b : List ℕ) (x y : Barrier) (path other : List Step) 
 one_barrier zero b x y path other offset at h g = (g.0 ∙ sym h.0, g.1 ∙ sym h.1, g.2 ∙ sym h.2)
 one_barrier (suc n) b x y path other offset at h g =
     let same = same_passed (ReadsUpTo n) (FirstFaultAt n) (read_nor_barred n) b (drop 4 b) h.0 g.0 h.2 g.2 h.1 g.1 (length h.0) (length g.0) x y path other offset at h.3 h.4 h.5 g.3 g.4 g.5 in
-    let moved : BarsFrontAt (ReadsUpTo n) (FirstFaultAt n) b h.2 (length h.0) y other at = subst (λ (fs : List Frame). BarsFrontAt (ReadsUpTo n) (FirstFaultAt n) b h.2 (length fs) y other at) same.0 (subst (λ (s : List ℕ). BarsFrontAt (ReadsUpTo n) (FirstFaultAt n) b s (length g.0) y other at) same.1 g.5) in
+    let moved : BarsFrontAt (ReadsUpTo n) (FirstFaultAt n) b h.2 (length h.0) y other at =
+    subst (λ (fs : List Frame). BarsFrontAt (ReadsUpTo n) (FirstFaultAt n) b h.2 (length fs) y other at) same.0
+    (subst (λ (s : List ℕ). BarsFrontAt (ReadsUpTo n) (FirstFaultAt n) b s (length g.0) y other at) same.1 g.5) in
     one_front (ReadsUpTo n) (FirstFaultAt n) (read_nor_barred n) (one_barrier n) b h.2 (length h.0) x y path other offset at h.5 moved
 
 pub barred_at_one_place : (limits : Limits) → AllAreBarredAtOnePlace limits

@@ -16,7 +16,9 @@ AreHeld inside outer b end [] sort d last = (outer ≡ sort) × (b ≡ d) × (en
 AreHeld inside outer b end (w ∷ ws) sort d last =
     (s : Sort) × (c : List ℕ) × IsHeld (suc (length ws + inside)) b w s c × (w.offset + left_behind w ≡ end) × AreHeld inside s c w.offset ws sort d last
 
-pub held_more : (inside : ℕ) (outer : Sort) (b : List ℕ) (end : ℕ) (ws : List Wait) (sort : Sort) (d : List ℕ) (last : ℕ) (w : Wait) (inner : Sort) (c : List ℕ) → AreHeld (suc inside) outer b end ws sort d last → IsHeld (suc inside) d w inner c → w.offset + left_behind w ≡ last → AreHeld inside outer b end (ws ++ w ∷ []) inner c w.offset
+pub held_more : (inside : ℕ) (outer : Sort) (b : List ℕ) (end : ℕ) (ws : List Wait) (sort : Sort) (d : List ℕ) (last : ℕ) (w : Wait) (inner : Sort) (c : List ℕ)
+    → AreHeld (suc inside) outer b end ws sort d last → IsHeld (suc inside) d w inner c → w.offset + left_behind w ≡ last
+    → AreHeld inside outer b end (ws ++ w ∷ []) inner c w.offset
 held_more inside outer b end [] sort d last w inner c h is far =
     let same : suc inside ≡ suc (0 + inside) = omega arith in
     let waits : IsHeld (suc (0 + inside)) d w inner c = subst (λ (i : ℕ). IsHeld i d w inner c) same is in
@@ -25,7 +27,10 @@ held_more inside outer b end (x ∷ ws) sort d last w inner c h is far =
     let same : suc (length ws + suc inside) ≡ suc (length (ws ++ w ∷ []) + inside) = omega (arith, length-append ws (w ∷ [])) in
     (h.0, h.1, subst (λ (i : ℕ). IsHeld i b x h.0 h.1) same h.2, h.3, held_more inside h.0 h.1 x.offset ws sort d last w inner c h.4 is far)
 
-pub held_less : (inside : ℕ) (outer : Sort) (b : List ℕ) (end : ℕ) (ws : List Wait) (w : Wait) (inner : Sort) (c : List ℕ) (m : ℕ) → AreHeld inside outer b end (ws ++ w ∷ []) inner c m → (sort : Sort) × (d : List ℕ) × (last : ℕ) × AreHeld (suc inside) outer b end ws sort d last × IsHeld (suc inside) d w inner c × (w.offset + left_behind w ≡ last)
+pub held_less : (inside : ℕ) (outer : Sort) (b : List ℕ) (end : ℕ) (ws : List Wait) (w : Wait) (inner : Sort) (c : List ℕ) (m : ℕ)
+    → AreHeld inside outer b end (ws ++ w ∷ []) inner c m
+    → (sort : Sort) × (d : List ℕ) × (last : ℕ) × AreHeld (suc inside) outer b end ws sort d last × IsHeld (suc inside) d w inner c
+    × (w.offset + left_behind w ≡ last)
 held_less inside outer b end [] w inner c m h =
     let same : suc (0 + inside) ≡ suc inside = omega arith in
     let waits : IsHeld (suc inside) b w h.0 h.1 = subst (λ (i : ℕ). IsHeld i b w h.0 h.1) same h.2 in
@@ -42,7 +47,8 @@ held_last inside outer b end [] w inner c m h = h.4.2
 held_last inside outer b end (x ∷ ws) w inner c m h = held_last inside h.0 h.1 x.offset ws w inner c m h.4
 
 -- nested bytes end no later than those that hold them, and begin no earlier
-pub held_ends : (inside : ℕ) (outer : Sort) (b : List ℕ) (end : ℕ) (ws : List Wait) (sort : Sort) (d : List ℕ) (last : ℕ) → AreHeld inside outer b end ws sort d last → length b ≤ end → (length d ≤ last) × (last ≤ end)
+pub held_ends : (inside : ℕ) (outer : Sort) (b : List ℕ) (end : ℕ) (ws : List Wait) (sort : Sort) (d : List ℕ) (last : ℕ)
+    → AreHeld inside outer b end ws sort d last → length b ≤ end → (length d ≤ last) × (last ≤ end)
 held_ends inside outer b end [] sort d last h fits = (omega (arith, ap length h.1, h.2, fits), omega (arith, h.2))
 held_ends inside outer b end (w ∷ ws) sort d last h fits =
     let left : left_behind w ≡ length h.2.r = ap left_of h.2.left_is in
@@ -51,7 +57,9 @@ held_ends inside outer b end (w ∷ ws) sort d last h fits =
     (there.0, omega (arith, there.1, h.3))
 
 -- a barrier of the bytes d, at this offset of the document, is one of b
-pub barrier_outward : (inside : ℕ) (outer : Sort) (b : List ℕ) (end : ℕ) (ws : List Wait) (sort : Sort) (d : List ℕ) (last : ℕ) (x : Barrier) (step : Step) (at offset : ℕ) → AreHeld inside outer b end ws sort d last → FirstFaultAt (suc inside) d x (step ∷ []) at → at + last ≡ offset + length d → (u : ℕ) × FirstFaultAt (suc (length ws + inside)) b x (map step_at ws ++ step ∷ []) u × (u + end ≡ offset + length b)
+pub barrier_outward : (inside : ℕ) (outer : Sort) (b : List ℕ) (end : ℕ) (ws : List Wait) (sort : Sort) (d : List ℕ) (last : ℕ) (x : Barrier) (step : Step)
+    (at offset : ℕ) → AreHeld inside outer b end ws sort d last → FirstFaultAt (suc inside) d x (step ∷ []) at → at + last ≡ offset + length d
+    → (u : ℕ) × FirstFaultAt (suc (length ws + inside)) b x (map step_at ws ++ step ∷ []) u × (u + end ≡ offset + length b)
 barrier_outward inside outer b end [] sort d last x step at offset h bars far =
     let same : suc inside ≡ suc (0 + inside) = omega arith in
     let here : FirstFaultAt (suc (0 + inside)) d x (step ∷ []) at = subst (λ (depth : ℕ). FirstFaultAt depth d x (step ∷ []) at) same bars in

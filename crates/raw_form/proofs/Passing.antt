@@ -96,7 +96,8 @@ left_behind w = left_of w.elements
 pub begun : (inside : ℕ) (d : List ℕ) (left : Option (List ℕ)) (number : ℕ) → left ≡ Some (drop 4 d) → number ≡ 0 → IsPassed inside d left number
 begun inside d left number e none = record { frames = []; pairs = []; passed = rw e refl; each = refl; number_is = none }
 
-pub passed_whole : (inside : ℕ) (b : List ℕ) (old new : Option (List ℕ)) (number : ℕ) (e : RawElement) → IsPassed inside b old number → Looks old new (next.Whole e) → IsPassed inside b new (number + 1)
+pub passed_whole : (inside : ℕ) (b : List ℕ) (old new : Option (List ℕ)) (number : ℕ) (e : RawElement) → IsPassed inside b old number
+    → Looks old new (next.Whole e) → IsPassed inside b new (number + 1)
 passed_whole inside b None new number e is looks = absurd is.passed
 passed_whole inside b (Some s) new number e is (r, v, at, m, none, new_is) =
     let f : Frame = frame_of e in
@@ -110,7 +111,9 @@ passed_whole inside b (Some s) new number e is (r, v, at, m, none, new_is) =
     }
 
 -- a level waits at the frame whose value holds the next one
-pub passed_inside : (inside : ℕ) (b : List ℕ) (old new : Option (List ℕ)) (number : ℕ) (e : RawElement) (inner : RawDocument) (w : Wait) → IsPassed inside b old number → Looks old new (next.Inside e inner) → w.bytes ≡ b → w.elements ≡ new → w.number ≡ number → w.key ≡ (frame_of e).key → (sort : Sort) × IsHeld inside b w sort (bytes_of inner)
+pub passed_inside : (inside : ℕ) (b : List ℕ) (old new : Option (List ℕ)) (number : ℕ) (e : RawElement) (inner : RawDocument) (w : Wait)
+    → IsPassed inside b old number → Looks old new (next.Inside e inner) → w.bytes ≡ b → w.elements ≡ new → w.number ≡ number → w.key ≡ (frame_of e).key
+    → (sort : Sort) × IsHeld inside b w sort (bytes_of inner)
 passed_inside inside b None new number e inner w is looks same left n k = absurd is.passed
 passed_inside inside b (Some s) new number e inner w is (r, v, at, m, holds, new_is) same left n k =
     let sorted = held_as v (bytes_of inner) holds in (
@@ -140,9 +143,11 @@ passed_end inside sort b (Some s) new number is looks =
     (is.pairs, (is.pairs, (is.frames, LeadsTo-walk (drop 4 b) is.frames s _ is.passed looks, is.each), refl))
 
 -- a fault in front of what is left
-pub fault_here : (inside : ℕ) (b s : List ℕ) (number offset : ℕ) (key : Option (List ℕ)) (fault : KeyedFault) (is : IsPassed inside b (Some s) number) → FailsAt s key fault → BeginsAt b s offset → FirstFaultAt (suc inside) b (fault_of fault) (record { number = number; key = key } ∷ []) offset
+pub fault_here : (inside : ℕ) (b s : List ℕ) (number offset : ℕ) (key : Option (List ℕ)) (fault : KeyedFault) (is : IsPassed inside b (Some s) number)
+    → FailsAt s key fault → BeginsAt b s offset → FirstFaultAt (suc inside) b (fault_of fault) (record { number = number; key = key } ∷ []) offset
 fault_here inside b s number offset None fault is fails begins =
-    let step : ◌≡◌ {A = List Step} (record { number = number; key = None } ∷ []) (record { number = length is.frames; key = None } ∷ []) = ap (λ (n : ℕ). record { number = n; key = None } ∷ []) is.number_is in
+    let step : ◌≡◌ {A = List Step} (record { number = number; key = None } ∷ []) (record { number = length is.frames; key = None } ∷ []) =
+    ap (λ (n : ℕ). record { number = n; key = None } ∷ []) is.number_is in
     (is.frames, is.pairs, s, is.passed, is.each, inl (fails, (step, begins)))
 fault_here inside b s number offset (Some key) fault is fails begins =
     let step : ◌≡◌ {A = List Step} (record { number = number; key = Some key } ∷ []) (record { number = length is.frames; key = Some fails.0.key } ∷ []) = rw (is.number_is, fails.4) refl in
@@ -152,17 +157,21 @@ fault_here inside b s number offset (Some key) fault is fails begins =
 abbrev pub IsInFront : ℕ → List ℕ → Option (List ℕ) → Barrier → Step → Type 0
 IsInFront inside b left x step = (offset : ℕ) → offset + left_of left ≡ length b → FirstFaultAt (suc inside) b x (step ∷ []) offset
 
-pub passed_fault : (inside : ℕ) (b : List ℕ) (old new : Option (List ℕ)) (number : ℕ) (key : Option (Bor (List ℕ))) (e : BorrowedError) → IsPassed inside b old number → Looks old new (next.Fault key e) → (fault : KeyedFault) × IsInFront inside b old (fault_of fault) (record { number = number; key = option_copied key }) × TellsBorrowed e fault
+pub passed_fault : (inside : ℕ) (b : List ℕ) (old new : Option (List ℕ)) (number : ℕ) (key : Option (Bor (List ℕ))) (e : BorrowedError)
+    → IsPassed inside b old number → Looks old new (next.Fault key e)
+    → (fault : KeyedFault) × IsInFront inside b old (fault_of fault) (record { number = number; key = option_copied key }) × TellsBorrowed e fault
 passed_fault inside b None new number key e is looks = absurd is.passed
 passed_fault inside b (Some s) new number key e is looks =
     (looks.0, λ offset begins. fault_here inside b s number offset (option_copied key) looks.0 is looks.1 begins, looks.2)
 
 -- a frame whose value holds a level, where no more may be entered
-pub passed_deep : (b : List ℕ) (old new : Option (List ℕ)) (number : ℕ) (e : RawElement) (inner : RawDocument) → IsPassed 0 b old number → Looks old new (next.Inside e inner) → IsInFront 0 b old too_deep (record { number = number; key = Some (frame_of e).key })
+pub passed_deep : (b : List ℕ) (old new : Option (List ℕ)) (number : ℕ) (e : RawElement) (inner : RawDocument) → IsPassed 0 b old number
+    → Looks old new (next.Inside e inner) → IsInFront 0 b old too_deep (record { number = number; key = Some (frame_of e).key })
 passed_deep b None new number e inner is looks offset begins = absurd is.passed
 passed_deep b (Some s) new number e inner is (r, v, at, m, holds, new_is) offset begins =
     let key : List ℕ = (frame_of e).key in
-    let step : ◌≡◌ {A = List Step} (record { number = number; key = Some key } ∷ []) (record { number = length is.frames; key = Some key } ∷ []) = ap (λ (n : ℕ). record { number = n; key = Some key } ∷ []) is.number_is in
+    let step : ◌≡◌ {A = List Step} (record { number = number; key = Some key } ∷ []) (record { number = length is.frames; key = Some key } ∷ []) =
+    ap (λ (n : ℕ). record { number = n; key = Some key } ∷ []) is.number_is in
     (is.frames, is.pairs, s, is.passed, is.each, inr (frame_of e, r, at, inr (v, bytes_of inner, [], 0, m, holds, (refl, refl, refl), step, begins)))
 
 -- what is left behind a frame of b, and the bytes that its value holds, are within b
@@ -175,15 +184,38 @@ outward_offset b s d q [] inside offset start some begins e = absurd (omega (ari
 outward_offset b s d q (step ∷ steps) inside offset start some begins e = (start, begins, e)
 
 -- a barrier of the bytes that a level waits for
-pub held_barrier : (inside : ℕ) (b : List ℕ) (w : Wait) (sort : Sort) (d : List ℕ) (x : Barrier) (steps : List Step) (at offset : ℕ) → IsHeld inside b w sort d → 0 < length steps → FirstFaultAt inside d x steps at → offset + (length d + left_behind w) ≡ length b + at → FirstFaultAt (suc inside) b x (step_at w ∷ steps) offset
+pub held_barrier : (inside : ℕ) (b : List ℕ) (w : Wait) (sort : Sort) (d : List ℕ) (x : Barrier) (steps : List Step) (at offset : ℕ) → IsHeld inside b w sort d
+    → 0 < length steps → FirstFaultAt inside d x steps at → offset + (length d + left_behind w) ≡ length b + at
+    → FirstFaultAt (suc inside) b x (step_at w ∷ steps) offset
 held_barrier inside b w sort d x steps at offset is some bars far =
     let left : left_behind w ≡ length is.r = ap left_of is.left_is in
     let behind : length (d ++ is.r) ≡ length d + length is.r = length-append d is.r in
     let start : ℕ = length b - (length d + length is.r) in
     let begins : BeginsAt b (d ++ is.r) start = omega (arith, behind, held_within inside b w sort d is) in
     let step : ◌≡◌ {A = List Step} (step_at w ∷ steps) (record { number = length is.frames; key = Some is.f.key } ∷ steps) = rw (is.number_is, is.key_is) refl in
-    let there : offset ≡ start + at = omega (arith, far, left, behind, begins) in
-    (is.frames, is.pairs, is.s, is.passed, is.each, inr (is.f, is.r, is.frame, inr (is.v, d, steps, at, is.means, as_held is.v sort d is.holds, bars, step, outward_offset b is.s d is.r steps at offset start some begins there)))
+    let there : offset ≡ start + at = omega (arith, far, left, behind, begins) in (
+      is.frames,
+      is.pairs,
+      is.s,
+      is.passed,
+      is.each,
+      inr (
+        is.f,
+        is.r,
+        is.frame,
+        inr (
+          is.v,
+          d,
+          steps,
+          at,
+          is.means,
+          as_held is.v sort d is.holds,
+          bars,
+          step,
+          outward_offset b is.s d is.r steps at offset start some begins there,
+        ),
+      ),
+    )
 
 -- where they are read, it goes on
 pub resumed : (inside : ℕ) (b : List ℕ) (w : Wait) (sort : Sort) (d : List ℕ) → IsHeld inside b w sort d → AreReadTo inside sort d → IsPassed inside b w.elements (w.number + 1)

@@ -48,7 +48,8 @@ pub record AreListed (d : List ℕ) (head tail : List Frame) (left : Option (Lis
 
 -- of the frames passed some have distinct keys, the map has the last places of those of the others, and what is left begins
 -- here
-pub record IsPlacing (d : List ℕ) (m : BTreeMap (Bor (List ℕ)) (Option ℕ)) (left : Option (List ℕ)) (offset : ℕ) (k : KeysSoFar) (listed : List (Bor (List ℕ))) (number : ℕ) (distinct : Bool) : Type 0 where
+pub record IsPlacing (d : List ℕ) (m : BTreeMap (Bor (List ℕ)) (Option ℕ)) (left : Option (List ℕ)) (offset : ℕ) (k : KeysSoFar) (listed : List (Bor (List ℕ)))
+    (number : ℕ) (distinct : Bool) : Type 0 where
   pub head : List Frame
   pub tail : List Frame
   pub read : HasRead (drop 4 d) (head ++ tail) left
@@ -58,7 +59,8 @@ pub record IsPlacing (d : List ℕ) (m : BTreeMap (Bor (List ℕ)) (Option ℕ))
   pub begins : offset + left_of left ≡ 4 + length (drop 4 d)
   pub are_listed : distinct ≡ true → AreListed d head tail left k listed number
 
-pub placing_begins : (d : List ℕ) (m : BTreeMap (Bor (List ℕ)) (Option ℕ)) (left : Option (List ℕ)) (k : KeysSoFar) (listed : List (Bor (List ℕ))) → IsEmpty m → left ≡ Some (drop 4 d) → HasKeysSoFar k listed as_document (texts listed) [] → IsPlacing d m left 4 k listed 0 true
+pub placing_begins : (d : List ℕ) (m : BTreeMap (Bor (List ℕ)) (Option ℕ)) (left : Option (List ℕ)) (k : KeysSoFar) (listed : List (Bor (List ℕ))) → IsEmpty m
+    → left ≡ Some (drop 4 d) → HasKeysSoFar k listed as_document (texts listed) [] → IsPlacing d m left 4 k listed 0 true
 unfolding IsDistinct
 placing_begins d m left k listed none e keys = record {
   head = [];
@@ -71,30 +73,42 @@ placing_begins d m left k listed none e keys = record {
   are_listed = λ _. record { none = refl; below = texts listed; keys = keys; count = refl; fits = rw e (omega arith) };
 }
 
-pub placing_fits : (d : List ℕ) (m : BTreeMap (Bor (List ℕ)) (Option ℕ)) (old new : Option (List ℕ)) (offset : ℕ) (k : KeysSoFar) (listed : List (Bor (List ℕ))) (number : ℕ) (distinct : Bool) (e : RawElement) → IsPlacing d m old offset k listed number distinct → TakesFrame old (Some e) new → offset + size_of (frame_of e) ≤ 4 + length d
+pub placing_fits : (d : List ℕ) (m : BTreeMap (Bor (List ℕ)) (Option ℕ)) (old new : Option (List ℕ)) (offset : ℕ) (k : KeysSoFar) (listed : List (Bor (List ℕ)))
+    (number : ℕ) (distinct : Bool) (e : RawElement) → IsPlacing d m old offset k listed number distinct → TakesFrame old (Some e) new
+    → offset + size_of (frame_of e) ≤ 4 + length d
 placing_fits d m None new offset k listed number distinct e is h = absurd is.read
 placing_fits d m (Some s) new offset k listed number distinct e is (r, at, new_is) = omega (arith, is.begins, frame_size s (frame_of e) r at, length-drop 4 d)
 
 -- a frame whose key is put into the map
-pub placing_more : (d : List ℕ) (m : BTreeMap (Bor (List ℕ)) (Option ℕ)) (old new : Option (List ℕ)) (offset : ℕ) (k : KeysSoFar) (listed : List (Bor (List ℕ))) (number : ℕ) (distinct : Bool) (n : BTreeMap (Bor (List ℕ)) (Option ℕ)) (behind : ℕ) (l : KeysSoFar) (after : List (Bor (List ℕ))) (e : RawElement) (key : Bor (List ℕ)) → IsPlacing d m old offset k listed number distinct → TakesFrame old (Some e) new → UpdatesBy text_cmp (text_cmp key) m n (Some (Some offset)) → key.now ≡ (frame_of e).key → behind ≡ offset + size_of (frame_of e) → IsPlacing d n new behind l after number false
+pub placing_more : (d : List ℕ) (m : BTreeMap (Bor (List ℕ)) (Option ℕ)) (old new : Option (List ℕ)) (offset : ℕ) (k : KeysSoFar) (listed : List (Bor (List ℕ)))
+    (number : ℕ) (distinct : Bool) (n : BTreeMap (Bor (List ℕ)) (Option ℕ)) (behind : ℕ) (l : KeysSoFar) (after : List (Bor (List ℕ))) (e : RawElement)
+    (key : Bor (List ℕ)) → IsPlacing d m old offset k listed number distinct → TakesFrame old (Some e) new
+    → UpdatesBy text_cmp (text_cmp key) m n (Some (Some offset)) → key.now ≡ (frame_of e).key → behind ≡ offset + size_of (frame_of e)
+    → IsPlacing d n new behind l after number false
 placing_more d m None new offset k listed number distinct n behind l after e key is h u same far = absurd is.read
 placing_more d m (Some s) new offset k listed number distinct n behind l after e key is (r, at, new_is) u same far =
     let f : Frame = frame_of e in
     let parts : (is.head ++ is.tail) ++ f ∷ [] ≡ is.head ++ (is.tail ++ f ∷ []) = append_assoc is.head is.tail (f ∷ []) in
-    let has : HasPlaces n (place_of (keys_of_frames is.tail ++ f.key ∷ []) [] ((is.head ++ is.tail) ++ f ∷ [])) = place_put m n (keys_of_frames is.tail) (is.head ++ is.tail) f key offset is.has u same is.offset_is in
+    let has : HasPlaces n (place_of (keys_of_frames is.tail ++ f.key ∷ []) [] ((is.head ++ is.tail) ++ f ∷ [])) =
+    place_put m n (keys_of_frames is.tail) (is.head ++ is.tail) f key offset is.has u same is.offset_is in
     record {
       head = is.head;
       tail = is.tail ++ f ∷ [];
       read = subst (λ (fs : List Frame). HasRead (drop 4 d) fs new) parts (rw new_is (LeadsTo-more (drop 4 d) (is.head ++ is.tail) s f r is.read at));
       apart = is.apart;
-      has = subst (λ (ks : List (List ℕ)). HasPlaces n (place_of ks [] (is.head ++ (is.tail ++ f ∷ [])))) (sym (keys_more is.tail f)) (subst (λ (fs : List Frame). HasPlaces n (place_of (keys_of_frames is.tail ++ f.key ∷ []) [] fs)) parts has);
+      has = subst (λ (ks : List (List ℕ)). HasPlaces n (place_of ks [] (is.head ++ (is.tail ++ f ∷ [])))) (sym (keys_more is.tail f))
+          (subst (λ (fs : List Frame). HasPlaces n (place_of (keys_of_frames is.tail ++ f.key ∷ []) [] fs)) parts has);
       offset_is = far ∙ ap (λ (x : ℕ). x + size_of f) is.offset_is ∙ sym (end_behind 4 (is.head ++ is.tail) f) ∙ ap (λ (fs : List Frame). end_of 4 fs) parts;
       begins = rw new_is (omega (arith, far, is.begins, frame_size s f r at));
       are_listed = λ e. cc;
     }
 
 -- a frame whose key is distinct from those before
-pub placing_new : (d : List ℕ) (m : BTreeMap (Bor (List ℕ)) (Option ℕ)) (old new : Option (List ℕ)) (offset : ℕ) (k : KeysSoFar) (listed : List (Bor (List ℕ))) (number : ℕ) (distinct : Bool) (behind : ℕ) (l : KeysSoFar) (after : List (Bor (List ℕ))) (e : RawElement) (key : List ℕ) (is : IsPlacing d m old offset k listed number distinct) (listing : AreListed d is.head is.tail old k listed number) → TakesFrame old (Some e) new → key ≡ (frame_of e).key → TellsOpenKey as_document listing.below (keys_of_frames is.head) key l after None → behind ≡ offset + size_of (frame_of e) → IsPlacing d m new behind l after (number + 1) distinct
+pub placing_new : (d : List ℕ) (m : BTreeMap (Bor (List ℕ)) (Option ℕ)) (old new : Option (List ℕ)) (offset : ℕ) (k : KeysSoFar) (listed : List (Bor (List ℕ)))
+    (number : ℕ) (distinct : Bool) (behind : ℕ) (l : KeysSoFar) (after : List (Bor (List ℕ))) (e : RawElement) (key : List ℕ)
+    (is : IsPlacing d m old offset k listed number distinct) (listing : AreListed d is.head is.tail old k listed number) → TakesFrame old (Some e) new
+    → key ≡ (frame_of e).key → TellsOpenKey as_document listing.below (keys_of_frames is.head) key l after None → behind ≡ offset + size_of (frame_of e)
+    → IsPlacing d m new behind l after (number + 1) distinct
 placing_new d m None new offset k listed number distinct behind l after e key is listing h same told far = absurd is.read
 placing_new d m (Some s) new offset k listed number distinct behind l after e key is listing (r, at, new_is) same told far =
     let f : Frame = frame_of e in
@@ -120,18 +134,24 @@ placing_new d m (Some s) new offset k listed number distinct behind l after e ke
     }
 
 -- the next frame has a number
-pub placing_small : (d : List ℕ) (m : BTreeMap (Bor (List ℕ)) (Option ℕ)) (old new : Option (List ℕ)) (offset : ℕ) (k : KeysSoFar) (listed : List (Bor (List ℕ))) (number : ℕ) (distinct : Bool) (e : RawElement) (is : IsPlacing d m old offset k listed number distinct) → AreListed d is.head is.tail old k listed number → TakesFrame old (Some e) new → number < length (drop 4 d)
+pub placing_small : (d : List ℕ) (m : BTreeMap (Bor (List ℕ)) (Option ℕ)) (old new : Option (List ℕ)) (offset : ℕ) (k : KeysSoFar)
+    (listed : List (Bor (List ℕ))) (number : ℕ) (distinct : Bool) (e : RawElement) (is : IsPlacing d m old offset k listed number distinct)
+    → AreListed d is.head is.tail old k listed number → TakesFrame old (Some e) new → number < length (drop 4 d)
 placing_small d m None new offset k listed number distinct e is listing h = absurd is.read
 placing_small d m (Some s) new offset k listed number distinct e is listing (r, at, new_is) = omega (arith, listing.fits, IsFrame-shorter s (frame_of e) r at)
 
 -- no frame is left
-pub placing_over : (d : List ℕ) (m : BTreeMap (Bor (List ℕ)) (Option ℕ)) (old new : Option (List ℕ)) (offset : ℕ) (k : KeysSoFar) (listed : List (Bor (List ℕ))) (number : ℕ) (distinct : Bool) → IsPlacing d m old offset k listed number distinct → TakesFrame old None new → (frames : List Frame) → IsWalk (drop 4 d) frames Done → HasRepeated (Some m) frames
+pub placing_over : (d : List ℕ) (m : BTreeMap (Bor (List ℕ)) (Option ℕ)) (old new : Option (List ℕ)) (offset : ℕ) (k : KeysSoFar) (listed : List (Bor (List ℕ)))
+    (number : ℕ) (distinct : Bool) → IsPlacing d m old offset k listed number distinct → TakesFrame old None new → (frames : List Frame)
+    → IsWalk (drop 4 d) frames Done → HasRepeated (Some m) frames
 placing_over d m None new offset k listed number distinct is h frames w = absurd is.read
 placing_over d m (Some s) new offset k listed number distinct is h frames w =
     let same : frames ≡ is.head ++ is.tail = walk_led (drop 4 d) (is.head ++ is.tail) s frames is.read h w in
     subst (λ (fs : List Frame). HasRepeated (Some m) fs) (sym same) (keys_of_frames is.tail, are_mapped is.head is.tail is.apart, is.has)
 
-pub distinct_over : (d : List ℕ) (m : BTreeMap (Bor (List ℕ)) (Option ℕ)) (old new : Option (List ℕ)) (offset : ℕ) (k : KeysSoFar) (listed : List (Bor (List ℕ))) (number : ℕ) (distinct : Bool) → IsPlacing d m old offset k listed number distinct → distinct ≡ true → TakesFrame old None new → (frames : List Frame) → IsWalk (drop 4 d) frames Done → IsDistinct bytes_eq (keys_of_frames frames)
+pub distinct_over : (d : List ℕ) (m : BTreeMap (Bor (List ℕ)) (Option ℕ)) (old new : Option (List ℕ)) (offset : ℕ) (k : KeysSoFar)
+    (listed : List (Bor (List ℕ))) (number : ℕ) (distinct : Bool) → IsPlacing d m old offset k listed number distinct → distinct ≡ true
+    → TakesFrame old None new → (frames : List Frame) → IsWalk (drop 4 d) frames Done → IsDistinct bytes_eq (keys_of_frames frames)
 distinct_over d m None new offset k listed number distinct is yes_all h frames w = absurd is.read
 distinct_over d m (Some s) new offset k listed number distinct is yes_all h frames w =
     let listing = is.are_listed yes_all in

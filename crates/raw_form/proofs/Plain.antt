@@ -59,7 +59,8 @@ plain_leaf k p v plain shape m =
     plain_so k p v plain m same
 
 -- the leaf is written as the element is
-pub plain_element : (k : ElementType) (p key : List ℕ) (v : RawValue) (is : IsPlainLeaf k p v) → element_of k key p ≡ element_of (kind_of_leaf (leaf_in_order is.leaf)) key (leaf_payload (leaf_in_order is.leaf))
+pub plain_element : (k : ElementType) (p key : List ℕ) (v : RawValue) (is : IsPlainLeaf k p v)
+    → element_of k key p ≡ element_of (kind_of_leaf (leaf_in_order is.leaf)) key (leaf_payload (leaf_in_order is.leaf))
 plain_element k p key v is =
     let kind_same : k ≡ kind_of_leaf (leaf_in_order is.leaf) = sym is.kind_is ∙ ap kind_of_leaf (sym is.kept) in
     let payload_same : p ≡ leaf_payload (leaf_in_order is.leaf) = sym is.payload ∙ ap leaf_payload (sym is.kept) in

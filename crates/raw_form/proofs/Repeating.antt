@@ -44,7 +44,8 @@ among_middle [] f fs q e = ap (λ (b : Bool). b || is_among (keys_of_frames fs) 
 among_middle (x ∷ passed) f fs q e = ap (λ (b : Bool). bytes_eq q x.key || b) (among_middle passed f fs q e) ∙ or_true (bytes_eq q x.key)
 
 -- a frame's key that isn't repeated is that of no other
-pub unrepeated : (passed : List Frame) (f : Frame) (fs : List Frame) (q : List ℕ) → is_repeated q (passed ++ f ∷ fs) ≡ false → bytes_eq q f.key ≡ true → (is_among (keys_of_frames passed) q ≡ false) × (is_among (keys_of_frames fs) q ≡ false)
+pub unrepeated : (passed : List Frame) (f : Frame) (fs : List Frame) (q : List ℕ) → is_repeated q (passed ++ f ∷ fs) ≡ false → bytes_eq q f.key ≡ true
+    → (is_among (keys_of_frames passed) q ≡ false) × (is_among (keys_of_frames fs) q ≡ false)
 unrepeated [] f fs q once e =
     let both = or_none (bytes_eq q f.key && is_among (keys_of_frames fs) q) (is_repeated q fs) once in
     (refl, and_none (bytes_eq q f.key) (is_among (keys_of_frames fs) q) both.0 e)
@@ -66,7 +67,8 @@ none_equal : (key : List ℕ) (keys : List (List ℕ)) → AllByRecursion (λ k.
 none_equal key [] h = refl
 none_equal key (k ∷ keys) h = λ i. h.0 i || none_equal key keys h.1 i
 
-first_once : (x : Frame) (head tail : List Frame) (q : List ℕ) (same : Bool) → bytes_eq q x.key ≡ same → is_among (keys_of_frames head) x.key ≡ false → is_among (keys_of_frames tail) q ≡ false → (same && is_among (keys_of_frames (head ++ tail)) q) ≡ false
+first_once : (x : Frame) (head tail : List Frame) (q : List ℕ) (same : Bool) → bytes_eq q x.key ≡ same → is_among (keys_of_frames head) x.key ≡ false
+    → is_among (keys_of_frames tail) q ≡ false → (same && is_among (keys_of_frames (head ++ tail)) q) ≡ false
 first_once x head tail q true e apart other =
     let here : is_among (keys_of_frames head) q ≡ false = ap (λ (k : List ℕ). is_among (keys_of_frames head) k) (same_key q x.key e) ∙ apart in
     ap (λ (ks : List (List ℕ)). is_among ks q) (map-append (λ (f : Frame). f.key) head tail) ∙ among_both (keys_of_frames head) (keys_of_frames tail) q here other
@@ -85,17 +87,21 @@ pub no_places : (m : BTreeMap (Bor (List ℕ)) (Option ℕ)) → IsEmpty m → H
 no_places m e q = rw e refl
 
 -- one frame more
-pub place_put : (old new : BTreeMap (Bor (List ℕ)) (Option ℕ)) (mapped : List (List ℕ)) (fs : List Frame) (f : Frame) (k : Bor (List ℕ)) (o : ℕ) → HasPlaces old (place_of mapped [] fs) → UpdatesBy text_cmp (text_cmp k) old new (Some (Some o)) → k.now ≡ f.key → o ≡ end_of 4 fs → HasPlaces new (place_of (mapped ++ f.key ∷ []) [] (fs ++ f ∷ []))
+pub place_put : (old new : BTreeMap (Bor (List ℕ)) (Option ℕ)) (mapped : List (List ℕ)) (fs : List Frame) (f : Frame) (k : Bor (List ℕ)) (o : ℕ)
+    → HasPlaces old (place_of mapped [] fs) → UpdatesBy text_cmp (text_cmp k) old new (Some (Some o)) → k.now ≡ f.key → o ≡ end_of 4 fs
+    → HasPlaces new (place_of (mapped ++ f.key ∷ []) [] (fs ++ f ∷ []))
 place_put old new mapped fs f k o h u same at q =
     let test : bytes_eq q.now f.key ≡ bytes_eq k.now q.now = flipped q.now f.key ∙ ap (λ (x : List ℕ). bytes_eq x q.now) (sym same) in
     u.0 q
     ∙ ap (λ (b : Bool). cond b (Some (Some o)) (get text_cmp old q)) (is_eq-slice_cmp k.now q.now ∙ sym test)
     ∙ elim (bytes_eq q.now f.key) as (λ b. bytes_eq q.now f.key ≡ b → cond b (Some (Some o)) (get text_cmp old q) ≡ place_of (mapped ++ f.key ∷ []) [] (fs ++ f ∷ []) q.now) [
       | true ↦ λ e.
-          let last : last_value_at q.now (placed 4 (fs ++ f ∷ [])) ≡ Some o = last_place fs f q.now ∙ ap (λ (b : Bool). cond b (Some (end_of 4 fs)) (last_value_at q.now (placed 4 fs))) e ∙ ap (λ (n : ℕ). Some n) (sym at) in
+          let last : last_value_at q.now (placed 4 (fs ++ f ∷ [])) ≡ Some o =
+          last_place fs f q.now ∙ ap (λ (b : Bool). cond b (Some (end_of 4 fs)) (last_value_at q.now (placed 4 fs))) e ∙ ap (λ (n : ℕ). Some n) (sym at) in
           λ i. cond (sym (among_last mapped f.key q.now e) i) (Some (sym last i)) None
       | false ↦ λ e.
-          let last : last_value_at q.now (placed 4 (fs ++ f ∷ [])) ≡ last_value_at q.now (placed 4 fs) = last_place fs f q.now ∙ ap (λ (b : Bool). cond b (Some (end_of 4 fs)) (last_value_at q.now (placed 4 fs))) e in
+          let last : last_value_at q.now (placed 4 (fs ++ f ∷ [])) ≡ last_value_at q.now (placed 4 fs) =
+          last_place fs f q.now ∙ ap (λ (b : Bool). cond b (Some (end_of 4 fs)) (last_value_at q.now (placed 4 fs))) e in
           h q ∙ (λ i. cond (sym (among_others mapped f.key q.now e) i) (Some (sym last i)) None)
     ] refl
 
@@ -105,7 +111,9 @@ passed_other : (mapped seen : List (List ℕ)) (frames : List Frame) (key q : Li
 passed_other mapped seen frames key q e = ap (λ (b : Bool). cond (is_among mapped q) (Some (cond b None (last_value_at q (placed 4 frames)))) None) (sym (among_others seen key q e))
 
 -- the place of a mapped key is taken
-pub place_taken : (old new : BTreeMap (Bor (List ℕ)) (Option ℕ)) (mapped seen : List (List ℕ)) (frames : List Frame) (k : Bor (List ℕ)) (key : List ℕ) → HasPlaces old (place_of mapped seen frames) → UpdatesBy text_cmp (text_cmp k) old new (Some None) → k.now ≡ key → is_among mapped key ≡ true → HasPlaces new (place_of mapped (seen ++ key ∷ []) frames)
+pub place_taken : (old new : BTreeMap (Bor (List ℕ)) (Option ℕ)) (mapped seen : List (List ℕ)) (frames : List Frame) (k : Bor (List ℕ)) (key : List ℕ)
+    → HasPlaces old (place_of mapped seen frames) → UpdatesBy text_cmp (text_cmp k) old new (Some None) → k.now ≡ key → is_among mapped key ≡ true
+    → HasPlaces new (place_of mapped (seen ++ key ∷ []) frames)
 place_taken old new mapped seen frames k key h u same there q =
     let last : Option ℕ = last_value_at q.now (placed 4 frames) in
     let test : bytes_eq q.now key ≡ bytes_eq k.now q.now = flipped q.now key ∙ ap (λ (x : List ℕ). bytes_eq x q.now) (sym same) in
@@ -119,7 +127,8 @@ place_taken old new mapped seen frames k key h u same there q =
     ] refl
 
 -- another key has none
-pub place_over : (m : BTreeMap (Bor (List ℕ)) (Option ℕ)) (mapped seen : List (List ℕ)) (frames : List Frame) (key : List ℕ) → HasPlaces m (place_of mapped seen frames) → is_among mapped key ≡ false → HasPlaces m (place_of mapped (seen ++ key ∷ []) frames)
+pub place_over : (m : BTreeMap (Bor (List ℕ)) (Option ℕ)) (mapped seen : List (List ℕ)) (frames : List Frame) (key : List ℕ)
+    → HasPlaces m (place_of mapped seen frames) → is_among mapped key ≡ false → HasPlaces m (place_of mapped (seen ++ key ∷ []) frames)
 place_over m mapped seen frames key h none q =
     h q
     ∙ elim (bytes_eq q.now key) as (λ b. bytes_eq q.now key ≡ b → place_of mapped seen frames q.now ≡ place_of mapped (seen ++ key ∷ []) frames q.now) [
@@ -138,7 +147,8 @@ found_none mapped seen frames key h =
       | false ↦ λ e. refl
     ] h
 
-pub found_some : (mapped seen : List (List ℕ)) (frames : List Frame) (key : List ℕ) (x : Option ℕ) → place_of mapped seen frames key ≡ Some x → (is_among mapped key ≡ true) × (last_unseen seen frames key ≡ x)
+pub found_some : (mapped seen : List (List ℕ)) (frames : List Frame) (key : List ℕ) (x : Option ℕ) → place_of mapped seen frames key ≡ Some x
+    → (is_among mapped key ≡ true) × (last_unseen seen frames key ≡ x)
 found_some mapped seen frames key x h =
     elim (is_among mapped key) as (λ b. cond b (Some (last_unseen seen frames key)) None ≡ Some x → (b ≡ true) × (last_unseen seen frames key ≡ x)) [
       | true ↦ λ e. (refl, cc)

@@ -61,12 +61,16 @@ pub numbers_of : (path : List PathStep) → map (λ (step : PathStep). step.numb
 numbers_of [] = refl
 numbers_of (p ∷ path) = ap (λ (ns : List ℕ). p.number ∷ ns) (numbers_of path)
 
-pub number_at : (path : List PathStep) (index : ℕ) (none : PathStep) → index < length path → map (λ (step : PathStep). step.number) (take (index + 1) path) ≡ map (λ (step : PathStep). step.number) (take index path) ++ (slice_index_or path index none).number ∷ []
+pub number_at : (path : List PathStep) (index : ℕ) (none : PathStep) → index < length path
+    → map (λ (step : PathStep). step.number) (take (index + 1) path) ≡ map (λ (step : PathStep). step.number) (take index path)
+    ++ (slice_index_or path index none).number ∷ []
 number_at [] index none h = absurd (omega (arith, h))
 number_at (p ∷ path) zero none h = refl
 number_at (p ∷ path) (suc index) none h =
     let same : suc (index + 1) ≡ suc index + 1 = omega arith in
-    subst (λ (n : ℕ). map (λ (step : PathStep). step.number) (take n (p ∷ path)) ≡ p.number ∷ (map (λ (step : PathStep). step.number) (take index path) ++ (slice_index_or path index none).number ∷ [])) same (ap (λ (ns : List ℕ). p.number ∷ ns) (number_at path index none (omega (arith, h))))
+    subst (λ (n : ℕ). map (λ (step : PathStep). step.number) (take n (p ∷ path)) ≡ p.number
+    ∷ (map (λ (step : PathStep). step.number) (take index path) ++ (slice_index_or path index none).number ∷ [])) same
+    (ap (λ (ns : List ℕ). p.number ∷ ns) (number_at path index none (omega (arith, h))))
 
 pub numbers_len : (path : List PathStep) (index : ℕ) → index ≤ length path → length (map (λ (step : PathStep). step.number) (take index path)) ≡ index
 numbers_len path zero h = refl

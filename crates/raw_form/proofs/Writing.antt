@@ -25,10 +25,13 @@ use Rattle.raw_form.specs.declared.rewritten.Rewritten.{Rewritten}
 
 held_tree : (h : Held) (t : Tree) → StandsFor ReadsAs (held_value h) t → HoldsTrees t × (opening t ≡ held_opening h) × (kind_of_tree t ≡ kind_of_raw (held_value h))
 held_tree (held.Document d) t (zero, h) = absurd h
-held_tree (held.Document d) t (suc n, h) = subst (λ (x : Tree). HoldsTrees x × (opening x ≡ held_opening (held.Document d)) × (kind_of_tree x ≡ kind_of_raw (held_value (held.Document d)))) (sym h.2) (tt, refl, refl)
+held_tree (held.Document d) t (suc n, h) = subst (λ (x : Tree). HoldsTrees x × (opening x ≡ held_opening (held.Document d))
+    × (kind_of_tree x ≡ kind_of_raw (held_value (held.Document d)))) (sym h.2) (tt, refl, refl)
 held_tree (held.Array d) t (zero, h) = absurd h
-held_tree (held.Array d) t (suc n, h) = subst (λ (x : Tree). HoldsTrees x × (opening x ≡ held_opening (held.Array d)) × (kind_of_tree x ≡ kind_of_raw (held_value (held.Array d)))) (sym h.2) (tt, refl, refl)
-held_tree (held.Code code d) t h = subst (λ (x : Tree). HoldsTrees x × (opening x ≡ held_opening (held.Code code d)) × (kind_of_tree x ≡ kind_of_raw (held_value (held.Code code d)))) (sym h.2) (tt, refl, refl)
+held_tree (held.Array d) t (suc n, h) = subst (λ (x : Tree). HoldsTrees x × (opening x ≡ held_opening (held.Array d))
+    × (kind_of_tree x ≡ kind_of_raw (held_value (held.Array d)))) (sym h.2) (tt, refl, refl)
+held_tree (held.Code code d) t h = subst (λ (x : Tree). HoldsTrees x × (opening x ≡ held_opening (held.Code code d))
+    × (kind_of_tree x ≡ kind_of_raw (held_value (held.Code code d)))) (sym h.2) (tt, refl, refl)
 
 ended_so : (t : Tree) (len : Option ℕ) (start : ℕ) (b : List ℕ) → HasCode t len → ended t start b ≡ ended_by len start b
 ended_so (leaf l) len start b h = absurd h
@@ -97,7 +100,9 @@ refused_for : (b : List ℕ) (t : Tree) (n : ℕ) (e : Error) → Reads b t → 
 refused_for b t n e read (inl memory) within = inl memory
 refused_for b t n e read (inr long) within = inr (t, read, (omega (arith, long.0, within), long.1, long.2))
 
-pub rewriting_begins : (b : List ℕ) (t : Tree) (h : Held) (level : Rewritten) (ws : List Rewritten) (out : List ℕ) → Reads b t → held_value h ≡ raw.document b → ws ≡ [] → out ≡ held_opening h → length out ≤ max_length → level.start ≡ 0 → HasCode t level.code_len × IsLeft level.keys level.elements (members t) → IsRewriting b ws level out
+pub rewriting_begins : (b : List ℕ) (t : Tree) (h : Held) (level : Rewritten) (ws : List Rewritten) (out : List ℕ) → Reads b t → held_value h ≡ raw.document b
+    → ws ≡ [] → out ≡ held_opening h → length out ≤ max_length → level.start ≡ 0 → HasCode t level.code_len × IsLeft level.keys level.elements (members t)
+    → IsRewriting b ws level out
 rewriting_begins b t h level ws out read same none out_is fits start left =
     let made = held_tree h t (subst (λ (v : RawValue). StandsFor ReadsAs v t) (sym same) read) in
     record {
@@ -134,7 +139,8 @@ module _ (b : List ℕ) (ws : List Rewritten) (level : Rewritten) (out : List �
         let same : value next.3.0 ≡ faulty fault = one_meaning (frame_of m.element) (value next.3.0) (faulty fault) next.3.1 bad in
         cc
 
-    module _ (m : Member) (v : RawValue) (next : TakesNext is.here.left (Some m) new.keys new.elements) (means : Means (frame_of m.element) (value v)) (key : List ℕ) (key_is : key ≡ key_bytes (member_key m)) where
+    module _ (m : Member) (v : RawValue) (next : TakesNext is.here.left (Some m) new.keys new.elements) (means : Means (frame_of m.element) (value v))
+        (key : List ℕ) (key_is : key ≡ key_bytes (member_key m)) where
       stands : StandsFor ReadsAs v next.0
       stands =
           let same : next.3.0 ≡ v = one_value_of (frame_of m.element) next.3.0 v next.3.1 means in
@@ -154,7 +160,8 @@ module _ (b : List ℕ) (ws : List Rewritten) (level : Rewritten) (out : List �
 
         pub rewriting_leaf : (more : List ℕ) → more ≡ out ++ element_of (kind_of_leaf (leaf_in_order l)) key (leaf_payload (leaf_in_order l)) → length more ≤ max_length → IsRewriting b ws new more
         rewriting_leaf more e fits =
-            let element : element_of (kind_of_leaf (leaf_in_order l)) key (leaf_payload (leaf_in_order l)) ≡ element_of (kind_of_tree next.0) (key_bytes (member_key m)) (tree_payload next.0) = λ i. element_of (kind_of_tree (sym leaf_is i)) (key_is i) (tree_payload (sym leaf_is i)) in
+            let element : element_of (kind_of_leaf (leaf_in_order l)) key (leaf_payload (leaf_in_order l)) ≡ element_of (kind_of_tree next.0)
+            (key_bytes (member_key m)) (tree_payload next.0) = λ i. element_of (kind_of_tree (sym leaf_is i)) (key_is i) (tree_payload (sym leaf_is i)) in
             record {
               tree = is.tree;
               read = is.read;
@@ -186,10 +193,13 @@ module _ (b : List ℕ) (ws : List Rewritten) (level : Rewritten) (out : List �
               let made = held_tree h next.0 held_stands in
               refused_for b is.tree (length head + length (held_opening h)) e is.read fails (omega (arith, room, member_len, head_len, ap length made.1, opening_within next.0 made.0))
 
-          pub rewriting_inside : (inner : Rewritten) (start : ℕ) (more : List ℕ) (grown : List Rewritten) → grown ≡ ws ++ new ∷ [] → start ≡ length head → inner.start ≡ start → more ≡ head ++ held_opening h → HasCode next.0 inner.code_len × IsLeft inner.keys inner.elements (members next.0) → length more ≤ max_length → IsRewriting b grown inner more
+          pub rewriting_inside : (inner : Rewritten) (start : ℕ) (more : List ℕ) (grown : List Rewritten) → grown ≡ ws ++ new ∷ [] → start ≡ length head
+              → inner.start ≡ start → more ≡ head ++ held_opening h → HasCode next.0 inner.code_len × IsLeft inner.keys inner.elements (members next.0)
+              → length more ≤ max_length → IsRewriting b grown inner more
           rewriting_inside inner start more grown grown_is start_is inner_start more_is left fits =
               let made = held_tree h next.0 held_stands in
-              let tagged_so : tagged (tag_of (kind_of_raw (held_value h))) key [] ≡ tagged (tag_of (kind_of_tree next.0)) (key_bytes (member_key m)) [] = λ i. tagged (tag_of (sym made.2 i)) (key_is i) [] in
+              let tagged_so : tagged (tag_of (kind_of_raw (held_value h))) key [] ≡ tagged (tag_of (kind_of_tree next.0)) (key_bytes (member_key m)) [] =
+              λ i. tagged (tag_of (sym made.2 i)) (key_is i) [] in
               record {
                 tree = is.tree;
                 read = is.read;
@@ -197,7 +207,8 @@ module _ (b : List ℕ) (ws : List Rewritten) (level : Rewritten) (out : List �
                 here = begun_at next.0 start;
                 waits = rw grown_is (begun_more ws new is.outer (left_with is.here next.1) is.waits (passed_on next.1 next.4));
                 begun = record { start_is = inner_start; code = left.0; left = left.1 };
-                writing = writing_inside is.tree is.outer is.here out is.writing (member_key m, next.0) next.1 next.2 start head more made.0 start_is (head_is ∙ ap (λ (x : List ℕ). out ++ x) tagged_so) (more_is ∙ ap (λ (x : List ℕ). head ++ x) (sym made.1));
+                writing = writing_inside is.tree is.outer is.here out is.writing (member_key m, next.0) next.1 next.2 start head more made.0 start_is
+                    (head_is ∙ ap (λ (x : List ℕ). out ++ x) tagged_so) (more_is ∙ ap (λ (x : List ℕ). head ++ x) (sym made.1));
                 fits = fits;
               }
 

@@ -17,7 +17,7 @@ use Rattle.raw_form.specs.declared.barrier.BarrierKind.TheVariants as kind
 use Rattle.raw_form.specs.declared.place.PathStep.{PathStep}
 use Rattle.raw_form.specs.declared.place.Place.{Place}
 
--- the answer is this barrier; a fault with its own key
+-- the result is this barrier; a fault with its own key
 abbrev pub IsBarrier : BarrierKind → within.Barrier → Type 0
 IsBarrier kind.TooManyBytes x = x ≡ too_many_bytes
 IsBarrier kind.TooDeep x = x ≡ too_deep
@@ -35,7 +35,7 @@ steps_of place = map step_of place.path.items
 abbrev pub IsOutOfMemoryWithin : Limits → List ℕ → Error → Type 0
 IsOutOfMemoryWithin limits b e = IsOutOfMemory e × (length b ≤ limits.bytes) × (0 < limits.depth)
 
--- where no barrier is answered, the document b is read as a tree within the limits; one that is answered is its first, and
+-- where no barrier is returned, the document b is read as a tree within the limits; one that is returned is its first, and
 -- is where it says
 abbrev pub TellsBarrier : Limits → List ℕ → Option Barrier → Type 0
 TellsBarrier limits b None = (t : Tree) × ReadsWithin limits b t

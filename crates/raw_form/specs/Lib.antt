@@ -10,3 +10,4 @@ pub mod Verdicts
 pub mod Judging
 pub mod Tokens
 pub mod Flattening
+pub mod CodeLens

@@ -82,7 +82,8 @@ TellsVerdict limits b (Err error.OutOfMemory) = (length b ≤ limits.bytes) × (
 -- the document b has one verdict at most, at one place, and none where it is canonical
 pub record IsJudgedOneWayWithin (limits : Limits) (b : List ℕ) : Type 0 where
   pub not_both : (x : Verdict) (path : List Step) (offset : ℕ) → FirstVerdict limits b x path offset → ¬ IsCanonicalWithin limits b
-  pub one_verdict : (x other : Verdict) (path other_path : List Step) (offset other_offset : ℕ) → FirstVerdict limits b x path offset → FirstVerdict limits b other other_path other_offset → (other ≡ x) × (other_path ≡ path) × (other_offset ≡ offset)
+  pub one_verdict : (x other : Verdict) (path other_path : List Step) (offset other_offset : ℕ) → FirstVerdict limits b x path offset
+      → FirstVerdict limits b other other_path other_offset → (other ≡ x) × (other_path ≡ path) × (other_offset ≡ offset)
 
 -- so is each document
 abbrev pub AllAreJudgedOneWayWithin : Limits → Type 0

@@ -16,6 +16,11 @@ pub enum BarrierKind<'a> {
 }
 
 /// What ends a reading of a document within limits, and where it is. The key and the path borrow from the document.
+/// ```
+/// let document = RawDocument::from_bytes(b"\x0C\0\0\0\x10a\0\x01\0\0\0\0")?;
+/// let barrier = first_fault_within(alloc, document, Limits { bytes: 5, depth: 10 })?;
+/// assert!(rt; matches!(barrier, Some(Barrier { kind: BarrierKind::TooManyBytes, .. })));
+/// ```
 #[derive(Debug, Drop)]
 pub struct Barrier<'a> {
     /// what it is

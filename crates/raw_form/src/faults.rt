@@ -114,7 +114,7 @@ pub(crate) fn first_behind<'a>(
 /// ```
 /// let document = RawDocument::from_bytes(b"\x09\0\0\0\x08a\0\x02\0")?;
 /// let limits = Limits { bytes: 1000, depth: 10 };
-/// let Some(barrier) = first_fault_within(alloc, document, limits)? else { return Ok(()) };
+/// let Some(barrier) = first_fault_within(alloc, document, limits)? else { unreachable!() };
 /// assert_eq!(rt; (barrier.place.offset, barrier.place.key()), (4, Some("a")));
 /// ```
 pub fn first_fault_within<'a>(

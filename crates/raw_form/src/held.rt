@@ -13,6 +13,7 @@ ghost use Rattle.raw_view.specs.Meaning.{kind_of_raw, single};
 ghost use Rattle.raw_view.specs.Number.{max_length};
 ghost use Rattle.raw_view.specs.Value.{value_of};
 
+use crate::code_len::CodeLen;
 use bson_model::Regex;
 use raw_tree::{payload_len, put_element, put_head, put_string, put_unset, set_len, total_len};
 use raw_view::{
@@ -186,10 +187,10 @@ impl<'a> Held<'a> {
 
 /// Ends a payload that starts at this place, with code of this length if it is code with a scope: puts the final 0, and sets
 /// the lengths.
-pub(crate) fn put_end(out: &mut Vec<u8>, start: u32, code_len: Option<u32>) -> Result<()>
-    requires { start + header_len code_len ≤ vec_len out.old }
+pub(crate) fn put_end(out: &mut Vec<u8>, start: u32, code_len: &CodeLen) -> Result<()>
+    requires { start + header_len code_len.now ≤ vec_len out.old }
     ensures items { OnOk result
-        (out.new.items ≡ ended_by code_len start (out.old.items ++ 0 ∷ [])) }
+        (out.new.items ≡ ended_by code_len.now start (out.old.items ++ 0 ∷ [])) }
     ensures len { OnOk result (vec_len out.new ≡ vec_len out.old + 1) }
     ensures fits { OnOk result (vec_len out.new ≤ max_length) }
     ensures err { IfErr result (FailsFor (vec_len out.old + 1)) }
@@ -197,7 +198,7 @@ pub(crate) fn put_end(out: &mut Vec<u8>, start: u32, code_len: Option<u32>) -> R
     make_room(out, 1)?;
     out.push_reserved(0);
     let start = start as usize;
-    if let Some(len) = code_len {
+    if let Some(len) = code_len.get() {
         set_len(out, start + 9 + len as usize);
     }
     set_len(out, start);

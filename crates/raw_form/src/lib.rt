@@ -3,6 +3,7 @@
 
 mod barrier;
 mod canonical;
+mod code_len;
 mod faults;
 mod flatten;
 mod held;

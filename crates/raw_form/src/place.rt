@@ -26,6 +26,13 @@ pub struct PathStep<'a> {
 }
 
 /// A place in a document: an element, a stop, or the document as a whole.
+/// ```
+/// let document = RawDocument::from_bytes(b"\x13\0\0\0\x10a\0\x01\0\0\0\x10a\0\x02\0\0\0\0")?;
+/// let breach = validate_within(alloc, document, Limits { bytes: 1000, depth: 10 })?;
+/// let place = breach.map(|breach| breach.place);
+/// let Some(Place { path, offset: 11 }) = place else { unreachable!() };
+/// assert_eq!(rt; path.as_slice(), [PathStep { number: 1, key: Some("a") }].as_slice());
+/// ```
 #[derive(Debug, PartialEq, Eq, Drop)]
 pub struct Place<'a> {
     /// for each level, from the outermost on, the element that holds the next one, and at last the element or the stop

@@ -28,7 +28,7 @@ pub(crate) fn rewrite(alloc: Global, document: RawDocument<'_>) -> Result<Vec<u8
     let mut level = Rewritten::new(alloc, whole, 0, &mut listed)?;
     'levels: loop {
         let Some(member) = level.next() else {
-            put_end(&mut out, level.start, level.code_len)?;
+            put_end(&mut out, level.start, &level.code_len)?;
             let Some(outer) = waiting.pop() else {
                 return Ok(out);
             };

@@ -14,6 +14,7 @@ ghost use Rattle.raw_view.specs.Errors.{IsOutOfMemory};
 ghost use Rattle.raw_view.specs.Frame.{Done, Frame, IsWalk};
 ghost use Rattle.raw_view.specs.Number.{max_length};
 
+use crate::code_len::CodeLen;
 use crate::held::Held;
 use crate::last::{LastPlaces, next_element, places_of};
 use itoa::Buffer;
@@ -42,7 +43,7 @@ pub(crate) struct Rewritten<'a> {
     /// where the payload of its value starts in the output
     pub(crate) start: u32,
     /// the length of the code, if it is a code's scope
-    pub(crate) code_len: Option<u32>,
+    pub(crate) code_len: CodeLen,
 }
 
 /// An element that stays, and in an array its new number.
@@ -87,7 +88,7 @@ fn level<'a>(
     document: RawDocument<'a>,
     keys: Keys<'a>,
     start: u32,
-    code_len: Option<u32>,
+    code_len: CodeLen,
 ) -> Rewritten<'a>
     ensures elements { result.elements ≡ Some (drop 4 (bytes_of document.entry)) }
     ensures keys { result.keys ≡ keys.entry }
@@ -122,12 +123,13 @@ impl<'a> Rewritten<'a> {
         match held {
             Held::Document(document) => {
                 let keys = keys_of(alloc, document, listed)?;
-                Ok(level(document, keys, start, None))
+                Ok(level(document, keys, start, CodeLen::none()))
             }
-            Held::Array(document) => Ok(level(document, Keys::Numbers(0), start, None)),
+            Held::Array(document) => Ok(level(document, Keys::Numbers(0), start, CodeLen::none())),
             Held::Code(code, document) => {
                 let keys = keys_of(alloc, document, listed)?;
-                Ok(level(document, keys, start, Some(code.len() as u32)))
+                let code_len = CodeLen::of(code.len() as u32);
+                Ok(level(document, keys, start, code_len))
             }
         }
     }

@@ -29,6 +29,10 @@ pub struct Token {
 }
 
 /// What ends a flattening, and where. The key borrows from the document.
+/// ```
+/// let halt = flatten_within(RawDocument::from_bytes(b"\x09\0\0\0\x08a\0\x02\0")?, Limits { bytes: 1000, depth: 10 }, &mut [], &mut [0; 4]);
+/// assert!(rt; matches!(halt, Err(Halt { key: Some("a"), offset: 4, path_len: 1, .. })));
+/// ```
 #[derive(Debug, Drop)]
 pub struct Halt<'a> {
     /// what it is

@@ -16,6 +16,11 @@ use std::alloc::Global;
 use std::mem;
 
 /// The first breach of a document, and where it is. The path borrows from the document.
+/// ```
+/// let document = RawDocument::from_bytes(b"\x13\0\0\0\x10a\0\x01\0\0\0\x10a\0\x02\0\0\0\0")?;
+/// let breach = validate_within(alloc, document, Limits { bytes: 1000, depth: 10 })?;
+/// assert!(rt; matches!(breach, Some(PlacedBreach { cause: Cause::RepeatedKey, .. })));
+/// ```
 #[derive(Debug, PartialEq, Eq, Drop)]
 pub struct PlacedBreach<'a> {
     /// why it is one
@@ -36,7 +41,7 @@ pub enum ValidateError<'a> {
     TooManyBytes,
     /// A level is deeper than allowed: the one that the element at this place holds, or the document as a whole.
     TooDeep(Place<'a>),
-    /// There was not enough memory.
+    /// Memory ran out.
     OutOfMemory,
 }
 
@@ -130,7 +135,7 @@ pub(crate) fn judge_to_depth<'a>(
 /// ```
 /// let document = RawDocument::from_bytes(b"\x13\0\0\0\x10a\0\x01\0\0\0\x10a\0\x02\0\0\0\0")?;
 /// let limits = Limits { bytes: 1000, depth: 10 };
-/// let Some(breach) = validate_within(alloc, document, limits)? else { return Ok(()) };
+/// let Some(breach) = validate_within(alloc, document, limits)? else { unreachable!() };
 /// assert_eq!(rt; (breach.cause, breach.place.offset), (Cause::RepeatedKey, 11));
 /// ```
 pub fn validate_within<'a>(

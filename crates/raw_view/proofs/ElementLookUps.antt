@@ -15,16 +15,19 @@ use Rattle.raw_view.proofs.UniqueItems.{no_such_frame}
 
 -- at the frame that is looked for
 
-pub element_with_key : (b key : List ℕ) (passed : List Frame) (old new : Option (List ℕ)) (e : RawElement) → HasRead (drop 4 b) passed old → HasNoKey key passed → StepsElement old (Some (Ok e)) new → (frame_of e).key ≡ key → FindsElement b key (found (frame_of e))
+pub element_with_key : (b key : List ℕ) (passed : List Frame) (old new : Option (List ℕ)) (e : RawElement) → HasRead (drop 4 b) passed old → HasNoKey key passed
+    → StepsElement old (Some (Ok e)) new → (frame_of e).key ≡ key → FindsElement b key (found (frame_of e))
 element_with_key b key passed None new e read none st k = absurd read
 element_with_key b key passed (Some s) new e read none st k = (passed, s, st.0, read, none, st.1, k)
 
-pub element_behind : (b : List ℕ) (number : ℕ) (passed : List Frame) (old new : Option (List ℕ)) (e : RawElement) → HasRead (drop 4 b) passed old → length passed ≡ number → StepsElement old (Some (Ok e)) new → FindsElementAt b number (found (frame_of e))
+pub element_behind : (b : List ℕ) (number : ℕ) (passed : List Frame) (old new : Option (List ℕ)) (e : RawElement) → HasRead (drop 4 b) passed old
+    → length passed ≡ number → StepsElement old (Some (Ok e)) new → FindsElementAt b number (found (frame_of e))
 element_behind b number passed None new e read n st = absurd read
 element_behind b number passed (Some s) new e read n st = (passed, s, st.0, read, n, st.1)
 
 -- at the stop
-pub stopped_walk : (b : List ℕ) (passed : List Frame) (old new : Option (List ℕ)) (e : BorrowedError) → HasRead (drop 4 b) passed old → StepsFront old (Some (Err e)) new → (end : End) × IsWalk (drop 4 b) passed end × TellsEnd (Some e) end
+pub stopped_walk : (b : List ℕ) (passed : List Frame) (old new : Option (List ℕ)) (e : BorrowedError) → HasRead (drop 4 b) passed old
+    → StepsFront old (Some (Err e)) new → (end : End) × IsWalk (drop 4 b) passed end × TellsEnd (Some e) end
 stopped_walk b passed None new e read st = absurd read
 stopped_walk b passed (Some s) new e read st =
     let said = stop_said e.kind (option_copied e.key) s st.0 in
@@ -33,7 +36,8 @@ stopped_walk b passed (Some s) new e read st =
 
 -- by key, one element is found
 
-same_element : (s key : List ℕ) (fs gs : List Frame) (r q : List ℕ) (f g : Frame) (t u : List ℕ) → LeadsTo s fs r → LeadsTo s gs q → HasNoKey key fs → HasNoKey key gs → IsFrame r f t → IsFrame q g u → f.key ≡ key → g.key ≡ key → f ≡ g
+same_element : (s key : List ℕ) (fs gs : List Frame) (r q : List ℕ) (f g : Frame) (t u : List ℕ) → LeadsTo s fs r → LeadsTo s gs q → HasNoKey key fs
+    → HasNoKey key gs → IsFrame r f t → IsFrame q g u → f.key ≡ key → g.key ≡ key → f ≡ g
 same_element s key [] [] r q f g t u x y m n a b h k = (one_frame s f g t u (rw x a) (rw y b)).0
 same_element s key [] (e ∷ gs) r q f g t u x y m n a b h k = absurd (n.0 (ap (λ (z : Frame). z.key) (one_frame s e f y.0 t y.1 (rw x a)).0 ∙ h))
 same_element s key (e ∷ fs) [] r q f g t u x y m n a b h k = absurd (m.0 (ap (λ (z : Frame). z.key) (one_frame s e g x.0 u x.1 (rw y b)).0 ∙ k))

@@ -66,7 +66,8 @@ tag_of-same a b e =
     cc
 
 -- where no payload of the kind is behind the key's 0, no frame is at the front
-pub no_frame : (s : List ℕ) (tag : ℕ) (k z : List ℕ) (kind : ElementType) → s ≡ tag ∷ (k ++ 0 ∷ z) → NulFree k → tag ≡ tag_of kind → ((p r : List ℕ) → z ≡ p ++ r → HasShape kind p r → ⊥) → HasNoFrame s
+pub no_frame : (s : List ℕ) (tag : ℕ) (k z : List ℕ) (kind : ElementType) → s ≡ tag ∷ (k ++ 0 ∷ z) → NulFree k → tag ≡ tag_of kind
+    → ((p r : List ℕ) → z ≡ p ++ r → HasShape kind p r → ⊥) → HasNoFrame s
 no_frame s tag k z kind e h t none f r b =
     let both : tag ∷ (k ++ 0 ∷ z) ≡ tag_of f.kind ∷ (f.key ++ 0 ∷ (f.payload ++ r)) = sym e ∙ b.spelled in
     let tags : tag ≡ tag_of f.kind = cc in
@@ -102,7 +103,9 @@ pub tag_stop : (s : List ℕ) (tag : ℕ) (key behind : List ℕ) → s ≡ tag 
 tag_stop s tag key behind e h u none = (record { tag = tag; behind = behind; spelled = e; nul_free = h }, u, no_kind s tag _ e none, λ bad. none kind.RegularExpression bad.0)
 
 -- a payload that isn't there
-pub payload_stop : (s : List ℕ) (tag : ℕ) (key behind : List ℕ) (kind : ElementType) (fault : ErrorKind) → s ≡ tag ∷ (key ++ 0 ∷ behind) → NulFree key → IsUtf8 key → tag ≡ tag_of kind → ((p r : List ℕ) → behind ≡ p ++ r → HasShape kind p r → ⊥) → IsPayloadFault (tag_of kind) behind fault → StopsWith fault (Some key) s
+pub payload_stop : (s : List ℕ) (tag : ℕ) (key behind : List ℕ) (kind : ElementType) (fault : ErrorKind) → s ≡ tag ∷ (key ++ 0 ∷ behind) → NulFree key
+    → IsUtf8 key → tag ≡ tag_of kind → ((p r : List ℕ) → behind ≡ p ++ r → HasShape kind p r → ⊥) → IsPayloadFault (tag_of kind) behind fault
+    → StopsWith fault (Some key) s
 payload_stop s tag key behind kind (what.MalformedValue reason) e h u t none fault =
     (record { tag = tag; behind = behind; spelled = e; nul_free = h }, u, no_frame s tag key behind kind e h t none, λ bad. fault (sym t ∙ bad.0, bad.1))
 payload_stop s tag key behind kind (what.Utf8EncodingError error) e h u t none fault =

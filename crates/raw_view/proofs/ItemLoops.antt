@@ -46,7 +46,8 @@ pub HasReadItems-bound : (s : List ℕ) (items : List Item) (left : Option (List
 HasReadItems-bound s items left h = omega (arith, length-items h.frames items h.items_are, HasRead-bound s h.frames left h.read)
 
 -- one more frame with a value
-one_more : (s : List ℕ) (items : List Item) (r : List ℕ) (f : Frame) (t : List ℕ) (v : RawValue) (new : Option (List ℕ)) → HasReadItems s items (Some r) → IsFrame r f t → Means f (value v) → new ≡ Some t → HasReadItems s (items ++ entry f.key (value v) ∷ []) new
+one_more : (s : List ℕ) (items : List Item) (r : List ℕ) (f : Frame) (t : List ℕ) (v : RawValue) (new : Option (List ℕ)) → HasReadItems s items (Some r)
+    → IsFrame r f t → Means f (value v) → new ≡ Some t → HasReadItems s (items ++ entry f.key (value v) ∷ []) new
 one_more s items r f t v new h at means left = record {
   frames = h.frames ++ f ∷ [];
   read = subst (HasRead s (h.frames ++ f ∷ [])) (sym left) (LeadsTo-more s h.frames r f t h.read at);
@@ -75,7 +76,8 @@ meaning_told f e (value v) tells = tells
 meaning_told f e (faulty fault) tells = tells
 
 -- one more key and value was read
-pub HasReadItems-pair : (s : List ℕ) (items : List Item) (old new : Option (List ℕ)) (p : Bor (List ℕ) × RawBsonRef) → HasReadItems s items old → StepsItems TellsItem old (Some (Ok p)) new → HasReadItems s (items ++ entry p.0.now (value (value_of p.1)) ∷ []) new
+pub HasReadItems-pair : (s : List ℕ) (items : List Item) (old new : Option (List ℕ)) (p : Bor (List ℕ) × RawBsonRef) → HasReadItems s items old
+    → StepsItems TellsItem old (Some (Ok p)) new → HasReadItems s (items ++ entry p.0.now (value (value_of p.1)) ∷ []) new
 HasReadItems-pair s items None new p h st = absurd h.read
 HasReadItems-pair s items (Some r) new p h st =
     elim st [
@@ -86,7 +88,8 @@ HasReadItems-pair s items (Some r) new p h st =
     ]
 
 -- one more value of an array was read, under some key
-pub HasReadItems-value : (s : List ℕ) (items : List Item) (old new : Option (List ℕ)) (v : RawBsonRef) → HasReadItems s items old → StepsItems TellsValue old (Some (Ok v)) new → (key : List ℕ) × HasReadItems s (items ++ entry key (value (value_of v)) ∷ []) new
+pub HasReadItems-value : (s : List ℕ) (items : List Item) (old new : Option (List ℕ)) (v : RawBsonRef) → HasReadItems s items old
+    → StepsItems TellsValue old (Some (Ok v)) new → (key : List ℕ) × HasReadItems s (items ++ entry key (value (value_of v)) ∷ []) new
 HasReadItems-value s items None new v h st = absurd h.read
 HasReadItems-value s items (Some r) new v h st =
     elim st [
@@ -101,16 +104,19 @@ module _ {X : Type 0} (Tells : Result X Error → Item → Type 0) where
   HasReadItems-end b items (Some r) new h st = (h.frames, Done, LeadsTo-walk (drop 4 b) h.frames r Done h.read st.0, h.items_are)
 
 -- the first fault is met
-first_fault : (b : List ℕ) (items : List Item) (r : List ℕ) (f : Frame) (t : List ℕ) (e : Error) (m : Meaning) → HasReadItems (drop 4 b) items (Some r) → IsFrame r f t → Means f m → TellsMeaning (Err e) m → (fault : KeyedFault) × HasFirstFault b fault × Says e fault
+first_fault : (b : List ℕ) (items : List Item) (r : List ℕ) (f : Frame) (t : List ℕ) (e : Error) (m : Meaning) → HasReadItems (drop 4 b) items (Some r)
+    → IsFrame r f t → Means f m → TellsMeaning (Err e) m → (fault : KeyedFault) × HasFirstFault b fault × Says e fault
 first_fault b items r f t e m h at means tells =
     let told = told_fault f e m means tells in
     (told.0, (h.frames, r, h.read, have_values h.frames items h.items_are h.values, inr (f, t, at, told.1)), told.2)
 
-first_stop : (b : List ℕ) (items : List Item) (r : List ℕ) (e : Error) (fault : KeyedFault) → HasReadItems (drop 4 b) items (Some r) → IsStop r fault.fault fault.key → Says e fault → (fault : KeyedFault) × HasFirstFault b fault × Says e fault
+first_stop : (b : List ℕ) (items : List Item) (r : List ℕ) (e : Error) (fault : KeyedFault) → HasReadItems (drop 4 b) items (Some r)
+    → IsStop r fault.fault fault.key → Says e fault → (fault : KeyedFault) × HasFirstFault b fault × Says e fault
 first_stop b items r e fault h stop says = (fault, (h.frames, r, h.read, have_values h.frames items h.items_are h.values, inl stop), says)
 
 -- by an error in place of a key and a value
-pub HasReadItems-pair_fault : (b : List ℕ) (items : List Item) (old new : Option (List ℕ)) (e : Error) → HasReadItems (drop 4 b) items old → StepsItems TellsItem old (Some (Err e)) new → (fault : KeyedFault) × HasFirstFault b fault × Says e fault
+pub HasReadItems-pair_fault : (b : List ℕ) (items : List Item) (old new : Option (List ℕ)) (e : Error) → HasReadItems (drop 4 b) items old
+    → StepsItems TellsItem old (Some (Err e)) new → (fault : KeyedFault) × HasFirstFault b fault × Says e fault
 HasReadItems-pair_fault b items None new e h st = absurd h.read
 HasReadItems-pair_fault b items (Some r) new e h st =
     elim st [
@@ -119,7 +125,8 @@ HasReadItems-pair_fault b items (Some r) new e h st =
     ]
 
 -- by an error in place of a value
-pub HasReadItems-value_fault : (b : List ℕ) (items : List Item) (old new : Option (List ℕ)) (e : Error) → HasReadItems (drop 4 b) items old → StepsItems TellsValue old (Some (Err e)) new → (fault : KeyedFault) × HasFirstFault b fault × Says e fault
+pub HasReadItems-value_fault : (b : List ℕ) (items : List Item) (old new : Option (List ℕ)) (e : Error) → HasReadItems (drop 4 b) items old
+    → StepsItems TellsValue old (Some (Err e)) new → (fault : KeyedFault) × HasFirstFault b fault × Says e fault
 HasReadItems-value_fault b items None new e h st = absurd h.read
 HasReadItems-value_fault b items (Some r) new e h st =
     elim st [

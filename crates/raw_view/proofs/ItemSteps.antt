@@ -18,11 +18,13 @@ module _ {X : Type 0} (Tells : Result X Error → Item → Type 0) where
   item_none None new st = (refl, st.1)
   item_none (Some s) new st = st
 
-  pub item_ok : (old new : Option (List ℕ)) (e : RawElement) (out : Result X Error) → StepsElement old (Some (Ok e)) new → (m : Meaning) × Means (frame_of e) m × Tells out (entry (frame_of e).key m) → StepsItems Tells old (Some out) new
+  pub item_ok : (old new : Option (List ℕ)) (e : RawElement) (out : Result X Error) → StepsElement old (Some (Ok e)) new
+      → (m : Meaning) × Means (frame_of e) m × Tells out (entry (frame_of e).key m) → StepsItems Tells old (Some out) new
   item_ok None new e out st h = let bad : ◌≡◌ {A = Option (Result RawElement Error)} (Some (Ok e)) None = st.0 in cc
   item_ok (Some s) new e out st h = inl (frame_of e, st.0, h.0, st.1, h.1, h.2, st.2)
 
-  pub item_stop : ((e : Error) (fault : KeyedFault) → Says e fault → Tells (Err e) (stopped fault)) → (old new : Option (List ℕ)) (e : Error) → StepsElement old (Some (Err e)) new → StepsItems Tells old (Some (Err e)) new
+  pub item_stop : ((e : Error) (fault : KeyedFault) → Says e fault → Tells (Err e) (stopped fault)) → (old new : Option (List ℕ)) (e : Error)
+      → StepsElement old (Some (Err e)) new → StepsItems Tells old (Some (Err e)) new
   item_stop says None new e st = let bad : ◌≡◌ {A = Option (Result RawElement Error)} (Some (Err e)) None = st.0 in cc
   item_stop says (Some s) new e st =
       let fault : KeyedFault = record { fault = st.0; key = st.1 } in

@@ -37,7 +37,8 @@ told_kind what.OutOfMemory key fault e reading h is = absurd h
 pub told_fault : (b : BorrowedError) (fault : KeyedFault) (e : Error) → TellsBorrowed b fault → HasKeyCopy b.kind (option_copied b.key) e → Says e fault
 told_fault b fault e h is = told_kind b.kind fault.key fault.fault e b.reading h.says (subst (λ (x : Option (List ℕ)). HasKeyCopy b.kind x e) h.key_is is)
 
-told : (k : ErrorKind) (key : Option (List ℕ)) (s : List ℕ) (e : Error) → IsReadingKind k → StopsWith k key s → HasKeyCopy k key e → (fault : Fault) × (told : Option (List ℕ)) × IsStop s fault told × TellsFault e fault told
+told : (k : ErrorKind) (key : Option (List ℕ)) (s : List ℕ) (e : Error) → IsReadingKind k → StopsWith k key s → HasKeyCopy k key e
+    → (fault : Fault) × (told : Option (List ℕ)) × IsStop s fault told × TellsFault e fault told
 told (what.MalformedValue r) key s e reading says is = (Malformed, key, says, told_kind (what.MalformedValue r) key Malformed e reading refl is)
 told (what.Utf8EncodingError u) key s e reading says is = (Utf8, key, says, told_kind (what.Utf8EncodingError u) key Utf8 e reading refl is)
 told what.OutOfMemory key s e reading says is = absurd says

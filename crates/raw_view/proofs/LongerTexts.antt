@@ -11,7 +11,8 @@ module _ (bs more end behind : List ℕ) (long : 16 ≤ length bs) (parts : bs �
   whole = parts ∙ (ap (λ (x : List ℕ). take 16 bs ++ x) text ∙ sym (append_assoc (take 16 bs) end (0 ∷ behind)))
 
   longer : take (16 + length end) bs ≡ take 16 bs ++ end
-  longer = ap (λ (x : List ℕ). take (16 + length end) x) whole ∙ take_at (take 16 bs ++ end) (0 ∷ behind) (16 + length end) (length-append (take 16 bs) end ∙ ap (λ (n : ℕ). n + length end) (length-take-le 16 bs long))
+  longer = ap (λ (x : List ℕ). take (16 + length end) x) whole
+      ∙ take_at (take 16 bs ++ end) (0 ∷ behind) (16 + length end) (length-append (take 16 bs) end ∙ ap (λ (n : ℕ). n + length end) (length-take-le 16 bs long))
 
   pub longer_spelled : bs ≡ take (16 + length end) bs ++ 0 ∷ behind
   longer_spelled = whole ∙ ap (λ (x : List ℕ). x ++ 0 ∷ behind) (sym longer)

@@ -19,12 +19,14 @@ abbrev pub Looks : List ℕ → List ℕ → Option Meaning → Type 0
 Looks start key found = (passed : List Frame) × (s : List ℕ) × LeadsTo start passed s × HasNoKey key passed × Finds (HasThisKey key) s found
 
 -- the frame that is found
-pub found_frame : (start key : List ℕ) (passed : List Frame) (old new : Option (List ℕ)) (e : RawElement) → HasRead start passed old → HasNoKey key passed → StepsElement old (Some (Ok e)) new → (frame_of e).key ≡ key → (m : Meaning) → Means (frame_of e) m → Looks start key (Some m)
+pub found_frame : (start key : List ℕ) (passed : List Frame) (old new : Option (List ℕ)) (e : RawElement) → HasRead start passed old → HasNoKey key passed
+    → StepsElement old (Some (Ok e)) new → (frame_of e).key ≡ key → (m : Meaning) → Means (frame_of e) m → Looks start key (Some m)
 found_frame start key passed None new e read none st k m means = absurd read
 found_frame start key passed (Some s) new e read none st k m means = (passed, s, read, none, inl (frame_of e, st.0, m, st.1, k, means, refl))
 
 -- the stop
-pub found_stop : (start key : List ℕ) (passed : List Frame) (old new : Option (List ℕ)) (e : Error) → HasRead start passed old → HasNoKey key passed → StepsElement old (Some (Err e)) new → (found : Option Meaning) × Looks start key found × TellsFound (Err e) found
+pub found_stop : (start key : List ℕ) (passed : List Frame) (old new : Option (List ℕ)) (e : Error) → HasRead start passed old → HasNoKey key passed
+    → StepsElement old (Some (Err e)) new → (found : Option Meaning) × Looks start key found × TellsFound (Err e) found
 found_stop start key passed None new e read none st = absurd read
 found_stop start key passed (Some s) new e read none st = (Some (faulty (record { fault = st.0; key = st.1 })), (passed, s, read, none, inr (Stopped st.0 st.1, st.2, refl)), st.3)
 
@@ -45,12 +47,14 @@ found_fault e (faulty fault) h = h
 -- whether a key is there
 
 -- at a frame with the key
-pub key_present : (b key : List ℕ) (passed : List Frame) (old new : Option (List ℕ)) (e : RawElement) → HasRead (drop 4 b) passed old → StepsElement old (Some (Ok e)) new → (frame_of e).key ≡ key → FindsKey b key present
+pub key_present : (b key : List ℕ) (passed : List Frame) (old new : Option (List ℕ)) (e : RawElement) → HasRead (drop 4 b) passed old
+    → StepsElement old (Some (Ok e)) new → (frame_of e).key ≡ key → FindsKey b key present
 key_present b key passed None new e read st k = absurd read
 key_present b key passed (Some s) new e read st k = (passed, s, frame_of e, st.0, read, st.1, k)
 
 -- at the stop
-pub key_stop : (b key : List ℕ) (passed : List Frame) (old new : Option (List ℕ)) (e : Error) → HasRead (drop 4 b) passed old → HasNoKey key passed → StepsElement old (Some (Err e)) new → (answer : KeyAnswer) × FindsKey b key answer × TellsKey (Err e) answer
+pub key_stop : (b key : List ℕ) (passed : List Frame) (old new : Option (List ℕ)) (e : Error) → HasRead (drop 4 b) passed old → HasNoKey key passed
+    → StepsElement old (Some (Err e)) new → (answer : KeyAnswer) × FindsKey b key answer × TellsKey (Err e) answer
 key_stop b key passed old new e read none st =
     let w = HasRead-stop (drop 4 b) passed old new e read st in
     (absent (Stopped w.0 w.1), (passed, w.2, none), w.3)

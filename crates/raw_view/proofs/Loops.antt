@@ -34,7 +34,8 @@ HasRead-end s fs None new l st = absurd l
 HasRead-end s fs (Some r) new l st = LeadsTo-walk s fs r Done l st.0
 
 -- the walk stops
-pub HasRead-stop : (s : List ℕ) (fs : List Frame) (old new : Option (List ℕ)) (e : Error) → HasRead s fs old → StepsElement old (Some (Err e)) new → (fault : Fault) × (key : Option (List ℕ)) × IsWalk s fs (Stopped fault key) × TellsFault e fault key
+pub HasRead-stop : (s : List ℕ) (fs : List Frame) (old new : Option (List ℕ)) (e : Error) → HasRead s fs old → StepsElement old (Some (Err e)) new
+    → (fault : Fault) × (key : Option (List ℕ)) × IsWalk s fs (Stopped fault key) × TellsFault e fault key
 HasRead-stop s fs None new e l st = absurd l
 HasRead-stop s fs (Some r) new e l st = (st.0, st.1, LeadsTo-walk s fs r (Stopped st.0 st.1) l st.2, st.3)
 

@@ -45,7 +45,8 @@ abbrev HasMeaning : ElementType → List ℕ → List ℕ → Type 0
 HasMeaning kind key p = (m : Meaning) × Means (record { kind = kind; key = key; payload = p }) m
 
 -- a string is a text's or no text's
-text_means : (kind : ElementType) (key p : List ℕ) (leaf : List ℕ → Leaf) → HasText p → ((text : List ℕ) → SpellsText p text → MeansValue kind p (single (leaf text))) → (SpellsNoText p → MeansFault kind key p not_text) → HasMeaning kind key p
+text_means : (kind : ElementType) (key p : List ℕ) (leaf : List ℕ → Leaf) → HasText p
+    → ((text : List ℕ) → SpellsText p text → MeansValue kind p (single (leaf text))) → (SpellsNoText p → MeansFault kind key p not_text) → HasMeaning kind key p
 text_means kind key p leaf t good bad =
     elim (utf8_or_not t.0) [
       | inl u ↦ (value (single (leaf t.0)), good t.0 (t.1, u))

@@ -60,7 +60,9 @@ nul_of_mask bs l some =
     let same : nuls_of bs ≡ mask_l (map (is_byte 0) (chunk 0 16 bs)) = bitmask_splat w8 eqb (chunk 0 16 bs) 16 0 long (omega arith) in
     let set : 0 < mask_l (map (is_byte 0) (chunk 0 16 bs)) = omega (arith, same, some) in
     let counted = ap (λ m. count_trailing_zeros 64 m) same ∙ trailing_mask_l (is_byte 0) 64 (chunk 0 16 bs) (omega (arith, long)) set in
-    let bound : mask_l (map (is_byte 0) (chunk 0 16 bs)) < 2 ^ 16 = subst (λ n. mask_l (map (is_byte 0) (chunk 0 16 bs)) < 2 ^ n) (length-map (chunk 0 16 bs) (is_byte 0) ∙ long) (mask_l-lt (map (is_byte 0) (chunk 0 16 bs))) in
+    let bound : mask_l (map (is_byte 0) (chunk 0 16 bs)) < 2 ^ 16 =
+    subst (λ n. mask_l (map (is_byte 0) (chunk 0 16 bs)) < 2 ^ n) (length-map (chunk 0 16 bs) (is_byte 0) ∙ long)
+    (mask_l-lt (map (is_byte 0) (chunk 0 16 bs))) in
     let near : count_trailing_zeros 64 (nuls_of bs) < 16 =
     subst (λ n. n < 16) (trailing_mask_l (is_byte 0) 16 (chunk 0 16 bs) (omega (arith, long)) set ∙ sym counted) (bit_at-trailing_zeros w16 _ set bound).0 in (
       record {

@@ -67,14 +67,16 @@ pub IsLe32-same : (bs : List ℕ) (z w : ℤ) → IsLe32 bs z → IsLe32 bs w �
 IsLe32-same bs z w a b =
     let below : of_z w32 z < 2 ^ 32 = (Fits-of_z a.fits).fits in
     let under : of_z w32 w < 2 ^ 32 = (Fits-of_z b.fits).fits in
-    let same : of_z w32 z ≡ of_z w32 w = sym (from_le_bytes-to_le_bytes_4 (of_z w32 z) below) ∙ ap (from_le_bytes w32) (sym a.bytes_are ∙ b.bytes_are) ∙ from_le_bytes-to_le_bytes_4 (of_z w32 w) under in
+    let same : of_z w32 z ≡ of_z w32 w = sym (from_le_bytes-to_le_bytes_4 (of_z w32 z) below) ∙ ap (from_le_bytes w32) (sym a.bytes_are ∙ b.bytes_are)
+    ∙ from_le_bytes-to_le_bytes_4 (of_z w32 w) under in
     sym (to_z-of_z w32 z a.fits) ∙ ap (to_z w32) same ∙ to_z-of_z w32 w b.fits
 
 pub IsLe64-same : (bs : List ℕ) (z w : ℤ) → IsLe64 bs z → IsLe64 bs w → z ≡ w
 IsLe64-same bs z w a b =
     let below : of_z w64 z < 2 ^ 64 = (Fits-of_z a.fits).fits in
     let under : of_z w64 w < 2 ^ 64 = (Fits-of_z b.fits).fits in
-    let same : of_z w64 z ≡ of_z w64 w = sym (from_le_bytes-to_le_bytes_8 (of_z w64 z) below) ∙ ap (from_le_bytes w64) (sym a.bytes_are ∙ b.bytes_are) ∙ from_le_bytes-to_le_bytes_8 (of_z w64 w) under in
+    let same : of_z w64 z ≡ of_z w64 w = sym (from_le_bytes-to_le_bytes_8 (of_z w64 z) below) ∙ ap (from_le_bytes w64) (sym a.bytes_are ∙ b.bytes_are)
+    ∙ from_le_bytes-to_le_bytes_8 (of_z w64 w) under in
     sym (to_z-of_z w64 z a.fits) ∙ ap (to_z w64) same ∙ to_z-of_z w64 w b.fits
 
 pub IsLe32-length : (bs : List ℕ) (z : ℤ) → IsLe32 bs z → length bs ≡ 4

@@ -39,7 +39,8 @@ string_found bs n h l z =
     let len : length text ≡ n = length-take-le n (drop 4 bs) (omega (arith, length-drop 4 bs)) in
     let front : take (n + 4) bs ≡ take 4 bs ++ text = ap (λ (x : ℕ). take x bs) four ∙ take_split 4 n bs in
     let head : take 4 bs ≡ le32 (pos (length text + 1)) = rw len h.bytes_are in
-    let ended : take (n + 5) bs ≡ (take 4 bs ++ text) ++ 0 ∷ [] = ap (λ (x : ℕ). take x bs) size ∙ take_more bs (n + 4) 0 within ∙ ap (λ x. take (n + 4) bs ++ x ∷ []) z ∙ ap (λ x. x ++ 0 ∷ []) front in (
+    let ended : take (n + 5) bs ≡ (take 4 bs ++ text) ++ 0 ∷ [] =
+    ap (λ (x : ℕ). take x bs) size ∙ take_more bs (n + 4) 0 within ∙ ap (λ x. take (n + 4) bs ++ x ∷ []) z ∙ ap (λ x. x ++ 0 ∷ []) front in (
       text,
       record {
         fits = omega (arith, len, length_fits (take 4 bs) (n + 1) h);
@@ -193,7 +194,8 @@ document_framed b d =
     let size : length (drop 4 b) ≡ length b - 4 = length-drop 4 b in
     let place : 4 + (length b - 5) ≡ length b - 1 = omega (arith, d.enough) in
     let last : get_or (drop 4 b) (length b - 5) 0 ≡ 0 = get_or-drop 4 b (length b - 5) 0 ∙ ap (λ (i : ℕ). get_or b i 0) place ∙ get_or_from_slice_get b (length b - 1) 0 0 d.ended in
-    let behind : drop 4 b ≡ inside_of b ++ 0 ∷ [] = sym (take_all (length b - 5 + 1) (drop 4 b) (omega (arith, d.enough))) ∙ take_more (drop 4 b) (length b - 5) 0 (omega (arith, d.enough)) ∙ ap (λ x. inside_of b ++ x ∷ []) last in
+    let behind : drop 4 b ≡ inside_of b ++ 0 ∷ [] = sym (take_all (length b - 5 + 1) (drop 4 b) (omega (arith, d.enough)))
+    ∙ take_more (drop 4 b) (length b - 5) 0 (omega (arith, d.enough)) ∙ ap (λ x. inside_of b ++ x ∷ []) last in
     counted_whole b (inside_of b ++ 0 ∷ []) d.header behind
 
 -- timestamps

@@ -68,20 +68,24 @@ none_from s xs (Some q) index u p st l = at_none s q index p.0 p.1 st.0 (omega (
 pub nth_none : (s : List ℕ) (index : ℕ) (u : Option (List ℕ)) → SkipsThenYields StepsFront (Some s) index None u → Arrives s index None
 nth_none s index u h = none_from s h.0 h.1.0 index u (passed_of s h.0 h.1.0 h.1.1) h.1.2 h.2
 
-element_from : (s : List ℕ) (xs : List Step) (t : Option (List ℕ)) (index : ℕ) (e : RawElement) (u : Option (List ℕ)) → Passed s xs t → StepsFront t (Some (Ok e)) u → length xs ≡ index → (m : Meaning) → Means (frame_of e) m → Arrives s index (Some m)
+element_from : (s : List ℕ) (xs : List Step) (t : Option (List ℕ)) (index : ℕ) (e : RawElement) (u : Option (List ℕ)) → Passed s xs t
+    → StepsFront t (Some (Ok e)) u → length xs ≡ index → (m : Meaning) → Means (frame_of e) m → Arrives s index (Some m)
 element_from s xs None index e u p st l m means = let bad : ◌≡◌ {A = Option Step} (Some (Ok e)) None = st.0 in cc
 element_from s xs (Some q) index e u p st l m means = (p.0, q, p.1, inl (sym p.2 ∙ l, inl (frame_of e, st.0, m, st.1, tt, means, refl)))
 
 -- the element of that number
-pub nth_element : (s : List ℕ) (index : ℕ) (e : RawElement) (u : Option (List ℕ)) → SkipsThenYields StepsFront (Some s) index (Some (Ok e)) u → (m : Meaning) → Means (frame_of e) m → Arrives s index (Some m)
+pub nth_element : (s : List ℕ) (index : ℕ) (e : RawElement) (u : Option (List ℕ)) → SkipsThenYields StepsFront (Some s) index (Some (Ok e)) u → (m : Meaning)
+    → Means (frame_of e) m → Arrives s index (Some m)
 nth_element s index e u h m means = element_from s h.0 h.1.0 index e u (passed_of s h.0 h.1.0 h.1.1) h.1.2 h.2 m means
 
-stop_from : (s : List ℕ) (xs : List Step) (t : Option (List ℕ)) (index : ℕ) (b : BorrowedError) (u : Option (List ℕ)) → Passed s xs t → StepsFront t (Some (Err b)) u → length xs ≡ index → (fault : KeyedFault) × TellsBorrowed b fault × Arrives s index (Some (faulty fault))
+stop_from : (s : List ℕ) (xs : List Step) (t : Option (List ℕ)) (index : ℕ) (b : BorrowedError) (u : Option (List ℕ)) → Passed s xs t
+    → StepsFront t (Some (Err b)) u → length xs ≡ index → (fault : KeyedFault) × TellsBorrowed b fault × Arrives s index (Some (faulty fault))
 stop_from s xs None index b u p st l = let bad : ◌≡◌ {A = Option Step} (Some (Err b)) None = st.0 in cc
 stop_from s xs (Some q) index b u p st l =
     let said = stop_said b.kind (option_copied b.key) q st.0 in
     (record { fault = said.0; key = option_copied b.key }, record { says = said.1; key_is = refl }, (p.0, q, p.1, inl (sym p.2 ∙ l, inr (Stopped said.0 (option_copied b.key), said.2, refl))))
 
 -- the stop, if it has that number
-pub nth_stop : (s : List ℕ) (index : ℕ) (b : BorrowedError) (u : Option (List ℕ)) → SkipsThenYields StepsFront (Some s) index (Some (Err b)) u → (fault : KeyedFault) × TellsBorrowed b fault × Arrives s index (Some (faulty fault))
+pub nth_stop : (s : List ℕ) (index : ℕ) (b : BorrowedError) (u : Option (List ℕ)) → SkipsThenYields StepsFront (Some s) index (Some (Err b)) u
+    → (fault : KeyedFault) × TellsBorrowed b fault × Arrives s index (Some (faulty fault))
 nth_stop s index b u h = stop_from s h.0 h.1.0 index b u (passed_of s h.0 h.1.0 h.1.1) h.1.2 h.2

@@ -39,9 +39,11 @@ pattern_fault_no_regex bs what.OutOfMemory h p r e x = h
 pub options_of : (bs text behind p r : List ℕ) → bs ≡ text ++ 0 ∷ behind → NulFree text → bs ≡ p ++ r → (x : (pattern options : List ℕ) × IsRegex p pattern options) → behind ≡ x.1 ++ 0 ∷ r
 options_of bs text behind p r spelled nul_free e x = (cut text x.0 behind (x.1 ++ 0 ∷ r) nul_free x.2.pattern_nul_free (sym spelled ∙ regex_front bs p r x.0 x.1 e x.2)).1
 
-pub options_fault_no_regex : (bs text behind : List ℕ) (fault : ErrorKind) → bs ≡ text ++ 0 ∷ behind → NulFree text → IsTextFault behind fault → (p r : List ℕ) → bs ≡ p ++ r → (pattern options : List ℕ) × IsRegex p pattern options → ⊥
+pub options_fault_no_regex : (bs text behind : List ℕ) (fault : ErrorKind) → bs ≡ text ++ 0 ∷ behind → NulFree text → IsTextFault behind fault → (p r : List ℕ)
+    → bs ≡ p ++ r → (pattern options : List ℕ) × IsRegex p pattern options → ⊥
 options_fault_no_regex bs text behind (what.MalformedValue reason) spelled nul_free h p r e x = no_nul_in behind x.1 r (options_of bs text behind p r spelled nul_free e x) h
-options_fault_no_regex bs text behind (what.Utf8EncodingError error) spelled nul_free h p r e x = good_text behind x.1 r (options_of bs text behind p r spelled nul_free e x) x.2.options_nul_free x.2.options_text h
+options_fault_no_regex bs text behind (what.Utf8EncodingError error) spelled nul_free h p r e x =
+    good_text behind x.1 r (options_of bs text behind p r spelled nul_free e x) x.2.options_nul_free x.2.options_text h
 options_fault_no_regex bs text behind what.OutOfMemory spelled nul_free h p r e x = h
 
 -- the kind of the fault
@@ -60,13 +62,15 @@ no_bad_options bs text behind e nul_free u h bad =
       | inr b ↦ let same = (cut text b.0 behind b.1 nul_free b.3 (sym e ∙ b.2)).1 in no_nul_in behind b.5.0 b.5.1 (same ∙ b.5.2) h
     ]
 
-pub options_fault : (bs text behind : List ℕ) (fault : ErrorKind) → bs ≡ text ++ 0 ∷ behind → NulFree text → IsUtf8 text → IsTextFault behind fault → IsPayloadFault (tag_of kind.RegularExpression) bs fault
+pub options_fault : (bs text behind : List ℕ) (fault : ErrorKind) → bs ≡ text ++ 0 ∷ behind → NulFree text → IsUtf8 text → IsTextFault behind fault
+    → IsPayloadFault (tag_of kind.RegularExpression) bs fault
 options_fault bs text behind (what.MalformedValue reason) e nul_free u h = λ bad. no_bad_options bs text behind e nul_free u h bad.1
 options_fault bs text behind (what.Utf8EncodingError error) e nul_free u h = (refl, inr (text, behind, e, nul_free, u, h))
 options_fault bs text behind what.OutOfMemory e nul_free u h = h
 
 -- two texts, each with its 0, are a regular expression
-pub regex_found : (bs x w y v : List ℕ) → bs ≡ x ++ 0 ∷ w → w ≡ y ++ 0 ∷ v → NulFree x → IsUtf8 x → NulFree y → IsUtf8 y → (pattern options : List ℕ) × IsRegex (take (length bs - length v) bs) pattern options
+pub regex_found : (bs x w y v : List ℕ) → bs ≡ x ++ 0 ∷ w → w ≡ y ++ 0 ∷ v → NulFree x → IsUtf8 x → NulFree y → IsUtf8 y
+    → (pattern options : List ℕ) × IsRegex (take (length bs - length v) bs) pattern options
 regex_found bs x w y v e d h u k t =
     let whole : bs ≡ (x ++ 0 ∷ (y ++ 0 ∷ [])) ++ v = e ∙ ap (λ z. x ++ 0 ∷ z) (d ∙ sym (append_assoc y (0 ∷ []) v)) ∙ sym (append_assoc x (0 ∷ (y ++ 0 ∷ [])) v) in
     let size : length (x ++ 0 ∷ (y ++ 0 ∷ [])) ≡ length bs - length v = omega (arith, ap length whole, length-append (x ++ 0 ∷ (y ++ 0 ∷ [])) v) in

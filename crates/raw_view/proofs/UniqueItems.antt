@@ -49,7 +49,8 @@ not_passed s key found f r (inl x) b other = other (ap (λ (g : Frame). g.key) (
 not_passed s key found f r (inr x) b other = no_frame_at_end s x.0 x.1 f r b
 
 -- two look-ups from s find one thing
-one_found : (s key : List ℕ) (fs gs : List Frame) (r q : List ℕ) (a c : Option Meaning) → LeadsTo s fs r → LeadsTo s gs q → HasNoKey key fs → HasNoKey key gs → Finds (HasThisKey key) r a → Finds (HasThisKey key) q c → a ≡ c
+one_found : (s key : List ℕ) (fs gs : List Frame) (r q : List ℕ) (a c : Option Meaning) → LeadsTo s fs r → LeadsTo s gs q → HasNoKey key fs → HasNoKey key gs
+    → Finds (HasThisKey key) r a → Finds (HasThisKey key) q c → a ≡ c
 one_found s key [] [] r q a c x y m n h k = found_here (HasThisKey key) s a c (rw x h) (rw y k)
 one_found s key [] (g ∷ gs) r q a c x y m n h k = absurd (not_passed s key a g y.0 (rw x h) y.1 n.0)
 one_found s key (f ∷ fs) [] r q a c x y m n h k = absurd (not_passed s key c f x.0 (rw y k) x.1 m.0)
@@ -103,7 +104,8 @@ within s count index found (inl x) = omega (arith, x.0)
 within s count index found (inr x) = omega (arith, x.0)
 
 -- two look-ups from s, behind so many frames, find one thing
-one_found_at : (s : List ℕ) (n index : ℕ) (fs gs : List Frame) (r q : List ℕ) (a c : Option Meaning) → LeadsTo s fs r → LeadsTo s gs q → FindsAt r (n + length fs) index a → FindsAt q (n + length gs) index c → a ≡ c
+one_found_at : (s : List ℕ) (n index : ℕ) (fs gs : List Frame) (r q : List ℕ) (a c : Option Meaning) → LeadsTo s fs r → LeadsTo s gs q
+    → FindsAt r (n + length fs) index a → FindsAt q (n + length gs) index c → a ≡ c
 one_found_at s n index [] [] r q a c x y h k = found_at_here s (n + 0) index a c (rw x h) (rw y k)
 one_found_at s n index [] (g ∷ gs) r q a c x y h k =
     let here : FindsAt s (n + 0) index a = rw x h in

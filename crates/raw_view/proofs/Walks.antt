@@ -50,7 +50,8 @@ last_is_final tag behind h last =
     cc
 
 -- a key and no frame: a stop, whose fault is one of text where a text of a regular expression is bad
-key_and_no_frame : (s : List ℕ) (tag : ℕ) (key behind : List ℕ) → s ≡ tag ∷ (key ++ 0 ∷ behind) → NulFree key → IsUtf8 key → HasNoFrame s → (fault : Fault) × (key : Option (List ℕ)) × IsStop s fault key
+key_and_no_frame : (s : List ℕ) (tag : ℕ) (key behind : List ℕ) → s ≡ tag ∷ (key ++ 0 ∷ behind) → NulFree key → IsUtf8 key → HasNoFrame s
+    → (fault : Fault) × (key : Option (List ℕ)) × IsStop s fault key
 key_and_no_frame s tag key behind e h u none =
     let k : HasKey s key = record { tag = tag; behind = behind; spelled = e; nul_free = h } in
     elim (both_or_not (cases_eq tag (tag_of kind.RegularExpression)) (bad_regex_or_not behind)) [

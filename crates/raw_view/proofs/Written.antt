@@ -53,7 +53,9 @@ AreBytes-leaf (object_id bytes) h = h.1
 AreBytes-leaf (boolean false) h = AreBytes-nul
 AreBytes-leaf (boolean true) h = AreBytes-cons 1 [] (omega arith) AreBytes-nil
 AreBytes-leaf (date_time millis) h = AreBytes-number 8 0 _
-AreBytes-leaf (regular_expression pattern options) h = AreBytes-append pattern (0 ∷ (options ++ 0 ∷ [])) (AreBytes-text pattern h.0) (AreBytes-cons 0 (options ++ 0 ∷ []) (omega arith) (AreBytes-ended options h.1))
+AreBytes-leaf (regular_expression pattern options) h =
+    AreBytes-append pattern (0 ∷ (options ++ 0 ∷ [])) (AreBytes-text pattern h.0)
+    (AreBytes-cons 0 (options ++ 0 ∷ []) (omega arith) (AreBytes-ended options h.1))
 AreBytes-leaf (db_pointer namespace id) h = AreBytes-append (string_payload namespace) id (AreBytes-string namespace h.0) h.1.1
 AreBytes-leaf (javascript_code code) h = AreBytes-string code h
 AreBytes-leaf (symbol text) h = AreBytes-string text h
@@ -170,11 +172,14 @@ not_old : (subtype : BinarySubtype) → IsProperSubtype subtype → subtype ≢ 
 not_old subtype proper other e = other (sym proper ∙ ap subtype_of e)
 
 -- a binary
-new_binary_means : (subtype : BinarySubtype) (bytes : List ℕ) → IsProperSubtype subtype → subtype ≢ BinaryOld → length (plain_binary_payload (subtype_byte subtype) bytes) ≤ max_length → MeansValue kind.Binary (plain_binary_payload (subtype_byte subtype) bytes) (single (binary subtype bytes))
+new_binary_means : (subtype : BinarySubtype) (bytes : List ℕ) → IsProperSubtype subtype → subtype ≢ BinaryOld
+    → length (plain_binary_payload (subtype_byte subtype) bytes) ≤ max_length
+    → MeansValue kind.Binary (plain_binary_payload (subtype_byte subtype) bytes) (single (binary subtype bytes))
 new_binary_means subtype bytes proper other l =
     (subtype_byte subtype, bytes, plain_is (subtype_byte subtype) bytes l, inl (not_old subtype proper other, ap (λ s. single (binary s bytes)) (sym proper)))
 
-binary_means : (subtype : BinarySubtype) (bytes : List ℕ) → IsProperSubtype subtype → length (binary_payload subtype bytes) ≤ max_length → MeansValue kind.Binary (binary_payload subtype bytes) (single (binary subtype bytes))
+binary_means : (subtype : BinarySubtype) (bytes : List ℕ) → IsProperSubtype subtype → length (binary_payload subtype bytes) ≤ max_length
+    → MeansValue kind.Binary (binary_payload subtype bytes) (single (binary subtype bytes))
 binary_means BinaryOld bytes proper l = (2, inner_payload bytes, plain_is 2 (inner_payload bytes) l, inr (refl, bytes, record { fits = omega arith; spelled = refl }, refl))
 binary_means subtype bytes proper l = new_binary_means subtype bytes proper (λ e. cc) l
 
@@ -200,5 +205,6 @@ leaf_means max_key h n s b = refl
 leaf_means min_key h n s b = refl
 
 -- a code with scope
-pub scoped_means : (code scope : List ℕ) → IsUtf8 code → IsEnvelope scope → 4 + length (string_payload code ++ scope) ≤ max_length → MeansValue kind.JavaScriptCodeWithScope (scoped_payload code scope) (scoped code scope)
+pub scoped_means : (code scope : List ℕ) → IsUtf8 code → IsEnvelope scope → 4 + length (string_payload code ++ scope) ≤ max_length
+    → MeansValue kind.JavaScriptCodeWithScope (scoped_payload code scope) (scoped code scope)
 scoped_means code scope u env l = (code, scope, record { fits = omega arith; spelled = refl }, u, env, refl)

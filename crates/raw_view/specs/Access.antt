@@ -63,7 +63,8 @@ module _ {T : Type 0} where
 -- why a getter for this kind has no value for what a look-up returns
 abbrev pub IsTypedFault : ElementType → Result (Option RawBsonRef) Error → ValueAccessErrorKind → Type 0
 IsTypedFault expected answer access.NotPresent = answer ≡ Ok None
-IsTypedFault expected answer (access.UnexpectedType wanted actual) = (v : RawBsonRef) × (answer ≡ Ok (Some v)) × (kind_of_raw (value_of v) ≢ expected) × (wanted ≡ expected) × (actual ≡ kind_of_raw (value_of v))
+IsTypedFault expected answer (access.UnexpectedType wanted actual) =
+    (v : RawBsonRef) × (answer ≡ Ok (Some v)) × (kind_of_raw (value_of v) ≢ expected) × (wanted ≡ expected) × (actual ≡ kind_of_raw (value_of v))
 IsTypedFault expected answer (access.InvalidBson inner) = (answer ≡ Err inner) × (inner.kind ≢ what.OutOfMemory)
 IsTypedFault expected answer access.OutOfMemory = (e : Error) × (answer ≡ Err e) × (e.kind ≡ what.OutOfMemory)
 
@@ -76,7 +77,8 @@ module _ {T : Type 0} where
   -- the same with the key, or out of memory for it
   abbrev pub Accesses : (T → RawValue) → ElementType → List ℕ → Result (Option RawBsonRef) Error → Result T ValueAccessError → Type 0
   Accesses value_as expected key answer (Ok x) = (v : RawBsonRef) × (answer ≡ Ok (Some v)) × (value_of v ≡ value_as x)
-  Accesses value_as expected key answer (Err e) = (kind : ValueAccessErrorKind) × IsTypedFault expected answer kind × ((e.kind ≡ kind) ⊎ (e.kind ≡ access.OutOfMemory)) × HasKeyAsked e.kind key (key_asked e)
+  Accesses value_as expected key answer (Err e) = (kind : ValueAccessErrorKind) × IsTypedFault expected answer kind
+      × ((e.kind ≡ kind) ⊎ (e.kind ≡ access.OutOfMemory)) × HasKeyAsked e.kind key (key_asked e)
 
   -- What an accessor for this kind shows of the value v: v itself where it is of the kind, else nothing.
   abbrev pub Shows : (T → RawValue) → ElementType → RawValue → Option T → Type 0

@@ -46,7 +46,7 @@ TellsItem (Err e) (entry key (value v)) = ⊥
 TellsItem (Err e) (entry key (faulty fault)) = Says e fault
 TellsItem (Err e) (stopped fault) = Says e fault
 
--- a value, or the fault; the key of the frame is left away
+-- a value, or the fault; the key of the frame is left out
 abbrev pub TellsValue : Result RawBsonRef Error → Item → Type 0
 TellsValue out (entry key m) = TellsMeaning out m
 TellsValue (Ok x) (stopped fault) = ⊥

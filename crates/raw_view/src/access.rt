@@ -27,14 +27,14 @@ pub enum ValueAccessErrorKind {
     },
     /// The look-up found a fault.
     InvalidBson(Error),
-    /// No memory was left.
+    /// Memory ran out.
     OutOfMemory,
 }
 
 /// Why a typed getter has no value, and the key, or the index in decimal, that was asked for.
 /// ```
 /// let document = RawDocument::from_bytes(b"\x0C\0\0\0\x10a\0\x01\0\0\0\0")?;
-/// let Err(error) = document.get_str(alloc, "a") else { return Ok(()) };
+/// let Err(error) = document.get_str(alloc, "a") else { unreachable!() };
 /// assert_eq!(rt; error.key(), "a");
 /// ```
 #[derive(Debug, PartialEq, Eq, Drop)]
@@ -49,7 +49,7 @@ impl ValueAccessError {
     ghost use Rattle.raw_view.specs.Access.{key_asked, HasKeyAsked};
     ghost use Rattle.raw_view.specs.declared.access.ValueAccessErrorKind.TheVariants as access;
 
-    /// The key asked for, or the index in decimal; empty where no memory was left.
+    /// The key asked for, or the index in decimal; empty where memory ran out.
     pub fn key(&self) -> &str
         ensures { result.now ≡ key_asked self.now }
     {

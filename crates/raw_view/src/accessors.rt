@@ -26,6 +26,9 @@ impl<'a> RawBsonRef<'a> {
     }
 
     /// The value of this kind: the text; `None` for every other kind.
+    /// ```
+    /// assert_eq!(rt; RawBsonRef::String("Ada").as_str(), Some("Ada"));
+    /// ```
     pub fn as_str(self) -> Option<&'a str>
         ensures part { result ≡ accessors.as_str self.entry }
         ensures meaning { Shows typed.str_value variants.String (value_of self.entry) result }
@@ -70,6 +73,10 @@ impl<'a> RawBsonRef<'a> {
     }
 
     /// The value of this kind: the number; `None` for every other kind.
+    /// ```
+    /// assert_eq!(rt; RawBsonRef::Int32(7).as_i32(), Some(7));
+    /// assert_eq!(rt; RawBsonRef::Null.as_i32(), None);
+    /// ```
     pub fn as_i32(self) -> Option<i32>
         ensures part { result ≡ accessors.as_i32 self.entry }
         ensures meaning { Shows typed.i32_value variants.Int32 (value_of self.entry) result }

@@ -80,6 +80,12 @@ impl<'a> RawArray<'a> {
     /// The values in order, each fault in its value's place, and then the fault at which the elements stop,
     /// if there is one. Nothing is copied but the key that a fault carries. On n bytes at most
     /// (n - 4) / 2 + 1 items. The bytes alone determine what the items are.
+    /// ```
+    /// let array = RawArray::from_doc(RawDocument::from_bytes(b"\x0C\0\0\0\x10a\0\x01\0\0\0\0")?);
+    /// for value in array.iter(alloc) {
+    ///     assert_eq!(rt; value?, RawBsonRef::Int32(1));
+    /// }
+    /// ```
     pub fn iter(self, alloc: Global) -> RawArrayIter<'a>
         ensures begins { result ≡ Some (drop 4 (array_bytes_of self.entry)) }
         ensures items { (outs : List (Result RawBsonRef Error)) →
@@ -199,6 +205,10 @@ impl<'a> RawArray<'a> {
     }
 
     /// A signed 32-bit number at this place, counted from 0; else why there is none, with the index in decimal.
+    /// ```
+    /// let array = RawArray::from_doc(RawDocument::from_bytes(b"\x0C\0\0\0\x10a\0\x01\0\0\0\0")?);
+    /// assert_eq!(rt; array.get_i32(alloc, 0)?, 1);
+    /// ```
     pub fn get_i32(self, alloc: Global, index: usize) -> ValueAccessResult<i32>
         ensures { GetsAt typed.i32_value variants.Int32 (array_bytes_of self.entry) index result }
     {

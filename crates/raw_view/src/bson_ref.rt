@@ -140,6 +140,11 @@ pub struct RawRegexRef<'a> {
 }
 
 /// JavaScript code with a scope. BSON 1.1, `code_w_s`.
+/// ```
+/// let scope = RawDocument::from_bytes(b"\x05\0\0\0\0")?;
+/// let value = RawBsonRef::JavaScriptCodeWithScope(RawJavaScriptCodeWithScopeRef { code: "f()", scope });
+/// assert_eq!(rt; value.element_type(), ElementType::JavaScriptCodeWithScope);
+/// ```
 #[derive(Clone, Copy, Debug, PartialEq, Eq)]
 pub struct RawJavaScriptCodeWithScopeRef<'a> {
     /// the code

@@ -210,6 +210,10 @@ impl<'a> RawDocument<'a> {
     }
 
     /// The 64 bits of a double under this key; else why there is none, with the key.
+    /// ```
+    /// let document = RawDocument::from_bytes(b"\x10\0\0\0\x01a\0\0\0\0\0\0\0\xE0\x3F\0")?;
+    /// assert_eq!(rt; document.get_f64(alloc, "a")?.to_f64(), 0.5);
+    /// ```
     pub fn get_f64(self, alloc: Global, key: &str) -> ValueAccessResult<DoubleBits>
         ensures { GetsByKey typed.f64_value variants.Double (bytes_of self.entry) key.now result }
     {
@@ -278,6 +282,10 @@ impl<'a> RawDocument<'a> {
     }
 
     /// A time under this key; else why there is none, with the key.
+    /// ```
+    /// let document = RawDocument::from_bytes(b"\x10\0\0\0\x09a\0\xE8\x03\0\0\0\0\0\0\0")?;
+    /// assert_eq!(rt; document.get_datetime(alloc, "a")?, DateTime::from_millis(1000));
+    /// ```
     pub fn get_datetime(self, alloc: Global, key: &str) -> ValueAccessResult<DateTime>
         ensures { GetsByKey typed.datetime_value variants.DateTime
             (bytes_of self.entry) key.now result }

@@ -127,14 +127,14 @@ pub enum ErrorKind {
     },
     /// A text isn't UTF-8.
     Utf8EncodingError(Utf8Error),
-    /// No memory was left, for the key that the error should carry or for the result.
+    /// Memory ran out, for the key that the error should carry or for the result.
     OutOfMemory,
 }
 
 /// Why a call failed, and at which key where that is known.
 /// ```
 /// let document = RawDocument::from_bytes(b"\x09\0\0\0\x08a\0\x02\0")?;
-/// let Err(error) = document.get(alloc, "a") else { return Ok(()) };
+/// let Err(error) = document.get(alloc, "a") else { unreachable!() };
 /// assert_eq!(rt; error.key(), Some("a"));
 /// ```
 #[derive(Debug, PartialEq, Eq, Drop)]
@@ -165,7 +165,7 @@ impl Error {
         Error::new(ErrorKind::MalformedValue { reason })
     }
 
-    /// No memory was left; without a key.
+    /// Out of memory; without a key.
     #[cold]
     #[inline(never)]
     pub fn out_of_memory() -> Error

@@ -19,8 +19,8 @@ pub(crate) enum Front<'a> {
     Stop(BorrowedError<'a>),
 }
 
-/// The element at the front of the bytes that are left, and the bytes behind it, where few steps tell them, as of most
-/// elements; `None` says nothing.
+/// The element at the front of the bytes that are left, and the bytes behind it, for most elements in few steps; `None`
+/// says nothing.
 #[inline(always)]
 pub(crate) fn plain_front<'a>(rest: &'a [u8]) -> Option<(RawElement<'a>, &'a [u8])>
     ensures { IfSome result (λ x. IsFrame rest.now (frame_of x.0) x.1.now) }

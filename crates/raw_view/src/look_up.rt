@@ -1,5 +1,5 @@
-//! Elements of a document by key and by number, and how many they are. Nothing is copied, and no memory is taken: the fault
-//! at which the elements stop borrows its key.
+//! Elements of a document by key and by number, and their count. Nothing is copied, and no memory is taken: the fault at
+//! which the elements stop borrows its key.
 #![tactic(auto)]
 
 ghost use Rattle.std.specs.Prelude.{◌≤◌, ◌-◌, ◌/◌, length, IfOk};
@@ -17,7 +17,7 @@ impl<'a> RawDocument<'a> {
     /// alone determine what is found.
     /// ```
     /// let document = RawDocument::from_bytes(b"\x0C\0\0\0\x10a\0\x01\0\0\0\0")?;
-    /// let Ok(Some(element)) = document.get_element("a") else { return Ok(()) };
+    /// let Ok(Some(element)) = document.get_element("a") else { unreachable!() };
     /// assert_eq!(rt; element.element_type(), ElementType::Int32);
     /// ```
     pub fn get_element(self, key: &str) -> Result<Option<RawElement<'a>>, BorrowedError<'a>>
@@ -41,7 +41,7 @@ impl<'a> RawDocument<'a> {
     /// into. The bytes and the number alone determine what is found.
     /// ```
     /// let document = RawDocument::from_bytes(b"\x13\0\0\0\x10a\0\x01\0\0\0\x10b\0\x02\0\0\0\0")?;
-    /// let Ok(Some(element)) = document.element_at(1) else { return Ok(()) };
+    /// let Ok(Some(element)) = document.element_at(1) else { unreachable!() };
     /// assert_eq!(rt; element.key(), "b");
     /// ```
     pub fn element_at(self, number: usize) -> Result<Option<RawElement<'a>>, BorrowedError<'a>>

@@ -1,7 +1,7 @@
 ghost use Rattle.std.specs.Prelude.{◌≡◌, ◌≤◌, length, take};
 ghost use Rattle.raw_view.specs.Number.{IsLe32, IsLe64, IsUnsigned32, IsUnsigned64};
 
-/// The bytes, which are just so many.
+/// The bytes, of which there are exactly so many.
 pub(crate) fn array_of<const N: usize>(bytes: &[u8]) -> [u8; N]
     requires { length bytes.now ≡ N }
     ensures { result ≡ bytes.now }

@@ -23,7 +23,7 @@ fn ascii_text(bytes: &[u8]) -> &str
     unsafe { std::str::from_utf8_unchecked(bytes) }
 }
 
-/// Whether the first so many bytes are under 128, told in one step; or false, where it takes more.
+/// Whether the first so many bytes are under 128, where one step says so; else false.
 #[inline(always)]
 fn begins_ascii(bytes: &[u8], len: usize) -> bool
     ensures { IsTrue result → IsAscii (take len bytes.now) }

@@ -17,7 +17,8 @@ grown c =
 written : (c : goal.After-set_len) → c.set_len.new.out.items ≡ appended_bytes c.args.bytes.now.items (frame_of c.args.element)
 written c =
     let whole = ap (λ (n : ℕ). pos n) (grown c) in
-    rw (c.set_len.ensures.items, c.put_raw_at_end.ensures.items, c.make_room.ensures.same) (written_is_appended c.args.bytes.now.items (frame_of c.args.element) (pos (vec_len c.put_raw_at_end.new.bytes - 0)) c.requires.enough whole)
+    rw (c.set_len.ensures.items, c.put_raw_at_end.ensures.items, c.make_room.ensures.same)
+    (written_is_appended c.args.bytes.now.items (frame_of c.args.element) (pos (vec_len c.put_raw_at_end.new.bytes - 0)) c.requires.enough whole)
 
 has_room : (c : goal.After-set_len) → HasRoom c.args.bytes.now.items (frame_of c.args.element)
 has_room c =

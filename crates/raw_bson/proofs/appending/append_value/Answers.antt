@@ -14,13 +14,16 @@ use Rattle.raw_bson.proofs.appending.append_value.Goals as goal
 grown : (c : goal.After-set_len) → vec_len c.put_at_end.new.bytes - 0 ≡ length c.args.bytes.now.items + (length c.args.key.now + (2 + length (payload_of (value_of c.args.value))))
 grown c =
     let b = c.args.bytes.now.items in
-    let items : c.put_at_end.new.bytes.items ≡ take (length b - 1) b ++ (frame_bytes (value_frame c.args.key.now (value_of c.args.value)) ++ 0 ∷ []) = rw c.make_room.ensures.same at c.put_at_end.ensures.items in
+    let items : c.put_at_end.new.bytes.items ≡ take (length b - 1) b ++ (frame_bytes (value_frame c.args.key.now (value_of c.args.value)) ++ 0 ∷ []) =
+    rw c.make_room.ensures.same at c.put_at_end.ensures.items in
     omega (arith, ap length items, written_len b (value_frame c.args.key.now (value_of c.args.value)) c.requires.enough)
 
 written : (c : goal.After-set_len) → c.set_len.new.out.items ≡ appended_bytes c.args.bytes.now.items (value_frame c.args.key.now (value_of c.args.value))
 written c =
     let whole = ap (λ (n : ℕ). pos n) (grown c) in
-    rw (c.set_len.ensures.items, c.put_at_end.ensures.items, c.make_room.ensures.same) (written_is_appended c.args.bytes.now.items (value_frame c.args.key.now (value_of c.args.value)) (pos (vec_len c.put_at_end.new.bytes - 0)) c.requires.enough whole)
+    rw (c.set_len.ensures.items, c.put_at_end.ensures.items, c.make_room.ensures.same)
+    (written_is_appended c.args.bytes.now.items (value_frame c.args.key.now (value_of c.args.value))
+    (pos (vec_len c.put_at_end.new.bytes - 0)) c.requires.enough whole)
 
 has_room : (c : goal.After-set_len) → HasRoom c.args.bytes.now.items (value_frame c.args.key.now (value_of c.args.value))
 has_room c =

@@ -19,7 +19,9 @@ pub returns-in_default-clause-form : goal.returns-in_default-clause-form
 returns-in_default-clause-form c =
     let b = bytes_of c.args.document in
     let few : length b ≤ c.args.limits.bytes = omega (arith, ap length c.as_bytes-bytes.ensures.bytes, c.if-bytes-limits.false) in
-    canonical_told c.args.limits b c.in_ok-from_slice.field-0.items c.args.document.envelope few (subst (TellsStart c.args.limits.depth b) c.in_default.is c.in_ok-start.ensures.start) (c.in_ok-from_slice.ensures.items ∙ c.as_bytes-bytes.ensures.bytes)
+    canonical_told c.args.limits b c.in_ok-from_slice.field-0.items c.args.document.envelope few
+    (subst (TellsStart c.args.limits.depth b) c.in_default.is c.in_ok-start.ensures.start)
+    (c.in_ok-from_slice.ensures.items ∙ c.as_bytes-bytes.ensures.bytes)
 
 pub returns-clause-form : goal.returns-clause-form
 returns-clause-form c =

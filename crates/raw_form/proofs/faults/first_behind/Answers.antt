@@ -16,7 +16,8 @@ use Rattle.raw_form.proofs.Lying.{envelope_fits, none_stored, stored_less, store
 use Rattle.raw_form.proofs.faults.first_behind.Goals as goal
 
 -- a barrier at the steps and the offset of a place
-placed : (depth : ℕ) (b : List ℕ) (x : Barrier) (steps : List Step) (offset : ℕ) (place : Place) → steps_of place ≡ steps → place.offset ≡ offset → FirstFaultAt depth b x steps offset → FirstFaultAt depth b x (steps_of place) place.offset
+placed : (depth : ℕ) (b : List ℕ) (x : Barrier) (steps : List Step) (offset : ℕ) (place : Place) → steps_of place ≡ steps → place.offset ≡ offset
+    → FirstFaultAt depth b x steps offset → FirstFaultAt depth b x (steps_of place) place.offset
 placed depth b x steps offset place p o h = subst (λ (u : ℕ). FirstFaultAt depth b x (steps_of place) u) (sym o) (subst (λ (q : List Step). FirstFaultAt depth b x q offset) (sym p) h)
 
 pub unreachable-requires : goal.unreachable-requires
@@ -24,37 +25,46 @@ unreachable-requires c =
     let b = bytes_of c.args.document in
     let most : suc c.in-Some.most_waiting ≡ c.args.depth = search rules in
     let outside : (c.args.start.offset < 4) ⊎ (length b < c.args.start.offset) = search rules in
-    not_outside c.args.start.offset (length b) (start_within c.in-Some.most_waiting b c.args.start.number c.args.start.offset c.args.document.envelope.enough (c.requires c.in-Some.most_waiting most)) outside
+    not_outside c.args.start.offset (length b) (start_within c.in-Some.most_waiting b c.args.start.number c.args.start.offset c.args.document.envelope.enough
+    (c.requires c.in-Some.most_waiting most)) outside
 
 pub levels-init : goal.levels-init
 levels-init c =
     let b = bytes_of c.args.document in
     let most : suc c.in-Some.most_waiting ≡ c.args.depth = search rules in
-    let left : c.in-Some-from_offset.elements ≡ Some (drop c.args.start.offset b) = subst (λ (r : Option Elements). IfSome r (λ elements. elements ≡ Some (drop c.args.start.offset b))) c.in-Some-from_offset.is c.from_offset.ensures.left in
+    let left : c.in-Some-from_offset.elements ≡ Some (drop c.args.start.offset b) =
+    subst (λ (r : Option Elements). IfSome r (λ elements. elements ≡ Some (drop c.args.start.offset b))) c.in-Some-from_offset.is c.from_offset.ensures.left
+    in
     record {
       waits = [];
       are_stored = rw (c.new-waiting.ensures.items) refl;
-      at = at_start c.in-Some.most_waiting c.args.depth b [] c.in-Some-from_offset.elements c.args.start.number c.args.start.offset c.args.document.envelope most refl left (c.requires c.in-Some.most_waiting most);
+      at = at_start c.in-Some.most_waiting c.args.depth b [] c.in-Some-from_offset.elements c.args.start.number c.args.start.offset c.args.document.envelope
+          most refl left (c.requires c.in-Some.most_waiting most);
     }
 
 pub overflow_add-level : goal.overflow_add-level
 overflow_add-level c =
-    let within = at_within c.args.depth (bytes_of c.args.document) c.levels.invariant.waits c.levels.level.elements c.levels.level.number c.levels.level.offset c.levels.level.start c.levels.invariant.at in
+    let within = at_within c.args.depth (bytes_of c.args.document) c.levels.invariant.waits c.levels.level.elements c.levels.level.number c.levels.level.offset
+    c.levels.level.start c.levels.invariant.at in
     let looks = subst (Looks c.levels.level.elements c.look.new.elements) c.in-Whole.is c.look.ensures in
-    let size = at_whole_size c.args.depth (bytes_of c.args.document) c.levels.invariant.waits c.levels.level.elements c.look.new.elements c.levels.level.number c.levels.level.offset c.levels.level.start c.in-Whole.element c.levels.invariant.at looks in
+    let size = at_whole_size c.args.depth (bytes_of c.args.document) c.levels.invariant.waits c.levels.level.elements c.look.new.elements c.levels.level.number
+    c.levels.level.offset c.levels.level.start c.in-Whole.element c.levels.invariant.at looks in
     omega (arith, within.0, size.0, c.ranges.document)
 
 pub levels-smaller-in-Whole : goal.levels-smaller-in-Whole
 levels-smaller-in-Whole c =
     let looks = subst (Looks c.levels.level.elements c.look.new.elements) c.in-Whole.is c.look.ensures in
-    let size = at_whole_size c.args.depth (bytes_of c.args.document) c.levels.invariant.waits c.levels.level.elements c.look.new.elements c.levels.level.number c.levels.level.offset c.levels.level.start c.in-Whole.element c.levels.invariant.at looks in
+    let size = at_whole_size c.args.depth (bytes_of c.args.document) c.levels.invariant.waits c.levels.level.elements c.look.new.elements c.levels.level.number
+    c.levels.level.offset c.levels.level.start c.in-Whole.element c.levels.invariant.at looks in
     omega (arith, size.1, c.behind.ensures)
 
 pub levels-preserved-in-Whole : goal.levels-preserved-in-Whole
 levels-preserved-in-Whole c = record {
   waits = c.levels.invariant.waits;
   are_stored = c.levels.invariant.are_stored;
-  at = at_whole c.args.depth (bytes_of c.args.document) c.levels.invariant.waits c.levels.level.elements c.look.new.elements c.levels.level.number c.levels.level.offset c.levels.level.start c.behind.result c.in-Whole.element c.levels.invariant.at (subst (Looks c.levels.level.elements c.look.new.elements) c.in-Whole.is c.look.ensures) c.behind.ensures;
+  at = at_whole c.args.depth (bytes_of c.args.document) c.levels.invariant.waits c.levels.level.elements c.look.new.elements c.levels.level.number
+      c.levels.level.offset c.levels.level.start c.behind.result c.in-Whole.element c.levels.invariant.at
+      (subst (Looks c.levels.level.elements c.look.new.elements) c.in-Whole.is c.look.ensures) c.behind.ensures;
 }
 
 pub returns-then-len-most_waiting-clause-told : goal.returns-then-len-most_waiting-clause-told
@@ -67,20 +77,30 @@ returns-then-len-most_waiting-clause-told c =
     let looks = subst (Looks c.levels.level.elements c.look.new.elements) c.in-Inside.is c.look.ensures in
     let many : length ws ≡ length c.levels.waiting.items = stored_many b c.levels.waiting.items ws c.levels.invariant.are_stored in
     let full : c.args.depth ≤ suc (length c.levels.waiting.items) = search rules in
-    let bars = at_deep c.args.depth b ws c.levels.level.elements c.look.new.elements c.levels.level.number c.levels.level.offset c.levels.level.start c.in-Inside.element c.in-Inside.inner c.levels.invariant.at looks (omega (arith, full, many)) in
+    let bars = at_deep c.args.depth b ws c.levels.level.elements c.look.new.elements c.levels.level.number c.levels.level.offset c.levels.level.start
+    c.in-Inside.element c.in-Inside.inner c.levels.invariant.at looks (omega (arith, full, many)) in
     let place = c.in_ok-place-in-Inside.place in
-    let steps : steps_of place ≡ map step_at ws ++ record { number = number; key = Some key } ∷ [] = c.in_ok-place-in-Inside.ensures.path ws (rw (c.deref.ensures.value) c.levels.invariant.are_stored) ∙ ap (λ (k : List ℕ). map step_at ws ++ record { number = number; key = Some k } ∷ []) c.key.ensures in
+    let steps : steps_of place ≡ map step_at ws ++ record { number = number; key = Some key } ∷ [] =
+    c.in_ok-place-in-Inside.ensures.path ws (rw (c.deref.ensures.value) c.levels.invariant.are_stored)
+    ∙ ap (λ (k : List ℕ). map step_at ws ++ record { number = number; key = Some k } ∷ []) c.key.ensures in
     (too_deep, refl, placed c.args.depth b too_deep (map step_at ws ++ record { number = number; key = Some key } ∷ []) offset place steps c.in_ok-place-in-Inside.ensures.offset bars)
 
 pub overflow_cast-outer-in-Inside-2 : goal.overflow_cast-outer-in-Inside-2
 overflow_cast-outer-in-Inside-2 c =
-    omega (arith, (at_within c.args.depth (bytes_of c.args.document) c.levels.invariant.waits c.levels.level.elements c.levels.level.number c.levels.level.offset c.levels.level.start c.levels.invariant.at).0, envelope_fits (bytes_of c.args.document) c.args.document.envelope)
+    omega (
+      arith,
+      (at_within c.args.depth (bytes_of c.args.document) c.levels.invariant.waits c.levels.level.elements c.levels.level.number
+          c.levels.level.offset c.levels.level.start c.levels.invariant.at).0,
+      envelope_fits (bytes_of c.args.document) c.args.document.envelope,
+    )
 
 pub levels-smaller-in-Inside : goal.levels-smaller-in-Inside
 levels-smaller-in-Inside c =
     let looks = subst (Looks c.levels.level.elements c.look.new.elements) c.in-Inside.is c.look.ensures in
-    let size = at_inside_size c.args.depth (bytes_of c.args.document) c.levels.invariant.waits c.levels.level.elements c.look.new.elements c.levels.level.number c.levels.level.offset c.levels.level.start c.in-Inside.element c.in-Inside.inner c.levels.invariant.at looks in
-    let fits = at_inside_fits c.args.depth (bytes_of c.args.document) c.levels.invariant.waits c.levels.level.elements c.look.new.elements c.levels.level.number c.levels.level.offset c.levels.level.start c.in-Inside.element c.in-Inside.inner c.levels.invariant.at looks in
+    let size = at_inside_size c.args.depth (bytes_of c.args.document) c.levels.invariant.waits c.levels.level.elements c.look.new.elements c.levels.level.number
+    c.levels.level.offset c.levels.level.start c.in-Inside.element c.in-Inside.inner c.levels.invariant.at looks in
+    let fits = at_inside_fits c.args.depth (bytes_of c.args.document) c.levels.invariant.waits c.levels.level.elements c.look.new.elements c.levels.level.number
+    c.levels.level.offset c.levels.level.start c.in-Inside.element c.in-Inside.inner c.levels.invariant.at looks in
     omega (arith, size.1, fits, c.behind-in-Inside.ensures, c.new-level.ensures.offset, c.new-level.ensures.start, length-drop 4 (bytes_of c.in-Inside.inner), c.in-Inside.inner.envelope.enough)
 
 -- the level that waits is the one that was looked through, behind the element
@@ -99,11 +119,15 @@ levels-preserved-in-Inside c =
     } in
     let many : length ws ≡ length c.levels.waiting.items = stored_many b c.levels.waiting.items ws c.levels.invariant.are_stored in
     let few : suc (length c.levels.waiting.items) < c.args.depth = search rules in
-    let stored = at_stored c.args.depth b ws c.levels.level.elements c.look.new.elements c.levels.level.number c.levels.level.offset c.levels.level.start c.behind-in-Inside.result c.in-Inside.element c.in-Inside.inner c.levels.invariant.at looks c.behind-in-Inside.ensures w refl refl refl in
+    let stored = at_stored c.args.depth b ws c.levels.level.elements c.look.new.elements c.levels.level.number c.levels.level.offset c.levels.level.start
+    c.behind-in-Inside.result c.in-Inside.element c.in-Inside.inner c.levels.invariant.at looks c.behind-in-Inside.ensures w refl refl refl in
     record {
-      waits = ws ++ waiting_then c.args.depth b ws c.levels.level.elements c.look.new.elements c.levels.level.number c.levels.level.offset c.levels.level.start c.behind-in-Inside.result c.in-Inside.element c.in-Inside.inner c.levels.invariant.at looks c.behind-in-Inside.ensures ∷ [];
+      waits = ws ++ waiting_then c.args.depth b ws c.levels.level.elements c.look.new.elements c.levels.level.number c.levels.level.offset c.levels.level.start
+          c.behind-in-Inside.result c.in-Inside.element c.in-Inside.inner c.levels.invariant.at looks c.behind-in-Inside.ensures ∷ [];
       are_stored = rw grown (stored_more b c.levels.waiting.items w ws _ c.levels.invariant.are_stored stored);
-      at = at_inside c.args.depth b ws c.levels.level.elements c.look.new.elements c.levels.level.number c.levels.level.offset c.levels.level.start c.behind-in-Inside.result c.in-Inside.element c.in-Inside.inner c.levels.invariant.at looks c.behind-in-Inside.ensures c.new-level.result.elements c.new-level.result.number c.new-level.result.offset c.new-level.result.start (omega (arith, few, many)) opens;
+      at = at_inside c.args.depth b ws c.levels.level.elements c.look.new.elements c.levels.level.number c.levels.level.offset c.levels.level.start
+          c.behind-in-Inside.result c.in-Inside.element c.in-Inside.inner c.levels.invariant.at looks c.behind-in-Inside.ensures c.new-level.result.elements
+          c.new-level.result.number c.new-level.result.offset c.new-level.result.start (omega (arith, few, many)) opens;
     }
 
 pub returns-in-Fault-clause-told : goal.returns-in-Fault-clause-told
@@ -113,43 +137,70 @@ returns-in-Fault-clause-told c =
     let number = c.levels.level.number in
     let offset = c.levels.level.offset in
     let looks = subst (Looks c.levels.level.elements c.look.new.elements) c.in-Fault.is c.look.ensures in
-    let bad = at_fault c.args.depth b ws c.levels.level.elements c.look.new.elements c.levels.level.number c.levels.level.offset c.levels.level.start c.in-Fault.key c.in-Fault.error c.levels.invariant.at looks in
+    let bad = at_fault c.args.depth b ws c.levels.level.elements c.look.new.elements c.levels.level.number c.levels.level.offset c.levels.level.start
+    c.in-Fault.key c.in-Fault.error c.levels.invariant.at looks in
     let place = c.in_ok-place-in-Fault.place in
-    let steps : steps_of place ≡ map step_at ws ++ record { number = number; key = option_copied c.in-Fault.key } ∷ [] = c.in_ok-place-in-Fault.ensures.path ws (rw (c.deref-in-Fault.ensures.value) c.levels.invariant.are_stored) in
-    (fault_of bad.0, (bad.0, refl, bad.2), placed c.args.depth b (fault_of bad.0) (map step_at ws ++ record { number = number; key = option_copied c.in-Fault.key } ∷ []) offset place steps c.in_ok-place-in-Fault.ensures.offset bad.1)
+    let steps : steps_of place ≡ map step_at ws ++ record { number = number; key = option_copied c.in-Fault.key } ∷ [] =
+    c.in_ok-place-in-Fault.ensures.path ws (rw (c.deref-in-Fault.ensures.value) c.levels.invariant.are_stored) in (
+      fault_of bad.0,
+      (bad.0, refl, bad.2),
+      placed c.args.depth b (fault_of bad.0)
+          (map step_at ws ++ record { number = number; key = option_copied c.in-Fault.key } ∷ []) offset place steps c.in_ok-place-in-Fault.ensures.offset bad.1,
+    )
 
 pub returns-in_default-pop-clause-told : goal.returns-in_default-pop-clause-told
 returns-in_default-pop-clause-told c =
     let none : c.levels.waiting.items ≡ [] = search rules in
-    at_end c.args.depth (bytes_of c.args.document) c.levels.invariant.waits c.levels.level.elements c.look.new.elements c.levels.level.number c.levels.level.offset c.levels.level.start c.levels.invariant.at (none_stored (bytes_of c.args.document) c.levels.waiting.items c.levels.invariant.waits none c.levels.invariant.are_stored) (subst (Looks c.levels.level.elements c.look.new.elements) c.in-End.is c.look.ensures)
+    at_end c.args.depth (bytes_of c.args.document) c.levels.invariant.waits c.levels.level.elements c.look.new.elements c.levels.level.number
+    c.levels.level.offset c.levels.level.start c.levels.invariant.at
+    (none_stored (bytes_of c.args.document) c.levels.waiting.items c.levels.invariant.waits none c.levels.invariant.are_stored)
+    (subst (Looks c.levels.level.elements c.look.new.elements) c.in-End.is c.look.ensures)
 
 pub behind-level-requires : goal.behind-level-requires
 behind-level-requires c =
     let b = bytes_of c.args.document in
     let looks = subst (Looks c.levels.level.elements c.look.new.elements) c.in-End.is c.look.ensures in
-    let less = stored_less b c.pop.new.self.items c.in-Some-pop.outer c.levels.invariant.waits (subst (λ (ws : List Waiting). StoreEach b ws c.levels.invariant.waits) c.in-Some-pop.ensures.items c.levels.invariant.are_stored) in
-    let at : IsAt c.args.depth b (less.0 ++ less.1 ∷ []) c.levels.level.elements c.levels.level.number c.levels.level.offset c.levels.level.start = subst (λ (ws : List Wait). IsAt c.args.depth b ws c.levels.level.elements c.levels.level.number c.levels.level.offset c.levels.level.start) less.2 c.levels.invariant.at in
+    let less = stored_less b c.pop.new.self.items c.in-Some-pop.outer c.levels.invariant.waits
+    (subst (λ (ws : List Waiting). StoreEach b ws c.levels.invariant.waits) c.in-Some-pop.ensures.items c.levels.invariant.are_stored) in
+    let at : IsAt c.args.depth b (less.0 ++ less.1 ∷ []) c.levels.level.elements c.levels.level.number c.levels.level.offset c.levels.level.start =
+    subst (λ (ws : List Wait). IsAt c.args.depth b ws c.levels.level.elements c.levels.level.number c.levels.level.offset c.levels.level.start) less.2
+    c.levels.invariant.at in
     (less.1, less.4, at_over c.args.depth b less.0 less.1 c.levels.level.elements c.look.new.elements c.levels.level.number c.levels.level.offset c.levels.level.start at looks)
 
 pub levels-smaller : goal.levels-smaller
 levels-smaller c =
     let b = bytes_of c.args.document in
     let looks = subst (Looks c.levels.level.elements c.look.new.elements) c.in-End.is c.look.ensures in
-    let less = stored_less b c.pop.new.self.items c.in-Some-pop.outer c.levels.invariant.waits (subst (λ (ws : List Waiting). StoreEach b ws c.levels.invariant.waits) c.in-Some-pop.ensures.items c.levels.invariant.are_stored) in
-    let at : IsAt c.args.depth b (less.0 ++ less.1 ∷ []) c.levels.level.elements c.levels.level.number c.levels.level.offset c.levels.level.start = subst (λ (ws : List Wait). IsAt c.args.depth b ws c.levels.level.elements c.levels.level.number c.levels.level.offset c.levels.level.start) less.2 c.levels.invariant.at in
+    let less = stored_less b c.pop.new.self.items c.in-Some-pop.outer c.levels.invariant.waits
+    (subst (λ (ws : List Waiting). StoreEach b ws c.levels.invariant.waits) c.in-Some-pop.ensures.items c.levels.invariant.are_stored) in
+    let at : IsAt c.args.depth b (less.0 ++ less.1 ∷ []) c.levels.level.elements c.levels.level.number c.levels.level.offset c.levels.level.start =
+    subst (λ (ws : List Wait). IsAt c.args.depth b ws c.levels.level.elements c.levels.level.number c.levels.level.offset c.levels.level.start) less.2
+    c.levels.invariant.at in
     let far = at_over c.args.depth b less.0 less.1 c.levels.level.elements c.look.new.elements c.levels.level.number c.levels.level.offset c.levels.level.start at looks in
     let goes = c.behind-level.ensures less.1 less.4 far in
-    omega (arith, far, goes.offset_is, at_over_within c.args.depth b (less.0 ++ less.1 ∷ []) c.levels.level.elements c.look.new.elements c.levels.level.number c.levels.level.offset c.levels.level.start at looks)
+    omega (
+      arith,
+      far,
+      goes.offset_is,
+      at_over_within c.args.depth b
+          (less.0 ++ less.1 ∷ []) c.levels.level.elements c.look.new.elements c.levels.level.number c.levels.level.offset c.levels.level.start at looks,
+    )
 
 pub levels-preserved : goal.levels-preserved
 levels-preserved c =
     let b = bytes_of c.args.document in
     let looks = subst (Looks c.levels.level.elements c.look.new.elements) c.in-End.is c.look.ensures in
-    let less = stored_less b c.pop.new.self.items c.in-Some-pop.outer c.levels.invariant.waits (subst (λ (ws : List Waiting). StoreEach b ws c.levels.invariant.waits) c.in-Some-pop.ensures.items c.levels.invariant.are_stored) in
-    let at : IsAt c.args.depth b (less.0 ++ less.1 ∷ []) c.levels.level.elements c.levels.level.number c.levels.level.offset c.levels.level.start = subst (λ (ws : List Wait). IsAt c.args.depth b ws c.levels.level.elements c.levels.level.number c.levels.level.offset c.levels.level.start) less.2 c.levels.invariant.at in
-    let goes = c.behind-level.ensures less.1 less.4 (at_over c.args.depth b less.0 less.1 c.levels.level.elements c.look.new.elements c.levels.level.number c.levels.level.offset c.levels.level.start at looks) in
+    let less = stored_less b c.pop.new.self.items c.in-Some-pop.outer c.levels.invariant.waits
+    (subst (λ (ws : List Waiting). StoreEach b ws c.levels.invariant.waits) c.in-Some-pop.ensures.items c.levels.invariant.are_stored) in
+    let at : IsAt c.args.depth b (less.0 ++ less.1 ∷ []) c.levels.level.elements c.levels.level.number c.levels.level.offset c.levels.level.start =
+    subst (λ (ws : List Wait). IsAt c.args.depth b ws c.levels.level.elements c.levels.level.number c.levels.level.offset c.levels.level.start) less.2
+    c.levels.invariant.at in
+    let goes = c.behind-level.ensures less.1 less.4 (at_over c.args.depth b less.0 less.1 c.levels.level.elements c.look.new.elements c.levels.level.number
+    c.levels.level.offset c.levels.level.start at looks) in
     record {
       waits = less.0;
       are_stored = less.3;
-      at = rw (goes.elements_are, goes.number_is, goes.offset_is, goes.start_is) (at_resumed c.args.depth b less.0 less.1 c.levels.level.elements c.look.new.elements c.levels.level.number c.levels.level.offset c.levels.level.start c.in-Some-pop.outer at looks less.4);
+      at = rw (goes.elements_are, goes.number_is, goes.offset_is, goes.start_is)
+          (at_resumed c.args.depth b less.0 less.1 c.levels.level.elements c.look.new.elements c.levels.level.number c.levels.level.offset c.levels.level.start
+          c.in-Some-pop.outer at looks less.4);
     }

@@ -24,7 +24,8 @@ returns-in_default-clause-flat c =
     let few : length b ≤ c.args.limits.bytes = omega (arith, c.if-len-limits.false, ap length c.as_bytes-len.ensures.bytes) in
     let none : 0 ≡ c.args.limits.depth = search rules in
     let bars : FirstFaultAt c.args.limits.depth b too_deep [] 0 = subst (λ (n : ℕ). FirstFaultAt n b too_deep [] 0) none (refl, refl, refl) in
-    halts_whole c.args.limits b c.args.path.now c.args.tokens.now c.whole-in_default.result kind.TooDeep too_deep (inr (few, first_somewhere c.args.limits.depth b too_deep [] 0 bars)) (inr (few, bars)) refl c.whole-in_default.ensures
+    halts_whole c.args.limits b c.args.path.now c.args.tokens.now c.whole-in_default.result kind.TooDeep too_deep
+    (inr (few, first_somewhere c.args.limits.depth b too_deep [] 0 bars)) (inr (few, bars)) refl c.whole-in_default.ensures
 
 pub returns-in_default-clause-one_answer : goal.returns-in_default-clause-one_answer
 returns-in_default-clause-one_answer c = answered_one_way c.args.limits
@@ -34,7 +35,9 @@ returns-clause-flat c =
     let b = bytes_of c.args.document in
     let few : length b ≤ c.args.limits.bytes = omega (arith, c.if-len-limits.false, ap length c.as_bytes-len.ensures.bytes) in
     let levels : suc c.in-Some.inside ≡ c.args.limits.depth = search rules in
-    flattened c.args.limits b c.in-Some.inside (length c.as_bytes-len.result.now) c.args.tokens.now c.flatten_level.new.tokens c.args.path.now c.flatten_level.new.path c.flatten_level.result few levels (ap length c.as_bytes-len.ensures.bytes) c.flatten_level.ensures.flat c.flatten_level.ensures.path c.flatten_level.ensures.halt
+    flattened c.args.limits b c.in-Some.inside (length c.as_bytes-len.result.now) c.args.tokens.now c.flatten_level.new.tokens c.args.path.now
+    c.flatten_level.new.path c.flatten_level.result few levels
+    (ap length c.as_bytes-len.ensures.bytes) c.flatten_level.ensures.flat c.flatten_level.ensures.path c.flatten_level.ensures.halt
 
 pub returns-clause-one_answer : goal.returns-clause-one_answer
 returns-clause-one_answer c = answered_one_way c.args.limits

@@ -8,5 +8,7 @@ use Rattle.raw_form.proofs.last.element_at.Goals as goal
 pub returns : goal.returns
 returns c f r at =
     let s = drop c.args.offset (bytes_of c.args.document) in
-    let takes : TakesFrame (Some s) (Some c.in-Some-next_element.element) c.next_element.new.elements = subst (λ (x : Option (List ℕ)). TakesFrame x (Some c.in-Some-next_element.element) c.next_element.new.elements) c.in-Some.ensures.left c.in-Some-next_element.ensures in
+    let takes : TakesFrame (Some s) (Some c.in-Some-next_element.element) c.next_element.new.elements =
+    subst (λ (x : Option (List ℕ)). TakesFrame x (Some c.in-Some-next_element.element) c.next_element.new.elements) c.in-Some.ensures.left
+    c.in-Some-next_element.ensures in
     (one_frame s (frame_of c.in-Some-next_element.element) f takes.0 r takes.1 at).0

@@ -18,7 +18,8 @@ loop-outer-preserved c xs stored =
     let there = stored_at (bytes_of c.args.document) c.args.waiting.now xs c.loop-outer.outer-index (record { start = 0; element = 0; number = 0 }) stored c.loop-outer-test.true in
     let frame = c.element_at.ensures there.1.frame there.1.rest there.1.at in
     let key : c.key.result.now ≡ there.0.key = c.key.ensures ∙ ap (λ f. f.key) frame ∙ sym there.1.key_is in
-    steps_more c.loop-outer.path.items c.put_step.new.path.items _ xs c.loop-outer.outer-index there.0 (c.loop-outer.invariant xs stored) c.in_ok-put_step.ensures.put (λ i. record { number = there.1.number_is i; key = Some (key i) }) there.2
+    steps_more c.loop-outer.path.items c.put_step.new.path.items _ xs c.loop-outer.outer-index there.0
+    (c.loop-outer.invariant xs stored) c.in_ok-put_step.ensures.put (λ i. record { number = there.1.number_is i; key = Some (key i) }) there.2
 
 pub returns-clause-path : goal.returns-clause-path
 returns-clause-path c xs stored =

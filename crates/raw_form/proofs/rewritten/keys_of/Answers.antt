@@ -8,10 +8,14 @@ use Rattle.raw_form.proofs.Leaving.{distinct_begins, repeated_begins}
 use Rattle.raw_form.proofs.rewritten.keys_of.Goals as goal
 
 pub returns-in_default-clause-left : goal.returns-in_default-clause-left
-returns-in_default-clause-left c t read = distinct_begins (bytes_of c.args.document) t (λ frames w. subst (λ (x : Option (BTreeMap (Bor (List ℕ)) (Option ℕ))). HasRepeated x frames) c.in_default.is (c.in_ok-places.ensures.places frames w)) read
+returns-in_default-clause-left c t read = distinct_begins (bytes_of c.args.document) t
+    (λ frames w. subst (λ (x : Option (BTreeMap (Bor (List ℕ)) (Option ℕ))). HasRepeated x frames) c.in_default.is (c.in_ok-places.ensures.places frames w))
+    read
 
 pub returns-clause-left : goal.returns-clause-left
 returns-clause-left c t read =
     let last : LastPlaces = record { document = c.args.document; places = c.in-Some.places } in
     let same : c.in_ok-new.field-0.value ≡ last = c.in_ok-new.ensures.ok in
-    rw same (repeated_begins (bytes_of c.args.document) t last refl (λ frames w. subst (λ (x : Option (BTreeMap (Bor (List ℕ)) (Option ℕ))). HasRepeated x frames) c.in-Some.is (c.in_ok-places.ensures.places frames w)) read)
+    rw same (repeated_begins (bytes_of c.args.document) t last refl
+    (λ frames w. subst (λ (x : Option (BTreeMap (Bor (List ℕ)) (Option ℕ))). HasRepeated x frames) c.in-Some.is (c.in_ok-places.ensures.places frames w))
+    read)

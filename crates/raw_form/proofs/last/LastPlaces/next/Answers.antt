@@ -15,26 +15,36 @@ returns-in_err-element c ms is =
 pub returns-in_default : goal.returns-in_default
 returns-in_default c ms is =
     let none : get text_cmp c.elements.self.places c.key.result ≡ None = sym c.in_default.ensures.value in
-    member_kept c.elements.self c.get_mut.follows.lender-at-none c.in_ok-element.element c.key.result c.key.ensures c.elements.elements c.next_element.new.elements ms c.in_ok-element.ensures (c.elements.invariant.same ms is) c.get_mut.follows.holds-at-none none
+    member_kept c.elements.self c.get_mut.follows.lender-at-none c.in_ok-element.element c.key.result c.key.ensures c.elements.elements
+    c.next_element.new.elements ms c.in_ok-element.ensures (c.elements.invariant.same ms is) c.get_mut.follows.holds-at-none none
 
 pub element_at-requires-clause-within : goal.element_at-requires-clause-within
 element_at-requires-clause-within c =
     let there : get text_cmp c.elements.self.places c.key.result ≡ Some (Some c.in-Some-take.offset) = sym c.in-Some.ensures.value ∙ ap (λ (x : Option ℕ). Some x) (sym c.in-Some-take.ensures.value) in
-    let at = place_within c.elements.self c.elements.self.places c.in_ok-element.element c.key.result c.key.ensures c.elements.elements c.next_element.new.elements c.in-Some-take.offset c.elements.invariant.some.0 c.in_ok-element.ensures c.elements.invariant.some.1 there c.elements.self.document.envelope.enough in
+    let at = place_within c.elements.self c.elements.self.places c.in_ok-element.element c.key.result c.key.ensures c.elements.elements
+    c.next_element.new.elements c.in-Some-take.offset c.elements.invariant.some.0 c.in_ok-element.ensures c.elements.invariant.some.1 there
+    c.elements.self.document.envelope.enough in
     (at.0, at.1)
 
 pub element_at-requires-clause-frame : goal.element_at-requires-clause-frame
 element_at-requires-clause-frame c =
     let there : get text_cmp c.elements.self.places c.key.result ≡ Some (Some c.in-Some-take.offset) = sym c.in-Some.ensures.value ∙ ap (λ (x : Option ℕ). Some x) (sym c.in-Some-take.ensures.value) in
-    let at = place_within c.elements.self c.elements.self.places c.in_ok-element.element c.key.result c.key.ensures c.elements.elements c.next_element.new.elements c.in-Some-take.offset c.elements.invariant.some.0 c.in_ok-element.ensures c.elements.invariant.some.1 there c.elements.self.document.envelope.enough in
+    let at = place_within c.elements.self c.elements.self.places c.in_ok-element.element c.key.result c.key.ensures c.elements.elements
+    c.next_element.new.elements c.in-Some-take.offset c.elements.invariant.some.0 c.in_ok-element.ensures c.elements.invariant.some.1 there
+    c.elements.self.document.envelope.enough in
     (at.2, at.3, at.4)
 
 pub returns-in-Some-take : goal.returns-in-Some-take
 returns-in-Some-take c ms is =
     let there : get text_cmp c.elements.self.places c.key.result ≡ Some (Some c.in-Some-take.offset) = sym c.in-Some.ensures.value ∙ ap (λ (x : Option ℕ). Some x) (sym c.in-Some-take.ensures.value) in
-    let put : UpdatesBy text_cmp (text_cmp c.key.result) c.elements.self.places (c.get_mut.follows.lender c.take.new.self) (Some c.take.new.self) = (c.get_mut.follows.holds c.take.new.self).3 (rw there refl) in
-    let u : UpdatesBy text_cmp (text_cmp c.key.result) c.elements.self.places (c.get_mut.follows.lender c.take.new.self) (Some None) = subst (λ (x : Option ℕ). UpdatesBy text_cmp (text_cmp c.key.result) c.elements.self.places (c.get_mut.follows.lender c.take.new.self) (Some x)) c.take.ensures.after put in
-    member_taken c.elements.self (c.get_mut.follows.lender c.take.new.self) c.in_ok-element.element c.key.result c.key.ensures c.elements.elements c.next_element.new.elements c.in-Some-take.offset c.element_at.result ms c.in_ok-element.ensures (c.elements.invariant.same ms is) u there c.element_at.ensures
+    let put : UpdatesBy text_cmp (text_cmp c.key.result) c.elements.self.places (c.get_mut.follows.lender c.take.new.self) (Some c.take.new.self) =
+    (c.get_mut.follows.holds c.take.new.self).3 (rw there refl) in
+    let u : UpdatesBy text_cmp (text_cmp c.key.result) c.elements.self.places (c.get_mut.follows.lender c.take.new.self) (Some None) =
+    subst (λ (x : Option ℕ). UpdatesBy text_cmp (text_cmp c.key.result) c.elements.self.places (c.get_mut.follows.lender c.take.new.self) (Some x))
+    c.take.ensures.after put in
+    member_taken c.elements.self (c.get_mut.follows.lender c.take.new.self) c.in_ok-element.element c.key.result c.key.ensures c.elements.elements
+    c.next_element.new.elements c.in-Some-take.offset c.element_at.result ms c.in_ok-element.ensures
+    (c.elements.invariant.same ms is) u there c.element_at.ensures
 
 pub elements-smaller : goal.elements-smaller
 elements-smaller c = taken_smaller c.elements.elements c.next_element.new.elements c.in_ok-element.element c.in_ok-element.ensures
@@ -42,9 +52,18 @@ elements-smaller c = taken_smaller c.elements.elements c.next_element.new.elemen
 pub elements-preserved : goal.elements-preserved
 elements-preserved c =
     let there : get text_cmp c.elements.self.places c.key.result ≡ Some None = sym c.in-Some.ensures.value ∙ ap (λ (x : Option ℕ). Some x) (sym c.take.ensures.value ∙ c.in_default-take.is) in
-    let put : UpdatesBy text_cmp (text_cmp c.key.result) c.elements.self.places (c.get_mut.follows.lender c.take.new.self) (Some c.take.new.self) = (c.get_mut.follows.holds c.take.new.self).3 (rw there refl) in
-    let u : UpdatesBy text_cmp (text_cmp c.key.result) c.elements.self.places (c.get_mut.follows.lender c.take.new.self) (Some None) = subst (λ (x : Option ℕ). UpdatesBy text_cmp (text_cmp c.key.result) c.elements.self.places (c.get_mut.follows.lender c.take.new.self) (Some x)) c.take.ensures.after put in
+    let put : UpdatesBy text_cmp (text_cmp c.key.result) c.elements.self.places (c.get_mut.follows.lender c.take.new.self) (Some c.take.new.self) =
+    (c.get_mut.follows.holds c.take.new.self).3 (rw there refl) in
+    let u : UpdatesBy text_cmp (text_cmp c.key.result) c.elements.self.places (c.get_mut.follows.lender c.take.new.self) (Some None) =
+    subst (λ (x : Option ℕ). UpdatesBy text_cmp (text_cmp c.key.result) c.elements.self.places (c.get_mut.follows.lender c.take.new.self) (Some x))
+    c.take.ensures.after put in
     record {
-      same = λ ms is. skipped c.elements.self (c.get_mut.follows.lender c.take.new.self) c.in_ok-element.element c.key.result c.key.ensures c.elements.elements c.next_element.new.elements ms c.in_ok-element.ensures (c.elements.invariant.same ms is) u there;
-      some = (c.elements.invariant.some.0, skipped c.elements.self (c.get_mut.follows.lender c.take.new.self) c.in_ok-element.element c.key.result c.key.ensures c.elements.elements c.next_element.new.elements c.elements.invariant.some.0 c.in_ok-element.ensures c.elements.invariant.some.1 u there);
+      same = λ ms is. skipped c.elements.self (c.get_mut.follows.lender c.take.new.self) c.in_ok-element.element c.key.result c.key.ensures c.elements.elements
+          c.next_element.new.elements ms c.in_ok-element.ensures (c.elements.invariant.same ms is) u there;
+      some = (
+        c.elements.invariant.some.0,
+        skipped c.elements.self
+            (c.get_mut.follows.lender c.take.new.self) c.in_ok-element.element c.key.result c.key.ensures c.elements.elements c.next_element.new.elements
+            c.elements.invariant.some.0 c.in_ok-element.ensures c.elements.invariant.some.1 u there,
+      );
     }

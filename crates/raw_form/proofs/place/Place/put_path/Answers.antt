@@ -18,10 +18,12 @@ loop-index-preserved c =
     let few : index ≤ length items = omega (arith, c.loop-index-test.true) in
     let many : index ≡ 0 + length first = omega (arith, numbers_len items index few) in
     let put : c.put_at.new.room ≡ filled_from index c.loop-index.room last = c.put_at.ensures in
-    put ∙ (ap (λ (x : List ℕ). filled_from index x last) c.loop-index.invariant ∙ (filled_more 0 index c.args.room.now first last many ∙ ap (λ (x : List ℕ). filled_from 0 c.args.room.now x) (sym one)))
+    put ∙ (ap (λ (x : List ℕ). filled_from index x last) c.loop-index.invariant
+    ∙ (filled_more 0 index c.args.room.now first last many ∙ ap (λ (x : List ℕ). filled_from 0 c.args.room.now x) (sym one)))
 
 pub returns : goal.returns
 returns c =
     let items = c.deref-step-items.result.now in
     let all : take c.loop-index.index items ≡ c.args.self.now.path.items = numbers_all items c.loop-index.index c.loop-index-test.false ∙ c.deref-step-items.ensures.value in
-    c.loop-index.invariant ∙ (ap (λ (x : List PathStep). filled_from 0 c.args.room.now (map (λ (step : PathStep). step.number) x)) all ∙ ap (λ (x : List ℕ). filled_from 0 c.args.room.now x) (numbers_of c.args.self.now.path.items))
+    c.loop-index.invariant ∙ (ap (λ (x : List PathStep). filled_from 0 c.args.room.now (map (λ (step : PathStep). step.number) x)) all
+    ∙ ap (λ (x : List ℕ). filled_from 0 c.args.room.now x) (numbers_of c.args.self.now.path.items))

@@ -1,4 +1,4 @@
-use Rattle.std.proofs.Common.{rules, ◌<◌, ◌^◌, None, Some, drop, length, length-drop, arith, subst}
+use Rattle.std.proofs.Common.{rules, ◌<◌, ◌^◌, None, Some, drop, length, length-drop, arith, subst, ◌∙◌}
 use Rattle.raw_view.specs.Document.{bytes_of}
 use Rattle.raw_tree.specs.Reading.{ReadsAs, StandsFor}
 use Rattle.raw_form.specs.Rewriting.{held_value}
@@ -12,7 +12,8 @@ returns-in-Array-clause-left c t stands =
     let d = bytes_of c.in-Array.document in
     let small : length (drop 4 d) < 2 ^ 64 = omega (arith, length-drop 4 d, c.in-Array.document.envelope.header.fits) in
     let begins = array_begins d t small (subst (λ (h : Held). StandsFor ReadsAs (held_value h) t) c.in-Array.is stands) in
-    level_left t c.level-in-Array.result (keys.Numbers 0) (Some (drop 4 d)) None c.level-in-Array.ensures.keys c.level-in-Array.ensures.elements c.level-in-Array.ensures.code_len begins.0 begins.1
+    level_left t c.level-in-Array.result (keys.Numbers 0) (Some (drop 4 d)) None c.level-in-Array.ensures.keys c.level-in-Array.ensures.elements
+    (c.level-in-Array.ensures.code_len ∙ c.none-in-Array.ensures) begins.0 begins.1
 
 pub returns-in_ok-keys-in-Code-clause-left : goal.returns-in_ok-keys-in-Code-clause-left
 returns-in_ok-keys-in-Code-clause-left c t stands =

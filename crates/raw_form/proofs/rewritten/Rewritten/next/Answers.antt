@@ -11,7 +11,8 @@ returns-in_err-element-in-Distinct-clause-next c ms left =
 
 pub returns-in_ok-element-in-Numbers-clause-next : goal.returns-in_ok-element-in-Numbers-clause-next
 returns-in_ok-element-in-Numbers-clause-next c ms left =
-    next_number c.args.self.now.keys c.in-Numbers.number c.args.self.now.elements c.next_element.new.elements ms c.in_ok-element-in-Numbers.element c.in-Numbers.is left c.in_ok-element-in-Numbers.ensures
+    next_number c.args.self.now.keys c.in-Numbers.number c.args.self.now.elements c.next_element.new.elements ms c.in_ok-element-in-Numbers.element
+    c.in-Numbers.is left c.in_ok-element-in-Numbers.ensures
 
 pub returns-in_ok-element-in-Distinct-clause-next : goal.returns-in_ok-element-in-Distinct-clause-next
 returns-in_ok-element-in-Distinct-clause-next c ms left =

@@ -13,7 +13,8 @@ pub returns-in-Err-clause-found : goal.returns-in-Err-clause-found
 returns-in-Err-clause-found c =
     let inv = c.loop-step.invariant in
     let front = rw c.in-Err.is at c.in-Some.ensures.steps in
-    key_stop (bytes_of c.args.self) c.args.key.now inv.0 c.loop-step.step-iterator c.next.new.self c.into_error.result inv.1 inv.2 (step_stop _ _ c.in-Err.stop c.into_error.result front c.into_error.ensures)
+    key_stop (bytes_of c.args.self) c.args.key.now inv.0 c.loop-step.step-iterator c.next.new.self c.into_error.result inv.1 inv.2
+    (step_stop _ _ c.in-Err.stop c.into_error.result front c.into_error.ensures)
 
 pub returns-then-has_key-clause-found : goal.returns-then-has_key-clause-found
 returns-then-has_key-clause-found c =
