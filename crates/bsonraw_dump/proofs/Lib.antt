@@ -1,5 +1,7 @@
 mod Filling
-mod Cutting
+mod Ahead
+mod Going
+mod Skipping
 mod Digesting
 mod Writing
 mod Listed

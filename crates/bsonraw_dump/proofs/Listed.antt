@@ -31,7 +31,8 @@ pub record IsListed (inside depth : ℕ) (d : List ℕ) (left old out : Option (
   pub put : Appends old out text
 
 module _ (Nested : List ℕ → List ℕ → Type 0) where
-  frames_more : (depth : ℕ) (fs : List Frame) (text : List ℕ) (f : Frame) (more : List ℕ) → ListsFrames Nested depth fs text → ListsFrame Nested depth f more → ListsFrames Nested depth (fs ++ f ∷ []) (text ++ more)
+  frames_more : (depth : ℕ) (fs : List Frame) (text : List ℕ) (f : Frame) (more : List ℕ) → ListsFrames Nested depth fs text → ListsFrame Nested depth f more
+      → ListsFrames Nested depth (fs ++ f ∷ []) (text ++ more)
   frames_more depth [] text f more none one = (more, [], one, refl, ap (λ (x : List ℕ). x ++ more) none ∙ sym (append-nil more))
   frames_more depth (g ∷ fs) text f more (first, rest, its, are, is) one =
       (first, rest ++ more, its, frames_more depth fs rest f more are one, ap (λ (x : List ℕ). x ++ more) is ∙ append_assoc first rest more)
@@ -72,7 +73,8 @@ read_more : (s : List ℕ) (fs : List Frame) (old new : Option (List ℕ)) (e : 
 read_more s fs None new e l st = absurd l
 read_more s fs (Some r) new e l st = subst (HasRead s (fs ++ frame_of e ∷ [])) (sym st.2) (LeadsTo-more s fs r (frame_of e) st.0 l st.1)
 
-pub listed_more : (inside depth : ℕ) (d : List ℕ) (left new old a b c : Option (List ℕ)) (e : RawElement) (x : Option RawDocument) (text : List ℕ) → IsListed inside depth d left old a → StepsFront left (Some (Ok e)) new → PutsElement depth (frame_of e) a b x
+pub listed_more : (inside depth : ℕ) (d : List ℕ) (left new old a b c : Option (List ℕ)) (e : RawElement) (x : Option RawDocument) (text : List ℕ)
+    → IsListed inside depth d left old a → StepsFront left (Some (Ok e)) new → PutsElement depth (frame_of e) a b x
     → ListsHeld (Lists inside (depth + 1)) x text → Appends b c text → IsListed inside depth d new old c
 listed_more inside depth d left new old a b c e x text is steps puts held more =
     let (lines, lists, put) = frame_listed (Lists inside (depth + 1)) depth (frame_of e) a b c x text puts held more in
@@ -98,18 +100,32 @@ stop_of (kind.MalformedValue reason) key s h = (Malformed, h, refl)
 stop_of (kind.Utf8EncodingError error) key s h = (Utf8, h, refl)
 stop_of kind.OutOfMemory key s h = absurd h
 
-pub listed_stop : (inside depth : ℕ) (d : List ℕ) (left new old a out : Option (List ℕ)) (e : BorrowedError) → IsListed inside depth d left old a → StepsFront left (Some (Err e)) new → PutsStop depth e a out → IsWritten (suc inside) depth d old out
+pub listed_stop : (inside depth : ℕ) (d : List ℕ) (left new old a out : Option (List ℕ)) (e : BorrowedError) → IsListed inside depth d left old a
+    → StepsFront left (Some (Err e)) new → PutsStop depth e a out → IsWritten (suc inside) depth d old out
 listed_stop inside depth d None new old a out e is steps puts = absurd is.read
 listed_stop inside depth d (Some s) new old a out e is steps (reading, put) =
-    let (fault, stops, says) = stop_of e.kind (option_copied e.key) s steps.0 in
-    (_, (is.frames, Stopped fault (option_copied e.key), is.text, _, LeadsTo-walk (drop 4 d) is.frames s (Stopped fault (option_copied e.key)) is.read stops, is.lists, (_, (e.kind, says, reading, refl), refl), refl), Appends-trans old a out is.text _ is.put put)
+    let (fault, stops, says) = stop_of e.kind (option_copied e.key) s steps.0 in (
+      _,
+      (
+        is.frames,
+        Stopped fault (option_copied e.key),
+        is.text,
+        _,
+        LeadsTo-walk (drop 4 d) is.frames s (Stopped fault (option_copied e.key)) is.read stops,
+        is.lists,
+        (_, (e.kind, says, reading, refl), refl),
+        refl,
+      ),
+      Appends-trans old a out is.text _ is.put put,
+    )
 
 pub on_ok : {A E : Type 0} (r : Result A E) (P Q : Type 0) → (P → Q) → OnOk r P → OnOk r Q
 on_ok (Ok x) P Q f h = f h
 on_ok (Err e) P Q f h = h
 
 -- behind the line of the document its listing is written
-pub listed_behind : (b head : List ℕ) (old mid new : Option (List ℕ)) → IsEnvelope b → Appends old mid head → IsWritten 500 1 b mid new → (listing : List ℕ) × ListsDocument b listing × Appends old new (head ++ listing)
+pub listed_behind : (b head : List ℕ) (old mid new : Option (List ℕ)) → IsEnvelope b → Appends old mid head → IsWritten 500 1 b mid new
+    → (listing : List ℕ) × ListsDocument b listing × Appends old new (head ++ listing)
 listed_behind b head old mid new is first (text, lists, put) = (text, inl (is, lists), Appends-trans old mid new head text first put)
 
 reason_in : (k : ErrorKind) (b : List ℕ) → IsMalformed k (Refuses b) → (why : Reason) × Refuses b why
@@ -117,7 +133,8 @@ reason_in (kind.MalformedValue why) b h = (why, h)
 reason_in (kind.Utf8EncodingError e) b h = absurd h
 reason_in kind.OutOfMemory b h = absurd h
 
-pub listed_nothing : (b head : List ℕ) (e : Error) (old mid new : Option (List ℕ)) → TellsRefusal b e → Appends old mid head → Appends mid new [] → (listing : List ℕ) × ListsDocument b listing × Appends old new (head ++ listing)
+pub listed_nothing : (b head : List ℕ) (e : Error) (old mid new : Option (List ℕ)) → TellsRefusal b e → Appends old mid head → Appends mid new []
+    → (listing : List ℕ) × ListsDocument b listing × Appends old new (head ++ listing)
 listed_nothing b head e old mid new refused first none =
     let (why, refuses) = reason_in e.kind b refused.reason in
     ([], inr (why, refuses, refl), Appends-trans old mid new head [] first none)

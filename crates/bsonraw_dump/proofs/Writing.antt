@@ -66,7 +66,8 @@ writes_more c xs ys d d' d'' k k' k'' first second =
     let behind = known_behind c (knows k) xs in
     let same : knows k' ≡ behind = λ i. λ (x : List ℕ). first.is_known x i in
     record {
-      is_written = subst (Appends d d'') (ap (λ (known : List ℕ → Bool). written_of c (knows k) xs ++ written_of c known ys) same ∙ sym (written_of-append c (knows k) xs ys)) (Appends-trans d d' d'' _ _ first.is_written second.is_written);
+      is_written = subst (Appends d d'') (ap (λ (known : List ℕ → Bool). written_of c (knows k) xs ++ written_of c known ys) same
+          ∙ sym (written_of-append c (knows k) xs ys)) (Appends-trans d d' d'' _ _ first.is_written second.is_written);
       is_known = λ x. second.is_known x ∙ ap (λ (known : List ℕ → Bool). known_behind c known ys x) same ∙ sym (ap (λ (known : List ℕ → Bool). known x) (known_behind-append c (knows k) xs ys));
     }
 

@@ -1,5 +1,5 @@
 -- How the bytes of an input are cut into documents, at the lengths with which they begin.
-use Rattle.std.specs.Prelude.{◌≡◌, ◌⊎◌, ◌<◌, ◌≤◌, ℕ, List, [], take, length}
+use Rattle.std.specs.Prelude.{◌≡◌, ◌⊎◌, ◌<◌, ◌≤◌, ℕ, List, take, length}
 use Rattle.std.specs.Int.{w32, from_le_bytes}
 use Rattle.bsonraw_dump.specs.declared.ending.Ending.{Ending}
 use Rattle.bsonraw_dump.specs.declared.ending.Ending.TheVariants as ending
@@ -21,9 +21,8 @@ pub record IsPiece (b : List ℕ) : Type 0 where
   pub said : said_len b ≡ length b
   pub sound : IsSoundLength (length b)
 
--- How an input ends behind its pieces, where s is what was read there: nothing; or bytes that end before their length, or
--- before the end that it says; or the four bytes of a length that no document has.
+-- Why no document is in front of what is left of an input, s: it ends before its length, or before the end that it says; or
+-- no document has the length in front.
 abbrev pub EndsWith : Ending → List ℕ → Type 0
-EndsWith ending.Whole s = s ≡ []
 EndsWith (ending.CutOff count) s = (length s ≡ count) × (0 < count) × ((count < 4) ⊎ (IsSoundLength (said_len s) × (count < said_len s)))
-EndsWith ending.Unsound s = (length s ≡ 4) × ((said_len s < 5) ⊎ (most < said_len s))
+EndsWith ending.Unsound s = (4 ≤ length s) × ((said_len s < 5) ⊎ (most < said_len s))

@@ -2,6 +2,7 @@ pub mod Cut
 pub mod Reading
 pub mod Find
 pub mod Told
+pub mod Resync
 pub mod Values
 pub mod Listing
 pub mod Unique

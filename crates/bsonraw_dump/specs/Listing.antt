@@ -66,7 +66,8 @@ ListsEnd depth (Stopped fault key) text = (shown : List ℕ) × ShowsFault fault
 abbrev pub Lists : ℕ → ℕ → List ℕ → List ℕ → Type 0
 Lists zero depth b text = text ≡ indented depth (codes "too deep")
 Lists (suc n) depth b text =
-    (frames : List Frame) × (end : End) × (elements last : List ℕ) × IsWalk (drop 4 b) frames end × ListsFrames (Lists n (depth + 1)) depth frames elements × ListsEnd depth end last × (text ≡ elements ++ last)
+    (frames : List Frame) × (end : End) × (elements last : List ℕ) × IsWalk (drop 4 b) frames end × ListsFrames (Lists n (depth + 1)) depth frames elements
+    × ListsEnd depth end last × (text ≡ elements ++ last)
 
 -- the listing of a piece: its elements, of 500 levels at most; none where it has no envelope
 abbrev pub ListsDocument : List ℕ → List ℕ → Type 0
@@ -78,7 +79,8 @@ ListsDocument b text = (IsEnvelope b × Lists 500 1 b text) ⊎ ((why : Reason) 
 abbrev pub PutsElement : ℕ → Frame → (old new : Option (List ℕ)) → Option RawDocument → Type 0
 PutsElement depth f old new inner =
     ((v : RawValue) × (shown : List ℕ) × Means f (value v) × ShowsValue v shown × HoldsBytes v inner × Appends old new (element_line depth f.key shown))
-    ⊎ ((fault : KeyedFault) × (shown : List ℕ) × Means f (faulty fault) × ShowsFault fault.fault shown × (inner ≡ None) × Appends old new (element_line depth f.key (kind_text f.kind ++ codes ", " ++ shown)))
+    ⊎ ((fault : KeyedFault) × (shown : List ℕ) × Means f (faulty fault) × ShowsFault fault.fault shown × (inner ≡ None)
+    × Appends old new (element_line depth f.key (kind_text f.kind ++ codes ", " ++ shown)))
 
 -- the line of a stop with this error is written
 abbrev pub PutsStop : ℕ → BorrowedError → (old new : Option (List ℕ)) → Type 0

@@ -1,36 +1,90 @@
--- What reading a document of an input gives.
-use Rattle.std.specs.Prelude.{◌≡◌, ◌≤◌, ◌<◌, ℕ, List, Option, None, Some, Result, Ok, Err, take, length}
+-- What reading an input gives, where some of it is read ahead.
+use Rattle.std.specs.Prelude.{◌≡◌, ◌+◌, ◌*◌, ◌^◌, ◌≤◌, ◌<◌, ℕ, List, [], Bool, true, false, Option, None, Some, take, drop, length}
 use Rattle.std.specs.Io.KnownBytes.{Consumes, IsAtEnd}
 use Rattle.bsonraw_dump.specs.Cut.{IsPiece, EndsWith}
 use Rattle.bsonraw_dump.specs.declared.ending.Ending.{Ending}
 use Rattle.bsonraw_dump.specs.declared.ending.Ending.TheVariants as ending
-use Rattle.bsonraw_dump.specs.declared.failure.Failure.{Failure}
+use Rattle.bsonraw_dump.specs.declared.window.Next.{Next}
+use Rattle.bsonraw_dump.specs.declared.window.Next.TheVariants as next
+use Rattle.bsonraw_dump.specs.declared.window.Window.{Window}
 
 -- some bytes were read, and no more is known
 abbrev pub ReadsSome : Option (List ℕ) → Option (List ℕ) → Type 0
 ReadsSome old new = (s : List ℕ) × Consumes old new s
 
 -- With the known bytes of a reader before and after, and the buffer's: it was filled from the end of the front on to here,
--- and is full, or the input is at its end. Whoever had read the front has read as far as here.
-pub record Fills (old new : Option (List ℕ)) (front : ℕ) (buffer filled : List ℕ) (at : ℕ) : Type 0 where
+-- and is full enough, or the input is at its end. Whoever had read the front has read as far as here.
+pub record Fills (old new : Option (List ℕ)) (front enough : ℕ) (buffer filled : List ℕ) (at : ℕ) : Type 0 where
   pub len : length filled ≡ length buffer
   pub behind : front ≤ at
   pub within : at ≤ length filled
   pub kept : take front filled ≡ take front buffer
   pub is_read : (before : Option (List ℕ)) → Consumes before old (take front buffer) → Consumes before new (take at filled)
-  pub to_end : at < length filled → IsAtEnd new
+  pub to_end : at < enough → IsAtEnd new
 
 -- whoever had read the front has read some bytes
 abbrev pub FillsSome : Option (List ℕ) → Option (List ℕ) → ℕ → List ℕ → Type 0
 FillsSome old new front buffer = (before : Option (List ℕ)) → Consumes before old (take front buffer) → ReadsSome before new
 
--- the input was read to its end; behind a length that is unsound nothing is read
-abbrev pub IsReadBehind : Ending → Option (List ℕ) → Type 0
-IsReadBehind ending.Unsound new = Unit {0}
-IsReadBehind _ new = IsAtEnd new
+-- the bytes ahead are in the room
+abbrev pub IsRoom : Window → Type 0
+IsRoom w = w.at + w.len ≤ length w.room.items
 
--- with the known bytes of a reader before and after, and the buffer's: the piece that was read, or how the input ends
-abbrev pub TellsNext : Option (List ℕ) → Option (List ℕ) → List ℕ → Result (Option Ending) Failure → Type 0
-TellsNext old new b (Ok None) = IsPiece b × Consumes old new b
-TellsNext old new b (Ok (Some ending)) = (s : List ℕ) × Consumes old new s × EndsWith ending s × IsReadBehind ending new
-TellsNext old new b (Err failure) = ReadsSome old new
+-- so it is, and a search looked at no more than eight times the bytes that were read
+pub record IsWindow (w : Window) : Type 0 where
+  pub room : IsRoom w
+  pub work : w.spent ≤ 8 * (w.offset + w.len)
+
+-- so it is after a search looks at so many more bytes
+abbrev pub Affords : Window → ℕ → Type 0
+Affords w count = (w.spent + count ≤ 8 * (w.offset + w.len)) × (w.spent + count < 2 ^ 64)
+
+-- the bytes that were read, and aren't passed
+abbrev pub ahead_of : Window → List ℕ
+ahead_of w = take w.len (drop w.at w.room.items)
+
+-- Bytes were read behind those that are ahead: whoever had read the ones has read the others, which begin with them.
+pub record Looks (old new : Option (List ℕ)) (ahead more : List ℕ) : Type 0 where
+  pub is_read : (before : Option (List ℕ)) → Consumes before old ahead → Consumes before new more
+  pub len : length ahead ≤ length more
+  pub kept : take (length ahead) more ≡ ahead
+
+-- so it is, and so many bytes are ahead; or fewer, and the input is at its end
+pub record SeesAhead (old new : Option (List ℕ)) (window_old window_new : Window) (want : ℕ) (is_there : Bool) : Type 0 where
+  pub window : IsWindow window_new
+  pub offset : window_new.offset ≡ window_old.offset
+  pub looks : Looks old new (ahead_of window_old) (ahead_of window_new)
+  pub there : is_there ≡ true → want ≤ length (ahead_of window_new)
+  pub ends : is_there ≡ false → (length (ahead_of window_new) < want) × IsAtEnd new
+
+-- the same, but for what a search looked at, of which nothing changed
+pub record ReadsOn (old new : Option (List ℕ)) (window_old window_new : Window) (want : ℕ) (is_there : Bool) : Type 0 where
+  pub room : IsRoom window_new
+  pub more : window_old.len ≤ window_new.len
+  pub spent : window_new.spent ≡ window_old.spent
+  pub offset : window_new.offset ≡ window_old.offset
+  pub looks : Looks old new (ahead_of window_old) (ahead_of window_new)
+  pub there : is_there ≡ true → want ≤ length (ahead_of window_new)
+  pub ends : is_there ≡ false → (length (ahead_of window_new) < want) × IsAtEnd new
+
+-- whoever had read what was ahead has read some bytes
+abbrev pub LooksSome : Option (List ℕ) → Option (List ℕ) → List ℕ → Type 0
+LooksSome old new ahead = (before : Option (List ℕ)) → Consumes before old ahead → ReadsSome before new
+
+-- the input was read to its end; behind a length that is unsound it need not be
+abbrev pub IsReadBehind : Ending → Option (List ℕ) → Type 0
+IsReadBehind (ending.CutOff count) new = IsAtEnd new
+IsReadBehind ending.Unsound new = Unit {0}
+
+-- what is next in the bytes ahead: a document in front; nothing, at the end of the input; or why there is no document
+abbrev pub IsNext : Option (List ℕ) → List ℕ → Next → Type 0
+IsNext new ahead (next.Document len) = (len ≤ length ahead) × IsPiece (take len ahead)
+IsNext new ahead next.Nothing = (ahead ≡ []) × IsAtEnd new
+IsNext new ahead (next.End ending) = EndsWith ending ahead × IsReadBehind ending new
+
+-- with the known bytes of a reader before and after, and a window: what is next was told
+pub record TellsNext (old new : Option (List ℕ)) (window_old window_new : Window) (told : Next) : Type 0 where
+  pub window : IsWindow window_new
+  pub offset : window_new.offset ≡ window_old.offset
+  pub looks : Looks old new (ahead_of window_old) (ahead_of window_new)
+  pub is : IsNext new (ahead_of window_new) told

@@ -1,14 +1,16 @@
 -- What a run over an input reads, writes and counts.
-use Rattle.std.specs.Prelude.{◌≡◌, ℕ, ◌+◌, List, [], ◌∷◌, ◌++◌, Option, None, Some, codes, decimal, flat_map, fold, length}
-use Rattle.std.specs.Io.KnownBytes.{Appends, Consumes}
+use Rattle.std.specs.Prelude.{◌≡◌, ℕ, ◌+◌, List, [], ◌∷◌, ◌++◌, Bool, true, false, Option, None, Some, IfSome, codes, decimal, drop, flat_map, fold, length, take}
+use Rattle.std.specs.Io.KnownBytes.{Appends, Consumes, IsAtEnd}
 use Rattle.raw_tree.specs.CanonicalForm.{IsCanonicalForm}
 use Rattle.bson_json.specs.Json.{IsJson}
 use Rattle.bson_json.specs.declared.style.Style as json
 use Rattle.bsonraw_dump.specs.Cut.{IsPiece, EndsWith}
-use Rattle.bsonraw_dump.specs.Reading.{IsReadBehind, ReadsSome}
+use Rattle.bsonraw_dump.specs.Reading.{IsReadBehind, IsWindow, ahead_of}
+use Rattle.bsonraw_dump.specs.Resync.{IsNextPlace, SkipsTo}
+use Rattle.bsonraw_dump.specs.declared.window.Window.{Window}
 use Rattle.bsonraw_dump.specs.Find.{Account, Finds}
 use Rattle.bsonraw_dump.specs.Listing.{ListsDocument}
-use Rattle.bsonraw_dump.specs.Told.{ending_line, line, report_line, words_of}
+use Rattle.bsonraw_dump.specs.Told.{ending_line, last_line, line, report_line, words_of}
 use Rattle.bsonraw_dump.specs.Unique.{knows, written_of, known_behind}
 use Rattle.bsonraw_dump.specs.declared.failure.Failure.{Failure}
 use Rattle.bsonraw_dump.specs.declared.failure.Failure.TheVariants as failure
@@ -17,6 +19,7 @@ use Rattle.bsonraw_dump.specs.declared.command.Command.TheVariants as command
 use Rattle.bsonraw_dump.specs.declared.counts.Counts.{Counts}
 use Rattle.bsonraw_dump.specs.declared.digests.Digests.{Digests}
 use Rattle.bsonraw_dump.specs.declared.ending.Ending.{Ending}
+use Rattle.bsonraw_dump.specs.declared.resync.Skip.{Skip}
 use Rattle.bsonraw_dump.specs.declared.find.Finding.{Finding}
 use Rattle.bsonraw_dump.specs.declared.find.Finding.TheVariants as finding
 use Rattle.bsonraw_dump.specs.declared.style.Style.{Style}
@@ -77,10 +80,49 @@ pub record IsEntry (c : Command) (style : Style) (name : List ℕ) (offset : ℕ
   pub makes : Makes c e.bytes e.finding e.made
   pub reports : Reports c style name offset e.bytes e.finding e.told e.lines
 
--- pieces one behind the other, the first of which begins at this offset of the input
-abbrev pub AreEntries : Command → Style → List ℕ → ℕ → List Entry → Type 0
-AreEntries c style name offset [] = Unit {0}
-AreEntries c style name offset (e ∷ es) = IsEntry c style name offset e × AreEntries c style name (offset + length e.bytes) es
+-- bytes of an input that are passed over, since no document is in front of them, why not, how many, and the line of that
+pub record Gap : Type 0 where
+  pub bytes : List ℕ
+  pub end : Ending
+  pub skip : Skip
+  pub lines : List ℕ
+
+-- What is so of a gap at this offset of an input, of which these bytes are known: it is asked for, no document is in front of
+-- it, and the next place at which documents go on is behind it.
+pub record IsGap (style : Style) (resync : Bool) (name : List ℕ) (input : Option (List ℕ)) (offset : ℕ) (g : Gap) : Type 0 where
+  pub asked : resync ≡ true
+  pub ends : IfSome input (λ s. EndsWith g.end (drop offset s))
+  pub len : length g.bytes ≡ g.skip.count
+  pub next : IfSome input (λ s. IsNextPlace (drop offset s) g.skip)
+  pub reports : g.lines ≡ ending_line style name offset g.end (Some g.skip)
+
+-- a part of an input: a piece, or a gap
+pub data Part : Type 0 where
+  piece : Entry → Part
+  gap : Gap → Part
+
+abbrev pub bytes_of_part : Part → List ℕ
+bytes_of_part (piece e) = e.bytes
+bytes_of_part (gap g) = g.bytes
+
+abbrev pub made_of_part : Part → List (List ℕ)
+made_of_part (piece e) = e.made
+made_of_part (gap g) = []
+
+abbrev pub lines_of_part : Part → List ℕ
+lines_of_part (piece e) = e.lines
+lines_of_part (gap g) = g.lines
+
+-- what is so of a part at this offset of an input
+abbrev pub IsPart : Command → Style → (resync : Bool) → List ℕ → Option (List ℕ) → ℕ → Part → Type 0
+IsPart c style resync name input offset (piece e) = IsEntry c style name offset e
+IsPart c style resync name input offset (gap g) = IsGap style resync name input offset g
+
+-- parts one behind the other, the first of which begins at this offset of the input
+abbrev pub AreParts : Command → Style → (resync : Bool) → List ℕ → Option (List ℕ) → ℕ → List Part → Type 0
+AreParts c style resync name input offset [] = Unit {0}
+AreParts c style resync name input offset (p ∷ ps) =
+    IsPart c style resync name input offset p × AreParts c style resync name input (offset + length (bytes_of_part p)) ps
 
 -- these documents are written, or of unique those that are new, and their digests are known then
 pub record Writes (c : Command) (made : List (List ℕ)) (out_old out_new : Option (List ℕ)) (digests_old digests_new : Digests) : Type 0 where
@@ -94,16 +136,17 @@ Emits c b found out_old out_new digests_old digests_new = (made : List (List ℕ
 -- a piece at this offset is passed: what is written of it, and what is reported
 abbrev pub PassesOne : Command → Style → List ℕ → ℕ → List ℕ → (out_old out_new report_old report_new : Option (List ℕ)) → (digests_old digests_new : Digests) → Finding → Type 0
 PassesOne c style name offset b out_old out_new report_old report_new digests_old digests_new found =
-    (told : Option Account) × Finds b found told × Emits c b found out_old out_new digests_old digests_new × ((lines : List ℕ) × Reports c style name offset b found told lines × Appends report_old report_new lines)
+    (told : Option Account) × Finds b found told × Emits c b found out_old out_new digests_old digests_new
+    × ((lines : List ℕ) × Reports c style name offset b found told lines × Appends report_old report_new lines)
 
-abbrev pub bytes_of_entries : List Entry → List ℕ
-bytes_of_entries es = flat_map (λ e. e.bytes) es
+abbrev pub bytes_of_parts : List Part → List ℕ
+bytes_of_parts ps = flat_map bytes_of_part ps
 
-abbrev pub made_of_entries : List Entry → List (List ℕ)
-made_of_entries es = flat_map (λ e. e.made) es
+abbrev pub made_of_parts : List Part → List (List ℕ)
+made_of_parts ps = flat_map made_of_part ps
 
-abbrev pub lines_of_entries : List Entry → List ℕ
-lines_of_entries es = flat_map (λ e. e.lines) es
+abbrev pub lines_of_parts : List Part → List ℕ
+lines_of_parts ps = flat_map lines_of_part ps
 
 -- one more of what is found
 abbrev pub count_finding : Finding → Counts → Counts
@@ -115,36 +158,72 @@ count_finding finding.Damaged n = record n { damaged = n.damaged + 1 }
 abbrev pub count_entry : Counts → Entry → Counts
 count_entry n e = count_finding e.finding (record n { documents = n.documents + 1; bytes = n.bytes + length e.bytes })
 
--- These pieces were read, and of them this was written and counted, and nothing else. Known bytes are those of a reader and
--- two writers.
-pub record Passed (c : Command) (style : Style) (name : List ℕ) (read_old read_new out_old out_new report_old report_new : Option (List ℕ)) (counts_old counts_new : Counts) (digests_old digests_new : Digests) (es : List Entry) : Type 0 where
-  pub entries : AreEntries c style name 0 es
-  pub is_read : Consumes read_old read_new (bytes_of_entries es)
-  pub is_written : Writes c (made_of_entries es) out_old out_new digests_old digests_new
-  pub is_reported : Appends report_old report_new (lines_of_entries es)
-  pub is_counted : counts_new ≡ fold count_entry counts_old es
+-- one more part; only documents are counted
+abbrev pub count_part : Counts → Part → Counts
+count_part n (piece e) = count_entry n e
+count_part n (gap g) = n
 
--- How a run ends: pieces were passed; then this was left to be read, of which no piece is made, and its line was written.
--- What was known of the reader and the report between the two is a part of it.
-pub record Ends (c : Command) (style : Style) (name : List ℕ) (read_old read_new out_old out_new report_old report_new : Option (List ℕ)) (counts_old counts_new : Counts) (digests_old digests_new : Digests) (ending : Ending) : Type 0 where
-  pub es : List Entry
-  pub read_between : Option (List ℕ)
+-- whether there is no gap, and nothing is left
+abbrev pub are_sound : List Part → Option Ending → Bool
+are_sound [] None = true
+are_sound [] (Some end) = false
+are_sound (piece e ∷ ps) end = are_sound ps end
+are_sound (gap g ∷ ps) end = false
+
+-- These parts were read, and behind them what is ahead; and of the parts this was written and counted, and nothing else. Known
+-- bytes are those of a reader and two writers.
+pub record Passed (c : Command) (style : Style) (resync : Bool) (name ahead : List ℕ)
+    (read_old read_new out_old out_new report_old report_new : Option (List ℕ)) (counts_old counts_new : Counts) (digests_old digests_new : Digests)
+    (ps : List Part) : Type 0 where
+  pub parts : AreParts c style resync name read_old 0 ps
+  pub is_read : Consumes read_old read_new (bytes_of_parts ps ++ ahead)
+  pub is_written : Writes c (made_of_parts ps) out_old out_new digests_old digests_new
+  pub is_reported : Appends report_old report_new (lines_of_parts ps)
+  pub is_counted : counts_new ≡ fold count_part counts_old ps
+
+-- nothing is left of an input, or bytes that no document begins with
+abbrev pub EndsAs : Option Ending → List ℕ → (read_new : Option (List ℕ)) → Type 0
+EndsAs None left read_new = (left ≡ []) × IsAtEnd read_new
+EndsAs (Some end) left read_new = EndsWith end left × IsReadBehind end read_new
+
+-- How a run ends: parts were passed; then this was left to be read, of which no part is made, and its line was written.
+-- Nothing is left where bytes are passed over. What was known of the report between the two is a part of it.
+pub record Ends (c : Command) (style : Style) (resync : Bool) (name : List ℕ) (read_old read_new out_old out_new report_old report_new : Option (List ℕ))
+    (counts_old counts_new : Counts) (digests_old digests_new : Digests) (sound : Bool) : Type 0 where
+  pub ps : List Part
   pub report_between : Option (List ℕ)
-  pub passed : Passed c style name read_old read_between out_old out_new report_old report_between counts_old counts_new digests_old digests_new es
   pub left : List ℕ
-  pub ends : EndsWith ending left
-  pub read_left : Consumes read_between read_new left
-  pub read_behind : IsReadBehind ending read_new
-  pub told : Appends report_between report_new (ending_line style name (length (bytes_of_entries es)) ending)
+  pub passed : Passed c style resync name left read_old read_new out_old out_new report_old report_between counts_old counts_new digests_old digests_new ps
+  pub end : Option Ending
+  pub ends : EndsAs end left read_new
+  pub whole : resync ≡ true → end ≡ None
+  pub told : Appends report_between report_new (last_line style name (length (bytes_of_parts ps)) end)
+  pub is_sound : sound ≡ are_sound ps end
 
--- Reading fails: pieces were passed, and some bytes behind them were read.
-pub record Stops (c : Command) (style : Style) (name : List ℕ) (read_old read_new out_old out_new report_old report_new : Option (List ℕ)) (counts_old counts_new : Counts) (digests_old digests_new : Digests) : Type 0 where
-  pub es : List Entry
-  pub read_between : Option (List ℕ)
-  pub passed : Passed c style name read_old read_between out_old out_new report_old report_new counts_old counts_new digests_old digests_new es
-  pub read_some : ReadsSome read_between read_new
+-- Reading fails: parts were passed, and some bytes behind them were read.
+pub record Stops (c : Command) (style : Style) (resync : Bool) (name : List ℕ) (read_old read_new out_old out_new report_old report_new : Option (List ℕ))
+    (counts_old counts_new : Counts) (digests_old digests_new : Digests) : Type 0 where
+  pub ps : List Part
+  pub ahead : List ℕ
+  pub passed : Passed c style resync name ahead read_old read_new out_old out_new report_old report_new counts_old counts_new digests_old digests_new ps
 
 -- nothing is said of what was written where there is no memory, or where writing fails
 abbrev pub IsReading : Failure → Type 0
 IsReading (failure.Reading e) = Unit {0}
 IsReading _ = ⊥
+
+-- at the bytes ahead no document begins, and bytes are passed over; their line was written
+pub record PassesGap (style : Style) (name : List ℕ) (end : Ending) (read_old read_new : Option (List ℕ)) (window_old window_new : Window) (report_old report_new : Option (List ℕ)) : Type 0 where
+  pub skip : Skip
+  pub skips : SkipsTo read_old read_new window_old window_new skip
+  pub told : Appends report_old report_new (ending_line style name window_old.offset end (Some skip))
+
+-- the document of so many bytes in front of the bytes ahead is passed
+pub record PassesFront (c : Command) (style : Style) (name : List ℕ) (len : ℕ) (window_old window_new : Window)
+    (out_old out_new report_old report_new : Option (List ℕ)) (counts_old counts_new : Counts) (digests_old digests_new : Digests) : Type 0 where
+  pub window : IsWindow window_new
+  pub offset : window_new.offset ≡ window_old.offset + len
+  pub ahead : ahead_of window_new ≡ drop len (ahead_of window_old)
+  pub finding : Finding
+  pub passed : PassesOne c style name window_old.offset (take len (ahead_of window_old)) out_old out_new report_old report_new digests_old digests_new finding
+  pub is_counted : (e : Entry) → length e.bytes ≡ len → e.finding ≡ finding → counts_new ≡ count_entry counts_old e

@@ -1,5 +1,5 @@
 -- How what is told is printed: in words, or as an object of JSON.
-use Rattle.std.specs.Prelude.{◌≡◌, ℕ, List, [], ◌∷◌, ◌++◌, Option, None, Some, codes, decimal, flat_map, map}
+use Rattle.std.specs.Prelude.{◌≡◌, ℕ, List, [], ◌∷◌, ◌++◌, Bool, true, false, Option, None, Some, codes, decimal, flat_map, map}
 use Rattle.json.specs.Print.{print, quoted}
 use Rattle.json.specs.Token.{Token, begin_object, end_object, begin_array, end_array, key, string, number, null}
 use Rattle.json.specs.Written.{Written}
@@ -8,6 +8,7 @@ use Rattle.bsonraw_dump.specs.Find.{Account, Spot}
 use Rattle.bsonraw_dump.specs.declared.counts.Counts.{Counts}
 use Rattle.bsonraw_dump.specs.declared.ending.Ending.{Ending}
 use Rattle.bsonraw_dump.specs.declared.ending.Ending.TheVariants as ending
+use Rattle.bsonraw_dump.specs.declared.resync.Skip.{Skip}
 use Rattle.bsonraw_dump.specs.declared.style.Style.{Style}
 use Rattle.bsonraw_dump.specs.declared.style.Style.TheVariants as style
 
@@ -83,14 +84,44 @@ abbrev pub report_line : Style → List ℕ → ℕ → Account → List ℕ
 report_line style.Words name offset told = line name offset (words_of told)
 report_line style.Json name offset told = object_line (head_members name offset ++ members_of told)
 
--- the line of an input whose lengths are unsound
-abbrev pub ending_line : Style → List ℕ → ℕ → Ending → List ℕ
-ending_line _ name offset ending.Whole = []
-ending_line style.Words name offset (ending.CutOff count) = line name offset (codes "cut off: only " ++ decimal count ++ codes " bytes of a document")
-ending_line style.Words name offset ending.Unsound = line name offset (codes "unsound length")
-ending_line style.Json name offset (ending.CutOff count) =
-    object_line (head_members name offset ++ key (codes "finding") ∷ string (codes "cut off") ∷ key (codes "bytes") ∷ number (decimal count) ∷ [])
-ending_line style.Json name offset ending.Unsound = object_line (head_members name offset ++ key (codes "finding") ∷ string (codes "unsound length") ∷ [])
+-- whether all places in what is passed over were checked
+abbrev pub all_text : Bool → List ℕ
+all_text true = []
+all_text false = codes ", not each place checked"
+
+-- how many bytes are passed over, in words
+abbrev pub skip_text : Option Skip → List ℕ
+skip_text None = []
+skip_text (Some skip) = codes ": " ++ decimal skip.count ++ codes " bytes passed over" ++ all_text skip.all
+
+-- the same as members of an object
+abbrev pub all_members : Bool → List Token
+all_members true = []
+all_members false = key (codes "checked") ∷ string (codes "not each place") ∷ []
+
+abbrev pub skip_members : Option Skip → List Token
+skip_members None = []
+skip_members (Some skip) = key (codes "passed over") ∷ number (decimal skip.count) ∷ all_members skip.all
+
+-- why no document is in front of what is left, in words
+abbrev pub ending_text : Ending → List ℕ
+ending_text (ending.CutOff count) = codes "cut off: only " ++ decimal count ++ codes " bytes of a document"
+ending_text ending.Unsound = codes "unsound length"
+
+-- the same as members of an object
+abbrev pub ending_members : Ending → List Token
+ending_members (ending.CutOff count) = key (codes "finding") ∷ string (codes "cut off") ∷ key (codes "bytes") ∷ number (decimal count) ∷ []
+ending_members ending.Unsound = key (codes "finding") ∷ string (codes "unsound length") ∷ []
+
+-- the line of a place at which no document begins, and how many bytes are passed over there
+abbrev pub ending_line : Style → List ℕ → ℕ → Ending → Option Skip → List ℕ
+ending_line style.Words name offset end skipped = line name offset (ending_text end ++ skip_text skipped)
+ending_line style.Json name offset end skipped = object_line (head_members name offset ++ ending_members end ++ skip_members skipped)
+
+-- the last line of an input: why no document is in front of what is left; none where nothing is left
+abbrev pub last_line : Style → List ℕ → ℕ → Option Ending → List ℕ
+last_line style name offset None = []
+last_line style name offset (Some end) = ending_line style name offset end None
 
 -- the line behind all that a check reports
 abbrev pub summary_line : Style → Counts → List ℕ

@@ -3,9 +3,10 @@
 
 use crate::command::Command;
 use crate::style::Style;
+use crate::version::VERSION;
 use bson_json::{Format, Layout, Style as JsonStyle};
 use clap::{Arg, ArgAction, ArgMatches, Error};
-use std::alloc::Global;
+use std::alloc::{AllocError, Global};
 
 /// What the arguments ask for.
 #[derive(Drop)]
@@ -14,6 +15,8 @@ pub struct Task<'a> {
     pub command: Command,
     /// how what is found is printed
     pub style: Style,
+    /// whether it is looked for where documents go on behind a length that is unsound
+    pub resync: bool,
     /// the file that is written in place of standard output
     pub output: Option<&'a str>,
     /// what is read; nothing and `-` are standard input
@@ -50,7 +53,21 @@ fn switch<'a>(alloc: Global, name: &'a str, help: &'a str) -> Arg<'a> {
         .action(ArgAction::SetTrue)
 }
 
-fn documents_as_json<'a>(alloc: Global) -> Result<clap::Command<'a>, Error> {
+/// A command that reads FILEs.
+fn reading<'a>(alloc: Global, command: clap::Command<'a>) -> Result<clap::Command<'a>, AllocError> {
+    let help =
+        "Goes on behind an unsound length, at the next place where two sound documents begin";
+    command
+        .arg(switch(alloc, "resync", help))?
+        .arg(files(alloc))
+}
+
+/// A command that writes documents.
+fn writing<'a>(alloc: Global, command: clap::Command<'a>) -> Result<clap::Command<'a>, AllocError> {
+    reading(alloc, command.arg(json(alloc))?.arg(output(alloc))?)
+}
+
+fn documents_as_json<'a>(alloc: Global) -> Result<clap::Command<'a>, AllocError> {
     let command = clap::Command::new(alloc, "json")
         .about("Writes each document without damage as MongoDB Extended JSON v2, a line each")
         .arg(switch(
@@ -62,48 +79,37 @@ fn documents_as_json<'a>(alloc: Global) -> Result<clap::Command<'a>, Error> {
             alloc,
             "indent",
             "Prints a line for each member, indented by two spaces a level",
-        ))?
-        .arg(json(alloc))?
-        .arg(output(alloc))?
-        .arg(files(alloc))?;
-    Ok(command)
+        ))?;
+    writing(alloc, command)
 }
 
 /// The command line as a whole.
-pub fn command_line<'a>(alloc: Global) -> Result<clap::Command<'a>, Error> {
-    let check = clap::Command::new(alloc, "check")
-        .about("Names each document that isn't canonical, and counts")
-        .arg(json(alloc))?
-        .arg(files(alloc))?;
-    let list = clap::Command::new(alloc, "list")
-        .about("Lists the elements of each document, at every level")
-        .arg(files(alloc))?;
-    let canon = clap::Command::new(alloc, "canon")
-        .about("Writes the canonical form of each document without damage")
-        .arg(json(alloc))?
-        .arg(output(alloc))?
-        .arg(files(alloc))?;
-    let sound = clap::Command::new(alloc, "sound")
-        .about("Writes each document without damage, unchanged")
-        .arg(json(alloc))?
-        .arg(output(alloc))?
-        .arg(files(alloc))?;
-    let unique = clap::Command::new(alloc, "unique")
-        .about("Writes each canonical form once; takes 100 bytes of memory a form at most")
-        .arg(json(alloc))?
-        .arg(output(alloc))?
-        .arg(files(alloc))?;
-    let line = clap::Command::new(alloc, "bsonraw-dump")
-        .version("2.0.0")
+pub fn command_line<'a>(alloc: Global) -> Result<clap::Command<'a>, AllocError> {
+    let check = clap::Command::new(alloc, "check").about(
+        "Names each document that isn't canonical, and counts",
+    );
+    let list = clap::Command::new(alloc, "list").about(
+        "Lists the elements of each document, at every level",
+    );
+    let canon = clap::Command::new(alloc, "canon").about(
+        "Writes the canonical form of each document without damage",
+    );
+    let sound = clap::Command::new(alloc, "sound").about(
+        "Writes each document without damage, unchanged",
+    );
+    let unique = clap::Command::new(alloc, "unique").about(
+        "Writes each canonical form once; takes 100 bytes of memory a form at most",
+    );
+    clap::Command::new(alloc, "bsonraw-dump")
+        .version(VERSION)
         .about("Checks dumps: BSON documents one behind the other")
         .subcommand_required(true)
-        .subcommand(check)?
-        .subcommand(list)?
-        .subcommand(canon)?
-        .subcommand(sound)?
-        .subcommand(unique)?
-        .subcommand(documents_as_json(alloc)?)?;
-    Ok(line)
+        .subcommand(reading(alloc, check.arg(json(alloc))?)?)?
+        .subcommand(reading(alloc, list)?)?
+        .subcommand(writing(alloc, canon)?)?
+        .subcommand(writing(alloc, sound)?)?
+        .subcommand(writing(alloc, unique)?)?
+        .subcommand(documents_as_json(alloc)?)
 }
 
 fn style_of(matches: &ArgMatches<'_>) -> Style {
@@ -158,6 +164,7 @@ fn task_of<'a>(
     Ok(Task {
         command,
         style,
+        resync: matches.get_flag("resync"),
         output,
         inputs,
     })

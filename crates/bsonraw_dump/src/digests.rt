@@ -1,11 +1,11 @@
-//! The digests of the forms that came.
+//! The digests of the forms so far.
 #![tactic(auto)]
 
 use sha2::{Digest, Sha256};
 use std::alloc::{AllocError, Global};
 use std::collections::BTreeSet;
 
-/// The digests of the forms that came, each in 32 bytes.
+/// The digests of the forms so far, each in 32 bytes.
 #[derive(Drop)]
 pub struct Digests {
     set: BTreeSet<[u8; 32]>,

@@ -1,10 +1,8 @@
-/// How an input ends.
+/// Why no document is in front of what is left of an input.
 #[derive(Clone, Copy)]
 pub enum Ending {
-    /// behind a document, or it is empty
-    Whole,
-    /// behind so many bytes of a document that says more
+    /// only so many bytes are left of a document that says more
     CutOff(usize),
-    /// a length that no document has: what is behind it wasn't read
+    /// no document has the length in front
     Unsound,
 }

@@ -4,7 +4,7 @@ use std::io;
 /// Why a run over an input doesn't come to its end.
 #[derive(Drop)]
 pub enum Failure {
-    /// there was not enough memory
+    /// memory ran out
     Memory,
     /// reading failed
     Reading(io::Error),

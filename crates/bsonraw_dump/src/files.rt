@@ -5,20 +5,19 @@ use crate::args::{Task, parsed};
 use crate::command::Command;
 use crate::counts::Counts;
 use crate::digests::Digests;
-use crate::ending::Ending;
 use crate::failure::Failure;
 use crate::output::into_file;
-use crate::run::{put_summary, run};
+use crate::run::{Asked, put_summary, run};
 use crate::status::Status;
 use crate::style::Style;
 use crate::tell::{tell, tell_words};
 use crate::watch::Watched;
 use std::alloc::Global;
 use std::fs::File;
-use std::io::{BufReader, BufWriter, ErrorKind, Read, Write};
+use std::io::{BufWriter, ErrorKind, Read, Write};
 use std::{env, io};
 
-/// How many bytes are read, or written, at a time.
+/// How many bytes are written at a time.
 pub const BLOCK: usize = 1 << 18;
 
 /// What came of the inputs so far.
@@ -32,6 +31,8 @@ pub struct Totals {
     pub status: Status,
     /// whether the run goes on: there is memory, and writing didn't fail
     pub goes_on: bool,
+    /// whether all inputs were read to their ends
+    pub is_whole: bool,
 }
 
 impl Totals {
@@ -42,12 +43,19 @@ impl Totals {
             digests: Digests::new(alloc),
             status: Status::Done,
             goes_on: true,
+            is_whole: true,
         }
     }
 
     /// This happened, too.
     fn worsen(&mut self, status: Status) {
         self.status = self.status.or(status);
+    }
+
+    /// An input wasn't read to its end.
+    fn lacks(&mut self) {
+        self.worsen(Status::Input);
+        self.is_whole = false;
     }
 
     /// The run ends with this.
@@ -171,7 +179,7 @@ fn one<D: Write, W: Write>(
         }
         Err(error) => {
             tell(rt, task.style, name, &error);
-            totals.worsen(Status::Input);
+            totals.lacks();
         }
     }
 }
@@ -185,22 +193,25 @@ fn read<R: Read + Drop, D: Write, W: Write>(
     report: &mut W,
     totals: &mut Totals,
 ) {
-    let Ok(mut reader) = BufReader::with_capacity(rt.alloc(), BLOCK, reader) else {
-        return failed(rt, task, name, Failure::Memory, totals);
+    let mut reader = reader;
+    let asked = Asked {
+        command: task.command,
+        style: task.style,
+        resync: task.resync,
+        name,
     };
     match run(
         rt.alloc(),
-        task.command,
-        task.style,
-        name,
+        asked,
         &mut reader,
         data,
         report,
         &mut totals.counts,
         &mut totals.digests,
     ) {
-        Ok(Ending::Whole) => {}
-        Ok(Ending::CutOff(_) | Ending::Unsound) => totals.worsen(Status::Input),
+        Ok(true) => {}
+        Ok(false) if task.resync => totals.worsen(Status::Input),
+        Ok(false) => totals.lacks(),
         Err(failure) => failed(rt, task, name, failure, totals),
     }
 }
@@ -227,7 +238,7 @@ pub fn failed(
         }
         Failure::Reading(error) => {
             tell(rt, task.style, name, &error);
-            totals.worsen(Status::Input);
+            totals.lacks();
         }
         Failure::Writing(error) if error.kind() == ErrorKind::BrokenPipe => {
             totals.end(Status::Done);

@@ -12,8 +12,8 @@ ghost use Rattle.bsonraw_dump.specs.Cut.{most};
 ghost use Rattle.raw_tree.specs.WithinLimits as within;
 ghost use Rattle.bsonraw_dump.specs.Find.{account_of, Finds, limits, SaysBarrier, spot_of, verdict_of, verdict_word};
 
-use crate::input::MOST;
 use crate::reason::kind_words;
+use crate::window::MOST;
 use raw_form::{Barrier, BarrierKind, Place, ValidateError, first_fault_within, validate_within};
 use raw_tree::{Cause, Limits};
 use raw_view::{ErrorKind, RawDocument};

@@ -85,7 +85,7 @@ fn head(alloc: Global, depth: usize, key: &str) -> Result<Vec<u8>, AllocError>
     Ok(text)
 }
 
-/// Behind the text, the reason of a fault.
+/// Puts the reason of a fault behind the text.
 fn push_fault(text: &mut Vec<u8>, error: &BorrowedError<'_>) -> Result<(), AllocError>
     ensures { OnOk result
         (text.new.items ≡ text.old.items ++ (codes "damaged: " ++ find.kind_text error.now.kind)) }

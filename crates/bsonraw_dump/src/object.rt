@@ -7,11 +7,13 @@ ghost use Rattle.json.specs.Token.{Token, begin_object, end_object, key, number,
 ghost use Rattle.json.specs.Written.{Written};
 ghost use Rattle.raw_form.specs.Barriers.{step_of};
 ghost use Rattle.bsonraw_dump.specs.Find.{account_of, spot_of};
-ghost use Rattle.bsonraw_dump.specs.Told.{head_members, key_token, keys_members, members_of, number_token, numbers_members, object_line, report_line, spot_members, summary_line, text_or_null, Grows};
+ghost use Rattle.bsonraw_dump.specs.Told.{all_members, ending_members, head_members, key_token, keys_members, members_of, number_token, numbers_members, object_line, report_line, skip_members, spot_members, summary_line, text_or_null, Grows};
 ghost use Rattle.bsonraw_dump.specs.declared.style.Style.TheVariants.{Json};
 
 use crate::counts::Counts;
+use crate::ending::Ending;
 use crate::find::Told;
+use crate::resync::Skip;
 use json::Writer;
 use raw_form::{PathStep, Place};
 use std::alloc::{AllocError, Global};
@@ -153,29 +155,54 @@ pub fn told_object(
     ended(object)
 }
 
-/// The line of an input that is cut off behind so many bytes of a document.
-pub fn cut_off_object(
+/// Puts the members that tell why no document is in front of what is left.
+fn put_ending(object: &mut Writer, ending: Ending) -> Result<(), AllocError>
+    ensures { OnOk result (Grows object.old object.new (ending_members ending)) }
+{
+    match ending {
+        Ending::CutOff(count) => {
+            put_text(object, "finding", "cut off")?;
+            put_number(object, "bytes", count as u64)
+        }
+        Ending::Unsound => put_text(object, "finding", "unsound length"),
+    }
+}
+
+/// Puts the members that tell how many bytes are passed over.
+fn put_skipped(object: &mut Writer, skipped: Option<Skip>) -> Result<(), AllocError>
+    ensures { OnOk result (Grows object.old object.new (skip_members skipped)) }
+{
+    let Some(skipped) = skipped else {
+        return Ok(());
+    };
+    put_number(object, "passed over", skipped.count)?;
+    put_all(object, skipped.all)
+}
+
+/// Puts the member that tells whether each place in what is passed over was checked, if one wasn't.
+fn put_all(object: &mut Writer, all: bool) -> Result<(), AllocError>
+    ensures { OnOk result (Grows object.old object.new (all_members all)) }
+{
+    match all {
+        true => Ok(()),
+        false => put_text(object, "checked", "not each place"),
+    }
+}
+
+/// The line of a place at which no document begins.
+pub fn ending_object(
     alloc: Global,
     name: &str,
     offset: u64,
-    count: usize,
+    ending: Ending,
+    skipped: Option<Skip>,
 ) -> Result<Vec<u8>, AllocError>
     ensures { IfOk result (λ text. text.items
-        ≡ object_line (head_members name.now offset ++ key (codes "finding") ∷ string (codes "cut off") ∷ key (codes "bytes") ∷ number (decimal count) ∷ [])) }
+        ≡ object_line (head_members name.now offset ++ ending_members ending ++ skip_members skipped)) }
 {
     let mut object = placed(alloc, name, offset)?;
-    put_text(&mut object, "finding", "cut off")?;
-    put_number(&mut object, "bytes", count as u64)?;
-    ended(object)
-}
-
-/// The line of an input in which no document can have the next length.
-pub fn unsound_object(alloc: Global, name: &str, offset: u64) -> Result<Vec<u8>, AllocError>
-    ensures { IfOk result (λ text. text.items
-        ≡ object_line (head_members name.now offset ++ key (codes "finding") ∷ string (codes "unsound length") ∷ [])) }
-{
-    let mut object = placed(alloc, name, offset)?;
-    put_text(&mut object, "finding", "unsound length")?;
+    put_ending(&mut object, ending)?;
+    put_skipped(&mut object, skipped)?;
     ended(object)
 }
 

@@ -73,7 +73,7 @@ fn replaced(
     let beside = format!(in rt.alloc(); "{place}.{number}.tmp")?;
     let file = File::create_new(rt, beside.as_str())?;
     let totals = match filled(rt, task, file, mode) {
-        Ok(totals) if totals.goes_on && totals.status.code() < 3 => {
+        Ok(totals) if totals.goes_on && totals.is_whole => {
             fs::rename(rt, beside.as_str(), place.as_str())?;
             return Ok(totals.status);
         }

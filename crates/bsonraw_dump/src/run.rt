@@ -1,15 +1,16 @@
 //! Runs a command over an input.
 #![tactic(auto)]
 
-ghost use Rattle.std.specs.Prelude.{◌≡◌, ℕ, List, Option, [], ◌∷◌, ◌++◌, codes, IfOk, IfErr, OnOk};
+ghost use Rattle.std.specs.Prelude.{◌≡◌, ℕ, List, Option, [], ◌∷◌, ◌++◌, ◌<◌, ◌≤◌, codes, IfOk, IfErr, OnOk, length, take};
 ghost use Rattle.std.specs.Option.{option_map};
-ghost use Rattle.std.specs.Io.KnownBytes.{Appends};
+ghost use Rattle.std.specs.Io.KnownBytes.{Appends, Keeps};
 ghost use Rattle.bsonraw_dump.specs.Cut.{IsPiece};
 ghost use Rattle.bsonraw_dump.specs.Find.{Finds};
+ghost use Rattle.bsonraw_dump.specs.Reading.{IsWindow, LooksSome, ahead_of};
 ghost use Rattle.bsonraw_dump.specs.Listing.{ListsDocument};
 ghost use Rattle.bsonraw_dump.specs.Find.{Account, account_of};
 ghost use Rattle.bsonraw_dump.specs.Told.{ending_line, line, summary_line};
-ghost use Rattle.bsonraw_dump.specs.Run.{Emits, Ends, IsReading, PassesOne, Reports, Stops, Writes, head_text};
+ghost use Rattle.bsonraw_dump.specs.Run.{Emits, Ends, IsReading, PassesFront, PassesGap, PassesOne, Reports, Stops, Writes, head_text};
 ghost use Rattle.bsonraw_dump.specs.Run as says;
 ghost use Rattle.raw_tree.specs.CanonicalForm.{IsCanonicalForm};
 ghost use Rattle.raw_view.specs.Envelope.{IsEnvelope};
@@ -22,11 +23,12 @@ use crate::digests::Digests;
 use crate::ending::Ending;
 use crate::failure::Failure;
 use crate::find::{Finding, Found, Told, find, most_allowed};
-use crate::input::read_document;
 use crate::listing::list_level;
-use crate::object::{cut_off_object, summary_object, told_object, unsound_object};
+use crate::object::{ending_object, summary_object, told_object};
+use crate::resync::{Skip, pass_over};
 use crate::style::Style;
-use crate::text::{cut_off_words, line_of, sized, summary, told_line};
+use crate::text::{ending_words, line_of, sized, summary, told_line};
+use crate::window::{Next, Window, look_ahead};
 use crate::write::put;
 use bson_json::{Style as JsonStyle, WriteJsonError, write_json};
 use raw_form::canonical_within;
@@ -35,48 +37,110 @@ use std::alloc::{AllocError, Global};
 use std::io;
 use std::io::{Read, Write};
 
-/// Reads an input to its end, a document at a time, writes what the command gives of each, and reports in a line what is
-/// wrong with it. The name stands at the head of each line.
+/// What is asked of an input.
+#[derive(Clone, Copy)]
+pub struct Asked<'a> {
+    /// what is asked of its documents
+    pub command: Command,
+    /// how what is found is printed
+    pub style: Style,
+    /// whether bytes are passed over where no document begins
+    pub resync: bool,
+    /// its name, which begins each line
+    pub name: &'a str,
+}
+
+/// Reads an input, a document at a time, writes what the command gives of each, and reports in a line what is wrong with
+/// it. Where no document is in front of what is left, bytes are passed over until documents go on, if that is asked for;
+/// else the run ends. Returns whether all lengths were sound.
 pub fn run<R: Read, D: Write, W: Write>(
     alloc: Global,
-    command: Command,
-    style: Style,
-    name: &str,
+    asked: Asked<'_>,
     reader: &mut R,
     out: &mut D,
     report: &mut W,
     counts: &mut Counts,
     digests: &mut Digests,
-) -> Result<Ending, Failure>
-    ensures ends { IfOk result (Ends command style name.now (R.remaining reader.old) (R.remaining reader.new)
+) -> Result<bool, Failure>
+    ensures ends { IfOk result (Ends asked.entry.command asked.entry.style asked.entry.resync asked.entry.name.now (R.remaining reader.old) (R.remaining reader.new)
         (D.contents out.old) (D.contents out.new) (W.contents report.old) (W.contents report.new) counts.old counts.new digests.old digests.new) }
-    ensures stops { IfErr result (λ failure. IsReading failure → Stops command style name.now (R.remaining reader.old) (R.remaining reader.new)
+    ensures stops { IfErr result (λ failure. IsReading failure → Stops asked.entry.command asked.entry.style asked.entry.resync asked.entry.name.now (R.remaining reader.old) (R.remaining reader.new)
         (D.contents out.old) (D.contents out.new) (W.contents report.old) (W.contents report.new) counts.old counts.new digests.old digests.new) }
 {
-    let mut buffer = Vec::new(alloc);
-    let mut offset = 0u64;
+    let mut window = Window::new(alloc);
+    let mut are_sound = true;
     for _ in 0..u64::MAX {
-        match read_document(reader, &mut buffer) {
-            Ok(None) => {}
-            Ok(Some(ending)) => {
-                put_ending(alloc, style, name, offset, ending, report)?;
-                return Ok(ending);
+        match look_ahead(reader, &mut window)? {
+            Next::Document(len) => {
+                pass_front(alloc, asked, len, &mut window, out, report, counts, digests)?;
             }
-            Err(failure) => return Err(failure),
+            Next::Nothing => return Ok(are_sound),
+            Next::End(ending) => {
+                if !asked.resync {
+                    put_ending(alloc, asked, window.offset(), ending, None, report)?;
+                    return Ok(false);
+                }
+                pass_gap(alloc, asked, ending, reader, &mut window, report)?;
+                are_sound = false;
+            }
         }
-        let finding = pass(
-            alloc, command, style, name, offset, &buffer, out, report, digests,
-        )?;
-        let (Some(more), Some(behind)) = (
-            counts.with(buffer.len(), finding),
-            offset.checked_add(buffer.len() as u64),
-        ) else {
-            break;
-        };
-        *counts = more;
-        offset = behind;
     }
     Err(Failure::Writing(io::Error::from(io::ErrorKind::FileTooLarge)))
+}
+
+/// Passes the document of so many bytes in front of the bytes ahead.
+fn pass_front<D: Write, W: Write>(
+    alloc: Global,
+    asked: Asked<'_>,
+    len: usize,
+    window: &mut Window,
+    out: &mut D,
+    report: &mut W,
+    counts: &mut Counts,
+    digests: &mut Digests,
+) -> Result<(), Failure>
+    requires { IsWindow window.old × (len ≤ length (ahead_of window.old)) × IsPiece (take len (ahead_of window.old)) }
+    ensures passed { OnOk result (PassesFront asked.entry.command asked.entry.style asked.entry.name.now len window.old window.new
+        (D.contents out.old) (D.contents out.new) (W.contents report.old) (W.contents report.new) counts.old counts.new digests.old digests.new) }
+    ensures failed { IfErr result (λ failure. ¬ IsReading failure) }
+{
+    let bytes = &window.ahead()[..len];
+    let finding = pass(
+        alloc,
+        asked.command,
+        asked.style,
+        asked.name,
+        window.offset(),
+        bytes,
+        out,
+        report,
+        digests,
+    )?;
+    let Some(more) = counts.with(len, finding) else {
+        return Err(Failure::Writing(io::Error::from(io::ErrorKind::FileTooLarge)));
+    };
+    *counts = more;
+    window.pass(len)
+}
+
+/// Passes over bytes in front of which is no document, and tells why none is there.
+fn pass_gap<R: Read, W: Write>(
+    alloc: Global,
+    asked: Asked<'_>,
+    ending: Ending,
+    reader: &mut R,
+    window: &mut Window,
+    report: &mut W,
+) -> Result<(), Failure>
+    requires { IsWindow window.old × (0 < length (ahead_of window.old)) }
+    ensures passed { OnOk result (PassesGap asked.entry.style asked.entry.name.now ending (R.remaining reader.old) (R.remaining reader.new)
+        window.old window.new (W.contents report.old) (W.contents report.new)) }
+    ensures fails { IfErr result (λ failure. IsReading failure
+        → LooksSome (R.remaining reader.old) (R.remaining reader.new) (ahead_of window.old) × Keeps (W.contents report.old) (W.contents report.new)) }
+{
+    let offset = window.offset();
+    let skip = pass_over(alloc, reader, window)?;
+    put_ending(alloc, asked, offset, ending, Some(skip), report)
 }
 
 /// Passes one document.
@@ -192,41 +256,40 @@ fn put_told<W: Write>(
     put(report, &text)
 }
 
-/// The line of how an input ends; empty where it ends behind a document.
+/// The line of a place at which no document begins.
 fn ending_text(
     alloc: Global,
     style: Style,
     name: &str,
     offset: u64,
     ending: Ending,
+    skipped: Option<Skip>,
 ) -> Result<Vec<u8>, AllocError>
-    ensures { IfOk result (λ text. text.items ≡ ending_line style name.now offset ending) }
+    ensures { IfOk result
+        (λ text. text.items ≡ ending_line style name.now offset ending skipped) }
 {
-    match (style, ending) {
-        (_, Ending::Whole) => Ok(Vec::new(alloc)),
-        (Style::Words, Ending::CutOff(count)) => {
-            let words = cut_off_words(alloc, count)?;
+    match style {
+        Style::Words => {
+            let words = ending_words(alloc, ending, skipped)?;
             line_of(alloc, name, offset, &words)
         }
-        (Style::Words, Ending::Unsound) => line_of(alloc, name, offset, b"unsound length"),
-        (Style::Json, Ending::CutOff(count)) => cut_off_object(alloc, name, offset, count),
-        (Style::Json, Ending::Unsound) => unsound_object(alloc, name, offset),
+        Style::Json => ending_object(alloc, name, offset, ending, skipped),
     }
 }
 
 fn put_ending<W: Write>(
     alloc: Global,
-    style: Style,
-    name: &str,
+    asked: Asked<'_>,
     offset: u64,
     ending: Ending,
+    skipped: Option<Skip>,
     report: &mut W,
 ) -> Result<(), Failure>
     ensures written { OnOk result
-        (Appends (W.contents report.old) (W.contents report.new) (ending_line style name.now offset ending)) }
+        (Appends (W.contents report.old) (W.contents report.new) (ending_line asked.entry.style asked.entry.name.now offset ending skipped)) }
     ensures failed { IfErr result (λ failure. ¬ IsReading failure) }
 {
-    let text = ending_text(alloc, style, name, offset, ending)?;
+    let text = ending_text(alloc, asked.style, asked.name, offset, ending, skipped)?;
     put(report, &text)
 }
 

@@ -12,7 +12,7 @@ pub enum Status {
     Usage,
     /// a file can't be read, or its lengths are unsound
     Input,
-    /// there was not enough memory
+    /// memory ran out
     Memory,
     /// writing failed
     Output,

@@ -6,13 +6,15 @@ ghost use Rattle.std.specs.Option.{option_map};
 ghost use Rattle.json.specs.Print.{quoted};
 ghost use Rattle.raw_form.specs.Barriers.{step_of};
 ghost use Rattle.bsonraw_dump.specs.Find.{account_of, spot_of};
-ghost use Rattle.bsonraw_dump.specs.Told.{line, spot_text, step_text, summary_line};
+ghost use Rattle.bsonraw_dump.specs.Told.{all_text, ending_text, line, skip_text, spot_text, step_text, summary_line};
 ghost use Rattle.bsonraw_dump.specs.Told as says;
 ghost use Rattle.bsonraw_dump.specs.Run.{head_text};
 ghost use Rattle.bsonraw_dump.specs.declared.style.Style.TheVariants.{Words};
 
 use crate::counts::Counts;
+use crate::ending::Ending;
 use crate::find::Told;
+use crate::resync::Skip;
 use itoa::Buffer;
 use json::Writer;
 use raw_form::{PathStep, Place};
@@ -116,15 +118,53 @@ pub fn line_of(alloc: Global, name: &str, offset: u64, words: &[u8]) -> Result<V
     Ok(text)
 }
 
-/// How many bytes are there of a document that says more.
-pub fn cut_off_words(alloc: Global, count: usize) -> Result<Vec<u8>, AllocError>
-    ensures { IfOk result
-        (λ text. text.items ≡ codes "cut off: only " ++ decimal count ++ codes " bytes of a document") }
+/// Why no document is in front of what is left, and how many bytes are passed over.
+pub fn ending_words(
+    alloc: Global,
+    ending: Ending,
+    skipped: Option<Skip>,
+) -> Result<Vec<u8>, AllocError>
+    ensures { IfOk result (λ text. text.items ≡ ending_text ending ++ skip_text skipped) }
 {
-    let mut text = Vec::from_slice(alloc, b"cut off: only ")?;
-    push_number(&mut text, count as u64)?;
-    push_words(&mut text, " bytes of a document")?;
+    let mut text = why_ended(alloc, ending)?;
+    push_skipped(&mut text, skipped)?;
     Ok(text)
+}
+
+fn why_ended(alloc: Global, ending: Ending) -> Result<Vec<u8>, AllocError>
+    ensures { IfOk result (λ text. text.items ≡ ending_text ending) }
+{
+    match ending {
+        Ending::CutOff(count) => {
+            let mut text = Vec::from_slice(alloc, b"cut off: only ")?;
+            push_number(&mut text, count as u64)?;
+            push_words(&mut text, " bytes of a document")?;
+            Ok(text)
+        }
+        Ending::Unsound => Vec::from_slice(alloc, b"unsound length"),
+    }
+}
+
+fn push_skipped(text: &mut Vec<u8>, skipped: Option<Skip>) -> Result<(), AllocError>
+    ensures { OnOk result (text.new.items ≡ text.old.items ++ skip_text skipped) }
+{
+    let Some(skipped) = skipped else {
+        return Ok(());
+    };
+    push_words(text, ": ")?;
+    push_number(text, skipped.count)?;
+    push_words(text, " bytes passed over")?;
+    push_words(text, all_words(skipped.all))
+}
+
+/// Whether each place in what is passed over was checked.
+fn all_words(all: bool) -> &'static str
+    ensures { result.now ≡ all_text all }
+{
+    match all {
+        true => "",
+        false => ", not each place checked",
+    }
 }
 
 /// How many bytes a document has, and behind that what is told of it.

@@ -22,7 +22,7 @@ use std::alloc::{AllocError, Global};
 /// A text or bytes of more than so many bytes aren't shown.
 const SHORT: usize = 64;
 
-/// Behind the text, a value: the name of its kind, and what shows it.
+/// Puts a value behind the text: the name of its kind, and what shows it.
 pub fn push_value(
     alloc: Global,
     text: &mut Vec<u8>,
@@ -35,7 +35,7 @@ pub fn push_value(
     push_behind(alloc, text, value)
 }
 
-/// Behind the text, the name of a kind.
+/// Puts the name of a kind behind the text.
 pub fn push_kind(alloc: Global, text: &mut Vec<u8>, kind: ElementType) -> Result<(), AllocError>
     ensures { OnOk result (text.new.items ≡ text.old.items ++ kind_text kind) }
 {
@@ -43,7 +43,7 @@ pub fn push_kind(alloc: Global, text: &mut Vec<u8>, kind: ElementType) -> Result
     push_words(text, name.as_str())
 }
 
-/// Behind the text, what is behind the kind of a value.
+/// Puts what shows a value behind the name of its kind.
 fn push_behind(alloc: Global, text: &mut Vec<u8>, value: RawBsonRef<'_>) -> Result<(), AllocError>
     ensures { OnOk result ((shown : List ℕ) × ShowsBehind (value_of value.entry) shown
         × (text.new.items ≡ text.old.items ++ shown)) }
@@ -113,7 +113,7 @@ fn push_timestamp(text: &mut Vec<u8>, time: Timestamp) -> Result<(), AllocError>
     push_number(text, u64::from(time.increment))
 }
 
-/// Behind the text, words, and bytes as hex digits.
+/// Puts words behind the text, and bytes as hex digits.
 fn push_hex(alloc: Global, text: &mut Vec<u8>, words: &str, bytes: &[u8]) -> Result<(), AllocError>
     ensures { OnOk result
         (text.new.items ≡ text.old.items ++ (words.now ++ encode_lower bytes.now)) }

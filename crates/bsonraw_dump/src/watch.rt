@@ -6,7 +6,7 @@ ghost use Rattle.std.specs.Prelude.{◌≡◌};
 use std::io;
 use std::io::{IsTerminal, Read, Write};
 
-/// So often it is shown: each 8 MiB.
+/// It is shown after each 8 MiB.
 const STEP: u64 = 1 << 23;
 
 /// A reader that shows how many bytes it gave.

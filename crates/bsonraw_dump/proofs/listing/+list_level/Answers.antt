@@ -13,7 +13,8 @@ use Rattle.bsonraw_dump.proofs.listing.+list_level.Goals as goal
 pub returns-in-None-clause-listed : goal.returns-in-None-clause-listed
 returns-in-None-clause-listed g t c =
     let levels : c.args.inside ≡ suc c.in-Some.deeper = search rules in
-    let written = listed_end c.in-Some.deeper c.args.depth (bytes_of c.args.document) c.elements.elements c.next.new.self (g.W.Write.contents c.args.out.now) (g.W.Write.contents c.elements.out) c.elements.invariant c.in-None.ensures.steps in
+    let written = listed_end c.in-Some.deeper c.args.depth (bytes_of c.args.document) c.elements.elements c.next.new.self (g.W.Write.contents c.args.out.now)
+    (g.W.Write.contents c.elements.out) c.elements.invariant c.in-None.ensures.steps in
     subst (λ (n : ℕ). IsWritten n c.args.depth (bytes_of c.args.document) (g.W.Write.contents c.args.out.now) (g.W.Write.contents c.elements.out)) (sym levels) written
 
 pub returns-in-Some-Err-clause-listed : goal.returns-in-Some-Err-clause-listed
@@ -23,7 +24,9 @@ returns-in-Some-Err-clause-listed g t c =
     let mid = g.W.Write.contents c.elements.out in
     let new = g.W.Write.contents c.put_stop.new.out in
     let steps = subst (λ (x : Result RawElement BorrowedError). StepsFront c.elements.elements (Some x) c.next.new.self) c.in-Some-Err.field-0-is c.in-Some-Err.ensures.steps in
-    let f = λ (puts : PutsStop c.args.depth c.in-Some-Err.error mid new). subst (λ (n : ℕ). IsWritten n c.args.depth (bytes_of c.args.document) old new) (sym levels) (listed_stop c.in-Some.deeper c.args.depth (bytes_of c.args.document) c.elements.elements c.next.new.self old mid new c.in-Some-Err.error c.elements.invariant steps puts) in
+    let f = λ (puts : PutsStop c.args.depth c.in-Some-Err.error mid new). subst (λ (n : ℕ). IsWritten n c.args.depth (bytes_of c.args.document) old new)
+    (sym levels) (listed_stop c.in-Some.deeper c.args.depth
+    (bytes_of c.args.document) c.elements.elements c.next.new.self old mid new c.in-Some-Err.error c.elements.invariant steps puts) in
     on_ok c.put_stop.result (PutsStop c.args.depth c.in-Some-Err.error mid new) (IsWritten c.args.inside c.args.depth (bytes_of c.args.document) old new) f c.put_stop.ensures.put
 
 pub elements-preserved-in-Continue-branch-3 : goal.elements-preserved-in-Continue-branch-3
@@ -35,7 +38,8 @@ elements-preserved-in-Continue-branch-3 g t c =
     let steps = subst (λ (x : Result RawElement BorrowedError). StepsFront c.elements.elements (Some x) c.next.new.self) c.in-Some-Ok.field-0-is c.in-Some-Ok.ensures.steps in
     let puts = subst (PutsElement c.args.depth (frame_of c.in-Some-Ok.element) mid put) c.in-Some-2.is c.in_ok-inner-in-Some-Ok.ensures.put in
     let (text, lists, more) = c.in_ok-list_level-in-Some-Ok.ensures.listed in
-    listed_more c.in-Some.deeper c.args.depth (bytes_of c.args.document) c.elements.elements c.next.new.self old mid put new c.in-Some-Ok.element (Some c.in-Some-2.inner) text c.elements.invariant steps puts lists more
+    listed_more c.in-Some.deeper c.args.depth (bytes_of c.args.document) c.elements.elements c.next.new.self old mid put new c.in-Some-Ok.element
+    (Some c.in-Some-2.inner) text c.elements.invariant steps puts lists more
 
 pub elements-preserved : goal.elements-preserved
 elements-preserved g t c =
@@ -45,4 +49,5 @@ elements-preserved g t c =
     let none : c.in_ok-inner-in-Some-Ok.field-0 ≡ None = first_of (cc, search rules) in
     let steps = subst (λ (x : Result RawElement BorrowedError). StepsFront c.elements.elements (Some x) c.next.new.self) c.in-Some-Ok.field-0-is c.in-Some-Ok.ensures.steps in
     let puts = subst (PutsElement c.args.depth (frame_of c.in-Some-Ok.element) mid put) none c.in_ok-inner-in-Some-Ok.ensures.put in
-    listed_more c.in-Some.deeper c.args.depth (bytes_of c.args.document) c.elements.elements c.next.new.self old mid put put c.in-Some-Ok.element None _ c.elements.invariant steps puts refl (Appends-nil put)
+    listed_more c.in-Some.deeper c.args.depth (bytes_of c.args.document) c.elements.elements c.next.new.self old mid put put c.in-Some-Ok.element None _
+    c.elements.invariant steps puts refl (Appends-nil put)

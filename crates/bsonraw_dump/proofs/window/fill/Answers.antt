@@ -3,8 +3,8 @@ use Rattle.std.proofs.lemmas.Slice.{take-put_mid_below}
 use Rattle.std.specs.Io.KnownBytes.{Consumes}
 use borrow.Rule.Slice.PartMut.{put_mid}
 use Rattle.bsonraw_dump.proofs.Filling.{filled_more, filled_same}
-use Rattle.bsonraw_dump.proofs.input.fill.Goals as goal
-use Rattle.bsonraw_dump.proofs.input.fill.Goals.{in-Ok, in-Err+else-ne}
+use Rattle.bsonraw_dump.proofs.window.fill.Goals as goal
+use Rattle.bsonraw_dump.proofs.window.fill.Goals.{in-Ok, in-Err+else-ne}
 
 pub loop-preserved : goal.loop-preserved
 loop-preserved g c =
@@ -17,13 +17,16 @@ loop-preserved g c =
         behind = search rules;
         within = search rules;
         kept = take-put_mid_below _ _ _ _ _ before.behind before.within ∙ before.kept;
-        is_read = λ x h. subst (λ (n : ℕ). Consumes x (g.R.Read.remaining c.read.new.self) (take n filled)) (sym w.at-is) (filled_more x _ _ c.loop.buffer c.read.new.buf c.loop.at room w.in-Ok.count before.within (search rules) (before.is_read x h) w.in-Ok.ensures.bytes.0);
+        is_read = λ x h. subst (λ (n : ℕ). Consumes x (g.R.Read.remaining c.read.new.self) (take n filled)) (sym w.at-is)
+            (filled_more x _ _ c.loop.buffer c.read.new.buf c.loop.at room w.in-Ok.count before.within (search rules)
+            (before.is_read x h) w.in-Ok.ensures.bytes.0);
       }
       | in-Err+else-ne w ↦ record {
         len = search rules;
         behind = search rules;
         within = search rules;
         kept = take-put_mid_below _ _ _ _ _ before.behind before.within ∙ before.kept;
-        is_read = λ x h. subst (λ (n : ℕ). Consumes x (g.R.Read.remaining c.read.new.self) (take n filled)) (sym w.at-is) (filled_same x _ _ c.loop.buffer c.read.new.buf c.loop.at room before.within (before.is_read x h) w.in-Err.ensures.bytes);
+        is_read = λ x h. subst (λ (n : ℕ). Consumes x (g.R.Read.remaining c.read.new.self) (take n filled)) (sym w.at-is)
+            (filled_same x _ _ c.loop.buffer c.read.new.buf c.loop.at room before.within (before.is_read x h) w.in-Err.ensures.bytes);
       }
     ]

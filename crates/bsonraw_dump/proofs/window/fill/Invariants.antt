@@ -1,6 +1,6 @@
 use Rattle.std.proofs.Common.{◌≡◌, ◌≤◌, List, ℕ, Option, length, take}
 use Rattle.std.specs.Io.KnownBytes.{Consumes}
-use Rattle.bsonraw_dump.proofs.input.fill.Given as goal
+use Rattle.bsonraw_dump.proofs.window.fill.Given as goal
 
 -- as far as here the buffer is filled
 abbrev pub invariant-loop : goal.invariant-loop

@@ -1,0 +1,250 @@
+//! What was read of an input, and isn't passed yet.
+#![tactic(auto)]
+
+ghost use Rattle.std.specs.Prelude.{◌≡◌, ◌+◌, ◌≤◌, ◌<◌, ◌^◌, ◌⊎◌, ℕ, List, MatchBool, Option, [], true, drop, length, take, IfErr, IfOk, OnOk};
+ghost use Rattle.std.specs.Io.KnownBytes.{IsAtEnd};
+ghost use Rattle.bsonraw_dump.specs.Cut.{most, said_len, IsSoundLength};
+ghost use Rattle.bsonraw_dump.specs.Reading.{Affords, Fills, FillsSome, IsNext, IsRoom, IsWindow, LooksSome, ReadsOn, SeesAhead, TellsNext, ahead_of};
+ghost use Rattle.bsonraw_dump.specs.Run.{IsReading};
+
+use crate::ending::Ending;
+use crate::failure::Failure;
+use std::alloc::{AllocError, Global};
+use std::io;
+use std::io::{ErrorKind, Read};
+
+/// The most bytes of a document: what a server sends, 16 MiB and 16 KiB.
+pub const MOST: usize = 16_793_600;
+
+/// So many bytes are read at a time, or more.
+const BLOCK: usize = 1 << 18;
+
+/// What was read of an input, and isn't passed yet.
+#[derive(Drop)]
+pub struct Window {
+    /// room for what is read
+    room: Vec<u8>,
+    /// where in the room the bytes ahead begin
+    at: usize,
+    /// how many bytes are ahead
+    len: usize,
+    /// how many bytes of the input were passed
+    offset: u64,
+    /// how many bytes a search for documents looked at
+    spent: u64,
+}
+
+/// So many bytes a search for documents looks at, at most, for each byte that was read.
+const WORK: u64 = 8;
+
+/// What is next in an input.
+#[derive(Clone, Copy)]
+pub enum Next {
+    /// a document of so many bytes, which are ahead
+    Document(usize),
+    /// nothing: the input is at its end
+    Nothing,
+    /// bytes that no document begins with
+    End(Ending),
+}
+
+impl Window {
+    /// Nothing was read.
+    pub fn new(alloc: Global) -> Window
+        ensures window { IsWindow result }
+        ensures nothing { ahead_of result ≡ [] }
+        ensures start { result.offset ≡ 0 }
+    {
+        Window {
+            room: Vec::new(alloc),
+            at: 0,
+            len: 0,
+            offset: 0,
+            spent: 0,
+        }
+    }
+
+    /// How many bytes of the input were passed.
+    pub fn offset(&self) -> u64
+        ensures { result ≡ self.now.offset }
+    {
+        self.offset
+    }
+
+    /// The bytes ahead.
+    pub fn ahead(&self) -> &[u8]
+        requires { IsWindow self.now }
+        ensures { result.now ≡ ahead_of self.now }
+    {
+        &self.room[self.at..self.at + self.len]
+    }
+
+    /// Passes so many bytes. Fails if the offset would be over its range.
+    pub fn pass(&mut self, count: usize) -> Result<(), Failure>
+        requires { IsWindow self.old × (count ≤ length (ahead_of self.old)) }
+        ensures passed { OnOk result (IsWindow self.new × (ahead_of self.new ≡ drop count (ahead_of self.old)) × (self.new.offset ≡ self.old.offset + count)) }
+        ensures failed { IfErr result (λ failure. ¬ IsReading failure) }
+    {
+        let Some(offset) = self.offset.checked_add(count as u64) else {
+            return Err(Failure::Writing(io::Error::from(ErrorKind::FileTooLarge)));
+        };
+        self.offset = offset;
+        self.at += count;
+        self.len -= count;
+        Ok(())
+    }
+
+    /// Reads on until so many bytes are ahead, or the input ends, and returns whether they are.
+    pub fn look<R: Read>(&mut self, reader: &mut R, want: usize) -> Result<bool, Failure>
+        requires { IsWindow self.old × (want < 2 ^ 32) }
+        ensures looks { IfOk result (SeesAhead (R.remaining reader.old) (R.remaining reader.new) self.old self.new want) }
+        ensures fails { IfErr result (λ _. LooksSome (R.remaining reader.old) (R.remaining reader.new) (ahead_of self.old)) }
+    {
+        let is_there = self.read_on(reader, want)?;
+        Ok(is_there)
+    }
+
+    fn read_on<R: Read>(&mut self, reader: &mut R, want: usize) -> Result<bool, Failure>
+        requires { IsRoom self.old × (want < 2 ^ 32) }
+        ensures looks { IfOk result (ReadsOn (R.remaining reader.old) (R.remaining reader.new) self.old self.new want) }
+        ensures fails { IfErr result (λ _. LooksSome (R.remaining reader.old) (R.remaining reader.new) (ahead_of self.old)) }
+    {
+        if want <= self.len {
+            return Ok(true);
+        }
+        self.make_room(want)?;
+        match fill(reader, &mut self.room[self.at..], self.len, want) {
+            Ok(len) => {
+                self.len = len;
+                Ok(want <= len)
+            }
+            Err(error) => Err(Failure::Reading(error)),
+        }
+    }
+
+    /// Whether a search may look at so many more bytes: all that it looks at are fewer than eight times those that were read.
+    pub fn affords(&self, count: usize) -> bool
+        requires { IsWindow self.now }
+        ensures { result ≡ true → Affords self.now count }
+    {
+        let (Some(read), Some(spent)) = (
+            self.offset.checked_add(self.len as u64),
+            self.spent.checked_add(count as u64),
+        ) else {
+            return false;
+        };
+        spent / WORK < read
+    }
+
+    /// So many bytes were looked at.
+    pub fn spend(&mut self, count: usize)
+        requires { IsWindow self.old × Affords self.old count }
+        ensures window { IsWindow self.new }
+        ensures ahead { ahead_of self.new ≡ ahead_of self.old }
+        ensures offset { self.new.offset ≡ self.old.offset }
+        ensures spent { self.new.spent ≡ self.old.spent + count }
+    {
+        self.spent += count as u64;
+    }
+
+    /// Makes room for so many bytes from the first one ahead on. No more bytes are moved than were passed.
+    fn make_room(&mut self, want: usize) -> Result<(), AllocError>
+        requires { IsRoom self.old × (want < 2 ^ 32) }
+        ensures room { IsRoom self.new }
+        ensures wide { OnOk result (self.new.at + want ≤ length self.new.room.items) }
+        ensures ahead { ahead_of self.new ≡ ahead_of self.old }
+        ensures len { self.new.len ≡ self.old.len }
+        ensures offset { self.new.offset ≡ self.old.offset }
+        ensures spent { self.new.spent ≡ self.old.spent }
+    {
+        if self.len <= self.at {
+            self.room.copy_within(self.at..self.at + self.len, 0);
+            self.at = 0;
+        }
+        let least = self.at + want;
+        if least > self.room.len() {
+            self.room.resize(least + BLOCK, 0)?;
+        }
+        Ok(())
+    }
+}
+
+/// Reads on behind the front of the buffer, until so many bytes are filled or the input ends, and returns how far it is
+/// filled then.
+fn fill<R: Read>(
+    reader: &mut R,
+    buffer: &mut [u8],
+    front: usize,
+    enough: usize,
+) -> io::Result<usize>
+    requires { (front ≤ length buffer.old) × (enough ≤ length buffer.old) }
+    ensures read { IfOk result (Fills (R.remaining reader.old) (R.remaining reader.new) front enough buffer.old buffer.new) }
+    ensures some { IfErr result (λ _. FillsSome (R.remaining reader.old) (R.remaining reader.new) front buffer.old) }
+{
+    let mut at = front;
+    for _ in 0..u64::MAX {
+        if at >= enough {
+            return Ok(at);
+        }
+        match reader.read(&mut buffer[at..]) {
+            Ok(0) => return Ok(at),
+            Ok(count) => at += count,
+            Err(error) => {
+                if error.kind() != ErrorKind::Interrupted {
+                    return Err(error);
+                }
+            }
+        }
+    }
+    Err(io::Error::from(ErrorKind::TimedOut))
+}
+
+/// Looks what is next in an input.
+pub fn look_ahead<R: Read>(reader: &mut R, window: &mut Window) -> Result<Next, Failure>
+    requires { IsWindow window.old }
+    ensures told { IfOk result (TellsNext (R.remaining reader.old) (R.remaining reader.new) window.old window.new) }
+    ensures fails { IfErr result (λ _. LooksSome (R.remaining reader.old) (R.remaining reader.new) (ahead_of window.old)) }
+{
+    if !window.look(reader, 4)? {
+        return Ok(too_few(window.ahead().len()));
+    }
+    let len = length_at(window.ahead(), 0);
+    if !is_sound(len) {
+        return Ok(Next::End(Ending::Unsound));
+    }
+    if window.look(reader, len)? {
+        Ok(Next::Document(len))
+    } else {
+        Ok(Next::End(Ending::CutOff(window.ahead().len())))
+    }
+}
+
+/// The length that four bytes at this offset say.
+pub fn length_at(bytes: &[u8], from: usize) -> usize
+    requires { from + 4 ≤ length bytes.now }
+    ensures { result ≡ said_len (drop from bytes.now) }
+{
+    let Some(head) = bytes[from..].first_chunk::<4>() else {
+        unreachable!()
+    };
+    u32::from_le_bytes(*head) as usize
+}
+
+/// What is next where so many bytes are left, fewer than a length has.
+fn too_few(count: usize) -> Next
+    requires { count < 4 }
+    ensures { (new : Option (List ℕ)) (s : List ℕ) → length s ≡ count → IsAtEnd new → IsNext new s result }
+{
+    if count == 0 {
+        Next::Nothing
+    } else {
+        Next::End(Ending::CutOff(count))
+    }
+}
+
+/// Whether a document has so many bytes.
+pub fn is_sound(len: usize) -> bool
+    ensures { MatchBool result (IsSoundLength len) ((len < 5) ⊎ (most < len)) }
+{
+    5 <= len && len <= MOST
+}
