@@ -29,13 +29,13 @@ IsThis (Some v) wanted = v ≡ wanted
 abbrev pub IsOver : ℤ → RawValue → Type 0
 IsOver least v = (number : ℤ) × (v ≡ single (int32 number)) × IsTrue (int_lt least number)
 
--- the answer that a search within an array means
+-- the result that a search within an array means
 abbrev pub of_search : Result Bool Error → Result (Unit {0}) Unmet
 of_search (Ok true) = Ok tt
 of_search (Ok false) = Err unmet.Differs
 of_search (Err e) = Err (unmet.Damaged e)
 
--- What an operator answers for what was found. It isn't met by nothing.
+-- What an operator says of what was found. It isn't met by nothing.
 abbrev pub MeetsOperator : Option RawValue → Operator → Result (Unit {0}) Unmet → Type 0
 MeetsOperator None op r = r ≡ Err unmet.Differs
 MeetsOperator (Some v) (operator.Over least) r = Wants (IsOver least v) r
@@ -46,7 +46,7 @@ abbrev pub Names : List ℕ → RawValue → Operator → Type 0
 Names name operand (operator.Over least) = (name ≡ codes "$gt") × (operand ≡ single (int32 least))
 Names name operand (operator.Among a) = (name ≡ codes "$in") × (operand ≡ array (array_bytes_of a))
 
--- what the operator of this name answers with this operand; a bad one where there is none
+-- what the operator of this name says with this operand; a bad one where there is none
 abbrev pub MeetsNamed : Option RawValue → List ℕ → RawValue → Result (Unit {0}) Unmet → Type 0
 MeetsNamed found name operand (Err unmet.BadOperator) = (op : Operator) → ¬ Names name operand op
 MeetsNamed found name operand r = (op : Operator) × Names name operand op × MeetsOperator found op r

@@ -1,5 +1,5 @@
 -- Messages of MongoDB's wire protocol with code 2013: a header and flags, sections, and maybe a checksum.
-use Rattle.std.specs.Prelude.{◌≡◌, ◌≢◌, ◌⊎◌, ◌<◌, ◌+◌, ◌%◌, ℕ, ℤ, pos, List, [], ◌∷◌, ◌++◌, length, take, drop}
+use Rattle.std.specs.Prelude.{◌≡◌, ◌≢◌, ◌⊎◌, ◌<◌, ◌≤◌, ◌+◌, ◌-◌, ◌*◌, ◌%◌, ℕ, ℤ, pos, List, [], ◌∷◌, ◌++◌, length, take, drop}
 use Rattle.std.specs.Str.{IsUtf8}
 use Rattle.raw_bson.specs.Bytes.{NulFree}
 use Rattle.raw_bson.specs.Document.{bytes_of}
@@ -13,20 +13,37 @@ use Rattle.raw_bson.specs.Number.{le32, le_u32, IsLe32, max_length}
 use Rattle.raw_bson.specs.RawDocument.{RawDocument}
 use Rattle.raw_bson.specs.Reason.TheVariants as reason
 use Rattle.bson_uses.specs.Dump.{joined, RefusesRest}
-use Rattle.bson_uses.specs.declared.op_msg.Header.{Header}
 use Rattle.bson_uses.specs.declared.op_msg.Message.{Message}
 use Rattle.bson_uses.specs.declared.op_msg.MessageError.{MessageError}
-use Rattle.bson_uses.specs.declared.op_msg.MessageError.TheVariants.{TooShort, WrongSize, OtherCode, NoChecksum, OtherKind, WrongSequenceSize, NoIdentifier, NotText, NoDocument, OutOfMemory}
+use Rattle.bson_uses.specs.declared.op_msg.MessageError.TheVariants.{TooShort, WrongSize, OtherCode, UnknownFlags, NoChecksum, OtherKind, WrongSequenceSize, NoIdentifier, NotText, NoDocument, OutOfMemory}
 use Rattle.bson_uses.specs.declared.op_msg.Section.{Section}
 use Rattle.bson_uses.specs.declared.op_msg.Section.TheVariants.{Body, Sequence}
 
--- five numbers, and what is behind them
-abbrev pub header_bytes : Header → List ℕ → List ℕ
-header_bytes h behind = le32 h.size ++ (le32 h.request_id ++ (le32 h.response_to ++ (le32 h.code ++ (le_u32 h.flags ++ behind))))
+-- the four bytes at this place of b are the number
+abbrev pub HasNumber : ℕ → List ℕ → ℤ → Type 0
+HasNumber place b z = IsLe32 (take 4 (drop place b)) z
 
--- a checksum of four bytes where the lowest bit of the flags is set, and else nothing
-abbrev pub IsChecksum : ℕ → List ℕ → Type 0
-IsChecksum flags check = ((flags % 2 ≡ 0) × (length check ≡ 0)) ⊎ ((flags % 2 ≡ 1) × (length check ≡ 4))
+-- b has five numbers, of which the first is its size, and the fourth the code
+abbrev pub IsHeader : List ℕ → Type 0
+IsHeader b = (20 ≤ length b) × HasNumber 0 b (pos (length b)) × HasNumber 12 b (pos 2013)
+
+-- of the bits 0 to 15, which a reader has to know, the flags have 0 and 1 at most
+abbrev pub AreKnown : ℕ → Type 0
+AreKnown flags = flags % 65536 < 4
+
+-- b begins as a message does, with these flags as its fifth number
+pub record IsFront (b : List ℕ) (flags : ℕ) : Type 0 where
+  pub header : IsHeader b
+  pub bits : take 4 (drop 16 b) ≡ le_u32 flags
+  pub known : AreKnown flags
+
+-- where the checksum of b begins: it is the last four bytes where the lowest bit of the flags is set, and else nothing
+abbrev pub sections_end : List ℕ → ℕ → ℕ
+sections_end b flags = length b - 4 * (flags % 2)
+
+-- what is behind the five numbers of b, before its checksum
+abbrev pub sections_of : List ℕ → ℕ → List ℕ
+sections_of b flags = take (sections_end b flags - 20) (drop 20 b)
 
 -- s is a size of four bytes, which counts itself and the bytes inside, these bytes, and what is behind them
 pub record IsSized (s inside behind : List ℕ) : Type 0 where
@@ -48,25 +65,17 @@ abbrev pub BeginWith : List Section → List ℕ → List ℕ → Type 0
 BeginWith [] s behind = s ≡ behind
 BeginWith (x ∷ xs) s behind = (kind : ℕ) × (t next : List ℕ) × (s ≡ kind ∷ t) × IsSection kind t x next × BeginWith xs next behind
 
--- the header has the size of a message of so many bytes, and its code
-abbrev pub IsHeader : ℕ → Header → Type 0
-IsHeader len h = (h.size ≡ pos len) × (h.code ≡ pos 2013)
-
--- b is this message: its header, its sections, and its checksum
+-- b is this message: its numbers, its sections, and its checksum
 pub record IsMessage (b : List ℕ) (m : Message) : Type 0 where
-  pub body : List ℕ
-  pub spelled : b ≡ header_bytes m.header (body ++ m.checksum.now)
-  pub header_is : IsHeader (length b) m.header
-  pub check_is : IsChecksum m.header.flags m.checksum.now
-  pub sections_are : BeginWith m.sections.items body []
-
--- the flags announce a checksum, and there are too few bytes for it
-abbrev pub RefusesChecksum : ℕ → ℕ → MessageError → Type 0
-RefusesChecksum flags len e = (e ≡ NoChecksum) × (flags % 2 ≡ 1) × (len < 4)
+  pub front : IsFront b m.flags
+  pub request_id : HasNumber 4 b m.request_id
+  pub response_to : HasNumber 8 b m.response_to
+  pub sections : BeginWith m.sections.items (sections_of b m.flags) []
+  pub checksum : m.checksum.now ≡ drop (sections_end b m.flags) b
 
 -- s doesn't begin with a size and as much as it counts
-abbrev pub RefusesSize : List ℕ → MessageError → Type 0
-RefusesSize s e = (e ≡ WrongSequenceSize) × ((inside behind : List ℕ) → ¬ IsSized s inside behind)
+abbrev pub HasNoSize : List ℕ → Type 0
+HasNoSize s = (inside behind : List ℕ) → ¬ IsSized s inside behind
 
 -- why no identifier is at the front of s: there is no 0; or what is before the first isn't UTF-8
 abbrev pub RefusesIdentifier : List ℕ → MessageError → Type 0
@@ -88,7 +97,7 @@ RefusesInside inside e =
 
 -- why no sequence is at the front of s: its size, else what that counts
 abbrev pub RefusesSequence : List ℕ → MessageError → Type 0
-RefusesSequence s e = RefusesSize s e ⊎ ((inside behind : List ℕ) × IsSized s inside behind × RefusesInside inside e)
+RefusesSequence s e = ((e ≡ WrongSequenceSize) × HasNoSize s) ⊎ ((inside behind : List ℕ) × IsSized s inside behind × RefusesInside inside e)
 
 -- why no section of this kind is at the front of s: no document, no sequence, or the kind is another
 abbrev pub RefusesSection : ℕ → List ℕ → MessageError → Type 0
@@ -103,32 +112,27 @@ RefusesSections s e =
     ((xs : List Section) × (kind : ℕ) × (t : List ℕ) × BeginWith xs s (kind ∷ t) × RefusesSection kind t e)
     ⊎ (e ≡ OutOfMemory)
 
--- why what has a header of the right size and code, and s behind it, is no message: its checksum, else its sections
-abbrev pub RefusesBody : ℕ → List ℕ → MessageError → Type 0
-RefusesBody flags s e =
-    RefusesChecksum flags (length s) e
-    ⊎ ((body check : List ℕ) × (s ≡ body ++ check) × IsChecksum flags check × RefusesSections body e)
+-- why what is behind these flags of b is none of a message: no bytes for the checksum that they announce; else its sections
+abbrev pub RefusesBody : List ℕ → ℕ → MessageError → Type 0
+RefusesBody b flags e =
+    ((e ≡ NoChecksum) × (sections_end b flags < 20))
+    ⊎ ((20 ≤ sections_end b flags) × RefusesSections (sections_of b flags) e)
 
--- why so many bytes with this header, and s behind it, are no message: the first of its size, its code, and the rest
-abbrev pub RefusesBehind : ℕ → Header → List ℕ → MessageError → Type 0
-RefusesBehind len h s e =
-    ((e ≡ WrongSize) × (h.size ≢ pos len))
-    ⊎ ((e ≡ OtherCode) × (h.size ≡ pos len) × (h.code ≢ pos 2013))
-    ⊎ (IsHeader len h × RefusesBody h.flags s e)
-
--- why b is no message: it has no header; or what is behind it
-abbrev pub RefusesMessage : List ℕ → MessageError → Type 0
-RefusesMessage b e =
+-- why b doesn't begin as a message does, the first of: it has no five numbers, its size, its code, and its flags
+abbrev pub RefusesFront : List ℕ → MessageError → Type 0
+RefusesFront b e =
     ((e ≡ TooShort) × (length b < 20))
-    ⊎ ((h : Header) × (s : List ℕ) × (b ≡ header_bytes h s) × RefusesBehind (length b) h s e)
+    ⊎ ((e ≡ WrongSize) × (20 ≤ length b) × (size : ℤ) × HasNumber 0 b size × (size ≢ pos (length b)))
+    ⊎ ((e ≡ OtherCode) × (20 ≤ length b) × HasNumber 0 b (pos (length b)) × (code : ℤ) × HasNumber 12 b code × (code ≢ pos 2013))
+    ⊎ ((flags : ℕ) × (e ≡ UnknownFlags flags) × ¬ AreKnown flags × IsHeader b × (take 4 (drop 16 b) ≡ le_u32 flags))
 
--- the header of the message of this number with so long a document
-abbrev pub header_of : ℤ → ℕ → Header
-header_of id len = record { size = pos (len + 21); request_id = id; response_to = pos 0; code = pos 2013; flags = 0 }
+-- why b is no message: how it begins; or what is behind its flags
+abbrev pub RefusesMessage : List ℕ → MessageError → Type 0
+RefusesMessage b e = RefusesFront b e ⊎ ((flags : ℕ) × IsFront b flags × RefusesBody b flags e)
 
--- the message of this number with the document b
+-- the message of this number with the document b: its size, numbers and code, no flags, and a body
 abbrev pub message_bytes : ℤ → List ℕ → List ℕ
-message_bytes id b = header_bytes (header_of id (length b)) (0 ∷ b)
+message_bytes id b = le32 (pos (length b + 21)) ++ (le32 id ++ (le32 (pos 0) ++ (le32 (pos 2013) ++ (le_u32 0 ++ (0 ∷ b)))))
 
 -- why the message of so long a document isn't written: it would be too long, or memory ran out
 abbrev pub RefusesLength : ℕ → Error → Type 0

@@ -5,7 +5,7 @@ ghost use Rattle.raw_bson.specs.Tree.{Tree};
 use raw_bson::{Result, canonical_bytes};
 use std::alloc::Global;
 
-/// Whether two documents stand for the same tree, however they are written.
+/// Whether two documents have the same tree, however they are written.
 pub fn are_equal(alloc: Global, one: &[u8], other: &[u8]) -> Result<bool>
     ensures { IfOk result
         (λ same. (t u : Tree) → Reads one.now t → Reads other.now u → (IsTrue same ↔ (t ≡ u))) }

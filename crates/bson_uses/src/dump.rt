@@ -1,22 +1,35 @@
-ghost use Rattle.std.specs.Prelude.{◌≡◌, ◌++◌, [], IfOk, IfErr, MatchOption};
+ghost use Rattle.std.specs.Prelude.{◌≡◌, ◌++◌, [], IfOk, IfErr, MatchOption, Some, None};
 ghost use Rattle.raw_bson.specs.Errors.{IsOutOfMemory};
 ghost use Rattle.bson_uses.specs.Dump.{joined, RefusesRest};
 
 use raw_bson::{NoDocument, RawDocument, Result};
 use std::alloc::Global;
 
-/// What a dump was cut into: its documents, and where no document stands any more, what is left, and why.
+/// What a dump was cut into: its documents, what is left where the next document would begin, and why none does.
 #[derive(Drop)]
 pub struct Dump<'a> {
     /// the documents, in order
     pub documents: Vec<RawDocument<'a>>,
     /// what is left; nothing where the dump ends with a document
     pub rest: &'a [u8],
-    /// why no document stands there
+    /// why no document is there
     pub error: Option<NoDocument>,
 }
 
-/// The documents that stand in the bytes end to end, up to where none stands, and why; or out of memory.
+impl<'a> Dump<'a> {
+    /// The documents of a whole dump, or why something is left.
+    pub fn whole(self) -> std::result::Result<Vec<RawDocument<'a>>, NoDocument>
+        ensures whole { IfOk result (λ ds. (self.entry.error ≡ None) × (ds ≡ self.entry.documents)) }
+        ensures left { IfErr result (λ why. self.entry.error ≡ Some why) }
+    {
+        match self.error {
+            Some(why) => Err(why),
+            None => Ok(self.documents),
+        }
+    }
+}
+
+/// The documents that the bytes are, end to end, up to where there is none, and why; or out of memory.
 pub fn split_dump<'a>(alloc: Global, bytes: &'a [u8]) -> Result<Dump<'a>>
     ensures pieces { IfOk result
         (λ dump. joined dump.documents.items ++ dump.rest.now ≡ bytes.now) }

@@ -143,7 +143,7 @@ fn has(alloc: Global, document: RawDocument<'_>, key: &str, wanted: RawBsonRef<'
     is_wanted(alloc, found, wanted)
 }
 
-/// Whether the document is as the filter wants it, else the first thing that isn't, or that stands in the way.
+/// Whether the document is as the filter wants it, else the first thing that isn't, or the error that was met.
 pub fn matches(alloc: Global, document: RawDocument<'_>, filter: RawDocument<'_>) -> Met
     ensures { Matches (bytes_of document.entry) (bytes_of filter.entry) result }
 {

@@ -16,7 +16,7 @@ pub use dump::{Dump, split_dump};
 pub use filter::{Operator, Unmet, matches};
 pub use items::count_nulls;
 pub use kept::keep;
-pub use op_msg::{Header, Message, MessageError, Section, message_of, read_message};
+pub use op_msg::{Message, MessageError, Section, message_of, read_message};
 pub use outside::{MOST, received};
 pub use path::find_path;
 pub use without::copy_without;

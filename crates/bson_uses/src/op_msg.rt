@@ -1,29 +1,12 @@
-ghost use Rattle.std.specs.Prelude.{◌≡◌, ◌≤◌, ◌+◌, ◌++◌, [], length, take, drop, IfOk, IfErr};
+ghost use Rattle.std.specs.Prelude.{◌≡◌, ◌≤◌, ◌+◌, ◌++◌, [], length, take, drop, IsTrue, IfOk, IfErr, IfSome, MatchOption};
 ghost use Rattle.std.specs.Str.{IsUtf8};
 ghost use Rattle.raw_bson.specs.Document.{bytes_of};
-ghost use Rattle.raw_bson.specs.Number.{le32, IsLe32};
-ghost use Rattle.bson_uses.specs.Dump.{joined};
-ghost use Rattle.bson_uses.specs.Messages.{header_bytes, message_bytes, IsChecksum, IsSized, IsIdentified, IsSection, BeginWith, IsMessage, RefusesChecksum, RefusesSize, RefusesIdentifier, RefusesDocuments, RefusesSection, RefusesSections, RefusesMessage, RefusesLength};
+ghost use Rattle.raw_bson.specs.Number.{IsLe32};
+ghost use Rattle.bson_uses.specs.Messages.{message_bytes, IsSized, IsIdentified, IsSection, BeginWith, IsFront, IsMessage, HasNoSize, RefusesIdentifier, RefusesSection, RefusesSections, RefusesFront, RefusesMessage, RefusesLength};
 
 use crate::dump::split_dump;
 use raw_bson::{Error, NoDocument, RawDocument, Reason, Result};
 use std::alloc::Global;
-use std::fmt;
-
-/// What a message begins with.
-#[derive(Clone, Copy, Debug, PartialEq, Eq)]
-pub struct Header {
-    /// how many bytes the message has
-    pub size: i32,
-    /// the number that the sender gave it
-    pub request_id: i32,
-    /// the number of the message to which it is a reply
-    pub response_to: i32,
-    /// the code of its kind
-    pub code: i32,
-    /// the flags; the lowest bit says that a checksum follows
-    pub flags: u32,
-}
 
 /// A part of a message.
 #[derive(Drop)]
@@ -37,120 +20,83 @@ pub enum Section<'a> {
 /// A message, which borrows from its bytes.
 #[derive(Drop)]
 pub struct Message<'a> {
-    /// what it begins with
-    pub header: Header,
-    /// its sections, in order
+    /// the number that the sender gave it
+    pub request_id: i32,
+    /// the number of the message to which it is a reply
+    pub response_to: i32,
+    /// the flags: bit 0 says that a checksum follows, bit 1 that more messages come, bit 16 that replies may come in a row
+    pub flags: u32,
+    /// its sections, in order; the protocol wants one body, which is the caller's to see
     pub sections: Vec<Section<'a>>,
-    /// the checksum, of four bytes, or nothing
+    /// the checksum, of four bytes, or nothing; it isn't compared
     pub checksum: &'a [u8],
 }
 
 /// Why bytes are no message.
-#[derive(Clone, Copy, Debug, PartialEq, Eq)]
+#[derive(Clone, Copy, Debug, PartialEq, Eq, thiserror::Error)]
 pub enum MessageError {
     /// no header and flags
+    #[error("too short")]
     TooShort,
     /// the header's size is another
+    #[error("another size")]
     WrongSize,
     /// the header's code is another
+    #[error("another code")]
     OtherCode,
+    /// of the flags that a reader has to know, bits 0 to 15, one is set that isn't known
+    #[error("unknown flags among {0:#x}")]
+    UnknownFlags(u32),
     /// no bytes for the checksum that the flags announce
+    #[error("no checksum")]
     NoChecksum,
     /// a section of this kind, which isn't known
+    #[error("a section of kind {0}")]
     OtherKind(u8),
     /// a sequence's size is missing, or counts other bytes than are there
+    #[error("another size of a sequence")]
     WrongSequenceSize,
     /// a sequence's identifier has no end
+    #[error("an identifier without end")]
     NoIdentifier,
     /// a sequence's identifier isn't UTF-8
+    #[error("an identifier that isn't UTF-8")]
     NotText,
     /// no document is where a section has one
+    #[error("no document: {}", Error::from(*.0))]
     NoDocument(NoDocument),
     /// memory ran out
+    #[error("out of memory")]
     OutOfMemory,
 }
-
-impl fmt::Display for MessageError {
-    fn fmt<W: fmt::Write>(&self, f: &mut fmt::Formatter<W>) -> fmt::Result {
-        match self {
-            MessageError::TooShort => write!(f, "too short"),
-            MessageError::WrongSize => write!(f, "another size"),
-            MessageError::OtherCode => write!(f, "another code"),
-            MessageError::NoChecksum => write!(f, "no checksum"),
-            MessageError::OtherKind(kind) => write!(f, "a section of kind {kind}"),
-            MessageError::WrongSequenceSize => write!(f, "another size of a sequence"),
-            MessageError::NoIdentifier => write!(f, "an identifier without end"),
-            MessageError::NotText => write!(f, "an identifier that isn't UTF-8"),
-            MessageError::NoDocument(why) => write!(f, "no document: {}", Error::from(*why)),
-            MessageError::OutOfMemory => write!(f, "out of memory"),
-        }
-    }
-}
-
-impl std::error::Error for MessageError {}
 
 /// What is read of a message, or why it is none.
 pub type Read<T> = std::result::Result<T, MessageError>;
 
-/// The number at the front, and what is behind it.
-fn first_i32(bytes: &[u8]) -> (i32, &[u8])
+/// Ok where this holds, and else the error.
+fn check(holds: bool, error: MessageError) -> Read<()>
+    ensures holds { IfOk result (λ _. IsTrue holds) }
+    ensures fails { IfErr result (λ e. (e ≡ error) × ¬ IsTrue holds) }
+{
+    if holds { Ok(()) } else { Err(error) }
+}
+
+/// The number at the front.
+fn first_i32(bytes: &[u8]) -> i32
     requires { 4 ≤ length bytes.now }
-    ensures number { IsLe32 (take 4 bytes.now) result.0 }
-    ensures parts { bytes.now ≡ le32 result.0 ++ result.1.now }
-    ensures behind { result.1.now ≡ drop 4 bytes.now }
-    ensures len { length bytes.now ≡ 4 + length result.1.now }
+    ensures { IsLe32 (take 4 bytes.now) result }
 {
-    let (_, rest) = bytes.split_at(4);
-    let number = i32::from_le_bytes([bytes[0], bytes[1], bytes[2], bytes[3]]);
-    (number, rest)
+    i32::from_le_bytes([bytes[0], bytes[1], bytes[2], bytes[3]])
 }
 
-/// The header at the front, and what is behind it.
-fn first_header(bytes: &[u8]) -> (Header, &[u8])
-    requires { 20 ≤ length bytes.now }
-    ensures parts { bytes.now ≡ header_bytes result.0 result.1.now }
-    ensures len { length bytes.now ≡ 20 + length result.1.now }
+/// The bytes that a size in front counts, without it, and what is behind them; nothing where there are fewer.
+fn split_sized(bytes: &[u8]) -> Option<(&[u8], &[u8])>
+    ensures parts { MatchOption result (HasNoSize bytes.now) (λ parts. IsSized bytes.now parts.0.now parts.1.now) }
+    ensures shorter { IfSome result (λ parts. length parts.1.now ≤ length bytes.now) }
 {
-    let (size, rest) = first_i32(bytes);
-    let (request_id, rest) = first_i32(rest);
-    let (response_to, rest) = first_i32(rest);
-    let (code, rest) = first_i32(rest);
-    let (flags, rest) = first_i32(rest);
-    let header = Header {
-        size,
-        request_id,
-        response_to,
-        code,
-        flags: flags.cast_unsigned(),
-    };
-    (header, rest)
-}
-
-/// The bytes before the checksum that the flags announce, and the checksum.
-fn split_checksum(flags: u32, bytes: &[u8]) -> Read<(&[u8], &[u8])>
-    ensures parts { IfOk result (λ parts. (bytes.now ≡ parts.0.now ++ parts.1.now) × IsChecksum flags parts.1.now) }
-    ensures refused { IfErr result (RefusesChecksum flags (length bytes.now)) }
-{
-    let len = if flags % 2 == 0 { 0 } else { 4 };
-    if bytes.len() < len {
-        return Err(MessageError::NoChecksum);
-    }
-    Ok(bytes.split_at(bytes.len() - len))
-}
-
-/// The bytes that a size in front counts, without it, and what is behind them.
-fn split_sized(bytes: &[u8]) -> Read<(&[u8], &[u8])>
-    ensures parts { IfOk result (λ parts. IsSized bytes.now parts.0.now parts.1.now) }
-    ensures refused { IfErr result (RefusesSize bytes.now) }
-{
-    if bytes.len() < 4 {
-        return Err(MessageError::WrongSequenceSize);
-    }
-    let (size, behind) = first_i32(bytes);
-    if size < 4 || size as i64 > bytes.len() as i64 {
-        return Err(MessageError::WrongSequenceSize);
-    }
-    Ok(behind.split_at(size as usize - 4))
+    let (_, behind) = bytes.split_at_checked(4)?;
+    let size = usize::try_from(first_i32(bytes)).ok()?;
+    behind.split_at_checked(size.checked_sub(4)?)
 }
 
 /// The text in front that ends with a 0, and what is behind it.
@@ -162,24 +108,8 @@ fn split_identifier(bytes: &[u8]) -> Read<(&str, &[u8])>
     let Some(end) = memchr::memchr(0, bytes) else {
         return Err(MessageError::NoIdentifier);
     };
-    match std::str::from_utf8(&bytes[..end]) {
-        Ok(identifier) => Ok((identifier, &bytes[end + 1..])),
-        Err(_) => Err(MessageError::NotText),
-    }
-}
-
-/// The documents that the bytes are, end to end.
-fn all_documents<'a>(alloc: Global, bytes: &'a [u8]) -> Read<Vec<RawDocument<'a>>>
-    ensures documents { IfOk result (λ documents. bytes.now ≡ joined documents.items) }
-    ensures refused { IfErr result (RefusesDocuments bytes.now) }
-{
-    let Ok(dump) = split_dump(alloc, bytes) else {
-        return Err(MessageError::OutOfMemory);
-    };
-    match dump.error {
-        Some(why) => Err(MessageError::NoDocument(why)),
-        None => Ok(dump.documents),
-    }
+    let identifier = std::str::from_utf8(&bytes[..end]).map_err(|_| MessageError::NotText)?;
+    Ok((identifier, &bytes[end + 1..]))
 }
 
 /// The section of this kind at the front of the bytes, and what is behind it.
@@ -189,14 +119,14 @@ fn first_section<'a>(alloc: Global, kind: u8, bytes: &'a [u8]) -> Read<(Section<
     ensures shorter { IfOk result (λ parts. length parts.1.now ≤ length bytes.now) }
 {
     match kind {
-        0 => match RawDocument::split_first(bytes) {
-            Ok((document, rest)) => Ok((Section::Body(document), rest)),
-            Err(why) => Err(MessageError::NoDocument(why)),
-        },
+        0 => RawDocument::split_first(bytes)
+            .map(|(body, rest)| (Section::Body(body), rest))
+            .map_err(MessageError::NoDocument),
         1 => {
-            let (inside, rest) = split_sized(bytes)?;
+            let (inside, rest) = split_sized(bytes).ok_or(MessageError::WrongSequenceSize)?;
             let (identifier, documents) = split_identifier(inside)?;
-            let documents = all_documents(alloc, documents)?;
+            let dump = split_dump(alloc, documents).map_err(|_| MessageError::OutOfMemory)?;
+            let documents = dump.whole().map_err(MessageError::NoDocument)?;
             Ok((Section::Sequence(identifier, documents), rest))
         }
         _ => Err(MessageError::OtherKind(kind)),
@@ -204,20 +134,31 @@ fn first_section<'a>(alloc: Global, kind: u8, bytes: &'a [u8]) -> Read<(Section<
 }
 
 /// The sections that the bytes are, end to end.
-fn all_sections<'a>(alloc: Global, bytes: &'a [u8]) -> Read<Vec<Section<'a>>>
-    ensures sections { IfOk result (λ sections. BeginWith sections.items bytes.now []) }
-    ensures refused { IfErr result (RefusesSections bytes.now) }
+fn all_sections<'a>(alloc: Global, mut rest: &'a [u8]) -> Read<Vec<Section<'a>>>
+    ensures sections { IfOk result (λ sections. BeginWith sections.items rest.entry.now []) }
+    ensures refused { IfErr result (RefusesSections rest.entry.now) }
 {
-    let mut sections = Vec::new(alloc);
-    let mut rest = bytes;
+    let mut all = Vec::new(alloc);
     while let Some((kind, behind)) = rest.split_first() {
         let (section, next) = first_section(alloc, *kind, behind)?;
-        if sections.push(section).is_err() {
-            return Err(MessageError::OutOfMemory);
-        }
+        check(all.push(section).is_ok(), MessageError::OutOfMemory)?;
         rest = next;
     }
-    Ok(sections)
+    Ok(all)
+}
+
+/// The flags of a message, behind its size and its code.
+fn known_flags(bytes: &[u8]) -> Read<u32>
+    ensures front { IfOk result (IsFront bytes.now) }
+    ensures refused { IfErr result (RefusesFront bytes.now) }
+{
+    check(bytes.len() >= 20, MessageError::TooShort)?;
+    let size = first_i32(bytes);
+    check(size as i64 == bytes.len() as i64, MessageError::WrongSize)?;
+    check(first_i32(&bytes[12..]) == 2013, MessageError::OtherCode)?;
+    let flags = first_i32(&bytes[16..]).cast_unsigned();
+    check(flags % 0x1_0000 < 4, MessageError::UnknownFlags(flags))?;
+    Ok(flags)
 }
 
 /// The message that these bytes are.
@@ -225,22 +166,15 @@ pub fn read_message<'a>(alloc: Global, bytes: &'a [u8]) -> Read<Message<'a>>
     ensures message { IfOk result (IsMessage bytes.now) }
     ensures refused { IfErr result (RefusesMessage bytes.now) }
 {
-    if bytes.len() < 20 {
-        return Err(MessageError::TooShort);
-    }
-    let (header, behind) = first_header(bytes);
-    if header.size as i64 != bytes.len() as i64 {
-        return Err(MessageError::WrongSize);
-    }
-    if header.code != 2013 {
-        return Err(MessageError::OtherCode);
-    }
-    let (body, checksum) = split_checksum(header.flags, behind)?;
-    let sections = all_sections(alloc, body)?;
+    let flags = known_flags(bytes)?;
+    let end = bytes.len() - 4 * (flags as usize % 2);
+    check(end >= 20, MessageError::NoChecksum)?;
     Ok(Message {
-        header,
-        sections,
-        checksum,
+        request_id: first_i32(&bytes[4..]),
+        response_to: first_i32(&bytes[8..]),
+        flags,
+        sections: all_sections(alloc, &bytes[20..end])?,
+        checksum: &bytes[end..],
     })
 }
 
@@ -250,16 +184,11 @@ pub fn message_of(alloc: Global, request_id: i32, body: RawDocument<'_>) -> Resu
     ensures refused { IfErr result (RefusesLength (length (bytes_of body.entry))) }
 {
     let bytes = body.as_bytes();
-    let Ok(size) = i32::try_from(bytes.len() + 21) else {
-        return Err(Error::malformed(Reason::TooLong));
-    };
-    let mut message = Vec::new(alloc);
-    message.extend_from_slice(&size.to_le_bytes())?;
+    let size = i32::try_from(bytes.len() + 21).map_err(|_| Error::malformed(Reason::TooLong))?;
+    let mut message = Vec::from_slice(alloc, &size.to_le_bytes())?;
     message.extend_from_slice(&request_id.to_le_bytes())?;
-    message.extend_from_slice(&0i32.to_le_bytes())?;
-    message.extend_from_slice(&2013i32.to_le_bytes())?;
-    message.extend_from_slice(&0u32.to_le_bytes())?;
-    message.push(0)?;
+    // no reply, code 2013, no flags, and the kind of a body
+    message.extend_from_slice(b"\0\0\0\0\xDD\x07\0\0\0\0\0\0\0")?;
     message.extend_from_slice(bytes)?;
     Ok(message)
 }

@@ -6,7 +6,7 @@ use raw_bson::{RawDocument, RawDocumentBuf, Result};
 use std::alloc::Global;
 
 /// A copy of the document without the elements of this key, whose values aren't looked into; or where the document
-/// stops, or want of memory.
+/// stops, or out of memory.
 pub fn copy_without(alloc: Global, document: RawDocument<'_>, key: &str) -> Result<RawDocumentBuf>
     ensures { IfOk result (IsWithout key.now (bytes_of document.entry)) }
 {

@@ -34,10 +34,9 @@ fn print_section(rt: &HostRuntime, section: &Section<'_>) -> io::Result<()> {
 
 /// Prints a message: its header, its sections, and its checksum in hex.
 fn print_message(rt: &HostRuntime, message: &Message<'_>) -> io::Result<()> {
-    let header = message.header;
     println!(rt;
         "message {}, to {}, flags {}",
-        header.request_id, header.response_to, header.flags
+        message.request_id, message.response_to, message.flags
     )?;
     for section in &message.sections {
         print_section(rt, section)?;

@@ -6,7 +6,8 @@ use Rattle.bson_uses.proofs.dump.split_dump.Goals as goal
 
 joined-more : (ds : List RawDocument) (d : RawDocument) (rest : List ℕ) → joined (ds ++ d ∷ []) ++ rest ≡ joined ds ++ (bytes_of d ++ rest)
 joined-more [] d rest = append_assoc (bytes_of d) [] rest
-joined-more (x ∷ ds) d rest = append_assoc (bytes_of x) (joined (ds ++ d ∷ [])) rest ∙ ap (λ y. bytes_of x ++ y) (joined-more ds d rest) ∙ sym (append_assoc (bytes_of x) (joined ds) (bytes_of d ++ rest))
+joined-more (x ∷ ds) d rest = append_assoc (bytes_of x) (joined (ds ++ d ∷ [])) rest ∙ ap (λ y. bytes_of x ++ y) (joined-more ds d rest)
+    ∙ sym (append_assoc (bytes_of x) (joined ds) (bytes_of d ++ rest))
 
 pub loop-rest-preserved : goal.loop-rest-preserved
 loop-rest-preserved c =

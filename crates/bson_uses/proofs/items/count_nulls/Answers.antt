@@ -31,11 +31,18 @@ pub loop-item-init : goal.loop-item-init
 loop-item-init c = ([], HasReadItems-none _ _ (c.into_iter-item-iterator.ensures.into_iter_gives ∙ c.iter-item-items.ensures.begins ∙ ap (λ b. Some (drop 4 b)) c.in_ok-document.ensures.same), refl)
 
 -- one more key and value was read, which is null or not
-one_more : (s : List ℕ) (items : List Item) (old new : Option (List ℕ)) (out : Result (Bor (List ℕ) × RawBsonRef) Error) (p : Bor (List ℕ) × RawBsonRef) (o : Option (Unit {0})) (b : Bool) (n m : ℕ) → HasReadItems s items old → n ≡ count_by is_null items → StepsItems TellsItem old (Some out) new → out ≡ Ok p → Shows null_value kind.Null (value_of p.1) o → is_some o ≡ b → m ≡ n + cond b 1 0 → (more : List Item) × HasReadItems s more new × (m ≡ count_by is_null more)
+one_more : (s : List ℕ) (items : List Item) (old new : Option (List ℕ)) (out : Result (Bor (List ℕ) × RawBsonRef) Error) (p : Bor (List ℕ) × RawBsonRef)
+    (o : Option (Unit {0})) (b : Bool) (n m : ℕ) → HasReadItems s items old → n ≡ count_by is_null items → StepsItems TellsItem old (Some out) new → out ≡ Ok p
+    → Shows null_value kind.Null (value_of p.1) o → is_some o ≡ b → m ≡ n + cond b 1 0
+    → (more : List Item) × HasReadItems s more new × (m ≡ count_by is_null more)
 one_more s items old new out p o b n m h e st was shows is sum =
     let item = entry p.0.now (value (value_of p.1)) in
-    let one = ap {B = ℕ} (λ q. cond q 1 0) (shown p.0.now (value_of p.1) o shows ∙ is) in
-    (items ++ item ∷ [], HasReadItems-pair s items old new p h (subst (λ (x : Result (Bor (List ℕ) × RawBsonRef) Error). StepsItems TellsItem old (Some x) new) was st), omega (arith, e, sum, one, sum_by_push (λ x. cond (is_null x) 1 0) items item))
+    let one = ap {B = ℕ} (λ q. cond q 1 0) (shown p.0.now (value_of p.1) o shows ∙ is) in (
+      items ++ item ∷ [],
+      HasReadItems-pair s items old new p h
+          (subst (λ (x : Result (Bor (List ℕ) × RawBsonRef) Error). StepsItems TellsItem old (Some x) new) was st),
+      omega (arith, e, sum, one, sum_by_push (λ x. cond (is_null x) 1 0) items item),
+    )
 
 pub returns-in_err-value-clause-refused : goal.returns-in_err-value-clause-refused
 returns-in_err-value-clause-refused c =
@@ -51,10 +58,14 @@ overflow_add-nulls c =
     omega (arith, inv.2, envelope.header.fits, length-drop 4 c.args.bytes.now, count_by-le-length is_null inv.0, HasReadItems-bound (drop 4 c.args.bytes.now) inv.0 c.loop-item.item-iterator inv.1)
 
 pub loop-item-preserved-then-is_some : goal.loop-item-preserved-then-is_some
-loop-item-preserved-then-is_some c = let inv = c.loop-item.invariant in one_more _ inv.0 _ _ _ (c.in_ok-value.field-0-0, c.in_ok-value.value) c.as_null.result true c.loop-item.nulls _ inv.1 inv.2 c.in-Some.ensures.steps c.in_ok-value.was c.as_null.ensures.meaning (sym c.is_some.ensures ∙ c.if-is_some.true) refl
+loop-item-preserved-then-is_some c = let inv = c.loop-item.invariant in
+    one_more _ inv.0 _ _ _ (c.in_ok-value.field-0-0, c.in_ok-value.value) c.as_null.result true c.loop-item.nulls _ inv.1 inv.2 c.in-Some.ensures.steps
+    c.in_ok-value.was c.as_null.ensures.meaning (sym c.is_some.ensures ∙ c.if-is_some.true) refl
 
 pub loop-item-preserved : goal.loop-item-preserved
-loop-item-preserved c = let inv = c.loop-item.invariant in one_more _ inv.0 _ _ _ (c.in_ok-value.field-0-0, c.in_ok-value.value) c.as_null.result false c.loop-item.nulls _ inv.1 inv.2 c.in-Some.ensures.steps c.in_ok-value.was c.as_null.ensures.meaning (sym c.is_some.ensures ∙ c.if-is_some.false) (omega arith)
+loop-item-preserved c = let inv = c.loop-item.invariant in
+    one_more _ inv.0 _ _ _ (c.in_ok-value.field-0-0, c.in_ok-value.value) c.as_null.result false c.loop-item.nulls _ inv.1 inv.2 c.in-Some.ensures.steps
+    c.in_ok-value.was c.as_null.ensures.meaning (sym c.is_some.ensures ∙ c.if-is_some.false) (omega arith)
 
 pub returns-clause-counted : goal.returns-clause-counted
 returns-clause-counted c =

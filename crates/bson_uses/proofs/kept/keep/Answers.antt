@@ -14,6 +14,7 @@ pub returns-clause-kept : goal.returns-clause-kept
 returns-clause-kept c =
     let form = subst (IsCanonicalForm c.args.bytes.now) (sym c.in_ok-form.ensures.same) c.in_ok-canonical_bytes.ensures.form in
     elim c.match-put.branch [
-      | in-Ok w ↦ rw (w.result-is) (kept_as c.args.shelf.now c.args.bytes.now c.in_ok-form.form w.in-Ok.is_new c.put.new.self form (subst (λ (x : Result Bool PutError). Puts c.args.shelf.now c.in_ok-form.form x c.put.new.self) w.in-Ok.is c.put.ensures))
+      | in-Ok w ↦ rw (w.result-is) (kept_as c.args.shelf.now c.args.bytes.now c.in_ok-form.form w.in-Ok.is_new c.put.new.self form
+          (subst (λ (x : Result Bool PutError). Puts c.args.shelf.now c.in_ok-form.form x c.put.new.self) w.in-Ok.is c.put.ensures))
       | in-Err-OutOfMemory w ↦ rw (w.result-is) tt
     ]

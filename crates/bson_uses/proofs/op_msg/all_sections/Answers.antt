@@ -1,4 +1,4 @@
-use Rattle.std.proofs.Common.{rules, ◌≡◌, ◌++◌, ◌∷◌, [], ℕ, List, refl, sym, subst}
+use Rattle.std.proofs.Common.{rules, ◌≡◌, ◌++◌, ◌∷◌, [], ℕ, List, refl, subst}
 use Rattle.bson_uses.specs.Messages.{IsSection, BeginWith}
 use Rattle.bson_uses.specs.declared.op_msg.Section.{Section}
 use Rattle.bson_uses.proofs.op_msg.all_sections.Goals as goal
@@ -9,8 +9,6 @@ one_more (y ∷ ys) x s kind t next h is = (h.0, h.1, h.2, h.3, h.4, one_more ys
 
 pub loop-kind-preserved : goal.loop-kind-preserved
 loop-kind-preserved c =
-    let xs = c.loop-kind.sections.items in
-    let x = c.in_ok-section.section in
-    let pushed : c.push.new.self.items ≡ xs ++ x ∷ [] = search rules in
-    let before = subst (BeginWith xs c.args.bytes.now) c.in-Some.ensures.cases.0 c.loop-kind.invariant in
-    subst (λ (ys : List Section). BeginWith ys c.args.bytes.now c.in_ok-section.next.now) (sym pushed) (one_more xs x c.args.bytes.now c.in-Some.kind.now c.in-Some.behind.now c.in_ok-section.next.now before c.in_ok-section.ensures.section)
+    let pushed : c.push.new.self.items ≡ c.loop-kind.all.items ++ c.in_ok-section.section ∷ [] = search rules in
+    let before = subst (BeginWith c.loop-kind.all.items c.args.rest.now) c.in-Some.ensures.cases.0 c.loop-kind.invariant in
+    rw pushed (one_more c.loop-kind.all.items c.in_ok-section.section c.args.rest.now c.in-Some.kind.now c.in-Some.behind.now c.in_ok-section.next.now before c.in_ok-section.ensures.section)
