@@ -1,4 +1,4 @@
-//! Checks of answers. Each passes, or says what was found and where: `?` makes that the failure of a test.
+//! Checks of results. Each passes, or says what was found and where: `?` makes that the failure of a test.
 
 use crate::refusals::is_refused;
 use raw_bson::Reason;
@@ -50,7 +50,7 @@ pub fn check_display_text<T: Display>(alloc: Global, value: &T, text: &str) -> R
     check_text(printed.as_str(), text)
 }
 
-/// The answer is this one.
+/// The result is this one.
 pub fn check_answer<T: PartialEq + Debug + Drop>(
     answer: raw_bson::Result<T>,
     wanted: &T,
@@ -80,7 +80,7 @@ pub fn check_refused<T: Drop>(answer: raw_bson::Result<T>, reason: Reason) -> Re
     check_malformed(answer, reason, None)
 }
 
-/// The answer is the fault of this reason at this key.
+/// The result is the fault of this reason at this key.
 pub fn check_fault<T: Drop>(
     answer: raw_bson::Result<T>,
     reason: Reason,

@@ -1,5 +1,5 @@
-//! What `bson_tests` and `tree_tests` share: owned values of each kind, what is said of refusals, and checks. A check answers
-//! a `Fail`, which `?` makes the failure of a test.
+//! What `bson_tests` and `tree_tests` share: owned values of each kind, what is said of refusals, and checks. A check
+//! returns a `Fail`, which `?` makes the failure of a test.
 #![tactic(auto)]
 
 mod checks;

@@ -10,7 +10,7 @@ use std::fmt;
 /// Why a text isn't read as a document.
 #[derive(Clone, Copy, Debug, PartialEq, Eq)]
 pub enum JsonReason {
-    /// No memory was left.
+    /// Memory ran out.
     OutOfMemory,
     /// The document would have more bytes than allowed, or over 2147483647.
     TooManyBytes,
@@ -102,6 +102,10 @@ impl JsonReason {
 }
 
 /// Why a text isn't read, and where.
+/// ```
+/// let error = from_json(alloc, "{\"a\":\n  1,,}", Limits { bytes: 1000, depth: 10 }).unwrap_err();
+/// assert_eq!(rt; (error.reason, error.line, error.column), (JsonReason::ExpectedKey, 2, 5));
+/// ```
 #[derive(Clone, Copy, Debug, PartialEq, Eq)]
 pub struct JsonError {
     /// why

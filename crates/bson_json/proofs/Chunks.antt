@@ -22,7 +22,8 @@ length_taken (suc i) (x ∷ b) h = ap suc (length_taken i b (omega arith))
 pub chunk_put : (b : List ℕ) (i n m : ℕ) → i ≤ length b → i % 3 ≡ 0 → m ≡ n → encode_of standard (take i b) ++ encode_of standard (take m (drop i b)) ≡ encode_of standard (take (i + n) b)
 chunk_put b i n m le groups e =
     let whole : length (take i b) % 3 ≡ 0 = ap (λ (k : ℕ). k % 3) (length_taken i b le) ∙ groups in
-    ap (λ (k : ℕ). encode_of standard (take i b) ++ encode_of standard (take k (drop i b))) e ∙ sym (encode_of-append standard (take i b) (take n (drop i b)) whole) ∙ ap (encode_of standard) (sym (take-add i n b))
+    ap (λ (k : ℕ). encode_of standard (take i b) ++ encode_of standard (take k (drop i b))) e
+    ∙ sym (encode_of-append standard (take i b) (take n (drop i b)) whole) ∙ ap (encode_of standard) (sym (take-add i n b))
 
 pub last_chunk : (b : List ℕ) (i : ℕ) → i ≤ length b → i % 3 ≡ 0 → encode_of standard (take i b) ++ encode_of standard (take (length b - i) (drop i b)) ≡ encode_of standard b
 last_chunk b i le groups =

@@ -38,7 +38,8 @@ instant_text millis d front behind e f b =
       d.day,
       subst (λ (y : ℤ). IsCivilDate y d.month d.day) is (civil d),
       subst (λ (y : ℤ). days_from_civil y d.month d.day ≡ pos (millis / 86400000)) is e,
-      ap (λ (x : List ℕ). x ++ behind) (f ∙ ap (λ (y : ℕ). second_text y d.month d.day (millis % 86400000 / 1000)) year) ∙ ap (λ (x : List ℕ). second_text k d.month d.day (millis % 86400000 / 1000) ++ x) b,
+      ap (λ (x : List ℕ). x ++ behind) (f ∙ ap (λ (y : ℕ). second_text y d.month d.day (millis % 86400000 / 1000)) year)
+          ∙ ap (λ (x : List ℕ). second_text k d.month d.day (millis % 86400000 / 1000) ++ x) b,
     )
 
 pub no_fraction : (n : ℕ) → n ≡ 0 → codes "Z" ≡ fraction_text n ++ codes "Z"

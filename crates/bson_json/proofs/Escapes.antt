@@ -20,7 +20,8 @@ plain_more b i lt plain one =
 -- a run that is as it is, behind what is before it
 pub run_put : (b : List ℕ) (i n m : ℕ) → m ≡ n → escape (take n (drop i b)) ≡ take n (drop i b) → escape (take i b) ++ take m (drop i b) ≡ escape (take (i + n) b)
 run_put b i n m e plain =
-    ap (λ (k : ℕ). escape (take i b) ++ take k (drop i b)) e ∙ ap (λ (l : List ℕ). escape (take i b) ++ l) (sym plain) ∙ sym (escape-append (take i b) (take n (drop i b))) ∙ ap escape (sym (take-add i n b))
+    ap (λ (k : ℕ). escape (take i b) ++ take k (drop i b)) e ∙ ap (λ (l : List ℕ). escape (take i b) ++ l) (sym plain)
+    ∙ sym (escape-append (take i b) (take n (drop i b))) ∙ ap escape (sym (take-add i n b))
 
 pub whole_run : (b : List ℕ) (n : ℕ) → n ≡ length b → escape (take n b) ≡ escape b
 whole_run b n e = ap escape (ap (λ (k : ℕ). take k b) e ∙ take_length b)

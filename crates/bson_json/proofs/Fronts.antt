@@ -43,7 +43,8 @@ pub gives_end : (old new : Option (List ℕ)) → IsReadable old → StepsFront 
 gives_end None new (n, h) steps = h
 gives_end (Some s) new reads steps = steps.0
 
-pub gives_element : (old new : Option (List ℕ)) (e : RawElement) (v : RawBsonRef) (key : Bor (List ℕ)) → IsReadable old → StepsFront old (Some (Ok e)) new → Means (frame_of e) (value (value_of v)) → key.now ≡ (frame_of e).key → Gives old new (Some (key, v))
+pub gives_element : (old new : Option (List ℕ)) (e : RawElement) (v : RawBsonRef) (key : Bor (List ℕ)) → IsReadable old → StepsFront old (Some (Ok e)) new
+    → Means (frame_of e) (value (value_of v)) → key.now ≡ (frame_of e).key → Gives old new (Some (key, v))
 gives_element None new e v key (n, h) steps means is = h
 gives_element (Some s) new e v key reads (r, at, left) means is = (frame_of e, r, at, means, is, left)
 

@@ -35,7 +35,8 @@ readable_changed (suc n) (w ∷ ws) old new f h = (readable_changed n ws old new
 abbrev pub ReadsOn : ℕ → Option (List ℕ) → Option (List ℕ) → Type 0
 ReadsOn m outer inner = IsReadableUpTo m outer × (k : ℕ) × (m ≡ suc k) × IsReadableUpTo k inner
 
-pub readable_entered : (n : ℕ) (ws : List Level) (old outer inner : Level) → ((m : ℕ) → IsReadableUpTo m old.elements → ReadsOn m outer.elements inner.elements) → AllReadable n ws old → AllReadable n (ws ++ outer ∷ []) inner
+pub readable_entered : (n : ℕ) (ws : List Level) (old outer inner : Level) → ((m : ℕ) → IsReadableUpTo m old.elements → ReadsOn m outer.elements inner.elements)
+    → AllReadable n ws old → AllReadable n (ws ++ outer ∷ []) inner
 readable_entered zero ws old outer inner f h = absurd h
 readable_entered (suc n) [] old outer inner f h =
     let (reads, k, e, inside) = f n h in

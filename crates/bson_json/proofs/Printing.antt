@@ -31,6 +31,12 @@ pub record IsPrinting (style : Style) (b : List ℕ) (ws : List Level) (l : Leve
   pub rest : (text : List ℕ) → AllLeft style levels 0 ws l text → IsJsonUpTo style levels 0 reading.as_document b (written ++ text)
   pub put : Appends old new written
 
+-- the level l behind an element, before the bytes r
+pub record IsBehind (l next : Level) (r : List ℕ) : Type 0 where
+  pub elements : next.elements ≡ Some r
+  pub sort_is : next.sort ≡ l.sort
+  pub first : next.first ≡ false
+
 -- the bytes that are left of the levels
 abbrev pub left_in : List Level → ℕ
 left_in ws = sum_by (λ w. left_of w.elements + 1) ws
@@ -42,16 +48,22 @@ module _ (style : Style) (b : List ℕ) where
     levels = suc n;
     written = codes "{";
     readable = subst (λ (s : Option (List ℕ)). IsReadableUpTo n s) (sym opened.elements) (pairs, reads);
-    rest = λ text left. let at : LeftIn style n 0 (Some (drop 4 b)) sort.Document true text = subst (λ (f : Bool). LeftIn style n 0 (Some (drop 4 b)) sort.Document f text) opened.first (subst (λ (o : Sort). LeftIn style n 0 (Some (drop 4 b)) o l.first text) opened.sort_is (subst (λ (s : Option (List ℕ)). LeftIn style n 0 s l.sort l.first text) opened.elements left)) in
+    rest = λ text left. let at : LeftIn style n 0 (Some (drop 4 b)) sort.Document true text =
+        subst (λ (f : Bool). LeftIn style n 0 (Some (drop 4 b)) sort.Document f text) opened.first
+        (subst (λ (o : Sort). LeftIn style n 0 (Some (drop 4 b)) o l.first text) opened.sort_is
+        (subst (λ (s : Option (List ℕ)). LeftIn style n 0 s l.sort l.first text) opened.elements left)) in
         (at.0, at.1, at.2, at.3, ap (λ (x : List ℕ). 123 ∷ x) (at.4 ∙ append-nil at.1));
     put = put;
   }
 
   -- a level that is at its end has its end as its text
   ended : (m depth : ℕ) (l : Level) (s : List ℕ) → l.elements ≡ Some s → s ≡ 0 ∷ [] → LeftOf style m depth l (end_text style.layout depth (sort_of l.sort) l.first ++ after l.sort)
-  ended m depth l s e final = subst (λ (x : Option (List ℕ)). LeftIn style m depth x l.sort l.first (end_text style.layout depth (sort_of l.sort) l.first ++ after l.sort)) (sym e) ([], end_text style.layout depth (sort_of l.sort) l.first, final, refl, refl)
+  ended m depth l s e final = subst (λ (x : Option (List ℕ)). LeftIn style m depth x l.sort l.first
+      (end_text style.layout depth (sort_of l.sort) l.first ++ after l.sort)) (sym e)
+      ([], end_text style.layout depth (sort_of l.sort) l.first, final, refl, refl)
 
-  text_ends : (levels : ℕ) (w : List ℕ) (l : Level) (s : List ℕ) → AllReadable levels [] l → ((text : List ℕ) → AllLeft style levels 0 [] l text → IsJsonUpTo style levels 0 reading.as_document b (w ++ text)) → l.elements ≡ Some s → s ≡ 0 ∷ []
+  text_ends : (levels : ℕ) (w : List ℕ) (l : Level) (s : List ℕ) → AllReadable levels [] l
+      → ((text : List ℕ) → AllLeft style levels 0 [] l text → IsJsonUpTo style levels 0 reading.as_document b (w ++ text)) → l.elements ≡ Some s → s ≡ 0 ∷ []
       → IsJson style b (w ++ (end_text style.layout 0 (sort_of l.sort) l.first ++ after l.sort))
   text_ends zero w l s reads f e final = absurd reads
   text_ends (suc n) w l s reads f e final = (suc n, f (end_text style.layout 0 (sort_of l.sort) l.first ++ after l.sort) (ended n 0 l s e final))
@@ -72,34 +84,42 @@ module _ (style : Style) (b : List ℕ) where
         levels = is.levels;
         written = is.written ++ end;
         readable = readable_left is.levels ws w l is.readable;
-        rest = λ text left. subst (IsJsonUpTo style is.levels 0 reading.as_document b) (sym (append_assoc is.written end text)) (is.rest (end ++ text) (left_closed style is.levels 0 depth ws w l end text at is.readable (λ m. ended m depth l s e final) left));
+        rest = λ text left. subst (IsJsonUpTo style is.levels 0 reading.as_document b) (sym (append_assoc is.written end text))
+            (is.rest (end ++ text) (left_closed style is.levels 0 depth ws w l end text at is.readable (λ m. ended m depth l s e final) left));
         put = Appends-trans old mid new is.written end is.put last;
       }
 
   -- a value that holds no others
   pub printing_leaf : (ws : List Level) (l next : Level) (s r : List ℕ) (f : Frame) (leaf : Leaf) (shown : List ℕ) (old mid new : Option (List ℕ))
-      → IsPrinting style b ws l old mid → l.elements ≡ Some s → next.elements ≡ Some r → next.sort ≡ l.sort → next.first ≡ false → IsFrame s f r → Means f (value (raw.single leaf))
+      → IsPrinting style b ws l old mid → l.elements ≡ Some s → IsBehind l next r → IsFrame s f r → Means f (value (raw.single leaf))
       → IsLeafJson style.format leaf shown → Appends mid new (head_text style.layout (length ws + 1) (sort_of l.sort) l.first f.key ++ shown) → IsPrinting style b ws next old new
-  printing_leaf ws l next s r f leaf shown old mid new is e next_is same first at means json put =
+  printing_leaf ws l next s r f leaf shown old mid new is e behind at means json put =
       let depth = length ws in
       let head = head_text style.layout (length ws + 1) (sort_of l.sort) l.first f.key in
       let one_more : length ws + 1 ≡ suc (length ws) = omega arith in
       let from_top : length ws ≡ 0 + length ws = omega arith in
       let step = λ (m : ℕ) (a : List ℕ) (left : LeftOf style m depth next a).
-      let here : LeftIn style m depth (Some r) l.sort false a = subst (λ (x : Bool). LeftIn style m depth (Some r) l.sort x a) first (subst (λ (o : Sort). LeftIn style m depth (Some r) o next.first a) same (subst (λ (x : Option (List ℕ)). LeftIn style m depth x next.sort next.first a) next_is left)) in
+      let here : LeftIn style m depth (Some r) l.sort false a =
+      subst (λ (x : Bool). LeftIn style m depth (Some r) l.sort x a) behind.first
+      (subst (λ (o : Sort). LeftIn style m depth (Some r) o next.first a) behind.sort_is
+      (subst (λ (x : Option (List ℕ)). LeftIn style m depth x next.sort next.first a) behind.elements left)) in
       let whole : LeftIn style m depth (Some s) l.sort l.first ((head ++ shown) ++ a) = (
         f ∷ here.0,
         head ++ (shown ++ here.1),
         (r, at, here.2),
         (raw.single leaf, shown, here.1, means, json, here.3, ap (λ (k : ℕ). head_text style.layout k (sort_of l.sort) l.first f.key ++ (shown ++ here.1)) one_more),
-        append_assoc head shown a ∙ ap (λ (x : List ℕ). head ++ (shown ++ x)) here.4 ∙ sym (append_assoc head (shown ++ here.1) (after l.sort) ∙ ap (λ (x : List ℕ). head ++ x) (append_assoc shown here.1 (after l.sort))),
+        append_assoc head shown a ∙ ap (λ (x : List ℕ). head ++ (shown ++ x)) here.4
+            ∙ sym (append_assoc head (shown ++ here.1) (after l.sort) ∙ ap (λ (x : List ℕ). head ++ x) (append_assoc shown here.1 (after l.sort))),
       ) in
       subst (λ (x : Option (List ℕ)). LeftIn style m depth x l.sort l.first ((head ++ shown) ++ a)) (sym e) whole in
       record {
         levels = is.levels;
         written = is.written ++ (head ++ shown);
-        readable = readable_changed is.levels ws l next (λ (m : ℕ) (h : IsReadableUpTo m l.elements). subst (IsReadableUpTo m) (sym next_is) (reads_on s f r (raw.single leaf) at means m (subst (IsReadableUpTo m) e h))) is.readable;
-        rest = λ text left. subst (IsJsonUpTo style is.levels 0 reading.as_document b) (sym (append_assoc is.written (head ++ shown) text)) (is.rest ((head ++ shown) ++ text) (left_changed style is.levels 0 depth ws l next (head ++ shown) text from_top step left));
+        readable = readable_changed is.levels ws l next
+            (λ (m : ℕ) (h : IsReadableUpTo m l.elements). subst (IsReadableUpTo m) (sym behind.elements)
+            (reads_on s f r (raw.single leaf) at means m (subst (IsReadableUpTo m) e h))) is.readable;
+        rest = λ text left. subst (IsJsonUpTo style is.levels 0 reading.as_document b) (sym (append_assoc is.written (head ++ shown) text))
+            (is.rest ((head ++ shown) ++ text) (left_changed style is.levels 0 depth ws l next (head ++ shown) text from_top step left));
         put = Appends-trans old mid new is.written (head ++ shown) is.put put;
       }
 
@@ -112,9 +132,12 @@ module _ (style : Style) (b : List ℕ) where
 
   opened_left : (m depth : ℕ) (d : List ℕ) (o : Sort) (level : Level) (a : List ℕ) → IsOpened d o level → LeftOf style m depth level a → LeftIn style m depth (Some (drop 4 d)) o true a
   opened_left m depth d o level a opened left =
-      subst (λ (f : Bool). LeftIn style m depth (Some (drop 4 d)) o f a) opened.first (subst (λ (x : Sort). LeftIn style m depth (Some (drop 4 d)) x level.first a) opened.sort_is (subst (λ (x : Option (List ℕ)). LeftIn style m depth x level.sort level.first a) opened.elements left))
+      subst (λ (f : Bool). LeftIn style m depth (Some (drop 4 d)) o f a) opened.first
+      (subst (λ (x : Sort). LeftIn style m depth (Some (drop 4 d)) x level.first a) opened.sort_is
+      (subst (λ (x : Option (List ℕ)). LeftIn style m depth x level.sort level.first a) opened.elements left))
 
-  value_opened : (m depth : ℕ) (v : RawValue) (level : Level) (piece a : List ℕ) → Opens v level piece → LeftOf style m (suc depth) level a → IsValueJson style depth (IsJsonUpTo style (suc m) (suc depth)) v (piece ++ a)
+  value_opened : (m depth : ℕ) (v : RawValue) (level : Level) (piece a : List ℕ) → Opens v level piece → LeftOf style m (suc depth) level a
+      → IsValueJson style depth (IsJsonUpTo style (suc m) (suc depth)) v (piece ++ a)
   value_opened m depth (raw.single l) level piece a opens left = absurd opens
   value_opened m depth (raw.document d) level piece a (opened, is) left =
       let at = opened_left m (suc depth) d sort.Document level a opened left in
@@ -134,35 +157,41 @@ module _ (style : Style) (b : List ℕ) where
 
   -- a value that holds others
   pub printing_opens : (ws : List Level) (l outer inner : Level) (s r : List ℕ) (f : Frame) (v : RawValue) (piece : List ℕ) (old mid new : Option (List ℕ))
-      → IsPrinting style b ws l old mid → l.elements ≡ Some s → outer.elements ≡ Some r → outer.sort ≡ l.sort → outer.first ≡ false → IsFrame s f r → Means f (value v)
+      → IsPrinting style b ws l old mid → l.elements ≡ Some s → IsBehind l outer r → IsFrame s f r → Means f (value v)
       → Opens v inner piece → Appends mid new (head_text style.layout (length ws + 1) (sort_of l.sort) l.first f.key ++ piece) → IsPrinting style b (ws ++ outer ∷ []) inner old new
-  printing_opens ws l outer inner s r f v piece old mid new is e outer_is same first at means opens put =
+  printing_opens ws l outer inner s r f v piece old mid new is e behind at means opens put =
       let depth = length ws in
       let head = head_text style.layout (length ws + 1) (sort_of l.sort) l.first f.key in
       let one_more : length ws + 1 ≡ suc (length ws) = omega arith in
       let from_top : length ws ≡ 0 + length ws = omega arith in
       let (d, holds, inner_is) = opens_held v inner piece opens in
       let step = λ (m : ℕ) (a c : List ℕ) (inside : LeftOf style m (suc depth) inner a) (left : LeftOf style (suc m) depth outer c).
-      let here : LeftIn style (suc m) depth (Some r) l.sort false c = subst (λ (x : Bool). LeftIn style (suc m) depth (Some r) l.sort x c) first (subst (λ (o : Sort). LeftIn style (suc m) depth (Some r) o outer.first c) same (subst (λ (x : Option (List ℕ)). LeftIn style (suc m) depth x outer.sort outer.first c) outer_is left)) in
+      let here : LeftIn style (suc m) depth (Some r) l.sort false c =
+      subst (λ (x : Bool). LeftIn style (suc m) depth (Some r) l.sort x c) behind.first
+      (subst (λ (o : Sort). LeftIn style (suc m) depth (Some r) o outer.first c) behind.sort_is
+      (subst (λ (x : Option (List ℕ)). LeftIn style (suc m) depth x outer.sort outer.first c) behind.elements left)) in
       let shown = piece ++ a in
       let whole : LeftIn style (suc m) depth (Some s) l.sort l.first ((head ++ piece) ++ (a ++ c)) = (
         f ∷ here.0,
         head ++ (shown ++ here.1),
         (r, at, here.2),
         (v, shown, here.1, means, value_opened m depth v inner piece a opens inside, here.3, ap (λ (k : ℕ). head_text style.layout k (sort_of l.sort) l.first f.key ++ (shown ++ here.1)) one_more),
-        append_assoc head piece (a ++ c) ∙ ap (λ (x : List ℕ). head ++ x) (sym (append_assoc piece a c) ∙ ap (λ (x : List ℕ). shown ++ x) here.4 ∙ sym (append_assoc shown here.1 (after l.sort))) ∙ sym (append_assoc head (shown ++ here.1) (after l.sort)),
+        append_assoc head piece (a ++ c) ∙ ap (λ (x : List ℕ). head ++ x)
+            (sym (append_assoc piece a c) ∙ ap (λ (x : List ℕ). shown ++ x) here.4 ∙ sym (append_assoc shown here.1 (after l.sort)))
+            ∙ sym (append_assoc head (shown ++ here.1) (after l.sort)),
       ) in
       subst (λ (x : Option (List ℕ)). LeftIn style (suc m) depth x l.sort l.first ((head ++ piece) ++ (a ++ c))) (sym e) whole in
       let reads = λ (m : ℕ) (h : IsReadableUpTo m l.elements).
       let at_front : Front s f r v at means m = front s f r v at means m (subst (IsReadableUpTo m) e h) in
       let (k, fewer, inside) = held_read m v d at_front.stands.0 holds at_front.stands.1 in
-      let both : ReadsOn m outer.elements inner.elements = (subst (IsReadableUpTo m) (sym outer_is) at_front.rest, k, fewer, subst (IsReadableUpTo k) (sym inner_is) inside) in
+      let both : ReadsOn m outer.elements inner.elements = (subst (IsReadableUpTo m) (sym behind.elements) at_front.rest, k, fewer, subst (IsReadableUpTo k) (sym inner_is) inside) in
       both in
       record {
         levels = is.levels;
         written = is.written ++ (head ++ piece);
         readable = readable_entered is.levels ws l outer inner reads is.readable;
-        rest = λ text left. subst (IsJsonUpTo style is.levels 0 reading.as_document b) (sym (append_assoc is.written (head ++ piece) text)) (is.rest ((head ++ piece) ++ text) (left_entered style is.levels 0 depth ws l outer inner (head ++ piece) text from_top step left));
+        rest = λ text left. subst (IsJsonUpTo style is.levels 0 reading.as_document b) (sym (append_assoc is.written (head ++ piece) text))
+            (is.rest ((head ++ piece) ++ text) (left_entered style is.levels 0 depth ws l outer inner (head ++ piece) text from_top step left));
         put = Appends-trans old mid new is.written (head ++ piece) is.put put;
       }
 
@@ -170,13 +199,15 @@ module _ (style : Style) (b : List ℕ) where
   pub smaller_closes : (ws : List Level) (w l : Level) → left_of w.elements + left_in ws < left_of l.elements + left_in (ws ++ w ∷ [])
   smaller_closes ws w l = omega (arith, sum_by_push (λ (x : Level). left_of x.elements + 1) ws w)
 
-  pub smaller_leaf : (ws : List Level) (l next : Level) (s r : List ℕ) (f : Frame) → l.elements ≡ Some s → next.elements ≡ Some r → IsFrame s f r → left_of next.elements + left_in ws < left_of l.elements + left_in ws
+  pub smaller_leaf : (ws : List Level) (l next : Level) (s r : List ℕ) (f : Frame) → l.elements ≡ Some s → next.elements ≡ Some r → IsFrame s f r
+      → left_of next.elements + left_in ws < left_of l.elements + left_in ws
   smaller_leaf ws l next s r f e next_is at =
       let before : left_of l.elements ≡ length s = ap left_of e in
       let behind : left_of next.elements ≡ length r = ap left_of next_is in
       omega (arith, IsFrame-shorter s f r at)
 
-  pub smaller_opens : (ws : List Level) (l outer inner : Level) (s r : List ℕ) (f : Frame) (v : RawValue) (piece : List ℕ) → l.elements ≡ Some s → outer.elements ≡ Some r → IsFrame s f r → Means f (value v) → Opens v inner piece
+  pub smaller_opens : (ws : List Level) (l outer inner : Level) (s r : List ℕ) (f : Frame) (v : RawValue) (piece : List ℕ) → l.elements ≡ Some s
+      → outer.elements ≡ Some r → IsFrame s f r → Means f (value v) → Opens v inner piece
       → left_of inner.elements + left_in (ws ++ outer ∷ []) < left_of l.elements + left_in ws
   smaller_opens ws l outer inner s r f v piece e outer_is at means opens =
       let (d, holds, inner_is) = opens_held v inner piece opens in

@@ -21,6 +21,13 @@ use std::io::Write;
 /// Writes a document within limits as MongoDB Extended JSON v2, each element as it is: repeated keys in order, an array without
 /// its keys. The error is the first barrier, as `first_fault_within` has it, and then nothing was written; else the writer's
 /// own, or out of memory. Memory is taken for the levels alone, and no depth fills the stack. BSON 1.1, `document`.
+/// ```
+/// let document = RawDocument::from_bytes(b"\x0C\0\0\0\x10a\0\x01\0\0\0\0")?;
+/// let style = Style { format: Format::Canonical, layout: Layout::OneLine };
+/// let mut out = Vec::new(alloc);
+/// assert!(rt; write_json(alloc, document, style, Limits { bytes: 1000, depth: 10 }, &mut out).is_ok());
+/// assert_eq!(rt; out.as_slice(), b"{\"a\":{\"$numberInt\":\"1\"}}".as_slice());
+/// ```
 pub fn write_json<'a, W: Write>(
     alloc: Global,
     document: RawDocument<'a>,
@@ -48,6 +55,12 @@ pub fn write_json<'a, W: Write>(
 
 /// A document within limits as MongoDB Extended JSON v2, as `write_json` writes it. The error is the first barrier, as
 /// `first_fault_within` has it, or out of memory. BSON 1.1, `document`.
+/// ```
+/// let document = RawDocument::from_bytes(b"\x0C\0\0\0\x10a\0\x01\0\0\0\0")?;
+/// let style = Style { format: Format::Relaxed, layout: Layout::OneLine };
+/// let text = to_json(alloc, document, style, Limits { bytes: 1000, depth: 10 }).map_err(|_| NoMemory)?;
+/// assert_eq!(rt; text.as_str(), "{\"a\":1}");
+/// ```
 pub fn to_json<'a>(
     alloc: Global,
     document: RawDocument<'a>,

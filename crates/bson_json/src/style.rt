@@ -20,6 +20,11 @@ pub enum Layout {
 }
 
 /// How a document is printed.
+/// ```
+/// let style = Style { format: Format::Relaxed, layout: Layout::Indented };
+/// let text = to_json(alloc, RawDocument::from_bytes(b"\x0C\0\0\0\x10a\0\x01\0\0\0\0")?, style, Limits { bytes: 1000, depth: 10 }).map_err(|_| NoMemory)?;
+/// assert_eq!(rt; text.as_str(), "{\n  \"a\": 1\n}");
+/// ```
 #[derive(Clone, Copy, Debug, PartialEq, Eq)]
 pub struct Style {
     /// which format

@@ -64,7 +64,7 @@ fn an_access_error_stays_itself(rt: HostRuntime) -> Result<(), Fail> {
     }
 }
 
-/// The error is printed as want of memory, and has no key.
+/// The error is printed as out of memory, and has no key.
 fn check_no_memory(alloc: Global, error: AnyError) -> Result<(), Fail> {
     check_says(alloc, &error, "out of memory", None)
 }

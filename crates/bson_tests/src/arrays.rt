@@ -221,7 +221,7 @@ fn arrays_are_compared_by_bytes_and_count(rt: HostRuntime) -> Result<(), Fail> {
     check_compared(&pushed, &copy, &other_count, &empty)
 }
 
-/// What the getter for this kind answers.
+/// What the getter for this kind returns.
 fn get<'a>(
     array: &'a RawArrayBuf,
     kind: ElementType,

@@ -249,7 +249,7 @@ fn from_an_iterator_with_a_bad_key(rt: HostRuntime) -> Result<(), Fail> {
     check_refused(answer, Reason::InteriorNul)
 }
 
-/// Appends each element as it stands.
+/// Appends each element as it is.
 fn append_elements(
     alloc: Global,
     copy: &mut RawDocumentBuf,
@@ -261,14 +261,14 @@ fn append_elements(
     Ok(())
 }
 
-/// Each element appended as it stands gives the document again.
+/// Each element appended as it is gives the document again.
 fn check_copied(alloc: Global, bytes: &[u8]) -> Result<(), Fail> {
     let mut copy = RawDocumentBuf::new(alloc)?;
     append_elements(alloc, &mut copy, RawDocument::from_bytes(bytes)?)?;
     check_bytes(copy.as_bytes(), bytes, "as they stand")
 }
 
-/// Documents whose elements are appended as they stand.
+/// Documents whose elements are appended as they are.
 const AS_THEY_STAND: &[&[u8]] = &[
     // a boolean that is 2, and a number
     b"\x10\0\0\0\x080\0\x02\x101\0\x07\0\0\0\0",

@@ -192,7 +192,7 @@ fn envelopes_are_refused(rt: HostRuntime) -> Result<(), Fail> {
     Ok(())
 }
 
-/// What the getter for this kind answers.
+/// What the getter for this kind returns.
 fn get<'a>(
     document: &'a RawDocumentBuf,
     kind: ElementType,

@@ -104,7 +104,7 @@ fn a_push_leaves_the_fault_before_it(rt: HostRuntime) -> Result<(), Fail> {
     Ok(())
 }
 
-/// The array of the swallowed terminator in a value, with one more null pushed where it stands.
+/// The array of the swallowed terminator in a value, with one more null pushed where it is.
 fn pushed_in_a_value(alloc: Global) -> Result<RawBson, Fail> {
     let mut value = RawBson::from(array_of(alloc, SWALLOWED_TERMINATOR)?);
     let array = value.as_array_mut().ok_or("an array isn't lent")?;
@@ -141,7 +141,7 @@ fn a_count_is_told(rt: HostRuntime) -> Result<(), Fail> {
     check_counted(&mut array)
 }
 
-/// Whether the key stands in a buffer of these bytes is answered as it is wanted.
+/// The buffer of these bytes says as wanted whether it has the key.
 fn check_key(
     alloc: Global,
     bytes: &[u8],

@@ -29,7 +29,7 @@ fn the_year_of_birth_is_read_back(rt: HostRuntime) -> std::result::Result<(), Fa
     )
 }
 
-/// Whether two documents stand for the same tree, however they are written.
+/// Whether two documents have the same tree, however they are written.
 fn are_equal(alloc: Global, one: &[u8], other: &[u8]) -> Result<bool> {
     Ok(canonical_bytes(alloc, one)? == canonical_bytes(alloc, other)?)
 }

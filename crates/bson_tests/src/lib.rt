@@ -1,5 +1,5 @@
-//! Tests of `raw_bson` through its public calls. They stand apart, so that `raw_bson` isn't proved twice, and list
-//! beside the shared fixtures `raw_bson` alone, as a user does. Those of trees stand in `tree_tests`, those with requests
+//! Tests of `raw_bson` through its public calls. They are apart from it, so that `raw_bson` isn't proved twice, and list
+//! beside the shared fixtures `raw_bson` alone, as a user does. Those of trees are in `tree_tests`, those with requests
 //! for memory refused in `memory_tests`.
 #![tactic(auto)]
 

@@ -11,7 +11,7 @@ use std::alloc::Global;
 use std::test::Fail;
 use test_fixtures::*;
 
-/// What the accessor for this kind answers; a kind without an accessor has the answer `None`.
+/// What the accessor for this kind returns; `None` for a kind without an accessor.
 fn accessed<'a>(value: &'a RawBson, kind: ElementType) -> Option<RawBsonRef<'a>> {
     Some(match kind {
         ElementType::Double => RawBsonRef::Double(value.as_f64()?),
@@ -125,7 +125,7 @@ fn conversions_make_values_of_their_kinds(rt: HostRuntime) -> Result<(), Fail> {
     check_converted(&values)
 }
 
-/// Of a value of this kind each accessor answers what it should.
+/// Each accessor returns what it should of a value of this kind.
 fn check_accessed(value: &RawBson, kind: ElementType) -> Result<(), Fail> {
     for &(_, asked) in KINDS.iter() {
         let wanted = if asked == kind && has_accessor(kind) {
@@ -138,7 +138,7 @@ fn check_accessed(value: &RawBson, kind: ElementType) -> Result<(), Fail> {
     Ok(())
 }
 
-/// Each accessor answers its own kind alone.
+/// Each accessor returns its own kind alone.
 fn check_accessors(values: &[(ElementType, RawBson)]) -> Result<(), Fail> {
     for (kind, value) in values {
         check_accessed(value, *kind)?;
@@ -152,7 +152,7 @@ fn an_accessor_answers_its_own_kind_alone(rt: HostRuntime) -> Result<(), Fail> {
     check_accessors(&values)
 }
 
-/// An array of one null, onto which `true` is pushed where it stands in a value.
+/// An array of one null, onto which `true` is pushed where it is in a value.
 fn pushed_in_its_place(alloc: Global) -> Result<RawBson, Fail> {
     let mut value = RawBson::from(array_of(alloc, NULL_ARRAY)?);
     let array = value.as_array_mut().ok_or("an array isn't lent")?;
@@ -180,7 +180,7 @@ fn only_an_array_is_lent_as_one(rt: HostRuntime) -> Result<(), Fail> {
     Ok(())
 }
 
-/// An empty document, to which the number -1 is appended where it stands in a value.
+/// An empty document, to which the number -1 is appended where it is in a value.
 fn appended_in_its_place(alloc: Global) -> Result<RawBson, Fail> {
     let mut value = RawBson::from(document_of(alloc, EMPTY)?);
     let document = value.as_document_mut().ok_or("a document isn't lent")?;

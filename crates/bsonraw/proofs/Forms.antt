@@ -61,12 +61,14 @@ limit_form b e line (inr long) is =
     inr (inl (long.0, long.1, long.2.0, refl, text))
 
 -- where it has none, it says a fault
-fault_of_barrier : (b : List ℕ) (e : Error) (x : Barrier) (output : List ℕ) → FirstBarrier form_limits b x → SaysBarrier e x → limit_text e.kind ≡ None → ((fault : Fault) (key : Option (List ℕ)) → TellsFault e fault key → output ≡ end_line (Stopped fault key)) → PrintsForm b 1 output
+fault_of_barrier : (b : List ℕ) (e : Error) (x : Barrier) (output : List ℕ) → FirstBarrier form_limits b x → SaysBarrier e x → limit_text e.kind ≡ None
+    → ((fault : Fault) (key : Option (List ℕ)) → TellsFault e fault key → output ≡ end_line (Stopped fault key)) → PrintsForm b 1 output
 fault_of_barrier b e too_many_bytes output first says is line = absurd (none-some _ (sym is ∙ ap limit_text says.0))
 fault_of_barrier b e too_deep output first says is line = absurd (none-some _ (sym is ∙ ap limit_text says.0))
 fault_of_barrier b e (fault_of fault) output first says is line = inr (inr (fault_of fault, first, refl, line fault.fault fault.key says))
 
-pub fault_form : (b : List ℕ) (e : Error) (output : List ℕ) → LacksForm b e → limit_text e.kind ≡ None → e.kind ≢ kind.OutOfMemory → ((fault : Fault) (key : Option (List ℕ)) → TellsFault e fault key → output ≡ end_line (Stopped fault key)) → PrintsForm b 1 output
+pub fault_form : (b : List ℕ) (e : Error) (output : List ℕ) → LacksForm b e → limit_text e.kind ≡ None → e.kind ≢ kind.OutOfMemory
+    → ((fault : Fault) (key : Option (List ℕ)) → TellsFault e fault key → output ≡ end_line (Stopped fault key)) → PrintsForm b 1 output
 fault_form b e output (inl (inl memory)) is some line = absurd (some memory.1.kind_is)
 fault_form b e output (inl (inr told)) is some line = fault_of_barrier b e told.0 output told.1 told.2 is line
 fault_form b e output (inr long) is some line = absurd (none-some _ (sym is ∙ ap limit_text long.2.1))
@@ -81,19 +83,22 @@ pub refused_forms : {X : Type 0} (b : List ℕ) (t : Tree) (result : Result X Er
 refused_forms b t (Ok x) read proper refused = tt
 refused_forms b t (Err e) read proper refused = refused_form b t e read proper refused
 
-pub refused_first : {X : Type 0} (b : List ℕ) (limits : Limits) (e was : Error) (result : Result X Error) → limits ≡ form_limits → result ≡ Err e → e ≡ was → TellsFirstBarrier limits b was → IfErr result (LacksForm b)
+pub refused_first : {X : Type 0} (b : List ℕ) (limits : Limits) (e was : Error) (result : Result X Error) → limits ≡ form_limits → result ≡ Err e → e ≡ was
+    → TellsFirstBarrier limits b was → IfErr result (LacksForm b)
 refused_first {X} b limits e was result own is same told =
     let within : TellsFirstBarrier form_limits b was = subst (λ (l : Limits). TellsFirstBarrier l b was) own told in
     let here : TellsFirstBarrier form_limits b e = subst (λ (x : Error). TellsFirstBarrier form_limits b x) (sym same) within in
     subst (λ (r : Result X Error). IfErr r (LacksForm b)) (sym is) (inl here)
 
-pub limit_printed : {E : Type 0} (b : List ℕ) (e : Error) (line : List ℕ) (result : Result Printed E) → LacksForm b e → limit_text e.kind ≡ Some line → IfOk result (λ p. (p.status ≡ status.Fault) × (string_bytes p.output ≡ line)) → IfOk result (λ p. PrintsForm b (code_of p.status) (string_bytes p.output))
+pub limit_printed : {E : Type 0} (b : List ℕ) (e : Error) (line : List ℕ) (result : Result Printed E) → LacksForm b e → limit_text e.kind ≡ Some line
+    → IfOk result (λ p. (p.status ≡ status.Fault) × (string_bytes p.output ≡ line)) → IfOk result (λ p. PrintsForm b (code_of p.status) (string_bytes p.output))
 limit_printed b e line (Err x) lacks is said = tt
 limit_printed b e line (Ok p) lacks is said =
     let printed : PrintsForm b (code_of status.Fault) (string_bytes p.output) = subst (λ (output : List ℕ). PrintsForm b 1 output) (sym said.1) (limit_form b e line lacks is) in
     subst (λ (s : Status). PrintsForm b (code_of s) (string_bytes p.output)) (sym said.0) printed
 
-pub canon_bytes : {E : Type 0} (c : Command) (d b : List ℕ) (result : Result Printed E) → c ≡ command.Canon → IsEnvelope d → d ≡ b → IfOk result (λ p. PrintsForm d (code_of p.status) (string_bytes p.output)) → IfOk result (λ p. PrintsBytes c b (code_of p.status) (string_bytes p.output))
+pub canon_bytes : {E : Type 0} (c : Command) (d b : List ℕ) (result : Result Printed E) → c ≡ command.Canon → IsEnvelope d → d ≡ b
+    → IfOk result (λ p. PrintsForm d (code_of p.status) (string_bytes p.output)) → IfOk result (λ p. PrintsBytes c b (code_of p.status) (string_bytes p.output))
 canon_bytes c d b (Err x) is env same printed = tt
 canon_bytes c d b (Ok p) is env same printed =
     let whole : PrintsBytes command.Canon d (code_of p.status) (string_bytes p.output) = inl (env, printed) in

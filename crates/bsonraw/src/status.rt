@@ -9,7 +9,7 @@ pub enum Status {
     BadHex,
     /// the arguments are no command
     Usage,
-    /// no memory was left for the output
+    /// memory ran out
     NoMemory,
     /// reading or writing failed
     Io,

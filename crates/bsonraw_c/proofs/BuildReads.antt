@@ -36,10 +36,12 @@ back_bytes front back whole is bytes i =
 -- the shapes of parts
 
 binary_shape : (subtype : ℕ) (bytes : List ℕ) → length (binary_of subtype bytes) ≤ max_length → (s : ℕ) × (inside : List ℕ) × IsBinary (binary_of subtype bytes) s inside
-binary_shape subtype bytes fits = elim (nat_eq subtype 2) as (λ (b : Bool). length (cond b (plain_binary_payload 2 (inner_payload bytes)) (plain_binary_payload subtype bytes)) ≤ max_length → (s : ℕ) × (inside : List ℕ) × IsBinary (cond b (plain_binary_payload 2 (inner_payload bytes)) (plain_binary_payload subtype bytes)) s inside) [
-  | true ↦ (λ l. (2, inner_payload bytes, record { fits = omega arith; spelled = refl }))
-  | false ↦ (λ l. (subtype, bytes, record { fits = omega arith; spelled = refl }))
-] fits
+binary_shape subtype bytes fits = elim (nat_eq subtype 2) as
+    (λ (b : Bool). length (cond b (plain_binary_payload 2 (inner_payload bytes)) (plain_binary_payload subtype bytes)) ≤ max_length
+    → (s : ℕ) × (inside : List ℕ) × IsBinary (cond b (plain_binary_payload 2 (inner_payload bytes)) (plain_binary_payload subtype bytes)) s inside) [
+      | true ↦ (λ l. (2, inner_payload bytes, record { fits = omega arith; spelled = refl }))
+      | false ↦ (λ l. (subtype, bytes, record { fits = omega arith; spelled = refl }))
+    ] fits
 
 parts_shape : (k : ElementType) (one two r : List ℕ) → AreParts (layout_of k) one two → length (laid_out (layout_of k) one two) ≤ max_length → HasShape k (laid_out (layout_of k) one two) r
 parts_shape kind.Double one two r good fits = good
@@ -53,7 +55,8 @@ parts_shape kind.Boolean one two r (inl zero) fits = ap length zero
 parts_shape kind.Boolean one two r (inr one_is) fits = ap length one_is
 parts_shape kind.DateTime one two r good fits = good
 parts_shape kind.Null one two r good fits = good
-parts_shape kind.RegularExpression one two r good fits = (one, two, record { spelled = refl; pattern_nul_free = good.0.0; pattern_text = good.0.1; options_nul_free = good.1.0; options_text = good.1.1 })
+parts_shape kind.RegularExpression one two r good fits =
+    (one, two, record { spelled = refl; pattern_nul_free = good.0.0; pattern_text = good.0.1; options_nul_free = good.1.0; options_text = good.1.1 })
 parts_shape kind.DbPointer one two r good fits = (one, two, record { fits = omega (arith, length-append (string_payload one) two, length-append one (0 ∷ [])); id_len = good.0; spelled = refl })
 parts_shape kind.JavaScriptCode one two r good fits = (one, record { fits = omega (arith, length-append one (0 ∷ [])); spelled = refl })
 parts_shape kind.Symbol one two r good fits = (one, record { fits = omega (arith, length-append one (0 ∷ [])); spelled = refl })

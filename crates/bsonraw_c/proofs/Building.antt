@@ -41,7 +41,9 @@ elements_more [] f = append-nil (frame_bytes f)
 elements_more (g ∷ fs) f = ap (λ (x : List ℕ). frame_bytes g ++ x) (elements_more fs f) ∙ sym (append_assoc (frame_bytes g) (elements fs) (frame_bytes f))
 
 -- a level that takes an element, as an equation of what the room begins with
-pub holds_next : (f : Frame) (old new : Builder) (before after front : List ℕ) (fs : List Frame) → Holds old before front fs → new.status ≡ pos 0 → new.begins ≡ old.begins → new.count ≡ old.count + 1 → new.len ≡ old.len + length (frame_bytes f) → take new.len after ≡ (front ++ elements fs) ++ frame_bytes f → Holds new after front (fs ++ f ∷ [])
+pub holds_next : (f : Frame) (old new : Builder) (before after front : List ℕ) (fs : List Frame) → Holds old before front fs → new.status ≡ pos 0
+    → new.begins ≡ old.begins → new.count ≡ old.count + 1 → new.len ≡ old.len + length (frame_bytes f)
+    → take new.len after ≡ (front ++ elements fs) ++ frame_bytes f → Holds new after front (fs ++ f ∷ [])
 holds_next f old new before after front fs h ok begins count len taken =
     let more = elements_more fs f in
     record {
@@ -53,7 +55,8 @@ holds_next f old new before after front fs h ok begins count len taken =
     }
 
 -- an element that was put is held
-pub holds_more : (f : Frame) (old new : Builder) (before after front : List ℕ) (fs : List Frame) → Holds old before front fs → Adds f old new before after → new.status ≡ pos 0 → Holds new after front (fs ++ f ∷ [])
+pub holds_more : (f : Frame) (old new : Builder) (before after front : List ℕ) (fs : List Frame) → Holds old before front fs → Adds f old new before after
+    → new.status ≡ pos 0 → Holds new after front (fs ++ f ∷ [])
 holds_more f old new before after front fs h (inl long) ok = absurd (omega (arith, isnt_well 7 new old long.1.1 ok))
 holds_more f old new before after front fs h (inr (inl small)) ok = absurd (omega (arith, isnt_well 8 new (record old { len = old.len + length (frame_bytes f); count = old.count + 1 }) small.2.1 ok))
 holds_more f old new before after front fs h (inr (inr put)) ok =
@@ -64,7 +67,9 @@ holds_more f old new before after front fs h (inr (inr put)) ok =
     ∙ ap (λ (x : List ℕ). x ++ frame_bytes f) h.taken)
 
 -- a level that was begun is held, without elements
-pub holds_level : (k : ElementType) (key : List ℕ) (tag : ℕ) (old one new : Builder) (before after front : List ℕ) (fs : List Frame) → Holds old before front fs → Adds (head_of k key) old one before after → new ≡ opened tag one → new.status ≡ pos 0 → Holds new after ((front ++ elements fs) ++ frame_bytes (head_of k key)) []
+pub holds_level : (k : ElementType) (key : List ℕ) (tag : ℕ) (old one new : Builder) (before after front : List ℕ) (fs : List Frame) → Holds old before front fs
+    → Adds (head_of k key) old one before after → new ≡ opened tag one → new.status ≡ pos 0
+    → Holds new after ((front ++ elements fs) ++ frame_bytes (head_of k key)) []
 holds_level k key tag old one new before after front fs h adds is ok =
     let head = head_of k key in
     let well : one.status ≡ pos 0 = sym (ap (λ (b : Builder). b.status) is) ∙ ok in
@@ -97,11 +102,21 @@ made tag key one two p b parts text = record {
   parts = subst (λ (l : Layout). AreParts l one two) parts.layout_is parts.good;
   key_is = refl;
   c_text = text;
-  payload_is = ap (λ (l : Layout). laid_out l p.one.now p.two.now) parts.layout_is ∙ ap (λ (x : List ℕ). laid_out (layout_of p.kind) x p.two.now) parts.one_is ∙ ap (λ (x : List ℕ). laid_out (layout_of p.kind) one x) parts.two_is;
+  payload_is = ap (λ (l : Layout). laid_out l p.one.now p.two.now) parts.layout_is ∙ ap (λ (x : List ℕ). laid_out (layout_of p.kind) x p.two.now) parts.one_is
+      ∙ ap (λ (x : List ℕ). laid_out (layout_of p.kind) one x) parts.two_is;
 }
 
-pub appended : (tag : ℕ) (key one two : List ℕ) (p : Parts) (old new : Builder) (before after : List ℕ) → IsOpen old → ArePartsOf tag one two p → AddsUnder key p old new before after → Appends tag key one two old new before after
-appended tag key one two p old new before after goes parts (inl bad) = inr (inl (goes, (status.Fault, inr (inr (p.kind, parts.tag_is, subst (λ (l : Layout). AreParts l one two) parts.layout_is parts.good, bad.0, bad.1, refl)), bad.2)))
+pub appended : (tag : ℕ) (key one two : List ℕ) (p : Parts) (old new : Builder) (before after : List ℕ) → IsOpen old → ArePartsOf tag one two p
+    → AddsUnder key p old new before after → Appends tag key one two old new before after
+appended tag key one two p old new before after goes parts (inl bad) =
+    inr (inl (
+      goes,
+      (
+        status.Fault,
+        inr (inr (p.kind, parts.tag_is, subst (λ (l : Layout). AreParts l one two) parts.layout_is parts.good, bad.0, bad.1, refl)),
+        bad.2,
+      ),
+    ))
 appended tag key one two p old new before after goes parts (inr adds) = inr (inr (goes, (frame_of_parts (key_in old key) p, made tag key one two p old parts adds.0, adds.1)))
 
 -- no refusal is a builder that is well
@@ -125,22 +140,36 @@ not_done b tag key one two s (inl bad) z = omega (arith, isnt_done s status.Othe
 not_done b tag key one two s (inr (inl bad)) z = parts_not_done (layout_of bad.0) one two s bad.2 z
 not_done b tag key one two s (inr (inr bad)) z = omega (arith, isnt_done s status.Fault bad.5 z)
 
-pub holds_appended : (tag : ℕ) (key one two : List ℕ) (old new : Builder) (before after : List ℕ) → Appends tag key one two old new before after → HoldsMore (IsReadElement old tag key one two) old new before after
+pub holds_appended : (tag : ℕ) (key one two : List ℕ) (old new : Builder) (before after : List ℕ) → Appends tag key one two old new before after
+    → HoldsMore (IsReadElement old tag key one two) old new before after
 holds_appended tag key one two old new before after (inl declines) front fs h ok = absurd (declines_none old new before after declines h.well ok)
 holds_appended tag key one two old new before after (inr (inl bad)) front fs h ok = absurd (not_done old tag key one two bad.1.0 bad.1.1 (isnt_well (status_code bad.1.0) new old bad.1.2.1 ok))
-holds_appended tag key one two old new before after (inr (inr put)) front fs h ok = (put.1.0, (put.1.1, element_read put.1.0 old tag key one two put.1.1 (adds_few put.1.0 old new before after put.1.2 ok)), holds_more put.1.0 old new before after front fs h put.1.2 ok)
+holds_appended tag key one two old new before after (inr (inr put)) front fs h ok = (
+  put.1.0,
+  (put.1.1, element_read put.1.0 old tag key one two put.1.1 (adds_few put.1.0 old new before after put.1.2 ok)),
+  holds_more put.1.0 old new before after front fs h put.1.2 ok,
+)
 
 -- an element as it stands
 
 in_document : (b : Builder) (key : List ℕ) → b.tag ≢ 4 → key_in b key ≡ key
 in_document b key bad = grind arith
 
-pub appended_iter : (bytes : List ℕ) (it : Iter) (f : Frame) (key : List ℕ) (p : Parts) (old new : Builder) (before after : List ℕ) → IsOpen old → IsOn bytes it f → key ≡ f.key → frame_of_parts (key_in old key) p ≡ record f { key = key_in old key } → AddsUnder key p old new before after → AppendsElement bytes it old new before after
+pub appended_iter : (bytes : List ℕ) (it : Iter) (f : Frame) (key : List ℕ) (p : Parts) (old new : Builder) (before after : List ℕ) → IsOpen old
+    → IsOn bytes it f → key ≡ f.key → frame_of_parts (key_in old key) p ≡ record f { key = key_in old key } → AddsUnder key p old new before after
+    → AppendsElement bytes it old new before after
 appended_iter bytes it f key p old new before after goes on is made (inl bad) = absurd (bad.1 (subst IsCText (sym is) (on.stands.key_nul_free, on.stands.key_text)))
 appended_iter bytes it f key p old new before after goes on is made (inr adds) =
     let text = subst (λ (k : List ℕ). IsCText (key_in old k)) is adds.0 in
     let g : Frame = record f { key = key_in old f.key } in
-    inr (inr (goes, (g, (f, on, refl, copy_read f on.s on.r (key_in old f.key) on.stands text), subst (λ (g : Frame). Adds g old new before after) (made ∙ ap (λ (k : List ℕ). record f { key = key_in old k }) is) adds.1)))
+    inr (inr (
+      goes,
+      (
+        g,
+        (f, on, refl, copy_read f on.s on.r (key_in old f.key) on.stands text),
+        subst (λ (g : Frame). Adds g old new before after) (made ∙ ap (λ (k : List ℕ). record f { key = key_in old k }) is) adds.1,
+      ),
+    ))
 
 pub holds_iter : (bytes : List ℕ) (it : Iter) (old new : Builder) (before after : List ℕ) → AppendsElement bytes it old new before after → HoldsMore (IsElementOf old bytes it) old new before after
 holds_iter bytes it old new before after (inl declines) front fs h ok = absurd (declines_none old new before after declines h.well ok)
@@ -175,7 +204,8 @@ take_beyond n offset bytes room far within =
     ∙ sym (put_opened offset bytes (take n room))
 
 -- four bytes that are put in place of four
-put_over : (offset : ℕ) (bytes outer unset inner : List ℕ) → length bytes ≡ 4 → length unset ≡ 4 → offset ≡ length outer → put_bytes offset bytes ((outer ++ unset) ++ inner) ≡ outer ++ (bytes ++ inner)
+put_over : (offset : ℕ) (bytes outer unset inner : List ℕ) → length bytes ≡ 4 → length unset ≡ 4 → offset ≡ length outer
+    → put_bytes offset bytes ((outer ++ unset) ++ inner) ≡ outer ++ (bytes ++ inner)
 put_over offset bytes outer unset inner four size is =
     let room = (outer ++ unset) ++ inner in
     let front : take offset room ≡ outer = ap (λ (x : List ℕ). take offset x) (append_assoc outer unset inner) ∙ take_at outer (unset ++ inner) offset (sym is) in
@@ -183,7 +213,9 @@ put_over offset bytes outer unset inner four size is =
     put_opened offset bytes room ∙ ap (λ (x : List ℕ). x ++ (bytes ++ drop (offset + length bytes) room)) front ∙ ap (λ (x : List ℕ). outer ++ (bytes ++ x)) back
 
 -- a level that was closed is a document
-pub closed_there : (old new : Builder) (before after outer unset : List ℕ) (fs : List Frame) → length unset ≡ 4 → Holds old before (outer ++ unset) fs → Closes old new before after → new.status ≡ pos 0 → (take new.len after ≡ outer ++ framed (elements fs)) × (new.len ≡ length (outer ++ framed (elements fs))) × (new.len ≤ max_length)
+pub closed_there : (old new : Builder) (before after outer unset : List ℕ) (fs : List Frame) → length unset ≡ 4 → Holds old before (outer ++ unset) fs
+    → Closes old new before after → new.status ≡ pos 0
+    → (take new.len after ≡ outer ++ framed (elements fs)) × (new.len ≡ length (outer ++ framed (elements fs))) × (new.len ≤ max_length)
 closed_there old new before after outer unset fs four h (inl declines) ok = absurd (declines_none old new before after declines h.well ok)
 closed_there old new before after outer unset fs four h (inr (inl bad)) ok = absurd (omega (arith, isnt_well 7 new old bad.2.1 ok))
 closed_there old new before after outer unset fs four h (inr (inr (inl bad))) ok = absurd (omega (arith, isnt_well 8 new (ended old) bad.3.1 ok))
@@ -194,7 +226,9 @@ closed_there old new before after outer unset fs four h (inr (inr (inr put))) ok
     let size : old.len + 1 - old.begins ≡ 4 + length inner = omega (arith, h.len, begins, four, length-append outer unset, length-append (elements fs) (0 ∷ [])) in
     let last = put_bytes old.len (0 ∷ []) before in
     let header = le32 (pos (old.len + 1 - old.begins)) in
-    let taken : take new.len last ≡ (outer ++ unset) ++ inner = take-put_bytes old.len new.len (0 ∷ []) before len (omega (arith, put.2)) ∙ ap (λ (x : List ℕ). x ++ 0 ∷ []) h.taken ∙ append_assoc (outer ++ unset) (elements fs) (0 ∷ []) in (
+    let taken : take new.len last ≡ (outer ++ unset) ++ inner =
+    take-put_bytes old.len new.len (0 ∷ []) before len (omega (arith, put.2)) ∙ ap (λ (x : List ℕ). x ++ 0 ∷ []) h.taken
+    ∙ append_assoc (outer ++ unset) (elements fs) (0 ∷ []) in (
       ap (λ (r : List ℕ). take new.len r) put.3
           ∙ take_beyond new.len old.begins header last (omega (arith, len, put.0.1)) (omega (arith, len, put.2, length-put_bytes old.len (0 ∷ []) before (omega (arith, put.2))))
           ∙ ap (λ (r : List ℕ). put_bytes old.begins header r) taken
@@ -205,21 +239,27 @@ closed_there old new before after outer unset fs four h (inr (inr (inr put))) ok
     )
 
 -- whose envelope is sound
-pub closed_sound : (old new : Builder) (before after outer unset : List ℕ) (fs : List Frame) → length unset ≡ 4 → Holds old before (outer ++ unset) fs → Closes old new before after → new.status ≡ pos 0 → AreBytes after → IsEnvelope (framed (elements fs))
+pub closed_sound : (old new : Builder) (before after outer unset : List ℕ) (fs : List Frame) → length unset ≡ 4 → Holds old before (outer ++ unset) fs
+    → Closes old new before after → new.status ≡ pos 0 → AreBytes after → IsEnvelope (framed (elements fs))
 closed_sound old new before after outer unset fs four h closes ok bytes =
     let there = closed_there old new before after outer unset fs four h closes ok in
-    framed_is_envelope (elements fs) (back_bytes outer (framed (elements fs)) (take new.len after) there.0 (take_bytes new.len after bytes)) (omega (arith, there.1, there.2, length-append outer (framed (elements fs)), length-append (elements fs) (0 ∷ [])))
+    framed_is_envelope (elements fs) (back_bytes outer (framed (elements fs)) (take new.len after) there.0 (take_bytes new.len after bytes))
+    (omega (arith, there.1, there.2, length-append outer (framed (elements fs)), length-append (elements fs) (0 ∷ [])))
 
 -- and is an element of the level around it
 pub holds_ended : (level old new : Builder) (before after : List ℕ) → AreBytes after → Ends level old new before after → HoldsEnded level old new before after
 holds_ended level old new before after bytes (inl declines) room front key k fs inner h held ok = absurd (declines_none old new before after declines h.well ok)
 holds_ended level old new before after bytes (inr (inl bad)) room front key k fs inner h held ok = absurd (omega (arith, isnt_well 7 new old bad.2.1 ok))
-holds_ended level old new before after bytes (inr (inr (goes, few, (closed, closes, inr (inl small))))) room front key k fs inner h held ok = absurd (omega (arith, isnt_well 8 new (record old { len = closed.len; count = old.count + 1 }) small.1 ok))
-holds_ended level old new before after bytes (inr (inr (goes, few, (closed, closes, inr (inr bad))))) room front key k fs inner h held ok = absurd (bad.0 (inl (sym (ap (λ (b : Builder). b.status) bad.1) ∙ ok)))
+holds_ended level old new before after bytes (inr (inr (goes, few, (closed, closes, inr (inl small))))) room front key k fs inner h held ok =
+    absurd (omega (arith, isnt_well 8 new (record old { len = closed.len; count = old.count + 1 }) small.1 ok))
+holds_ended level old new before after bytes (inr (inr (goes, few, (closed, closes, inr (inr bad))))) room front key k fs inner h held ok =
+    absurd (bad.0 (inl (sym (ap (λ (b : Builder). b.status) bad.1) ∙ ok)))
 holds_ended level old new before after bytes (inr (inr (goes, few, (closed, closes, inl well)))) room front key k fs inner h held ok =
     let outer = (front ++ elements fs) ++ (tag_of k ∷ (key ++ 0 ∷ [])) in
     let unset = 0 ∷ 0 ∷ 0 ∷ 0 ∷ [] in
-    let parted : (payload : List ℕ) → (front ++ elements fs) ++ (tag_of k ∷ (key ++ 0 ∷ payload)) ≡ outer ++ payload = λ payload. ap (λ (x : List ℕ). (front ++ elements fs) ++ (tag_of k ∷ x)) (sym (append_assoc key (0 ∷ []) payload)) ∙ sym (append_assoc (front ++ elements fs) (tag_of k ∷ (key ++ 0 ∷ [])) payload) in
+    let parted : (payload : List ℕ) → (front ++ elements fs) ++ (tag_of k ∷ (key ++ 0 ∷ payload)) ≡ outer ++ payload =
+    λ payload. ap (λ (x : List ℕ). (front ++ elements fs) ++ (tag_of k ∷ x)) (sym (append_assoc key (0 ∷ []) payload))
+    ∙ sym (append_assoc (front ++ elements fs) (tag_of k ∷ (key ++ 0 ∷ [])) payload) in
     let within = subst (λ (x : List ℕ). Holds level before x inner) (parted unset) held in
     let there = closed_there level closed before after outer unset inner refl within closes well.0 in
     let f = level_of k key inner in

@@ -29,13 +29,26 @@ pub record HasCounted (b step : List ℕ) (it : Iter) (next index : ℕ) (left :
   pub left_is : left ≡ Some rest
 
 pub counted_none : (b step : List ℕ) (it : Iter) (d s : List ℕ) (left : Option (List ℕ)) → GoesThrough b it d s → left ≡ Some s → HasCounted b step it it.next 0 left
-counted_none b step it d s left g is = record { d = d; s = s; rest = s; passed = []; begins = g; goes = g; leads = refl; counted = refl; few_passed = omega arith; others = λ n below. absurd (omega (arith, below)); left_is = is }
+counted_none b step it d s left g is = record {
+  d = d;
+  s = s;
+  rest = s;
+  passed = [];
+  begins = g;
+  goes = g;
+  leads = refl;
+  counted = refl;
+  few_passed = omega arith;
+  others = λ n below. absurd (omega (arith, below));
+  left_is = is;
+}
 
 -- one number more that the step isn't
 one_other : (step : List ℕ) (index : ℕ) → ((n : ℕ) → n < index → decimal n ≢ step) → decimal index ≢ step → (n : ℕ) → n < index + 1 → decimal n ≢ step
 one_other step index others not n below is = grind (arith, others, not)
 
-module _ (b step : List ℕ) (it : Iter) (next index : ℕ) (old new : Option (List ℕ)) (result : Option (Result RawElement BorrowedError)) (h : HasCounted b step it next index old) (steps : StepsFront old result new) where
+module _ (b step : List ℕ) (it : Iter) (next index : ℕ) (old new : Option (List ℕ)) (result : Option (Result RawElement BorrowedError))
+    (h : HasCounted b step it next index old) (steps : StepsFront old result new) where
   abbrev here : Iter
   here = record it { next = next }
 
@@ -51,7 +64,8 @@ module _ (b step : List ℕ) (it : Iter) (next index : ℕ) (old new : Option (L
   short_key stop is = let st = stepped (Some (Err stop)) is in short b h.d h.rest here h.goes stop st.0
 
   -- an element of another number
-  pub counted_more : (e : RawElement) (after : ℕ) → result ≡ Some (Ok e) → decimal index ≢ step → after ≡ next + (2 + (length (frame_of e).key + length (frame_of e).payload)) → HasCounted b step it after (index + 1) new
+  pub counted_more : (e : RawElement) (after : ℕ) → result ≡ Some (Ok e) → decimal index ≢ step
+      → after ≡ next + (2 + (length (frame_of e).key + length (frame_of e).payload)) → HasCounted b step it after (index + 1) new
   counted_more e after is other next_is =
       let st = stepped (Some (Ok e)) is in
       record {
@@ -72,7 +86,8 @@ module _ (b step : List ℕ) (it : Iter) (next index : ℕ) (old new : Option (L
   from after code stops = (h.d, h.rest, next, h.passed, h.goes, h.leads, subst (λ (k : ℕ). (n : ℕ) → n < k → decimal n ≢ step) (sym h.counted) h.others, stops)
 
   -- the element of this number
-  pub finds_element : (e : RawElement) (after : Iter) (code : ℤ) → result ≡ Some (Ok e) → decimal index ≡ step → IsWorkedOut next (frame_of e) after → Returns status.Done code → FindsNumberFrom b step h.s it after code
+  pub finds_element : (e : RawElement) (after : Iter) (code : ℤ) → result ≡ Some (Ok e) → decimal index ≡ step → IsWorkedOut next (frame_of e) after
+      → Returns status.Done code → FindsNumberFrom b step h.s it after code
   finds_element e after code is same out done =
       let st = stepped (Some (Ok e)) is in
       from after code (inl ((frame_of e, st.0, st.1, ap decimal h.counted ∙ same, placed b h.d h.rest here h.goes (frame_of e) st.0 after st.1 out), done))
@@ -82,7 +97,9 @@ module _ (b step : List ℕ) (it : Iter) (next index : ℕ) (old new : Option (L
   finds_end after code is none next_is done = let st = stepped None is in from after code (inr (inl ((st.0, none, next_is), done)))
 
   -- the stop
-  pub finds_fault : (stop : BorrowedError) (after : Iter) (code : ℤ) → result ≡ Some (Err stop) → IsKeyAt (place_of_none b) next (option_copied stop.key) after → after.next ≡ next → SaysKind stop.kind after.fault.why → after.fault.offset ≡ next → Returns status.Fault code → FindsNumberFrom b step h.s it after code
+  pub finds_fault : (stop : BorrowedError) (after : Iter) (code : ℤ) → result ≡ Some (Err stop) → IsKeyAt (place_of_none b) next (option_copied stop.key) after
+      → after.next ≡ next → SaysKind stop.kind after.fault.why → after.fault.offset ≡ next → Returns status.Fault code
+      → FindsNumberFrom b step h.s it after code
   finds_fault stop after code is out next_is why offset_is done =
       let st = stepped (Some (Err stop)) is in
       from after code (inr (inr (faulted b h.d h.rest here h.goes stop after st.0 out next_is why offset_is, done)))

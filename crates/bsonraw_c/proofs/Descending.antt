@@ -27,11 +27,33 @@ use Rattle.bsonraw_c.proofs.Valuing.{one_left}
 -- how long the elements are that lead somewhere
 leads_length : (s : List ℕ) (fs : List Frame) (t : List ℕ) → LeadsTo s fs t → length s ≡ length (elements fs) + length t
 leads_length s [] t l = omega (arith, ap length l)
-leads_length s (f ∷ fs) t l = omega (arith, ap length l.1.spelled, length-append f.key (0 ∷ (f.payload ++ l.0)), length-append f.payload l.0, leads_length l.0 fs t l.2, length-append (frame_bytes f) (elements fs), length-append f.key (0 ∷ f.payload))
+leads_length s (f ∷ fs) t l = omega (
+  arith,
+  ap length l.1.spelled,
+  length-append f.key (0 ∷ (f.payload ++ l.0)),
+  length-append f.payload l.0,
+  leads_length l.0 fs t l.2,
+  length-append (frame_bytes f) (elements fs),
+  length-append f.key (0 ∷ f.payload),
+)
 
 -- where they end
-offset_there : (b d e s t : List ℕ) (it : Iter) (offset : ℕ) (fs : List Frame) → GoesThrough b it d s → GoesThrough b (record it { next = offset }) e t → LeadsTo s fs t → offset ≡ it.next + length (elements fs)
-offset_there b d e s t it offset fs g h leads = omega (arith, leads_length s fs t leads, ap length g.left, ap length h.left, length-drop (it.next - it.document_at) d, length-drop (offset - it.document_at) e, g.stands.len_is, h.stands.len_is, g.begun, h.begun, g.within, h.within)
+offset_there : (b d e s t : List ℕ) (it : Iter) (offset : ℕ) (fs : List Frame) → GoesThrough b it d s → GoesThrough b (record it { next = offset }) e t
+    → LeadsTo s fs t → offset ≡ it.next + length (elements fs)
+offset_there b d e s t it offset fs g h leads = omega (
+  arith,
+  leads_length s fs t leads,
+  ap length g.left,
+  ap length h.left,
+  length-drop (it.next - it.document_at) d,
+  length-drop (offset - it.document_at) e,
+  g.stands.len_is,
+  h.stands.len_is,
+  g.begun,
+  h.begun,
+  g.within,
+  h.within,
+)
 
 -- one number alone is returned
 one_code : (code : ℤ) (n m : ℕ) → code ≡ pos n → code ≡ pos m → n ≡ m
@@ -52,18 +74,39 @@ EndsLow offset _ = Unit {0}
 
 abbrev StepSays : List ℕ → Bool → List ℕ → Iter → Iter → ℤ → Type 0
 StepSays b in_array step old new code =
-    ((d s : List ℕ) × (offset : ℕ) × (goal : Goal) × GoesThrough b old d s × StepGoesTo (level_at in_array old s) step offset goal × SaysGoal b (level_at in_array old s) offset goal new code × EndsLow offset goal)
+    ((d s : List ℕ) × (offset : ℕ) × (goal : Goal) × GoesThrough b old d s × StepGoesTo (level_at in_array old s) step offset goal
+    × SaysGoal b (level_at in_array old s) offset goal new code × EndsLow offset goal)
     ⊎ FindsAstray b old new code
 
-module _ (b : List ℕ) (in_array : Bool) (step : List ℕ) (old new : Iter) (code : ℤ) (kept : IsKept old new code) (d s : List ℕ) (g : GoesThrough b old d s) (e t : List ℕ) (offset : ℕ) (passed : List Frame) (h : GoesThrough b (record old { next = offset }) e t) (leads : LeadsTo s passed t) (passes : Passes in_array step passed) (IsWanted : Frame → Type 0) (wanted : (f : Frame) → IsWanted f → IsStep in_array step passed f) where
+module _ (b : List ℕ) (in_array : Bool) (step : List ℕ) (old new : Iter) (code : ℤ) (kept : IsKept old new code) (d s : List ℕ) (g : GoesThrough b old d s)
+    (e t : List ℕ) (offset : ℕ) (passed : List Frame) (h : GoesThrough b (record old { next = offset }) e t) (leads : LeadsTo s passed t)
+    (passes : Passes in_array step passed) (IsWanted : Frame → Type 0) (wanted : (f : Frame) → IsWanted f → IsStep in_array step passed f) where
   there : offset ≡ old.next + length (elements passed)
   there = offset_there b d e s t old offset passed g h leads
 
   stopped_says : StopsAt IsWanted b t offset new code → StepSays b in_array step old new code
   stopped_says (inl ((f, r, frame, is, at), done)) =
-      inl (d, s, offset, found f, g, (passed, t, r, leads, frame, passes, wanted f is, there), (kept.0, at, kept.1 (no_fault_code code 0 done (λ two. omega (arith, two))), done), few b e t (record old { next = offset }) h f r frame)
+      inl (
+        d,
+        s,
+        offset,
+        found f,
+        g,
+        (passed, t, r, leads, frame, passes, wanted f is, there),
+        (kept.0, at, kept.1 (no_fault_code code 0 done (λ two. omega (arith, two))), done),
+        few b e t (record old { next = offset }) h f r frame,
+      )
   stopped_says (inr (inl ((final, none, next), done))) =
-      inl (d, s, offset, missed Done, g, (passed, LeadsTo-walk s passed t Done leads final, passes, there), (kept.0, none, next, kept.1 (no_fault_code code 1 done (λ two. omega (arith, two))), done), tt)
+      inl (
+        d,
+        s,
+        offset,
+        missed Done,
+        g,
+        (passed, LeadsTo-walk s passed t Done leads final, passes, there),
+        (kept.0, none, next, kept.1 (no_fault_code code 1 done (λ two. omega (arith, two))), done),
+        tt,
+      )
   stopped_says (inr (inr ((fault, key, stop, at, next, tells, offset_is), done))) =
       inl (d, s, offset, missed (Stopped fault key), g, (passed, LeadsTo-walk s passed t (Stopped fault key) leads stop, passes, there), (kept.0, at, next, tells, offset_is, done), tt)
 
@@ -136,7 +179,8 @@ fault_none : (fault : Fault) → IsNoFault fault.why → fault.offset ≡ 0 → 
 fault_none fault why offset = λ i. record { why = record { kind = why.0 i; reason = why.1.0 i; number = why.1.1 i; left = why.1.2 i }; offset = offset i }
 
 -- the element of a frame, whose tag is at this offset
-module _ (b : List ℕ) (offset : ℕ) (f : Frame) (t r : List ℕ) (frame : IsFrame t f r) (low : offset + (2 + (length f.key + length f.payload)) < 2 ^ 32) (parent : Iter) (at : IsAtFrame b offset f parent) where
+module _ (b : List ℕ) (offset : ℕ) (f : Frame) (t r : List ℕ) (frame : IsFrame t f r) (low : offset + (2 + (length f.key + length f.payload)) < 2 ^ 32)
+    (parent : Iter) (at : IsAtFrame b offset f parent) where
   nested_tag : (parent.tag ≡ 3) ⊎ (parent.tag ≡ 4) → IsNested f.kind
   nested_tag (inl is) = nested_kind f.kind (inl (sym at.tag ∙ is))
   nested_tag (inr is) = nested_kind f.kind (inr (sym at.tag ∙ is))
@@ -149,15 +193,32 @@ module _ (b : List ℕ) (offset : ℕ) (f : Frame) (t r : List ℕ) (frame : IsF
   begins_inside : IsNested f.kind → (it : Iter) (code : ℤ) → BeginsAt b parent.payload_at parent.payload_len it code → Begins b parent.payload_at parent.payload_len it × Returns status.Done code
   begins_inside nested it code (inl (_, d, _, _, begins, done)) = (begins, done)
   begins_inside nested it code (inr (inl (_, d, why, stands, refused, _, _, _, _))) =
-      absurd (refuses_none f.payload why (subst (λ (x : List ℕ). Refuses x why) (stands_same b d f.payload parent.payload_at parent.payload_len stands at.payload) refused) (nested_envelope f.kind f.payload r nested frame.payload_is))
-  begins_inside nested it code (inr (inr (inl short, _, _, _, _))) = absurd (omega (arith, short, at.payload.offset_is, at.payload.len_is, ap length at.payload.whole, length-append at.payload.before (f.payload ++ at.payload.behind), length-append f.payload at.payload.behind))
+      absurd (refuses_none f.payload why (subst (λ (x : List ℕ). Refuses x why)
+      (stands_same b d f.payload parent.payload_at parent.payload_len stands at.payload) refused)
+      (nested_envelope f.kind f.payload r nested frame.payload_is))
+  begins_inside nested it code (inr (inr (inl short, _, _, _, _))) =
+      absurd (omega (
+        arith,
+        short,
+        at.payload.offset_is,
+        at.payload.len_is,
+        ap length at.payload.whole,
+        length-append at.payload.before (f.payload ++ at.payload.behind),
+        length-append f.payload at.payload.behind,
+      ))
   begins_inside nested it code (inr (inr (inr far, _, _, _, _))) = absurd (omega (arith, far, low, at.payload_begins, at.key_begins, at.key.len_is, at.payload.len_is))
 
   module _ (nested : IsNested f.kind) (child : Iter) (begins : Begins b parent.payload_at parent.payload_len child) where
     inside : GoesThrough b child f.payload (drop 4 f.payload)
     inside = record {
       small = omega (arith, begins.document_at, begins.document_len, low, at.payload_begins, at.key_begins, at.key.len_is, at.payload.len_is);
-      stands = record { before = at.payload.before; behind = at.payload.behind; whole = at.payload.whole; offset_is = begins.document_at ∙ at.payload.offset_is; len_is = begins.document_len ∙ at.payload.len_is };
+      stands = record {
+        before = at.payload.before;
+        behind = at.payload.behind;
+        whole = at.payload.whole;
+        offset_is = begins.document_at ∙ at.payload.offset_is;
+        len_is = begins.document_len ∙ at.payload.len_is;
+      };
       envelope = nested_envelope f.kind f.payload r nested frame.payload_is;
       begun = omega (arith, begins.document_at, begins.next);
       within = omega (arith, begins.document_at, begins.document_len, begins.next, at.payload.len_is, (nested_envelope f.kind f.payload r nested frame.payload_is).enough);
@@ -199,11 +260,21 @@ module _ (b : List ℕ) (in_array : Bool) (step next : List ℕ) (more : List (L
     barred_says other (inl (tag, begins)) =
         absurd (other (begins_inside b h.offset h.f h.finds.1 h.finds.2 h.finds.4 h.low parent h.at (nested_tag b h.offset h.f h.finds.1 h.finds.2 h.finds.4 h.low parent h.at tag) new code begins).1)
     barred_says other (inr (three, four, shut, why, offset, done)) =
-        inl (h.d, h.s, level_at in_array old h.s, h.offset, barred, h.goes, inr (inl (h.f, h.finds, not_nested b h.offset h.f h.finds.1 h.finds.2 h.finds.4 h.low parent h.at three four, refl, refl)), (shut, fault_none new.fault why offset, done))
+        inl (
+          h.d,
+          h.s,
+          level_at in_array old h.s,
+          h.offset,
+          barred,
+          h.goes,
+          inr (inl (h.f, h.finds, not_nested b h.offset h.f h.finds.1 h.finds.2 h.finds.4 h.low parent h.at three four, refl, refl)),
+          (shut, fault_none new.fault why offset, done),
+        )
 
     -- it finds one with a level, in which the others go on
     module _ (child : Iter) (begun : ℤ) (also : Returns status.Done begun) where
-      onward : IsNested h.f.kind → Begins b parent.payload_at parent.payload_len child → PathSays b (is_array parent.tag) (next ∷ more) child new code → PathSays b in_array (step ∷ next ∷ more) old new code
+      onward : IsNested h.f.kind → Begins b parent.payload_at parent.payload_len child → PathSays b (is_array parent.tag) (next ∷ more) child new code
+          → PathSays b in_array (step ∷ next ∷ more) old new code
       onward nested begins (inl (d, s, last, offset, goal, g, goes, says)) =
           let same = same_level b h.offset h.f h.finds.1 h.finds.2 h.finds.4 h.low parent h.at nested child begins d s g in
           inl (h.d, h.s, last, offset, goal, h.goes, inr (inr (h.offset, h.f, h.finds, nested, subst (λ (l : Level). GoesTo l (next ∷ more) last offset goal) same goes)), says)
@@ -222,10 +293,12 @@ path_says b in_array (s ∷ t ∷ ss) old new code (inl (other, finds)) = none_s
 path_says b in_array (s ∷ t ∷ ss) old new code (inr (parent, first, finds, done, inl (other, down))) =
     barred_says b in_array s t ss old new code parent (step_found b in_array s old parent first (step_says b in_array s old parent first finds) done) other down
 path_says b in_array (s ∷ t ∷ ss) old new code (inr (parent, first, finds, done, inr (child, begun, down, also, rest))) =
-    inside_says b in_array s t ss old new code parent (step_found b in_array s old parent first (step_says b in_array s old parent first finds) done) child begun also down (path_says b (is_array parent.tag) (t ∷ ss) child new code rest)
+    inside_says b in_array s t ss old new code parent (step_found b in_array s old parent first (step_says b in_array s old parent first finds) done) child
+    begun also down (path_says b (is_array parent.tag) (t ∷ ss) child new code rest)
 
 -- what the whole path finds
-found_by : (b path : List ℕ) (separator : ℕ) (old new : Iter) (code : ℤ) (steps : List (List ℕ)) → HasSteps separator path steps → PathSays b false steps old new code → FindsPathOf b path separator old new code
+found_by : (b path : List ℕ) (separator : ℕ) (old new : Iter) (code : ℤ) (steps : List (List ℕ)) → HasSteps separator path steps
+    → PathSays b false steps old new code → FindsPathOf b path separator old new code
 found_by b path separator old new code steps has (inl (d, s, last, offset, goal, g, goes, says)) = inl (d, s, steps, last, offset, goal, g, has, goes, says)
 found_by b path separator old new code steps has (inr astray) = inr astray
 

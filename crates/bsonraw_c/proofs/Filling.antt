@@ -34,7 +34,8 @@ pub record HasFilled (b : List ℕ) (it : Iter) (next : ℕ) (before room : List
   pub left_is : left ≡ Some rest
 
 -- one more entry
-AreEntries-more : (b : List ℕ) (offset : ℕ) (fs : List Frame) (es : List Entry) (end : ℕ) (f : Frame) (e : Entry) → AreEntries b offset fs es end → IsEntry b end f e → AreEntries b offset (fs ++ f ∷ []) (es ++ e ∷ []) (e.payload_at + e.payload_len)
+AreEntries-more : (b : List ℕ) (offset : ℕ) (fs : List Frame) (es : List Entry) (end : ℕ) (f : Frame) (e : Entry) → AreEntries b offset fs es end
+    → IsEntry b end f e → AreEntries b offset (fs ++ f ∷ []) (es ++ e ∷ []) (e.payload_at + e.payload_len)
 AreEntries-more b offset [] [] end f e are one = (subst (λ (n : ℕ). IsEntry b n f e) are one, refl)
 AreEntries-more b offset [] (x ∷ es) end f e are one = absurd are
 AreEntries-more b offset (g ∷ fs) [] end f e are one = absurd are
@@ -43,16 +44,26 @@ AreEntries-more b offset (g ∷ fs) (x ∷ es) end f e are one = (are.0, AreEntr
 -- an entry that is worked out says where the frame is
 entry_there : (b d rest : List ℕ) (it : Iter) → GoesThrough b it d rest → (f : Frame) (r : List ℕ) (e : Entry) → IsFrame rest f r → IsEntryWorkedOut it.next f e → IsEntry b it.next f e
 entry_there b d rest it g f r e frame out =
-    let at : Iter = record it { tag = e.tag; key_at = e.key_at; key_len = e.key_len; payload_at = e.payload_at; payload_len = e.payload_len; next = it.next + (2 + (length f.key + length f.payload)) } in
+    let at : Iter = record it {
+      tag = e.tag;
+      key_at = e.key_at;
+      key_len = e.key_len;
+      payload_at = e.payload_at;
+      payload_len = e.payload_len;
+      next = it.next + (2 + (length f.key + length f.payload));
+    } in
     let p = placed b d rest it g f r at frame (record { tag = out.tag; key_at = out.key_at; key_len = out.key_len; payload_at = out.payload_at; payload_len = out.payload_len; next = refl }) in
     record { tag = p.tag; key = p.key; payload = p.payload; key_begins = p.key_begins; payload_begins = p.payload_begins }
 
 -- the room with one entry more
-room_with : (entries before room : List Entry) (index : ℕ) (e : Entry) → length entries ≡ index → index < length room → room ≡ entries ++ drop index before → set room index e ≡ (entries ++ e ∷ []) ++ drop (index + 1) before
+room_with : (entries before room : List Entry) (index : ℕ) (e : Entry) → length entries ≡ index → index < length room → room ≡ entries ++ drop index before
+    → set room index e ≡ (entries ++ e ∷ []) ++ drop (index + 1) before
 room_with entries before room index e number within filled =
     let front : take index room ≡ entries = ap (take index) filled ∙ take_at entries (drop index before) index number in
     let one : suc index ≡ index + 1 = omega arith in
-    let back : drop (index + 1) room ≡ drop (index + 1) before = sym (drop-drop 1 index room) ∙ (ap (λ (x : List Entry). drop 1 (drop index x)) filled ∙ (ap (drop 1) (drop_at entries (drop index before) index number) ∙ drop-drop 1 index before)) in
+    let back : drop (index + 1) room ≡ drop (index + 1) before =
+    sym (drop-drop 1 index room) ∙ (ap (λ (x : List Entry). drop 1 (drop index x)) filled
+    ∙ (ap (drop 1) (drop_at entries (drop index before) index number) ∙ drop-drop 1 index before)) in
     let split : set room index e ≡ take index room ++ e ∷ drop (index + 1) room = subst (λ (n : ℕ). set room index e ≡ take index room ++ e ∷ drop n room) one (set_split room index e within) in
     split ∙ (ap (λ (x : List Entry). x ++ e ∷ drop (index + 1) room) front ∙ (ap (λ (x : List Entry). entries ++ e ∷ x) back ∙ sym (append_assoc entries (e ∷ []) (drop (index + 1) before))))
 
@@ -72,7 +83,9 @@ pub filled_none : (b : List ℕ) (it : Iter) (d s : List ℕ) (before : List Ent
 filled_none b it d s before left g is = record { d = d; s = s; rest = s; passed = []; entries = []; begins = g; goes = g; leads = refl; are = refl; number = refl; filled = refl; left_is = is }
 
 -- the frames of what is in the room
-pub gone_over : (b : List ℕ) (it new : Iter) (next : ℕ) (before room : List Entry) (index count : ℕ) (left : Option (List ℕ)) (h : HasFilled b it next before room index left) → HasSameDocument it new → new.next ≡ next → index ≤ length before → count ≡ index → GoesOver b h.s h.rest h.passed it new before room count
+pub gone_over : (b : List ℕ) (it new : Iter) (next : ℕ) (before room : List Entry) (index count : ℕ) (left : Option (List ℕ))
+    (h : HasFilled b it next before room index left) → HasSameDocument it new → new.next ≡ next → index ≤ length before → count ≡ index
+    → GoesOver b h.s h.rest h.passed it new before room count
 gone_over b it new next before room index count left h same is fit counted = record {
   d = h.d;
   entries = h.entries;
@@ -84,7 +97,8 @@ gone_over b it new next before room index count left h same is fit counted = rec
   filled = h.filled ∙ ap (λ (n : ℕ). h.entries ++ drop n before) (sym counted);
 }
 
-module _ (b : List ℕ) (it : Iter) (next : ℕ) (before room : List Entry) (index : ℕ) (old new : Option (List ℕ)) (result : Option (Result RawElement BorrowedError)) (h : HasFilled b it next before room index old) (steps : StepsFront old result new) where
+module _ (b : List ℕ) (it : Iter) (next : ℕ) (before room : List Entry) (index : ℕ) (old new : Option (List ℕ))
+    (result : Option (Result RawElement BorrowedError)) (h : HasFilled b it next before room index old) (steps : StepsFront old result new) where
   abbrev here : Iter
   here = record it { next = next }
 
@@ -100,7 +114,8 @@ module _ (b : List ℕ) (it : Iter) (next : ℕ) (before room : List Entry) (ind
   short_key stop is = let st = stepped (Some (Err stop)) is in short b h.d h.rest here h.goes stop st.0
 
   -- one element more
-  pub filled_more : (e : RawElement) (entry : Entry) (after : ℕ) → result ≡ Some (Ok e) → index < length room → IsEntryWorkedOut next (frame_of e) entry → after ≡ next + (2 + (length (frame_of e).key + length (frame_of e).payload)) → HasFilled b it after before (set room index entry) (index + 1) new
+  pub filled_more : (e : RawElement) (entry : Entry) (after : ℕ) → result ≡ Some (Ok e) → index < length room → IsEntryWorkedOut next (frame_of e) entry
+      → after ≡ next + (2 + (length (frame_of e).key + length (frame_of e).payload)) → HasFilled b it after before (set room index entry) (index + 1) new
   filled_more e entry after is within out next_is =
       let st = stepped (Some (Ok e)) is in
       let one = entry_there b h.d h.rest here h.goes (frame_of e) st.0 entry st.1 out in
@@ -121,18 +136,28 @@ module _ (b : List ℕ) (it : Iter) (next : ℕ) (before room : List Entry) (ind
       }
 
   -- the end before the room is full
-  pub fills_end : (after : Iter) (count : ℕ) (code : ℤ) → result ≡ None → HasSameDocument it after → after.next ≡ next → index < length before → count ≡ index → HasNoElement (place_of_none b) after → Returns status.Nothing code → GoesFrom b h.s it after before room count code
-  fills_end after count code is same next_is within counted none done =
+  pub fills_end : (after : Iter) (code : ℤ) → result ≡ None → HasSameDocument it after → after.next ≡ next → index < length before
+      → HasNoElement (place_of_none b) after → Returns status.Nothing code → GoesFrom b h.s it after before room index code
+  fills_end after code is same next_is within none done =
       let st = stepped None is in
-      (h.rest, h.passed, gone_over b it after next before room index count old h same next_is (omega arith) counted, inr (inl (omega arith, (st.0, none, refl), done)))
+      (h.rest, h.passed, gone_over b it after next before room index index old h same next_is (omega arith) refl, inr (inl (omega arith, (st.0, none, refl), done)))
 
   -- the stop before the room is full
-  pub fills_fault : (stop : BorrowedError) (after : Iter) (count : ℕ) (code : ℤ) → result ≡ Some (Err stop) → HasSameDocument it after → after.next ≡ next → index < length before → count ≡ index → IsKeyAt (place_of_none b) next (option_copied stop.key) after → SaysKind stop.kind after.fault.why → after.fault.offset ≡ next → Returns status.Fault code → GoesFrom b h.s it after before room count code
-  fills_fault stop after count code is same next_is within counted out why offset_is done =
+  pub fills_fault : (stop : BorrowedError) (after : Iter) (code : ℤ) → result ≡ Some (Err stop) → HasSameDocument it after → after.next ≡ next
+      → index < length before → IsKeyAt (place_of_none b) next (option_copied stop.key) after → SaysKind stop.kind after.fault.why
+      → after.fault.offset ≡ next → Returns status.Fault code → GoesFrom b h.s it after before room index code
+  fills_fault stop after code is same next_is within out why offset_is done =
       let st = stepped (Some (Err stop)) is in
-      let fault = faulted b h.d h.rest here h.goes stop after st.0 out next_is why offset_is in
-      (h.rest, h.passed, gone_over b it after next before room index count old h same next_is (omega arith) counted, inr (inr (omega arith, subst (λ (n : ℕ). StopsAtFault b h.rest n after) (sym next_is) fault, done)))
+      let fault = faulted b h.d h.rest here h.goes stop after st.0 out next_is why offset_is in (
+        h.rest,
+        h.passed,
+        gone_over b it after next before room index index old h same next_is (omega arith) refl,
+        inr (inr (omega arith, subst (λ (n : ℕ). StopsAtFault b h.rest n after) (sym next_is) fault, done)),
+      )
 
 -- the room is full
-pub fills_all : (b : List ℕ) (it after : Iter) (next : ℕ) (before room : List Entry) (index count : ℕ) (left : Option (List ℕ)) (h : HasFilled b it next before room index left) (code : ℤ) → HasSameDocument it after → after.next ≡ next → index ≡ length before → count ≡ index → HasNoElement (place_of_none b) after → Returns status.Done code → GoesFrom b h.s it after before room count code
-fills_all b it after next before room index count left h code same is full counted none done = (h.rest, h.passed, gone_over b it after next before room index count left h same is (omega (arith, full)) counted, inl (counted ∙ full, none, done))
+pub fills_all : (b : List ℕ) (it after : Iter) (next : ℕ) (before room : List Entry) (index count : ℕ) (left : Option (List ℕ))
+    (h : HasFilled b it next before room index left) (code : ℤ) → HasSameDocument it after → after.next ≡ next → index ≡ length before → count ≡ index
+    → HasNoElement (place_of_none b) after → Returns status.Done code → GoesFrom b h.s it after before room count code
+fills_all b it after next before room index count left h code same is full counted none done =
+    (h.rest, h.passed, gone_over b it after next before room index count left h same is (omega (arith, full)) counted, inl (counted ∙ full, none, done))

@@ -34,7 +34,8 @@ pub record HasPassed (b key : List ℕ) (it : Iter) (next : ℕ) (left : Option 
 pub passed_none : (b key : List ℕ) (it : Iter) (d s : List ℕ) (left : Option (List ℕ)) → GoesThrough b it d s → left ≡ Some s → HasPassed b key it it.next left
 passed_none b key it d s left g is = record { d = d; s = s; rest = s; passed = []; begins = g; goes = g; leads = refl; others = tt; left_is = is }
 
-module _ (b key : List ℕ) (it : Iter) (next : ℕ) (old new : Option (List ℕ)) (result : Option (Result RawElement BorrowedError)) (h : HasPassed b key it next old) (steps : StepsFront old result new) where
+module _ (b key : List ℕ) (it : Iter) (next : ℕ) (old new : Option (List ℕ)) (result : Option (Result RawElement BorrowedError))
+    (h : HasPassed b key it next old) (steps : StepsFront old result new) where
   abbrev here : Iter
   here = record it { next = next }
 
@@ -50,7 +51,8 @@ module _ (b key : List ℕ) (it : Iter) (next : ℕ) (old new : Option (List ℕ
   short_key stop is = let st = stepped (Some (Err stop)) is in short b h.d h.rest here h.goes stop st.0
 
   -- an element with another key
-  pub passed_more : (e : RawElement) (after : ℕ) → result ≡ Some (Ok e) → (frame_of e).key ≢ key → after ≡ next + (2 + (length (frame_of e).key + length (frame_of e).payload)) → HasPassed b key it after new
+  pub passed_more : (e : RawElement) (after : ℕ) → result ≡ Some (Ok e) → (frame_of e).key ≢ key
+      → after ≡ next + (2 + (length (frame_of e).key + length (frame_of e).payload)) → HasPassed b key it after new
   passed_more e after is other next_is =
       let st = stepped (Some (Ok e)) is in
       record {
@@ -69,7 +71,8 @@ module _ (b key : List ℕ) (it : Iter) (next : ℕ) (old new : Option (List ℕ
   from after code stops = (h.d, h.rest, next, h.passed, h.goes, h.leads, h.others, stops)
 
   -- the element with the key
-  pub finds_element : (e : RawElement) (after : Iter) (code : ℤ) → result ≡ Some (Ok e) → (frame_of e).key ≡ key → IsWorkedOut next (frame_of e) after → Returns status.Done code → FindsFrom b key h.s it after code
+  pub finds_element : (e : RawElement) (after : Iter) (code : ℤ) → result ≡ Some (Ok e) → (frame_of e).key ≡ key → IsWorkedOut next (frame_of e) after
+      → Returns status.Done code → FindsFrom b key h.s it after code
   finds_element e after code is same out done =
       let st = stepped (Some (Ok e)) is in
       from after code (inl ((frame_of e, st.0, st.1, same, placed b h.d h.rest here h.goes (frame_of e) st.0 after st.1 out), done))
@@ -79,7 +82,8 @@ module _ (b key : List ℕ) (it : Iter) (next : ℕ) (old new : Option (List ℕ
   finds_end after code is none next_is done = let st = stepped None is in from after code (inr (inl ((st.0, none, next_is), done)))
 
   -- the stop
-  pub finds_fault : (stop : BorrowedError) (after : Iter) (code : ℤ) → result ≡ Some (Err stop) → IsKeyAt (place_of_none b) next (option_copied stop.key) after → after.next ≡ next → SaysKind stop.kind after.fault.why → after.fault.offset ≡ next → Returns status.Fault code → FindsFrom b key h.s it after code
+  pub finds_fault : (stop : BorrowedError) (after : Iter) (code : ℤ) → result ≡ Some (Err stop) → IsKeyAt (place_of_none b) next (option_copied stop.key) after
+      → after.next ≡ next → SaysKind stop.kind after.fault.why → after.fault.offset ≡ next → Returns status.Fault code → FindsFrom b key h.s it after code
   finds_fault stop after code is out next_is why offset_is done =
       let st = stepped (Some (Err stop)) is in
       from after code (inr (inr (faulted b h.d h.rest here h.goes stop after st.0 out next_is why offset_is, done)))

@@ -37,7 +37,9 @@ pub stands_inside : (b d x : List ℕ) (at len offset size : ℕ) → StandsAt b
 stands_inside b d x at len offset size s t = record {
   before = s.before ++ t.before;
   behind = t.behind ++ s.behind;
-  whole = s.whole ∙ (ap (λ (y : List ℕ). s.before ++ (y ++ s.behind)) t.whole ∙ (ap (λ (y : List ℕ). s.before ++ y) (append_assoc t.before (x ++ t.behind) s.behind ∙ ap (λ (y : List ℕ). t.before ++ y) (append_assoc x t.behind s.behind)) ∙ sym (append_assoc s.before t.before (x ++ (t.behind ++ s.behind)))));
+  whole = s.whole ∙ (ap (λ (y : List ℕ). s.before ++ (y ++ s.behind)) t.whole
+      ∙ (ap (λ (y : List ℕ). s.before ++ y) (append_assoc t.before (x ++ t.behind) s.behind
+      ∙ ap (λ (y : List ℕ). t.before ++ y) (append_assoc x t.behind s.behind)) ∙ sym (append_assoc s.before t.before (x ++ (t.behind ++ s.behind)))));
   offset_is = omega (arith, s.offset_is, t.offset_is, length-append s.before t.before);
   len_is = t.len_is;
 }
@@ -59,7 +61,9 @@ module _ (b d : List ℕ) (at len offset : ℕ) (stands : StandsAt b at len d) (
         (stands_behind d (offset - at) (offset - at + 1) it.key_len (tag_of f.kind ∷ []) f.key (0 ∷ (f.payload ++ r)) private_within frame.spelled refl out.key_len)
         (omega (arith, out.key_at, begun));
     payload = stands_there b d f.payload at len (offset - at + (2 + length f.key)) it.payload_len it.payload_at stands
-        (stands_behind d (offset - at) (offset - at + (2 + length f.key)) it.payload_len (tag_of f.kind ∷ (f.key ++ 0 ∷ [])) f.payload r private_within (frame.spelled ∙ ap (λ (x : List ℕ). tag_of f.kind ∷ x) (sym (append_assoc f.key (0 ∷ []) (f.payload ++ r)))) (omega (arith, length-append f.key (0 ∷ []))) out.payload_len)
+        (stands_behind d (offset - at) (offset - at + (2 + length f.key)) it.payload_len (tag_of f.kind ∷ (f.key ++ 0 ∷ [])) f.payload r private_within
+        (frame.spelled ∙ ap (λ (x : List ℕ). tag_of f.kind ∷ x) (sym (append_assoc f.key (0 ∷ []) (f.payload ++ r))))
+        (omega (arith, length-append f.key (0 ∷ []))) out.payload_len)
         (omega (arith, out.payload_at, begun));
     key_begins = out.key_at;
     payload_begins = omega (arith, out.payload_at, out.key_at, out.key_len);
@@ -95,7 +99,9 @@ module _ (b d : List ℕ) (at len offset : ℕ) (stands : StandsAt b at len d) (
   stopped_in Utf8 (Some key) it stop out = (out.0, out.1, key_in key it stop.0 out.1 out.2, out.3, out.4)
 
   -- what a stop says
-  pub fault_in : (stop : BorrowedError) (it : Iter) → StopsWith stop.kind (option_copied stop.key) (drop (offset - at) d) → IsKeyAt (place_of_none b) offset (option_copied stop.key) it → it.next ≡ offset → SaysKind stop.kind it.fault.why → it.fault.offset ≡ offset → StopsAtFault b (drop (offset - at) d) offset it
+  pub fault_in : (stop : BorrowedError) (it : Iter) → StopsWith stop.kind (option_copied stop.key) (drop (offset - at) d)
+      → IsKeyAt (place_of_none b) offset (option_copied stop.key) it → it.next ≡ offset → SaysKind stop.kind it.fault.why → it.fault.offset ≡ offset
+      → StopsAtFault b (drop (offset - at) d) offset it
   fault_in stop it stops out next why offset_is =
       let told = stop_told stop.kind (option_copied stop.key) (drop (offset - at) d) it.fault.why stop.reading stops why in
       (told.0, option_copied stop.key, told.1, stopped_in told.0 (option_copied stop.key) it told.1 out, next, told.2, offset_is)
@@ -146,8 +152,12 @@ module _ (b d s : List ℕ) (it : Iter) (g : GoesThrough b it d s) where
   short stop stops = short_stop b d it.document_at it.document_len it.next g.stands behind_begin g.within stop g.small (stop_left stop.kind (option_copied stop.key) stops)
 
   -- the stop there
-  pub faulted : (stop : BorrowedError) (new : Iter) → StopsWith stop.kind (option_copied stop.key) s → IsKeyAt (place_of_none b) it.next (option_copied stop.key) new → new.next ≡ it.next → SaysKind stop.kind new.fault.why → new.fault.offset ≡ it.next → StopsAtFault b s it.next new
-  faulted stop new stops out next why offset_is = subst (λ (x : List ℕ). StopsAtFault b x it.next new) (sym g.left) (fault_in b d it.document_at it.document_len it.next g.stands behind_begin g.within stop new (stop_left stop.kind (option_copied stop.key) stops) out next why offset_is)
+  pub faulted : (stop : BorrowedError) (new : Iter) → StopsWith stop.kind (option_copied stop.key) s
+      → IsKeyAt (place_of_none b) it.next (option_copied stop.key) new → new.next ≡ it.next → SaysKind stop.kind new.fault.why → new.fault.offset ≡ it.next
+      → StopsAtFault b s it.next new
+  faulted stop new stops out next why offset_is = subst (λ (x : List ℕ). StopsAtFault b x it.next new) (sym g.left)
+      (fault_in b d it.document_at it.document_len it.next g.stands behind_begin g.within stop new
+      (stop_left stop.kind (option_copied stop.key) stops) out next why offset_is)
 
 -- lists with fronts of one length have one front and one rest
 same_front : (p q r t : List ℕ) → length p ≡ length q → p ++ r ≡ q ++ t → (p ≡ q) × (r ≡ t)

@@ -83,7 +83,15 @@ pointer_there : (p namespace id : List ℕ) → IsDbPointer p namespace id → H
 pointer_there p namespace id d =
     let head : length (string_payload namespace) ≡ length namespace + 5 = omega (arith, length-append namespace (0 ∷ [])) in
     let size : length p ≡ length namespace + 17 = omega (arith, ap length d.spelled, length-append (string_payload namespace) id, head, d.id_len) in
-    let text : StandsAt p 4 (length namespace) namespace = record { before = le32 (pos (length namespace + 1)); behind = 0 ∷ id; whole = d.spelled ∙ ap (λ (x : List ℕ). le32 (pos (length namespace + 1)) ++ x) (append_assoc namespace (0 ∷ []) id); offset_is = refl; len_is = refl } in
+    let text : StandsAt p 4 (length namespace) namespace =
+    record {
+      before = le32 (pos (length namespace + 1));
+      behind = 0 ∷ id;
+      whole = d.spelled ∙ ap (λ (x : List ℕ). le32 (pos (length namespace + 1)) ++ x) (append_assoc namespace (0 ∷ []) id);
+      offset_is = refl;
+      len_is = refl;
+    }
+    in
     (text, last_there p (string_payload namespace) id _ d.spelled (sym head), size, d.id_len)
 
 scoped_there : (p code scope : List ℕ) → IsCodeWithScope p code scope → HasPartsAt (scoped code scope) p
@@ -92,7 +100,14 @@ scoped_there p code scope c =
     let front : length (head ++ string_payload code) ≡ length code + 9 = omega (arith, length-append code (0 ∷ [])) in
     let whole : p ≡ (head ++ string_payload code) ++ scope = c.spelled ∙ sym (append_assoc head (string_payload code) scope) in
     let size : length p ≡ length code + 9 + length scope = omega (arith, ap length whole, length-append (head ++ string_payload code) scope, front) in
-    let text : StandsAt p 8 (length code) code = record { before = head ++ le32 (pos (length code + 1)); behind = 0 ∷ scope; whole = c.spelled ∙ ap (λ (x : List ℕ). head ++ (le32 (pos (length code + 1)) ++ x)) (append_assoc code (0 ∷ []) scope); offset_is = refl; len_is = refl } in
+    let text : StandsAt p 8 (length code) code = record {
+      before = head ++ le32 (pos (length code + 1));
+      behind = 0 ∷ scope;
+      whole = c.spelled ∙ ap (λ (x : List ℕ). head ++ (le32 (pos (length code + 1)) ++ x)) (append_assoc code (0 ∷ []) scope);
+      offset_is = refl;
+      len_is =
+          refl;
+    } in
     (text, last_there p (head ++ string_payload code) scope _ whole (sym front), size)
 
 said : (p : List ℕ) (v w : RawValue) → v ≡ w → HasPartsAt w p → HasPartsAt v p

@@ -20,7 +20,8 @@ spread : (b : List ℕ) (offset : ℕ) (front back : List ℕ) → drop offset b
 spread b offset front back e = sym (take-append-drop offset b) ∙ ap (λ x. take offset b ++ x) e ∙ sym (append_assoc (take offset b) front back)
 
 -- bytes that stand at the offset behind others
-pub stands_behind : (b : List ℕ) (offset place len : ℕ) (front bytes back : List ℕ) → offset ≤ length b → drop offset b ≡ front ++ (bytes ++ back) → place ≡ offset + length front → len ≡ length bytes → StandsAt b place len bytes
+pub stands_behind : (b : List ℕ) (offset place len : ℕ) (front bytes back : List ℕ) → offset ≤ length b → drop offset b ≡ front ++ (bytes ++ back)
+    → place ≡ offset + length front → len ≡ length bytes → StandsAt b place len bytes
 stands_behind b offset place len front bytes back within e place_is len_is = record {
   before = take offset b ++ front;
   behind = back;
@@ -54,7 +55,8 @@ left_behind b offset next f r within stands is =
 
 -- a stop
 
-pub stop_told : (k : ErrorKind) (key : Option (List ℕ)) (s : List ℕ) (told : FaultCode) → IsReadingKind k → StopsWith k key s → SaysKind k told → (fault : Fault) × IsStop s fault key × TellsFaultCode fault told
+pub stop_told : (k : ErrorKind) (key : Option (List ℕ)) (s : List ℕ) (told : FaultCode) → IsReadingKind k → StopsWith k key s → SaysKind k told
+    → (fault : Fault) × IsStop s fault key × TellsFaultCode fault told
 stop_told (kind.MalformedValue r) key s told reading stop says = (Malformed, stop, (r, reading r refl, says))
 stop_told (kind.Utf8EncodingError u) key s told reading stop says = (Utf8, stop, (says.0, says.1))
 stop_told kind.OutOfMemory key s told reading stop says = absurd stop

@@ -15,7 +15,14 @@ put_part offset end bytes room e =
 pub length-put_bytes : (offset : ℕ) (bytes room : List ℕ) → offset + length bytes ≤ length room → length (put_bytes offset bytes room) ≡ length room
 unfolding put_bytes
 length-put_bytes offset bytes room h =
-    omega (arith, h, length-append (take offset room) (bytes ++ drop (offset + length bytes) room), length-append bytes (drop (offset + length bytes) room), length-take-le offset room (omega arith), length-drop (offset + length bytes) room)
+    omega (
+      arith,
+      h,
+      length-append (take offset room) (bytes ++ drop (offset + length bytes) room),
+      length-append bytes (drop (offset + length bytes) room),
+      length-take-le offset room (omega arith),
+      length-drop (offset + length bytes) room,
+    )
 
 -- what the room then begins with
 pub take-put_bytes : (offset end : ℕ) (bytes room : List ℕ) → end ≡ offset + length bytes → offset + length bytes ≤ length room → take end (put_bytes offset bytes room) ≡ take offset room ++ bytes
@@ -46,7 +53,8 @@ unfolding put_bytes
 opened offset bytes room = refl
 
 -- bytes behind bytes
-pub put_more : (offset next : ℕ) (x y room : List ℕ) → next ≡ offset + length x → offset + (length x + length y) ≤ length room → put_bytes next y (put_bytes offset x room) ≡ put_bytes offset (x ++ y) room
+pub put_more : (offset next : ℕ) (x y room : List ℕ) → next ≡ offset + length x → offset + (length x + length y) ≤ length room
+    → put_bytes next y (put_bytes offset x room) ≡ put_bytes offset (x ++ y) room
 put_more offset next x y room e h =
     let first : put_bytes next y (put_bytes offset x room) ≡ take next (put_bytes offset x room) ++ (y ++ drop (next + length y) (put_bytes offset x room)) = opened next y (put_bytes offset x room) in
     let a : take next (put_bytes offset x room) ≡ take offset room ++ x = take-put_bytes offset next x room e (omega arith) in
@@ -60,5 +68,6 @@ put_more offset next x y room e h =
     ∙ sym (opened offset (x ++ y) room)
 
 -- the same of rooms by their names
-pub joined : (offset next : ℕ) (x y room now after : List ℕ) → now ≡ put_bytes offset x room → after ≡ put_bytes next y now → next ≡ offset + length x → offset + (length x + length y) ≤ length room → after ≡ put_bytes offset (x ++ y) room
+pub joined : (offset next : ℕ) (x y room now after : List ℕ) → now ≡ put_bytes offset x room → after ≡ put_bytes next y now → next ≡ offset + length x
+    → offset + (length x + length y) ≤ length room → after ≡ put_bytes offset (x ++ y) room
 joined offset next x y room now after a b e h = b ∙ ap (λ (r : List ℕ). put_bytes next y r) a ∙ put_more offset next x y room e h

@@ -30,7 +30,9 @@ pub begun : (b whole : List ℕ) (separator : ℕ) (first : Iter) → GoesOnWith
 begun b whole separator first new code steps has finds = (steps, has, finds)
 
 -- the last step
-pub last_step : (b whole : List ℕ) (separator : ℕ) (first : Iter) (path : List ℕ) (in_array : Bool) (now : Iter) → GoesOnWith b whole separator first path in_array now → (step : List ℕ) → path ≡ step → HasNone separator step → (new : Iter) (code : ℤ) → FindsStep b in_array step now new code → WalksPathOf b whole separator first new code
+pub last_step : (b whole : List ℕ) (separator : ℕ) (first : Iter) (path : List ℕ) (in_array : Bool) (now : Iter)
+    → GoesOnWith b whole separator first path in_array now → (step : List ℕ) → path ≡ step → HasNone separator step → (new : Iter) (code : ℤ)
+    → FindsStep b in_array step now new code → WalksPathOf b whole separator first new code
 last_step b whole separator first path in_array now goes step is none new code finds = goes new code (step ∷ []) (is, none) finds
 
 -- every path has steps
@@ -43,7 +45,8 @@ cut_step : (separator byte : ℕ) (bytes : List ℕ) → byte ≡ separator → 
 cut_step separator byte bytes same [] has = absurd has
 cut_step separator byte bytes same (s ∷ ss) has = ([] ∷ s ∷ ss, (bytes, ap (λ (x : ℕ). x ∷ bytes) same, All-nil (λ b. b ≢ separator), has))
 
-some_steps : (separator byte : ℕ) (bytes : List ℕ) (steps : List (List ℕ)) → HasSteps separator bytes steps → (t : Bool) → nat_eq byte separator ≡ t → (more : List (List ℕ)) × HasSteps separator (byte ∷ bytes) more
+some_steps : (separator byte : ℕ) (bytes : List ℕ) (steps : List (List ℕ)) → HasSteps separator bytes steps → (t : Bool) → nat_eq byte separator ≡ t
+    → (more : List (List ℕ)) × HasSteps separator (byte ∷ bytes) more
 some_steps separator byte bytes steps has true e = cut_step separator byte bytes (grind arith) steps has
 some_steps separator byte bytes steps has false e = front_step separator byte bytes (grind arith) steps has
 
@@ -52,12 +55,16 @@ has_steps separator [] = ([] ∷ [], (refl, All-nil (λ b. b ≢ separator)))
 has_steps separator (byte ∷ bytes) = let h = has_steps separator bytes in some_steps separator byte bytes h.0 h.1 (nat_eq byte separator) refl
 
 -- a step that isn't the last one
-more_steps : (separator : ℕ) (path step rest : List ℕ) → path ≡ step ++ separator ∷ rest → HasNone separator step → (steps : List (List ℕ)) → HasSteps separator rest steps → HasSteps separator path (step ∷ steps)
+more_steps : (separator : ℕ) (path step rest : List ℕ) → path ≡ step ++ separator ∷ rest → HasNone separator step → (steps : List (List ℕ))
+    → HasSteps separator rest steps → HasSteps separator path (step ∷ steps)
 more_steps separator path step rest is none [] has = absurd has
 more_steps separator path step rest is none (t ∷ ss) has = (rest, is, none, has)
 
-module _ (b whole : List ℕ) (separator : ℕ) (first : Iter) (path : List ℕ) (in_array : Bool) (now : Iter) (goes : GoesOnWith b whole separator first path in_array now) (step rest : List ℕ) (is : path ≡ step ++ separator ∷ rest) (none : HasNone separator step) where
-  stops_with : (steps : List (List ℕ)) → HasSteps separator rest steps → (new : Iter) (code : ℤ) → ¬ Returns status.Done code → FindsStep b in_array step now new code → WalksPathOf b whole separator first new code
+module _ (b whole : List ℕ) (separator : ℕ) (first : Iter) (path : List ℕ) (in_array : Bool) (now : Iter)
+    (goes : GoesOnWith b whole separator first path in_array now) (step rest : List ℕ) (is : path ≡ step ++ separator ∷ rest)
+    (none : HasNone separator step) where
+  stops_with : (steps : List (List ℕ)) → HasSteps separator rest steps → (new : Iter) (code : ℤ) → ¬ Returns status.Done code
+      → FindsStep b in_array step now new code → WalksPathOf b whole separator first new code
   stops_with [] has new code other finds = absurd has
   stops_with (t ∷ ss) has new code other finds = goes new code (step ∷ t ∷ ss) (more_steps separator path step rest is none (t ∷ ss) has) (inl (other, finds))
 
@@ -65,15 +72,22 @@ module _ (b whole : List ℕ) (separator : ℕ) (first : Iter) (path : List ℕ)
   pub stops_at : (new : Iter) (code : ℤ) → ¬ Returns status.Done code → FindsStep b in_array step now new code → WalksPathOf b whole separator first new code
   stops_at new code other finds = let h = has_steps separator rest in stops_with h.0 h.1 new code other finds
 
-  bars_with : (steps : List (List ℕ)) → HasSteps separator rest steps → (parent : Iter) (found : ℤ) → FindsStep b in_array step now parent found → Returns status.Done found → (new : Iter) (code : ℤ) → ¬ Returns status.Done code → Descends b parent new code → WalksPathOf b whole separator first new code
+  bars_with : (steps : List (List ℕ)) → HasSteps separator rest steps → (parent : Iter) (found : ℤ) → FindsStep b in_array step now parent found
+      → Returns status.Done found → (new : Iter) (code : ℤ) → ¬ Returns status.Done code → Descends b parent new code
+      → WalksPathOf b whole separator first new code
   bars_with [] has parent found finds done new code other down = absurd has
-  bars_with (t ∷ ss) has parent found finds done new code other down = goes new code (step ∷ t ∷ ss) (more_steps separator path step rest is none (t ∷ ss) has) (inr (parent, found, finds, done, inl (other, down)))
+  bars_with (t ∷ ss) has parent found finds done new code other down =
+      goes new code (step ∷ t ∷ ss) (more_steps separator path step rest is none (t ∷ ss) has) (inr (parent, found, finds, done, inl (other, down)))
 
   -- it is found, and nothing is inside
-  pub bars_at : (parent : Iter) (found : ℤ) → FindsStep b in_array step now parent found → Returns status.Done found → (new : Iter) (code : ℤ) → ¬ Returns status.Done code → Descends b parent new code → WalksPathOf b whole separator first new code
+  pub bars_at : (parent : Iter) (found : ℤ) → FindsStep b in_array step now parent found → Returns status.Done found → (new : Iter) (code : ℤ)
+      → ¬ Returns status.Done code → Descends b parent new code → WalksPathOf b whole separator first new code
   bars_at parent found finds done new code other down = let h = has_steps separator rest in bars_with h.0 h.1 parent found finds done new code other down
 
   -- it is found, and gone into
-  pub goes_in : (parent : Iter) (found : ℤ) → FindsStep b in_array step now parent found → Returns status.Done found → (child : Iter) (begins : ℤ) → Descends b parent child begins → Returns status.Done begins → GoesOnWith b whole separator first rest (is_array parent.tag) child
+  pub goes_in : (parent : Iter) (found : ℤ) → FindsStep b in_array step now parent found → Returns status.Done found → (child : Iter) (begins : ℤ)
+      → Descends b parent child begins → Returns status.Done begins → GoesOnWith b whole separator first rest (is_array parent.tag) child
   goes_in parent found finds done child begins down also new code [] has onward = absurd has
-  goes_in parent found finds done child begins down also new code (t ∷ ss) has onward = goes new code (step ∷ t ∷ ss) (more_steps separator path step rest is none (t ∷ ss) has) (inr (parent, found, finds, done, inr (child, begins, down, also, onward)))
+  goes_in parent found finds done child begins down also new code (t ∷ ss) has onward =
+      goes new code (step ∷ t ∷ ss) (more_steps separator path step rest is none (t ∷ ss) has)
+      (inr (parent, found, finds, done, inr (child, begins, down, also, onward)))

@@ -118,7 +118,7 @@ is_of_array b = nat_eq b.tag 4
 abbrev pub key_in : Builder → List ℕ → List ℕ
 key_in b key = cond (is_of_array b) (decimal b.count) key
 
--- the builder takes more: nothing was refused so far, though room may have been wanting
+-- the builder takes more: nothing was refused so far; there may have been too little room
 abbrev pub GoesOn : Builder → Type 0
 GoesOn b = (b.status ≡ pos 0) ⊎ (b.status ≡ pos 8)
 
@@ -177,7 +177,8 @@ abbrev pub Adds : Frame → Builder → Builder → List ℕ → List ℕ → Ty
 Adds f old new before after =
     (IsTooLong old (length (frame_bytes f)) × Refuses status.TooLong old new before after)
     ⊎ ((¬ IsTooLong old (length (frame_bytes f))) × (length before < old.len + length (frame_bytes f)) × Refuses status.SmallBuffer (grown old (length (frame_bytes f))) new before after)
-    ⊎ ((¬ IsTooLong old (length (frame_bytes f))) × (old.len + length (frame_bytes f) ≤ length before) × (after ≡ put_bytes old.len (frame_bytes f) before) × (new ≡ grown old (length (frame_bytes f))))
+    ⊎ ((¬ IsTooLong old (length (frame_bytes f))) × (old.len + length (frame_bytes f) ≤ length before) × (after ≡ put_bytes old.len (frame_bytes f) before)
+    × (new ≡ grown old (length (frame_bytes f))))
 
 -- what an append leaves, whatever the builder and the room hold
 abbrev pub Appends : ℕ → List ℕ → List ℕ → List ℕ → Builder → Builder → List ℕ → List ℕ → Type 0

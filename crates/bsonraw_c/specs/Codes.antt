@@ -80,7 +80,7 @@ reason_left (reason.StringPastEnd _ left) = left
 reason_left (reason.PastEnd _ left) = left
 reason_left _ = 0
 
--- the fault that an error of this kind says, as a number; want of memory says none
+-- the fault that an error of this kind says, as a number; out of memory says none
 abbrev pub kind_code : ErrorKind → ℕ
 kind_code (kind.MalformedValue _) = fault_code Malformed
 kind_code (kind.Utf8EncodingError _) = fault_code Utf8

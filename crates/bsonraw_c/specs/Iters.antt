@@ -67,7 +67,8 @@ StopsAtEnd b s offset it = (s ≡ 0 ∷ []) × HasNoElement (place_of_none b) it
 
 -- the iterator is at no element, since none is at this offset: it says the stop
 abbrev pub StopsAtFault : List ℕ → List ℕ → ℕ → Iter → Type 0
-StopsAtFault b s offset it = (fault : Fault) × (key : Option (List ℕ)) × IsStop s fault key × IsAtStop b offset key it × (it.next ≡ offset) × TellsFaultCode fault it.fault.why × (it.fault.offset ≡ offset)
+StopsAtFault b s offset it = (fault : Fault) × (key : Option (List ℕ)) × IsStop s fault key × IsAtStop b offset key it × (it.next ≡ offset)
+    × TellsFaultCode fault it.fault.why × (it.fault.offset ≡ offset)
 
 -- where the iterator stops, and what that returns; s is left at this offset
 abbrev pub StopsAt : (Frame → Type 0) → List ℕ → List ℕ → ℕ → Iter → ℤ → Type 0
@@ -126,14 +127,16 @@ BeginsWhole b it code =
 
 -- what is returned as an iterator is set to the first element with a key of the document that all bytes are
 abbrev pub BeginsAndFinds : List ℕ → List ℕ → Iter → ℤ → Type 0
-BeginsAndFinds b key it code = (first : Iter) × (begun : ℤ) × BeginsWhole b first begun × ((Returns status.Done begun × FindsOn b key first it code) ⊎ ((¬ Returns status.Done begun) × (it ≡ first) × (code ≡ begun)))
+BeginsAndFinds b key it code = (first : Iter) × (begun : ℤ) × BeginsWhole b first begun
+    × ((Returns status.Done begun × FindsOn b key first it code) ⊎ ((¬ Returns status.Done begun) × (it ≡ first) × (code ≡ begun)))
 
 -- And to the document that so many bytes from this offset on are. So many aren't there, or their end isn't below 2 ^ 32; or
 -- they are, and are a document, or none.
 abbrev pub BeginsAt : List ℕ → ℕ → ℕ → Iter → ℤ → Type 0
 BeginsAt b offset len it code =
     ((offset + len < 2 ^ 32) × (d : List ℕ) × StandsAt b offset len d × IsEnvelope d × Begins b offset len it × Returns status.Done code)
-    ⊎ ((offset + len < 2 ^ 32) × (d : List ℕ) × (r : Reason) × StandsAt b offset len d × Refuses d r × IsShut b it × SaysKind (kind.MalformedValue r) it.fault.why × (it.fault.offset ≡ offset) × Returns status.NoDocument code)
+    ⊎ ((offset + len < 2 ^ 32) × (d : List ℕ) × (r : Reason) × StandsAt b offset len d × Refuses d r × IsShut b it
+    × SaysKind (kind.MalformedValue r) it.fault.why × (it.fault.offset ≡ offset) × Returns status.NoDocument code)
     ⊎ (((length b < offset + len) ⊎ (2 ^ 32 ≤ offset + len)) × IsShut b it × IsNoFault it.fault.why × (it.fault.offset ≡ 0) × Returns status.BadOffset code)
 
 -- the frame is a document or an array that old is at: the iterator begins in it; else it is shut

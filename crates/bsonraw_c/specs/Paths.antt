@@ -41,7 +41,14 @@ level_from it s = record { document_at = it.document_at; document_len = it.docum
 
 -- the level that is the payload of this frame, whose tag is at this offset
 abbrev pub level_in : ℕ → Frame → Level
-level_in offset f = record { document_at = offset + (2 + length f.key); document_len = length f.payload; offset = offset + (6 + length f.key); left = drop 4 f.payload; in_array = is_array (tag_of f.kind); fault = no_fault }
+level_in offset f = record {
+  document_at = offset + (2 + length f.key);
+  document_len = length f.payload;
+  offset = offset + (6 + length f.key);
+  left = drop 4 f.payload;
+  in_array = is_array (tag_of f.kind);
+  fault = no_fault;
+}
 
 -- these elements aren't the step's: in a document they have other keys; in an array their numbers, from 0, are others
 abbrev pub Passes : Bool → List ℕ → List Frame → Type 0
@@ -95,7 +102,8 @@ IsIn l it = (it.document_at ≡ l.document_at) × (it.document_len ≡ l.documen
 abbrev pub SaysGoal : List ℕ → Level → ℕ → Goal → Iter → ℤ → Type 0
 SaysGoal b l offset (found f) it code = IsIn l it × IsAtFrame b offset f it × (it.fault ≡ l.fault) × Returns status.Done code
 SaysGoal b l offset (missed Done) it code = IsIn l it × HasNoElement (place_of_none b) it × (it.next ≡ offset) × (it.fault ≡ l.fault) × Returns status.Nothing code
-SaysGoal b l offset (missed (Stopped fault key)) it code = IsIn l it × IsAtStop b offset key it × (it.next ≡ offset) × TellsFaultCode fault it.fault.why × (it.fault.offset ≡ offset) × Returns status.Fault code
+SaysGoal b l offset (missed (Stopped fault key)) it code =
+    IsIn l it × IsAtStop b offset key it × (it.next ≡ offset) × TellsFaultCode fault it.fault.why × (it.fault.offset ≡ offset) × Returns status.Fault code
 SaysGoal b l offset barred it code = IsShut b it × (it.fault ≡ no_fault) × Returns status.OtherKind code
 
 -- an iterator that is astray finds nothing

@@ -84,5 +84,6 @@ payload_begins it f = it.key_at + (length f.key + 1)
 abbrev pub GivesValue : List ℕ → Iter → Value → ℤ → Type 0
 GivesValue b it x code =
     ((f : Frame) × (v : RawValue) × IsOn b it f × Means f (value v) × SaysValue b (payload_begins it f) v x × Returns status.Done code)
-    ⊎ ((f : Frame) × (fault : KeyedFault) × IsOn b it f × Means f (faulty fault) × TellsFaultCode fault.fault x.fault.why × (x.fault.offset + 1 ≡ it.key_at) × (x ≡ record (no_value (place_of_none b) 0) { fault = x.fault }) × Returns status.Fault code)
+    ⊎ ((f : Frame) × (fault : KeyedFault) × IsOn b it f × Means f (faulty fault) × TellsFaultCode fault.fault x.fault.why × (x.fault.offset + 1 ≡ it.key_at)
+    × (x ≡ record (no_value (place_of_none b) 0) { fault = x.fault }) × Returns status.Fault code)
     ⊎ (((f : Frame) → ¬ IsOn b it f) × (x ≡ no_value (place_of_none b) 0) × Returns status.BadOffset code)

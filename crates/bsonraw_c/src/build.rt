@@ -28,7 +28,7 @@ pub struct Builder {
     pub count: u32,
     /// 3 a document, 4 an array
     pub tag: u32,
-    /// how the calls so far ended: what was refused first, or that room was wanting
+    /// how the calls so far ended: what was refused first, or that there wasn't enough room
     pub status: i32,
 }
 
@@ -143,7 +143,7 @@ pub extern "C" fn bsonraw_append_end(builder: &mut Builder, room: &mut [u8], lev
 }
 
 impl Builder {
-    /// Whether nothing was refused so far, though room may have been wanting.
+    /// Whether nothing was refused so far; there may have been too little room.
     #[inline(always)]
     fn goes_on(&self) -> bool
         ensures { IsTrue result ↔ GoesOn self.now }

@@ -29,7 +29,7 @@ pub enum Status {
     SmallBuffer,
     /// an offset in the header, or past the end
     BadOffset,
-    /// no memory was left
+    /// memory ran out
     NoMemory,
     /// a value of another kind
     OtherKind,

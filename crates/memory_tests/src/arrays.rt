@@ -10,7 +10,7 @@ const NULL: Want<'static> = Want::Value(RawBsonRef::Null);
 
 const SEVEN: Want<'static> = Want::Value(RawBsonRef::Int32(7));
 
-/// Arrays, each with an index and what stands there. Items are counted from 0, the faults and the stop too.
+/// Arrays, each with an index and what is there. Items are counted from 0, the faults and the stop too.
 const POSITIONS: [(&[u8], usize, Want<'static>); 14] = [
     (EMPTY, 0, Want::Nothing),
     (EMPTY, usize::MAX, Want::Nothing),
@@ -93,7 +93,7 @@ fn is_said(alloc: Global, error: &ValueAccessError) -> bool {
     }
 }
 
-/// Whether the error has its text, if it is want of memory.
+/// Whether the error has its text, if it is out of memory.
 fn is_want_said(alloc: Global, answer: &ValueAccessResult<bool>) -> bool {
     match answer {
         Ok(_) => true,
@@ -104,7 +104,7 @@ fn is_want_said(alloc: Global, answer: &ValueAccessResult<bool>) -> bool {
     }
 }
 
-/// The first request of each look-up may be refused: what needs none is answered all the same.
+/// The first request of each look-up may be refused: what needs none is returned all the same.
 #[test]
 fn fault_before_a_number_or_want_of_memory(rt: HostRuntime) -> Result<(), Fail> {
     let checks = Checks::refusable(rt.alloc());
@@ -116,7 +116,7 @@ fn fault_before_a_number_or_want_of_memory(rt: HostRuntime) -> Result<(), Fail> 
     Ok(())
 }
 
-/// Whether the answer is want of memory, with the empty key.
+/// Whether the result is out of memory, with the empty key.
 fn is_want(answer: ValueAccessResult<bool>) -> bool {
     match answer {
         Ok(_) => false,
@@ -137,7 +137,7 @@ fn a_refused_get_bool_is_out_of_memory(rt: HostRuntime) -> Result<(), Fail> {
     Ok(())
 }
 
-/// Whether the answer is want of memory, without a key.
+/// Whether the result is out of memory, without a key.
 fn is_item_want(answer: raw_bson::Result<Option<RawBsonRef<'_>>>) -> bool {
     match answer {
         Ok(_) => false,

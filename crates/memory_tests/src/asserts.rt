@@ -1,11 +1,11 @@
 use raw_bson::{Error, ErrorKind, RawArrayBuf, RawDocumentBuf, Result};
 
-/// Whether the error is want of memory, without a key.
+/// Whether the error is out of memory, without a key.
 pub(crate) fn is_want_of_memory(error: &Error) -> bool {
     *error == Error::new(ErrorKind::OutOfMemory)
 }
 
-/// Whether the answer is a document of these bytes, or want of memory.
+/// Whether the result is a document of these bytes, or out of memory.
 pub(crate) fn is_document(answer: Result<RawDocumentBuf>, bytes: &[u8]) -> bool {
     match answer {
         Ok(document) => document.as_bytes() == bytes,
@@ -13,7 +13,7 @@ pub(crate) fn is_document(answer: Result<RawDocumentBuf>, bytes: &[u8]) -> bool 
     }
 }
 
-/// Whether the answer is an array of these bytes, or want of memory.
+/// Whether the result is an array of these bytes, or out of memory.
 pub(crate) fn is_array(answer: Result<RawArrayBuf>, bytes: &[u8]) -> bool {
     match answer {
         Ok(array) => array.as_bytes() == bytes,
@@ -21,7 +21,7 @@ pub(crate) fn is_array(answer: Result<RawArrayBuf>, bytes: &[u8]) -> bool {
     }
 }
 
-/// Whether the answer is just these bytes, or want of memory.
+/// Whether the result is just these bytes, or out of memory.
 pub(crate) fn is_list(answer: Result<Vec<u8>>, bytes: &[u8]) -> bool {
     match answer {
         Ok(list) => list.as_slice() == bytes,

@@ -6,10 +6,10 @@ use raw_form::{
 use std::test::Fail;
 use test_fixtures::*;
 
-// `bin/test` runs this with each request for memory refused in turn, alone: the answer is the one with ample memory, or
-// want of memory without a key.
+// `bin/test` runs this with each request for memory refused in turn, alone: the result is the one with ample memory, or
+// out of memory without a key.
 
-/// Whether the answer is a barrier behind so many levels at this offset, or want of memory.
+/// Whether the result is a barrier behind so many levels at this offset, or out of memory.
 fn is_barrier(answer: raw_bson::Result<Option<Barrier<'_>>>, levels: usize, offset: usize) -> bool {
     match answer {
         Ok(Some(barrier)) => barrier.place.path.len() == levels && barrier.place.offset == offset,
@@ -29,7 +29,7 @@ fn a_first_fault_or_want_of_memory(rt: HostRuntime) -> Result<(), Fail> {
     Ok(())
 }
 
-/// Whether the answer is a stop behind so many levels at this offset, or out of memory.
+/// Whether the result is a stop behind so many levels at this offset, or out of memory.
 fn is_stop(
     answer: std::result::Result<Option<PlacedBreach<'_>>, ValidateError<'_>>,
     levels: usize,

@@ -8,7 +8,7 @@ use std::process::Abort;
 use std::test::Fail;
 use test_fixtures::*;
 
-// Each call answers what it answers with ample memory, or want of memory without a key, and what it was handed by
+// Each call returns what it returns with ample memory, or out of memory without a key, and what it was handed by
 // reference is then as it was. So the same call goes well when it is made again.
 
 /// The numbers -1 and 123 under the keys `a` and `b`.
@@ -45,7 +45,7 @@ fn new_or_want_of_memory(rt: HostRuntime) {
     assert!(rt; is_array(RawArrayBuf::new(rt.alloc()), EMPTY));
 }
 
-/// After an append that went well the bytes are those after it; else memory was wanted, and they are those before.
+/// After an append that went well the bytes are those after it; else memory ran out, and they are those before.
 fn is_appended(answer: &Result<()>, found: &[u8], before: &[u8], after: &[u8]) -> bool {
     match answer {
         Ok(()) => found == after,
@@ -65,7 +65,7 @@ fn goes_well_at_last(
     answer.is_ok() || (document.append_ref(key, value).is_ok() && document.as_bytes() == after)
 }
 
-/// Whether an owned copy of the value is appended in the end, or memory was wanted for the copy.
+/// Whether an owned copy of the value is appended in the end, or memory ran out for the copy.
 fn is_copy_appended(document: &mut RawDocumentBuf, copy: Result<RawBson>, append: Append) -> bool {
     match copy {
         Ok(copy) => {
@@ -122,7 +122,7 @@ fn append_ref_or_want_of_memory(rt: HostRuntime) -> std::result::Result<(), Fail
 /// One number.
 const NUMBER: &[u8] = b"\x0C\0\0\0\x10b\0\x02\0\0\0\0";
 
-/// Whether the element is appended to the empty document, or memory was wanted and nothing changed, and it is appended
+/// Whether the element is appended to the empty document, or memory ran out and nothing changed, and it is appended
 /// when it is tried again.
 fn is_element_appended(document: &mut RawDocumentBuf, element: RawElement<'_>) -> bool {
     let answer = document.append_element(element);
@@ -151,7 +151,7 @@ fn append_element_or_want_of_memory(rt: HostRuntime) -> std::result::Result<(), 
     Ok(())
 }
 
-/// Whether the error is that a 0 stands in the key.
+/// Whether the error is that the key holds a 0.
 fn is_interior_nul(error: &Error) -> bool {
     *error
         == Error::new(ErrorKind::MalformedValue {
@@ -191,7 +191,7 @@ fn interior_nul_or_want_of_memory(rt: HostRuntime) -> std::result::Result<(), Fa
     Ok(())
 }
 
-/// Whether a null is pushed, at once or, where memory was wanted and nothing changed, when it is pushed again.
+/// Whether a null is pushed, at once or, where memory ran out and nothing changed, when it is pushed again.
 fn is_null_pushed(array: &mut RawArrayBuf, before: &[u8], after: &[u8]) -> bool {
     let answer = array.push(RawBson::Null);
     is_appended(&answer, array.as_bytes(), before, after)
@@ -215,7 +215,7 @@ fn are_nulls_pushed(array: Result<RawArrayBuf>) -> bool {
     }
 }
 
-/// The key of the next push shows that one that wanted memory left the count as it was.
+/// The key of the next push shows that one that ran out of memory left the count as it was.
 #[test]
 fn push_or_want_of_memory(rt: HostRuntime) -> std::result::Result<(), Fail> {
     let view = array_view(SWALLOWED_TERMINATOR)?;
@@ -238,7 +238,7 @@ fn one_pair(alloc: Global, key: &str, value: RawBson) -> Result<RawDocumentBuf> 
     RawDocumentBuf::from_iter(alloc, [(key, value)].into_iter())
 }
 
-/// Whether there is no document, for the 0 in the key or for want of memory.
+/// Whether there is no document, for the 0 in the key or because memory ran out.
 fn is_no_document(answer: Result<RawDocumentBuf>) -> bool {
     match answer {
         Ok(_) => false,
@@ -246,7 +246,7 @@ fn is_no_document(answer: Result<RawDocumentBuf>) -> bool {
     }
 }
 
-/// Whether the pair makes the document after its append, or memory was wanted.
+/// Whether the pair makes the document after its append, or memory ran out.
 fn is_pair(alloc: Global, copy: Result<RawBson>, append: Append) -> bool {
     match copy {
         Ok(copy) => is_document(one_pair(alloc, append.1, copy), append.3),

@@ -9,9 +9,9 @@ use std::alloc::Global;
 use std::test::Fail;
 use test_fixtures::*;
 
-// Each copy is equal, or there is none for want of memory, and what is copied is as it was.
+// Each copy is equal, or there is none because memory ran out, and what is copied is as it was.
 
-/// Whether the answer is the vector of the bytes 1 and 2, or want of memory.
+/// Whether the result is the vector of the bytes 1 and 2, or out of memory.
 fn is_vector(answer: raw_bson::Result<Binary>) -> bool {
     match answer {
         Ok(copy) => {
@@ -144,7 +144,7 @@ fn to_raw_document_buf_or_want_of_memory(rt: HostRuntime) -> Result<(), Fail> {
     Ok(())
 }
 
-/// Whether the bytes of the array become those after a push, or memory was wanted for it.
+/// Whether the bytes of the array become those after a push, or memory ran out for it.
 fn is_pushed(array: &mut RawArrayBuf, before: &[u8], after: &[u8]) -> bool {
     array.as_bytes() == before
         && match array.push(RawBson::Null) {
@@ -176,7 +176,7 @@ fn to_raw_array_buf_or_want_of_memory(rt: HostRuntime) -> Result<(), Fail> {
     Ok(())
 }
 
-/// Whether the answer is the wanted value, or want of memory for a value that has memory of its own.
+/// Whether the result is the wanted value, or out of memory for a value that has memory of its own.
 fn is_copy(answer: raw_bson::Result<RawBson>, want: RawBsonRef<'_>, kind: ElementType) -> bool {
     match answer {
         Ok(copy) => copy.as_raw_bson_ref() == want,
@@ -214,7 +214,7 @@ fn first_element(alloc: Global, bytes: &[u8]) -> Option<RawElement<'_>> {
     view.iter_elements(alloc).next()?.ok()
 }
 
-/// Whether the answer is the fault of the boolean of the byte 2, or want of memory.
+/// Whether the result is the fault of the boolean of the byte 2, or out of memory.
 fn is_fault(checks: Checks, answer: raw_bson::Result<RawBson>) -> bool {
     match answer {
         Ok(_) => false,

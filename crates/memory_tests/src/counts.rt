@@ -6,7 +6,7 @@ use test_fixtures::*;
 
 // `bin/test` runs these with each request for memory refused in turn, alone.
 
-/// Whether this is the fault at a boolean of 2 under the key `a`, with one element counted; or want of memory, with no
+/// Whether this is the fault at a boolean of 2 under the key `a`, with one element counted; or out of memory, with no
 /// more.
 fn is_fault_of_one_element(error: &Error, count: usize) -> bool {
     if is_want_of_memory(error) {
@@ -34,7 +34,7 @@ fn elements_until_a_fault_or_want_of_memory(rt: HostRuntime) -> Result<(), Fail>
     Ok(())
 }
 
-/// Whether so many levels were read, each an element but the innermost; or memory was wanted, with no more elements.
+/// Whether so many levels were read, each an element but the innermost; or memory ran out, with no more elements.
 fn are_levels_counted(answer: &raw_bson::Result<Document>, count: usize, levels: usize) -> bool {
     match answer {
         Ok(tree) => has_levels(tree, levels) && count == levels,

@@ -5,7 +5,7 @@ use raw_bson::{
 use std::test::Fail;
 use test_fixtures::*;
 
-// Each copy is equal, or there is none for want of memory. What has no memory of its own is copied in any run.
+// Each copy is equal, or there is none because memory ran out. What has no memory of its own is copied in any run.
 
 fn is_kind_copied(kind: &ErrorKind) -> bool {
     let copy: Result<_, _> = kind.clone();

@@ -2,7 +2,7 @@ use raw_bson::ElementType;
 use std::test::Fail;
 use test_fixtures::*;
 
-/// The getters of this kind have its value, which stands under this key and at this index.
+/// The getters of this kind have its value, which is under this key and at this index.
 fn check_value(checks: Checks, kind: ElementType, key: &str, index: usize) -> Result<(), Fail> {
     let value = borrowed(kind)?;
     checks.typed_under(ALL_KINDS, kind, key, value)?;
@@ -43,7 +43,7 @@ fn getters_or_want_of_memory(rt: HostRuntime) -> Result<(), Fail> {
 }
 
 /// Documents, each with a kind that is asked for under a key, and why there is no value: another kind, nothing, or a
-/// fault whose key stands again behind it.
+/// fault whose key is there again behind it.
 const NONE: &[(&[u8], ElementType, &str, NoValue<'static>)] = &[
     (
         BOOL_AND_INT32,

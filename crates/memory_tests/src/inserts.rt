@@ -17,7 +17,7 @@ const PAIRS: &[(&str, i32)] = &[
     ("i", 9),
 ];
 
-/// Whether this pair stands at this place, and is what is found by its key.
+/// Whether this pair is at this place, and is what is found by its key.
 fn is_pair(document: &Document, index: usize, key: &str, value: &Bson) -> bool {
     document.pair_at(index) == Some((key, value)) && document.get(key) == Some(value)
 }

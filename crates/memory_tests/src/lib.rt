@@ -1,5 +1,5 @@
 //! Tests of `bson_model`, `raw_view`, `raw_tree` and `raw_bson` that `bin/test` runs with each request for memory refused in turn,
-//! alone: each call answers what it answers with ample memory, or want of memory where it may. They stand apart,
+//! alone: each call returns what it returns with ample memory, or out of memory where it may. They are apart,
 //! since each runs once for each request that it makes.
 #![tactic(auto)]
 

@@ -5,12 +5,12 @@ use test_fixtures::*;
 
 // `bin/test` also counts the requests for memory of these.
 
-/// What stands in the document of three int32.
+/// What is in the document of three int32.
 const NUMBERS: &[(&str, i32)] = &[("a", -1), ("b", 123), ("c", 0)];
 
 const LONG: &str = "a text that outgrows the room of a new buffer many times over";
 
-/// Whether a long text is appended, or memory was wanted.
+/// Whether a long text is appended, or memory ran out.
 fn is_long_text_appended(answer: Result<RawDocumentBuf>) -> bool {
     match answer {
         Ok(mut document) => match document.append_ref("text", RawBsonRef::String(LONG)) {

@@ -10,8 +10,8 @@ use std::process::Abort;
 use std::test::Fail;
 use test_fixtures::*;
 
-// `bin/test` runs these with each request for memory refused in turn, alone: each call answers what it answers with
-// ample memory, or want of memory without a key. What is looked at of a tree takes no memory.
+// `bin/test` runs these with each request for memory refused in turn, alone: each call returns what it returns with
+// ample memory, or out of memory without a key. What is looked at of a tree takes no memory.
 
 /// A document, an array, a text, a regular expression and code with a scope.
 const PARTS: &[u8] = b"\x3D\0\0\0\
@@ -49,7 +49,7 @@ fn has_parts(tree: &Document) -> bool {
     tree.len() == 5
 }
 
-/// Whether the answer is a tree of these parts, or want of memory.
+/// Whether the result is a tree of these parts, or out of memory.
 fn is_tree(answer: raw_bson::Result<Document>) -> bool {
     match answer {
         Ok(tree) => has_parts(&tree),
@@ -57,7 +57,7 @@ fn is_tree(answer: raw_bson::Result<Document>) -> bool {
     }
 }
 
-/// Whether the buffer has these parts whatever is made of it, or memory was wanted for it.
+/// Whether the buffer has these parts whatever is made of it, or memory ran out for it.
 fn has_trees(answer: raw_bson::Result<RawDocumentBuf>) -> bool {
     match answer {
         Ok(buffer) => {
@@ -83,7 +83,7 @@ const LIMITS: Limits = Limits {
     depth: 2,
 };
 
-/// Whether the buffer has these parts within the limits, or memory was wanted for it.
+/// Whether the buffer has these parts within the limits, or memory ran out for it.
 fn has_tree_within(answer: raw_bson::Result<RawDocumentBuf>) -> bool {
     match answer {
         Ok(buffer) => {
@@ -101,7 +101,7 @@ fn trees_within_limits_or_want_of_memory(rt: HostRuntime) -> Result<(), Fail> {
     Ok(())
 }
 
-/// Whether the answer is the value under this key, or want of memory.
+/// Whether the result is the value under this key, or out of memory.
 fn is_part_answered(key: &str, answer: raw_bson::Result<Bson>) -> bool {
     match answer {
         Ok(tree) => is_part(key, &tree),
@@ -109,7 +109,7 @@ fn is_part_answered(key: &str, answer: raw_bson::Result<Bson>) -> bool {
     }
 }
 
-/// Whether the answer is a list of one null, or want of memory.
+/// Whether the result is a list of one null, or out of memory.
 fn is_null_list(answer: raw_bson::Result<Vec<Bson>>) -> bool {
     match answer {
         Ok(list) => is_one_null(&list),
@@ -144,14 +144,14 @@ fn trees_of_values_or_want_of_memory(rt: HostRuntime) -> Result<(), Fail> {
     Ok(())
 }
 
-/// Whether each call that writes the tree gives its bytes, or wants memory, and leaves the tree as it was.
+/// Whether each call that writes the tree gives its bytes, or runs out of memory, and leaves the tree as it was.
 fn is_written(alloc: Global, tree: &Document) -> bool {
     is_document(RawDocumentBuf::from_document(alloc, tree), PARTS)
         && is_document(RawDocumentBuf::try_from_document(alloc, tree), PARTS)
         && has_parts(tree)
 }
 
-/// Whether the tree is written, or memory was wanted for it.
+/// Whether the tree is written, or memory ran out for it.
 fn is_tree_written(alloc: Global, answer: raw_bson::Result<Document>) -> bool {
     match answer {
         Ok(tree) => is_written(alloc, &tree),
@@ -167,12 +167,12 @@ fn bytes_of_trees_or_want_of_memory(rt: HostRuntime) -> Result<(), Fail> {
     Ok(())
 }
 
-/// Whether memory was wanted for the value under this key. A text and a regular expression are moved, which takes none.
+/// Whether memory ran out for the value under this key. A text and a regular expression are moved, which takes none.
 fn is_copy_refused(key: &str, error: &Error) -> bool {
     key != "t" && key != "r" && is_want_of_memory(error)
 }
 
-/// Whether the value becomes the tree under this key, or memory is wanted for its copy.
+/// Whether the value becomes the tree under this key, or memory runs out for its copy.
 fn comes_back(alloc: Global, key: &str, owned: RawBson) -> bool {
     match owned.into_bson(alloc) {
         Ok(tree) => is_part(key, &tree),
@@ -180,7 +180,7 @@ fn comes_back(alloc: Global, key: &str, owned: RawBson) -> bool {
     }
 }
 
-/// Whether the tree under this key becomes this value, and that the tree again, or memory is wanted for a copy.
+/// Whether the tree under this key becomes this value, and that the tree again, or memory runs out for a copy.
 fn goes_and_comes_back(alloc: Global, key: &str, tree: Bson, value: RawBsonRef<'_>) -> bool {
     match RawBson::try_from_bson(alloc, tree) {
         Ok(owned) => owned.as_raw_bson_ref() == value && comes_back(alloc, key, owned),
@@ -188,7 +188,7 @@ fn goes_and_comes_back(alloc: Global, key: &str, tree: Bson, value: RawBsonRef<'
     }
 }
 
-/// Whether the tree of this element goes to its value and back, or memory was wanted for it.
+/// Whether the tree of this element goes to its value and back, or memory ran out for it.
 fn is_element_owned(alloc: Global, item: raw_bson::Result<RawElement<'_>>) -> bool {
     let Ok(element) = item else { return false };
     let Ok(value) = element.value(alloc) else {
@@ -227,7 +227,7 @@ fn is_written_as(written: raw_bson::Result<Vec<u8>>, form: &[u8]) -> bool {
     }
 }
 
-/// Whether the tree is written as the form; where memory is wanted, it is so when it is written again.
+/// Whether the tree is written as the form; where memory runs out, it is so when it is written again.
 fn has_form(alloc: Global, tree: &Document, form: &[u8]) -> bool {
     match encode(alloc, tree) {
         Ok(written) => written.as_slice() == form,
@@ -235,7 +235,7 @@ fn has_form(alloc: Global, tree: &Document, form: &[u8]) -> bool {
     }
 }
 
-/// Whether the buffer becomes a tree with the form, or memory is wanted.
+/// Whether the buffer becomes a tree with the form, or memory runs out.
 fn becomes_form(buffer: &RawDocumentBuf, alloc: Global, form: &[u8]) -> bool {
     match buffer.to_document() {
         Ok(tree) => has_form(alloc, &tree, form),
@@ -243,7 +243,7 @@ fn becomes_form(buffer: &RawDocumentBuf, alloc: Global, form: &[u8]) -> bool {
     }
 }
 
-/// Whether the buffer becomes a tree with the form and has its bytes, or memory was wanted for it.
+/// Whether the buffer becomes a tree with the form and has its bytes, or memory ran out for it.
 fn becomes(
     alloc: Global,
     answer: raw_bson::Result<RawDocumentBuf>,
@@ -256,7 +256,7 @@ fn becomes(
     }
 }
 
-/// Whether by way of a buffer and a tree the bytes become the form, or memory is wanted.
+/// Whether by way of a buffer and a tree the bytes become the form, or memory runs out.
 fn have_form(alloc: Global, bytes: &[u8], form: &[u8]) -> bool {
     match RawDocument::from_bytes(bytes) {
         Ok(view) => becomes(alloc, view.to_raw_document_buf(alloc), bytes, form),
@@ -275,7 +275,7 @@ fn forms_or_want_of_memory(rt: HostRuntime) {
     }
 }
 
-/// Whether so many levels are their own form, or memory was wanted for them.
+/// Whether so many levels are their own form, or memory ran out for them.
 fn are_levels_form(alloc: Global, levels: usize) -> bool {
     match nested(alloc, Holder::Document, levels, EMPTY) {
         Ok(bytes) => have_form(alloc, &bytes, &bytes),

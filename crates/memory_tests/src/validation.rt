@@ -3,10 +3,10 @@ use raw_bson::{Breach, Cause, RawDocument, validate};
 use std::test::Fail;
 use test_fixtures::*;
 
-// `bin/test` runs these with each request for memory refused in turn, alone: the answer is the one with ample memory,
-// or want of memory without a key.
+// `bin/test` runs these with each request for memory refused in turn, alone: the result is the one with ample memory,
+// or out of memory without a key.
 
-/// Whether the answer is this breach, or want of memory.
+/// Whether the result is this breach, or out of memory.
 fn is_breach(answer: raw_bson::Result<Option<Breach>>, path: &[usize], cause: Cause) -> bool {
     match answer {
         Ok(Some(breach)) => breach.path.as_slice() == path && breach.cause == cause,
@@ -15,7 +15,7 @@ fn is_breach(answer: raw_bson::Result<Option<Breach>>, path: &[usize], cause: Ca
     }
 }
 
-/// Whether the answer is that the document is canonical, or want of memory.
+/// Whether the result is that the document is canonical, or out of memory.
 fn is_canonical(answer: raw_bson::Result<Option<Breach>>) -> bool {
     match answer {
         Ok(found) => found.is_none(),

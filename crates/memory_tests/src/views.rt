@@ -31,7 +31,7 @@ fn iteration_or_want_of_memory(rt: HostRuntime) -> Result<(), Fail> {
     Ok(())
 }
 
-/// Of the boolean of the byte 2 the fault or want of memory, and then nothing.
+/// Of the boolean of the byte 2 the fault or out of memory, and then nothing.
 #[test]
 fn boolean_two_or_want_of_memory(rt: HostRuntime) -> Result<(), Fail> {
     let checks = Checks::refusable(rt.alloc());
@@ -40,7 +40,7 @@ fn boolean_two_or_want_of_memory(rt: HostRuntime) -> Result<(), Fail> {
     Ok(())
 }
 
-/// Whether the first item is want of memory without a key, and nothing comes behind it.
+/// Whether the first item is out of memory without a key, and nothing comes behind it.
 fn is_want_alone(mut iter: Iter<'_>) -> bool {
     match iter.next() {
         Some(Err(error)) => is_want_of_memory(&error) && iter.next().is_none(),
@@ -82,7 +82,7 @@ fn elements_or_want_of_memory(rt: HostRuntime) -> Result<(), Fail> {
     Ok(())
 }
 
-/// Documents, each with a key and the answer of its look-up.
+/// Documents, each with a key and the result of its look-up.
 const LOOK_UPS: [(&[u8], &str, Want<'static>); 15] = [
     (EMPTY, "", Want::Nothing),
     (GREETING, "hi", Want::Value(RawBsonRef::String("y'all"))),
@@ -97,7 +97,7 @@ const LOOK_UPS: [(&[u8], &str, Want<'static>); 15] = [
     (FAULT_UNDER_A_LATER_GOOD_KEY, "a", Want::Fault(TWO_AT_A)),
     (PATTERN_NOT_UTF8, "a", Want::Fault(NOT_UTF8_AT_A)),
     (ARRAY_WITH_TEXT_NOT_UTF8, "0", Want::Fault(NOT_UTF8)),
-    // a fault, and what stands past it
+    // a fault, and what is past it
     (FAULT_BEFORE_A_NUMBER, "0", Want::Fault(TWO_AT_0)),
     (
         FAULT_BEFORE_A_NUMBER,
@@ -124,7 +124,7 @@ fn keys_or_want_of_memory(rt: HostRuntime) -> Result<(), Fail> {
     Ok(())
 }
 
-/// Documents, each with the answer of its first element.
+/// Documents, each with the result of its first element.
 const FIRST_VALUES: [(&[u8], Want<'static>); 3] = [
     (GREETING, Want::Value(RawBsonRef::String("y'all"))),
     (BOOLEAN_TWO, Want::Fault(TWO_AT_A)),

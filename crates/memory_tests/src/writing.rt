@@ -3,13 +3,13 @@ use raw_bson::{Bson, Document, Error, Reason, encode, encode_list};
 use std::alloc::Global;
 use test_fixtures::EMPTY;
 
-/// Whether the list of `true` is written, or memory was wanted.
+/// Whether the list of `true` is written, or memory ran out.
 fn is_true_written(alloc: Global) -> bool {
     let bytes = b"\x09\0\0\0\x080\0\x01\0";
     is_list(encode_list(alloc, &[Bson::Boolean(true)]), bytes)
 }
 
-/// Whether the empty document is written, or memory was wanted.
+/// Whether the empty document is written, or memory ran out.
 fn is_empty_written(alloc: Global) -> bool {
     is_list(encode(alloc, &Document::new(alloc)), EMPTY)
 }

@@ -69,15 +69,18 @@ found_in (d ∷ keys) b = rw (found_in keys b) refl
 not_there : (ds : List (List ℕ)) (b : List ℕ) → list_any (bytes_eq b) ds ≡ false → ¬ Contains ds b
 not_there ds b e c = true≢false (sym (list_any-from_Contains nat_list_eq_equiv b ds c) ∙ e)
 
-stored_where : (keys after : List (Vec ℕ Global)) (v : Vec ℕ Global) (there new : Bool) → list_any (λ d. bytes_eq v.items d.items) keys ≡ there → new ≡ not there → after ≡ (if there then keys else keys ++ v ∷ []) → Stores (items keys) v.items (Ok new) (items after)
+stored_where : (keys after : List (Vec ℕ Global)) (v : Vec ℕ Global) (there new : Bool) → list_any (λ d. bytes_eq v.items d.items) keys ≡ there
+    → new ≡ not there → after ≡ (if there then keys else keys ++ v ∷ []) → Stores (items keys) v.items (Ok new) (items after)
 stored_where keys after v true new e n a = rw (n, a) (Contains-from_any same_items v.items (items keys) (sym (found_in keys v.items) ∙ e), refl)
 stored_where keys after v false new e n a = rw (n, a) (not_there (items keys) v.items (sym (found_in keys v.items) ∙ e), map-append (λ (d : Vec ℕ Global). d.items) keys (v ∷ []))
 
-pub stored : (keys after : List (Vec ℕ Global)) (v : Vec ℕ Global) (new : Bool) → new ≡ not (list_any (λ d. bytes_eq v.items d.items) keys) → after ≡ (if list_any (λ d. bytes_eq v.items d.items) keys then keys else keys ++ v ∷ []) → Stores (items keys) v.items (Ok new) (items after)
+pub stored : (keys after : List (Vec ℕ Global)) (v : Vec ℕ Global) (new : Bool) → new ≡ not (list_any (λ d. bytes_eq v.items d.items) keys)
+    → after ≡ (if list_any (λ d. bytes_eq v.items d.items) keys then keys else keys ++ v ∷ []) → Stores (items keys) v.items (Ok new) (items after)
 stored keys after v new n a = stored_where keys after v (list_any (λ d. bytes_eq v.items d.items) keys) new refl n a
 
 -- what is left is a shelf
-pub shelf_after : AllAreSpelledOneWay as_document → (before : List (List ℕ)) (b : List ℕ) (answer : Result Bool PutError) (after : List (List ℕ)) → IsShelf before → IsEnvelope b → IsCanonical b → Stores before b answer after → IsShelf after
+pub shelf_after : AllAreSpelledOneWay as_document → (before : List (List ℕ)) (b : List ℕ) (answer : Result Bool PutError) (after : List (List ℕ))
+    → IsShelf before → IsEnvelope b → IsCanonical b → Stores before b answer after → IsShelf after
 shelf_after spelled before b (Ok true) after shelf env canonical s = rw (s.1) (shelf_more spelled before b shelf env canonical s.0)
 shelf_after spelled before b (Ok false) after shelf env canonical s = rw (s.1) shelf
 shelf_after spelled before b (Err e) after shelf env canonical s = rw (s.1) shelf

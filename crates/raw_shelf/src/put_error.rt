@@ -3,11 +3,16 @@ use std::error::Error;
 use std::fmt;
 
 /// Why a document wasn't put on a shelf, which is then as it was.
+/// ```
+/// let twice = Vec::from_slice(alloc, b"\x13\0\0\0\x10a\0\x01\0\0\0\x10a\0\x02\0\0\0\0")?;
+/// let put = Shelf::new(alloc).put(RawDocumentBuf::from_bytes(twice)?);
+/// assert!(rt; matches!(put, Err(PutError::Breach(Breach { cause: Cause::RepeatedKey, .. }))));
+/// ```
 #[derive(Debug, PartialEq, Eq, Drop)]
 pub enum PutError {
     /// It isn't canonical: its first breach.
     Breach(Breach),
-    /// No memory was left.
+    /// Memory ran out.
     OutOfMemory,
 }
 

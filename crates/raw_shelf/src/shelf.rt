@@ -87,6 +87,11 @@ impl Shelf {
     }
 
     /// A view of the document with this number, counted from 0 in the order in which they came.
+    /// ```
+    /// let mut shelf = Shelf::new(alloc);
+    /// shelf.put(RawDocumentBuf::new(alloc)?)?;
+    /// assert!(rt; shelf.at(0).is_some() && shelf.at(1).is_none());
+    /// ```
     pub fn at(&self, index: usize) -> Option<RawDocument<'_>>
         ensures { option_map bytes_of result ≡ slice_get self.now index }
     {

@@ -7,7 +7,7 @@ use std::alloc::Global;
 use std::fmt;
 use std::fmt::Debug;
 
-/// An answer that is wanted of a look-up.
+/// A result that is wanted of a look-up.
 #[derive(Clone, Copy, Debug)]
 pub enum Want<'a> {
     /// this value
@@ -39,14 +39,14 @@ impl fmt::Debug for Mismatch {
     }
 }
 
-/// Whether a request for memory may be refused while an answer is made.
+/// Whether a request for memory may be refused while a result is made.
 #[derive(Clone, Copy, PartialEq, Eq)]
 enum Memory {
     Ample,
     Refusable,
 }
 
-/// Checks of answers.
+/// Checks of results.
 #[derive(Clone, Copy)]
 pub struct Checks {
     pub(crate) alloc: Global,
@@ -54,7 +54,7 @@ pub struct Checks {
 }
 
 impl Checks {
-    /// Each answer has to be the wanted one, and an error has its text.
+    /// Each result has to be the wanted one, and an error has its text.
     pub fn ample(alloc: Global) -> Checks {
         Checks {
             alloc,
@@ -62,7 +62,7 @@ impl Checks {
         }
     }
 
-    /// Want of memory may stand in the place of a fault with a key or of an error of access, and in no other place.
+    /// Out of memory may come in place of a fault with a key or of an error of access, and in no other place.
     /// Texts aren't looked at.
     pub fn refusable(alloc: Global) -> Checks {
         Checks {
@@ -71,7 +71,7 @@ impl Checks {
         }
     }
 
-    /// Passes where the answer is the wanted one.
+    /// Passes where the result is the wanted one.
     pub(crate) fn holds<F: Debug, W: Debug, P: Debug>(
         self,
         is_wanted: bool,
@@ -107,7 +107,7 @@ impl Checks {
             }
     }
 
-    /// Whether the error says that memory was wanted for the key of this fault.
+    /// Whether the error says that memory ran out for the key of this fault.
     fn is_want_of_memory(self, error: &Error, want: Fault<'_>) -> bool {
         self.memory == Memory::Refusable
             && want.key.is_some()
@@ -119,7 +119,7 @@ impl Checks {
         self.holds(self.is_fault(error, want), error, &want, &want.text)
     }
 
-    /// The answer of a look-up in these bytes is the wanted one, or want of memory for the key of its fault.
+    /// The result of a look-up in these bytes is the wanted one, or out of memory for the key of its fault.
     pub fn answer(
         self,
         answer: raw_view::Result<Option<RawBsonRef<'_>>>,
@@ -137,7 +137,7 @@ impl Checks {
         self.holds(is_wanted, &answer, &want, &bytes)
     }
 
-    /// Whether a key stands in these bytes is answered as it is wanted, or by want of memory for the key of the stop.
+    /// The document of these bytes says as wanted whether it has the key; or it is out of memory for the key of the stop.
     pub fn has_key(
         self,
         answer: raw_view::Result<bool>,
@@ -154,7 +154,7 @@ impl Checks {
         self.holds(is_wanted, &answer, &want, &bytes)
     }
 
-    /// A typed getter has no value, for this cause and with this key; or it wants memory, and has the empty key.
+    /// A typed getter has no value, for this cause and with this key; or memory ran out, and has the empty key.
     pub fn no_value<T: Debug + Drop>(
         self,
         answer: ValueAccessResult<T>,

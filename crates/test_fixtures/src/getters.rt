@@ -22,7 +22,7 @@ pub fn has_getter(kind: ElementType) -> bool {
     GETTERS.contains(&kind)
 }
 
-/// A getter's answer as a value of its kind.
+/// A getter's result as a value of its kind.
 fn shown<'a, T: Into<RawBsonRef<'a>>>(
     answer: ValueAccessResult<T>,
 ) -> ValueAccessResult<RawBsonRef<'a>> {
@@ -32,7 +32,7 @@ fn shown<'a, T: Into<RawBsonRef<'a>>>(
     }
 }
 
-/// The answer of the document's getter for this kind.
+/// The result of the document's getter for this kind.
 pub fn get_of_document<'a>(
     view: RawDocument<'a>,
     alloc: Global,
@@ -55,7 +55,7 @@ pub fn get_of_document<'a>(
     }
 }
 
-/// The answer of the array's getter for this kind.
+/// The result of the array's getter for this kind.
 pub fn get_of_array<'a>(
     view: RawArray<'a>,
     alloc: Global,

@@ -1,4 +1,4 @@
-//! Documents, and whether keys stand in them.
+//! Documents, and whether they have keys.
 
 use crate::documents::*;
 use crate::faults::*;
@@ -14,13 +14,13 @@ const TWENTY_AT_B: Fault<'static> = Fault {
     text: "error at key \"b\": malformed value: \"invalid tag: 20\"",
 };
 
-/// Documents, each with a key: whether it stands there, or the stop where it doesn't.
+/// Documents, each with a key: whether it is there, or the stop where it isn't.
 pub const KEY_ANSWERS: [(&[u8], &str, Result<bool, Fault<'static>>); 18] = [
     (EMPTY, "", Ok(false)),
     (GREETING, "hi", Ok(true)),
     (GREETING, "h", Ok(false)),
     (THREE_INT32, "c", Ok(true)),
-    // a key before the stop, that of the stop itself, and one that stands nowhere
+    // a key before the stop, that of the stop itself, and one that is nowhere
     (NULL_BEFORE_TAG_TWENTY, "a", Ok(true)),
     (NULL_BEFORE_TAG_TWENTY, "b", Err(TWENTY_AT_B)),
     (NULL_BEFORE_TAG_TWENTY, "c", Err(TWENTY_AT_B)),

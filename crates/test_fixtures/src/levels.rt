@@ -32,7 +32,7 @@ impl Holder {
         frame.wrapping_add(key_len)
     }
 
-    /// Writes what stands in a level of this length before the next one.
+    /// Writes what is in a level of this length before the next one.
     fn push_head(
         self,
         bytes: &mut Vec<u8>,
@@ -99,7 +99,7 @@ fn nested_under(
     Ok(bytes)
 }
 
-/// Whether so many documents stand one inside the other under the empty key, and the innermost holds an empty one.
+/// Whether so many documents are one inside the other under the empty key, and the innermost holds an empty one.
 pub fn has_levels(tree: &Document, levels: usize) -> bool {
     let mut level = tree;
     for _ in 0..levels {
@@ -132,7 +132,7 @@ fn first_value(document: &Document) -> Option<&Bson> {
     }
 }
 
-/// How many values stand one inside the other, each the first of what the one before it holds; at most so many are
+/// How many values are one inside the other, each the first of what the one before it holds; at most so many are
 /// counted.
 pub fn levels_inside(tree: &Document, most: usize) -> usize {
     let mut level = first_value(tree);

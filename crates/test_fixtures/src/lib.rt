@@ -1,5 +1,5 @@
-//! What `view_tests`, `bson_tests`, `tree_tests` and `memory_tests` share: bytes and the faults that stand in them, a
-//! value of each kind, the getters by kind, and checks of answers. A check answers a `Mismatch`, which `?` makes the
+//! What `view_tests`, `bson_tests`, `tree_tests` and `memory_tests` share: bytes and the faults that are in them, a
+//! value of each kind, the getters by kind, and checks of results. A check returns a `Mismatch`, which `?` makes the
 //! failure of a test.
 #![tactic(auto)]
 

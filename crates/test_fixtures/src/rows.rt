@@ -15,7 +15,7 @@ impl Checks {
         }
     }
 
-    /// The look-up of this key in the document of these bytes has the wanted answer.
+    /// The look-up of this key in the document of these bytes has the wanted result.
     pub fn look_up(self, bytes: &[u8], key: &str, want: Want<'_>) -> Result<(), Mismatch> {
         match RawDocument::from_bytes(bytes) {
             Ok(document) => self.answer(document.get(self.alloc, key), want, bytes),
@@ -23,7 +23,7 @@ impl Checks {
         }
     }
 
-    /// The item with this number in the array of these bytes is the wanted answer.
+    /// The item with this number in the array of these bytes is the wanted result.
     pub fn position(self, bytes: &[u8], index: usize, want: Want<'_>) -> Result<(), Mismatch> {
         match array_view(bytes) {
             Ok(array) => self.answer(array.get(self.alloc, index), want, bytes),
@@ -31,7 +31,7 @@ impl Checks {
         }
     }
 
-    /// Whether the key stands in the document of these bytes is answered as it is wanted.
+    /// The document of these bytes says as wanted whether it has the key.
     pub fn key(
         self,
         bytes: &[u8],
@@ -65,7 +65,7 @@ impl Checks {
         }
     }
 
-    /// Both calls that read the value of the first element of these bytes answer the wanted one.
+    /// Both calls that read the value of the first element of these bytes return the wanted one.
     pub fn first(self, bytes: &[u8], want: Want<'_>) -> Result<(), Mismatch> {
         match RawDocument::from_bytes(bytes) {
             Ok(document) => self.first_value(document, want),

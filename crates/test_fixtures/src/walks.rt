@@ -4,7 +4,7 @@ use crate::checks::{Checks, Mismatch, Want};
 use raw_view::{ElementType, RawArray, RawBsonRef, RawDocument, RawElement};
 
 impl Checks {
-    /// Iteration over the document yields just these keys and answers, and iteration over its array just these answers.
+    /// Iteration over the document yields just these keys and results, and iteration over its array just these results.
     pub fn items(
         self,
         document: RawDocument<'_>,
@@ -104,7 +104,7 @@ impl Checks {
         self.answer(answer, stop, bytes)
     }
 
-    /// Both calls that read the value of the document's first element answer the wanted one.
+    /// Both calls that read the value of the document's first element return the wanted one.
     pub fn first_value(self, document: RawDocument<'_>, want: Want<'_>) -> Result<(), Mismatch> {
         let bytes = document.as_bytes();
         match document.iter_elements(self.alloc).next() {

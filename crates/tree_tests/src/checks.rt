@@ -5,7 +5,7 @@ use raw_bson::{Bson, RawBson, RawDocumentBuf};
 use std::alloc::Global;
 use std::test::Fail;
 
-/// The answer is these bytes.
+/// The result is these bytes.
 pub(crate) fn check_written(answer: raw_bson::Result<Vec<u8>>, bytes: &[u8]) -> Result<(), Fail> {
     match answer {
         Ok(written) => check_bytes(written.as_slice(), bytes, "written"),
@@ -13,7 +13,7 @@ pub(crate) fn check_written(answer: raw_bson::Result<Vec<u8>>, bytes: &[u8]) -> 
     }
 }
 
-/// The answer is a buffer of these bytes.
+/// The result is a buffer of these bytes.
 pub(crate) fn check_buffer(
     answer: raw_bson::Result<RawDocumentBuf>,
     bytes: &[u8],

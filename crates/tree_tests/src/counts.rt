@@ -11,7 +11,7 @@ use std::alloc::Global;
 use std::test::Fail;
 use test_fixtures::*;
 
-/// So many elements are framed, and the answer is this tree, as it is where nothing is counted.
+/// So many elements are framed, and the result is this tree, as it is where nothing is counted.
 fn check_count(alloc: Global, bytes: &[u8], count: usize, wanted: &Document) -> Result<(), Fail> {
     let view = RawDocument::from_bytes(bytes)?;
     let (answer, steps) = document_from_raw_counted(alloc, view);
@@ -54,7 +54,7 @@ const FAULTS: &[(&[u8], usize, Reason, Option<&str>)] = &[
     (NESTED_STOP, 2, Reason::Overflowed, None),
 ];
 
-/// So many elements are framed, and the answer is this fault, as it is where nothing is counted.
+/// So many elements are framed, and the result is this fault, as it is where nothing is counted.
 fn check_count_of_fault(
     alloc: Global,
     bytes: &[u8],

@@ -7,7 +7,7 @@ use std::mem;
 use std::test::Fail;
 use test_fixtures::*;
 
-// A stack of 8 MB has eight bytes for each of a million levels, so what bears a million takes none for a level.
+// A stack of 8 MB has eight bytes for each of a million levels, so what works for a million takes none for a level.
 // `bin/test` also counts what these tests ask for, and that all of it is released. `rt try --test` needs a greater stack
 // and minutes for them.
 
@@ -30,7 +30,7 @@ fn million_levels(alloc: Global, holders: &[Holder]) -> Result<Document, Fail> {
     Ok(tree)
 }
 
-/// A million levels come back, and are let go.
+/// A million levels come back, and are dropped.
 fn check_levels_come_back(alloc: Global, holders: &[Holder]) -> Result<(), Fail> {
     let _tree = million_levels(alloc, holders)?;
     Ok(())
@@ -56,7 +56,7 @@ fn a_million_levels_in_turn_come_back(rt: HostRuntime) -> Result<(), Fail> {
     check_levels_come_back(rt.alloc(), IN_TURN)
 }
 
-/// The same levels, which are never let go: what `bin/test` compares the requests for memory with.
+/// The same levels, which are never dropped: what `bin/test` compares the requests for memory with.
 #[test]
 fn a_million_levels_in_turn_are_forgotten(rt: HostRuntime) -> Result<(), Fail> {
     mem::forget(million_levels(rt.alloc(), IN_TURN)?);
@@ -192,7 +192,7 @@ fn levels_are_compared(rt: HostRuntime) -> Result<(), Fail> {
     Ok(())
 }
 
-/// A text of levels: what stands before and behind the levels, before and behind the next one in each, and in the last.
+/// A text of levels: what is before and behind the levels, before and behind the next one in each, and in the last.
 struct LevelsText {
     outside: (&'static str, &'static str),
     around: (&'static str, &'static str),
@@ -230,12 +230,12 @@ const TEXTS: &[(Holder, LevelsText)] = &[
     ),
 ];
 
-/// What stands between these two, where they begin and end the text.
+/// What is between these two, where they begin and end the text.
 fn inside<'a>(text: &'a str, around: (&str, &str)) -> Option<&'a str> {
     text.strip_prefix(around.0)?.strip_suffix(around.1)
 }
 
-/// What stands in so many levels, where each has these two around the next one.
+/// What is in so many levels, where each has these two around the next one.
 fn inside_levels<'a>(text: &'a str, around: (&str, &str), levels: usize) -> Option<&'a str> {
     let mut rest = text;
     for _ in 0..levels {

@@ -21,7 +21,7 @@ fn limits(bytes: usize, depth: usize) -> Limits {
     Limits { bytes, depth }
 }
 
-/// Within these limits the call, and that of a buffer of the same bytes, answers this tree, as the call without limits.
+/// Within these limits the call, and that of a buffer of the same bytes, returns this tree, as the call without limits.
 fn check_read_within(
     alloc: Global,
     bytes: &[u8],
@@ -46,7 +46,7 @@ fn check_read_within_as(
     check_read_within(alloc, bytes, limits, &wanted)
 }
 
-/// The answer within these limits is a refusal for this reason, without a key.
+/// The result within these limits is a refusal for this reason, without a key.
 fn check_refusal(
     answer: raw_bson::Result<Document>,
     limits: Limits,

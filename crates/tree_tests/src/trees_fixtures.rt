@@ -26,7 +26,7 @@ pub(crate) fn text(alloc: Global, text: &str) -> Result<Bson, Fail> {
     Ok(Bson::String(String::from_str(alloc, text)?))
 }
 
-/// The pattern `p` with these options as they stand.
+/// The pattern `p` with these options as they are.
 pub(crate) fn regex(alloc: Global, options: &str) -> Result<Regex, Fail> {
     Ok(Regex {
         pattern: String::from_str(alloc, "p")?,

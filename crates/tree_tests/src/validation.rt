@@ -18,7 +18,7 @@ const AT_THE_ROOT: &[Row] = &[
     (b"\x10\0\0\0\x0An\0\x0Bb\0a\0mi\0\0", &[1], Cause::Options),
 ];
 
-/// Breaches behind a null in an array, which stands behind a null.
+/// Breaches behind a null in an array, which is behind a null.
 const IN_AN_ARRAY: &[Row] = &[
     // an element of no kind, whose key is no number, too
     (
@@ -49,7 +49,7 @@ const IN_AN_ARRAY: &[Row] = &[
     ),
 ];
 
-/// Breaches behind a null in the scope of the empty code, which stands behind a null.
+/// Breaches behind a null in the scope of the empty code, which is behind a null.
 const IN_A_SCOPE: &[Row] = &[
     (
         b"\x1F\0\0\0\x0An\0\x0Fc\0\x14\0\0\0\x01\0\0\0\0\x0B\0\0\0\x0Aa\0\0b\0\0\0",
@@ -79,7 +79,7 @@ const IN_A_SCOPE: &[Row] = &[
     ),
 ];
 
-/// Breaches behind a null in a document or an array, which stands behind a null in another document.
+/// Breaches behind a null in a document or an array, which is behind a null in another document.
 const TWO_LEVELS_DOWN: &[Row] = &[
     (
         b"\x1E\0\0\0\x03d\0\x16\0\0\0\x0An\0\x03e\0\x0B\0\0\0\x0Aa\0\0b\0\0\0\0",
@@ -254,7 +254,7 @@ const FORTY_UNDER_D: &[u8] = b"\x03d\0\xA5\0\0\0";
 /// How an array of 43 bytes begins under the key `l`: it holds ten nulls, two more under keys of two digits, and a 0.
 const TWELVE_UNDER_L: &[u8] = b"\x04l\0\x2B\0\0\0";
 
-/// What stands between the header of a document and its final 0; the path to its first breach, and why it is one.
+/// What is between the header of a document and its final 0; the path to its first breach, and why it is one.
 type LongRow = (&'static [&'static [u8]], &'static [usize], Cause);
 
 /// Breaches behind many elements, or behind a level of many.
@@ -340,7 +340,7 @@ const LONG_BREACHES: &[LongRow] = &[
     ),
 ];
 
-/// What stands between the header of a canonical document and its final 0.
+/// What is between the header of a canonical document and its final 0.
 const LONG_CANONICAL: &[&[&[u8]]] = &[
     &[THIRTY_TWO],
     &[THIRTY_TWO, b"\x0A32\0"],

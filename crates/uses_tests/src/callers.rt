@@ -68,7 +68,7 @@ fn is_document(answer: Result<Option<RawBsonRef<'_>>>) -> bool {
     }
 }
 
-/// Paths, and whether a null stands there; else nothing does.
+/// Paths, and whether a null is there; else nothing is.
 const PATHS: &[(&[&str], bool)] = &[
     (&["a", "b"], true),
     (&["a", "c"], false),
@@ -151,7 +151,7 @@ fn a_tree_is_kept_once(rt: HostRuntime) {
     assert!(rt; is_kept_once(rt.alloc(), &mut Shelf::new(rt.alloc())));
 }
 
-/// An empty document, one with a repeated key, and four bytes at which none stands.
+/// An empty document, one with a repeated key, and four bytes, at which there is none.
 const DUMP: &[u8] = b"\x05\0\0\0\0\x13\0\0\0\x10a\0\x01\0\0\0\x10a\0\x02\0\0\0\0\x05\0\0\0";
 
 /// Whether these are the empty document and the one with a repeated key.

@@ -14,7 +14,7 @@ fn user(alloc: Global, name: &str, age: i32) -> Result<RawDocumentBuf> {
     Ok(user)
 }
 
-/// The filter that wants this of what stands under the key.
+/// The filter that wants this of what is under the key.
 fn under(
     alloc: Global,
     key: &str,

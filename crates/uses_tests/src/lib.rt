@@ -1,4 +1,4 @@
-//! Tests of `raw_shelf` and `bson_uses` through their public calls. They stand apart, so that neither is proved twice.
+//! Tests of `raw_shelf` and `bson_uses` through their public calls, apart from them, so that neither is proved twice.
 #![tactic(auto)]
 
 #[cfg(test)]

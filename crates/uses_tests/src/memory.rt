@@ -3,7 +3,7 @@ use raw_bson::RawDocumentBuf;
 use raw_shelf::{PutError, Shelf};
 use std::process::Abort;
 
-/// Whether the put into the empty shelf stores the document, or wants memory and leaves the shelf empty.
+/// Whether the put into the empty shelf stores the document, or runs out of memory and leaves the shelf empty.
 fn is_stored(shelf: &mut Shelf, document: RawDocumentBuf) -> bool {
     match shelf.put(document) {
         Ok(is_new) => is_new && shelf.len() == 1,

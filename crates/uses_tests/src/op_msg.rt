@@ -28,8 +28,8 @@ fn body<'a>(message: &Message<'a>) -> Option<RawDocument<'a>> {
 #[test]
 fn a_command_is_read(rt: HostRuntime) -> std::result::Result<(), Fail> {
     let message = read_message(rt.alloc(), PING)?;
-    assert!(rt; message.header.request_id == 7 && message.header.response_to == 0);
-    assert!(rt; message.header.flags == 0 && message.checksum.is_empty());
+    assert!(rt; message.request_id == 7 && message.response_to == 0);
+    assert!(rt; message.flags == 0 && message.checksum.is_empty());
     match body(&message) {
         Some(document) => {
             assert!(rt; document.get_i32(rt.alloc(), "ping") == Ok(1));
@@ -65,9 +65,20 @@ fn are_two(sections: &[Section<'_>]) -> bool {
 #[test]
 fn a_sequence_and_a_checksum_are_read(rt: HostRuntime) -> std::result::Result<(), Fail> {
     let message = read_message(rt.alloc(), SEQUENCE)?;
-    assert!(rt; message.header.response_to == 1);
+    assert!(rt; message.response_to == 1);
     assert!(rt; are_two(&message.sections));
     assert!(rt; message.checksum == b"\x01\x02\x03\x04".as_slice());
+    Ok(())
+}
+
+/// An empty body under flags that a reader may not know, and those that it does but for the checksum's.
+const FLAGGED: &[u8] = b"\x1A\0\0\0\x01\0\0\0\0\0\0\0\xDD\x07\0\0\x02\0\xFF\xFF\0\x05\0\0\0\0";
+
+#[test]
+fn flags_above_the_lower_half_may_be_unknown(rt: HostRuntime) -> std::result::Result<(), Fail> {
+    let message = read_message(rt.alloc(), FLAGGED)?;
+    assert!(rt; message.flags == 0xFFFF_0002);
+    assert!(rt; body(&message).is_some_and(|document| document.is_empty()));
     Ok(())
 }
 
@@ -84,6 +95,14 @@ const DAMAGED: &[(&[u8], MessageError)] = &[
     (
         b"\x1A\0\0\0\x01\0\0\0\0\0\0\0\xDC\x07\0\0\0\0\0\0\0\x05\0\0\0\0",
         MessageError::OtherCode,
+    ),
+    (
+        b"\x1A\0\0\0\x01\0\0\0\0\0\0\0\xDD\x07\0\0\x04\0\0\0\0\x05\0\0\0\0",
+        MessageError::UnknownFlags(4),
+    ),
+    (
+        b"\x1A\0\0\0\x01\0\0\0\0\0\0\0\xDD\x07\0\0\x02\x80\x01\0\0\x05\0\0\0\0",
+        MessageError::UnknownFlags(0x1_8002),
     ),
     (
         b"\x17\0\0\0\x01\0\0\0\0\0\0\0\xDD\x07\0\0\x01\0\0\0\0\0\0",
@@ -116,6 +135,14 @@ const DAMAGED: &[(&[u8], MessageError)] = &[
     (
         b"\x20\0\0\0\x01\0\0\0\0\0\0\0\xDD\x07\0\0\0\0\0\0\x01\x0C\0\0\0d\0\x05\0\0\0\0",
         MessageError::WrongSequenceSize,
+    ),
+    (
+        b"\x1B\0\0\0\x01\0\0\0\0\0\0\0\xDD\x07\0\0\0\0\0\0\x01\xFF\xFF\xFF\xFFd\0",
+        MessageError::WrongSequenceSize,
+    ),
+    (
+        b"\x19\0\0\0\x01\0\0\0\0\0\0\0\xDD\x07\0\0\0\0\0\0\x01\x04\0\0\0",
+        MessageError::NoIdentifier,
     ),
     (
         b"\x1D\0\0\0\x01\0\0\0\0\0\0\0\xDD\x07\0\0\0\0\0\0\x01\x08\0\0\0docs",

@@ -19,7 +19,7 @@ pub(crate) fn document(alloc: Global, bytes: &[u8]) -> Result<RawDocumentBuf> {
     RawDocumentBuf::from_bytes(Vec::from_slice(alloc, bytes)?)
 }
 
-/// What the put of these bytes answers; want of memory where there was none for the bytes.
+/// What the put of these bytes returns; out of memory where there was none for the bytes.
 fn put(alloc: Global, shelf: &mut Shelf, bytes: &[u8]) -> std::result::Result<bool, PutError> {
     match document(alloc, bytes) {
         Ok(document) => shelf.put(document),
@@ -27,7 +27,7 @@ fn put(alloc: Global, shelf: &mut Shelf, bytes: &[u8]) -> std::result::Result<bo
     }
 }
 
-/// Whether the put of these bytes answers this.
+/// Whether the put of these bytes returns this.
 fn is_put(alloc: Global, shelf: &mut Shelf, bytes: &[u8], wanted: bool) -> bool {
     match put(alloc, shelf, bytes) {
         Ok(is_new) => is_new == wanted,
@@ -80,7 +80,7 @@ fn put_all(rt: &impl Abort, alloc: Global, shelf: &mut Shelf) {
     assert!(rt; is_put(alloc, shelf, EMPTY_DOCUMENT, true));
 }
 
-/// The documents that stand there then.
+/// The documents that are there then.
 fn assert_in_order(rt: &impl Abort, shelf: &Shelf) {
     assert!(rt; shelf.len() == 3);
     assert!(rt; !shelf.is_empty());
@@ -104,7 +104,7 @@ fn numbered(alloc: Global, number: i32) -> Result<RawDocumentBuf> {
     Ok(document)
 }
 
-/// Whether the put of this number answers this.
+/// Whether the put of this number returns this.
 fn is_number_put(alloc: Global, shelf: &mut Shelf, number: i32, wanted: bool) -> bool {
     match numbered(alloc, number) {
         Ok(document) => match shelf.put(document) {
@@ -115,7 +115,7 @@ fn is_number_put(alloc: Global, shelf: &mut Shelf, number: i32, wanted: bool) ->
     }
 }
 
-/// The first of ten thousand numbers, if there is one, whose put doesn't answer this.
+/// The first of ten thousand numbers, if there is one, whose put doesn't return this.
 fn first_wrong(alloc: Global, shelf: &mut Shelf, is_new: bool) -> Option<i32> {
     for number in 0..10_000 {
         if !is_number_put(alloc, shelf, number, is_new) {

@@ -6,7 +6,7 @@ const NULL: Want<'static> = Want::Value(RawBsonRef::Null);
 
 const SEVEN: Want<'static> = Want::Value(RawBsonRef::Int32(7));
 
-/// Arrays, each with an index and what stands there. The faults and the stop are counted too.
+/// Arrays, each with an index and what is there. The faults and the stop are counted too.
 const POSITIONS: [(&[u8], usize, Want<'static>); 22] = [
     (EMPTY, 0, Want::Nothing),
     (EMPTY, 1, Want::Nothing),

@@ -6,7 +6,7 @@ use std::process::Abort;
 const FORTY: &[u8] = b"\x05b\0\x20\0\0\0\x80\
 01234567890123456789012345678901";
 
-/// Characters of two, three and four bytes, and a byte that stands in no text.
+/// Characters of two, three and four bytes, and a byte that is in no text.
 const INSERTS: &[&[u8]] = &[b"\xC3\xA9", b"\xE2\x82\xAC", b"\xF0\x9F\x98\x80", b"\xFF"];
 
 /// So many letters, and these bytes at a place among them.
@@ -128,7 +128,7 @@ fn are_letters_read(alloc: Global, count: usize, place: usize, insert: &[u8]) ->
     }
 }
 
-/// Texts of so many letters, as they stand, and with each insert at each place.
+/// Texts of so many letters, as they are, and with each insert at each place.
 fn assert_all_read(rt: &impl Abort, alloc: Global, count: usize) {
     assert!(rt; are_letters_read(alloc, count, count, b""), "{count}");
     for insert in INSERTS.iter() {

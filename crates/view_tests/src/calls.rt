@@ -33,7 +33,7 @@ fn bytes_and_kinds_go_with_each_other(rt: HostRuntime) {
     }
 }
 
-/// What an accessor answers, as a value of its kind.
+/// What an accessor returns, as a value of its kind.
 fn shown<'a, T: Into<RawBsonRef<'a>>>(answer: Option<T>) -> Option<RawBsonRef<'a>> {
     match answer {
         Some(value) => Some(value.into()),
@@ -69,7 +69,7 @@ fn null<'a>(answer: Option<()>) -> Option<RawBsonRef<'a>> {
     }
 }
 
-/// What the accessor for this kind answers; a kind without an accessor has the answer `None`.
+/// What the accessor for this kind returns; `None` for a kind without an accessor.
 fn accessed<'a>(value: RawBsonRef<'a>, kind: ElementType) -> Option<RawBsonRef<'a>> {
     match kind {
         ElementType::Double => shown(value.as_f64()),
@@ -93,7 +93,7 @@ fn accessed<'a>(value: RawBsonRef<'a>, kind: ElementType) -> Option<RawBsonRef<'
     }
 }
 
-/// Whether the accessor asked for answers the value where it is that of its kind, and nothing elsewhere.
+/// Whether the accessor asked for returns the value where it is that of its kind, and nothing elsewhere.
 fn is_accessed(value: RawBsonRef<'_>, kind: ElementType, asked: ElementType) -> bool {
     match accessed(value, asked) {
         Some(found) => asked == kind && has_accessor(kind) && found == value,
@@ -109,7 +109,7 @@ fn is_value(value: RawBsonRef<'_>, kind: ElementType) -> bool {
     }
 }
 
-/// The value is that of this kind; the accessor for its kind answers it, and no other does.
+/// The value is that of this kind; the accessor for its kind returns it, and no other does.
 fn assert_kind(rt: &impl Abort, value: RawBsonRef<'_>, kind: ElementType) {
     assert!(rt; is_value(value, kind), "{kind:?}");
     for (_, asked) in KINDS.iter() {

@@ -68,7 +68,7 @@ fn twelve_getters_without_a_value(rt: HostRuntime) -> Result<(), Fail> {
     Ok(())
 }
 
-/// A fault under a key is answered, though a good value stands under it further on.
+/// A fault under a key is returned, though a good value is under it further on.
 #[test]
 fn a_getter_answers_the_fault_under_a_later_good_key(rt: HostRuntime) -> Result<(), Fail> {
     let invalid = NoValue::Invalid(TWO_AT_A);

@@ -134,7 +134,7 @@ fn elements_are_framed_and_not_looked_into(rt: HostRuntime) -> Result<(), Fail> 
     Ok(())
 }
 
-/// Documents, each with a key and the answer of its look-up.
+/// Documents, each with a key and the result of its look-up.
 const LOOK_UPS: [(&[u8], &str, Want<'static>); 28] = [
     (EMPTY, "", Want::Nothing),
     (GREETING, "hi", Want::Value(RawBsonRef::String("y'all"))),
@@ -196,7 +196,7 @@ fn look_ups_answer_the_first_element_of_a_key(rt: HostRuntime) -> Result<(), Fai
     Ok(())
 }
 
-/// Documents, each with the answer of its first element.
+/// Documents, each with the result of its first element.
 const FIRST_VALUES: [(&[u8], Want<'static>); 8] = [
     (GREETING, Want::Value(RawBsonRef::String("y'all"))),
     (SWALLOWED_TERMINATOR, Want::Value(RawBsonRef::Null)),

@@ -163,7 +163,7 @@ fn every_kind_is_printed_by_its_name(rt: HostRuntime) {
     assert!(rt; has_name(rt.alloc(), ElementType::Boolean, "Boolean"));
 }
 
-/// Whether the error says that no memory was left, and has no key.
+/// Whether the error is out of memory, and has no key.
 fn is_want_of_memory(error: &Error) -> bool {
     matches!(error.kind, ErrorKind::OutOfMemory) && error.key().is_none()
 }

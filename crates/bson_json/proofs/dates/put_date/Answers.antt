@@ -24,4 +24,8 @@ returns-then-millis-le-LAST_MILLIS g c =
     let relaxed : c.args.format ≡ Relaxed = search rules in
     let size : c.unsigned_abs.result ≡ unsigned_abs z = first_of (search rules, cc) in
     let date = dated z (A ++ (instant ++ C)) instant low high (subst (λ (n : ℕ). IsInstantText n instant) size is) refl in
-    on_ok c.put-then-millis-le-LAST_MILLIS.result _ _ (λ (p : Appends two new C). (A ++ (instant ++ C), subst (λ (f : Format). IsDateJson f z (A ++ (instant ++ C))) (sym relaxed) date, Appends-trans old one new A (instant ++ C) c.in_ok-put.ensures (Appends-trans one two new instant C put p))) c.put-then-millis-le-LAST_MILLIS.ensures
+    on_ok c.put-then-millis-le-LAST_MILLIS.result _ _ (λ (p : Appends two new C). (
+      A ++ (instant ++ C),
+      subst (λ (f : Format). IsDateJson f z (A ++ (instant ++ C))) (sym relaxed) date,
+      Appends-trans old one new A (instant ++ C) c.in_ok-put.ensures (Appends-trans one two new instant C put p),
+    )) c.put-then-millis-le-LAST_MILLIS.ensures

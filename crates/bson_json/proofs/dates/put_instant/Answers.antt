@@ -16,7 +16,11 @@ returns-in-0 g c =
     let old = g.W.Write.contents c.args.out.now in
     let mid = g.W.Write.contents c.put.new.out in
     let new = g.W.Write.contents c.put-in-0.new.out in
-    on_ok c.put-in-0.result _ _ (λ (p : Appends mid new (codes "Z")). (c.seconds.result ++ codes "Z", instant_text millis d c.seconds.result (codes "Z") day front (no_fraction (millis % 1000) c.in-0.is), Appends-trans old mid new c.seconds.result (codes "Z") c.in_ok-put.ensures p)) c.put-in-0.ensures
+    on_ok c.put-in-0.result _ _ (λ (p : Appends mid new (codes "Z")). (
+      c.seconds.result ++ codes "Z",
+      instant_text millis d c.seconds.result (codes "Z") day front (no_fraction (millis % 1000) c.in-0.is),
+      Appends-trans old mid new c.seconds.result (codes "Z") c.in_ok-put.ensures p,
+    )) c.put-in-0.ensures
 
 pub returns-in_default : goal.returns-in_default
 returns-in_default g c =
@@ -29,4 +33,10 @@ returns-in_default g c =
     let new = g.W.Write.contents c.put_bytes_between.new.out in
     let some : ¬ (millis % 1000 ≡ 0) = search rules in
     let behind = c.fraction.result ++ codes "Z" in
-    on_ok c.put_bytes_between.result _ _ (λ (p : Appends mid new behind). (c.seconds.result ++ behind, instant_text millis d c.seconds.result behind day front (some_fraction (millis % 1000) c.fraction.result some c.fraction.ensures), Appends-trans old mid new c.seconds.result behind c.in_ok-put.ensures p)) c.put_bytes_between.ensures
+    on_ok c.put_bytes_between.result _ _ (λ (p : Appends mid new behind). (
+      c.seconds.result ++ behind,
+      instant_text millis d c.seconds.result behind day front
+          (some_fraction (millis % 1000) c.fraction.result some c.fraction.ensures),
+      Appends-trans old mid new c.seconds.result behind c.in_ok-put.ensures p,
+    ))
+    c.put_bytes_between.ensures

@@ -15,4 +15,5 @@ returns-in_ok-put_sign-in-Finite g c =
     let same : text ≡ finite_text (decimal c.in-Finite.coefficient) n =
     ap (λ (t : List ℕ). finite_text t c.from.result) (c.as_bytes.ensures.value ∙ c.format.ensures.text) ∙ ap (λ (k : ℕ). finite_text (decimal c.in-Finite.coefficient) k) c.from.ensures in
     let whole : sign ++ text ≡ decimal_text c.args.parts = ap (λ (t : List ℕ). sign ++ t) same ∙ ap decimal_text (sym c.in-Finite.is) in
-    on_ok c.put_finite.result _ _ (λ (p : Appends mid new text). whole_put (g.W.Write.contents c.args.out.now) mid new sign text (decimal_text c.args.parts) c.in_ok-put_sign-in-Finite.ensures p whole) c.put_finite.ensures
+    on_ok c.put_finite.result _ _ (λ (p : Appends mid new text). whole_put (g.W.Write.contents c.args.out.now) mid new sign text
+    (decimal_text c.args.parts) c.in_ok-put_sign-in-Finite.ensures p whole) c.put_finite.ensures

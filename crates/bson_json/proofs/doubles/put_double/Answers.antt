@@ -12,7 +12,8 @@ returns-then-is_finite g c =
     let x = from_bits binary64 c.args.bits in
     let text = c.text_of-is_finite.result.1.now in
     let is = relaxed_finite x text (sym c.text_of-is_finite.ensures.finite ∙ c.if-is_finite.true) c.text_of-is_finite.ensures.text in
-    on_ok c.put_words.result _ _ (λ (p : Appends (g.W.Write.contents c.args.out.now) (g.W.Write.contents c.put_words.new.out) text). (text, subst (λ (f : Format). IsDoubleJson f x text) (sym c.in-Relaxed.is) is, p)) c.put_words.ensures
+    on_ok c.put_words.result _ _ (λ (p : Appends (g.W.Write.contents c.args.out.now) (g.W.Write.contents c.put_words.new.out) text).
+    (text, subst (λ (f : Format). IsDoubleJson f x text) (sym c.in-Relaxed.is) is, p)) c.put_words.ensures
 
 pub returns-else-is_finite : goal.returns-else-is_finite
 returns-else-is_finite g c =
@@ -20,4 +21,6 @@ returns-else-is_finite g c =
     let number = c.text_of-is_finite.result.1.now in
     let text = wrapped_double number in
     let is = relaxed_other x text (sym c.text_of-is_finite.ensures.finite ∙ c.if-is_finite.false) (number, c.text_of-is_finite.ensures.text, refl) in
-    on_ok c.put_wrapped-else-is_finite.result _ _ (λ (p : Appends (g.W.Write.contents c.args.out.now) (g.W.Write.contents c.put_wrapped-else-is_finite.new.out) text). (text, subst (λ (f : Format). IsDoubleJson f x text) (sym c.in-Relaxed.is) is, p)) c.put_wrapped-else-is_finite.ensures
+    on_ok c.put_wrapped-else-is_finite.result _ _ (λ (p : Appends (g.W.Write.contents c.args.out.now)
+    (g.W.Write.contents c.put_wrapped-else-is_finite.new.out) text). (text, subst (λ (f : Format). IsDoubleJson f x text) (sym c.in-Relaxed.is) is, p))
+    c.put_wrapped-else-is_finite.ensures

@@ -18,12 +18,20 @@ chunks-preserved g c =
     let b = c.args.bytes.now in
     let at = c.chunks.at in
     let within : at + 192 ≤ length b = omega (arith, c.chunks.invariant.0, c.chunks-test.true) in
-    let groups : (at + 192) % 3 ≡ 0 = omega (arith, c.chunks.invariant.1) in
-    (within, groups, whole_put (g.W.Write.contents c.args.out.now) (g.W.Write.contents c.chunks.out) (g.W.Write.contents c.put_chunk.new.out) (encode_of standard (take at b)) (encode_of standard (take (at + 192 - at) (drop at b))) (encode_of standard (take (at + 192) b)) c.chunks.invariant.2 c.in_ok-put_chunk.ensures (chunk_put b at 192 (at + 192 - at) c.chunks.invariant.0 c.chunks.invariant.1 (omega arith)))
+    let groups : (at + 192) % 3 ≡ 0 = omega (arith, c.chunks.invariant.1) in (
+      within,
+      groups,
+      whole_put (g.W.Write.contents c.args.out.now) (g.W.Write.contents c.chunks.out) (g.W.Write.contents c.put_chunk.new.out)
+          (encode_of standard (take at b)) (encode_of standard (take (at + 192 - at) (drop at b)))
+          (encode_of standard (take (at + 192) b)) c.chunks.invariant.2 c.in_ok-put_chunk.ensures
+          (chunk_put b at 192 (at + 192 - at) c.chunks.invariant.0 c.chunks.invariant.1 (omega arith)),
+    )
 
 pub returns : goal.returns
 returns g c =
     let b = c.args.bytes.now in
     let at = c.chunks.at in
     let last : List ℕ = encode_of standard (take (length b - at) (drop at b)) in
-    on_ok c.put_chunk-2.result _ _ (λ (p : Appends (g.W.Write.contents c.chunks.out) (g.W.Write.contents c.put_chunk-2.new.out) last). whole_put (g.W.Write.contents c.args.out.now) (g.W.Write.contents c.chunks.out) (g.W.Write.contents c.put_chunk-2.new.out) (encode_of standard (take at b)) last (encode_of standard b) c.chunks.invariant.2 p (last_chunk b at c.chunks.invariant.0 c.chunks.invariant.1)) c.put_chunk-2.ensures
+    on_ok c.put_chunk-2.result _ _ (λ (p : Appends (g.W.Write.contents c.chunks.out) (g.W.Write.contents c.put_chunk-2.new.out) last). whole_put
+    (g.W.Write.contents c.args.out.now) (g.W.Write.contents c.chunks.out) (g.W.Write.contents c.put_chunk-2.new.out) (encode_of standard (take at b)) last
+    (encode_of standard b) c.chunks.invariant.2 p (last_chunk b at c.chunks.invariant.0 c.chunks.invariant.1)) c.put_chunk-2.ensures

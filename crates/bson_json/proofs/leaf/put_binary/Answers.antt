@@ -17,4 +17,7 @@ returns g c =
     let bytes = encode_of standard c.args.binary.bytes.now in
     let tail = λ (d : List ℕ). codes "\",\"subType\":\"" ++ (d ++ codes "\"}}") in
     let digits : c.encode_to_slice.new.output ≡ encode_lower (subtype_byte c.args.binary.subtype ∷ []) = c.in-Ok.ensures.written ∙ ap (λ (n : ℕ). encode_lower (n ∷ [])) c.to_u8.ensures in
-    on_ok c.put_bytes_between.result _ _ (λ (p : Appends two new (tail c.encode_to_slice.new.output)). subst (λ (d : List ℕ). Appends old new (codes "{\"$binary\":{\"base64\":\"" ++ (bytes ++ tail d))) digits (Appends-trans old one new (codes "{\"$binary\":{\"base64\":\"") (bytes ++ tail c.encode_to_slice.new.output) c.in_ok-put.ensures (Appends-trans one two new bytes (tail c.encode_to_slice.new.output) c.in_ok-put_base64.ensures p))) c.put_bytes_between.ensures
+    on_ok c.put_bytes_between.result _ _ (λ (p : Appends two new (tail c.encode_to_slice.new.output)). subst
+    (λ (d : List ℕ). Appends old new (codes "{\"$binary\":{\"base64\":\"" ++ (bytes ++ tail d))) digits
+    (Appends-trans old one new (codes "{\"$binary\":{\"base64\":\"") (bytes ++ tail c.encode_to_slice.new.output) c.in_ok-put.ensures
+    (Appends-trans one two new bytes (tail c.encode_to_slice.new.output) c.in_ok-put_base64.ensures p))) c.put_bytes_between.ensures

@@ -17,4 +17,6 @@ returns g c =
     let id = bytes_of_object_id c.id.result in
     let e : (A ++ (quoted ns ++ B)) ++ id_json id ≡ pointer_json (namespace_of c.args.pointer) (id_of c.args.pointer) =
     joined A (quoted ns) B (id_json id) ∙ ap (λ (n : List ℕ). pointer_json n id) c.namespace.ensures ∙ ap (λ (i : List ℕ). pointer_json (namespace_of c.args.pointer) i) c.id.ensures in
-    on_ok c.put_id.result _ _ (λ (p : Appends (g.W.Write.contents c.put_text.new.out) (g.W.Write.contents c.put_id.new.out) (id_json id)). whole_put (g.W.Write.contents c.args.out.now) (g.W.Write.contents c.put_text.new.out) (g.W.Write.contents c.put_id.new.out) (A ++ (quoted ns ++ B)) (id_json id) _ c.in_ok-put_text.ensures p e) c.put_id.ensures
+    on_ok c.put_id.result _ _ (λ (p : Appends (g.W.Write.contents c.put_text.new.out) (g.W.Write.contents c.put_id.new.out) (id_json id)). whole_put
+    (g.W.Write.contents c.args.out.now) (g.W.Write.contents c.put_text.new.out) (g.W.Write.contents c.put_id.new.out) (A ++ (quoted ns ++ B))
+    (id_json id) _ c.in_ok-put_text.ensures p e) c.put_id.ensures

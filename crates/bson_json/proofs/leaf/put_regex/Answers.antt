@@ -12,4 +12,6 @@ returns g c =
     let p = c.args.regex.pattern.now in
     let Y = quoted c.args.regex.options.now ++ codes "}}" in
     let e : (A ++ (quoted p ++ B)) ++ Y ≡ regex_json p c.args.regex.options.now = joined A (quoted p) B Y in
-    on_ok c.put_text-2.result _ _ (λ (h : Appends (g.W.Write.contents c.put_text.new.out) (g.W.Write.contents c.put_text-2.new.out) Y). whole_put (g.W.Write.contents c.args.out.now) (g.W.Write.contents c.put_text.new.out) (g.W.Write.contents c.put_text-2.new.out) (A ++ (quoted p ++ B)) Y _ c.in_ok-put_text.ensures h e) c.put_text-2.ensures
+    on_ok c.put_text-2.result _ _ (λ (h : Appends (g.W.Write.contents c.put_text.new.out) (g.W.Write.contents c.put_text-2.new.out) Y). whole_put
+    (g.W.Write.contents c.args.out.now) (g.W.Write.contents c.put_text.new.out) (g.W.Write.contents c.put_text-2.new.out)
+    (A ++ (quoted p ++ B)) Y _ c.in_ok-put_text.ensures h e) c.put_text-2.ensures

@@ -18,5 +18,9 @@ returns-in_ok-put_decimal-in-Decimal128 g c =
     let A = codes "{\"$numberDecimal\":\"" in
     let D = decimal128_text (bytes_of_decimal128 c.in-Decimal128.number) in
     let C = codes "\"}" in
-    on_ok c.put-in-Decimal128-2.result _ _ (λ (p : Appends two new C). subst (λ (v : RawBsonRef). PutsSingle c.args.format (value_of v) old new) (sym c.in-Decimal128.is)
-    (A ++ (D ++ C), refl, Appends-trans old one new A (D ++ C) c.in_ok-put-in-Decimal128.ensures (Appends-trans one two new D C c.in_ok-put_decimal-in-Decimal128.ensures p))) c.put-in-Decimal128-2.ensures
+    on_ok c.put-in-Decimal128-2.result _ _ (λ (p : Appends two new C). subst (λ (v : RawBsonRef). PutsSingle c.args.format (value_of v) old new) (sym c.in-Decimal128.is) (
+      A ++ (D ++ C),
+      refl,
+      Appends-trans old one new A (D ++ C) c.in_ok-put-in-Decimal128.ensures
+          (Appends-trans one two new D C c.in_ok-put_decimal-in-Decimal128.ensures p),
+    )) c.put-in-Decimal128-2.ensures

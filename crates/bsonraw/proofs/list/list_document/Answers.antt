@@ -12,7 +12,8 @@ pub loop-item-preserved : goal.loop-item-preserved
 loop-item-preserved c =
     let frames = c.loop-item.invariant.0 in
     let element = c.in-Ok.element in
-    let step : StepsElement c.loop-item.item-iterator (Some (Ok element)) c.next.new.self = subst (λ (x : Result RawElement Error). StepsElement c.loop-item.item-iterator (Some x) c.next.new.self) c.in-Ok.is c.in-Some.ensures.steps in (
+    let step : StepsElement c.loop-item.item-iterator (Some (Ok element)) c.next.new.self =
+    subst (λ (x : Result RawElement Error). StepsElement c.loop-item.item-iterator (Some x) c.next.new.self) c.in-Ok.is c.in-Some.ensures.steps in (
       frames ++ frame_of element ∷ [],
       HasRead-more _ frames c.loop-item.item-iterator c.next.new.self element c.loop-item.invariant.1 step,
       c.in_ok-push_element-in-Ok.ensures ∙ ap (λ lines. lines ++ frame_line (frame_of element)) c.loop-item.invariant.2 ∙ sym (frame_lines-more frames (frame_of element)),
@@ -22,7 +23,8 @@ pub returns-in-Err : goal.returns-in-Err
 returns-in-Err c =
     let frames = c.loop-item.invariant.0 in
     let error = c.in-Err.error in
-    let step : StepsElement c.loop-item.item-iterator (Some (Err error)) c.next.new.self = subst (λ (x : Result RawElement Error). StepsElement c.loop-item.item-iterator (Some x) c.next.new.self) c.in-Err.is c.in-Some.ensures.steps in
+    let step : StepsElement c.loop-item.item-iterator (Some (Err error)) c.next.new.self =
+    subst (λ (x : Result RawElement Error). StepsElement c.loop-item.item-iterator (Some x) c.next.new.self) c.in-Err.is c.in-Some.ensures.steps in
     let stop = HasRead-stop _ frames c.loop-item.item-iterator c.next.new.self error c.loop-item.invariant.1 step in
     record {
       frames = frames;

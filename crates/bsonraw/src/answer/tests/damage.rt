@@ -47,7 +47,7 @@ fn splice(alloc: Global, random: &mut Random, bytes: &mut Vec<u8>) -> Result<(),
     Ok(())
 }
 
-/// The number below 128 that stands in four bytes at this place.
+/// The number below 128 that the four bytes at this place are.
 fn number_at(bytes: &[u8], place: usize) -> Option<usize> {
     match bytes.get(place..)? {
         [number @ 0..128, 0, 0, 0, ..] => Some(usize::from(*number)),
@@ -55,7 +55,7 @@ fn number_at(bytes: &[u8], place: usize) -> Option<usize> {
     }
 }
 
-/// A place behind the header where such a number stands.
+/// A place behind the header where such a number is.
 fn place_of_number(random: &mut Random, bytes: &[u8]) -> Option<usize> {
     let start = random.below(bytes.len()).max(4);
     for place in (start..bytes.len()).chain(4..start) {
@@ -85,7 +85,7 @@ fn has_document_at(bytes: &[u8], place: usize) -> bool {
     }
 }
 
-/// A place behind the header where a document stands.
+/// A place behind the header where a document is.
 fn place_of_document(random: &mut Random, bytes: &[u8]) -> Option<usize> {
     let start = random.below(bytes.len()).max(4);
     for place in (start..bytes.len()).chain(4..start) {
@@ -137,7 +137,7 @@ fn assert_damaged(rt: &impl Abort, alloc: Global, damage: Damage, count: u32) ->
     Ok(())
 }
 
-/// The document is answered as any other, and has a form.
+/// The document is printed like any other, and has a form.
 fn assert_whole(rt: &impl Abort, alloc: Global, bytes: &[u8]) -> Result<(), AllocError> {
     assert_answered(rt, alloc, bytes)?;
     assert!(rt; has_form(alloc, bytes)?, "{bytes:?}");

@@ -99,7 +99,7 @@ const DAMAGED: &[Row] = &[
     (FOUR_BYTES_OF_CODE, 0, "0f 61 4\nend\n"),
 ];
 
-/// What stands in a buffer after an append or a push onto damage.
+/// What is in a buffer after an append or a push onto damage.
 const APPENDED: &[Row] = &[
     // the swallowed terminator
     (

@@ -26,7 +26,7 @@ const BREACHES: &[Row] = &[
     (ARRAY_WITH_AN_EMPTY_KEY, 1, "breach array-key 0.0\n"),
 ];
 
-/// Whether the answer is the ample one, or status 4 and nothing.
+/// Whether the result is the one with ample memory, or status 4 and nothing.
 fn is_answer_or_nothing(
     alloc: Global,
     command: &str,

@@ -20,8 +20,10 @@ returns-then-subtype-eq2 c =
     let is = old c.args.subtype bytes c.if-subtype-eq2.true in
     let fits : at + (9 + n) ≤ length room = omega (arith, c.requires.room, ap length is) in
     let a = joined at (at + 4) (le32 (pos (n + 4))) (2 ∷ []) room c.put_len.new.room c.put_at.new.room c.put_len.ensures c.put_at.ensures refl (omega (arith, fits)) in
-    let b = joined at (at + 5) (le32 (pos (n + 4)) ++ 2 ∷ []) (le32 (pos n)) room c.put_at.new.room c.put_len-then-subtype-eq2.new.room a c.put_len-then-subtype-eq2.ensures refl (omega (arith, fits)) in
-    let d = joined at (at + 9) ((le32 (pos (n + 4)) ++ 2 ∷ []) ++ le32 (pos n)) bytes room c.put_len-then-subtype-eq2.new.room c.put_at-then-subtype-eq2.new.room b c.put_at-then-subtype-eq2.ensures refl (omega (arith, fits)) in
+    let b = joined at (at + 5) (le32 (pos (n + 4)) ++ 2 ∷ [])
+    (le32 (pos n)) room c.put_at.new.room c.put_len-then-subtype-eq2.new.room a c.put_len-then-subtype-eq2.ensures refl (omega (arith, fits)) in
+    let d = joined at (at + 9) ((le32 (pos (n + 4)) ++ 2 ∷ []) ++ le32 (pos n)) bytes room c.put_len-then-subtype-eq2.new.room
+    c.put_at-then-subtype-eq2.new.room b c.put_at-then-subtype-eq2.ensures refl (omega (arith, fits)) in
     let head : n + 4 ≡ length (inner_payload bytes) = omega arith in
     d ∙ ap (λ (k : ℕ). put_bytes at (((le32 (pos k) ++ 2 ∷ []) ++ le32 (pos n)) ++ bytes) room) head ∙ ap (λ (x : List ℕ). put_bytes at x room) (sym is)
 
@@ -33,6 +35,8 @@ returns-else-subtype-eq2 c =
     let n = length bytes in
     let is = other c.args.subtype bytes c.if-subtype-eq2.false in
     let fits : at + (5 + n) ≤ length room = omega (arith, c.requires.room, ap length is) in
-    let a = joined at (at + 4) (le32 (pos n)) (c.args.subtype ∷ []) room c.put_len-else-subtype-eq2.new.room c.put_at-else-subtype-eq2.new.room c.put_len-else-subtype-eq2.ensures c.put_at-else-subtype-eq2.ensures refl (omega (arith, fits)) in
-    let b = joined at (at + 5) (le32 (pos n) ++ c.args.subtype ∷ []) bytes room c.put_at-else-subtype-eq2.new.room c.put_at-else-subtype-eq2-2.new.room a c.put_at-else-subtype-eq2-2.ensures refl (omega (arith, fits)) in
+    let a = joined at (at + 4) (le32 (pos n)) (c.args.subtype ∷ []) room c.put_len-else-subtype-eq2.new.room c.put_at-else-subtype-eq2.new.room
+    c.put_len-else-subtype-eq2.ensures c.put_at-else-subtype-eq2.ensures refl (omega (arith, fits)) in
+    let b = joined at (at + 5) (le32 (pos n) ++ c.args.subtype ∷ []) bytes room c.put_at-else-subtype-eq2.new.room c.put_at-else-subtype-eq2-2.new.room a
+    c.put_at-else-subtype-eq2-2.ensures refl (omega (arith, fits)) in
     b ∙ ap (λ (x : List ℕ). put_bytes at x room) (sym is)

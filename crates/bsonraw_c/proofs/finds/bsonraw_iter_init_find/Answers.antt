@@ -8,5 +8,13 @@ returns c =
     let code = c.bsonraw_iter_init-code.result in
     let first = c.bsonraw_iter_init-code.new.iter in
     let found = c.bsonraw_iter_find.result in
-    let begun : code ≡ pos 0 = sym (crosses code c.bsonraw_iter_init-code.type_inv) ∙ ap (to_z w32) c.if-code-ne0.false in
-    (first, code, c.bsonraw_iter_init-code.ensures, inl (begun, subst (λ (z : ℤ). FindsOn c.args.bytes.now c.args.key.now first c.bsonraw_iter_find.new.iter z) (sym (crosses found c.bsonraw_iter_find.type_inv)) c.bsonraw_iter_find.ensures))
+    let begun : code ≡ pos 0 = sym (crosses code c.bsonraw_iter_init-code.type_inv) ∙ ap (to_z w32) c.if-code-ne0.false in (
+      first,
+      code,
+      c.bsonraw_iter_init-code.ensures,
+      inl (
+        begun,
+        subst (λ (z : ℤ). FindsOn c.args.bytes.now c.args.key.now first c.bsonraw_iter_find.new.iter z)
+            (sym (crosses found c.bsonraw_iter_find.type_inv)) c.bsonraw_iter_find.ensures,
+      ),
+    )

@@ -11,16 +11,23 @@ returns-in_default c =
     let step = c.first_step.result.0.now in
     let found = c.find_step-code.result in
     let last = subst (λ (o : Option (Bor (List ℕ))). IfNone o (c.loop-rest.path.now ≡ step)) c.in_default.is c.first_step.ensures.last in
-    let finds = subst (λ (z : ℤ). FindsStep c.args.bytes.now c.loop-rest.in_array step c.loop-rest.iter c.find_step-code.new.iter z) (sym (crosses found c.find_step-code.type_inv)) c.find_step-code.ensures in
-    path_found c.args.bytes.now c.args.path.now c.args.separator c.args.iter.now _ _ (last_step c.args.bytes.now c.args.path.now c.args.separator c.args.iter.now c.loop-rest.path.now c.loop-rest.in_array c.loop-rest.iter c.loop-rest.invariant step last c.first_step.ensures.none c.find_step-code.new.iter _ finds)
+    let finds = subst (λ (z : ℤ). FindsStep c.args.bytes.now c.loop-rest.in_array step c.loop-rest.iter c.find_step-code.new.iter z)
+    (sym (crosses found c.find_step-code.type_inv)) c.find_step-code.ensures in
+    path_found c.args.bytes.now c.args.path.now c.args.separator c.args.iter.now _ _
+    (last_step c.args.bytes.now c.args.path.now c.args.separator c.args.iter.now c.loop-rest.path.now c.loop-rest.in_array c.loop-rest.iter
+    c.loop-rest.invariant step last c.first_step.ensures.none c.find_step-code.new.iter _ finds)
 
 pub returns-then-code-ne0 : goal.returns-then-code-ne0
 returns-then-code-ne0 c =
     let step = c.first_step.result.0.now in
     let found = c.find_step-code.result in
     let more = subst (λ (o : Option (Bor (List ℕ))). IfSome o (λ rest. c.loop-rest.path.now ≡ step ++ c.args.separator ∷ rest.now)) c.in-Some.is c.first_step.ensures.more in
-    let finds = subst (λ (z : ℤ). FindsStep c.args.bytes.now c.loop-rest.in_array step c.loop-rest.iter c.find_step-code.new.iter z) (sym (crosses found c.find_step-code.type_inv)) c.find_step-code.ensures in
-    path_found c.args.bytes.now c.args.path.now c.args.separator c.args.iter.now _ _ (stops_at c.args.bytes.now c.args.path.now c.args.separator c.args.iter.now c.loop-rest.path.now c.loop-rest.in_array c.loop-rest.iter c.loop-rest.invariant step c.in-Some.rest.now more c.first_step.ensures.none c.find_step-code.new.iter _ (is_not_zero found c.find_step-code.type_inv c.if-code-ne0.true) finds)
+    let finds = subst (λ (z : ℤ). FindsStep c.args.bytes.now c.loop-rest.in_array step c.loop-rest.iter c.find_step-code.new.iter z)
+    (sym (crosses found c.find_step-code.type_inv)) c.find_step-code.ensures in
+    path_found c.args.bytes.now c.args.path.now c.args.separator c.args.iter.now _ _
+    (stops_at c.args.bytes.now c.args.path.now c.args.separator c.args.iter.now c.loop-rest.path.now c.loop-rest.in_array c.loop-rest.iter
+    c.loop-rest.invariant step c.in-Some.rest.now more c.first_step.ensures.none c.find_step-code.new.iter _
+    (is_not_zero found c.find_step-code.type_inv c.if-code-ne0.true) finds)
 
 pub returns-then-code-ne0-2 : goal.returns-then-code-ne0-2
 returns-then-code-ne0-2 c =
@@ -28,8 +35,13 @@ returns-then-code-ne0-2 c =
     let found = c.find_step-code.result in
     let begins = c.bsonraw_iter_recurse-code.result in
     let more = subst (λ (o : Option (Bor (List ℕ))). IfSome o (λ rest. c.loop-rest.path.now ≡ step ++ c.args.separator ∷ rest.now)) c.in-Some.is c.first_step.ensures.more in
-    let down = subst (λ (z : ℤ). Descends c.args.bytes.now c.find_step-code.new.iter c.bsonraw_iter_recurse-code.new.child z) (sym (crosses begins c.bsonraw_iter_recurse-code.type_inv)) c.bsonraw_iter_recurse-code.ensures in
-    path_found c.args.bytes.now c.args.path.now c.args.separator c.args.iter.now _ _ (bars_at c.args.bytes.now c.args.path.now c.args.separator c.args.iter.now c.loop-rest.path.now c.loop-rest.in_array c.loop-rest.iter c.loop-rest.invariant step c.in-Some.rest.now more c.first_step.ensures.none c.find_step-code.new.iter found c.find_step-code.ensures (is_zero found c.find_step-code.type_inv c.if-code-ne0.false) c.bsonraw_iter_recurse-code.new.child _ (is_not_zero begins c.bsonraw_iter_recurse-code.type_inv c.if-code-ne0-2.true) down)
+    let down = subst (λ (z : ℤ). Descends c.args.bytes.now c.find_step-code.new.iter c.bsonraw_iter_recurse-code.new.child z)
+    (sym (crosses begins c.bsonraw_iter_recurse-code.type_inv)) c.bsonraw_iter_recurse-code.ensures in
+    path_found c.args.bytes.now c.args.path.now c.args.separator c.args.iter.now _ _
+    (bars_at c.args.bytes.now c.args.path.now c.args.separator c.args.iter.now c.loop-rest.path.now c.loop-rest.in_array c.loop-rest.iter
+    c.loop-rest.invariant step c.in-Some.rest.now more c.first_step.ensures.none c.find_step-code.new.iter found c.find_step-code.ensures
+    (is_zero found c.find_step-code.type_inv c.if-code-ne0.false) c.bsonraw_iter_recurse-code.new.child _
+    (is_not_zero begins c.bsonraw_iter_recurse-code.type_inv c.if-code-ne0-2.true) down)
 
 pub loop-rest-preserved : goal.loop-rest-preserved
 loop-rest-preserved c =
@@ -37,4 +49,7 @@ loop-rest-preserved c =
     let found = c.find_step-code.result in
     let begins = c.bsonraw_iter_recurse-code.result in
     let more = subst (λ (o : Option (Bor (List ℕ))). IfSome o (λ rest. c.loop-rest.path.now ≡ step ++ c.args.separator ∷ rest.now)) c.in-Some.is c.first_step.ensures.more in
-    goes_in c.args.bytes.now c.args.path.now c.args.separator c.args.iter.now c.loop-rest.path.now c.loop-rest.in_array c.loop-rest.iter c.loop-rest.invariant step c.in-Some.rest.now more c.first_step.ensures.none c.find_step-code.new.iter found c.find_step-code.ensures (is_zero found c.find_step-code.type_inv c.if-code-ne0.false) c.bsonraw_iter_recurse-code.new.child begins c.bsonraw_iter_recurse-code.ensures (is_zero begins c.bsonraw_iter_recurse-code.type_inv c.if-code-ne0-2.false)
+    goes_in c.args.bytes.now c.args.path.now c.args.separator c.args.iter.now c.loop-rest.path.now c.loop-rest.in_array c.loop-rest.iter c.loop-rest.invariant
+    step c.in-Some.rest.now more c.first_step.ensures.none c.find_step-code.new.iter found c.find_step-code.ensures
+    (is_zero found c.find_step-code.type_inv c.if-code-ne0.false) c.bsonraw_iter_recurse-code.new.child begins c.bsonraw_iter_recurse-code.ensures
+    (is_zero begins c.bsonraw_iter_recurse-code.type_inv c.if-code-ne0-2.false)

@@ -14,6 +14,8 @@ returns c =
     let size = length-append key (0 ∷ payload) in
     let one = length-append key (0 ∷ []) in
     let tag = ap (λ (t : ℕ). put_bytes at (t ∷ []) room) c.to_tag.ensures in
-    let a = joined at (at + 1) (tag_of c.args.self.now.kind ∷ []) (key ++ 0 ∷ []) room c.put_at.new.room c.put_c_text.new.room (c.put_at.ensures ∙ tag) c.put_c_text.ensures refl (omega (arith, c.requires.room, size, one)) in
-    let b = joined at (at + length key + 2) (tag_of c.args.self.now.kind ∷ (key ++ 0 ∷ [])) payload room c.put_c_text.new.room c.put_payload.new.room a c.put_payload.ensures (omega (arith, one)) (omega (arith, c.requires.room, size, one)) in
+    let a = joined at (at + 1) (tag_of c.args.self.now.kind ∷ []) (key ++ 0 ∷ []) room c.put_at.new.room c.put_c_text.new.room
+    (c.put_at.ensures ∙ tag) c.put_c_text.ensures refl (omega (arith, c.requires.room, size, one)) in
+    let b = joined at (at + length key + 2) (tag_of c.args.self.now.kind ∷ (key ++ 0 ∷ [])) payload room c.put_c_text.new.room c.put_payload.new.room a
+    c.put_payload.ensures (omega (arith, one)) (omega (arith, c.requires.room, size, one)) in
     b ∙ ap (λ (x : List ℕ). put_bytes at (tag_of c.args.self.now.kind ∷ x) room) (append_assoc key (0 ∷ []) payload)

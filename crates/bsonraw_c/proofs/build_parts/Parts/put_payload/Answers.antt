@@ -13,8 +13,12 @@ returns-in-Regex c =
     let two = c.args.self.now.two.now in
     let room = c.args.room.now in
     let is = ap (λ (l : Layout). laid_out l one two) c.in-Regex.is in
-    let fits : at + ((length one + 1) + (length two + 1)) ≤ length room = omega (arith, c.requires.room, ap length is, length-append one (0 ∷ (two ++ 0 ∷ [])), length-append one (0 ∷ []), length-append two (0 ∷ [])) in
-    let a = joined at (at + length one + 1) (one ++ 0 ∷ []) (two ++ 0 ∷ []) room c.put_c_text.new.room c.put_c_text-in-Regex.new.room c.put_c_text.ensures c.put_c_text-in-Regex.ensures (omega (arith, length-append one (0 ∷ (two ++ 0 ∷ [])), length-append one (0 ∷ []), length-append two (0 ∷ []))) (omega (arith, fits, length-append one (0 ∷ (two ++ 0 ∷ [])), length-append one (0 ∷ []), length-append two (0 ∷ []))) in
+    let fits : at + ((length one + 1) + (length two + 1)) ≤ length room =
+    omega (arith, c.requires.room, ap length is, length-append one (0 ∷ (two ++ 0 ∷ [])), length-append one (0 ∷ []), length-append two (0 ∷ [])) in
+    let a = joined at (at + length one + 1) (one ++ 0 ∷ [])
+    (two ++ 0 ∷ []) room c.put_c_text.new.room c.put_c_text-in-Regex.new.room c.put_c_text.ensures c.put_c_text-in-Regex.ensures
+    (omega (arith, length-append one (0 ∷ (two ++ 0 ∷ [])), length-append one (0 ∷ []), length-append two (0 ∷ [])))
+    (omega (arith, fits, length-append one (0 ∷ (two ++ 0 ∷ [])), length-append one (0 ∷ []), length-append two (0 ∷ []))) in
     a ∙ ap (λ (x : List ℕ). put_bytes at x room) (append_assoc one (0 ∷ []) (two ++ 0 ∷ []) ∙ sym is)
 
 pub returns-in-Pointer : goal.returns-in-Pointer
@@ -25,7 +29,9 @@ returns-in-Pointer c =
     let room = c.args.room.now in
     let is = ap (λ (l : Layout). laid_out l one two) c.in-Pointer.is in
     let fits : at + ((length one + 5) + length two) ≤ length room = omega (arith, c.requires.room, ap length is, length-append (string_payload one) two, length-append one (0 ∷ [])) in
-    let a = joined at (at + length one + 5) (string_payload one) two room c.put_string-in-Pointer.new.room c.put_at-in-Pointer.new.room c.put_string-in-Pointer.ensures c.put_at-in-Pointer.ensures (omega (arith, length-append (string_payload one) two, length-append one (0 ∷ []))) (omega (arith, fits, length-append (string_payload one) two, length-append one (0 ∷ []))) in
+    let a = joined at (at + length one + 5) (string_payload one) two room c.put_string-in-Pointer.new.room c.put_at-in-Pointer.new.room
+    c.put_string-in-Pointer.ensures c.put_at-in-Pointer.ensures (omega (arith, length-append (string_payload one) two, length-append one (0 ∷ [])))
+    (omega (arith, fits, length-append (string_payload one) two, length-append one (0 ∷ []))) in
     a ∙ ap (λ (x : List ℕ). put_bytes at x room) (sym is)
 
 pub returns-in-Scoped : goal.returns-in-Scoped
@@ -38,6 +44,9 @@ returns-in-Scoped c =
     let total = 4 + (length one + 5 + length two) in
     let whole : total ≡ 4 + length (string_payload one ++ two) = omega (arith, length-append (string_payload one) two, length-append one (0 ∷ [])) in
     let fits : at + (4 + ((length one + 5) + length two)) ≤ length room = omega (arith, c.requires.room, ap length is, length-append (string_payload one) two, length-append one (0 ∷ [])) in
-    let a = joined at (at + 4) (le32 (pos total)) (string_payload one) room c.put_len.new.room c.put_string-in-Scoped.new.room c.put_len.ensures c.put_string-in-Scoped.ensures refl (omega (arith, fits, length-append (string_payload one) two, length-append one (0 ∷ []))) in
-    let b = joined at (at + length one + 9) (le32 (pos total) ++ string_payload one) two room c.put_string-in-Scoped.new.room c.put_at-in-Scoped.new.room a c.put_at-in-Scoped.ensures (omega (arith, length-append (string_payload one) two, length-append one (0 ∷ []))) (omega (arith, fits, length-append (string_payload one) two, length-append one (0 ∷ []))) in
+    let a = joined at (at + 4) (le32 (pos total)) (string_payload one) room c.put_len.new.room c.put_string-in-Scoped.new.room c.put_len.ensures
+    c.put_string-in-Scoped.ensures refl (omega (arith, fits, length-append (string_payload one) two, length-append one (0 ∷ []))) in
+    let b = joined at (at + length one + 9) (le32 (pos total) ++ string_payload one) two room c.put_string-in-Scoped.new.room c.put_at-in-Scoped.new.room a
+    c.put_at-in-Scoped.ensures (omega (arith, length-append (string_payload one) two, length-append one (0 ∷ [])))
+    (omega (arith, fits, length-append (string_payload one) two, length-append one (0 ∷ []))) in
     b ∙ ap (λ (n : ℕ). put_bytes at ((le32 (pos n) ++ string_payload one) ++ two) room) whole ∙ ap (λ (x : List ℕ). put_bytes at x room) (sym is)

@@ -21,4 +21,5 @@ invariant_of-self c =
     let b = bytes_of c.as_ref.result in
     let same : c.into_bytes.result.items ≡ b = c.into_bytes.ensures ∙ sym c.as_ref.ensures in
     let canonical : IsCanonical b = subst (TellsBreach b) c.in-Ok-None.field-0-is c.in-Ok-None.ensures.breach in
-    shelf_after c.in-Ok-None.ensures.one_spelling (items c.self.inside.documents.keys) c.into_bytes.result.items c.store.result (items c.store.new.documents.keys) c.self.invariant (rw same c.as_ref.result.envelope) (rw same canonical) c.store.ensures
+    shelf_after c.in-Ok-None.ensures.one_spelling (items c.self.inside.documents.keys) c.into_bytes.result.items c.store.result
+    (items c.store.new.documents.keys) c.self.invariant (rw same c.as_ref.result.envelope) (rw same canonical) c.store.ensures
