@@ -125,11 +125,13 @@ enum bsonraw_cause {
 #define BSONRAW_BYTE(number) static_cast<uint8_t>(number)
 #define BSONRAW_UINT32(number) static_cast<uint32_t>(number)
 #define BSONRAW_UINT64(number) static_cast<uint64_t>(number)
+#define BSONRAW_DOUBLE(number) static_cast<double>(number)
 #else
 #define BSONRAW_INT32(number) (int32_t)(number)
 #define BSONRAW_BYTE(number) (uint8_t)(number)
 #define BSONRAW_UINT32(number) (uint32_t)(number)
 #define BSONRAW_UINT64(number) (uint64_t)(number)
+#define BSONRAW_DOUBLE(number) (double)(number)
 #endif
 
 /* The version of the library: 20000 for 2.0.0. The last four digits are raised with what is added, the others with what is
@@ -173,6 +175,9 @@ struct bsonraw_iter {
 /* A key or a text as two arguments of printf, for "%.*s". */
 #define BSONRAW_TEXT(bytes, at, len) (int)(len), (const char *)(bytes) + (at)
 
+/* A literal as two arguments: a key, a path or a text, and its length. */
+#define BSONRAW_KEY(literal) (const uint8_t *)(literal), sizeof(literal) - 1
+
 /* Sets a cursor before the first element: BSONRAW_OK. Else BSONRAW_NO_DOCUMENT, and error says why.
  * BSONRAW_OK of bsonraw_iter_next says that the cursor is at the next element; BSONRAW_NONE, that there are no more;
  * BSONRAW_FAULT, that none is where the next should begin: error says why, and the key is that of the stop, if it has
@@ -189,9 +194,7 @@ BSONRAW_USE int32_t bsonraw_iter_init(struct bsonraw_iter *iter, const uint8_t *
 BSONRAW_USE int32_t bsonraw_iter_next(struct bsonraw_iter *iter, const uint8_t *bytes, size_t len);
 
 /* Sets a cursor before the first element of the document or the array that iter is at: BSONRAW_OK; BSONRAW_OTHER_KIND where
- * it is at neither. bsonraw_iter_init_at sets one before the first element of the document of document_len bytes at
- * document_at, such as a scope: BSONRAW_BAD_OFFSET where so many aren't there, or they end past 4294967295, and else
- * BSONRAW_NO_DOCUMENT where they are no document, and error says why.
+ * it is at neither.
  *
  *     struct bsonraw_iter it, child;
  *     if (bsonraw_iter_init(&it, bytes, len) == BSONRAW_OK)
@@ -199,6 +202,18 @@ BSONRAW_USE int32_t bsonraw_iter_next(struct bsonraw_iter *iter, const uint8_t *
  *             if (bsonraw_iter_recurse(&it, bytes, len, &child) == BSONRAW_OK)
  *                 while (bsonraw_iter_next(&child, bytes, len) == BSONRAW_OK)
  *                     printf("%02x\n", (unsigned)child.tag);
+ *
+ * bsonraw_iter_init_at sets one before the first element of the document of document_len bytes at document_at, such as a
+ * scope: BSONRAW_BAD_OFFSET where so many aren't there, or they end past 4294967295, and else BSONRAW_NO_DOCUMENT where they
+ * are no document, and error says why.
+ *
+ *     struct bsonraw_iter it, scope;
+ *     struct bsonraw_value v;
+ *     if (bsonraw_iter_init_find(&it, bytes, len, BSONRAW_KEY("run")) == BSONRAW_OK &&
+ *         bsonraw_iter_value(&it, bytes, len, &v) == BSONRAW_OK && v.tag == BSONRAW_TAG_JAVASCRIPT_WITH_SCOPE &&
+ *         bsonraw_iter_init_at(&scope, bytes, len, v.more_at, v.more_len) == BSONRAW_OK)
+ *         while (bsonraw_iter_next(&scope, bytes, len) == BSONRAW_OK)
+ *             printf("%02x %.*s\n", (unsigned)scope.tag, BSONRAW_TEXT(bytes, scope.key_at, scope.key_len));
  */
 BSONRAW_USE int32_t bsonraw_iter_recurse(const struct bsonraw_iter *iter, const uint8_t *bytes, size_t len,
                                          struct bsonraw_iter *child);
@@ -209,8 +224,11 @@ BSONRAW_USE int32_t bsonraw_iter_init_at(struct bsonraw_iter *iter, const uint8_
  * none has the key; BSONRAW_FAULT where none has it up to a stop. bsonraw_iter_init_find begins in a document.
  *
  *     struct bsonraw_iter it;
- *     if (bsonraw_iter_init_find(&it, bytes, len, (const uint8_t *)"name", 4) == BSONRAW_OK)
+ *     int32_t status = bsonraw_iter_init_find(&it, bytes, len, BSONRAW_KEY("name"));
+ *     while (status == BSONRAW_OK) {
  *         printf("%lu bytes\n", (unsigned long)it.payload_len);
+ *         status = bsonraw_iter_find(&it, bytes, len, BSONRAW_KEY("name"));
+ *     }
  */
 BSONRAW_USE int32_t bsonraw_iter_find(struct bsonraw_iter *iter, const uint8_t *bytes, size_t len, const uint8_t *key,
                                       size_t key_len);
@@ -225,7 +243,7 @@ BSONRAW_USE int32_t bsonraw_iter_init_find(struct bsonraw_iter *iter, const uint
  *
  *     struct bsonraw_iter it;
  *     if (bsonraw_iter_init(&it, bytes, len) == BSONRAW_OK &&
- *         bsonraw_iter_find_descendant(&it, bytes, len, (const uint8_t *)"authors.0.name", 14, '.') == BSONRAW_OK)
+ *         bsonraw_iter_find_descendant(&it, bytes, len, BSONRAW_KEY("authors.0.name"), '.') == BSONRAW_OK)
  *         printf("%02x\n", (unsigned)it.tag);
  */
 BSONRAW_USE int32_t bsonraw_iter_find_descendant(struct bsonraw_iter *iter, const uint8_t *bytes, size_t len,
@@ -281,7 +299,7 @@ struct bsonraw_value {
  *
  *     struct bsonraw_iter it;
  *     struct bsonraw_value v;
- *     if (bsonraw_iter_init_find(&it, bytes, len, (const uint8_t *)"name", 4) == BSONRAW_OK &&
+ *     if (bsonraw_iter_init_find(&it, bytes, len, BSONRAW_KEY("name")) == BSONRAW_OK &&
  *         bsonraw_iter_value(&it, bytes, len, &v) == BSONRAW_OK && v.tag == BSONRAW_TAG_STRING)
  *         printf("%.*s\n", BSONRAW_TEXT(bytes, v.text_at, v.text_len));
  */
@@ -294,7 +312,7 @@ BSONRAW_USE int32_t bsonraw_iter_value(const struct bsonraw_iter *iter, const ui
  *
  *     struct bsonraw_iter it;
  *     int32_t born;
- *     if (bsonraw_iter_init_find(&it, bytes, len, (const uint8_t *)"born", 4) == BSONRAW_OK &&
+ *     if (bsonraw_iter_init_find(&it, bytes, len, BSONRAW_KEY("born")) == BSONRAW_OK &&
  *         bsonraw_iter_int32(&it, bytes, len, &born) == BSONRAW_OK)
  *         printf("%ld\n", (long)born);
  */
@@ -366,7 +384,27 @@ BSONRAW_USE BSONRAW_INLINE int32_t bsonraw_iter_timestamp(const struct bsonraw_i
     return status;
 }
 
-/* A part of a value: text, bytes, or the one behind it. */
+/* An int32 or an int64, but no double: where it isn't whole is for the caller to see. */
+BSONRAW_USE BSONRAW_INLINE int32_t bsonraw_iter_as_int64(const struct bsonraw_iter *iter, const uint8_t *bytes, size_t len,
+                                                         int64_t *number) {
+    struct bsonraw_value value;
+    int32_t status = bsonraw_iter_value_of(iter, bytes, len,
+                                           iter->tag == BSONRAW_TAG_INT32 ? BSONRAW_TAG_INT32 : BSONRAW_TAG_INT64, &value);
+    *number = value.integer;
+    return status;
+}
+
+/* A double, an int32 or an int64, which is the nearest double. */
+BSONRAW_USE BSONRAW_INLINE int32_t bsonraw_iter_as_double(const struct bsonraw_iter *iter, const uint8_t *bytes, size_t len,
+                                                          double *number) {
+    int64_t whole;
+    int32_t status = bsonraw_iter_as_int64(iter, bytes, len, &whole);
+    if (status == BSONRAW_OTHER_KIND) return bsonraw_iter_double(iter, bytes, len, number);
+    *number = BSONRAW_DOUBLE(whole);
+    return status;
+}
+
+/* The text or the bytes of a value of this kind, as text_at and text_len have them. */
 BSONRAW_USE BSONRAW_INLINE int32_t bsonraw_iter_text_of(const struct bsonraw_iter *iter, const uint8_t *bytes, size_t len,
                                                         uint32_t tag, uint32_t *text_at, uint32_t *text_len) {
     struct bsonraw_value value;
@@ -379,6 +417,11 @@ BSONRAW_USE BSONRAW_INLINE int32_t bsonraw_iter_text_of(const struct bsonraw_ite
 BSONRAW_USE BSONRAW_INLINE int32_t bsonraw_iter_utf8(const struct bsonraw_iter *iter, const uint8_t *bytes, size_t len,
                                                      uint32_t *text_at, uint32_t *text_len) {
     return bsonraw_iter_text_of(iter, bytes, len, BSONRAW_TAG_STRING, text_at, text_len);
+}
+
+BSONRAW_USE BSONRAW_INLINE int32_t bsonraw_iter_code(const struct bsonraw_iter *iter, const uint8_t *bytes, size_t len,
+                                                     uint32_t *code_at, uint32_t *code_len) {
+    return bsonraw_iter_text_of(iter, bytes, len, BSONRAW_TAG_JAVASCRIPT, code_at, code_len);
 }
 
 /* The twelve bytes of an ObjectId. */
@@ -400,6 +443,18 @@ BSONRAW_USE BSONRAW_INLINE int32_t bsonraw_iter_binary(const struct bsonraw_iter
     *subtype = value.subtype;
     *data_at = value.text_at;
     *data_len = value.text_len;
+    return status;
+}
+
+BSONRAW_USE BSONRAW_INLINE int32_t bsonraw_iter_regex(const struct bsonraw_iter *iter, const uint8_t *bytes, size_t len,
+                                                      uint32_t *pattern_at, uint32_t *pattern_len, uint32_t *options_at,
+                                                      uint32_t *options_len) {
+    struct bsonraw_value value;
+    int32_t status = bsonraw_iter_value_of(iter, bytes, len, BSONRAW_TAG_REGEX, &value);
+    *pattern_at = value.text_at;
+    *pattern_len = value.text_len;
+    *options_at = value.more_at;
+    *options_len = value.more_len;
     return status;
 }
 
@@ -427,8 +482,7 @@ struct bsonraw_builder {
     int32_t status;  /* enum bsonraw_status */
 };
 
-/* A literal as a key and its length, or as a text and its length; and what is given for a key in an array. */
-#define BSONRAW_KEY(literal) (const uint8_t *)(literal), sizeof(literal) - 1
+/* What is given for a key in an array. */
 #define BSONRAW_NO_KEY BSONRAW_KEY("")
 
 /* Begins a document at the front of the room, and ends it: with BSONRAW_OK it is then there, builder->len bytes of it.
@@ -650,7 +704,8 @@ BSONRAW_INLINE int32_t bsonraw_append_array_begin(const struct bsonraw_builder *
 
 /* ---- documents one behind the other ---------------------------------------------------------------------------------- */
 
-/* A reader of a buffer of documents. All 0 is one that begins. */
+/* A reader of a buffer of documents, which may be longer than 32 bits say: other calls are given a document as
+ * bytes + document_at and document_len. All 0 is one that begins. */
 struct bsonraw_reader {
     uint64_t document_at;
     uint64_t document_len;

@@ -239,14 +239,19 @@ static void compare_kinds(const struct bsonraw_iter *it, const struct bsonraw_va
     int64_t wide, millis;
     double real;
     uint64_t bits;
-    uint32_t at, size, subtype, time, increment, tag = v->tag;
+    uint32_t at, size, more_at, more, subtype, time, increment, tag = v->tag;
     expect(bsonraw_iter_int32(it, b, len, &number) == (tag == 16 ? 0 : other) && number == (tag == 16 ? v->integer : 0), "an int32");
     expect(bsonraw_iter_int64(it, b, len, &wide) == (tag == 18 ? 0 : other) && wide == (tag == 18 ? v->integer : 0), "an int64");
+    expect(bsonraw_iter_as_int64(it, b, len, &wide) == (tag == 16 || tag == 18 ? 0 : other) && wide == (tag == 16 || tag == 18 ? v->integer : 0),
+           "a whole number");
     expect(bsonraw_iter_date_time(it, b, len, &millis) == (tag == 9 ? 0 : other) && millis == (tag == 9 ? v->integer : 0), "a time");
     expect(bsonraw_iter_bool(it, b, len, &is_true) == (tag == 8 ? 0 : other) && is_true == (tag == 8 ? v->integer : 0), "a boolean");
     expect(bsonraw_iter_double(it, b, len, &real) == (tag == 1 ? 0 : other), "a double");
     memcpy(&bits, &real, 8);
     expect(bits == (tag == 1 ? v->bits : 0), "the bits of a double");
+    expect(bsonraw_iter_as_double(it, b, len, &real) == (tag == 1 || tag == 16 || tag == 18 ? 0 : other), "a number");
+    if (tag == 1) expect(memcmp(&real, &v->bits, 8) == 0, "a number that is a double");
+    else expect(real == (tag == 16 || tag == 18 ? (double)v->integer : 0), "a number that is whole");
     expect(bsonraw_iter_timestamp(it, b, len, &time, &increment) == (tag == 17 ? 0 : other) && time == v->time && increment == v->increment,
            "a timestamp");
     expect(bsonraw_iter_utf8(it, b, len, &at, &size) == (tag == 2 ? 0 : other) && at == (tag == 2 ? v->text_at : len) &&
@@ -255,6 +260,13 @@ static void compare_kinds(const struct bsonraw_iter *it, const struct bsonraw_va
     expect(bsonraw_iter_decimal128(it, b, len, &at, &size) == (tag == 19 ? 0 : other) && size == (tag == 19 ? 16 : 0), "a Decimal128");
     expect(bsonraw_iter_binary(it, b, len, &subtype, &at, &size) == (tag == 5 ? 0 : other) && subtype == v->subtype &&
                size == (tag == 5 ? v->text_len : 0), "a binary");
+    expect(bsonraw_iter_code(it, b, len, &at, &size) == (tag == 13 ? 0 : other) && at == (tag == 13 ? v->text_at : len) &&
+               size == (tag == 13 ? v->text_len : 0), "a code");
+    expect(bsonraw_iter_text_of(it, b, len, BSONRAW_TAG_SYMBOL, &at, &size) == (tag == 14 ? 0 : other) && at == (tag == 14 ? v->text_at : len) &&
+               size == (tag == 14 ? v->text_len : 0), "a symbol");
+    expect(bsonraw_iter_regex(it, b, len, &at, &size, &more_at, &more) == (tag == 11 ? 0 : other) && at == (tag == 11 ? v->text_at : len) &&
+               size == (tag == 11 ? v->text_len : 0) && more_at == (tag == 11 ? v->more_at : len) && more == (tag == 11 ? v->more_len : 0),
+           "a regular expression");
 }
 
 /* Of a cursor that says another tag than its element has, no value is of that kind. */
@@ -285,7 +297,9 @@ static void compare_many(struct bsonraw_iter it, size_t room, size_t len) {
     int32_t status;
     do {
         struct element e;
+        memset(entries, 7, sizeof entries);
         status = bsonraw_iter_next_many(&it, b, len, entries, room, &count);
+        expect(count <= room && entries[count].tag == 0x07070707, "what is behind the entries");
         for (i = 0; i < count; i++) {
             e = element_at(at, end);
             expect(e.kind == 0 && !e.is_end && entries[i].tag == e.tag && entries[i].key_at == e.key && entries[i].key_len == e.key_len &&
@@ -300,13 +314,18 @@ static void compare_many(struct bsonraw_iter it, size_t room, size_t len) {
 
 /* A look-up of the last of these keys, or of one that isn't there. */
 static void compare_find(struct bsonraw_iter it, const uint8_t *key, size_t key_len, size_t len) {
-    size_t at = it.next, end = it.document_at + it.document_len;
+    size_t at = it.next, begins = it.next, end = it.document_at + it.document_len;
     struct element e = element_at(at, end);
+    struct bsonraw_iter begun;
+    int32_t status;
     while (e.kind == 0 && !e.is_end && !(e.key_len == key_len && memcmp(b + e.key, key, key_len) == 0)) {
         at = e.payload + e.payload_len;
         e = element_at(at, end);
     }
-    expect(stops_at(bsonraw_iter_find(&it, b, len, key, key_len), &it, &e, at, len), "a look-up");
+    status = bsonraw_iter_find(&it, b, len, key, key_len);
+    expect(stops_at(status, &it, &e, at, len), "a look-up");
+    if (begins != 4) return;
+    expect(bsonraw_iter_init_find(&begun, b, len, key, key_len) == status && memcmp(&begun, &it, sizeof it) == 0, "a look-up in a document");
 }
 
 /* A path by the keys of documents and the numbers of arrays, to the element that is here; the separator is in no key. */
@@ -339,6 +358,18 @@ static size_t path_to(size_t path_len, const struct element *e, size_t first, si
     return path_len + e->key_len + 1;
 }
 
+static void compare_level(struct bsonraw_iter it, size_t len, int depth, size_t path_len, int in_array);
+
+/* The level that the scope of a code is, where there is one; no path leads there. */
+static void compare_scope(struct element e, size_t len, int depth) {
+    struct bsonraw_value v = value_of(&e, len);
+    struct bsonraw_iter scope;
+    if (e.kind != 0) return;
+    expect(bsonraw_iter_init_at(&scope, b, len, v.more_at, v.more_len) == BSONRAW_OK && scope.document_at == v.more_at &&
+               scope.document_len == v.more_len && scope.next == v.more_at + 4 && is_nowhere(&scope, len), "a scope");
+    compare_level(scope, len, depth, 0, 0);
+}
+
 static void compare_level(struct bsonraw_iter it, size_t len, int depth, size_t path_len, int in_array) {
     size_t end = it.document_at + it.document_len;
     struct bsonraw_iter first = it, child;
@@ -363,8 +394,23 @@ static void compare_level(struct bsonraw_iter it, size_t len, int depth, size_t 
             expect(status == BSONRAW_OK && child.document_at == e.payload && child.document_len == e.payload_len && child.next == e.payload + 4,
                    "a level");
         if (status == BSONRAW_OK && depth < 8) compare_level(child, len, depth + 1, inner, e.tag == 4);
+        if (e.tag == 15 && depth < 8) compare_scope(e, len, depth + 1);
         status = BSONRAW_OK;
     } while (status == BSONRAW_OK);
+}
+
+/* A cursor that is begun at any part of the bytes, or of more. */
+static void compare_part(uint32_t at, uint32_t part_len, size_t len) {
+    struct bsonraw_iter it;
+    int32_t status = bsonraw_iter_init_at(&it, b, len, at, part_len);
+    uint32_t why;
+    if ((uint64_t)at + part_len > len) {
+        expect(status == BSONRAW_BAD_OFFSET && is_nowhere(&it, len), "a part that isn't there");
+        return;
+    }
+    why = refused(at, part_len);
+    if (why == 0) expect(status == BSONRAW_OK && it.document_at == at && it.document_len == part_len && it.next == at + 4, "a part that is a document");
+    else expect(status == BSONRAW_NO_DOCUMENT && it.error.reason == why && it.error.offset == at && is_nowhere(&it, len), "a part that is none");
 }
 
 /* Any fields are fine: nothing outside of the bytes is read, and what is said is in them. */
@@ -374,6 +420,7 @@ static void compare_astray(size_t len) {
     memset(&it, 0, sizeof it);
     it.document_at = any(room), it.document_len = any(room), it.next = any(room), it.key_at = any(room);
     if (any(4) == 0) it.document_at = 4294967295u - any(3);
+    compare_part(it.document_at, it.document_len, len);
     if (bsonraw_iter_next(&it, b, len) != BSONRAW_BAD_OFFSET)
         expect(refused(it.document_at, it.document_len) == 0 && it.document_at + it.document_len <= len, "an iterator with any fields");
 }
@@ -685,6 +732,84 @@ static void compare_form(uint32_t levels, size_t path_room, size_t len) {
     expect(i == form_len + 8, "what is behind a form");
 }
 
+/* A level as it is built of its elements up to a stop: as they are, but for the keys of an array; how many they are. */
+static unsigned write_built(size_t first, size_t end, int in_array) {
+    size_t at = first + 4, begins = form_len;
+    unsigned number = 0;
+    struct element e = element_at(at, end);
+    form_len += 4;
+    for (; e.kind == 0 && !e.is_end; e = element_at(at, end)) {
+        char decimal[12];
+        size_t digits = (size_t)snprintf(decimal, sizeof decimal, "%u", number++);
+        at = e.payload + e.payload_len;
+        form[form_len++] = (uint8_t)e.tag;
+        write_bytes(in_array ? (const uint8_t *)decimal : b + e.key, in_array ? digits : e.key_len);
+        form[form_len++] = 0;
+        if (e.tag == 3 || e.tag == 4) write_built(e.payload, at, e.tag == 4);
+        else write_bytes(b + e.payload, e.payload_len);
+    }
+    form[form_len++] = 0;
+    write_32_at(begins, form_len - begins);
+    return number;
+}
+
+static uint8_t built[8 * MOST];
+
+/* Appends an element that is no level: by its parts where it has a value, or as it is. */
+static void build_element(struct bsonraw_builder *to, size_t room, struct element e, const struct bsonraw_iter *it, size_t len) {
+    struct bsonraw_value v = value_of(&e, len);
+    uint8_t subtype = (uint8_t)v.subtype;
+    const uint8_t *one = b + e.payload, *two = &subtype;
+    size_t one_len = e.payload_len, two_len = 1;
+    if (e.kind != 0 || any(2)) {
+        bsonraw_append_iter(to, built, room, it, b, len);
+        return;
+    }
+    switch (e.tag) {
+    case 11: case 12: case 15: two = b + v.more_at, two_len = v.more_len; /* fallthrough */
+    case 2: case 5: case 13: case 14: one = b + v.text_at, one_len = v.text_len; break;
+    default: break;
+    }
+    bsonraw_append(to, built, room, e.tag, b + it->key_at, it->key_len, one, one_len, two, two_len);
+}
+
+static void build_level(struct bsonraw_builder *to, size_t room, struct bsonraw_iter it, size_t len) {
+    size_t end = it.document_at + it.document_len;
+    struct bsonraw_builder level;
+    struct bsonraw_iter child;
+    for (;;) {
+        struct element e = element_at(it.next, end);
+        if (bsonraw_iter_next(&it, b, len) != BSONRAW_OK) return;
+        if (bsonraw_iter_recurse(&it, b, len, &child) == BSONRAW_OK) {
+            bsonraw_append_begin(to, built, room, e.tag, b + it.key_at, it.key_len, &level);
+            build_level(&level, room, child, len);
+            bsonraw_append_end(to, built, room, &level);
+        } else {
+            build_element(to, room, e, &it, len);
+        }
+    }
+}
+
+/* The document that is built of the elements, in a room that may be too small. */
+static void compare_built(struct bsonraw_iter it, size_t len) {
+    struct bsonraw_builder to;
+    size_t room, i;
+    unsigned count;
+    int32_t status;
+    form_len = 0;
+    count = write_built(0, len, 0);
+    room = any(4) ? form_len + any(3) : any((uint32_t)form_len);
+    memset(built, 7, form_len + 8);
+    bsonraw_builder_begin(&to, built, room);
+    build_level(&to, room, it, len);
+    status = bsonraw_builder_end(&to, built, room);
+    expect(status == (form_len <= room ? BSONRAW_OK : BSONRAW_SMALL_BUFFER) && to.len == form_len && to.count == count && to.begins == 0 &&
+               to.tag == 3, "how long a built document is");
+    if (status == BSONRAW_OK) expect(memcmp(built, form, form_len) == 0, "a built document");
+    for (i = status == BSONRAW_OK ? form_len : room; i < form_len + 8 && built[i] == 7;) i++;
+    expect(i == form_len + 8, "what is behind a built document");
+}
+
 /* More bytes than allowed are told before all else. */
 static void compare_limit(size_t len) {
     struct bsonraw_report r[3];
@@ -712,6 +837,7 @@ static void compare(size_t len) {
     if (why == 0) {
         expect(status == BSONRAW_OK && it.document_len == len && it.next == 4, "a document");
         compare_level(it, len, 0, 0, 0);
+        compare_built(it, len);
         compare_whole(100, MOST - 2, 64, len);
         compare_whole(1 + any(4), any(6), any(4), len);
         compare_limit(len);

@@ -156,6 +156,7 @@ static void refuses(const uint8_t *bytes, size_t len, uint32_t reason, const cha
     expect(bsonraw_iter_init_find(&it, bytes, len, (const uint8_t *)"", 0) == BSONRAW_NO_DOCUMENT && it.error.reason == reason, name,
            "a look-up takes it");
     expect(says(&a.form, reason, len), name, "canonical takes it");
+    expect(says(&a.text, reason, len), name, "json takes it");
     expect(says(&a.fault, reason, len), name, "first_fault takes it");
     expect(says(&a.verdict, reason, len), name, "check takes it");
     expect(says(&a.flat, reason, len), name, "flatten takes it");

@@ -77,11 +77,12 @@ int32_t call_check(const struct document *d, uint8_t *form, size_t form_len, str
     return bsonraw_check(d->bytes, d->len, 1 << 24, LEVELS, report, path, path_room);
 }
 
-/* The walk, up to its end or to MOST steps, and the value and the look-up of each of its keys. */
+/* The walk, up to its end or to MOST steps; the value, the look-up and the inside of each; and what is built of them. */
 static void walk(struct answers *to, const uint8_t *bytes, size_t len) {
     struct bsonraw_iter it;
     int32_t status = bsonraw_iter_init(&it, bytes, len);
     size_t number = 0;
+    bsonraw_builder_begin(&to->builder, to->built, ROOM);
     do {
         if (status == BSONRAW_OK) status = bsonraw_iter_next(&it, bytes, len);
         to->stepped[number] = status;
@@ -89,7 +90,18 @@ static void walk(struct answers *to, const uint8_t *bytes, size_t len) {
         if (it.key_at < len)
             to->looked_up[number] = bsonraw_iter_init_find(&to->found[number], bytes, len, bytes + it.key_at, it.key_len);
         to->valued[number] = bsonraw_iter_value(&it, bytes, len, &to->values[number]);
+        to->entered[number] = bsonraw_iter_recurse(&it, bytes, len, &to->inside[number]);
+        if (status == BSONRAW_OK) bsonraw_append_iter(&to->builder, to->built, ROOM, &it, bytes, len);
     } while (++number < MOST && status == BSONRAW_OK);
+    (void)!bsonraw_builder_end(&to->builder, to->built, ROOM);
+}
+
+/* The same elements in one call, and the first document of the bytes. */
+static void list(struct answers *to, const uint8_t *bytes, size_t len) {
+    struct bsonraw_iter it;
+    to->listed = bsonraw_iter_init(&it, bytes, len);
+    if (to->listed == BSONRAW_OK) to->listed = bsonraw_iter_next_many(&it, bytes, len, to->entries, MOST, &to->entry_count);
+    to->read = bsonraw_reader_read(&to->reader, bytes, len);
 }
 
 void ask(struct answers *to, const uint8_t *bytes, size_t len) {
@@ -98,7 +110,9 @@ void ask(struct answers *to, const uint8_t *bytes, size_t len) {
     d.bytes = (uint8_t *)(uintptr_t)bytes;
     d.len = len;
     walk(to, bytes, len);
+    list(to, bytes, len);
     to->form.status = call_canonical(&d, to->form_bytes, ROOM, &to->form.report, to->form.path, STEPS);
+    to->text.status = call_json(&d, to->text_bytes, ROOM, &to->text.report, to->text.path, STEPS);
     to->fault.status = call_first_fault(&d, NULL, 0, &to->fault.report, to->fault.path, STEPS);
     to->verdict.status = call_check(&d, NULL, 0, &to->verdict.report, to->verdict.path, STEPS);
     to->flat.status = bsonraw_flatten(bytes, len, 1 << 24, LEVELS, to->tokens, MOST, &to->flat.report, to->flat.path, STEPS);

@@ -39,13 +39,19 @@ int32_t call_first_fault(const struct document *d, uint8_t *form, size_t form_le
 int32_t call_check(const struct document *d, uint8_t *form, size_t form_len, struct bsonraw_report *report, uint64_t *path,
                    size_t path_room);
 
-/* What every call returns: the steps of a cursor, the value at each, and the look-up of each key. What isn't used is 0. */
+/* What the calls return: the steps of a cursor, with the value, the look-up and the inside of each, and what is built of them;
+ * entries, and the first document; and of the calls over all levels. What isn't used is 0. */
 struct answers {
-    int32_t stepped[MOST], valued[MOST], looked_up[MOST];
-    struct bsonraw_iter steps[MOST], found[MOST];
+    int32_t stepped[MOST], valued[MOST], looked_up[MOST], entered[MOST];
+    struct bsonraw_iter steps[MOST], found[MOST], inside[MOST];
     struct bsonraw_value values[MOST];
-    struct whole form, fault, verdict, flat;
-    uint8_t form_bytes[ROOM];
+    struct bsonraw_builder builder;
+    int32_t listed, read;
+    uint64_t entry_count;
+    struct bsonraw_entry entries[MOST];
+    struct bsonraw_reader reader;
+    struct whole form, text, fault, verdict, flat;
+    uint8_t built[ROOM], form_bytes[ROOM], text_bytes[ROOM];
     struct bsonraw_token tokens[MOST];
 };
 

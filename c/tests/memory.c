@@ -1,6 +1,5 @@
 /* Each request for memory that a call makes, refused in turn, alone and with all that follow it: what comes with enough memory,
- * or BSONRAW_NO_MEMORY, and then the rooms are as they were. No call keeps a block, and a cursor, a value, a builder and a
- * flattening ask for none. */
+ * or BSONRAW_NO_MEMORY, and then the rooms are as they were. No call keeps a block, and all but four ask for none. */
 #include "documents.h"
 
 #include <stdio.h>
@@ -87,25 +86,51 @@ static size_t refuse_both_ways(const struct document *d, call *run) {
     return ran_out + refuse_each(d, run);
 }
 
-/* A cursor, a value, a look-up, a builder and a flattening make no request. */
-static void asks_for_nothing(const struct document *d) {
-    struct bsonraw_token tokens[8];
-    struct bsonraw_report report;
-    struct bsonraw_iter it, found;
+/* A cursor and all that it does. */
+static void go_through(const struct document *d) {
+    struct bsonraw_entry entries[2];
+    struct bsonraw_iter it, other;
     struct bsonraw_value value;
-    struct bsonraw_builder builder;
-    static uint8_t room[ROOM];
-    uint64_t path[8];
+    uint64_t count;
     int32_t status = bsonraw_iter_init(&it, d->bytes, d->len);
-    asked = 0;
-    bsonraw_builder_begin(&builder, room, ROOM);
     while (status == BSONRAW_OK) {
         status = bsonraw_iter_next(&it, d->bytes, d->len);
         (void)!bsonraw_iter_value(&it, d->bytes, d->len, &value);
-        bsonraw_append_iter(&builder, room, ROOM, &it, d->bytes, d->len);
+        (void)!bsonraw_iter_recurse(&it, d->bytes, d->len, &other);
+        (void)!bsonraw_iter_init_at(&other, d->bytes, d->len, value.more_at, value.more_len);
+        (void)!bsonraw_iter_init_find(&other, d->bytes, d->len, d->bytes + it.key_at, it.key_len);
+        (void)!bsonraw_iter_find(&other, d->bytes, d->len, BSONRAW_KEY("x"));
     }
+    if (bsonraw_iter_init(&it, d->bytes, d->len) != BSONRAW_OK) return;
+    other = it;
+    (void)!bsonraw_iter_find_descendant(&other, d->bytes, d->len, BSONRAW_KEY("a.0"), '.');
+    while (bsonraw_iter_next_many(&it, d->bytes, d->len, entries, 2, &count) == BSONRAW_OK) continue;
+}
+
+/* A document that is built of this one's elements, and of it. */
+static void build(const struct document *d) {
+    static uint8_t room[ROOM];
+    struct bsonraw_builder builder, level;
+    struct bsonraw_iter it;
+    bsonraw_builder_begin(&builder, room, ROOM);
+    bsonraw_append_array_begin(&builder, room, ROOM, BSONRAW_KEY("a"), &level);
+    bsonraw_append_document(&level, room, ROOM, BSONRAW_NO_KEY, d->bytes, d->len);
+    bsonraw_append_end(&builder, room, ROOM, &level);
+    if (bsonraw_iter_init(&it, d->bytes, d->len) == BSONRAW_OK)
+        while (bsonraw_iter_next(&it, d->bytes, d->len) == BSONRAW_OK) bsonraw_append_iter(&builder, room, ROOM, &it, d->bytes, d->len);
     (void)!bsonraw_builder_end(&builder, room, ROOM);
-    (void)!bsonraw_iter_init_find(&found, d->bytes, d->len, (const uint8_t *)"x", 1);
+}
+
+/* All but the calls over whole documents make no request, and a flattening makes none. */
+static void asks_for_nothing(const struct document *d) {
+    struct bsonraw_token tokens[8];
+    struct bsonraw_report report;
+    struct bsonraw_reader reader = {0, 0, 0, {0, 0, 0, 0, 0}};
+    uint64_t path[8];
+    asked = 0;
+    go_through(d);
+    build(d);
+    (void)!bsonraw_reader_read(&reader, d->bytes, d->len);
     (void)!bsonraw_flatten(d->bytes, d->len, 1 << 24, LEVELS, tokens, 8, &report, path, 8);
     bsonraw_version();
     expect(asked == 0, d->name, "a call asks for memory that needs none");

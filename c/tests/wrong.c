@@ -15,6 +15,8 @@ int32_t right_check(const uint8_t *bytes, size_t len, size_t max_bytes, size_t m
                     uint64_t *path, size_t path_room);
 int32_t right_iter_init_find(struct bsonraw_iter *iter, const uint8_t *bytes, size_t len, const uint8_t *key, size_t key_len);
 int32_t right_iter_init(struct bsonraw_iter *iter, const uint8_t *bytes, size_t len);
+int32_t right_iter_init_at(struct bsonraw_iter *iter, const uint8_t *bytes, size_t len, uint32_t document_at,
+                           uint32_t document_len);
 int32_t right_iter_recurse(const struct bsonraw_iter *iter, const uint8_t *bytes, size_t len, struct bsonraw_iter *child);
 int32_t right_iter_next(struct bsonraw_iter *iter, const uint8_t *bytes, size_t len);
 int32_t right_iter_find(struct bsonraw_iter *iter, const uint8_t *bytes, size_t len, const uint8_t *key, size_t key_len);
@@ -60,12 +62,21 @@ int32_t bsonraw_canonical(const uint8_t *bytes, size_t len, size_t max_bytes, si
     return status;
 }
 
-/* 23: a byte behind the text and its 0 is written. */
+/* 23: a byte behind the text and its 0 is written. 24: the flags are swapped. 25: only 1 sets a flag.
+ * 26: the text passes through memory that all threads share. */
 int32_t bsonraw_json(const uint8_t *bytes, size_t len, size_t max_bytes, size_t max_depth, uint32_t canonical,
                      uint32_t indented, uint8_t *text, size_t text_len, struct bsonraw_report *report, uint64_t *path,
                      size_t path_room) {
-    int32_t status = right_json(bytes, len, max_bytes, max_depth, canonical, indented, text, text_len, report, path, path_room);
+    static uint8_t shared[1 << 16];
+    uint32_t one = MISTAKE == 24 ? indented : MISTAKE == 25 ? canonical == 1 : canonical;
+    uint32_t two = MISTAKE == 24 ? canonical : MISTAKE == 25 ? indented == 1 : indented;
+    int32_t status = right_json(bytes, len, max_bytes, max_depth, one, two, text, text_len, report, path, path_room);
     if (MISTAKE == 23 && status == BSONRAW_OK) text[report->count + 1] = 0;
+    if (MISTAKE == 26 && status == BSONRAW_OK) {
+        memcpy(shared, text, report->count);
+        sched_yield();
+        memcpy(text, shared, report->count);
+    }
     return status;
 }
 
@@ -97,6 +108,14 @@ int32_t bsonraw_iter_recurse(const struct bsonraw_iter *iter, const uint8_t *byt
     return status;
 }
 
+/* 27: any part of the bytes that ends with a 0 is a document. */
+int32_t bsonraw_iter_init_at(struct bsonraw_iter *iter, const uint8_t *bytes, size_t len, uint32_t document_at,
+                             uint32_t document_len) {
+    int32_t status = right_iter_init_at(iter, bytes, len, document_at, document_len);
+    if (MISTAKE == 27 && iter->error.reason == BSONRAW_LENGTH_INCORRECT && bytes[document_at + document_len - 1] == 0) return BSONRAW_OK;
+    return status;
+}
+
 /* 9: a stop is the end. */
 int32_t bsonraw_iter_next(struct bsonraw_iter *iter, const uint8_t *bytes, size_t len) {
     int32_t status = right_iter_next(iter, bytes, len);
@@ -116,10 +135,11 @@ int32_t bsonraw_reader_read(struct bsonraw_reader *reader, const uint8_t *bytes,
     return status;
 }
 
-/* 12: the room is called full where the document ends. */
+/* 12: the room is called full where the document ends. 28: an entry behind the room is written. */
 int32_t bsonraw_iter_next_many(struct bsonraw_iter *iter, const uint8_t *bytes, size_t len, struct bsonraw_entry *entries,
                                size_t room, uint64_t *count) {
     int32_t status = right_iter_next_many(iter, bytes, len, entries, room, count);
+    if (MISTAKE == 28 && *count == room) entries[room].tag = 0;
     return MISTAKE == 12 && status == BSONRAW_NONE && *count > 0 ? BSONRAW_OK : status;
 }
 
@@ -148,8 +168,11 @@ int32_t right_append_begin(const struct bsonraw_builder *builder, uint8_t *room,
 int32_t right_append_end(struct bsonraw_builder *builder, uint8_t *room, size_t room_len,
                          const struct bsonraw_builder *level);
 
+/* 29: no document is begun where there is no room for its length. */
 int32_t bsonraw_builder_begin(struct bsonraw_builder *builder, const uint8_t *room, size_t room_len) {
-    return right_builder_begin(builder, room, room_len);
+    int32_t status = right_builder_begin(builder, room, room_len);
+    if (MISTAKE == 29 && room_len < 4) builder->len = 0;
+    return status;
 }
 
 /* 15: the final 0 is put behind a room that is full. */
@@ -166,9 +189,13 @@ int32_t bsonraw_append(struct bsonraw_builder *builder, uint8_t *room, size_t ro
     return status;
 }
 
+/* 30: an element that is copied isn't counted. */
 int32_t bsonraw_append_iter(struct bsonraw_builder *builder, uint8_t *room, size_t room_len, const struct bsonraw_iter *iter,
                             const uint8_t *bytes, size_t len) {
-    return right_append_iter(builder, room, room_len, iter, bytes, len);
+    uint32_t count = builder->count;
+    int32_t status = right_append_iter(builder, room, room_len, iter, bytes, len);
+    if (MISTAKE == 30) builder->count = count;
+    return status;
 }
 
 /* 17: an array is begun as a document. */
@@ -179,9 +206,13 @@ int32_t bsonraw_append_begin(const struct bsonraw_builder *builder, uint8_t *roo
     return status;
 }
 
+/* 31: a level that didn't fit isn't counted. */
 int32_t bsonraw_append_end(struct bsonraw_builder *builder, uint8_t *room, size_t room_len,
                            const struct bsonraw_builder *level) {
-    return right_append_end(builder, room, room_len, level);
+    struct bsonraw_builder before = *builder;
+    int32_t status = right_append_end(builder, room, room_len, level);
+    if (MISTAKE == 31 && status == BSONRAW_SMALL_BUFFER) before.status = status, *builder = before;
+    return status;
 }
 
 /* 18: a token that has another inside says one less. 19: a number of the path is written behind the room. */
