@@ -14,14 +14,15 @@ The package bsonraw has to be on each machine where workers run. Workers on seve
 paths.
 
 1. A dump is cut into partitions at the ends of documents, for which only the documents' lengths are read.
-2. Partitions are independent: each is brought to its canonical forms by one call, and goes to a file of its own, with the
-   BLAKE2b of 32 bytes of each form.
-3. Digests are sorted into buckets by their first byte. In a bucket the first form of each digest, in the order of the
-   dumps, is kept. Two forms with one digest count as equal; no two unequal texts with one are known.
+2. Partitions are independent: each is brought to its canonical forms by one call, and goes to a file of its own. The mark of a
+   form is its CRC-32.
+3. Forms are sorted into buckets by their marks. Of those that share a mark the first one of each BLAKE2b of 32 bytes, in the
+   order of the dumps, is kept. Two forms with one digest count as equal; no two unequal texts with one are known.
 4. What each partition keeps goes to its place in the result, which is known by the lengths.
 
 A task whose worker dies is run again on another worker, and writes the same bytes to the same place. One process needs none
-of these files: its threads bring partitions to their forms, and it writes what it keeps in order.
+of these files: its threads bring partitions to their forms, and it writes what it keeps in order. It tells forms apart by
+Python's own hash, and compares those of one hash.
 """
 
 import argparse
@@ -34,10 +35,13 @@ import sys
 import time
 import uuid
 from array import array
-from collections import deque
+from bisect import bisect_right
+from collections import Counter, deque
 from concurrent.futures import Future, ThreadPoolExecutor
+from functools import lru_cache
 from pathlib import Path
-from typing import Any, Deque, Dict, Iterator, List, NamedTuple, Optional, Sequence, Set, Tuple, Union
+from typing import Any, Callable, Deque, Dict, Iterable, Iterator, List, NamedTuple, Optional, Sequence, Set, Tuple, Union
+from zlib import crc32
 
 try:
     import bsonraw
@@ -67,19 +71,19 @@ class Part(NamedTuple):
 
 
 class Formed(NamedTuple):
-    """The canonical forms of a partition, and the digest of each."""
+    """The canonical forms of a partition, and a number for each: equal forms have the same one."""
 
     forms: bsonraw.Forms
-    digests: List[bytes]
+    marks: List[int]
     faults: List[Fault]
 
 
 class Bucket(NamedTuple):
-    """Those forms of a partition whose digests fall into one bucket: their numbers, lengths, and digests of 32 bytes."""
+    """Those forms of a partition whose marks fall into one bucket."""
 
-    numbers: "array[int]"
+    offsets: "array[int]"
     sizes: "array[int]"
-    digests: bytearray
+    marks: "array[int]"
 
 
 class Count(NamedTuple):
@@ -92,11 +96,8 @@ class Count(NamedTuple):
     faults: List[Fault]
 
 
-class Repeats(NamedTuple):
-    """Which forms of a partition repeat one of an earlier partition, and how many bytes these have."""
-
-    numbers: List[int]
-    size: int
+Repeats = List[Tuple[int, int]]
+"""The forms of a partition that repeat one of an earlier partition: the offset and the length of each."""
 
 
 # ---- the tasks -------------------------------------------------------------------------------------------------------
@@ -121,76 +122,88 @@ def cut(path: str, size: int) -> Tuple[List[Tuple[int, int]], Optional[Fault]]:
     return list(zip(ends, ends[1:])), fault
 
 
-def formed(path: str, start: int, end: int) -> Formed:
+def digest(form: Union[bytes, memoryview]) -> bytes:
+    return hashlib.blake2b(form, digest_size=32).digest()
+
+
+def formed(path: str, start: int, end: int, mark: Callable[[memoryview], int]) -> Formed:
     """The forms of a partition. While they are made, another thread may run."""
     with open(path, "rb") as file:
         file.seek(start)
         forms = bsonraw.canonical_all(file.read(end - start), before=start)
     faults = [(offset, said(error)) for offset, error in forms.faults]
-    return Formed(forms, [hashlib.blake2b(form, digest_size=32).digest() for form in forms.each()], faults)
+    return Formed(forms, list(map(mark, forms.each())), faults)
 
 
-def new_runs(forms: bsonraw.Forms, digests: Sequence[bytes], seen: Set[bytes]) -> Iterator[memoryview]:
-    """The forms whose digests weren't seen before, as many at a time as are side by side."""
-    begin = last = 0
-    for end, digest in zip(forms.ends, digests):
-        if digest in seen:
-            if begin < last:
-                yield forms.data[begin:last]
-            begin = end
-        seen.add(digest)
-        last = end
-    if begin < last:
-        yield forms.data[begin:last]
+def repeated_in(marks: Iterable[int]) -> Set[int]:
+    return {mark for mark, count in Counter(marks).items() if count > 1}
+
+
+def distinct(forms: bsonraw.Forms, marks: Sequence[int]) -> Iterator[Tuple[int, int, int]]:
+    """Where each form begins and ends, and its mark; those that repeat one of the partition are left out."""
+    common = repeated_in(marks)
+    seen: Set[bytes] = set()
+    start = 0
+    for end, mark in zip(forms.ends, marks):
+        is_new = True
+        if mark in common:
+            found = digest(forms.data[start:end])
+            is_new = found not in seen
+            seen.add(found)
+        if is_new:
+            yield start, end, mark
+        start = end
 
 
 def canonise(part: Part) -> Tuple[Count, List[Bucket]]:
-    """Writes the canonical forms of a partition, each once, and gives their digests by bucket."""
-    forms, digests, faults = formed(part.dump.path, part.start, part.end)
+    """Writes the canonical forms of a partition, each once, and gives their marks by bucket."""
+    forms, marks, faults = formed(part.dump.path, part.start, part.end, crc32)
+    buckets = [Bucket(array("Q"), array("I"), array("I")) for _ in range(BUCKETS)]
+    begin = last = size = count = 0
     unfinished = f"{part.forms}.{uuid.uuid4().hex}"
     with open(unfinished, "wb") as out:
-        for run in new_runs(forms, digests, set()):
-            out.write(run)
+        for start, end, mark in distinct(forms, marks):
+            if start > last:
+                out.write(forms.data[begin:last])
+                begin = start
+            last = end
+            bucket = buckets[mark % BUCKETS]
+            bucket.offsets.append(size)
+            bucket.sizes.append(end - start)
+            bucket.marks.append(mark)
+            size += end - start
+            count += 1
+        out.write(forms.data[begin:last])
     os.replace(unfinished, part.forms)
-
-    sizes: Dict[bytes, int] = {}
-    start = 0
-    for end, digest in zip(forms.ends, digests):
-        sizes.setdefault(digest, end - start)
-        start = end
-    buckets = [Bucket(array("I"), array("I"), bytearray()) for _ in range(BUCKETS)]
-    for number, (digest, size) in enumerate(sizes.items()):
-        bucket = buckets[digest[0] % BUCKETS]
-        bucket.numbers.append(number)
-        bucket.sizes.append(size)
-        bucket.digests.extend(digest)
-    repeated = len(digests) - len(sizes)
-    return Count(len(digests) + len(faults), forms.canonical, repeated, sum(sizes.values()), faults), buckets
+    return Count(len(marks) + len(faults), forms.canonical, len(marks) - count, size, faults), buckets
 
 
-def find_repeats(outcomes: Sequence[Tuple[Count, List[Bucket]]], number: int) -> List[Repeats]:
-    """Of one bucket of all partitions in their order: which forms repeat an earlier one."""
+def find_repeats(outcomes: Sequence[Tuple[Count, List[Bucket]]], paths: Sequence[str], number: int) -> List[Repeats]:
+    """Of one bucket of all partitions in their order: which forms repeat an earlier one. Those with a mark of others are read."""
+    common = repeated_in(mark for _, buckets in outcomes for mark in buckets[number].marks)
     seen: Set[bytes] = set()
     found = []
-    for _, buckets in outcomes:
-        numbers, sizes, joined = buckets[number]
-        digests = [bytes(joined[at : at + 32]) for at in range(0, len(joined), 32)]
-        repeats = [place for place, digest in enumerate(digests) if digest in seen]
-        seen.update(digests)
-        found.append(Repeats([numbers[place] for place in repeats], sum(sizes[place] for place in repeats)))
+    for (_, buckets), path in zip(outcomes, paths):
+        places = [place for place in zip(*buckets[number]) if place[2] in common]
+        repeats = []
+        with open(path, "rb") as forms:
+            for offset, size, _ in places:
+                mark = digest(os.pread(forms.fileno(), size, offset))
+                repeats += [(offset, size)] if mark in seen else []
+                seen.add(mark)
+        found.append(repeats)
     return found
 
 
-def keep(part: Part, repeated: Sequence[int], result: str, offset: int) -> None:
+def keep(part: Part, repeated: Repeats, result: str, offset: int) -> None:
     """Writes the forms of a partition but for repeated ones to their place in the result."""
-    left_out = frozenset(repeated)
-    with open(part.forms, "rb") as forms, open(result, "r+b") as out:
+    with open(part.forms, "rb") as forms, open(result, "r+b", buffering=0) as out:
         out.seek(offset)
-        if not left_out:
-            shutil.copyfileobj(forms, out, 1 << 20)
-            return
-        kept = (form for number, (_, form) in enumerate(bsonraw.documents(forms)) if number not in left_out)
-        out.writelines(kept)
+        start = 0
+        for end, size in [*sorted(repeated), (os.fstat(forms.fileno()).st_size, 0)]:
+            while start < end:
+                start += os.sendfile(out.fileno(), forms.fileno(), start, end - start)
+            start = end + size
 
 
 # ---- the whole run ---------------------------------------------------------------------------------------------------
@@ -259,11 +272,66 @@ class Progress:
             print(f"dask_canonical: {self.done:,} of {self.total:,} {self.what}", file=sys.stderr, flush=True)
 
 
+class Written:
+    """The result of one process, and where each form is in it, by its hash. Forms of one hash are compared."""
+
+    def __init__(self) -> None:
+        self.paths: List[Path] = []
+        self.starts: List[int] = []
+        """how many bytes are before each file"""
+        self.size = 0
+        self.places: Dict[int, int] = {}
+        self.opened = lru_cache(maxsize=64)(lambda number: open(self.paths[number], "r+b", buffering=0))
+
+    def begin(self, path: Path) -> None:
+        """Goes on in a new file."""
+        path.touch()
+        self.paths.append(path)
+        self.starts.append(self.size)
+
+    def write(self, forms: memoryview) -> None:
+        file = self.opened(len(self.paths) - 1)
+        self.size += len(forms)
+        file.seek(0, os.SEEK_END)
+        while forms:
+            forms = forms[file.write(forms) :]
+
+    def is_at(self, place: int, form: memoryview) -> bool:
+        number = bisect_right(self.starts, place) - 1
+        return os.pread(self.opened(number).fileno(), len(form), place - self.starts[number]) == form
+
+    def free_mark(self, form: memoryview, mark: int) -> Optional[int]:
+        """The first number from the hash on that no form has; None where this form is there."""
+        while mark in self.places:
+            if self.is_at(self.places[mark], form):
+                return None
+            mark += 1
+        return mark
+
+    def add(self, forms: bsonraw.Forms, marks: Sequence[int]) -> int:
+        """Writes the forms that aren't there, and says how many are."""
+        repeated = begin = start = 0
+        for end, mark in zip(forms.ends, marks):
+            if mark in self.places:
+                self.write(forms.data[begin:start])
+                begin = start
+                free = self.free_mark(forms.data[start:end], mark)
+                if free is None:
+                    repeated += 1
+                    begin = start = end
+                    continue
+                mark = free
+            self.places[mark] = self.size + start - begin
+            start = end
+        self.write(forms.data[begin:start])
+        return repeated
+
+
 def in_order(pool: ThreadPoolExecutor, parts: Sequence[Tuple[str, int, int]], ahead: int) -> Iterator[Formed]:
     """The forms of partitions in their order, of which so many are made ahead."""
     tasks: Deque["Future[Formed]"] = deque()
     for part in parts:
-        tasks.append(pool.submit(formed, *part))
+        tasks.append(pool.submit(formed, *part, hash))
         if len(tasks) > ahead:
             yield tasks.popleft().result()
     while tasks:
@@ -274,30 +342,34 @@ def run_alone(dumps: Sequence[Dump], folder: Path, threads: int = 1, partition: 
     """All in this process: threads bring partitions to their forms, and this one writes them in order."""
     work = prepare(dumps, folder)
     progress = Progress("bytes", sum(os.path.getsize(dump.path) for dump in dumps))
-    seen: Set[bytes] = set()
+    written = Written()
     counts = []
     faults: List[Tuple[str, Fault]] = []
     with ThreadPoolExecutor(threads) as pool:
         for dump in dumps:
             ends, last = cut(dump.path, partition)
             parts = [(dump.path, start, end) for start, end in ends]
-            with open(work / "result" / dump.name, "wb") as out:
-                for (forms, digests, found), (start, end) in zip(in_order(pool, parts, threads), ends):
-                    before = len(seen)
-                    for run in new_runs(forms, digests, seen):
-                        out.write(run)
-                    repeated = len(digests) - (len(seen) - before)
-                    counts.append(Count(len(digests) + len(found), forms.canonical, repeated, 0, found))
-                    faults += [(dump.name, fault) for fault in found]
-                    progress.add(end - start)
+            written.begin(work / "result" / dump.name)
+            for (forms, marks, found), (start, end) in zip(in_order(pool, parts, threads), ends):
+                repeated = written.add(forms, marks)
+                counts.append(Count(len(marks) + len(found), forms.canonical, repeated, 0, found))
+                faults += [(dump.name, fault) for fault in found]
+                progress.add(end - start)
             faults += [(dump.name, last)] if last else []
     return finish(dumps, folder, report_of(counts, sum(count.repeated for count in counts), faults))
 
 
+def engine() -> Any:
+    """Dask's module for workers."""
+    try:
+        import distributed
+    except ImportError as error:
+        raise SystemExit(f"dask_canonical: Dask isn't there ({error}): --workers 0 does without") from None
+    return distributed
+
+
 def run_on(client: Any, dumps: Sequence[Dump], folder: Path, partition: int = PARTITION) -> Dict[str, Any]:
     """On the workers of a Dask client."""
-    from distributed import as_completed
-
     work = prepare(dumps, folder)
     cuts = client.gather(client.map(cut, [dump.path for dump in dumps], size=partition, pure=False))
     parts: List[Part] = []
@@ -307,10 +379,11 @@ def run_on(client: Any, dumps: Sequence[Dump], folder: Path, partition: int = PA
 
     outcomes = client.map(canonise, parts, pure=False)
     progress = Progress("partitions", len(parts))
-    for _ in as_completed(outcomes):
+    for _ in engine().as_completed(outcomes):
         progress.add(1)
     counts = client.gather(client.map(lambda outcome: outcome[0], outcomes, pure=False))
-    found = client.gather([client.submit(find_repeats, outcomes, number, pure=False) for number in range(BUCKETS)])
+    paths = [part.forms for part in parts]
+    found = client.gather([client.submit(find_repeats, outcomes, paths, number, pure=False) for number in range(BUCKETS)])
 
     writes = []
     offsets = dict.fromkeys(dumps, 0)
@@ -318,10 +391,10 @@ def run_on(client: Any, dumps: Sequence[Dump], folder: Path, partition: int = PA
         open(work / "result" / dump.name, "wb").close()
     for number, (part, count) in enumerate(zip(parts, counts)):
         repeats = [bucket[number] for bucket in found]
-        left_out = [form for repeat in repeats for form in repeat.numbers]
+        left_out = [form for repeat in repeats for form in repeat]
         result = str(work / "result" / part.dump.name)
         writes.append(client.submit(keep, part, left_out, result, offsets[part.dump], pure=False))
-        offsets[part.dump] += count.size - sum(repeat.size for repeat in repeats)
+        offsets[part.dump] += count.size - sum(size for _, size in left_out)
     client.gather(writes)
 
     faults = []
@@ -330,22 +403,17 @@ def run_on(client: Any, dumps: Sequence[Dump], folder: Path, partition: int = PA
             (dump.name, fault) for part, count in zip(parts, counts) if part.dump == dump for fault in count.faults
         ]
         faults += [(dump.name, last)] if last else []
-    repeated = sum(count.repeated for count in counts) + sum(
-        len(repeat.numbers) for bucket in found for repeat in bucket
-    )
+    repeated = sum(count.repeated for count in counts) + sum(len(repeat) for bucket in found for repeat in bucket)
     return finish(dumps, folder, report_of(counts, repeated, faults))
 
 
 def run_here(workers: int, dumps: Sequence[Dump], folder: Path, partition: int) -> Dict[str, Any]:
     """On so many worker processes of this machine."""
-    try:
-        from distributed import Client, LocalCluster
-    except ImportError as error:
-        raise SystemExit(f"dask_canonical: Dask isn't there ({error}): --workers 0 does without") from None
-
-    with LocalCluster(
+    dask = engine()
+    dask.config["distributed"]["worker"]["profile"]["enabled"] = False  # it looks at a worker's threads 100 times a second
+    with dask.LocalCluster(
         n_workers=workers, threads_per_worker=1, processes=True, host="127.0.0.1", dashboard_address=None
-    ) as cluster, Client(cluster) as client:
+    ) as cluster, dask.Client(cluster) as client:
         return run_on(client, dumps, folder, partition)
 
 
@@ -354,12 +422,7 @@ def run(options: argparse.Namespace, dumps: Sequence[Dump], folder: Path) -> Dic
         return run_alone(dumps, folder, max(1, options.threads), options.partition)
     if not options.scheduler:
         return run_here(options.workers, dumps, folder, options.partition)
-    try:
-        from distributed import Client
-    except ImportError as error:
-        raise SystemExit(f"dask_canonical: Dask isn't there ({error}): --workers 0 does without") from None
-
-    with Client(options.scheduler) as client:
+    with engine().Client(options.scheduler) as client:
         client.upload_file(__file__)
         return run_on(client, dumps, folder, options.partition)
 

@@ -8,6 +8,7 @@ ones; an older one makes a build for itself.
 import os
 import re
 import sys
+from importlib.util import find_spec
 from pathlib import Path
 
 from setuptools import Extension, setup
@@ -32,6 +33,8 @@ def version(header: Path) -> str:
     return f"{number // 10000}.{number // 100 % 100}.{number % 100}"
 
 
+if "dist_info" in sys.argv and not find_spec("wheel") and not find_spec("setuptools.command.bdist_wheel"):
+    raise SystemExit("bsonraw: to build a wheel, setuptools wants the package wheel (Debian: python3-wheel)")
 place = prefix()
 limited = sys.version_info >= (3, 11)
 os.chdir(FOLDER)

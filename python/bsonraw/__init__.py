@@ -6,12 +6,15 @@
     {'name': 'Ada', 'born': 1815, 'tags': ['maths']}
     >>> bsonraw.find(data, "tags.0").value
     'maths'
+    >>> bsonraw.to_json(data)
+    '{"name":"Ada","born":1815,"tags":["maths"]}'
     >>> bsonraw.canonical(data) == data
     True
 
-Whole documents: `decode` and `encode`; `canonical`, `check` and `first_fault`. Parts of one: `find` by a path, `get` by a key,
-`elements` of one level, `walk` of all. Dumps, which are documents one behind the other: `documents` cuts them, `decode_all`
-reads them, `canonical_all` brings them to their forms, and `partitions` says where to cut one for many workers.
+Whole documents: `decode` and `encode`; `canonical`, `check` and `first_fault`; `to_json`. Parts of one: `find` by a path, `get` by
+a key, `elements` of one level, `walk` of all. Dumps, which are documents one behind the other: `documents` cuts them, `decode_all`
+reads them, `columns` has them as a table, `canonical_all` brings them to their forms, and `partitions` says where to cut one for many
+workers.
 
 Values are those of Python: float, str, dict, list, bytes, bool, None, int, aware datetimes. An int that is stored in 64 bits
 comes as Int64, a class over int, so that it stays one when it is written again. The other kinds of BSON have small classes
@@ -28,10 +31,10 @@ from __future__ import annotations
 
 import io
 import os
-from typing import Any, BinaryIO, Iterator, List, Optional, Tuple, Union
+from typing import Any, BinaryIO, Dict, Iterator, List, Optional, Tuple, Union
 
 from . import _native, _types
-from ._native import Element, Int64, canonical, check, decode, elements, encode, find, first_fault, get, walk
+from ._native import Element, Int64, canonical, check, decode, elements, encode, find, first_fault, get, to_json, walk
 from ._types import (
     Binary,
     Breach,
@@ -83,6 +86,7 @@ __all__ = [
     "canonical",
     "canonical_all",
     "check",
+    "columns",
     "decode",
     "decode_all",
     "documents",
@@ -92,6 +96,7 @@ __all__ = [
     "first_fault",
     "get",
     "partitions",
+    "to_json",
     "walk",
 ]
 
@@ -127,7 +132,7 @@ def documents(source: Union[BinaryIO, _native.Buffer]) -> Iterator[Tuple[int, An
     for reading bytes, read-only views without a copy where they come from a buffer.
 
     They are cut by their length alone: what is inside, and the 0 at the end, is for who reads them. Raises BsonError, with
-    the offset, where no document can stand: its length is under 5 or more than what is left. Nothing says then where a
+    the offset, where no document can be: its length is under 5 or more than what is left. Nothing says then where a
     next document would begin. A path, or a file that is open for text, raises TypeError at the call.
     """
     if isinstance(source, (str, os.PathLike)):
@@ -159,6 +164,24 @@ def decode_all(
     """
     rest = documents(source)
     return _native.decode_all(rest, pairs=pairs, types=types, max_bytes=max_bytes, max_depth=max_depth)
+
+
+def columns(
+    source: Union[BinaryIO, _native.Buffer],
+    *,
+    missing: Any = None,
+    types: Optional[str] = None,
+    max_bytes: int = MAX_BYTES,
+    max_depth: int = MAX_DEPTH,
+) -> Dict[str, List[Any]]:
+    """A dump as a table, for pandas.DataFrame and its like: by each key of the first level the list of its values, which has a
+    place for each document. Where a document lacks the key, missing is there.
+
+    The keys come in the order in which they are first met, and the table takes memory for each key and document. Values are
+    those of `decode`, and errors those of `decode_all`.
+    """
+    rest = documents(source)
+    return _native.columns(rest, missing=missing, types=types, max_bytes=max_bytes, max_depth=max_depth)
 
 
 def canonical_all(

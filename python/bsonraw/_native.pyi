@@ -1,6 +1,6 @@
 import array
 import mmap
-from typing import Any, Callable, Iterator, List, Mapping, Optional, Sequence, Tuple, Type, TypeVar, Union
+from typing import Any, Callable, Dict, Iterator, List, Mapping, Optional, Sequence, Tuple, Type, TypeVar, Union
 
 from ._types import Breach, BsonError, ElementType, Pairs
 
@@ -56,6 +56,9 @@ def find(data: Buffer, path: Union[str, Sequence[Union[str, int]]], /) -> Option
 def canonical(data: Buffer, /, *, max_bytes: int = ..., max_depth: int = ...) -> bytes: ...
 def check(data: Buffer, /, *, max_bytes: int = ..., max_depth: int = ...) -> Optional[Breach]: ...
 def first_fault(data: Buffer, /, *, max_bytes: int = ..., max_depth: int = ...) -> Optional[BsonError]: ...
+def to_json(
+    data: Buffer, /, *, style: str = ..., indent: Optional[int] = ..., max_bytes: int = ..., max_depth: int = ...
+) -> str: ...
 def documents(read: Optional[Callable[[int], Any]], data: Optional[Buffer], /) -> Documents: ...
 def decode_all(
     documents: Iterator[Tuple[int, Any]],
@@ -66,6 +69,15 @@ def decode_all(
     max_bytes: int = ...,
     max_depth: int = ...,
 ) -> List[Any]: ...
+def columns(
+    documents: Iterator[Tuple[int, Any]],
+    /,
+    *,
+    missing: Any = ...,
+    types: Optional[str] = ...,
+    max_bytes: int = ...,
+    max_depth: int = ...,
+) -> Dict[str, List[Any]]: ...
 def canonical_all(
     data: Buffer, /, *, before: int = ..., max_bytes: int = ..., max_depth: int = ...
 ) -> Tuple["memoryview", "memoryview", int, List[Tuple[int, BsonError]]]: ...

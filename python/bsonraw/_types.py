@@ -134,7 +134,7 @@ class BsonError(ValueError):
     offset: where the element at fault begins, from the first byte on (of a dump: from the dump's); None where there is no
     such place.
     path: for each level, from the outermost on, the number of the element, from 0; where no element could be read, how many
-    stand before.
+    are before.
     keys: the same path by keys, and by numbers in arrays: ".".join(error.keys) is for find.
     """
 
@@ -178,7 +178,7 @@ class BsonError(ValueError):
 class Breach(NamedTuple):
     """The first place, in the order of the bytes, where a document isn't canonical.
 
-    path: for each level the number of the element, from 0; for `Cause.STOP` how many elements stand before.
+    path: for each level the number of the element, from 0; for `Cause.STOP` how many elements are before.
     keys: the same path by keys, and by numbers in arrays; a stop without a key has none for the last level.
     offset: where the element begins.
     """

@@ -380,6 +380,35 @@ PyObject *decoded(const struct bytes *bytes, const struct options *options, uint
     return decoded_as(bytes, options, before, 0);
 }
 
+/* The value of a token, with all that is inside. */
+static PyObject *value_of(const struct maker *maker, const struct bsonraw_token *token) {
+    PyObject *value;
+    if (token->tag == BSONRAW_TAG_DOCUMENT || token->tag == BSONRAW_TAG_ARRAY)
+        return document_of(maker, token + 1, token + 1 + token->inside, token->tag == BSONRAW_TAG_ARRAY);
+    if (token->tag == BSONRAW_TAG_JAVASCRIPT_WITH_SCOPE) value = scoped_of(maker, token);
+    else value = leaf_of(token->tag, maker->bytes + token->payload_at, token->payload_len);
+    return maker->options->types == NULL ? value : in_types(maker->options->types, token->tag, value);
+}
+
+int decode_each(const struct bytes *bytes, const struct options *options, uint64_t before, taker *take, void *to) {
+    struct tokens tokens;
+    struct maker maker = {bytes->at, bytes->len, options};
+    size_t at = 0;
+    int status = tokens_read(&tokens, bytes, options, before);
+    if (status < 0) return -1;
+    while (status == 0 && at < tokens.count) {
+        const struct bsonraw_token *token = &tokens.at[at];
+        PyObject *key = key_at(bytes->at + token->key_at, token->key_len, bytes->len - token->key_at);
+        PyObject *value = key == NULL ? NULL : value_of(&maker, token);
+        status = value == NULL ? -1 : take(to, key, value);
+        Py_XDECREF(value);
+        Py_XDECREF(key);
+        at += 1 + token->inside;
+    }
+    tokens_free(&tokens);
+    return status;
+}
+
 PyObject *py_decode(PyObject *module, PyObject *const *args, Py_ssize_t count, PyObject *names) {
     struct options options;
     struct bytes bytes;
@@ -398,7 +427,7 @@ PyObject *py_decode(PyObject *module, PyObject *const *args, Py_ssize_t count, P
 
 /* What is inside a part of the bytes: a nested document, or an array. */
 static PyObject *inside_of(const struct bytes *bytes, uint32_t at, uint32_t len, int is_array) {
-    struct options options = {SIZE_MAX, 500, 0, 0, NULL};
+    struct options options = {SIZE_MAX, 500, 0, 0, 0, 0, Py_None, NULL};
     struct bytes part = *bytes;
     part.at += at;
     part.len = len;

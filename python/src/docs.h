@@ -53,3 +53,13 @@ PyDoc_STRVAR(check_doc, "check($module, data, /, *, max_bytes=16777216, max_dept
 
 PyDoc_STRVAR(first_fault_doc, "first_fault($module, data, /, *, max_bytes=16777216, max_depth=500)\n--\n\n"
 "The BsonError that decode would raise, or None: it is returned, and not raised.");
+
+PyDoc_STRVAR(to_json_doc,
+"to_json($module, data, /, *, style='relaxed', indent=False, max_bytes=16777216, max_depth=500)\n--\n\n"
+"The document as MongoDB Extended JSON v2, a str that json.loads reads.\n"
+"\n"
+"style=\"relaxed\" has numbers and dates as people read them, style=\"canonical\" the kind of each value. indent=True has a line\n"
+"for each member, indented by two. Each element is printed as it is: a repeated key as often as it is there, an array\n"
+"without its keys. Only quotes, backslashes and control characters are escaped.\n"
+"\n"
+"Raises BsonError as decode does.");

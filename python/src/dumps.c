@@ -192,23 +192,152 @@ static PyObject *decode_rest(Documents *all, const struct options *options) {
     return list;
 }
 
-/* decode_all(documents, ..): the rest of them, decoded. */
-PyObject *py_decode_all(PyObject *module, PyObject *const *args, Py_ssize_t count, PyObject *names) {
-    struct options options;
-    Documents *all;
-    PyObject *list = NULL;
-    (void)module;
-    if (options_read(&options, "decode_all", DECODE_OPTIONS, args, count, names) < 0) return NULL;
-    all = (Documents *)args[0];
-    if (Py_TYPE(args[0]) != documents_type) PyErr_SetString(PyExc_TypeError, "decode_all() takes what documents() gave");
+/* What is made of the rest of documents, which end with it. */
+static PyObject *made_of(PyObject *documents, const struct options *options, PyObject *make(Documents *, const struct options *)) {
+    Documents *all = (Documents *)documents;
+    PyObject *made = NULL;
+    if (Py_TYPE(documents) != documents_type) PyErr_SetString(PyExc_TypeError, "this takes what documents() gave");
     else if (begin(all) == 0) {
         all->is_busy = 1;
-        list = decode_rest(all, &options);
+        made = make(all, options);
         documents_end(all);
         all->is_busy = 0;
     }
-    Py_XDECREF(options.types);
-    return list;
+    Py_XDECREF(options->types);
+    return made;
+}
+
+/* decode_all(documents, ..): the rest of them, decoded. */
+PyObject *py_decode_all(PyObject *module, PyObject *const *args, Py_ssize_t count, PyObject *names) {
+    struct options options;
+    (void)module;
+    if (options_read(&options, "decode_all", DECODE_OPTIONS, args, count, names) < 0) return NULL;
+    return made_of(args[0], &options, decode_rest);
+}
+
+/* ---- by columns ---- */
+
+/* The values of one key, of all documents up to the last one that has it. */
+struct column {
+    PyObject *key, *values;
+    size_t count;
+};
+
+struct columns {
+    PyObject *numbers; /* of columns, by key */
+    PyObject *missing;
+    struct column *at;
+    size_t count, room;
+    size_t document; /* how many documents are before the one that is read */
+    size_t next;     /* the number of the column that the next key is most likely in: the one behind the last key's */
+};
+
+static int more_columns(struct columns *all) {
+    size_t room = 2 * all->room + 16;
+    struct column *more = PyMem_Realloc(all->at, room * sizeof *more);
+    if (more == NULL) {
+        PyErr_NoMemory();
+        return -1;
+    }
+    all->at = more;
+    all->room = room;
+    return 0;
+}
+
+/* Begins the column of a key, which has none. */
+static struct column *new_column(struct columns *all, PyObject *key) {
+    struct column *column;
+    PyObject *number, *values;
+    int status;
+    if (all->count == all->room && more_columns(all) < 0) return NULL;
+    number = PyLong_FromSize_t(all->count);
+    status = number == NULL ? -1 : PyDict_SetItem(all->numbers, key, number);
+    Py_XDECREF(number);
+    values = status < 0 ? NULL : PyList_New(0);
+    if (values == NULL) return NULL;
+    Py_INCREF(key);
+    column = &all->at[all->count++];
+    column->key = key;
+    column->values = values;
+    column->count = 0;
+    all->next = all->count;
+    return column;
+}
+
+static struct column *column_of(struct columns *all, PyObject *key) {
+    PyObject *number;
+    if (all->next < all->count && all->at[all->next].key == key) return &all->at[all->next++];
+    number = PyDict_GetItemWithError(all->numbers, key);
+    if (number == NULL) return PyErr_Occurred() ? NULL : new_column(all, key);
+    all->next = PyLong_AsSize_t(number);
+    return &all->at[all->next++];
+}
+
+/* Has a column as many values as there are documents before this one. */
+static int pad(struct column *column, size_t count, PyObject *missing) {
+    for (; column->count < count; column->count++)
+        if (PyList_Append(column->values, missing) < 0) return -1;
+    return 0;
+}
+
+/* Puts a value into its column; of a repeated key the last one stays. */
+static int take_value(void *to, PyObject *key, PyObject *value) {
+    struct columns *all = to;
+    struct column *column = column_of(all, key);
+    if (column == NULL || pad(column, all->document, all->missing) < 0) return -1;
+    if (column->count > all->document) {
+        Py_INCREF(value);
+        return PyList_SetItem(column->values, (Py_ssize_t)all->document, value);
+    }
+    column->count++;
+    return PyList_Append(column->values, value);
+}
+
+static int read_columns(struct columns *columns, Documents *all, const struct options *options) {
+    size_t at, len;
+    int status;
+    while ((status = next_document(all, &at, &len)) == 1) {
+        struct bytes document = all->block;
+        document.at += at;
+        document.len = len;
+        columns->next = 0;
+        if (decode_each(&document, options, all->before + at, take_value, columns) < 0) return -1;
+        columns->document++;
+    }
+    return status;
+}
+
+/* The columns by their keys. */
+static PyObject *lists_of(struct columns *columns) {
+    PyObject *lists = PyDict_New();
+    size_t number;
+    for (number = 0; lists != NULL && number < columns->count; number++) {
+        struct column *column = &columns->at[number];
+        if (pad(column, columns->document, columns->missing) < 0 || PyDict_SetItem(lists, column->key, column->values) < 0)
+            Py_CLEAR(lists);
+    }
+    return lists;
+}
+
+static PyObject *columns_of(Documents *all, const struct options *options) {
+    struct columns columns = {PyDict_New(), options->missing, NULL, 0, 0, 0, 0};
+    PyObject *lists = NULL;
+    if (columns.numbers != NULL && read_columns(&columns, all, options) == 0) lists = lists_of(&columns);
+    while (columns.count > 0) {
+        Py_DECREF(columns.at[--columns.count].key);
+        Py_DECREF(columns.at[columns.count].values);
+    }
+    PyMem_Free(columns.at);
+    Py_XDECREF(columns.numbers);
+    return lists;
+}
+
+/* columns(documents, ..): the values of the rest of them, by key. */
+PyObject *py_columns(PyObject *module, PyObject *const *args, Py_ssize_t count, PyObject *names) {
+    struct options options;
+    (void)module;
+    if (options_read(&options, "columns", OF_COLUMNS, args, count, names) < 0) return NULL;
+    return made_of(args[0], &options, columns_of);
 }
 
 int dumps_add(PyObject *module) {

@@ -18,13 +18,16 @@ struct call {
     struct told told;
 };
 
+static int call_open(struct call *call, PyObject *data, const struct options *options) {
+    call->told.max_bytes = options->max_bytes;
+    call->told.max_depth = options->max_depth;
+    call->told.before = 0;
+    return bytes_open(&call->bytes, data);
+}
+
 static int call_begin(struct call *call, const char *name, PyObject *const *args, Py_ssize_t count, PyObject *names) {
     struct options options;
-    if (options_read(&options, name, LIMITS, args, count, names) < 0) return -1;
-    call->told.max_bytes = options.max_bytes;
-    call->told.max_depth = options.max_depth;
-    call->told.before = 0;
-    return bytes_open(&call->bytes, args[0]);
+    return options_read(&options, name, LIMITS, args, count, names) < 0 ? -1 : call_open(call, args[0], &options);
 }
 
 static PyObject *py_check(PyObject *module, PyObject *const *args, Py_ssize_t count, PyObject *names) {
@@ -106,6 +109,69 @@ static PyObject *py_canonical(PyObject *module, PyObject *const *args, Py_ssize_
     return form;
 }
 
+/* ---- Extended JSON ---- */
+
+/* One room for a text is kept for the next call. Who takes it owns it until it is given back. */
+static struct room {
+    uint8_t *at;
+    size_t len;
+} kept;
+
+#define LEAST_ROOM 65536
+#define KEPT_ROOM (1 << 20) /* a larger one is freed */
+
+static int make_room(struct room *room, size_t len) {
+    PyMem_Free(room->at);
+    room->at = PyMem_Malloc(len);
+    room->len = room->at == NULL ? 0 : len;
+    if (room->at == NULL) PyErr_NoMemory();
+    return room->at == NULL ? -1 : 0;
+}
+
+static void give_back(struct room *room) {
+    if (kept.at == NULL && room->len <= KEPT_ROOM) kept = *room;
+    else PyMem_Free(room->at);
+}
+
+/* The room that most texts of a document of so many bytes fit into. */
+static size_t room_for(size_t len, size_t max_bytes) {
+    return len < LEAST_ROOM / 4 || len > max_bytes || len > INT32_MAX ? LEAST_ROOM : 3 * len;
+}
+
+/* Has the text written into a room that is large enough: 0, or -1 with an error set. */
+static int write_text(struct call *call, const struct options *options, struct room *room) {
+    struct told *told = &call->told;
+    const struct bytes *bytes = &call->bytes;
+    size_t wanted = room_for(bytes->len, told->max_bytes);
+    do {
+        if (room->len < wanted && make_room(room, wanted) < 0) return -1;
+        TELL(told, bytes, bsonraw_json(bytes->at, bytes->len, told->max_bytes, told->max_depth, (uint32_t)options->is_canonical,
+                                       (uint32_t)options->is_indented, room->at, room->len, &told->report, told->path,
+                                       PATH_ROOM));
+        wanted = (size_t)told->report.count + 1;
+    } while (told->status == BSONRAW_SMALL_BUFFER);
+    if (told->status != BSONRAW_OK) set_error_of(bytes, told);
+    return told->status == BSONRAW_OK ? 0 : -1;
+}
+
+static PyObject *py_to_json(PyObject *module, PyObject *const *args, Py_ssize_t count, PyObject *names) {
+    struct options options;
+    struct call call;
+    struct room room;
+    PyObject *text = NULL;
+    (void)module;
+    if (options_read(&options, "to_json", OF_A_TEXT, args, count, names) < 0 || call_open(&call, args[0], &options) < 0)
+        return NULL;
+    room = kept;
+    kept.at = NULL;
+    kept.len = 0;
+    if (write_text(&call, &options, &room) == 0)
+        text = PyUnicode_DecodeUTF8((const char *)room.at, (Py_ssize_t)call.told.report.count, "strict");
+    give_back(&room);
+    bytes_close(&call.bytes);
+    return text;
+}
+
 #include "docs.h"
 
 static PyMethodDef calls[] = {
@@ -118,8 +184,10 @@ static PyMethodDef calls[] = {
     {"canonical", FASTCALL(py_canonical), METH_FASTCALL | METH_KEYWORDS, canonical_doc},
     {"check", FASTCALL(py_check), METH_FASTCALL | METH_KEYWORDS, check_doc},
     {"first_fault", FASTCALL(py_first_fault), METH_FASTCALL | METH_KEYWORDS, first_fault_doc},
+    {"to_json", FASTCALL(py_to_json), METH_FASTCALL | METH_KEYWORDS, to_json_doc},
     {"documents", FASTCALL(py_documents), METH_FASTCALL, NULL},
     {"decode_all", FASTCALL(py_decode_all), METH_FASTCALL | METH_KEYWORDS, NULL},
+    {"columns", FASTCALL(py_columns), METH_FASTCALL | METH_KEYWORDS, NULL},
     {"canonical_all", FASTCALL(py_canonical_all), METH_FASTCALL | METH_KEYWORDS, NULL},
     {"partitions", FASTCALL(py_partitions), METH_FASTCALL, NULL},
     {"element", FASTCALL(py_element), METH_FASTCALL, NULL},

@@ -176,6 +176,8 @@ struct options {
     size_t max_depth;
     size_t before; /* how many bytes of a dump are before those that are given */
     int is_pairs;
+    int is_canonical, is_indented; /* of Extended JSON */
+    PyObject *missing; /* what is in the place of a value that isn't there */
     PyObject *types; /* a dict of tags and what makes another class of a value; NULL for the package's own classes */
 };
 
@@ -187,6 +189,9 @@ void tokens_free(struct tokens *tokens);
 
 PyObject *key_of(const uint8_t *at, size_t len);
 PyObject *decoded(const struct bytes *bytes, const struct options *options, uint64_t before);
+/* Has each key of the first level taken, with its value: 0, or -1 with an error set. */
+typedef int taker(void *to, PyObject *key, PyObject *value);
+int decode_each(const struct bytes *bytes, const struct options *options, uint64_t before, taker *take, void *to);
 PyObject *py_decode(PyObject *module, PyObject *const *args, Py_ssize_t count, PyObject *names);
 /* The value of one element of any kind. */
 PyObject *value_at(const struct bytes *bytes, const struct bsonraw_iter *iter);
@@ -197,8 +202,10 @@ PyObject *value_at(const struct bytes *bytes, const struct bsonraw_iter *iter);
 #define MAX_DEPTH 500
 
 extern const char *const DECODE_OPTIONS[];
+extern const char *const OF_COLUMNS[];
 extern const char *const LIMITS[];
 extern const char *const OF_A_PART[];
+extern const char *const OF_A_TEXT[];
 extern const char *const DEPTH[];
 int options_given(struct options *options, const char *call, const char *const *names, PyObject *const *args, Py_ssize_t count,
                   PyObject *names_given);
@@ -210,6 +217,8 @@ static inline int options_read(struct options *options, const char *call, const 
     options->max_depth = MAX_DEPTH;
     options->before = 0;
     options->is_pairs = 0;
+    options->is_canonical = options->is_indented = 0;
+    options->missing = Py_None;
     options->types = NULL;
     return count == 1 && names_given == NULL ? 0 : options_given(options, call, names, args, count, names_given);
 }
@@ -227,6 +236,7 @@ PyObject *py_find(PyObject *module, PyObject *const *args, Py_ssize_t count);
 PyObject *py_element(PyObject *module, PyObject *const *args, Py_ssize_t count);
 PyObject *py_documents(PyObject *module, PyObject *const *args, Py_ssize_t count);
 PyObject *py_decode_all(PyObject *module, PyObject *const *args, Py_ssize_t count, PyObject *names);
+PyObject *py_columns(PyObject *module, PyObject *const *args, Py_ssize_t count, PyObject *names);
 PyObject *py_canonical_all(PyObject *module, PyObject *const *args, Py_ssize_t count, PyObject *names);
 PyObject *py_partitions(PyObject *module, PyObject *const *args, Py_ssize_t count);
 PyObject *py_encode(PyObject *module, PyObject *const *args, Py_ssize_t count, PyObject *names);

@@ -13,13 +13,14 @@ from typing import Any, Callable, List
 import bsonraw
 from made import all_made
 
+REPEATED = bytes.fromhex("13000000 106100 01000000 106100 02000000 00")
 CALLS = int(sys.argv[1]) if len(sys.argv) > 1 else 1_000_000
 
 
 def quietly(call: Callable[[Any], Any], data: Any) -> None:
     try:
         call(data)
-    except (bsonraw.BsonError, TypeError, BufferError):
+    except (ValueError, TypeError, BufferError):
         pass
 
 
@@ -45,6 +46,9 @@ STEPS: List[Callable[[Any], Any]] = [
     bsonraw.canonical,
     bsonraw.check,
     bsonraw.first_fault,
+    bsonraw.to_json,
+    lambda data: bsonraw.to_json(data, style="canonical", indent=True),
+    lambda data: bsonraw.to_json(data, max_depth=1, indent=3),
     lambda data: [element.value for element in bsonraw.elements(bytearray(data))],
     lambda data: [bsonraw.find(data, path) for path, _ in bsonraw.walk(data)][:0],
     lambda data: bsonraw.get(data, "a"),
@@ -52,6 +56,8 @@ STEPS: List[Callable[[Any], Any]] = [
     values,
     half,
     lambda data: bsonraw.decode_all(io.BytesIO(data * 2)),
+    lambda data: bsonraw.columns(data * 3, missing=data),
+    lambda data: bsonraw.columns(data + REPEATED, max_depth=2),
     lambda data: list(bsonraw.documents(io.BytesIO(data + b"x"))),
     lambda data: list(bsonraw.documents(memoryview(data))),
     lambda data: bsonraw.canonical_all(data * 3 + b"x", max_depth=3),

@@ -133,16 +133,33 @@ def reads(data: bytes, seconds: float) -> None:
         row(f"{name}, typical", least)
 
 
+def texts(data: bytes, seconds: float) -> None:
+    row("to_json, typical", *turns([(bsonraw.to_json, data)], seconds))
+    try:
+        from bson import json_util
+    except ImportError as error:
+        print(f"json_util isn't there ({error}); Debian's is in python3-pymongo")
+        return
+
+    def dumps(value: Any) -> str:
+        return json_util.dumps(value, json_options=json_util.RELAXED_JSON_OPTIONS)
+
+    value = bson.decode(data)
+    row("to_json; json_util.dumps of decoded values", *turns([(bsonraw.to_json, data), (dumps, value)], seconds))
+
+
 def frame(seconds: float) -> None:
     import pandas
 
     fields = ({"_id": number, "name": f"user_{number}", "age": number % 90, "score": number / 2, "ok": True} for number in range(100_000))
     dump = b"".join(map(bsonraw.encode, fields))
 
-    def of(decode_all: Callable[[Any], Any]) -> Any:
-        return pandas.DataFrame(decode_all(dump))
+    def of(read: Callable[[Any], Any]) -> Any:
+        return pandas.DataFrame(read(dump))
 
-    row("a DataFrame of 100,000 documents", *turns([(of, bsonraw.decode_all), (of, bson.decode_all)], max(seconds, 10)))
+    for read in (bsonraw.columns, bsonraw.decode_all):
+        name = f"a DataFrame of 100,000 documents, by {read.__name__}"
+        row(name, *turns([(of, read), (of, bson.decode_all)], max(seconds, 10)))
 
 
 def shared(work: Callable[[bytes], Any], made: List[bytes], count: int) -> Tuple[float, float]:
@@ -191,6 +208,7 @@ def main() -> None:
     codecs(made, options.seconds)
     if not options.documents:
         reads(made["typical"], options.seconds)
+        texts(made["typical"], options.seconds)
         threads()
     if options.frame:
         frame(options.seconds)

@@ -31,6 +31,7 @@ CALLS = (
     bsonraw.canonical,
     bsonraw.check,
     bsonraw.first_fault,
+    bsonraw.to_json,
 )
 
 
@@ -62,13 +63,13 @@ def answers(data: Any) -> List[Any]:
     items = [(item.key, item.kind, bytes(item.payload), item.value) for item in bsonraw.elements(data)]
     walked = [(path, bytes(item.payload), item.value) for path, item in bsonraw.walk(data)]
     found = bytes(bsonraw.get(data, "a").payload), bytes(bsonraw.find(data, "a").payload)
-    whole = bsonraw.decode(data), bsonraw.canonical(data), bsonraw.check(data), bsonraw.first_fault(data)
+    whole = bsonraw.decode(data), bsonraw.canonical(data), bsonraw.check(data), bsonraw.first_fault(data), bsonraw.to_json(data)
     return [items, walked, found, *whole]
 
 
 class Buffers(unittest.TestCase):
     def test_each_kind_of_buffer_is_read(self) -> None:
-        wanted = [("a", ElementType.NULL, b"", None)], [(("a",), b"", None)], (b"", b""), {"a": None}, ONE_NULL, None, None
+        wanted = [("a", ElementType.NULL, b"", None)], [(("a",), b"", None)], (b"", b""), {"a": None}, ONE_NULL, None, None, '{"a":null}'
         self.assertEqual(answers(ONE_NULL), list(wanted))
         for data, some in ((REPEATED, buffers(REPEATED)), (ONE_NULL, buffers(ONE_NULL) + wide_buffers(ONE_NULL))):
             for buffer in some:
@@ -178,7 +179,7 @@ class Buffers(unittest.TestCase):
 class Limits(unittest.TestCase):
     def test_bytes(self) -> None:
         self.assertEqual(bsonraw.canonical(GREETING, max_bytes=19), GREETING)
-        for call in (bsonraw.canonical, bsonraw.check, bsonraw.decode, bsonraw.walk):
+        for call in (bsonraw.canonical, bsonraw.check, bsonraw.decode, bsonraw.walk, bsonraw.to_json):
             with self.assertRaises(BsonError) as caught:
                 call(GREETING, max_bytes=18)
             error = caught.exception
@@ -191,7 +192,7 @@ class Limits(unittest.TestCase):
 
     def test_levels(self) -> None:
         data = framed(b"\x03\0" + framed(b"\x04a\0" + framed(b"")))
-        for call in (bsonraw.canonical, bsonraw.check, bsonraw.decode, bsonraw.walk):
+        for call in (bsonraw.canonical, bsonraw.check, bsonraw.decode, bsonraw.walk, bsonraw.to_json):
             call(data, max_depth=3)
             with self.assertRaises(BsonError) as caught:
                 call(data, max_depth=2)
@@ -200,7 +201,7 @@ class Limits(unittest.TestCase):
             self.assertEqual((error.path, error.keys, error.key), ((0, 0), ("", "a"), "a"))
 
     def test_limits_that_are_none(self) -> None:
-        for call in (bsonraw.canonical, bsonraw.first_fault, bsonraw.check, bsonraw.decode, bsonraw.walk):
+        for call in (bsonraw.canonical, bsonraw.first_fault, bsonraw.check, bsonraw.decode, bsonraw.walk, bsonraw.to_json):
             for name in ("max_bytes", "max_depth"):
                 for limit in (-1, 1 << 63, 1 << 64):
                     self.assertRaises(ValueError, call, GREETING, **{name: limit})
@@ -377,7 +378,7 @@ data = framed(b"".join(b"\\x0a%d\\0" % number for number in range(300_000)))
 with open("/proc/self/statm") as state:
     used = int(state.read().split()[0]) * resource.getpagesize()
 resource.setrlimit(resource.RLIMIT_AS, (used + (7 << 20),) * 2)
-for call in (bsonraw.decode, bsonraw.walk):
+for call in (bsonraw.decode, bsonraw.walk, bsonraw.to_json):
     try:
         call(data)
     except MemoryError:
@@ -391,7 +392,7 @@ class Memory(unittest.TestCase):
     def test_no_memory(self) -> None:
         done = subprocess.run([sys.executable, "-c", IN_LITTLE_MEMORY], stdout=subprocess.PIPE, stderr=subprocess.PIPE)
         self.assertEqual(
-            (done.stdout, done.stderr, done.returncode), (b"MemoryError\n" * 2 + b"300000 NULL\n", b"", 0)
+            (done.stdout, done.stderr, done.returncode), (b"MemoryError\n" * 3 + b"300000 NULL\n", b"", 0)
         )
 
 

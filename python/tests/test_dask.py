@@ -12,6 +12,8 @@ import time
 import unittest
 from pathlib import Path
 from typing import Any, Dict, List
+from unittest.mock import patch
+from zlib import crc32
 
 import bsonraw
 from made import Maker, with_repeats
@@ -74,6 +76,21 @@ def plain_loop(folder: Path) -> Dict[str, Any]:
     return wanted
 
 
+class Here:
+    """A client whose tasks are run at once, in this process."""
+
+    as_completed = staticmethod(iter)
+
+    def map(self, call: Any, items: List[Any], pure: bool, **more: Any) -> List[Any]:
+        return [call(item, **more) for item in items]
+
+    def submit(self, call: Any, *arguments: Any, pure: bool) -> Any:
+        return call(*arguments)
+
+    def gather(self, found: List[Any]) -> List[Any]:
+        return found
+
+
 class Canonical(unittest.TestCase):
     @classmethod
     def setUpClass(cls) -> None:
@@ -102,6 +119,15 @@ class Canonical(unittest.TestCase):
             folder = self.folder / f"alone{threads}"
             dask_canonical.run_alone(self.dumps, folder, threads, partition)
             self.compare(folder)
+
+    def test_marks_that_many_forms_share(self) -> None:
+        alone, tasks = self.folder / "shared", self.folder / "tasks"
+        with patch.object(dask_canonical, "hash", lambda form: crc32(form) % 20_000, create=True):
+            dask_canonical.run_alone(self.dumps, alone, partition=50_000)
+        self.compare(alone)
+        with patch.object(dask_canonical, "crc32", lambda form: len(form) % 3), patch.object(dask_canonical, "engine", Here):
+            dask_canonical.run_on(Here(), self.dumps, tasks, partition=50_000)
+        self.compare(tasks)
 
     def test_what_is_missing_gets_a_line(self) -> None:
         script = str(EXAMPLES / "dask_canonical.py")

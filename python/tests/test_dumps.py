@@ -114,6 +114,48 @@ class Cut(unittest.TestCase):
         self.assertRaises(StopIteration, next, documents)
 
 
+def table_of(documents: List[Any], missing: Any = None) -> Any:
+    """The columns of decoded documents, plainly."""
+    keys = dict.fromkeys(key for document in documents for key in document)
+    return {key: [document.get(key, missing) for document in documents] for key in keys}
+
+
+class Columns(unittest.TestCase):
+    def test_a_place_for_each_document(self) -> None:
+        rows = [{"a": 1, "b": "x"}, {}, {"b": [{"c": None}], "d": {}}, {"d": 2.5, "a": bsonraw.Int64(7)}, {"e": True}]
+        dump = b"".join(map(bsonraw.encode, rows))
+        wanted = {"a": [1, None, None, 7, None], "b": ["x", None, [{"c": None}], None, None]}
+        wanted.update(d=[None, None, {}, 2.5, None], e=[None, None, None, None, True])
+        for source in sources(dump):
+            found = bsonraw.columns(source)
+            self.assertEqual((found, list(found)), (wanted, ["a", "b", "d", "e"]))
+        self.assertEqual(bsonraw.columns(dump, missing=0)["e"], [0, 0, 0, 0, True])
+        self.assertEqual((bsonraw.columns(b""), bsonraw.columns(EMPTY)), ({}, {}))
+
+    def test_repeated_keys_and_other_orders(self) -> None:
+        ab, ba = framed(b"\x0aa\0\x08b\0\1"), framed(b"\x08b\0\0\x0aa\0")
+        self.assertEqual(bsonraw.columns(REPEATED + ab + ba + REPEATED), {"a": [2, None, None, 2], "b": [None, True, False, None]})
+
+    def test_as_decode_gives_them(self) -> None:
+        made = [data for data in all_made(13, 2000) if bsonraw.first_fault(data) is None]
+        documents = bsonraw.decode_all(io.BytesIO(b"".join(made)))
+        found = bsonraw.columns(io.BytesIO(b"".join(made)), missing=self)
+        wanted = table_of(documents, self)
+        self.assertEqual(list(found), list(wanted))
+        for key, values in wanted.items():
+            self.assertEqual(list(map(repr, found[key])), list(map(repr, values)))
+
+    def test_errors(self) -> None:
+        damaged = framed(b"\x08a\0\1" + b"\x08b\0\2")
+        with self.assertRaises(BsonError) as caught:
+            bsonraw.columns(DUMP[:24] + damaged)
+        self.assertEqual((caught.exception.reason, caught.exception.offset), (Reason.BAD_BOOLEAN, 32))
+        self.assertRaises(BsonError, bsonraw.columns, REPEATED, max_bytes=18)
+        self.assertRaises(BsonError, bsonraw.columns, b"\5")
+        self.assertRaises(TypeError, bsonraw.columns, REPEATED, pairs=True)
+        self.assertRaises(TypeError, bsonraw.columns, "dump.bson")
+
+
 class Decoded(unittest.TestCase):
     def test_all_of_a_dump(self) -> None:
         data = EMPTY + REPEATED + EMPTY

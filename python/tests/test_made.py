@@ -143,7 +143,7 @@ class BesideAPlainReader(unittest.TestCase):
             assert place is not None
             said = (line(error)[6:], error.path, error.offset, error.key)
             self.assertEqual(said, tuple(place), data.hex())
-            for call in (bsonraw.canonical, bsonraw.decode, bsonraw.walk):
+            for call in (bsonraw.canonical, bsonraw.decode, bsonraw.walk, bsonraw.to_json):
                 with self.assertRaises(bsonraw.BsonError) as caught:
                     call(data)
                 self.assertEqual(caught.exception.args, error.args)

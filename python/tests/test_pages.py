@@ -16,6 +16,7 @@ import bsonraw
 FOLDER = Path(__file__).resolve().parents[2]
 PAGE = FOLDER / "docs" / "PYTHON.md"
 SAID = """\
+{"name":"Ada","born":1815,"tags":["maths","poetry"]}
 2
 0 name Ada
 [38]
@@ -36,7 +37,7 @@ def blocks_of(page: Path) -> list:
 class Pages(unittest.TestCase):
     def test_the_page_for_python(self) -> None:
         blocks = blocks_of(PAGE)
-        self.assertEqual(len(blocks), 7)
+        self.assertEqual(len(blocks), 8)
         names: dict = {}
         before = os.getcwd()
         with tempfile.TemporaryDirectory() as folder, redirect_stdout(StringIO()) as said:
