@@ -92,6 +92,28 @@ prove() {
     esac
 }
 
+# build_over CRATE FOLDER FLAG..: builds a crate whose files are in this folder by the kit's compiler itself, over what was kept of
+# the crates below it. That proves the crate alone.
+build_over() {
+    crate=$1
+    folder=$2
+    kit=$(dirname "$(rt doc)")
+    shift 2
+    for name in $(sed -n "s/^$crate\( staticlib\)\{0,1\}: *//p" "$root/crates.txt"); do
+        if [ -d "$root/crates/$name" ]; then
+            set -- "$@" --extern "$name=$root/crates/$name/out/rlib/$name.rlib"
+        else
+            set -- "$@" --extern "$name=$kit/rlibs/$name.rlib"
+        fi
+    done
+    for name in $(crates "$crate"); do
+        [ "$name" = "$crate" ] || set -- "$@" -L "dependency=$root/crates/$name/out/rlib"
+    done
+    (cd "$folder" && "$kit/bin/rattle" build --crate-name "$crate" --links "$crate=" "$@" --extern "std=$kit/rlibs/std.rlib" \
+        -L "dependency=$kit/rlibs" --antt-project "$kit/rattle/logic/antt-project.json" --logic-built "$kit/logic_built" \
+        --toolchain "$kit/toolchain" --backend llvm)
+}
+
 # build FOLDER CRATE..: proves and builds the crates and those below them; the log and the status are left in the folder
 build() {
     folder=$1
@@ -137,7 +159,10 @@ run_unproved() {
     trap 'rm -f "$said"' EXIT
     (cd "$root/crates/$crate" && rt try -- "$@") 2>"$said"
     status=$(sed -n 's/^run=ended status=\([0-9]*\) .*/\1/p' "$said")
-    [ -n "$status" ] && exit "$status"
+    if [ -n "$status" ]; then
+        sed '/^checked: ended /,$d' "$said" >&2 # what the program itself says there
+        exit "$status"
+    fi
     cat "$said" >&2
     say "the program didn't run: see above what rt says"
     exit 125

@@ -12,7 +12,60 @@ program_of() {
     echo "$root/crates/$1/out/$1"
 }
 
-# The checksums of all that is built, which an installation is made of.
+# The commit that the crates are of, as `--version` shows it; or "unreleased", where something of them is in no commit, and in
+# bin/test, which sets BSONRAW_COMMIT to that: it proves nothing a second time.
+crates_commit() {
+    if [ "${BSONRAW_COMMIT-}" != unreleased ] && [ "$(git -C "$root" rev-parse --show-toplevel 2>/dev/null)" = "$(realpath "$root")" ] &&
+        [ -z "$(git -C "$root" status --porcelain -- crates crates.txt)" ]; then
+        git -C "$root" rev-parse HEAD | cut -c 1-12
+    else
+        echo unreleased
+    fi
+}
+
+# released CRATE: the program that is installed: the one that its build leaves; or where src/version.rt has a version, and the
+# crates are of a commit, the one that build_released makes
+released() {
+    if [ -e "$root/crates/$1/src/version.rt" ] && [ "$(crates_commit)" != unreleased ]; then
+        echo "$root/crates/$1/out/released/$1"
+    else
+        program_of "$1"
+    fi
+}
+
+# released_from CRATE: what its program is made from that is installed: the commit, and the program that its build leaves
+released_from() {
+    echo "$(crates_commit) $(sha256sum <"$(program_of "$1")")"
+}
+
+# build_released: builds each program with the commit in its version once more, unless that was done. Only what reads the version
+# is proved again, where the crate's work was kept.
+build_released() (
+    for program in $programs; do
+        made=$(released "$program")
+        from=${made%/*}/from
+        [ "$made" != "$(program_of "$program")" ] && [ "$(cat "$from" 2>/dev/null)" != "$(released_from "$program")" ] || continue
+        say "$program is built once more, with its commit"
+        room=$(mktemp -d) || exit 1
+        trap 'rm -rf "$room"' EXIT
+        mkdir -p "${made%/*}" "$room/crate" && build_with_commit "$program" "$room/crate" >"$room/said" 2>&1 &&
+            cp "$room/crate/out/program" "$made" && released_from "$program" >"$from" || { cat "$room/said" >&2; exit 1; }
+        rm -rf "$room"
+    done
+)
+
+# build_with_commit CRATE FOLDER: builds a copy of a crate in this folder with the commit in place of "unreleased"
+build_with_commit() {
+    cp -a "$root/crates/$1/src" "$root/crates/$1/specs" "$root/crates/$1/proofs" "$2" && mkdir "$2/out" &&
+        sed -i "s/(unreleased)/($(crates_commit))/" "$2/src/version.rt" || return 1
+    if [ -d "$root/crates/$1/out/incremental" ]; then cp -a "$root/crates/$1/out/incremental" "$2/out" || return 1; fi
+    kit=$(dirname "$(rt doc)")
+    build_over "$1" "$2" src/main.rt --incremental out/incremental -o out/program.o &&
+        "$kit/bin/rattle-link" --target x86_64-unknown-linux-gnu --toolchain "$kit/toolchain" -o "$2/out/program" "$2/out/program.o" \
+            "$kit/c/libos_c.a" "$kit/c/liblibc_c.a"
+}
+
+# The checksums of all that is built, which an installation is made of, but for programs that are built with their commit.
 checksums() {
     for name in $programs; do
         (cd "$root" && sha256sum "crates/$name/out/$name") || return 1
@@ -24,7 +77,7 @@ checksums() {
 put_programs() {
     for name in $programs; do
         put=$2/$(echo "$name" | tr _ -)
-        "$1" --strip-all "$(program_of "$name")" "$put" && chmod 755 "$put" || return 1
+        "$1" --strip-all "$(released "$name")" "$put" && chmod 755 "$put" || return 1
     done
 }
 
