@@ -9,25 +9,10 @@ set -u
 root=$(dirname "$(dirname "$(realpath "$0")")")
 . "$root/bin/build.sh"
 cd "$root/crates/bsonraw_c" || exit 1
-kit=$(dirname "$(rt doc)")
 mkdir -p out || exit 1
 if [ -e ../raw_bson/out/rlib/stamp ]; then
     rt lib
     exit
 fi
 
-set -- --extern "std=$kit/rlibs/std.rlib"
-for crate in $(sed -n 's/^bsonraw_c staticlib: *//p' ../../crates.txt); do
-    if [ -d "../$crate" ]; then
-        set -- "$@" --extern "$crate=$root/crates/$crate/out/rlib/$crate.rlib"
-    else
-        set -- "$@" --extern "$crate=$kit/rlibs/$crate.rlib"
-    fi
-done
-set -- "$@" -L "dependency=$kit/rlibs"
-for crate in $(crates bsonraw_c); do
-    [ "$crate" = bsonraw_c ] || set -- "$@" -L "dependency=$root/crates/$crate/out/rlib"
-done
-"$kit/bin/rattle" build --crate-name bsonraw_c src/lib.rt --crate-type staticlib --links bsonraw_c= "$@" \
-    --antt-project "$kit/rattle/logic/antt-project.json" --logic-built "$kit/logic_built" \
-    --toolchain "$kit/toolchain" --backend llvm -o out/libbsonraw_c.a
+build_over bsonraw_c . src/lib.rt --crate-type staticlib -o out/libbsonraw_c.a

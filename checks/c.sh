@@ -50,7 +50,7 @@ link() {
         "$kit/lib/libc.so.6" "$kit/lib/libc_nonshared.a" "$kit/lib/crtendS.o" "$kit/lib/crtn.o"
 }
 
-# The functions that the header declares, one a line.
+# The functions that the header declares and the library has, one a line.
 declared() {
     sed -n '/BSONRAW_INLINE/!s/^[A-Za-z].* \(bsonraw_[a-z_]*\)(.*/\1/p' c/bsonraw.h | sort
 }
@@ -73,7 +73,7 @@ look_at_libraries() {
 # header_compiles FILE: by each standard and compiler
 header_compiles() {
     printf '#include "%s"\n' "$1" >"$work/includes.c"
-    for standard in c99 c11 c17 c23; do
+    for standard in c89 c99 c11 c17 c23; do
         compile -std=$standard -Weverything -Wno-pre-c23-compat -Werror -fsyntax-only "$work/includes.c" || return 1
     done
     for standard in c++98 c++11 c++17 c++20 c++23; do
@@ -122,8 +122,12 @@ END
 
 # what the examples of the header print of a document, one behind the other, with a dot for each byte that isn't printable
 run_examples() {
-    # {"name": "Emmy", "born": 1882, "authors": [{"name": "Ada"}]}, and the same without the 0 of the last text
-    printf '\102\0\0\0\2name\0\5\0\0\0Emmy\0\20born\0\132\7\0\0\4authors\0\33\0\0\0\0030\0\23\0\0\0\2name\0\4\0\0\0Ada\0\0\0\0' >"$work/sound"
+    # {"name": "Emmy", "born": 1882, "authors": [{"name": "Ada"}], "run": the code f(x) with the scope {"x": 1}}, and the same
+    # without the 0 of the last text
+    {
+        printf '\140\0\0\0\2name\0\5\0\0\0Emmy\0\20born\0\132\7\0\0\4authors\0\33\0\0\0\0030\0\23\0\0\0\2name\0\4\0\0\0Ada\0\0\0'
+        printf '\17run\0\31\0\0\0\5\0\0\0f(x)\0\14\0\0\0\20x\0\1\0\0\0\0\0'
+    } >"$work/sound"
     sed 's/Ada./Ada!/' "$work/sound" >"$work/damaged"
     link libbsonraw.a "$work/examples" "$work/examples.o" || return 1
     for name in sound damaged; do
@@ -159,7 +163,7 @@ page() {
 
 look_at_examples() {
     examples c/bsonraw.h >"$work/examples.c"
-    [ "$(grep -c '^void example_.*{$' "$work/examples.c")" = 19 ] || fails "the header doesn't have an example of each group of calls"
+    [ "$(grep -c '^void example_.*{$' "$work/examples.c")" = 20 ] || fails "the header doesn't have an example of each group of calls"
     # shellcheck disable=SC2086
     compile -std=c99 $warnings -Wno-unused-variable -Wno-shadow -O1 -fPIE -c -o "$work/examples.o" "$work/examples.c" &&
         run_examples || fails "an example of the header doesn't do what it says"
@@ -253,7 +257,7 @@ build() {
         # shellcheck disable=SC2086
         compile -std=c99 $warnings -O1 -fPIE -c -o "$work/$name.o" "c/tests/$name.c" || return 1
     done
-    for name in agree buffers build large memory numbers reasons threads; do
+    for name in agree buffers build large memory numbers reasons texts threads; do
         link libbsonraw.a "$work/$name" "$work/$name.o" "$work/documents.o" || return 1
         link libbsonraw.so "$work/$name.shared" "$work/$name.o" "$work/documents.o" || return 1
     done
@@ -267,18 +271,19 @@ notices_mistakes() {
         "$work/llvm-objcopy" --redefine-sym "$name=right_${name#bsonraw_}" "$prefix/lib/wrong.a" || return 1
     done
     mistake=0
-    for name in buffers threads buffers buffers memory reasons memory agree agree agree agree agree agree agree build build build agree buffers agree agree agree buffers; do
+    for name in buffers threads buffers buffers memory reasons memory agree agree agree agree agree agree agree build build build agree buffers agree agree agree buffers texts texts threads agree agree build agree agree; do
         mistake=$((mistake + 1))
         # shellcheck disable=SC2086
         compile -std=c99 $warnings -DMISTAKE=$mistake -O1 -fPIE -c -o "$work/wrong.o" c/tests/wrong.c &&
             link wrong.a "$work/wrong" "$work/$name.o" "$work/documents.o" "$work/wrong.o" || return 1
-        "$work/wrong" <"$work/documents" >/dev/null 2>&1 && fails "$name doesn't notice mistake $mistake of c/tests/wrong.c"
+        [ "$name" = agree ] && fewer=20000 || fewer=
+        "$work/wrong" ${fewer:+"$fewer"} <"$work/documents" >/dev/null 2>&1 && fails "$name doesn't notice mistake $mistake of c/tests/wrong.c"
     done
     rm "$prefix/lib/wrong.a"
 }
 
 run_tests() {
-    for name in agree buffers build large memory numbers reasons threads; do
+    for name in agree buffers build large memory numbers reasons texts threads; do
         for program in "$name" "$name.shared"; do
             "$work/$program" <"$work/documents" >"$work/said" || fails "$program ends with status $?"
             cat "$work/said"
@@ -330,6 +335,12 @@ lines_of() {
     grep -cvE '^ *(/\*.*|\*.*)?$' "$1"
 }
 
+# Texts of JSON as values: libbson has blanks in them.
+as_values() {
+    python3 -c 'import json, sys
+for line in sys.stdin: print(json.loads(line, object_pairs_hook=list))' <"$1" >"$work/values" && mv "$work/values" "$1"
+}
+
 # twin NAME WORD..: whether a program of examples/c and the one with libbson end alike and print the same of this input
 twin() {
     name=$1
@@ -337,12 +348,16 @@ twin() {
     "$work/$name" "$@" <"$work/input" >"$work/ours"
     ended=$?
     "$work/twin_$name" "$@" <"$work/input" >"$work/theirs"
-    [ "$ended" = $? ] && cmp -s "$work/ours" "$work/theirs" || fails "$name and the one with libbson differ on $(od -An -tx1 "$work/input" | tr -d ' \n')"
+    theirs=$?
+    if [ "$name" = json_text ]; then
+        as_values "$work/ours" && as_values "$work/theirs" || fails "json_text and the one with libbson print no JSON"
+    fi
+    [ "$ended" = "$theirs" ] && cmp -s "$work/ours" "$work/theirs" || fails "$name and the one with libbson differ on $(od -An -tx1 "$work/input" | tr -d ' \n')"
 }
 
 # Each program of examples/c does what one with libbson does, in at most one and a half times its lines.
 run_twins() {
-    for name in json merge path; do
+    for name in json json_text merge path; do
         [ "$((2 * $(lines_of "examples/c/$name.c")))" -le "$((3 * $(lines_of "c/tests/twins/$name.c")))" ] || fails "examples/c/$name.c has too many lines"
         # shellcheck disable=SC2046 # a list of flags
         cc -std=c99 -O1 -o "$work/twin_$name" "c/tests/twins/$name.c" $(pkg-config --cflags --libs libbson-1.0) || return 1
@@ -350,6 +365,8 @@ run_twins() {
     for document in examples/*.hex; do
         python3 -c 'import sys; sys.stdout.buffer.write(bytes.fromhex(open(sys.argv[1]).read()))' "$document" >"$work/input"
         twin json
+        # an element of tag 0 ends a document for libbson
+        [ "$document" = examples/tag-zero.hex ] || twin json_text
     done
     cp "$work/greeting" "$work/input"
     twin path hi
@@ -384,6 +401,9 @@ use_machine() {
 look_at_manual() {
     for name in $(declared); do
         grep -q "$name(" man/*.3 || fails "no manual page has $name"
+    done
+    # those of the header alone, too
+    for name in $(declared) $(sed -n 's/^BSONRAW.* int32_t \(bsonraw_[a-z0-9_]*\)(.*/\1/p' c/bsonraw.h); do
         [ -e "$prefix/share/man/man3/$name.3" ] || fails "no manual page is found by the name $name"
     done
     if ! command -v groff >/dev/null; then
@@ -407,7 +427,7 @@ look_at_libraries
 look_at_header
 look_at_examples
 run_programs || fails "the programs of examples/c don't compile"
-if build documents agree buffers build large memory numbers reasons threads print; then
+if build documents agree buffers build large memory numbers reasons texts threads print; then
     look_at_output
     notices_mistakes || fails "the tests don't compile with a mistake"
     run_tests

@@ -52,6 +52,18 @@ for levels in (500, 501):
 made["most"] = (16793600).to_bytes(4, "little") + b"\x05b\0" + (16793600 - 13).to_bytes(4, "little") + b"\0" * (16793600 - 11)
 made["long"] = b"\x02s\0\x41\0\0\0" + b"x" * 64 + b"\0\x02t\0\x42\0\0\0" + b"x" * 65 + b"\0"
 made["long"] = (len(made["long"]) + 5).to_bytes(4, "little") + made["long"] + b"\0"
+made["lost"] = made["one"] + made["under"] + made["one"] * 2
+made["last"] = made["one"] + made["under"] + made["one"]
+made["alone"] = made["one"] + made["under"] + made["one"] + made["stop"] + made["one"] * 2
+made["none"] = made["one"] + made["negative"]
+made["claims"] = made["one"] + b"\x64\0\0\0" + made["one"] * 2
+made["gaps"] = b"".join(made[part] for part in ("under", "repeated", "one", "negative", "nested", "empty", "cut6"))
+costly = bytearray()
+for at in range(0, 1000000 - 12, 11):
+    left = 1000000 - at
+    costly += left.to_bytes(4, "little") + b"\x02\0" + (left - 11).to_bytes(4, "little") + b"x"
+costly = costly.ljust(1000000 - 3, b"x") + b"\xff\0\0"
+made["costly"] = made["under"] + bytes(costly)
 made["million"] = made["one"] * 1000000
 made["many"] = b'{"a":1}\n' * 1000000
 made["distinct"] = b"".join(b"\x0c\0\0\0\x10a\0" + i.to_bytes(4, "little") + b"\0" for i in range(200000))
@@ -155,6 +167,81 @@ wants 'documents: 1000000, bytes: 12000000, not canonical: 0, damaged: 0
 run 'a million documents' 0 check million
 
 mkdir folder
+
+# -- --resync
+
+wants '"lost":12: unsound length: 5 bytes passed over
+"last":12: unsound length: 5 bytes passed over
+"none":12: unsound length: 5 bytes passed over
+"claims":12: cut off: only 28 bytes of a document: 4 bytes passed over
+documents: 9, bytes: 108, not canonical: 0, damaged: 0
+'
+run 'documents that go on' 3 check --resync lost last none claims
+wants '"alone":12: unsound length: 23 bytes passed over
+documents: 3, bytes: 36, not canonical: 0, damaged: 0
+'
+run 'one document is no place' 3 check --resync alone
+wants '{"file":"gaps","offset":0,"finding":"unsound length","passed over":5}
+{"file":"gaps","offset":5,"finding":"repeated-key","path":[1],"keys":["a"],"byte":11}
+{"file":"gaps","offset":36,"finding":"unsound length","passed over":5}
+{"file":"gaps","offset":41,"finding":"repeated-key","path":[0,1],"keys":["d","c"],"byte":18}
+{"file":"gaps","offset":73,"finding":"cut off","bytes":6,"passed over":6}
+{"documents":4,"bytes":63,"not canonical":2,"damaged":0}
+'
+run 'gaps as JSON' 3 check --resync --json gaps
+sed -i 's/"gaps"/"-"/' wanted.out
+cat gaps | run 'gaps through a pipe' 3 check --resync --json || failed=1
+wants '"gaps":0: unsound length: 5 bytes passed over
+"gaps":5: 19 bytes: repeated-key at /1:"a", byte 11
+  "a": Int32: 1
+  "a": Int32: 2
+"gaps":24: 12 bytes
+  "a": Int32: 1
+"gaps":36: unsound length: 5 bytes passed over
+"gaps":41: 27 bytes: repeated-key at /0:"d"/1:"c", byte 18
+  "d": EmbeddedDocument, 19 bytes
+    "c": Int32: 1
+    "c": Int32: 2
+"gaps":68: 5 bytes
+"gaps":73: cut off: only 6 bytes of a document: 6 bytes passed over
+'
+run 'gaps, listed' 3 list --resync gaps
+wants '' '"gaps":0: unsound length: 5 bytes passed over
+"gaps":36: unsound length: 5 bytes passed over
+"gaps":73: cut off: only 6 bytes of a document: 6 bytes passed over
+'
+cat repeated one nested empty >wanted.out
+run 'sound documents between gaps' 3 sound --resync gaps
+cat repeated.form one nested.form empty >wanted.out
+run 'canonical forms between gaps' 3 canon --resync gaps
+run 'each form between gaps once' 3 unique --resync gaps
+printf '%s\n' '{"a":1,"a":2}' '{"a":1}' '{"d":{"c":1,"c":2}}' '{}' >wanted.out
+run 'Extended JSON of what is between gaps' 3 json --resync gaps
+wants '' '{"file":"gaps","offset":0,"finding":"unsound length","passed over":5}
+{"file":"gaps","offset":36,"finding":"unsound length","passed over":5}
+{"file":"gaps","offset":73,"finding":"cut off","bytes":6,"passed over":6}
+'
+rm -f output
+run 'an output beside gaps' 3 sound --resync --json -o output gaps
+cat repeated one nested empty | cmp -s - output || { echo "dumps.sh: -o and gaps" >&2 && failed=1; }
+wants '' '"gaps":0: unsound length
+'
+run 'an output, and gaps that end the file' 3 sound -o output gaps
+cat repeated one nested empty | cmp -s - output || { echo "dumps.sh: -o that stays" >&2 && failed=1; }
+wants '"-":0: unsound length: 8 bytes passed over
+documents: 999999, bytes: 11999988, not canonical: 0, damaged: 0
+'
+{ printf '\377\377\377\377'; tail -c +9 million; } | run 'a million documents behind damage' 3 check --resync || failed=1
+
+# each 11 bytes of it begin a document that goes on to the end and is damaged there
+wants '"costly":0: unsound length: 1000005 bytes passed over, not each place checked
+documents: 0, bytes: 0, not canonical: 0, damaged: 0
+'
+run 'a search that would cost too much' 3 check --resync costly
+wants '{"file":"costly","offset":0,"finding":"unsound length","passed over":1000005,"checked":"not each place"}
+{"documents":0,"bytes":0,"not canonical":0,"damaged":0}
+'
+run 'a search that would cost too much, as JSON' 3 check --resync --json costly
 
 # -- list
 
@@ -529,7 +616,7 @@ END
 
 # -- arguments
 
-wants "bsonraw-dump $(cat "$root/VERSION")
+wants "bsonraw-dump $(cat "$root/VERSION") (unreleased)
 "
 run 'the version' 0 --version
 for words in '' 'lost' 'check --lost' 'check -o output' 'list --json' 'canon --canonical'; do

@@ -136,7 +136,9 @@ class Said:
                 notes.append(f"{at[1]}: {at[2]}")
             elif at := re.match(r"fn (\S+): (.*)", line):
                 self.states[at[1]] = at[2]
-                called = " ".join(re.findall(r"it (?:calls|passes the block|waits for the proof of) ([^;]*)", at[2]))
+                called = " ".join(
+                    re.findall(r"(?:it (?:calls|passes the block|waits for the proof of)|: a call of) ([^;]*)", at[2])
+                )
                 self.calls[at[1]] = set(re.findall(r"`([^`]*)`", called))
                 for it in notes:
                     self.complain(at[1], it)

@@ -8,6 +8,9 @@ import tempfile
 import unittest
 
 SCRIPT = pathlib.Path(__file__).resolve().parent / "edits.py"
+sys.path.insert(0, str(SCRIPT.parent))
+
+import edits as script  # noqa: E402
 
 SOURCE = """//! Two functions, one over the other.
 
@@ -66,6 +69,13 @@ class Edits(unittest.TestCase):
         })
         self.assertEqual(status, 0, printed)
         self.assertIn("edits: 3 of 3 are refused", printed)
+
+    def test_borrows_that_wait_for_a_callee_are_no_verdict(self):
+        line = (
+            "fn tiny::after_next: no proof: the borrow checker's part in its proof is not made yet: "
+            "a call of `tiny::next`, which has no proof: help: prove it first"
+        )
+        self.assertEqual(script.Said("tiny", line).waited_for({"tiny::after_next"}), {"tiny::next"})
 
     def test_what_proves_nothing_fails(self):
         status, printed = self.tried({

@@ -1,7 +1,8 @@
 #!/usr/bin/env python3
-"""Makes dumps for checks/json.sh, and compares what two programs print of them as Extended JSON.
+"""Makes dumps for checks/json.sh and checks/from_json.sh, and compares what two programs print of them as Extended JSON.
 
     json_documents.py made COUNT SEED      a dump of so many documents, of all kinds of values with their borders
+    json_documents.py whole COUNT SEED     the same of documents that come back from their text, and one behind them that doesn't
     json_documents.py typical COUNT        a dump of so many copies of a typical document
     json_documents.py compare OURS THEIRS  whether the lines of two files have the same values
     json_documents.py times DUMP COUNT COMMAND [WORD..] , COMMAND [WORD..]
@@ -153,10 +154,47 @@ class Maker:
 
     def deep(self) -> bytes:
         """A document of many levels; libbson prints 200 at most."""
-        inside = self.document(3)
+        inside = body([(3, "0", self.document(3))])
         for _ in range(self.rng.randrange(10, 190)):
             inside = body([(self.rng.choice([3, 4]), "0", inside)])
         return inside
+
+
+class Whole(Maker):
+    """Makes documents whose canonical text has all of them: canonical ones, none of which begins with a wrapper's key, whose NaNs are
+    the default one, and whose decimals are canonical."""
+
+    def double(self) -> bytes:
+        value = super().double()
+        (found,) = struct.unpack("<d", value)
+        return value if found == found else number(0x7FF8000000000000, 8)
+
+    def regex(self) -> bytes:
+        pattern, options, _ = super().regex().decode("utf-8").split("\0")
+        return f"{pattern}\0{''.join(sorted(options))}\0".encode("utf-8")
+
+    def decimal(self) -> bytes:
+        if self.rng.randrange(8) == 0:
+            return number(self.rng.choice([30, 31, 62]) << 122, 16, False)
+        coefficient = self.rng.choice([0, 1, 10**34 - 1, self.rng.randrange(10 ** self.rng.randrange(1, 35))])
+        return decimal(coefficient, self.rng.choice([-BIAS, 6111, 0, self.rng.randrange(-BIAS, 6112)]), self.rng.randrange(2) == 0)
+
+    def array(self, depth: int) -> bytes:
+        values = [self.value(depth + 1) for _ in range(self.rng.choice([0, 1, 2, 3, 12]))]
+        return body([(tag, str(place), value) for place, (tag, value) in enumerate(values)])
+
+    def document(self, depth: int = 0) -> bytes:
+        keys = list(dict.fromkeys(self.key() for _ in range(self.rng.choice([0, 1, 2, 3, 6, 12]))))
+        if keys and keys[0] in ("$oid", "$date"):
+            keys[0] = "$gt"
+        return body([(tag, key, value) for key, (tag, value) in ((key, self.value(depth)) for key in keys)])
+
+
+def whole(count: int, seed: int) -> bytes:
+    """So many, and one behind them that comes back as another: with a NaN that isn't the default one."""
+    maker = Whole(seed)
+    documents = [maker.deep() if place % 100 == 99 else maker.document() for place in range(count)]
+    return b"".join(documents) + body([(1, "a", number(NO_NUMBERS[0], 8, False))])
 
 
 def made(count: int, seed: int) -> bytes:
@@ -371,6 +409,9 @@ def times(dump: str, count: int, ours: List[str], theirs: List[str]) -> None:
 def main(words: List[str]) -> int:
     if words[:1] == ["made"] and len(words) == 3:
         sys.stdout.buffer.write(made(int(words[1]), int(words[2])))
+        return 0
+    if words[:1] == ["whole"] and len(words) == 3:
+        sys.stdout.buffer.write(whole(int(words[1]), int(words[2])))
         return 0
     if words[:1] == ["typical"] and len(words) == 2:
         sys.stdout.buffer.write(typical() * int(words[1]))

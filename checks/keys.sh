@@ -1,7 +1,8 @@
 #!/bin/sh
-# A document of 200,000 keys in no order is checked in at most ten times as long as one of the same keys in order, so that
-# no key is compared with each other; and one of 174,000 keys that were chosen for their hashes in at most twenty times as
-# long. It takes the program as it was built last, by bin/test or by `rt run`.
+# A document of 200,000 keys in order is checked in at most ten times as long as it is listed, one of the same keys in no
+# order in at most ten times as long as in order, so that no key is compared with each other; and one of 174,000 keys that
+# were chosen for their hashes in at most twenty times as long. It takes the program as it was built last, by bin/test or
+# by `rt run`.
 set -u
 cd "$(dirname "$(realpath "$0")")/.." || exit 1
 program=crates/bsonraw/out/bsonraw
@@ -35,16 +36,17 @@ chosen() {
     "$work/chosen" | od -An -v -tx1 | tr -d ' \n'
 }
 
-# spent DOCUMENT WORD..: how many nanoseconds the least of three runs took, which find the document canonical
+# spent COMMAND LAST DOCUMENT: how many nanoseconds the least of three runs of the program took, whose last line is LAST; each
+# is cut off after twenty seconds, which is some hundred times as long as it takes
 spent() {
-    "$@" >"$work/text" || return 1
     least=
     for _ in 1 2 3; do
         begun=$(date +%s%N)
-        said=$("$program" check <"$work/text")
+        timeout 20 "$program" "$1" <"$work/$3" >"$work/said"
+        status=$?
         took=$(($(date +%s%N) - begun))
-        if [ "$said" != canonical ]; then
-            echo "keys: check of $* prints $said" >&2
+        if [ "$status" != 0 ] || [ "$(tail -n 1 "$work/said")" != "$2" ]; then
+            echo "keys: $1 of the keys $3 ends with status $status after $((took / 1000000)) ms" >&2
             return 1
         fi
         [ -n "$least" ] && [ "$least" -le "$took" ] || least=$took
@@ -52,9 +54,16 @@ spent() {
     echo "$least"
 }
 
-ordered=$(spent document 1) && mixed=$(spent document 76543) && hostile=$(spent chosen) || exit 1
-echo "keys: in order $((ordered / 1000000)) ms, in no order $((mixed / 1000000)) ms, chosen $((hostile / 1000000)) ms"
+document 1 >"$work/ordered" && document 76543 >"$work/mixed" && chosen >"$work/chosen_keys" || exit 1
+listed=$(spent list end ordered) && ordered=$(spent check canonical ordered) && mixed=$(spent check canonical mixed) &&
+    hostile=$(spent check canonical chosen_keys) || exit 1
+echo "keys: listed in $((listed / 1000000)) ms; checked in order in $((ordered / 1000000)) ms, in no order in" \
+    "$((mixed / 1000000)) ms, chosen in $((hostile / 1000000)) ms"
 failed=0
+if [ "$ordered" -gt $((10 * listed)) ]; then
+    echo "keys: 200,000 keys in order take more than ten times as long as they are listed in" >&2
+    failed=1
+fi
 if [ "$mixed" -gt $((10 * ordered)) ]; then
     echo "keys: 200,000 keys in no order take more than ten times as long as in order" >&2
     failed=1

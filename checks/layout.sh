@@ -1,6 +1,7 @@
 #!/bin/sh
-# Whether each file is laid out as `rt fmt` writes it, whether each edit of must-fail/ and edits/ applies to its file, and
-# whether tests alone may end the process: what the gate would refuse only after minutes, and the last `rt check` never.
+# Whether each file is laid out as `rt fmt` writes it, whether each edit of must-fail/ and edits/ applies to its file,
+# whether tests alone may end the process, and whether specs and proofs keep to the columns and premises of proofs.py: what
+# the gate would refuse only after minutes, and the last `rt check` never.
 # It works on a copy of the sources, and first sees that what it looks for is found. It prints what isn't right, and gives
 # 0 where all is.
 set -u
@@ -38,8 +39,15 @@ mkdir "$work/tried/crates/bson_uses/must-fail"
 printf 'file: src/lib.rt\nold: no such text\nnew: another\n' >"$work/tried/crates/bson_uses/must-fail/tried.edit"
 printf '\nmod  tried;\n' >>"$work/tried/crates/bson_uses/src/lib.rt"
 echo 'use std::process::Abort;' >"$work/tried/crates/bson_uses/src/tried.rt"
-tried=$(said "$work/tried" && aborting "$work/tried")
-for word in 'formatted src/lib.rt' 'tried.edit cannot be applied' 'src/tried.rt may end the process'; do
+mkdir -p "$work/tried/crates/tried/proofs"
+{
+    printf 'lemma : (a : A) → B → B → B → B\n    → B → B → (b : B) → B → C b → B → C b\nlemma a = refl\n'
+    printf '%0200d\n' 0
+    printf '%0201d\n' 0
+} >"$work/tried/crates/tried/proofs/Tried.antt"
+tried=$(said "$work/tried" && aborting "$work/tried")$(checks/proofs.py "$work/tried/crates")
+for word in 'formatted src/lib.rt' 'tried.edit cannot be applied' 'src/tried.rt may end the process' \
+    'Tried.antt:5: 201 columns' 'Tried.antt:1: lemma has 9 premises'; do
     case $tried in
     *"$word"*) ;;
     *)
@@ -50,8 +58,10 @@ for word in 'formatted src/lib.rt' 'tried.edit cannot be applied' 'src/tried.rt 
 done
 
 found=$(said "$work/all" && aborting "$work/all")
+long=$(checks/proofs.py crates) || found=$found$long
 applying=$(checks/edits.sh --applies) || found=$found$applying
 [ -z "$found" ] && exit 0
 printf '%s\n' "$found"
-echo "layout.sh: run rt fmt in the crates that are named, and mend the edits; a library returns whether a check holds" >&2
+echo "layout.sh: run rt fmt in the crates that are named, mend the edits, and break what is long; a library returns whether" \
+    "a check holds" >&2
 exit 1

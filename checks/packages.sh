@@ -32,7 +32,19 @@ copy() {
         for built in crates/bsonraw/out/bsonraw crates/bsonraw_dump/out/bsonraw_dump crates/bsonraw_c/out/*.a crates/*/out/built; do
             [ ! -e "$built" ] || cp -p --parents "$built" "$1" || return 1
         done && git -C "$1" init -q && git -C "$1" add -A &&
-        git -C "$1" -c user.name=checks -c user.email=checks@localhost commit -qm "What is tried"
+        git -C "$1" -c user.name=checks -c user.email=checks@localhost commit -qm "What is tried" && put_released "$1"
+}
+
+# put_released FOLDER: the programs that are built, as those with their commit: a copy has no libraries to build these over
+put_released() {
+    (
+        root=$1
+        . bin/release.sh
+        for name in $programs; do
+            to=$(released "$name")
+            [ -e "$to" ] || { mkdir -p "${to%/*}" && cp "$(program_of "$name")" "$to" && released_from "$name" >"${to%/*}/from"; }
+        done
+    )
 }
 
 # record FOLDER: what bin/test would note there
@@ -90,8 +102,13 @@ prepare() {
 try_archive() {
     prepare "$try" && tar -C "$try" -xf "$made"/*.tar.gz || exit 1
     archive=$(echo "$try"/bsonraw-*-linux)
+    case "$said" in
+    *unreleased*) ;;
+    *"($(sed -n 's/^commit \(............\).*/\1/p' "$archive/PROVED"))") ;;
+    *) fails "PROVED names another commit than $said" ;;
+    esac
     env -i PATH=/usr/bin:/bin $has_compiler PKG_CONFIG_PATH="$archive/lib/pkgconfig" LD_LIBRARY_PATH="$archive/lib" \
-        sh "$try/try-release.sh" "$archive/bin" || fails "the archive doesn't do"
+        sh "$try/try-release.sh" "$archive/bin" "$said" || fails "the archive doesn't do"
 }
 
 try_packages() {
@@ -102,7 +119,7 @@ try_packages() {
     for package in "$made"/*.deb; do dpkg-deb -x "$package" "$work/root" || exit 1; done
     library=$work/root/usr/lib/x86_64-linux-gnu
     env -i PATH=/usr/bin:/bin $has_compiler PKG_CONFIG_PATH="$library/pkgconfig" PKG_CONFIG_SYSROOT_DIR="$work/root" \
-        LD_LIBRARY_PATH="$library" sh "$try/try-release.sh" "$work/root/usr/bin" || fails "the Debian packages don't do"
+        LD_LIBRARY_PATH="$library" sh "$try/try-release.sh" "$work/root/usr/bin" "$said" || fails "the Debian packages don't do"
     if ! command -v lintian >/dev/null; then
         skip lintian
         return
@@ -123,7 +140,7 @@ try_wheel() {
         return
     fi
     env -i PATH=/usr/bin:/bin "$work/venv/bin/pip" install --quiet --no-index --disable-pip-version-check "$wheel" || fails "pip doesn't install the wheel"
-    env -i PATH=/usr/bin:/bin PYTHON="$work/venv/bin/python" sh "$try/try-release.sh" "$work/venv/bin" || fails "the wheel doesn't do"
+    env -i PATH=/usr/bin:/bin PYTHON="$work/venv/bin/python" sh "$try/try-release.sh" "$work/venv/bin" "$said" || fails "the wheel doesn't do"
 }
 
 # A Debian that has never seen this repository: each of the three is installed there, used, and removed.
@@ -136,19 +153,19 @@ try_debian() {
     fi
     prepare "$root/try" && cp "$made"/* "$root/try" || exit 1
     in_debian 'tar -C /opt -xf *.tar.gz && mv /opt/bsonraw* /opt/bsonraw &&
-        PKG_CONFIG=yes PKG_CONFIG_PATH=/opt/bsonraw/lib/pkgconfig LD_LIBRARY_PATH=/opt/bsonraw/lib sh try-release.sh /opt/bsonraw/bin &&
+        PKG_CONFIG=yes PKG_CONFIG_PATH=/opt/bsonraw/lib/pkgconfig LD_LIBRARY_PATH=/opt/bsonraw/lib sh try-release.sh /opt/bsonraw/bin "$SAID" &&
         rm -r /opt/bsonraw' || fails "the archive doesn't do in a fresh Debian"
-    in_debian 'dpkg -i *.deb >/dev/null && PKG_CONFIG=yes sh try-release.sh /usr/bin && test -e /usr/share/doc/bsonraw/PROVED &&
+    in_debian 'dpkg -i *.deb >/dev/null && PKG_CONFIG=yes sh try-release.sh /usr/bin "$SAID" && test -e /usr/share/doc/bsonraw/PROVED &&
         dpkg -P libbsonraw-dev bsonraw libbsonraw2 >/dev/null && ! find /usr -name "*bsonraw*" | grep .' ||
         fails "the Debian packages don't do in a fresh Debian"
     [ ! -e "$wheel" ] || in_debian 'python3 -m venv /opt/venv && /opt/venv/bin/pip install --quiet --no-index *.whl &&
-        PYTHON=/opt/venv/bin/python sh try-release.sh /opt/venv/bin' || fails "the wheel doesn't do in a fresh Debian"
+        PYTHON=/opt/venv/bin/python sh try-release.sh /opt/venv/bin "$SAID"' || fails "the wheel doesn't do in a fresh Debian"
     echo "packages: each was used in a fresh Debian"
 }
 
 # in_debian COMMANDS: runs them there, in the folder of the new user
 in_debian() {
-    chroot "$root" /usr/bin/env -i PATH=/usr/sbin:/usr/bin:/sbin:/bin HOME=/root sh -c "cd /try && $1"
+    chroot "$root" /usr/bin/env -i PATH=/usr/sbin:/usr/bin:/sbin:/bin HOME=/root SAID="$said" sh -c "cd /try && $1"
 }
 
 has_compiler=
@@ -157,6 +174,7 @@ if command -v pkg-config >/dev/null && echo 'int main(void) { return 0; }' | cc 
 else
     skip "C programs, since there is no compiler or no pkg-config"
 fi
+said=$(root=$PWD && . bin/release.sh && echo "bsonraw-dump $version ($(crates_commit))")
 make_all
 try_record
 try_archive

@@ -83,7 +83,7 @@ def records(text: str) -> "dict[str, str]":
 def sources() -> List[str]:
     """The texts of the sources of all crates."""
     listed = subprocess.run(["git", "ls-files", "crates"], check=True, stdout=subprocess.PIPE, universal_newlines=True).stdout
-    names = (name for name in listed.splitlines() if re.search(r"/(src|specs)/.*\.(rt|antt)$", name))
+    names = (name for name in listed.splitlines() if re.search(r"/(src|specs|proofs)/.*\.(rt|antt)$", name))
     return [Path(name).read_text(encoding="utf-8") for name in names]
 
 
@@ -215,7 +215,7 @@ def write_tests(folder: Path, names: List[str]) -> int:
             for number, text in doc_examples(Path(name).read_text(encoding="utf-8"))
         ]
         if tests:
-            uses = "".join(f"use {used};\n" for used in ("raw_bson::*", "raw_form::*", "raw_shelf::*", "bson_from_json::*", "std::test::Fail"))
+            uses = "".join(f"use {used};\n" for used in ("raw_bson::*", "raw_form::*", "raw_shelf::*", "bson_json::*", "bson_from_json::*", "std::test::Fail"))
             (folder / f"{crate}_{file}").write_text(uses + "\n" + "\n".join(tests), encoding="utf-8")
             count += len(tests)
     return count

@@ -1,8 +1,8 @@
 #!/bin/sh
-# A document of 100,000 numbers, of a little over a megabyte, is gone through once where it is converted, whatever else is
-# kept: `canon` comes to its bytes as often as `list` does, which is three times, for `hex::decode` fills its block with
-# zeros, and then with the bytes. It takes the program as it was built last, by bin/test or by `rt run`. First it is seen
-# that each way through a block is told.
+# A document of 100,000 numbers, of a little over a megabyte, is gone through once where it is converted, and once more for
+# its keys where their set is made: `canon` comes to its bytes once more than `list` does, which is three times, for
+# `hex::decode` fills its block with zeros, and then with the bytes. It takes the program as it was built last, by bin/test
+# or by `rt run`. First it is seen that each way through a block is told.
 set -u
 cd "$(dirname "$(realpath "$0")")/.." || exit 1
 program=crates/bsonraw/out/bsonraw
@@ -52,4 +52,4 @@ for count in 1 2; do
     wants $((1 + count)) python3 -c "b = bytearray($size); [b.count(1) for _ in range($count)]" || exit 1
 done
 wants 3 "$program" list || exit 1
-wants 3 "$program" canon || exit 1
+wants 4 "$program" canon || exit 1

@@ -110,6 +110,8 @@ echo "python: $(sed -n 's/^Ran \([0-9]* tests\) in .*/\1/p' "$work/said") by $("
 
 if command -v mypy >/dev/null; then
     (cd "$work/package" && mypy --strict --no-error-summary --cache-dir "$work/mypy" -p bsonraw) || exit 1
+    MYPYPATH=$work/package mypy --strict --no-error-summary --cache-dir "$work/mypy" --ignore-missing-imports \
+        --follow-imports silent examples/*.py || exit 1
 else
     echo "python: mypy isn't there, so the annotations aren't looked at"
 fi

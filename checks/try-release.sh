@@ -1,13 +1,14 @@
 #!/bin/sh
-# try-release.sh PROGRAMS: what a new user does with an installed bsonraw, in a folder that has examples/ and greeting.c:
-# checks/packages.sh copies this file there, and runs it where nothing of the repository is. PROGRAMS is the folder of the
-# programs. It says what isn't as it has to be, and gives 0 where all is.
+# try-release.sh PROGRAMS VERSION: what a new user does with an installed bsonraw, in a folder that has examples/ and
+# greeting.c: checks/packages.sh copies this file there, and runs it where nothing of the repository is. PROGRAMS is the folder
+# of the programs, VERSION what `bsonraw-dump --version` has to print. It says what isn't as it has to be, and gives 0 where all is.
 #
 #   PKG_CONFIG=yes         C programs are compiled by pkg-config, too
 #   PYTHON=INTERPRETER     the module bsonraw is used by this Python, too
 set -u
 cd "$(dirname "$0")" || exit 1
 programs=$1
+version=$2
 failed=0
 
 fails() {
@@ -28,6 +29,7 @@ done
 printf '\23\0\0\0\2hi\0\6\0\0\0y\47all\0\0' >greeting
 if [ -e "$programs/bsonraw-dump" ]; then
     printf '\23\0\0\0\20a\0\1\0\0\0\20a\0\2\0\0\0\0' | cat greeting - >dump
+    [ "$("$programs/bsonraw-dump" --version)" = "$version" ] || fails "bsonraw-dump has another version than $version"
     "$programs/bsonraw-dump" check dump >output 2>&1
     [ "$(tail -n 1 output)" = "documents: 2, bytes: 38, not canonical: 1, damaged: 0" ] || fails "of a dump bsonraw-dump prints: $(cat output)"
 fi

@@ -13,7 +13,7 @@ named() {
     sed -n 's/^    \([0-9][0-9]*\)$/\1/p' crates/bsonraw_c/src/version.rt | as_version crates/bsonraw_c/src/version.rt
     sed -n 's/^version = "\(.*\)"/\1/p' python/pyproject.toml | sed 's|^|python/pyproject.toml |'
     grep -rE --include='*.py' '^__version__ = "' python | sed 's/:__version__ = "/ /; s/".*//'
-    grep -rE --include='*.rt' '\.version\("' crates/bsonraw*/src | sed 's/:.*version("/ /; s/").*//'
+    sed -n 's/^pub const VERSION: &str = "\(.*\) (unreleased)";/\1/p' crates/bsonraw_dump/src/version.rt | sed 's|^|crates/bsonraw_dump/src/version.rt |'
     grep -E '^\.TH ' man/*.[13] | sed 's/:.*"[a-z][a-z-]* \([0-9][0-9.]*\)".*/ \1/'
     sed -n 's/^## \[\([^]]*\)\].*/\1/p' CHANGELOG.md | head -n 1 | sed 's/^/CHANGELOG.md /'
     grep -roE --exclude=CHANGELOG.md --exclude-dir=out 'libbsonraw\.so\.[0-9]+' README.md CONTRIBUTING.md docs examples man python checks bin release c |
@@ -32,7 +32,7 @@ differing() {
     version=$(cat VERSION)
     named >"$work/named"
     awk -v version="$version" '$2 != version' "$work/named"
-    for place in c/bsonraw.h crates/bsonraw_c/src/version.rt man/bsonraw.1 man/bsonraw.3 CHANGELOG.md; do
+    for place in c/bsonraw.h crates/bsonraw_c/src/version.rt crates/bsonraw_dump/src/version.rt man/bsonraw.1 man/bsonraw.3 CHANGELOG.md; do
         grep -q "^$place " "$work/named" || echo "$place names no version"
     done
 }
@@ -40,7 +40,8 @@ differing() {
 # A changed version is seen in each place.
 mkdir "$work/copy" && git ls-files -z --cached --others --exclude-standard | grep -zvE '^(crates/[^b]|crates/bson_)' |
     xargs -0 cp -P --parents -t "$work/copy" || exit 1
-for change in 's/define BSONRAW_VERSION /&1/ c/bsonraw.h' 's/^    [0-9]/&1/ crates/bsonraw_c/src/version.rt' 's/^## \[/&1/ CHANGELOG.md' \
+for change in 's/define BSONRAW_VERSION /&1/ c/bsonraw.h' 's/^    [0-9]/&1/ crates/bsonraw_c/src/version.rt' \
+    's/"[0-9]/&1/ crates/bsonraw_dump/src/version.rt' 's/^## \[/&1/ CHANGELOG.md' \
     's/^\(.TH.*bsonraw \)/\11/ man/bsonraw.1'; do
     file=${change##* }
     cp "$work/copy/$file" "$work/kept"
