@@ -45,8 +45,8 @@ impl<T> Parts<T> {
         }
     }
 
-    /// The pairs of these keys and values, with the set and the values in their exact sizes where no key is
-    /// there twice.
+    /// The pairs of these keys and values. Where no key is there twice, the set has its exact size, and the values
+    /// keep the room that they are in.
     pub fn from_columns(alloc: Global, keys: &[&str], values: Vec<T>) -> Result<Parts<T>, NoMemory>
     where
         T: Drop,

@@ -86,6 +86,12 @@ value_put h old mid new key t pairs e same more are =
     let drafted : AreDrafted of.Array old pairs = subst (λ (x : Holder). AreDrafted x old pairs) e are in
     rw e (values_more mid new key t pairs more (same of.Array pairs drafted))
 
+-- a draft whose lists have the same items
+pub same_items : (old new : Draft) → new.keys.items ≡ old.keys.items → new.values.items ≡ old.values.items → IsSameDraft old new
+same_items old new keys values of.Document pairs are = (ap texts_of keys ∙ are.0, ap (λ vs. map tree_of vs) values ∙ are.1)
+same_items old new keys values of.Array pairs are = ap (λ vs. map tree_of vs) values ∙ are
+same_items old new keys values (of.Code code) pairs are = (ap texts_of keys ∙ are.0, ap (λ vs. map tree_of vs) values ∙ are.1)
+
 -- pairs that are taken apart
 pub zip_pairs : (pairs : List (List ℕ × Tree)) → zip (map (λ (p : List ℕ × Tree). p.0) pairs) (map (λ (p : List ℕ × Tree). p.1) pairs) ≡ pairs
 zip_pairs [] = refl

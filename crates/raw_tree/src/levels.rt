@@ -182,6 +182,21 @@ impl<'a> Draft<'a> {
         Ok(())
     }
 
+    /// Moves the values to room of their exact size, unless they are many, and returns the room that they were in.
+    fn fit(&mut self, alloc: Global) -> Result<Vec<Bson>>
+        ensures keys { OnOk result (self.new.keys.items ≡ self.old.keys.items) }
+        ensures values { OnOk result (self.new.values.items ≡ self.old.values.items) }
+        ensures err { IfErr result IsOutOfMemory }
+    {
+        if self.values.len() > MOST_MOVED {
+            return Ok(Vec::new(alloc));
+        }
+        let Ok(exact) = self.values.split_off(0) else {
+            return Err(Error::out_of_memory());
+        };
+        Ok(mem::replace(&mut self.values, exact))
+    }
+
     /// Leaves its room to a later level, if that is more than is spared already.
     fn leave_room(self, spare: &mut Draft<'a>) {
         if self.values.capacity() > spare.values.capacity() {
@@ -225,7 +240,8 @@ pub(crate) fn put<'a>(
     }
 }
 
-/// What the bytes of a level are read as, once all are; the only error is out of memory.
+/// What the bytes of a level are read as, once all are. It takes the values with the room that they are in; the
+/// only error is out of memory.
 pub(crate) fn finish<'a>(
     alloc: Global,
     holder: Holder<'a>,
@@ -234,7 +250,7 @@ pub(crate) fn finish<'a>(
     ensures finished { IfOk result (Finishes holder.entry draft.old) }
     ensures err { IfErr result IsOutOfMemory }
 {
-    let values = taken(alloc, &mut draft.values)?;
+    let values = mem::replace(&mut draft.values, Vec::new(alloc));
     match holder {
         Holder::Document => {
             let document = Document::from_columns(alloc, draft.keys.as_slice(), values)?;
@@ -248,29 +264,18 @@ pub(crate) fn finish<'a>(
     }
 }
 
-/// All of the values, in room of their exact size unless they are many.
-fn taken(alloc: Global, values: &mut Vec<Bson>) -> Result<Vec<Bson>>
-    ensures all { IfOk result (λ all. all.items ≡ values.old.items) }
-    ensures err { IfErr result IsOutOfMemory }
-{
-    if values.len() > MOST_MOVED {
-        return Ok(mem::replace(values, Vec::new(alloc)));
-    }
-    match values.split_off(0) {
-        Ok(all) => Ok(all),
-        Err(_) => Err(Error::out_of_memory()),
-    }
-}
-
 /// The value that holds the bytes of a level, once all are read; the only error is out of memory. Its
 /// room goes to a later level.
 #[inline(always)]
-pub(crate) fn end<'a>(alloc: Global, mut level: Level<'a>, spare: &mut Draft<'a>) -> Result<Bson>
+pub(crate) fn end<'a>(alloc: Global, level: Level<'a>, spare: &mut Draft<'a>) -> Result<Bson>
     ensures ended { IfOk result (Ends level.entry.holder level.entry.draft) }
     ensures err { IfErr result IsOutOfMemory }
 {
-    let contents = finish(alloc, level.holder, &mut level.draft)?;
-    level.draft.leave_room(spare);
+    let mut draft = level.draft;
+    let room = draft.fit(alloc)?;
+    let contents = finish(alloc, level.holder, &mut draft)?;
+    draft.values = room;
+    draft.leave_room(spare);
     close(alloc, contents)
 }
 
