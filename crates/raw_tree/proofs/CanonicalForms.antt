@@ -1,7 +1,6 @@
 -- The canonical form theorem, from what is proved of every document.
-use Rattle.std.proofs.Common.{◌≡◌, ◌≤◌, List, ℕ, zero, suc, ap, sym, subst, ◌∙◌}
-use Rattle.bson_model.specs.Pairs.{keep}
-use Rattle.bson_model.specs.Tree.{Tree, Entries, document, entries}
+use Rattle.std.proofs.Common.{◌≡◌, ◌≤◌, List, ℕ, ap, sym, subst, ◌∙◌}
+use Rattle.bson_model.specs.Tree.{Tree}
 use Rattle.raw_view.specs.Envelope.{IsEnvelope}
 use Rattle.raw_view.specs.Number.{max_length}
 use Rattle.raw_tree.specs.Canonical.{IsCanonical}
@@ -9,13 +8,9 @@ use Rattle.raw_tree.specs.CanonicalForm.{ComesBack, IsCanonicalForm, IsSpelling}
 use Rattle.raw_tree.specs.Encoding.{encoding, encoded_len}
 use Rattle.raw_tree.specs.Reading.{Reads, as_document}
 use Rattle.raw_tree.proofs.Forms.{bytes_spelled_one_way}
+use Rattle.raw_tree.proofs.Loops.{document_read}
 use Rattle.raw_tree.proofs.OneWay.{bytes_one_way}
 use Rattle.raw_tree.proofs.Returns.{document_returns}
-
--- the tree of a document is that of its entries
-document_read : (b : List ℕ) (t : Tree) → Reads b t → (es : Entries) × (t ≡ document es)
-document_read b t (zero, h) = absurd h
-document_read b t (suc n, h) = (entries (keep h.0), h.2)
 
 -- the encoding of a tree that was read comes back
 read_comes_back : (b : List ℕ) (t : Tree) → IsEnvelope b → Reads b t → encoded_len t ≤ max_length → IsEnvelope (encoding t) × Reads (encoding t) t × IsCanonical (encoding t)

@@ -1,51 +1,45 @@
 -- Bytes with an envelope are read as a tree and have a frame count, or have a first fault and frames until it.
-use Rattle.std.proofs.Common.{◌≡◌, ◌⊎◌, inl, inr, ◌≤◌, ◌+◌, ◌++◌, ◌∷◌, [], ℕ, zero, suc, List, length, drop, arith, refl, subst, length-drop}
+use Rattle.std.proofs.Common.{◌≡◌, ◌⊎◌, inl, inr, ◌≤◌, ◌+◌, ◌∷◌, [], ℕ, zero, suc, List, length, drop, arith, refl, subst, length-drop}
 use Rattle.bson_model.specs.Bytes.{AreBytes}
-use Rattle.bson_model.specs.Pairs.{keep}
-use Rattle.bson_model.specs.Tree.{Tree, Entries, leaf, document, code_with_scope, entries}
+use Rattle.bson_model.specs.Tree.{Tree, leaf, code_with_scope}
 use Rattle.bson_model.proofs.Face.{AreBytes-drop}
 use Rattle.raw_view.specs.Envelope.{IsEnvelope}
 use Rattle.raw_view.specs.Frame.{Frame, IsFrame, IsWalk, End, Done, Stopped, LeadsTo}
 use Rattle.raw_view.specs.Meaning.{RawValue, KeyedFault, Means, Meaning, value, faulty}
 use Rattle.raw_view.specs.Meaning as raw
-use Rattle.raw_view.proofs.Face.{LeadsTo-walk, LeadsTo-more, IsFrame-shorter, has_meaning, AreBytes-rest, document_has_walk, one_frame, no_frame_at_stop, no_frame_at_final}
-use Rattle.raw_tree.specs.FrameCount.{CountsIn, CountsFrames, HasFrameCount, HasFramesToFault, HasFramesUntilFault}
-use Rattle.raw_tree.specs.Reading.{Sort, as_document, as_array, tree_of_pairs, leaf_in_order, StandsFor, StandForEach, ReadsAs, Holds, FirstFault, FirstFaultOfValue}
-use Rattle.raw_tree.proofs.FrameCounts.{count_of_walk, counts_more, to_stop, to_frame, to_inside}
-use Rattle.raw_tree.proofs.Loops.{nested_envelope, nested_shorter, reads_of, stand_more, fault_at_stop, fault_at_frame, fault_inside}
+use Rattle.raw_view.proofs.Face.{LeadsTo-walk, IsFrame-shorter, has_meaning, AreBytes-rest, document_has_walk, one_frame, no_frame_at_stop, no_frame_at_final}
+use Rattle.raw_tree.specs.FrameCount.{CountsIn, HasFrameCount, HasFramesUntilFault}
+use Rattle.raw_tree.specs.Reading.{Sort, as_document, as_array, tree_of_pairs, leaf_in_order, StandsFor, ReadsAs, Holds, FirstFault, FirstFaultOfValue}
+use Rattle.raw_tree.proofs.FrameCounts.{Passed, Fails, count_of_walk, passed_more, fails_at_stop, fails_at_frame, fails_inside}
+use Rattle.raw_tree.proofs.Loops.{document_read, nested_envelope, nested_shorter, reads_of}
 use Rattle.raw_tree.proofs.OneTree.{tree_or_fault}
 
 -- bytes are read as a tree and have so many frames, or have a first fault and so many frames until it
 abbrev pub IsCounted : Sort → List ℕ → ℕ → Type 0
-IsCounted sort b n = ((t : Tree) × ReadsAs sort b t × HasFrameCount b n) ⊎ ((fault : KeyedFault) × FirstFault b fault × HasFramesToFault b n)
+IsCounted sort b n = ((t : Tree) × ReadsAs sort b t × HasFrameCount b n) ⊎ ((fault : KeyedFault) × Fails b fault n)
 
 -- so many are the frames until the first fault
 pub counted_until : (sort : Sort) (b : List ℕ) (n : ℕ) → IsCounted sort b n → HasFramesUntilFault b n
 counted_until sort b n (inl all) = inl (λ fault bad. tree_or_fault sort b all.0 fault all.1 bad, all.2)
-counted_until sort b n (inr to) = inr to.2
+counted_until sort b n (inr to) = inr to.1.1
 
 -- a value stands for a tree, and so many frames are in it; or nested bytes that it holds have a first fault,
 -- and so many frames until it
 abbrev IsValueCounted : RawValue → ℕ → Type 0
-IsValueCounted v n = ((t : Tree) × StandsFor ReadsAs v t × CountsIn HasFrameCount (value v) n) ⊎ ((d : List ℕ) × (fault : KeyedFault) × Holds v d × FirstFault d fault × HasFramesToFault d n)
-
--- a tree as which bytes are read as a document is the tree of entries
-pub document_read : (b : List ℕ) (t : Tree) → ReadsAs as_document b t → (es : Entries) × ReadsAs as_document b (document es)
-document_read b t (zero, h) = absurd h
-document_read b t (suc n, h) = (entries (keep h.0), (suc n, (h.0, h.1, refl)))
+IsValueCounted v n = ((t : Tree) × StandsFor ReadsAs v t × CountsIn HasFrameCount (value v) n) ⊎ ((d : List ℕ) × (fault : KeyedFault) × Holds v d × Fails d fault n)
 
 -- the value of a code is counted where its scope is
 scoped_counted : (code d : List ℕ) (n : ℕ) → IsCounted as_document d n → IsValueCounted (raw.scoped code d) n
 scoped_counted code d n (inl all) =
     let scope = document_read d all.0 all.1 in
-    inl (code_with_scope code scope.0, (scope.0, scope.1, refl), all.2)
-scoped_counted code d n (inr to) = inr (d, to.0, refl, to.1, to.2)
+    inl (code_with_scope code scope.0, (scope.0, subst (ReadsAs as_document d) scope.1 all.1, refl), all.2)
+scoped_counted code d n (inr to) = inr (d, to.0, refl, to.1)
 
 -- so is that of a document, or of an array, where its bytes are
 whole_counted : (sort : Sort) (d : List ℕ) (n : ℕ) → IsCounted sort d n
-    → ((t : Tree) × ReadsAs sort d t × HasFrameCount d n) ⊎ ((e : List ℕ) × (fault : KeyedFault) × (e ≡ d) × FirstFault e fault × HasFramesToFault e n)
+    → ((t : Tree) × ReadsAs sort d t × HasFrameCount d n) ⊎ ((e : List ℕ) × (fault : KeyedFault) × (e ≡ d) × Fails e fault n)
 whole_counted sort d n (inl all) = inl all
-whole_counted sort d n (inr to) = inr (d, to.0, refl, to.1, to.2)
+whole_counted sort d n (inr to) = inr (d, to.0, refl, to.1)
 
 -- a value is counted where its nested bytes are
 pub value_counted : (v : RawValue) → ((sort : Sort) (d : List ℕ) → Holds v d → (n : ℕ) × IsCounted sort d n) → (n : ℕ) × IsValueCounted v n
@@ -65,7 +59,7 @@ pub value_decided : (v : RawValue) → ((sort : Sort) (d : List ℕ) → Holds v
 value_decided v nested =
     elim (value_counted v nested).1 [
       | inl all ↦ inl (all.0, all.1)
-      | inr to ↦ inr (to.1, (to.0, to.2, to.3))
+      | inr to ↦ inr (to.1, (to.0, to.2, to.3.0))
     ]
 
 -- bytes with an envelope and at most this length are counted
@@ -91,38 +85,26 @@ value_or_fault : (f : Frame) (m : Meaning) → Means f m → ((v : RawValue) × 
 value_or_fault f (value v) m = inl (v, m)
 value_or_fault f (faulty fault) m = inr (fault, m)
 
--- Along a walk, behind frames that are read: at the end the bytes are read, and a stop, a fault of a frame
--- or one of its value is the first fault.
-along : (n : ℕ) → AreCountedWithin n → (sort : Sort) (b : List ℕ) (passed : List Frame) (pairs : List (List ℕ × Tree)) (before : ℕ) (s : List ℕ)
-    (frames : List Frame) (end : End) → LeadsTo (drop 4 b) passed s → StandForEach ReadsAs passed pairs → CountsFrames HasFrameCount passed before
+-- Along a walk, behind frames that are passed: at the end the bytes are read, and a stop, a fault of a frame or one of
+-- its value is the first fault.
+along : (n : ℕ) → AreCountedWithin n → (sort : Sort) (frames : List Frame) (end : End) {b s : List ℕ} {pairs : List (List ℕ × Tree)} {before : ℕ} → Passed ReadsAs b s pairs before
     → AreBytes s → length s ≤ n + 1 → IsWalk s frames end → IsCountedFrom sort b (before + least_of frames)
-along n shorter sort b passed pairs before s [] Done lead h c bytes l w =
-    let whole = LeadsTo-walk (drop 4 b) passed s Done lead w in
-    (before, omega arith, inl (tree_of_pairs sort pairs, reads_of sort b passed pairs whole h, count_of_walk b passed Done before whole c))
-along n shorter sort b passed pairs before s [] (Stopped fault key) lead h c bytes l w =
+along n shorter sort [] Done {b = b} {s = s} {pairs = pairs} {before = before} is bytes l w =
+    let whole = LeadsTo-walk (drop 4 b) is.frames s Done is.leads w in
+    (before, omega arith, inl (tree_of_pairs sort pairs, reads_of sort b is.frames pairs whole is.each, count_of_walk b is.frames Done before whole is.counts))
+along n shorter sort [] (Stopped fault key) {before = before} is bytes l w =
     let bad : KeyedFault = record { fault = fault; key = key } in
-    (before, omega arith, inr (bad, fault_at_stop b passed pairs s bad lead h w, to_stop b passed pairs s before lead h c bad w))
-along n shorter sort b passed pairs before s (f ∷ frames) end lead h c bytes l w =
+    (before, omega arith, inr (bad, fails_at_stop is bad w))
+along n shorter sort (f ∷ frames) end {s = s} {before = before} is bytes l w =
     let m = has_meaning f w.0 s bytes w.1 in
     elim (value_or_fault f m.0 m.1) [
-      | inr bad ↦ (before + 1, omega arith, inr (bad.0, fault_at_frame b passed pairs s f w.0 bad.0 lead h w.1 bad.1, to_frame b passed pairs s before lead h c f w.0 bad.0 w.1 bad.1))
+      | inr bad ↦ (before + 1, omega arith, inr (bad.0, fails_at_frame is f w.0 bad.0 w.1 bad.1))
       | inl v ↦ (
           let k = value_within n shorter s f w.0 v.0 l w.1 v.1 in
           elim k.1 [
-            | inr to ↦ (
-              before + 1 + k.0,
-              omega arith,
-              inr (
-                to.1,
-                fault_inside b passed pairs s f w.0 v.0 to.1 lead h w.1 v.1 (to.0, to.2, to.3),
-                to_inside b passed pairs s before lead h c f w.0 v.0 to.0 to.1 k.0 w.1 v.1 to.2 to.3 to.4,
-              ),
-            )
+            | inr to ↦ (before + 1 + k.0, omega arith, inr (to.1, fails_inside is f w.0 v.0 to.0 to.1 k.0 w.1 v.1 to.2 to.3))
             | inl t ↦ (
-                let on : LeadsTo (drop 4 b) (passed ++ f ∷ []) w.0 = LeadsTo-more (drop 4 b) passed s f w.0 lead w.1 in
-                let each : StandForEach ReadsAs (passed ++ f ∷ []) (pairs ++ (f.key, t.0) ∷ []) = stand_more ReadsAs passed pairs f v.0 t.0 h v.1 t.1 in
-                let more : CountsFrames HasFrameCount (passed ++ f ∷ []) (before + 1 + k.0) = counts_more passed before f (value v.0) k.0 c v.1 t.2 in
-                let rest = along n shorter sort b (passed ++ f ∷ []) (pairs ++ (f.key, t.0) ∷ []) (before + 1 + k.0) w.0 frames end on each more
+                let rest = along n shorter sort frames end (passed_more v.0 t.0 k.0 is w.1 v.1 t.1 t.2)
                 (AreBytes-rest s f w.0 w.1 bytes) (omega (arith, IsFrame-shorter s f w.0 w.1)) w.2 in
                 (rest.0, omega (arith, rest.1), rest.2))
           ])
@@ -134,7 +116,8 @@ counted_within zero sort b l env = absurd (omega (arith, env.enough))
 counted_within (suc n) sort b l env =
     let w = document_has_walk b env in
     let size : length (drop 4 b) ≤ n + 1 = omega (arith, length-drop 4 b) in
-    let from = along n (counted_within n) sort b [] [] 0 (drop 4 b) w.0 w.1 refl refl refl (AreBytes-drop 4 b env.bytes) size w.2 in
+    let none : Passed ReadsAs b (drop 4 b) [] 0 = record { frames = []; leads = refl; each = refl; counts = refl } in
+    let from = along n (counted_within n) sort w.0 w.1 none (AreBytes-drop 4 b env.bytes) size w.2 in
     (from.0, from.2)
 
 -- bytes with an envelope are counted
@@ -146,7 +129,7 @@ pub decided : (sort : Sort) (b : List ℕ) → IsEnvelope b → ((t : Tree) × R
 decided sort b env =
     elim (counted sort b env).1 [
       | inl all ↦ inl (all.0, all.1)
-      | inr to ↦ inr (to.0, to.1)
+      | inr to ↦ inr (to.0, to.1.0)
     ]
 
 -- what a loop knows
@@ -164,28 +147,23 @@ AreBytes-behind : (s : List ℕ) (passed : List Frame) (r : List ℕ) → LeadsT
 AreBytes-behind s [] r l bytes = subst AreBytes l bytes
 AreBytes-behind s (f ∷ fs) r l bytes = AreBytes-behind l.0 fs r l.2 (AreBytes-rest s f l.0 l.1 bytes)
 
-module _ (sort : Sort) (b : List ℕ) (env : IsEnvelope b) (passed : List Frame) (pairs : List (List ℕ × Tree)) (before : ℕ) (s : List ℕ)
-    (lead : LeadsTo (drop 4 b) passed s) (each : StandForEach ReadsAs passed pairs) (c : CountsFrames HasFrameCount passed before) where
-  counted_on : (frames : List Frame) × (end : End) × IsWalk s frames end × IsCountedFrom sort b (before + least_of frames)
+module _ (sort : Sort) {b s : List ℕ} {pairs : List (List ℕ × Tree)} {n : ℕ} (env : IsEnvelope b) (is : Passed ReadsAs b s pairs n) where
+  counted_on : (frames : List Frame) × (end : End) × IsWalk s frames end × IsCountedFrom sort b (n + least_of frames)
   counted_on =
       let whole = document_has_walk b env in
-      let rest = rest_of_walk (drop 4 b) passed s whole.0 whole.1 lead whole.2 in (
-        rest.0,
-        whole.1,
-        rest.1,
-        along (length s) (λ of_sort d l e. counted of_sort d e) sort b passed pairs before s rest.0 whole.1 lead each c
-            (AreBytes-behind (drop 4 b) passed s lead (AreBytes-drop 4 b env.bytes)) (omega arith) rest.1,
-      )
+      let rest = rest_of_walk (drop 4 b) is.frames s whole.0 whole.1 is.leads whole.2 in
+      let bytes = AreBytes-behind (drop 4 b) is.frames s is.leads (AreBytes-drop 4 b env.bytes) in
+      (rest.0, whole.1, rest.1, along (length s) (λ of_sort d l e. counted of_sort d e) sort rest.0 whole.1 is bytes (omega arith) rest.1)
 
-  -- frames that have been read are counted
-  pub counted_from : IsCountedFrom sort b before
+  -- frames that have been passed are counted
+  pub counted_from : IsCountedFrom sort b n
   counted_from = let on = counted_on in (on.3.0, omega (arith, on.3.1), on.3.2)
 
-  with_frame : (f : Frame) (r : List ℕ) → IsFrame s f r → (frames : List Frame) (end : End) → IsWalk s frames end → IsCountedFrom sort b (before + least_of frames) → IsCountedFrom sort b (before + 1)
-  with_frame f r at [] Done w n = absurd (no_frame_at_final s w f r at)
-  with_frame f r at [] (Stopped fault key) w n = absurd (no_frame_at_stop s fault key w f r at)
-  with_frame f r at (g ∷ gs) end w n = n
+  with_frame : (f : Frame) (r : List ℕ) → IsFrame s f r → (frames : List Frame) (end : End) → IsWalk s frames end → IsCountedFrom sort b (n + least_of frames) → IsCountedFrom sort b (n + 1)
+  with_frame f r at [] Done w from = absurd (no_frame_at_final s w f r at)
+  with_frame f r at [] (Stopped fault key) w from = absurd (no_frame_at_stop s fault key w f r at)
+  with_frame f r at (g ∷ gs) end w from = from
 
   -- and so is the frame behind them
-  pub counted_from_frame : (f : Frame) (r : List ℕ) → IsFrame s f r → IsCountedFrom sort b (before + 1)
+  pub counted_from_frame : (f : Frame) (r : List ℕ) → IsFrame s f r → IsCountedFrom sort b (n + 1)
   counted_from_frame f r at = let on = counted_on in with_frame f r at on.0 on.1 on.2 on.3

@@ -5,12 +5,12 @@ use Rattle.std.specs.Cmp.Lexicographic.{bytes_decides}
 use Rattle.std.specs.List.{IsDistinct, list_any}
 use Rattle.std.specs.Str.{bytes_eq}
 use Rattle.bson_model.specs.Bytes.{AreBytes}
-use Rattle.bson_model.specs.Leaf.{Leaf, double, string, binary, undefined, object_id, boolean, date_time, null, regular_expression, db_pointer, javascript_code, symbol, int32, timestamp, int64, decimal128, max_key, min_key}
+use Rattle.bson_model.specs.Leaf.{Leaf, regular_expression}
 use Rattle.bson_model.specs.Proper.{DoLeafOptionsAscend}
 use Rattle.bson_model.proofs.Face.{AreBytes-drop, options_decided}
 use Rattle.raw_view.specs.Envelope.{IsEnvelope}
 use Rattle.raw_view.specs.Frame.{Frame, IsFrame, IsWalk, End, Done, Stopped, LeadsTo}
-use Rattle.raw_view.specs.Meaning.{RawValue, KeyedFault, Means, Meaning, value, faulty}
+use Rattle.raw_view.specs.Meaning.{RawValue, Means, Meaning, value, faulty}
 use Rattle.raw_view.specs.Meaning as raw
 use Rattle.raw_view.proofs.Face.{LeadsTo-walk, LeadsTo-more, IsFrame-shorter, has_meaning, AreBytes-rest, document_has_walk}
 use Rattle.raw_tree.specs.Breaches.{keys_of_frames, BreachesKeys, BreachesMeaning, BreachesFront, HasBreachUpTo, HasBreachAs}
@@ -45,23 +45,7 @@ key_decided as_array keys key h = array_key_where keys key (bytes_eq key (decima
 
 leaf_decided : (l : Leaf) → DoLeafOptionsAscend l ⊎ ¬ DoLeafOptionsAscend l
 leaf_decided (regular_expression pattern options) = options_decided options
-leaf_decided (double _) = inl tt
-leaf_decided (string _) = inl tt
-leaf_decided (binary _ _) = inl tt
-leaf_decided undefined = inl tt
-leaf_decided (object_id _) = inl tt
-leaf_decided (boolean _) = inl tt
-leaf_decided (date_time _) = inl tt
-leaf_decided null = inl tt
-leaf_decided (db_pointer _ _) = inl tt
-leaf_decided (javascript_code _) = inl tt
-leaf_decided (symbol _) = inl tt
-leaf_decided (int32 _) = inl tt
-leaf_decided (timestamp _ _) = inl tt
-leaf_decided (int64 _) = inl tt
-leaf_decided (decimal128 _) = inl tt
-leaf_decided max_key = inl tt
-leaf_decided min_key = inl tt
+leaf_decided _ = inl tt
 
 -- a value is canonical, or has a first breach
 abbrev IsValueEither : RawValue → Type 0

@@ -1,11 +1,12 @@
 -- The encoding of a tree that is read.
-use Rattle.std.proofs.Common.{◌≡◌, ◌≤◌, ◌∷◌, [], List, ℕ, zero, suc, map, length, arith, ap, refl, subst}
+use Rattle.std.proofs.Common.{◌≡◌, ◌≤◌, ◌∷◌, [], List, ℕ, zero, suc, Result, Ok, Err, IfOk, Vec, Global, map, length, arith, ap, refl, subst}
 use Rattle.bson_model.specs.Pairs.{keep}
 use Rattle.bson_model.specs.Proper.{IsProper}
 use Rattle.bson_model.specs.Tree.{Tree, Trees, Entries, leaf, array, document, code_with_scope, trees, entries}
 use Rattle.raw_view.specs.Envelope.{IsEnvelope}
 use Rattle.raw_view.specs.Frame.{Frame}
 use Rattle.raw_view.specs.Number.{max_length}
+use Rattle.raw_view.specs.declared.error.Error.{Error}
 use Rattle.raw_view.proofs.Face.{framed_is_envelope}
 use Rattle.raw_view.specs.Meaning.{RawValue}
 use Rattle.raw_view.specs.Meaning as raw
@@ -28,22 +29,20 @@ read_returns as_array b t (suc n, r) p l =
     rw r.2 (array_returns (trees (map (λ q. q.1) r.0)) (subst IsProper r.2 p) (subst (λ (u : Tree). encoded_len u ≤ max_length) r.2 l))
 
 -- what is canonical is read, where nested bytes that are canonical are
-value_reads : (N : Sort → List ℕ → Type 0) (M : Sort → List ℕ → Tree → Type 0)
-    → ((d : List ℕ) → N as_document d → (es : Entries) × M as_document d (document es)) → ((d : List ℕ) → N as_array d → (t : Tree) × M as_array d t)
-    → (v : RawValue) → IsValueCanonical N v → (t : Tree) × StandsFor M v t
-value_reads N M documents arrays (raw.single l) h = (leaf (leaf_in_order l), refl)
-value_reads N M documents arrays (raw.document d) h = let read = documents d h in (document read.0, read.1)
-value_reads N M documents arrays (raw.array d) h = arrays d h
-value_reads N M documents arrays (raw.scoped code d) h = let read = documents d h in (code_with_scope code read.0, (read.0, read.1, refl))
+module _ (N : Sort → List ℕ → Type 0) (M : Sort → List ℕ → Tree → Type 0) (documents : (d : List ℕ) → N as_document d → (es : Entries) × M as_document d (document es))
+    (arrays : (d : List ℕ) → N as_array d → (t : Tree) × M as_array d t) where
+  value_reads : (v : RawValue) → IsValueCanonical N v → (t : Tree) × StandsFor M v t
+  value_reads (raw.single l) h = (leaf (leaf_in_order l), refl)
+  value_reads (raw.document d) h = let read = documents d h in (document read.0, read.1)
+  value_reads (raw.array d) h = arrays d h
+  value_reads (raw.scoped code d) h = let read = documents d h in (code_with_scope code read.0, (read.0, read.1, refl))
 
-frames_read : (N : Sort → List ℕ → Type 0) (M : Sort → List ℕ → Tree → Type 0)
-    → ((d : List ℕ) → N as_document d → (es : Entries) × M as_document d (document es)) → ((d : List ℕ) → N as_array d → (t : Tree) × M as_array d t)
-    → (fs : List Frame) → AreFramesCanonical N fs → (pairs : List (List ℕ × Tree)) × StandForEach M fs pairs
-frames_read N M documents arrays [] h = ([], refl)
-frames_read N M documents arrays (f ∷ fs) h =
-    let first = value_reads N M documents arrays h.0 h.2 in
-    let others = frames_read N M documents arrays fs h.3 in
-    ((f.key, first.0) ∷ others.0, (h.0, first.0, others.0, h.1, first.1, refl, others.1))
+  frames_read : (fs : List Frame) → AreFramesCanonical N fs → (pairs : List (List ℕ × Tree)) × StandForEach M fs pairs
+  frames_read [] h = ([], refl)
+  frames_read (f ∷ fs) h =
+      let first = value_reads h.0 h.2 in
+      let others = frames_read fs h.3 in
+      ((f.key, first.0) ∷ others.0, (h.0, first.0, others.0, h.1, first.1, refl, others.1))
 
 -- of a document and of an array
 mutual
@@ -86,10 +85,14 @@ bytes_spelled_one_way sort b env = record {
 }
 
 -- what is written has an envelope
-pub document_enveloped : (es : Entries) (b : List ℕ) → AreBytes b → IsEncoded (document es) b → IsEnvelope b
-document_enveloped es b bytes e =
-    rw e.2 (framed_is_envelope (entries_bytes es) (subst AreBytes e.2 bytes) (omega (arith, length-entries_bytes es, e.1)))
+pub document_enveloped : (es : Entries) (result : Result (Vec ℕ Global) Error) → IfOk result (λ out. IsEncoded (document es) out.items)
+    → IfOk result (λ out. AreBytes out.items) → IfOk result (λ out. IsEnvelope out.items)
+document_enveloped es (Err e) encoded bytes = tt
+document_enveloped es (Ok out) encoded bytes =
+    rw encoded.2 (framed_is_envelope (entries_bytes es) (subst AreBytes encoded.2 bytes) (omega (arith, length-entries_bytes es, encoded.1)))
 
-pub list_enveloped : (ts : Trees) (b : List ℕ) → AreBytes b → IsEncoded (array ts) b → IsEnvelope b
-list_enveloped ts b bytes e =
-    rw e.2 (framed_is_envelope (items_bytes 0 ts) (subst AreBytes e.2 bytes) (omega (arith, length-items_bytes 0 ts, e.1)))
+pub list_enveloped : (ts : Trees) (result : Result (Vec ℕ Global) Error) → IfOk result (λ out. IsEncoded (array ts) out.items)
+    → IfOk result (λ out. AreBytes out.items) → IfOk result (λ out. IsEnvelope out.items)
+list_enveloped ts (Err e) encoded bytes = tt
+list_enveloped ts (Ok out) encoded bytes =
+    rw encoded.2 (framed_is_envelope (items_bytes 0 ts) (subst AreBytes encoded.2 bytes) (omega (arith, length-items_bytes 0 ts, encoded.1)))

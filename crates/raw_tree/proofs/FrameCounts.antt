@@ -8,11 +8,12 @@ use Rattle.raw_view.specs.Envelope.{IsEnvelope}
 use Rattle.raw_view.specs.Frame.{Frame, IsFrame, IsStop, IsWalk, End, LeadsTo}
 use Rattle.raw_view.specs.Meaning.{RawValue, KeyedFault, Meaning, Means, value, faulty}
 use Rattle.raw_view.specs.Meaning as raw
-use Rattle.raw_view.proofs.Face.{IsFrame-shorter, AreBytes-rest, document_has_walk, has_meaning, one_frame, one_walk, one_meaning, no_frame_at_stop}
+use Rattle.raw_view.proofs.Face.{LeadsTo-more, IsFrame-shorter, AreBytes-rest, document_has_walk, has_meaning, one_frame, one_walk, one_meaning, no_frame_at_stop}
 use Rattle.raw_tree.specs.FrameCount.{AllHaveOneFrameCount, CountsIn, CountsFrames, HasFrameCountUpTo, HasFrameCount, CountsToFaultInFrame, CountsToFaultAt, HasFramesToFaultUpTo, HasFramesToFault, HasFramesUntilFault}
-use Rattle.raw_tree.specs.Reading.{StandForEach, ReadsAs, Holds, FirstFault}
-use Rattle.raw_tree.proofs.Loops.{nested_envelope, nested_shorter, nested_beside, fault_at_stop, fault_at_frame, fault_inside}
-use Rattle.raw_tree.proofs.OneTree.{FailsAt, one_nested, one_value_of, passed_same, tree_or_fault, value_nor_fault}
+use Rattle.raw_tree.specs.WithinLimits.{fault_of}
+use Rattle.raw_tree.specs.Reading.{Sort, StandsFor, StandForEach, ReadsUpTo, ReadsAs, Holds, FirstFault}
+use Rattle.raw_tree.proofs.Loops.{each_read, stand_more, nested_envelope, nested_shorter, nested_beside}
+use Rattle.raw_tree.proofs.OneTree.{BarsAs, FailsAt, one_nested, one_value_of, passed_same, reads_apart, value_nor_fault}
 
 -- levels
 
@@ -67,23 +68,63 @@ pub counts_more : (fs : List Frame) (n : ℕ) (f : Frame) (m : Meaning) (inside 
 counts_more [] n f m inside h is c = (m, inside, 0, is, c, refl, omega (arith, h))
 counts_more (g ∷ fs) n f m inside h is c = (h.0, h.1, h.2 + 1 + inside, h.3, h.4, counts_more fs h.2 f m inside h.5 is c, omega (arith, h.6))
 
--- until a fault
+-- frames that are passed
 
-module _ (b : List ℕ) (passed : List Frame) (pairs : List (List ℕ × Tree)) (r : List ℕ) (before : ℕ) (leads : LeadsTo (drop 4 b) passed r)
-    (each : StandForEach ReadsAs passed pairs) (c : CountsFrames HasFrameCount passed before) where
-  -- the walk stops behind frames that are read
-  pub to_stop : (fault : KeyedFault) → IsStop r fault.fault fault.key → HasFramesToFault b before
-  to_stop fault stop = (1, (passed, pairs, r, before, leads, each, c, inl (fault, stop, refl)))
+-- up to s frames of the bytes b are passed: they stand for the pairs, where N says which trees nested bytes are read
+-- as, and are so many with those that are in them
+pub record Passed (N : Sort → List ℕ → Tree → Type 0) (b s : List ℕ) (pairs : List (List ℕ × Tree)) (n : ℕ) : Type 0 where
+  pub frames : List Frame
+  pub leads : LeadsTo (drop 4 b) frames s
+  pub each : StandForEach N frames pairs
+  pub counts : CountsFrames HasFrameCount frames n
 
-  -- a frame behind them means a fault
-  pub to_frame : (f : Frame) (q : List ℕ) (fault : KeyedFault) → IsFrame r f q → Means f (faulty fault) → HasFramesToFault b (before + 1)
-  to_frame f q fault at m = (1, (passed, pairs, r, before, leads, each, c, inr (f, q, 0, at, inl (fault, m, refl), omega arith)))
+-- one more
+pub passed_more : {N : Sort → List ℕ → Tree → Type 0} {b s r : List ℕ} {pairs : List (List ℕ × Tree)} {n : ℕ} {f : Frame} (v : RawValue) (t : Tree) (inside : ℕ)
+    → Passed N b s pairs n → IsFrame s f r → Means f (value v) → StandsFor N v t → CountsIn HasFrameCount (value v) inside
+    → Passed N b r (pairs ++ (f.key, t) ∷ []) (n + 1 + inside)
+passed_more {N = N} {b = b} {s = s} {r = r} {pairs = pairs} {n = n} {f = f} v t inside is at m st c = record {
+  frames = is.frames ++ f ∷ [];
+  leads = LeadsTo-more (drop 4 b) is.frames s f r is.leads at;
+  each = stand_more N is.frames pairs f v t is.each m st;
+  counts = counts_more is.frames n f (value v) inside is.counts m c;
+}
 
-  -- nested bytes of a frame behind them have a fault
-  pub to_inside : (f : Frame) (q : List ℕ) (v : RawValue) (d : List ℕ) (fault : KeyedFault) (inside : ℕ) → IsFrame r f q → Means f (value v) → Holds v d
-      → FirstFault d fault → HasFramesToFault d inside → HasFramesToFault b (before + 1 + inside)
-  to_inside f q v d fault inside at m holds first k =
-      (suc k.0, (passed, pairs, r, before, leads, each, c, inr (f, q, inside, at, inr (v, d, fault, m, holds, first, k.1), refl)))
+-- those that are read within some levels are read
+pub passed_read : (levels : ℕ) {n : ℕ} {b s : List ℕ} {pairs : List (List ℕ × Tree)} → Passed (ReadsUpTo levels) b s pairs n → Passed ReadsAs b s pairs n
+passed_read levels {pairs = pairs} is = record { frames = is.frames; leads = is.leads; each = each_read levels is.frames pairs is.each; counts = is.counts }
+
+-- the bytes have this first fault, and so many frames until it
+abbrev pub Fails : List ℕ → KeyedFault → ℕ → Type 0
+Fails b fault n = FirstFault b fault × HasFramesToFault b n
+
+module _ {b s : List ℕ} {pairs : List (List ℕ × Tree)} {n : ℕ} (is : Passed ReadsAs b s pairs n) where
+  -- a fault behind the frames that are passed is the first
+  pub fault_behind : (fault : KeyedFault) → FailsAt FirstFault s fault → FirstFault b fault
+  fault_behind fault (inl stop) = (1, (is.frames, pairs, s, is.leads, is.each, inl stop))
+  fault_behind fault (inr bad) =
+      elim bad.3 [
+        | inl m ↦ (1, (is.frames, pairs, s, is.leads, is.each, inr (bad.0, bad.1, bad.2, inl m)))
+        | inr v ↦ (suc v.4.0, (is.frames, pairs, s, is.leads, is.each, inr (bad.0, bad.1, bad.2, inr (v.0, v.2, (v.1, v.3, v.4.1)))))
+      ]
+
+  -- the walk stops there
+  pub fails_at_stop : (fault : KeyedFault) → IsStop s fault.fault fault.key → Fails b fault n
+  fails_at_stop fault stop = (fault_behind fault (inl stop), (1, (is.frames, pairs, s, n, is.leads, is.each, is.counts, inl (fault, stop, refl))))
+
+  -- or a frame means a fault
+  pub fails_at_frame : (f : Frame) (r : List ℕ) (fault : KeyedFault) → IsFrame s f r → Means f (faulty fault) → Fails b fault (n + 1)
+  fails_at_frame f r fault at m = (
+    fault_behind fault (inr (f, r, at, inl m)),
+    (1, (is.frames, pairs, s, n, is.leads, is.each, is.counts, inr (f, r, 0, at, inl (fault, m, refl), omega arith))),
+  )
+
+  -- or nested bytes of a frame have one
+  pub fails_inside : (f : Frame) (r : List ℕ) (v : RawValue) (d : List ℕ) (fault : KeyedFault) (inside : ℕ) → IsFrame s f r → Means f (value v) → Holds v d
+      → Fails d fault inside → Fails b fault (n + 1 + inside)
+  fails_inside f r v d fault inside at m holds bad = (
+    fault_behind fault (inr (f, r, at, inr (v, d, m, holds, bad.0))),
+    (suc bad.1.0, (is.frames, pairs, s, n, is.leads, is.each, is.counts, inr (f, r, inside, at, inr (v, d, fault, m, holds, bad.0, bad.1.1), refl))),
+  )
 
 -- at most half of the bytes
 
@@ -241,7 +282,7 @@ at_fault_fails N r before n (inl stop) = (stop.0, inl stop.1)
 at_fault_fails N r before n (inr at) =
     elim at.4 [
       | inl m ↦ (m.0, inr (at.0, at.1, at.3, inl m.1))
-      | inr in_value ↦ (in_value.2, inr (at.0, at.1, at.3, inr (in_value.0, in_value.3, (in_value.1, in_value.4, in_value.5))))
+      | inr v ↦ (v.2, inr (at.0, at.1, at.3, inr (v.0, v.1, v.3, v.4, v.5)))
     ]
 
 to_fault_same : (n m : ℕ) → AgreeOn (HasFramesToFaultUpTo n) (HasFramesToFaultUpTo m)
@@ -250,7 +291,7 @@ to_fault_same (suc n) zero b j k h i = absurd i
 to_fault_same (suc n) (suc m) b j k h i =
     let x = at_fault_fails (HasFramesToFaultUpTo n) h.2 h.3 j h.7 in
     let y = at_fault_fails (HasFramesToFaultUpTo m) i.2 i.3 k i.7 in
-    let same = passed_same FirstFault FirstFault tree_or_fault tree_or_fault (drop 4 b) i.0 h.0 i.2 h.2 i.1 h.1 y.0 x.0 i.4 i.5 y.1 h.4 h.5 x.1 in
+    let same = passed_same ReadsAs (BarsAs FirstFault) (BarsAs FirstFault) reads_apart reads_apart (drop 4 b) i.0 h.0 i.2 h.2 i.1 h.1 (fault_of y.0) (fault_of x.0) i.4 i.5 y.1 h.4 h.5 x.1 in
     let there : CountsFrames HasFrameCount h.0 i.3 = subst (λ (fs : List Frame). CountsFrames HasFrameCount fs i.3) same.0 i.6 in
     let before : i.3 ≡ h.3 = counts_each_same HasFrameCount HasFrameCount one_count h.0 i.3 h.3 there h.6 in
     let fault : CountsToFaultAt (HasFramesToFaultUpTo m) h.2 i.3 k = subst (λ (r : List ℕ). CountsToFaultAt (HasFramesToFaultUpTo m) r i.3 k) same.1 i.7 in
@@ -260,13 +301,9 @@ to_fault_same (suc n) (suc m) b j k h i =
 to_fault_fails : (b : List ℕ) (n : ℕ) → HasFramesToFault b n → (fault : KeyedFault) × FirstFault b fault
 to_fault_fails b n (zero, h) = absurd h
 to_fault_fails b n (suc levels, h) =
-    elim h.7 [
-      | inl stop ↦ (stop.0, fault_at_stop b h.0 h.1 h.2 stop.0 h.4 h.5 stop.1)
-      | inr at ↦ elim at.4 [
-        | inl m ↦ (m.0, fault_at_frame b h.0 h.1 h.2 at.0 at.1 m.0 h.4 h.5 at.3 m.1)
-        | inr in_value ↦ (in_value.2, fault_inside b h.0 h.1 h.2 at.0 at.1 in_value.0 in_value.2 h.4 h.5 at.3 in_value.3 (in_value.1, in_value.4, in_value.5))
-      ]
-    ]
+    let passed : Passed ReadsAs b h.2 h.1 h.3 = record { frames = h.0; leads = h.4; each = h.5; counts = h.6 } in
+    let bad = at_fault_fails (HasFramesToFaultUpTo levels) h.2 h.3 n h.7 in
+    (bad.0, fault_behind passed bad.0 bad.1)
 
 -- bytes have one number of frames until the first fault at most
 pub one_until : (b : List ℕ) (j k : ℕ) → HasFramesUntilFault b j → HasFramesUntilFault b k → j ≡ k

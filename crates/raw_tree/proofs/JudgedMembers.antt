@@ -11,7 +11,7 @@ use Rattle.raw_tree.specs.Judging.{Judges}
 use Rattle.raw_tree.specs.Members.{MemberKey, key_bytes, members, members_len, opening_len, IsKeyFree, AreMembersFree, ShowsLeaf, left_of, tree_of_container}
 use Rattle.raw_tree.specs.declared.members.Container.{Container}
 use Rattle.raw_tree.specs.declared.members.Members.{Members}
-use Rattle.raw_tree.proofs.MemberSteps.{container_len, members_free, free_members}
+use Rattle.raw_tree.proofs.MemberSteps.{container_len, members_free}
 
 -- what is left of those that wait
 abbrev pub len_waiting : List Members → ℕ
@@ -47,8 +47,8 @@ judging_begins c total e fits = record {
   counted = total;
   total_is = omega arith;
   whole = omega (arith, container_len c);
-  inward = λ h. (tt, members_free c h);
-  outward = λ waiting h. free_members c h;
+  inward = λ h. (tt, (members_free c).0 h);
+  outward = λ waiting h. (members_free c).1 h;
 }
 
 module _ (t : Tree) (ws : List Members) (m : MemberKey × Tree) (old left : List (MemberKey × Tree)) (total : ℕ) (was : IsJudging t ws old total) (step : old ≡ m ∷ left) where
@@ -79,8 +79,8 @@ module _ (t : Tree) (ws : List Members) (m : MemberKey × Tree) (old left : List
         counted = is.counted + (2 + length (key_bytes m.0) + len);
         total_is = omega (arith, before);
         whole = omega (arith, is.whole, container_len c, len_waiting-last ws w, ap encoded_len e, ap members_len l);
-        inward = λ h. let all = is.inward h in (waiting_free-more ws w all.0 (rw l all.1.2), members_free c (rw e at all.1.1));
-        outward = λ waiting free. let less = waiting_free-less ws w waiting in is.outward less.0 (key, rw e (free_members c free), rw l at less.1);
+        inward = λ h. let all = is.inward h in (waiting_free-more ws w all.0 (rw l all.1.2), (members_free c).0 (rw e at all.1.1));
+        outward = λ waiting free. let less = waiting_free-less ws w waiting in is.outward less.0 (key, rw e ((members_free c).1 free), rw l at less.1);
       } in
       rw (f, n) on
 

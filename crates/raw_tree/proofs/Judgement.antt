@@ -1,6 +1,6 @@
 -- The steps of the validator: a level passes a frame, waits at one, ends, or has the first breach; and its levels from
 -- the outermost inward.
-use Rattle.std.proofs.Common.{◌≡◌, ◌≢◌, inl, inr, ◌<◌, ◌+◌, ◌++◌, ◌∷◌, [], ℕ, suc, List, Option, None, Some, Ok, Err, length, drop, map, arith, refl, sym, ◌∙◌, subst, length-append, length-drop}
+use Rattle.std.proofs.Common.{◌≡◌, ◌≢◌, inl, inr, ◌<◌, ◌+◌, ◌++◌, ◌∷◌, [], ℕ, suc, List, Option, None, Some, Ok, Err, length, drop, map, arith, ap, refl, sym, ◌∙◌, subst, length-append, length-drop}
 use Rattle.std.specs.List.{IsDistinct, sum_by}
 use Rattle.std.proofs.lemmas.List.{length-map, map-append}
 use Rattle.std.proofs.lemmas.List.Sums.{sum_by_push}
@@ -8,7 +8,7 @@ use denote.Ref.{Bor}
 use Rattle.raw_view.specs.ElementSteps.{frame_of}
 use Rattle.raw_view.specs.Frame.{Frame, IsFrame, Fault, Malformed, Utf8, IsStop, Done, LeadsTo}
 use Rattle.raw_view.specs.Front.{StepsFront, StopsWith}
-use Rattle.raw_view.specs.Meaning.{RawValue, KeyedFault, Meaning, Means, value, faulty}
+use Rattle.raw_view.specs.Meaning.{RawValue, Meaning, Means, value, faulty}
 use Rattle.raw_view.specs.Meaning as raw
 use Rattle.raw_view.specs.Number.{max_length}
 use Rattle.raw_view.specs.declared.element.RawElement.{RawElement}
@@ -20,7 +20,7 @@ use Rattle.raw_tree.specs.Breaches.{keys_of_frames, BreachesKeys, BreachesMeanin
 use Rattle.raw_tree.specs.Canonical.{AreKeysCanonical, IsValueCanonical, AreFramesCanonical, IsCanonicalAs}
 use Rattle.raw_tree.specs.Reading.{Sort, as_document, as_array, Holds}
 use Rattle.raw_tree.specs.References.{texts}
-use Rattle.raw_tree.specs.Validating.{HasKeys, HoldsAs, IsJudged, IsUnjudged, IsAwaiting, JudgesValue, TellsStep, Shrinks, left_of}
+use Rattle.raw_tree.specs.Validating.{HasKeys, HoldsAs, LeavesKeys, IsJudged, IsUnjudged, IsAwaiting, JudgesValue, TellsStep, Steps, Shrinks, left_of}
 use Rattle.raw_tree.specs.declared.breach.Cause.{Cause}
 use Rattle.raw_tree.specs.declared.breach.Cause.TheVariants as cause
 use Rattle.raw_tree.specs.declared.keys.Keys.{Keys}
@@ -100,7 +100,7 @@ keys_on (keys.Indexed set) refs others sort below own h e = (h.0, e ∙ h.1, h.2
 
 -- the steps of a level
 
-module _ (sort : Sort) (d : List ℕ) (below : List (List ℕ)) (before : List (Bor (List ℕ))) (level : Judged) (is : IsJudged sort d below before level) where
+module _ {sort : Sort} {d : List ℕ} {below : List (List ℕ)} {before : List (Bor (List ℕ))} {level : Judged} (is : IsJudged sort d below before level) where
   -- so few elements are judged that one more can be counted
   pub few_judged : level.number < max_length
   few_judged = omega (arith, is.number, LeadsTo-bound (drop 4 d) is.passed is.rest is.reaches, length-drop 4 d, is.envelope.header.fits, is.envelope.enough)
@@ -218,9 +218,9 @@ awaiting_less sort b under (x ∷ ws) w t e above h =
     (less.0, less.1, less.2, (h.0, h.1, h.2, h.3, less.3), less.4)
 
 -- the breach of the innermost bytes is that of the outermost, behind the numbers at which the levels wait
-awaiting_breach : (sort : Sort) (b : List ℕ) (under : List (List ℕ)) (w : Judged) (s : Sort) (d : List ℕ) (below : List (List ℕ)) (path : List ℕ) (why : Cause)
+awaiting_breach : {sort s : Sort} {b d : List ℕ} {under below : List (List ℕ)} {w : Judged} (path : List ℕ) (why : Cause)
     → IsAwaiting sort b under w s d below → HasBreachAs s d path why → HasBreachAs sort b (w.number ∷ path) why
-awaiting_breach sort b under w s d below path why at breach =
+awaiting_breach {sort = sort} {s = s} {b = b} {d = d} path why at breach =
     rw (at.number) (meaning_breaches sort b at.passed at.front at.reaches at.canonical at.frame at.rest (value at.held) path why
     (keys_front sort (keys_of_frames at.passed) (at.frame.key ∷ []) at.keys_canonical) at.stands at.keys_canonical at.means
     (held_breach at.held s d path why at.holds breach))
@@ -229,13 +229,12 @@ pub outward_breach : (sort : Sort) (b : List ℕ) (under : List (List ℕ)) (ws 
     (why : Cause) → AreAwaiting sort b under ws s d below → HasBreachAs s d path why → HasBreachAs sort b (map (λ w. w.number) ws ++ path) why
 outward_breach sort b under [] s d below path why h breach = rw (h.0, h.1) breach
 outward_breach sort b under (w ∷ ws) s d below path why h breach =
-    awaiting_breach sort b under w h.0 h.1 h.2 (map (λ x. x.number) ws ++ path) why h.3 (outward_breach h.0 h.1 h.2 ws s d below path why h.4 breach)
+    awaiting_breach (map (λ x. x.number) ws ++ path) why h.3 (outward_breach h.0 h.1 h.2 ws s d below path why h.4 breach)
 
 -- where the nested bytes are canonical, the level that waits for them goes on
-pub level_resumes : (sort : Sort) (b : List ℕ) (under : List (List ℕ)) (w : Judged) (s : Sort) (d : List ℕ) (below : List (List ℕ)) (refs : List (Bor (List ℕ)))
-    → IsAwaiting sort b under w s d below → IsCanonicalAs s d → texts refs ≡ below
-    → IsJudged sort b under refs (record { elements = w.elements; number = w.number + 1; keys = w.keys })
-level_resumes sort b under w s d below refs at c e = record {
+level_resumes : {sort s : Sort} {b d : List ℕ} {under below : List (List ℕ)} {w : Judged} (refs : List (Bor (List ℕ))) → IsAwaiting sort b under w s d below → IsCanonicalAs s d
+    → texts refs ≡ below → IsJudged sort b under refs (record { elements = w.elements; number = w.number + 1; keys = w.keys })
+level_resumes {s = s} {b = b} {d = d} refs at c e = record {
   envelope = at.envelope;
   passed = at.passed ++ at.frame ∷ [];
   rest = at.rest;
@@ -248,12 +247,12 @@ level_resumes sort b under w s d below refs at c e = record {
 }
 
 -- so few elements are judged of a level that waits
-pub few_awaiting : (sort : Sort) (b : List ℕ) (under : List (List ℕ)) (w : Judged) (s : Sort) (d : List ℕ) (below : List (List ℕ)) → IsAwaiting sort b under w s d below → w.number < max_length
-few_awaiting sort b under w s d below at =
+few_awaiting : {sort s : Sort} {b d : List ℕ} {under below : List (List ℕ)} {w : Judged} → IsAwaiting sort b under w s d below → w.number < max_length
+few_awaiting {b = b} at =
     omega (arith, at.number, LeadsTo-bound (drop 4 b) at.passed at.front at.reaches, length-drop 4 b, at.envelope.header.fits, at.envelope.enough)
 
 -- a level of which nothing is judged
-pub level_begins : (sort : Sort) (d : List ℕ) (refs : List (Bor (List ℕ))) (level : Judged) → IsUnjudged sort d refs level → IsJudged sort d (texts refs) refs level
+level_begins : (sort : Sort) (d : List ℕ) (refs : List (Bor (List ℕ))) (level : Judged) → IsUnjudged sort d refs level → IsJudged sort d (texts refs) refs level
 level_begins sort d refs level is = record {
   envelope = is.envelope;
   passed = [];
@@ -274,7 +273,61 @@ pub left_in_more : (ws : List Judged) (w : Judged) → left_in (ws ++ w ∷ []) 
 left_in_more ws w = sum_by_push (λ (x : Judged). left_of x.elements + 1) ws w
 
 -- where nothing waits, the innermost bytes are the outermost
-pub whole_canonical : (b : List ℕ) (ws : List Judged) (s : Sort) (d : List ℕ) (below : List (List ℕ)) → length ws ≡ 0
+whole_canonical : (b : List ℕ) (ws : List Judged) (s : Sort) (d : List ℕ) (below : List (List ℕ)) → length ws ≡ 0
     → AreAwaiting as_document b [] ws s d below → IsCanonicalAs s d → IsCanonicalAs as_document b
 whole_canonical b [] s d below e h c = rw (h.0, h.1) c
 whole_canonical b (w ∷ ws) s d below e h c = absurd (omega (arith, e))
+
+-- the state of the loop: the innermost level judges some bytes, for which the others wait
+pub record AreJudged (b : List ℕ) (ws : List Judged) (refs : List (Bor (List ℕ))) (level : Judged) : Type 0 where
+  pub sort : Sort
+  pub inner : List ℕ
+  pub below : List (List ℕ)
+  pub waiting : AreAwaiting as_document b [] ws sort inner below
+  pub judged : IsJudged sort inner below refs level
+
+pub judging_begins : (b : List ℕ) (ws : List Judged) (refs : List (Bor (List ℕ))) (level : Judged) → ws ≡ [] → refs ≡ [] → IsUnjudged as_document b refs level → AreJudged b ws refs level
+judging_begins b ws refs level none listed is = record {
+  sort = as_document;
+  inner = b;
+  below = [];
+  waiting = rw none (refl, refl, refl);
+  judged = subst (λ (below : List (List ℕ)). IsJudged as_document b below refs level) (ap texts listed) (level_begins as_document b refs level is);
+}
+
+-- a step of the innermost level
+module _ {b : List ℕ} {ws : List Judged} {refs : List (Bor (List ℕ))} {level : Judged} (are : AreJudged b ws refs level) (new : Judged) (after : List (Bor (List ℕ))) (answer : Step)
+    (steps : Steps level refs new after answer) where
+  told : (is : Step) → answer ≡ is → TellsStep are.sort are.inner are.below new after is
+  told is e = subst (λ (x : Step). TellsStep are.sort are.inner are.below new after x) e (steps are.sort are.inner are.below are.judged)
+
+  pub judging_inside : (inner : Judged) (more : List Judged) → answer ≡ step.Inside inner → more ≡ ws ++ new ∷ [] → AreJudged b more after inner
+  judging_inside inner more e f =
+      let t = told (step.Inside inner) e in
+      record {
+        sort = t.0;
+        inner = t.1;
+        below = texts after;
+        waiting = rw f (awaiting_more as_document b [] ws are.sort are.inner are.below new t.0 t.1 (texts after) are.waiting t.2);
+        judged = level_begins t.0 t.1 after inner t.3;
+      }
+
+  pub judging_breach : (why : Cause) → answer ≡ step.Breach why → HasBreachAs as_document b (map (λ w. w.number) ws ++ new.number ∷ []) why
+  judging_breach why e = outward_breach as_document b [] ws are.sort are.inner are.below (new.number ∷ []) why are.waiting (told (step.Breach why) e)
+
+  pub judging_done : answer ≡ step.End → length ws ≡ 0 → IsCanonicalAs as_document b
+  judging_done e none = whole_canonical b ws are.sort are.inner are.below none are.waiting (told step.End e).0
+
+  -- the level that waits for it goes on
+  module _ (less : List Judged) (w : Judged) (e : ws ≡ less ++ w ∷ []) where
+    out : (s : Sort) × (d : List ℕ) × (below : List (List ℕ)) × AreAwaiting as_document b [] less s d below × IsAwaiting s d below w are.sort are.inner are.below
+    out = awaiting_less as_document b [] less w are.sort are.inner are.below (rw (← e) are.waiting)
+
+    pub few_popped : w.number < max_length
+    few_popped = few_awaiting out.4
+
+    pub judging_popped : answer ≡ step.End → (left : List (Bor (List ℕ))) → LeavesKeys new.keys after left
+        → AreJudged b less left (record { elements = w.elements; number = w.number + 1; keys = w.keys })
+    judging_popped f left leaves =
+        let t = told step.End f in
+        record { sort = out.0; inner = out.1; below = out.2; waiting = out.3; judged = level_resumes left out.4 t.0 (leaves are.sort are.below t.1 t.2) }

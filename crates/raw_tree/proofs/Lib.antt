@@ -24,4 +24,5 @@ pub mod KeyOrder
 pub mod Judgement
 pub mod EitherWay
 pub mod OneBreach
+pub mod Laws
 pub mod Face

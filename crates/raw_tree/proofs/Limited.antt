@@ -1,19 +1,18 @@
 -- Within limits bytes are read as one tree or have one first barrier, and never both.
-use Rattle.std.proofs.Common.{◌≡◌, ◌⊎◌, inl, inr, ◌≤◌, ◌∷◌, [], ℕ, zero, suc, List, length, drop, arith, ap, refl, sym, ◌∙◌, subst}
+use Rattle.std.proofs.Common.{◌≡◌, ◌⊎◌, inl, inr, ◌≤◌, ◌∷◌, [], ℕ, zero, suc, List, length, drop, arith, refl, sym, ◌∙◌}
 use Rattle.std.proofs.lemmas.Bool.{cases_lt}
 use Rattle.bson_model.specs.Tree.{Tree, document}
 use Rattle.raw_view.specs.Envelope.{IsEnvelope}
-use Rattle.raw_view.specs.Frame.{Frame, IsFrame, IsStop, IsWalk, Done, LeadsTo}
-use Rattle.raw_view.specs.Meaning.{RawValue, KeyedFault, Means, value, faulty}
+use Rattle.raw_view.specs.Frame.{Frame, IsFrame, Done, LeadsTo}
+use Rattle.raw_view.specs.Meaning.{RawValue, KeyedFault, Means, value}
 use Rattle.raw_view.specs.Meaning as raw
-use Rattle.raw_view.proofs.Face.{one_frame, one_stop, no_frame_at_stop, no_frame_at_final, no_stop_at_final}
-use Rattle.raw_tree.specs.WithinLimits.{Barrier, too_many_bytes, too_deep, fault_of, IsFaultWith, BarsFrame, BarsFront, BarsRest, FirstFaultWithin, ReadsWithin, FirstBarrier, AllAreAnsweredOneWay}
+use Rattle.raw_tree.specs.WithinLimits.{Barrier, too_many_bytes, too_deep, fault_of, BarsRest, FirstFaultWithin, ReadsWithin, FirstBarrier, AllAreAnsweredOneWay}
 use Rattle.raw_tree.specs.Reading.{Sort, as_document, as_array, StandsFor, StandForEach, ReadsUpTo, ReadsAs, Holds, FirstFaultUpTo}
 use Rattle.raw_tree.specs.declared.limits.Limits.{Limits}
 use Rattle.raw_tree.proofs.Decides.{decided}
 use Rattle.raw_tree.proofs.Depths.{shallow, read_to_depth}
 use Rattle.raw_tree.proofs.FrameCounts.{leads_to_end}
-use Rattle.raw_tree.proofs.OneTree.{one_value_of, one_fault_of, value_nor_fault, one_nested, one_tree}
+use Rattle.raw_tree.proofs.OneTree.{AreApart, walk_apart, rest_same, one_tree}
 
 -- a level is too deep, or not
 
@@ -91,114 +90,17 @@ fault_or_deep (suc n) (suc m) b fault h =
       ]
     ]
 
--- a tree and a barrier exclude each other
+-- bytes are not both read and barred, and have one barrier at most
 
--- a barrier that is a fault of which something holds, that holds of a fault
-some_fault : (P : KeyedFault → Type 0) (x : Barrier) → IsFaultWith P x → (fault : KeyedFault) × P fault
-some_fault P (fault_of fault) h = (fault, h)
-some_fault P too_many_bytes h = absurd h
-some_fault P too_deep h = absurd h
-
--- no bytes are read within n levels and have a barrier there
-abbrev AreApartWithin : ℕ → Type 0
-AreApartWithin n = (sort : Sort) (b : List ℕ) (t : Tree) (x : Barrier) → ReadsUpTo n sort b t → FirstFaultWithin n b x → ⊥
-
-value_apart : (n : ℕ) → AreApartWithin n → (v : RawValue) (t : Tree) (d : List ℕ) (x : Barrier) → StandsFor (ReadsUpTo n) v t → Holds v d → FirstFaultWithin n d x → ⊥
-value_apart n apart (raw.single l) t d x h holds bars = holds
-value_apart n apart (raw.document e) t d x h holds bars = apart as_document e t x h (subst (λ (y : List ℕ). FirstFaultWithin n y x) holds bars)
-value_apart n apart (raw.array e) t d x h holds bars = apart as_array e t x h (subst (λ (y : List ℕ). FirstFaultWithin n y x) holds bars)
-value_apart n apart (raw.scoped code e) t d x h holds bars = apart as_document e (document h.0) x h.1 (subst (λ (y : List ℕ). FirstFaultWithin n y x) holds bars)
-
--- the barrier is at the front
-abbrev BarsAt : ℕ → List ℕ → Barrier → Type 0
-BarsAt n s x = BarsFront (ReadsUpTo n) (FirstFaultWithin n) s x
-
-frame_apart : (n : ℕ) → AreApartWithin n → (s : List ℕ) (f : Frame) (r : List ℕ) (v : RawValue) (t : Tree) (x : Barrier) → IsFrame s f r → Means f (value v)
-    → StandsFor (ReadsUpTo n) v t → BarsAt n s x → ⊥
-frame_apart n apart s f r v t x at m h (inl stop) =
-    let fault = some_fault (λ y. IsStop s y.fault y.key) x stop in
-    no_frame_at_stop s fault.0.fault fault.0.key fault.1 f r at
-frame_apart n apart s f r v t x at m h (inr bars) =
-    let frames : bars.0 ≡ f = (one_frame s bars.0 f bars.1 r bars.2 at).0 in
-    elim bars.3 [
-      | inl meant ↦ (
-          let fault = some_fault (λ y. Means bars.0 (faulty y)) x meant in
-          value_nor_fault f v fault.0 m (subst (λ (g : Frame). Means g (faulty fault.0)) frames fault.1))
-      | inr inside ↦ (
-          let values : inside.0 ≡ v = one_value_of f inside.0 v (subst (λ (g : Frame). Means g (value inside.0)) frames inside.2) m in
-          value_apart n apart v t inside.1 x h (subst (λ (w : RawValue). Holds w inside.1) values inside.3) inside.4)
-    ]
-
-final_apart : (n : ℕ) (s : List ℕ) (x : Barrier) → s ≡ 0 ∷ [] → BarsAt n s x → ⊥
-final_apart n s x e (inl stop) =
-    let fault = some_fault (λ y. IsStop s y.fault y.key) x stop in
-    no_stop_at_final s fault.0.fault fault.0.key e fault.1
-final_apart n s x e (inr bars) = no_frame_at_final s e bars.0 bars.1 bars.2
-
-walk_apart : (n : ℕ) → AreApartWithin n → (s : List ℕ) (frames passed : List Frame) (r : List ℕ) (pairs : List (List ℕ × Tree)) (x : Barrier)
-    → IsWalk s frames Done → StandForEach (ReadsUpTo n) frames pairs → LeadsTo s passed r → BarsAt n r x → ⊥
-walk_apart n apart s [] [] r pairs x w h l bars = final_apart n s x w (subst (λ (y : List ℕ). BarsAt n y x) (sym l) bars)
-walk_apart n apart s [] (g ∷ passed) r pairs x w h l bars = no_frame_at_final s w g l.0 l.1
-walk_apart n apart s (f ∷ frames) [] r pairs x w h l bars = frame_apart n apart s f w.0 h.0 h.1 x w.1 h.3 h.4 (subst (λ (y : List ℕ). BarsAt n y x) (sym l) bars)
-walk_apart n apart s (f ∷ frames) (g ∷ passed) r pairs x w h l bars =
-    let same : l.0 ≡ w.0 = (one_frame s g f l.0 w.0 l.1 w.1).1 in
-    walk_apart n apart w.0 frames passed r h.2 x w.2 h.6 (subst (λ (y : List ℕ). LeadsTo y passed r) same l.2) bars
-
-apart_within : (n : ℕ) → AreApartWithin n
+apart_within : (n : ℕ) → AreApart (ReadsUpTo n) (FirstFaultWithin n)
 apart_within zero sort b t x h bars = absurd h
 apart_within (suc n) sort b t x h bars =
-    walk_apart n (apart_within n) (drop 4 b) h.1.0 bars.0 bars.2 h.0 x h.1.1 h.1.2 bars.3 bars.5
+    walk_apart (ReadsUpTo n) (FirstFaultWithin n) (apart_within n) (drop 4 b) h.1.0 bars.0 bars.2 h.0 x h.1.1 h.1.2 bars.3 bars.5
 
--- one barrier at most
-
--- where one fault alone has a property, one barrier is a fault with it
-one_fault_with : (P : KeyedFault → Type 0) → ((a c : KeyedFault) → P a → P c → a ≡ c) → (x y : Barrier) → IsFaultWith P x → IsFaultWith P y → x ≡ y
-one_fault_with P same (fault_of a) (fault_of c) h k = ap fault_of (same a c h k)
-one_fault_with P same (fault_of a) too_many_bytes h k = absurd k
-one_fault_with P same (fault_of a) too_deep h k = absurd k
-one_fault_with P same too_many_bytes y h k = absurd h
-one_fault_with P same too_deep y h k = absurd h
-
--- bytes have one barrier within n levels
-abbrev HaveOneBarrier : ℕ → Type 0
-HaveOneBarrier n = (b : List ℕ) (x y : Barrier) → FirstFaultWithin n b x → FirstFaultWithin n b y → x ≡ y
-
-frame_same : (n : ℕ) → HaveOneBarrier n → (f : Frame) (x y : Barrier) → BarsFrame (ReadsUpTo n) (FirstFaultWithin n) f x → BarsFrame (ReadsUpTo n) (FirstFaultWithin n) f y → x ≡ y
-frame_same n same f x y (inl a) (inl c) = one_fault_with (λ z. Means f (faulty z)) (one_fault_of f) x y a c
-frame_same n same f x y (inl a) (inr c) = let fault = some_fault (λ z. Means f (faulty z)) x a in absurd (value_nor_fault f c.0 fault.0 c.2 fault.1)
-frame_same n same f x y (inr a) (inl c) = let fault = some_fault (λ z. Means f (faulty z)) y c in absurd (value_nor_fault f a.0 fault.0 a.2 fault.1)
-frame_same n same f x y (inr a) (inr c) =
-    let values : c.0 ≡ a.0 = one_value_of f c.0 a.0 c.2 a.2 in
-    let nested : c.1 ≡ a.1 = one_nested a.0 c.1 a.1 (subst (λ (v : RawValue). Holds v c.1) values c.3) a.3 in
-    same a.1 x y a.4 (subst (λ (d : List ℕ). FirstFaultWithin n d y) nested c.4)
-
-stop_same : (s : List ℕ) (a c : KeyedFault) → IsStop s a.fault a.key → IsStop s c.fault c.key → a ≡ c
-stop_same s a c h k = let stops = one_stop s a.fault c.fault a.key c.key h k in (λ i. record { fault = stops.0 i; key = stops.1 i })
-
-front_same : (n : ℕ) → HaveOneBarrier n → (s : List ℕ) (x y : Barrier) → BarsAt n s x → BarsAt n s y → x ≡ y
-front_same n same s x y (inl a) (inl c) = one_fault_with (λ z. IsStop s z.fault z.key) (stop_same s) x y a c
-front_same n same s x y (inl a) (inr c) = let fault = some_fault (λ z. IsStop s z.fault z.key) x a in absurd (no_frame_at_stop s fault.0.fault fault.0.key fault.1 c.0 c.1 c.2)
-front_same n same s x y (inr a) (inl c) = let fault = some_fault (λ z. IsStop s z.fault z.key) y c in absurd (no_frame_at_stop s fault.0.fault fault.0.key fault.1 a.0 a.1 a.2)
-front_same n same s x y (inr a) (inr c) =
-    let frames : c.0 ≡ a.0 = (one_frame s c.0 a.0 c.1 a.1 c.2 a.2).0 in
-    frame_same n same a.0 x y a.3 (rw frames at c.3)
-
--- behind the same frames
-rest_same : (n : ℕ) → HaveOneBarrier n → (s : List ℕ) (fs gs : List Frame) (r q : List ℕ) (ps qs : List (List ℕ × Tree)) (x y : Barrier)
-    → LeadsTo s fs r → StandForEach (ReadsUpTo n) fs ps → BarsAt n r x → LeadsTo s gs q → StandForEach (ReadsUpTo n) gs qs → BarsAt n q y → x ≡ y
-rest_same n same s [] [] r q ps qs x y l h a m k c = front_same n same s x y (subst (λ (z : List ℕ). BarsAt n z x) (sym l) a) (subst (λ (z : List ℕ). BarsAt n z y) (sym m) c)
-rest_same n same s [] (g ∷ gs) r q ps qs x y l h a m k c =
-    absurd (frame_apart n (apart_within n) s g m.0 k.0 k.1 x m.1 k.3 k.4 (subst (λ (z : List ℕ). BarsAt n z x) (sym l) a))
-rest_same n same s (f ∷ fs) [] r q ps qs x y l h a m k c =
-    absurd (frame_apart n (apart_within n) s f l.0 h.0 h.1 y l.1 h.3 h.4 (subst (λ (z : List ℕ). BarsAt n z y) (sym m) c))
-rest_same n same s (f ∷ fs) (g ∷ gs) r q ps qs x y l h a m k c =
-    let front = one_frame s g f m.0 l.0 m.1 l.1 in
-    rest_same n same l.0 fs gs r q h.2 k.2 x y l.2 h.6 a (subst (λ (z : List ℕ). LeadsTo z gs q) front.1 m.2) k.6 c
-
-one_barrier_within : (n : ℕ) → HaveOneBarrier n
+one_barrier_within : (n : ℕ) (b : List ℕ) (x y : Barrier) → FirstFaultWithin n b x → FirstFaultWithin n b y → x ≡ y
 one_barrier_within zero b x y h k = h ∙ sym k
 one_barrier_within (suc n) b x y h k =
-    rest_same n (one_barrier_within n) (drop 4 b) h.0 k.0 h.2 k.2 h.1 k.1 x y h.3 h.4 h.5 k.3 k.4 k.5
+    rest_same (ReadsUpTo n) (FirstFaultWithin n) (FirstFaultWithin n) (apart_within n) (apart_within n) (one_barrier_within n) (drop 4 b) x y h k
 
 -- limits
 

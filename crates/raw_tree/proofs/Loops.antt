@@ -1,59 +1,63 @@
 -- What a loop over elements keeps: nested bytes are shorter, some number of levels serves, frames that stand for
--- trees, the fault behind them.
-use Rattle.std.proofs.Common.{◌≡◌, inl, inr, ◌≤◌, ◌+◌, ◌++◌, ◌∷◌, [], ℕ, zero, suc, List, length, drop, arith, ap, refl, subst, length-append}
+-- trees.
+use Rattle.std.proofs.Common.{◌≡◌, inl, inr, ◌≤◌, ◌+◌, ◌++◌, ◌∷◌, [], ℕ, zero, suc, List, length, drop, arith, ap, refl, length-append}
+use Rattle.std.specs.Str.{IsUtf8}
 use Rattle.bson_model.specs.Leaf.{Leaf}
-use Rattle.bson_model.specs.Tree.{Tree, document}
+use Rattle.bson_model.specs.Pairs.{keep}
+use Rattle.bson_model.specs.Tree.{Tree, Entries, document, entries}
 use Rattle.raw_view.specs.Envelope.{IsEnvelope}
 use Rattle.raw_view.specs.Format.{string_payload}
-use Rattle.raw_view.specs.Frame.{Frame, IsFrame, HasShape, IsStop, IsWalk, Done, LeadsTo}
-use Rattle.raw_view.specs.Meaning.{RawValue, KeyedFault, Means, MeansValue, IsCodeWithScope, Meaning, value, faulty}
+use Rattle.raw_view.specs.Frame.{Frame, IsFrame, HasShape, IsWalk, Done}
+use Rattle.raw_view.specs.Meaning.{RawValue, Means, MeansValue, IsCodeWithScope, value}
 use Rattle.raw_view.specs.Meaning as raw
 use Rattle.raw_view.specs.declared.element_type.ElementType.{ElementType}
 use Rattle.raw_view.specs.declared.element_type.ElementType.TheVariants as kind
-use Rattle.raw_tree.specs.Reading.{Sort, as_document, as_array, tree_of_pairs, StandsFor, StandForEach, ReadsUpTo, ReadsAs, Holds, FirstFault, FirstFaultOfValue}
+use Rattle.raw_tree.specs.Reading.{Sort, as_document, as_array, tree_of_pairs, StandsFor, StandForEach, ReadsUpTo, ReadsAs, Holds}
 
 -- nested bytes
 
--- a value that holds no others holds no nested bytes
-single_holds_none : (v : RawValue) (l : Leaf) (d : List ℕ) → v ≡ raw.single l → Holds v d → ⊥
-single_holds_none v l d e h = subst (λ (x : RawValue). Holds x d) e h
+-- the value of a payload of this kind: one that holds no others; or the payload is a document, an array or a code and
+-- its scope
+pub data Valued : ElementType → List ℕ → RawValue → Type 0 where
+  of_single : {k : ElementType} {p : List ℕ} (l : Leaf) → Valued k p (raw.single l)
+  of_document : {p : List ℕ} → IsEnvelope p → Valued kind.EmbeddedDocument p (raw.document p)
+  of_array : {p : List ℕ} → IsEnvelope p → Valued kind.Array p (raw.array p)
+  of_code : {p : List ℕ} (code scope : List ℕ) → IsCodeWithScope p code scope → IsUtf8 code → IsEnvelope scope → Valued kind.JavaScriptCodeWithScope p (raw.scoped code scope)
 
--- the scope is a part of the payload
-scope_within : (p code scope : List ℕ) → IsCodeWithScope p code scope → length scope ≤ length p
-scope_within p code scope c = omega (arith, ap length c.spelled, length-append (string_payload code) scope)
+single_valued : {k : ElementType} {p : List ℕ} {v : RawValue} {l : Leaf} → v ≡ raw.single l → Valued k p v
+single_valued {l = l} e = rw e (of_single l)
 
--- these bytes have an envelope and are no longer than the payload
-abbrev IsNestedIn : List ℕ → List ℕ → Type 0
-IsNestedIn p d = IsEnvelope d × (length d ≤ length p)
-
--- a payload that has its envelope is nested in itself
-whole_payload : (p d : List ℕ) → IsEnvelope p → d ≡ p → IsNestedIn p d
-whole_payload p d env e = (rw e env, omega (arith, ap length e))
-
--- the nested bytes of a payload, by kind
-nested_in_payload : (k : ElementType) (p r : List ℕ) (v : RawValue) (d : List ℕ) → HasShape k p r → MeansValue k p v → Holds v d → IsNestedIn p d
-nested_in_payload kind.EmbeddedDocument p r v d x m h = whole_payload p d x (subst (λ (y : RawValue). Holds y d) m h)
-nested_in_payload kind.Array p r v d x m h = whole_payload p d x (subst (λ (y : RawValue). Holds y d) m h)
-nested_in_payload kind.JavaScriptCodeWithScope p r v d x m h =
-    let e : d ≡ m.1 = subst (λ (y : RawValue). Holds y d) m.5 h in
-    (rw e m.4, omega (arith, ap length e, scope_within p m.0 m.1 m.2))
-nested_in_payload kind.Double p r v d x m h = absurd (single_holds_none v _ d m.2 h)
-nested_in_payload kind.String p r v d x m h = absurd (single_holds_none v _ d m.2 h)
-nested_in_payload kind.Binary p r v d x m h =
+pub valued : (k : ElementType) (p r : List ℕ) (v : RawValue) → HasShape k p r → MeansValue k p v → Valued k p v
+valued kind.EmbeddedDocument p r v x m = rw m (of_document x)
+valued kind.Array p r v x m = rw m (of_array x)
+valued kind.JavaScriptCodeWithScope p r v x m = rw (m.5) (of_code m.0 m.1 m.2 m.3 m.4)
+valued kind.Double p r v x m = single_valued m.2
+valued kind.String p r v x m = single_valued m.2
+valued kind.Binary p r v x m =
     elim m.3 [
-      | inl a ↦ absurd (single_holds_none v _ d a.1 h)
-      | inr b ↦ absurd (single_holds_none v _ d b.3 h)
+      | inl a ↦ single_valued a.1
+      | inr b ↦ single_valued b.3
     ]
-nested_in_payload kind.Boolean p r v d x m h = absurd (single_holds_none v _ d m.2 h)
-nested_in_payload kind.DateTime p r v d x m h = absurd (single_holds_none v _ d m.2 h)
-nested_in_payload kind.RegularExpression p r v d x m h = absurd (single_holds_none v _ d m.3 h)
-nested_in_payload kind.DbPointer p r v d x m h = absurd (single_holds_none v _ d m.4 h)
-nested_in_payload kind.JavaScriptCode p r v d x m h = absurd (single_holds_none v _ d m.2 h)
-nested_in_payload kind.Symbol p r v d x m h = absurd (single_holds_none v _ d m.2 h)
-nested_in_payload kind.Int32 p r v d x m h = absurd (single_holds_none v _ d m.2 h)
-nested_in_payload kind.Timestamp p r v d x m h = absurd (single_holds_none v _ d m.3 h)
-nested_in_payload kind.Int64 p r v d x m h = absurd (single_holds_none v _ d m.2 h)
-nested_in_payload _ p r v d x m h = absurd (single_holds_none v _ d m h)
+valued kind.Boolean p r v x m = single_valued m.2
+valued kind.DateTime p r v x m = single_valued m.2
+valued kind.RegularExpression p r v x m = single_valued m.3
+valued kind.DbPointer p r v x m = single_valued m.4
+valued kind.JavaScriptCode p r v x m = single_valued m.2
+valued kind.Symbol p r v x m = single_valued m.2
+valued kind.Int32 p r v x m = single_valued m.2
+valued kind.Timestamp p r v x m = single_valued m.3
+valued kind.Int64 p r v x m = single_valued m.2
+valued _ p r v x m = single_valued m
+
+-- nested bytes have an envelope and are no longer than the payload
+nested_in : {k : ElementType} {p : List ℕ} {v : RawValue} (d : List ℕ) → Valued k p v → Holds v d → IsEnvelope d × (length d ≤ length p)
+nested_in d (of_single l) h = absurd h
+nested_in d (of_document env) h = (rw h env, omega (arith, ap length h))
+nested_in d (of_array env) h = (rw h env, omega (arith, ap length h))
+nested_in d (of_code code scope c u env) h = (rw h env, omega (arith, ap length h, ap length c.spelled, length-append (string_payload code) scope))
+
+nested_in_frame : (s : List ℕ) (f : Frame) (r : List ℕ) (v : RawValue) (d : List ℕ) → IsFrame s f r → Means f (value v) → Holds v d → IsEnvelope d × (length d ≤ length f.payload)
+nested_in_frame s f r v d b m h = nested_in d (valued f.kind f.payload r v b.payload_is m) h
 
 -- a payload is behind a tag and a 0
 payload_shorter : (s : List ℕ) (f : Frame) (r : List ℕ) → IsFrame s f r → length f.payload + 2 ≤ length s
@@ -61,16 +65,16 @@ payload_shorter s f r b = omega (arith, ap length b.spelled, length-append f.key
 
 -- the nested bytes of a frame's value have an envelope
 pub nested_envelope : (s : List ℕ) (f : Frame) (r : List ℕ) (v : RawValue) (d : List ℕ) → IsFrame s f r → Means f (value v) → Holds v d → IsEnvelope d
-nested_envelope s f r v d b m h = (nested_in_payload f.kind f.payload r v d b.payload_is m h).0
+nested_envelope s f r v d b m h = (nested_in_frame s f r v d b m h).0
 
 -- and they are shorter by two than the bytes where the frame is
 pub nested_shorter : (s : List ℕ) (f : Frame) (r : List ℕ) (v : RawValue) (d : List ℕ) → IsFrame s f r → Means f (value v) → Holds v d → length d + 2 ≤ length s
-nested_shorter s f r v d b m h = omega (arith, (nested_in_payload f.kind f.payload r v d b.payload_is m h).1, payload_shorter s f r b)
+nested_shorter s f r v d b m h = omega (arith, (nested_in_frame s f r v d b m h).1, payload_shorter s f r b)
 
 -- and they stand beside what is left behind the frame
 pub nested_beside : (s : List ℕ) (f : Frame) (r : List ℕ) (v : RawValue) (d : List ℕ) → IsFrame s f r → Means f (value v) → Holds v d → length d + length r + 2 ≤ length s
 nested_beside s f r v d b m h =
-    omega (arith, (nested_in_payload f.kind f.payload r v d b.payload_is m h).1, ap length b.spelled, length-append f.key (0 ∷ (f.payload ++ r)), length-append f.payload r)
+    omega (arith, (nested_in_frame s f r v d b m h).1, ap length b.spelled, length-append f.key (0 ∷ (f.payload ++ r)), length-append f.payload r)
 
 -- levels
 
@@ -123,6 +127,11 @@ reads_of sort b frames pairs w h =
     let each = stand_each_level frames pairs h in
     (suc each.0, (pairs, (frames, w, each.1), refl))
 
+-- a tree as which bytes are read as a document is that of entries
+pub document_read : (b : List ℕ) (t : Tree) → ReadsAs as_document b t → (es : Entries) × (t ≡ document es)
+document_read b t (zero, h) = absurd h
+document_read b t (suc n, h) = (entries (keep h.0), h.2)
+
 -- a caller's loop
 
 -- one frame more is read
@@ -131,19 +140,3 @@ pub stand_more : (Nested : Sort → List ℕ → Tree → Type 0) (fs : List Fra
 stand_more Nested [] pairs f v t h m st = (v, t, [], m, st, ap (λ x. x ++ (f.key, t) ∷ []) h, refl)
 stand_more Nested (g ∷ fs) pairs f v t h m st =
     (h.0, h.1, h.2 ++ (f.key, t) ∷ [], h.3, h.4, ap (λ x. x ++ (f.key, t) ∷ []) h.5, stand_more Nested fs h.2 f v t h.6 m st)
-
--- behind the frames that are read the walk stops
-pub fault_at_stop : (b : List ℕ) (passed : List Frame) (pairs : List (List ℕ × Tree)) (s : List ℕ) (fault : KeyedFault) → LeadsTo (drop 4 b) passed s
-    → StandForEach ReadsAs passed pairs → IsStop s fault.fault fault.key → FirstFault b fault
-fault_at_stop b passed pairs s fault l h stop = (1, (passed, pairs, s, l, h, inl stop))
-
--- a frame behind them means a fault
-pub fault_at_frame : (b : List ℕ) (passed : List Frame) (pairs : List (List ℕ × Tree)) (s : List ℕ) (f : Frame) (r : List ℕ) (fault : KeyedFault)
-    → LeadsTo (drop 4 b) passed s → StandForEach ReadsAs passed pairs → IsFrame s f r → Means f (faulty fault) → FirstFault b fault
-fault_at_frame b passed pairs s f r fault l h at m = (1, (passed, pairs, s, l, h, inr (f, r, at, inl m)))
-
--- nested bytes of a frame behind them have a fault
-pub fault_inside : (b : List ℕ) (passed : List Frame) (pairs : List (List ℕ × Tree)) (s : List ℕ) (f : Frame) (r : List ℕ) (v : RawValue) (fault : KeyedFault)
-    → LeadsTo (drop 4 b) passed s → StandForEach ReadsAs passed pairs → IsFrame s f r → Means f (value v) → FirstFaultOfValue v fault → FirstFault b fault
-fault_inside b passed pairs s f r v fault l h at m inside =
-    (suc inside.2.0, (passed, pairs, s, l, h, inr (f, r, at, inr (v, m, (inside.0, inside.1, inside.2.1)))))

@@ -1,6 +1,6 @@
 -- The members of containers: that their trees are those of their members, and the steps of a call that goes through
 -- them.
-use Rattle.std.proofs.Common.{◌≡◌, ◌≤◌, ◌<◌, ℕ, zero, suc, ◌+◌, List, [], ◌∷◌, length, map, drop, None, Some, slice_get, get_or, refl, ap, sym, ◌∙◌, arith}
+use Rattle.std.proofs.Common.{◌≡◌, ◌↔◌, ◌≤◌, ◌<◌, ℕ, zero, suc, ◌+◌, List, [], ◌∷◌, length, map, drop, None, Some, slice_get, get_or, refl, ap, sym, ◌∙◌, arith}
 use Rattle.std.proofs.Math.ListN.{drop_of_length-le}
 use Rattle.std.proofs.lemmas.Option.{slice_get-get_or}
 use Rattle.bson_model.specs.Bytes.{NulFree}
@@ -83,28 +83,15 @@ container_len (container.Document d) = omega (arith, entries_len-members (entrie
 container_len (container.Array vs) = omega (arith, items_len-members 0 (trees (map tree_of vs.now)))
 container_len (container.Code c) = omega (arith, entries_len-members (entries (with_trees (pairs_of c.now.scope))))
 
-items_free : (n : ℕ) (ts : Trees) → InTrees IsLeafNulFree Whatever NulFree Whatever ts → AreMembersFree (numbered n ts)
-items_free n no_tree h = tt
-items_free n (tree_then t ts) h = (tt, h.0, items_free (n + 1) ts h.1)
+items_free : (n : ℕ) (ts : Trees) → InTrees IsLeafNulFree Whatever NulFree Whatever ts ↔ AreMembersFree (numbered n ts)
+items_free n no_tree = ((λ h. tt), (λ h. tt))
+items_free n (tree_then t ts) = let rest = items_free (n + 1) ts in ((λ h. (tt, h.0, rest.0 h.1)), (λ h. (h.1, rest.1 h.2)))
 
-free_items : (n : ℕ) (ts : Trees) → AreMembersFree (numbered n ts) → InTrees IsLeafNulFree Whatever NulFree Whatever ts
-free_items n no_tree h = tt
-free_items n (tree_then t ts) h = (h.1, free_items (n + 1) ts h.2)
+entries_free : (es : Entries) → InEntries IsLeafNulFree Whatever NulFree Whatever es ↔ AreMembersFree (keyed es)
+entries_free no_entry = ((λ h. tt), (λ h. tt))
+entries_free (entry_then key t es) = let rest = entries_free es in ((λ h. (h.0, h.1, rest.0 h.2)), (λ h. (h.0, h.1, rest.1 h.2)))
 
-entries_free : (es : Entries) → InEntries IsLeafNulFree Whatever NulFree Whatever es → AreMembersFree (keyed es)
-entries_free no_entry h = tt
-entries_free (entry_then key t es) h = (h.0, h.1, entries_free es h.2)
-
-free_entries : (es : Entries) → AreMembersFree (keyed es) → InEntries IsLeafNulFree Whatever NulFree Whatever es
-free_entries no_entry h = tt
-free_entries (entry_then key t es) h = (h.0, h.1, free_entries es h.2)
-
-pub members_free : (c : Container) → IsNulFree (tree_of_container c) → AreMembersFree (members (tree_of_container c))
-members_free (container.Document d) h = entries_free _ h.1
-members_free (container.Array vs) h = items_free 0 _ h
-members_free (container.Code c) h = entries_free _ h.2
-
-pub free_members : (c : Container) → AreMembersFree (members (tree_of_container c)) → IsNulFree (tree_of_container c)
-free_members (container.Document d) h = (tt, free_entries _ h)
-free_members (container.Array vs) h = free_items 0 _ h
-free_members (container.Code c) h = (tt, tt, free_entries _ h)
+pub members_free : (c : Container) → IsNulFree (tree_of_container c) ↔ AreMembersFree (members (tree_of_container c))
+members_free (container.Document d) = let free = entries_free (entries (with_trees (pairs_of d.now))) in ((λ h. free.0 h.1), (λ h. (tt, free.1 h)))
+members_free (container.Array vs) = items_free 0 (trees (map tree_of vs.now))
+members_free (container.Code c) = let free = entries_free (entries (with_trees (pairs_of c.now.scope))) in ((λ h. free.0 h.2), (λ h. (tt, tt, free.1 h)))

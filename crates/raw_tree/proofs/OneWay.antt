@@ -1,5 +1,5 @@
 -- Bytes, values and frames are read in one way alone.
-use Rattle.std.proofs.Common.{◌≡◌, inl, inr, List, ℕ, Result, Ok, Err, subst}
+use Rattle.std.proofs.Common.{◌≡◌, inl, inr, List, ℕ, Result, Ok, Err, sym, ◌∙◌, subst}
 use Rattle.bson_model.specs.Tree.{Tree}
 use Rattle.raw_view.specs.Answers.{TellsMeaning}
 use Rattle.raw_view.specs.Envelope.{IsEnvelope}
@@ -36,24 +36,7 @@ viewed_envelope : (v : RawBsonRef) (d : List ℕ) → Holds (value_of v) d → I
 viewed_envelope (ref.Document x) d h = rw h x.envelope
 viewed_envelope (ref.Array x) d h = rw h x.document.envelope
 viewed_envelope (ref.JavaScriptCodeWithScope x) d h = rw h x.scope.envelope
-viewed_envelope (ref.Double x) d h = absurd h
-viewed_envelope (ref.String x) d h = absurd h
-viewed_envelope (ref.Boolean x) d h = absurd h
-viewed_envelope ref.Null d h = absurd h
-viewed_envelope (ref.RegularExpression x) d h = absurd h
-viewed_envelope (ref.JavaScriptCode x) d h = absurd h
-viewed_envelope (ref.Int32 x) d h = absurd h
-viewed_envelope (ref.Int64 x) d h = absurd h
-viewed_envelope (ref.Timestamp x) d h = absurd h
-viewed_envelope (ref.Binary x) d h = absurd h
-viewed_envelope (ref.ObjectId x) d h = absurd h
-viewed_envelope (ref.DateTime x) d h = absurd h
-viewed_envelope (ref.Symbol x) d h = absurd h
-viewed_envelope (ref.Decimal128 x) d h = absurd h
-viewed_envelope ref.Undefined d h = absurd h
-viewed_envelope ref.MaxKey d h = absurd h
-viewed_envelope ref.MinKey d h = absurd h
-viewed_envelope (ref.DbPointer x) d h = absurd h
+viewed_envelope _ d h = absurd h
 
 -- a value whose nested bytes have an envelope
 pub enveloped_one_way : (v : RawValue) → ((d : List ℕ) → Holds v d → IsEnvelope d) → IsValueReadOneWay v
@@ -68,51 +51,39 @@ enveloped_one_way v env = record {
 pub value_one_way : (v : RawBsonRef) → IsValueReadOneWay (value_of v)
 value_one_way v = enveloped_one_way (value_of v) (viewed_envelope v)
 
+-- a frame of which the value or the fault was returned
 module _ (f : Frame) where
-  frame_not_both : (t : Tree) (fault : KeyedFault) → FrameStandsFor f t → FirstFaultOfFrame f fault → ⊥
-  frame_not_both t fault r s =
-      elim s [
-        | inl m ↦ value_nor_fault f r.0 fault r.1 m
-        | inr inside ↦ tree_or_fault_of_value r.0 t fault r.2 (subst (λ (w : RawValue). FirstFaultOfValue w fault) (one_value_of f inside.0 r.0 inside.1 r.1) inside.2)
-      ]
-
-  frame_one_tree : (t other : Tree) → FrameStandsFor f t → FrameStandsFor f other → other ≡ t
-  frame_one_tree t other r s =
-      one_tree_of_value r.0 other t (subst (λ (w : RawValue). StandsFor ReadsAs w other) (one_value_of f s.0 r.0 s.1 r.1) s.2) r.2
-
-  frame_one_fault : (fault other : KeyedFault) → FirstFaultOfFrame f fault → FirstFaultOfFrame f other → other ≡ fault
-  frame_one_fault fault other r s =
-      elim r [
-        | inl m ↦ elim s [
-          | inl n ↦ one_fault_of f other fault n m
-          | inr inside ↦ absurd (value_nor_fault f inside.0 fault inside.1 m)
-        ]
-        | inr within ↦ elim s [
-          | inl n ↦ absurd (value_nor_fault f within.0 other within.1 n)
-          | inr inside ↦ one_first_fault_of_value within.0 other fault (subst (λ (w : RawValue). FirstFaultOfValue w other) (one_value_of f inside.0 within.0 inside.1 within.1) inside.2) within.2
-        ]
-      ]
-
-  element_of_value : (answer : Result RawBsonRef Error) (v : RawValue) → Means f (value v) → TellsMeaning answer (value v) → IsFrameReadOneWay f
-  element_of_value (Err e) v m told = absurd told
-  element_of_value (Ok w) v m told =
-      let read : IsValueReadOneWay v = subst IsValueReadOneWay told (value_one_way w) in
-      record {
-        either = elim read.either [
-          | inl t ↦ inl (t.0, (v, m, t.1))
-          | inr bad ↦ inr (bad.0, inr (v, m, bad.1))
-        ];
-        not_both = frame_not_both;
-        one_tree = frame_one_tree;
-        one_fault = frame_one_fault;
-      }
-
-  -- a frame of which the value or the fault was returned
-  pub element_one_way : (answer : Result RawBsonRef Error) → (m : Meaning) × Means f m × TellsMeaning answer m → IsFrameReadOneWay f
-  element_one_way answer (value v, m, told) = element_of_value answer v m told
-  element_one_way answer (faulty fault, m, told) = record {
-    either = inr (fault, inl m);
-    not_both = frame_not_both;
-    one_tree = frame_one_tree;
-    one_fault = frame_one_fault;
+  of_value : (v : RawValue) → Means f (value v) → IsValueReadOneWay v → IsFrameReadOneWay f
+  of_value v m read = record {
+    either = elim read.either [
+      | inl t ↦ inl (t.0, (v, m, t.1))
+      | inr bad ↦ inr (bad.0, inr (v, m, bad.1))
+    ];
+    not_both = λ t fault r s. read.not_both t fault (tree t r) (fault_in fault s);
+    one_tree = λ t other r s. read.one_tree t other (tree t r) (tree other s);
+    one_fault = λ fault other r s. read.one_fault fault other (fault_in fault r) (fault_in other s);
   }
+    where
+      tree : (t : Tree) → FrameStandsFor f t → StandsFor ReadsAs v t
+      tree t r = subst (λ (w : RawValue). StandsFor ReadsAs w t) (one_value_of f r.0 v r.1 m) r.2
+
+      fault_in : (fault : KeyedFault) → FirstFaultOfFrame f fault → FirstFaultOfValue v fault
+      fault_in fault (inl bad) = absurd (value_nor_fault f v fault m bad)
+      fault_in fault (inr inside) = subst (λ (w : RawValue). FirstFaultOfValue w fault) (one_value_of f inside.0 v inside.1 m) inside.2
+
+  of_fault : (fault : KeyedFault) → Means f (faulty fault) → IsFrameReadOneWay f
+  of_fault fault m = record {
+    either = inr (fault, inl m);
+    not_both = λ t x r s. value_nor_fault f r.0 fault r.1 m;
+    one_tree = λ t other r s. absurd (value_nor_fault f r.0 fault r.1 m);
+    one_fault = λ x other r s. only other s ∙ sym (only x r);
+  }
+    where
+      only : (x : KeyedFault) → FirstFaultOfFrame f x → x ≡ fault
+      only x (inl bad) = one_fault_of f x fault bad m
+      only x (inr inside) = absurd (value_nor_fault f inside.0 fault inside.1 m)
+
+  pub element_one_way : (answer : Result RawBsonRef Error) → (m : Meaning) × Means f m × TellsMeaning answer m → IsFrameReadOneWay f
+  element_one_way (Ok w) (value v, m, told) = of_value v m (subst IsValueReadOneWay told (value_one_way w))
+  element_one_way (Err e) (value v, m, told) = absurd told
+  element_one_way answer (faulty fault, m, told) = of_fault fault m

@@ -21,7 +21,7 @@ use Rattle.raw_view.specs.declared.element_type.ElementType.{ElementType}
 use Rattle.raw_view.specs.declared.element_type.ElementType.TheVariants as kind
 use Rattle.raw_view.proofs.Face.{AreBytes-rest}
 use Rattle.raw_tree.specs.Reading.{Sort, as_document, as_array, tree_of_pairs, leaf_in_order, StandsFor, StandForEach, ReadsUpTo, ReadsAs}
-use Rattle.raw_tree.proofs.Loops.{nested_envelope}
+use Rattle.raw_tree.proofs.Loops.{Valued, of_code, valued, nested_envelope}
 
 -- bytes
 
@@ -100,35 +100,9 @@ leaf_proper kind.Decimal128 p r l all x m = as_leaf l _ m ((x, all), tt, tt, tt)
 leaf_proper kind.MaxKey p r l all x m = as_leaf l _ m (tt, tt, tt, tt)
 leaf_proper kind.MinKey p r l all x m = as_leaf l _ m (tt, tt, tt, tt)
 
--- a value that holds no others is no code with scope
-single_not_scoped : (l : Leaf) (code scope : List ℕ) → raw.scoped code scope ≡ raw.single l → ⊥
-single_not_scoped l code scope e = cc
-
 -- the code of a code with scope is a text
-code_text : (k : ElementType) (p code scope : List ℕ) → MeansValue k p (raw.scoped code scope) → IsUtf8 code
-code_text kind.JavaScriptCodeWithScope p code scope m =
-    let whole : raw.scoped code scope ≡ raw.scoped m.0 m.1 = m.5 in
-    let same : m.0 ≡ code = cc in
-    subst IsUtf8 same m.3
-code_text kind.EmbeddedDocument p code scope m = cc
-code_text kind.Array p code scope m = cc
-code_text kind.Double p code scope m = absurd (single_not_scoped _ code scope m.2)
-code_text kind.String p code scope m = absurd (single_not_scoped _ code scope m.2)
-code_text kind.Binary p code scope m =
-    elim m.3 [
-      | inl a ↦ absurd (single_not_scoped _ code scope a.1)
-      | inr b ↦ absurd (single_not_scoped _ code scope b.3)
-    ]
-code_text kind.Boolean p code scope m = absurd (single_not_scoped _ code scope m.2)
-code_text kind.DateTime p code scope m = absurd (single_not_scoped _ code scope m.2)
-code_text kind.RegularExpression p code scope m = absurd (single_not_scoped _ code scope m.3)
-code_text kind.DbPointer p code scope m = absurd (single_not_scoped _ code scope m.4)
-code_text kind.JavaScriptCode p code scope m = absurd (single_not_scoped _ code scope m.2)
-code_text kind.Symbol p code scope m = absurd (single_not_scoped _ code scope m.2)
-code_text kind.Int32 p code scope m = absurd (single_not_scoped _ code scope m.2)
-code_text kind.Timestamp p code scope m = absurd (single_not_scoped _ code scope m.3)
-code_text kind.Int64 p code scope m = absurd (single_not_scoped _ code scope m.2)
-code_text _ p code scope m = absurd (single_not_scoped _ code scope m)
+code_text : {k : ElementType} {p code scope : List ℕ} → Valued k p (raw.scoped code scope) → IsUtf8 code
+code_text (of_code code scope c u env) = u
 
 -- trees
 
@@ -186,7 +160,7 @@ module _ (OfLeaf : Leaf → Type 0) (OfCode OfKey : List ℕ → Type 0) (OfKeys
   of_value N read s f r (raw.array d) t bytes at m h = read as_array d t (nested_envelope s f r (raw.array d) d at m refl) h
   of_value N read s f r (raw.scoped code d) t bytes at m h =
       let scope = read as_document d (document h.0) (nested_envelope s f r (raw.scoped code d) d at m refl) h.1 in
-      subst IsMet (sym h.2) (codes code (code_text f.kind f.payload code d m), scope.0, scope.1)
+      subst IsMet (sym h.2) (codes code (code_text (valued f.kind f.payload r (raw.scoped code d) at.payload_is m)), scope.0, scope.1)
 
   -- and in the pairs of a walk
   of_walk : (N : Sort → List ℕ → Tree → Type 0) → HoldRead N → (s : List ℕ) (frames : List Frame) (pairs : List (List ℕ × Tree)) → AreBytes s

@@ -184,35 +184,29 @@ entries_are_bytes (entry_then key t es) h = AreBytes-append (element_of (kind_of
 abbrev pub Returns : Sort → List ℕ → Tree → Type 0
 Returns sort b t = IsEnvelope b × ReadsAs sort b t × IsCanonicalAs sort b
 
--- the elements of a document in a frame
-framed_document : (es : Entries) → IsDistinct bytes_eq (keys_in es) → AreReturned es → 5 + entries_len es ≤ max_length → Returns as_document (framed (entries_bytes es)) (document es)
-framed_document es distinct h l =
+-- written elements in a frame
+framed_returns : (sort : Sort) (es : Entries) (t : Tree) → tree_of_pairs sort (pairs_in es) ≡ t → AreKeysCanonical sort (keys_in es) → AreReturned es
+    → 5 + length (entries_bytes es) ≤ max_length → Returns sort (framed (entries_bytes es)) t
+framed_returns sort es t same keys h l =
     let w = entries_walk es h in
-    let same : tree_of_pairs as_document (pairs_in es) ≡ document es =
-    ap (λ ps. document (entries ps)) (keep-distinct (pairs_in es) (rw (keys_of-pairs_in es) distinct)) ∙ ap document (entries-pairs_in es) in
-    let keys : AreKeysCanonical as_document (map (λ f. f.key) (frames_in es)) = rw (keys-frames_in es) distinct in
     let b : List ℕ = framed (entries_bytes es) in (
-      framed_is_envelope (entries_bytes es) (AreBytes-framed (entries_bytes es) (entries_are_bytes es h)) (omega (arith, length-entries_bytes es)),
-      subst (λ (t : Tree). ReadsAs as_document b t) same (reads_of as_document b (frames_in es) (pairs_in es) w (entries_stand es h)),
-      canonical_of as_document b (frames_in es) w keys (entries_canonical es h),
+      framed_is_envelope (entries_bytes es) (AreBytes-framed (entries_bytes es) (entries_are_bytes es h)) l,
+      subst (λ (u : Tree). ReadsAs sort b u) same (reads_of sort b (frames_in es) (pairs_in es) w (entries_stand es h)),
+      canonical_of sort b (frames_in es) w (rw (keys-frames_in es) keys) (entries_canonical es h),
     )
 
--- the members of a list in a frame
+framed_document : (es : Entries) → IsDistinct bytes_eq (keys_in es) → AreReturned es → 5 + entries_len es ≤ max_length → Returns as_document (framed (entries_bytes es)) (document es)
+framed_document es distinct h l =
+    let same : tree_of_pairs as_document (pairs_in es) ≡ document es =
+    ap (λ ps. document (entries ps)) (keep-distinct (pairs_in es) (rw (keys_of-pairs_in es) distinct)) ∙ ap document (entries-pairs_in es) in
+    framed_returns as_document es (document es) same distinct h (omega (arith, length-entries_bytes es))
+
 framed_array : (ts : Trees) → AreReturned (numbered 0 ts) → 5 + items_len 0 ts ≤ max_length → Returns as_array (framed (items_bytes 0 ts)) (array ts)
 framed_array ts h l =
     let es : Entries = numbered 0 ts in
-    let w = entries_walk es h in
-    let same : tree_of_pairs as_array (pairs_in es) ≡ array ts = ap array (trees-numbered 0 ts) in
-    let keys : AreKeysCanonical as_array (map (λ f. f.key) (frames_in es)) = rw (keys-frames_in es) (decimals_in 0 ts) in
-    let b : List ℕ = framed (entries_bytes es) in
     let written : items_bytes 0 ts ≡ entries_bytes es = entries_bytes-numbered 0 ts in
     let size : 5 + length (entries_bytes es) ≤ max_length = omega (arith, ap length written, length-items_bytes 0 ts) in
-    let there : Returns as_array b (array ts) = (
-      framed_is_envelope (entries_bytes es) (AreBytes-framed (entries_bytes es) (entries_are_bytes es h)) size,
-      subst (λ (t : Tree). ReadsAs as_array b t) same (reads_of as_array b (frames_in es) (pairs_in es) w (entries_stand es h)),
-      canonical_of as_array b (frames_in es) w keys (entries_canonical es h),
-    ) in
-    subst (λ (x : List ℕ). Returns as_array (framed x) (array ts)) (sym written) there
+    subst (λ (x : List ℕ). Returns as_array (framed x) (array ts)) (sym written) (framed_returns as_array es (array ts) (ap array (trees-numbered 0 ts)) (decimals_in 0 ts) h size)
 
 -- a nested document returns
 document_returned : (es : Entries) → Returns as_document (framed (entries_bytes es)) (document es) → IsReturned (document es)

@@ -7,7 +7,7 @@ use Rattle.bson_model.specs.Proper.{DoLeafOptionsAscend}
 use Rattle.bson_model.specs.Subtype.{subtype_of, subtype_byte}
 use Rattle.bson_model.specs.Tree.{Tree, leaf, document, trees, entries}
 use Rattle.bson_model.specs.declared.binaries.BinarySubtype.{BinarySubtype}
-use Rattle.bson_model.specs.declared.binaries.BinarySubtype.TheVariants.{Generic, Function, BinaryOld, UuidOld, Uuid, Md5, Encrypted, Column, Sensitive, Vector, Reserved, UserDefined}
+use Rattle.bson_model.specs.declared.binaries.BinarySubtype.TheVariants.{BinaryOld}
 use Rattle.bson_model.proofs.Face.{keep-distinct, sorted_options-same, subtype_byte-subtype_of}
 use Rattle.raw_view.specs.Envelope.{IsEnvelope}
 use Rattle.raw_view.specs.Format.{plain_binary_payload, binary_payload, leaf_payload, scoped_payload, framed, element_of}
@@ -22,7 +22,7 @@ use Rattle.raw_tree.specs.Canonical.{AreDecimalsFrom, AreKeysCanonical, IsValueC
 use Rattle.raw_tree.specs.Encoding.{kind_of_tree, tree_payload, items_bytes, entries_bytes, encoding}
 use Rattle.raw_tree.specs.Payload.{payload_of}
 use Rattle.raw_tree.specs.Reading.{Sort, as_document, as_array, tree_of_pairs, leaf_in_order, StandsFor, StandForEach, ReadsUpTo, ReadsAs}
-use Rattle.raw_tree.proofs.Loops.{nested_envelope}
+use Rattle.raw_tree.proofs.Loops.{Valued, of_single, of_document, of_array, of_code, valued, nested_envelope}
 use Rattle.raw_tree.proofs.OneTree.{one_value_of}
 
 -- payloads
@@ -30,17 +30,7 @@ use Rattle.raw_tree.proofs.OneTree.{one_value_of}
 -- the bytes of a binary that isn't old have no length before them
 not_old : (subtype : BinarySubtype) (bytes : List ℕ) → subtype ≢ BinaryOld → binary_payload subtype bytes ≡ plain_binary_payload (subtype_byte subtype) bytes
 not_old BinaryOld bytes n = absurd (n refl)
-not_old Generic bytes n = refl
-not_old Function bytes n = refl
-not_old UuidOld bytes n = refl
-not_old Uuid bytes n = refl
-not_old Md5 bytes n = refl
-not_old Encrypted bytes n = refl
-not_old Column bytes n = refl
-not_old Sensitive bytes n = refl
-not_old Vector bytes n = refl
-not_old (Reserved byte) bytes n = refl
-not_old (UserDefined byte) bytes n = refl
+not_old _ bytes n = refl
 
 -- only the byte 2 is that of an old binary
 not_two : (byte : ℕ) → byte ≢ 2 → subtype_of byte ≢ BinaryOld
@@ -96,35 +86,15 @@ leaf_spelled kind.MinKey p r l x m = as_leaf kind.MinKey p l _ m (sym (nil_from_
 abbrev IsValueSpelled : ElementType → List ℕ → RawValue → Type 0
 IsValueSpelled k p v = (payload_of v ≡ p) × (kind_of_raw v ≡ k)
 
--- so they are of a value that holds no others
-single_spelled : (k : ElementType) (p r : List ℕ) (v : RawValue) (l : Leaf) → HasShape k p r → MeansValue k p v → v ≡ raw.single l → IsValueSpelled k p v
-single_spelled k p r v l x m e =
-    let s = leaf_spelled k p r l x (subst (λ (w : RawValue). MeansValue k p w) e m) in
-    subst (λ (w : RawValue). IsValueSpelled k p w) (sym e) (s.0, s.1)
+spelled : {k : ElementType} {p : List ℕ} {v : RawValue} (r : List ℕ) → Valued k p v → HasShape k p r → MeansValue k p v → IsValueSpelled k p v
+spelled {k = k} {p = p} r (of_single l) x m = let s = leaf_spelled k p r l x m in (s.0, s.1)
+spelled r (of_document env) x m = (refl, refl)
+spelled r (of_array env) x m = (refl, refl)
+spelled r (of_code code scope c u env) x m = (sym c.spelled, refl)
 
 -- a payload that means a value is the value's
 pub value_spelled : (k : ElementType) (p r : List ℕ) (v : RawValue) → HasShape k p r → MeansValue k p v → IsValueSpelled k p v
-value_spelled k p r (raw.single l) x m = single_spelled k p r (raw.single l) l x m refl
-value_spelled kind.EmbeddedDocument p r v x m = subst (λ (w : RawValue). IsValueSpelled kind.EmbeddedDocument p w) (sym m) (refl, refl)
-value_spelled kind.Array p r v x m = subst (λ (w : RawValue). IsValueSpelled kind.Array p w) (sym m) (refl, refl)
-value_spelled kind.JavaScriptCodeWithScope p r v x m = subst (λ (w : RawValue). IsValueSpelled kind.JavaScriptCodeWithScope p w) (sym m.5) (sym m.2.spelled, refl)
-value_spelled kind.Double p r v x m = single_spelled kind.Double p r v _ x m m.2
-value_spelled kind.String p r v x m = single_spelled kind.String p r v _ x m m.2
-value_spelled kind.Binary p r v x m =
-    elim m.3 [
-      | inl a ↦ single_spelled kind.Binary p r v _ x m a.1
-      | inr b ↦ single_spelled kind.Binary p r v _ x m b.3
-    ]
-value_spelled kind.Boolean p r v x m = single_spelled kind.Boolean p r v _ x m m.2
-value_spelled kind.DateTime p r v x m = single_spelled kind.DateTime p r v _ x m m.2
-value_spelled kind.RegularExpression p r v x m = single_spelled kind.RegularExpression p r v _ x m m.3
-value_spelled kind.DbPointer p r v x m = single_spelled kind.DbPointer p r v _ x m m.4
-value_spelled kind.JavaScriptCode p r v x m = single_spelled kind.JavaScriptCode p r v _ x m m.2
-value_spelled kind.Symbol p r v x m = single_spelled kind.Symbol p r v _ x m m.2
-value_spelled kind.Int32 p r v x m = single_spelled kind.Int32 p r v _ x m m.2
-value_spelled kind.Timestamp p r v x m = single_spelled kind.Timestamp p r v _ x m m.3
-value_spelled kind.Int64 p r v x m = single_spelled kind.Int64 p r v _ x m m.2
-value_spelled k p r v x m = single_spelled k p r v _ x m m
+value_spelled k p r v x m = spelled r (valued k p r v x m) x m
 
 -- trees
 

@@ -1,17 +1,17 @@
 -- Reading to a depth: its first fault is the first fault, and where no level is too deep, each takes bytes.
-use Rattle.std.proofs.Common.{◌≡◌, inl, inr, ◌≤◌, ◌<◌, ◌∷◌, [], ℕ, zero, suc, List, length, Result, Ok, Err, IfOk, IfErr, drop, arith, ap, length-drop}
+use Rattle.std.proofs.Common.{◌≡◌, inl, inr, ◌≤◌, ◌<◌, ℕ, zero, suc, List, length, Result, Ok, Err, IfOk, IfErr, drop, arith, length-drop}
+use Rattle.raw_view.specs.Document.{bytes_of}
 use Rattle.raw_view.specs.Envelope.{IsEnvelope}
-use Rattle.raw_view.specs.Frame.{Frame, LeadsTo}
 use Rattle.raw_view.specs.Meaning.{KeyedFault}
 use Rattle.raw_view.specs.Number.{max_length}
-use Rattle.raw_view.proofs.Face.{IsFrame-shorter}
+use Rattle.raw_view.proofs.Face.{LeadsTo-bound}
 use Rattle.raw_view.specs.declared.error.Error.{Error}
 use Rattle.raw_tree.specs.FrameCount.{TellsFrames}
-use Rattle.raw_tree.specs.Levels.{AreRead, AreReadUpTo, TellsFramesWithin}
-use Rattle.raw_tree.specs.WithinLimits.{Barrier, fault_of, too_many_bytes, too_deep, FirstFaultWithin, SaysBarrier, TellsFirstFaultWithin}
+use Rattle.raw_tree.specs.Levels.{AreRead, TellsFramesWithin, TellsReading}
+use Rattle.raw_tree.specs.WithinLimits.{fault_of, too_many_bytes, too_deep, FirstFaultWithin, TellsFirstFaultWithin}
 use Rattle.raw_tree.specs.Reading.{FirstFaultUpTo, FirstFault, TellsFirstFault}
 use Rattle.raw_tree.specs.declared.levels.Contents.{Contents}
-use Rattle.raw_tree.specs.declared.levels.Holder.{Holder}
+use Rattle.raw_tree.specs.declared.levels.Nested.{Nested}
 use Rattle.raw_tree.proofs.Loops.{each_read, nested_shorter}
 
 -- a fault that is first within a depth is at most so many levels deep
@@ -31,11 +31,6 @@ first_fault_up_to (suc n) b fault h =
 pub first_fault : (n : ℕ) (b : List ℕ) (fault : KeyedFault) → FirstFaultWithin n b (fault_of fault) → FirstFault b fault
 first_fault n b fault h = (n, first_fault_up_to n b fault h)
 
--- behind frames fewer bytes are left
-leads_shorter : (s : List ℕ) (fs : List Frame) (r : List ℕ) → LeadsTo s fs r → length r ≤ length s
-leads_shorter s [] r l = omega (arith, ap length l)
-leads_shorter s (f ∷ fs) r l = omega (arith, IsFrame-shorter s f l.0 l.1, leads_shorter l.0 fs r l.2)
-
 -- bytes with a level deeper than allowed are at least so many as the levels that are
 deep_long : (n : ℕ) (b : List ℕ) → FirstFaultWithin n b too_deep → n ≤ length b
 deep_long zero b h = omega arith
@@ -44,7 +39,7 @@ deep_long (suc n) b h =
       | inl stop ↦ absurd stop
       | inr at ↦ elim at.3 [
         | inl meant ↦ absurd meant
-        | inr inside ↦ omega (arith, deep_long n inside.1 inside.4, nested_shorter h.2 at.0 at.1 inside.0 inside.1 at.2 inside.2 inside.3, leads_shorter (drop 4 b) h.0 h.2 h.3, length-drop 4 b)
+        | inr inside ↦ omega (arith, deep_long n inside.1 inside.4, nested_shorter h.2 at.0 at.1 inside.0 inside.1 at.2 inside.2 inside.3, LeadsTo-bound (drop 4 b) h.0 h.2 h.3, length-drop 4 b)
       ]
     ]
 
@@ -65,21 +60,18 @@ pub never_too_deep : (n : ℕ) (b : List ℕ) → IsEnvelope b → max_length < 
 never_too_deep n b env more h = omega (arith, env.header.fits, deep_long n b h)
 
 -- what is returned to such a depth is returned of all levels
-module _ (depth : ℕ) (h : Holder) (b : List ℕ) (env : IsEnvelope b) (more : max_length < depth) where
-  pub tree_of_all : (result : Result Contents Error) → IfOk result (AreReadUpTo depth h b) → IfOk result (AreRead h b)
-  tree_of_all (Ok c) told = (told.0, (depth, told.1))
-  tree_of_all (Err e) told = tt
+module _ (depth : ℕ) (u : Nested) (more : max_length < depth) where
+  fault_of_all : (e : Error) → TellsFirstFaultWithin depth (bytes_of u.document) e → TellsFirstFault (bytes_of u.document) e
+  fault_of_all e (inl memory) = inl memory
+  fault_of_all e (inr (fault_of fault, bars, says)) = inr (fault, first_fault depth (bytes_of u.document) fault bars, says)
+  fault_of_all e (inr (too_deep, bars, says)) = absurd (never_too_deep depth (bytes_of u.document) u.document.envelope more bars)
+  fault_of_all e (inr (too_many_bytes, bars, says)) = absurd (never_too_many depth (bytes_of u.document) bars)
 
-  fault_of_barrier : (e : Error) (x : Barrier) → FirstFaultWithin depth b x → SaysBarrier e x → TellsFirstFault b e
-  fault_of_barrier e (fault_of fault) bars says = inr (fault, first_fault depth b fault bars, says)
-  fault_of_barrier e too_deep bars says = absurd (never_too_deep depth b env more bars)
-  fault_of_barrier e too_many_bytes bars says = absurd (never_too_many depth b bars)
-
-  pub fault_of_all : (result : Result Contents Error) → IfErr result (TellsFirstFaultWithin depth b) → IfErr result (TellsFirstFault b)
-  fault_of_all (Ok c) told = tt
-  fault_of_all (Err e) (inl memory) = inl memory
-  fault_of_all (Err e) (inr told) = fault_of_barrier e told.0 told.1 told.2
-
-  pub frames_of_all : (result : Result Contents Error) (n : ℕ) → TellsFramesWithin depth b result n → TellsFrames b result n
-  frames_of_all result n (inl deep) = absurd (never_too_deep depth b env more deep)
+  frames_of_all : (result : Result Contents Error) (n : ℕ) → TellsFramesWithin depth (bytes_of u.document) result n → TellsFrames (bytes_of u.document) result n
+  frames_of_all result n (inl deep) = absurd (never_too_deep depth (bytes_of u.document) u.document.envelope more deep)
   frames_of_all result n (inr told) = told
+
+  pub told_of_all : (result : Result Contents Error) (n : ℕ) → TellsReading depth u result n
+      → IfOk result (AreRead u.holder (bytes_of u.document)) × IfErr result (TellsFirstFault (bytes_of u.document)) × TellsFrames (bytes_of u.document) result n
+  told_of_all (Ok c) n told = ((told.0.0, (depth, told.0.1)), tt, frames_of_all (Ok c) n told.2)
+  told_of_all (Err e) n told = (tt, fault_of_all e told.1, frames_of_all (Err e) n told.2)

@@ -1,6 +1,6 @@
 -- The helpers of the converter: what is read so far of a document, of an array or of a scope, and how a value
 -- is made of it. No public contract cites this file.
-use Rattle.std.specs.Prelude.{◌≡◌, ◌⊎◌, ℕ, ◌+◌, List, [], ◌∷◌, ◌++◌, Option, None, Some, Result, Ok, Err, map}
+use Rattle.std.specs.Prelude.{◌≡◌, ◌⊎◌, ℕ, ◌+◌, List, [], ◌∷◌, ◌++◌, Option, None, Some, Result, Ok, Err, IfOk, IfErr, drop, map}
 use denote.Ref.{Bor}
 use Rattle.bson_model.specs.Tree.{Tree, tree_of, tree_of_document, tree_of_list}
 use Rattle.bson_model.specs.declared.bson.Bson.{Bson}
@@ -10,7 +10,7 @@ use Rattle.raw_view.specs.Meaning as raw
 use Rattle.raw_view.specs.declared.element.RawElement.{RawElement}
 use Rattle.raw_view.specs.declared.error.Error.{Error}
 use Rattle.raw_tree.specs.FrameCount.{TellsFrames}
-use Rattle.raw_tree.specs.WithinLimits.{FirstFaultWithin, too_deep}
+use Rattle.raw_tree.specs.WithinLimits.{FirstFaultWithin, TellsFirstFaultWithin, too_deep}
 use Rattle.raw_tree.specs.Reading.{Sort, as_document, as_array, tree_of_pairs, StandsFor, ReadsUpTo, ReadsAs}
 use Rattle.raw_tree.specs.declared.levels.Contents.{Contents}
 use Rattle.raw_tree.specs.declared.levels.Contents.TheVariants as contents
@@ -18,6 +18,7 @@ use Rattle.raw_tree.specs.declared.levels.Draft.{Draft}
 use Rattle.raw_tree.specs.declared.levels.Holder.{Holder}
 use Rattle.raw_tree.specs.declared.levels.Holder.TheVariants as of
 use Rattle.raw_tree.specs.declared.levels.Level.{Level}
+use Rattle.raw_tree.specs.declared.levels.Nested.{Nested}
 use Rattle.raw_tree.specs.declared.levels.Opened.{Opened}
 use Rattle.raw_tree.specs.declared.levels.Opened.TheVariants as opened
 
@@ -48,15 +49,15 @@ tree_of_contents (contents.Array l) = tree_of_list l.items
 abbrev pub texts_of : List (Bor (List ℕ)) → List (List ℕ)
 texts_of keys = map (λ key. key.now) keys
 
--- the keys and values of the draft are those of the pairs
-abbrev pub AreColumns : Draft → List (List ℕ × Tree) → Type 0
-AreColumns d pairs = (texts_of d.keys.items ≡ map (λ p. p.0) pairs) × (map tree_of d.values.items ≡ map (λ p. p.1) pairs)
+-- what holds the bytes is read with its keys, which those of an array aren't
+abbrev pub KeepsKeys : Holder → Type 0
+KeepsKeys of.Document = Unit {0}
+KeepsKeys of.Array = ⊥
+KeepsKeys (of.Code _) = Unit {0}
 
--- the pairs are drafted; of an array their keys are left out
+-- the values of the draft, and its keys if there are any, are those of the pairs
 abbrev pub AreDrafted : Holder → Draft → List (List ℕ × Tree) → Type 0
-AreDrafted of.Document d pairs = AreColumns d pairs
-AreDrafted of.Array d pairs = map tree_of d.values.items ≡ map (λ p. p.1) pairs
-AreDrafted (of.Code _) d pairs = AreColumns d pairs
+AreDrafted h d pairs = (KeepsKeys h → texts_of d.keys.items ≡ map (λ p. p.0) pairs) × (map tree_of d.values.items ≡ map (λ p. p.1) pairs)
 
 -- what is drafted in old is drafted in new
 abbrev pub IsSameDraft : Draft → Draft → Type 0
@@ -65,6 +66,10 @@ IsSameDraft old new = (h : Holder) (pairs : List (List ℕ × Tree)) → AreDraf
 -- new has a key and a value more
 abbrev pub IsPairMore : Draft → List ℕ → Tree → Draft → Type 0
 IsPairMore old key t new = (texts_of new.keys.items ≡ texts_of old.keys.items ++ key ∷ []) × (map tree_of new.values.items ≡ map tree_of old.values.items ++ t ∷ [])
+
+-- nothing is read of the level of these nested bytes
+abbrev pub IsUnread : Nested → Level → Type 0
+IsUnread u level = (level.elements ≡ Some (drop 4 (bytes_of u.document))) × (level.holder ≡ u.holder) × (level.draft.keys.items ≡ []) × (level.draft.values.items ≡ [])
 
 -- new is the level old with a pair more
 abbrev pub IsOneMore : Level → List ℕ → Tree → Level → Type 0
@@ -107,6 +112,12 @@ AreReadUpTo levels h b c = (holder_of c ≡ h) × ReadsUpTo levels (sort_of h) b
 -- what a result of reading b to a depth says of the frames that were counted, unless a level was too deep
 abbrev pub TellsFramesWithin : {X : Type 0} → ℕ → List ℕ → Result X Error → ℕ → Type 0
 TellsFramesWithin depth b result n = FirstFaultWithin depth b too_deep ⊎ TellsFrames b result n
+
+-- what a call says that reads these nested bytes to a depth and counts so many frames
+abbrev pub TellsReading : ℕ → Nested → Result Contents Error → ℕ → Type 0
+TellsReading depth u result n =
+    IfOk result (AreReadUpTo depth u.holder (bytes_of u.document)) × IfErr result (TellsFirstFaultWithin depth (bytes_of u.document))
+    × TellsFramesWithin depth (bytes_of u.document) result n
 
 -- a count after a call for the next element: one more for an element, the same for a stop and for the end
 abbrev pub counted : ℕ → Option (Result RawElement Error) → ℕ

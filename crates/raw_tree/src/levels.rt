@@ -1,17 +1,16 @@
 //! The levels of bytes that are being read: what is read of each so far.
 #![tactic(auto, using(std::proofs::lemmas::Grind::common_steps, bson_model::proofs::Face::tree_laws))]
 
-ghost use Rattle.std.specs.Prelude.{◌≡◌, [], ◌∷◌, ◌++◌, Some, drop, map, IfOk, IfErr, OnOk};
+ghost use Rattle.std.specs.Prelude.{◌≡◌, [], ◌∷◌, ◌++◌, map, IfOk, IfErr, OnOk};
 ghost use Rattle.std.specs.String.{string_bytes};
 ghost use Rattle.bson_model.specs.Scalars.{bytes_of_object_id};
 ghost use Rattle.bson_model.specs.Tree.{tree_of};
-ghost use Rattle.raw_tree.specs.Levels.{Closes, Ends, Finishes, IsOneMore, IsPairMore, IsSameDraft, Opens};
-ghost use Rattle.raw_view.specs.Document.{bytes_of};
+ghost use Rattle.raw_tree.specs.Levels.{Closes, Ends, Finishes, IsOneMore, IsPairMore, IsSameDraft, IsUnread, Opens};
 ghost use Rattle.raw_view.specs.Errors.{IsOutOfMemory};
 ghost use Rattle.raw_view.specs.Value.{id_of, namespace_of, value_of};
 
 use bson_model::{Bson, DbPointer, Document, JavaScriptCodeWithScope, Regex};
-use raw_view::{Error, RawBsonRef, RawDbPointerRef, RawDocument, RawIter, Result};
+use raw_view::{RawBsonRef, RawDbPointerRef, RawDocument, RawIter, Result};
 use std::alloc::Global;
 use std::mem;
 
@@ -161,12 +160,8 @@ impl<'a> Draft<'a> {
         ensures put { OnOk result (IsPairMore self.old key.now (tree_of value) self.new) }
         ensures err { IfErr result IsOutOfMemory }
     {
-        if self.keys.push(key).is_err() {
-            return Err(Error::out_of_memory());
-        }
-        if self.values.push(value).is_err() {
-            return Err(Error::out_of_memory());
-        }
+        self.keys.push(key)?;
+        self.values.push(value)?;
         Ok(())
     }
 
@@ -176,9 +171,7 @@ impl<'a> Draft<'a> {
         ensures put { OnOk result (map tree_of self.new.values.items ≡ map tree_of self.old.values.items ++ tree_of value ∷ []) }
         ensures err { IfErr result IsOutOfMemory }
     {
-        if self.values.push(value).is_err() {
-            return Err(Error::out_of_memory());
-        }
+        self.values.push(value)?;
         Ok(())
     }
 
@@ -191,9 +184,7 @@ impl<'a> Draft<'a> {
         if self.values.len() > MOST_MOVED {
             return Ok(Vec::new(alloc));
         }
-        let Ok(exact) = self.values.split_off(0) else {
-            return Err(Error::out_of_memory());
-        };
+        let exact = self.values.split_off(0)?;
         Ok(mem::replace(&mut self.values, exact))
     }
 
@@ -208,10 +199,7 @@ impl<'a> Draft<'a> {
 /// A level of which nothing is read.
 #[inline(always)]
 pub(crate) fn begin<'a>(alloc: Global, nested: Nested<'a>) -> Level<'a>
-    ensures elements { result.elements ≡ Some (drop 4 (bytes_of nested.entry.document)) }
-    ensures holder { result.holder ≡ nested.entry.holder }
-    ensures keys { result.draft.keys.items ≡ [] }
-    ensures values { result.draft.values.items ≡ [] }
+    ensures { IsUnread nested.entry result }
 {
     Level {
         elements: nested.document.iter_elements(alloc),
@@ -234,9 +222,8 @@ pub(crate) fn put<'a>(
 {
     level.draft.take_room(spare);
     match level.holder {
-        Holder::Document => level.draft.put_pair(key, value),
+        Holder::Document | Holder::Code(_) => level.draft.put_pair(key, value),
         Holder::Array => level.draft.put_value(value),
-        Holder::Code(_) => level.draft.put_pair(key, value),
     }
 }
 

@@ -5,8 +5,7 @@ ghost use Rattle.std.specs.Prelude.{◌≡◌, ◌≤◌, ◌-◌, ◌/◌, leng
 ghost use Rattle.bson_model.specs.Tree.{tree_of, tree_of_document, tree_of_list};
 ghost use Rattle.raw_tree.specs.CanonicalForm.{AllAreSpelledOneWay};
 ghost use Rattle.raw_tree.specs.FrameCount.{AllAreCountedOneWay, AllHaveOneFrameCount, TellsFrames};
-ghost use Rattle.raw_tree.specs.Levels.{AreRead, AreReadUpTo, TellsFramesWithin};
-ghost use Rattle.raw_tree.specs.WithinLimits.{TellsFirstFaultWithin};
+ghost use Rattle.raw_tree.specs.Levels.{AreRead, TellsReading};
 ghost use Rattle.raw_tree.specs.Reading.{as_array, as_document, AllAreReadOneWay, FrameStandsFor, IsFrameReadOneWay, IsValueReadOneWay, Reads, ReadsAs, StandsFor, TellsFirstFault, TellsFirstFaultOfFrame, TellsFirstFaultOfValue};
 ghost use Rattle.raw_view.specs.Document.{bytes_of};
 ghost use Rattle.raw_view.specs.ElementSteps.{frame_of};
@@ -29,10 +28,7 @@ pub(crate) fn read<'a>(
     steps: &mut Steps,
 ) -> Result<Contents<'a>>
     requires fresh { steps.old ≡ 0 }
-    ensures tree { IfOk result
-        (AreReadUpTo depth nested.entry.holder (bytes_of nested.entry.document)) }
-    ensures fault { IfErr result (TellsFirstFaultWithin depth (bytes_of nested.entry.document)) }
-    ensures count { TellsFramesWithin depth (bytes_of nested.entry.document) result steps.new }
+    ensures { TellsReading depth nested.entry result steps.new }
 {
     let Some(most_waiting) = depth.checked_sub(1) else {
         return Err(Error::malformed(Reason::TooDeep));
@@ -41,38 +37,31 @@ pub(crate) fn read<'a>(
     let mut spare = Draft::new(alloc);
     let mut level = begin(alloc, nested);
     'levels: loop {
-        let (key, value) = match steps.frame(&mut level.elements) {
-            Some(element) => {
-                let element = element?;
-                let value = element.value(alloc)?;
-                match open(alloc, value)? {
-                    Opened::Whole(value) => (element.key(), value),
-                    Opened::Nested(nested) => {
-                        if waiting.len() >= most_waiting {
-                            return Err(Error::malformed(Reason::TooDeep));
-                        }
-                        let key = element.key();
-                        if waiting.push(Waiting { level, key }).is_err() {
-                            return Err(Error::out_of_memory());
-                        }
-                        level = begin(alloc, nested);
-                        continue 'levels;
-                    }
-                }
-            }
-            None => match waiting.pop() {
-                Some(outer) => {
-                    let value = end(alloc, level, &mut spare)?;
-                    level = outer.level;
-                    (outer.key, value)
-                }
-                None => {
-                    let contents = finish(alloc, level.holder, &mut level.draft)?;
-                    return Ok(contents);
-                }
-            },
+        let Some(element) = steps.frame(&mut level.elements) else {
+            let Some(outer) = waiting.pop() else {
+                return finish(alloc, level.holder, &mut level.draft);
+            };
+            let ended = end(alloc, level, &mut spare)?;
+            level = outer.level;
+            put(&mut level, &mut spare, outer.key, ended)?;
+            continue 'levels;
         };
-        put(&mut level, &mut spare, key, value)?;
+        let element = element?;
+        let value = element.value(alloc)?;
+        let opened = open(alloc, value)?;
+        let nested = match opened {
+            Opened::Whole(whole) => {
+                put(&mut level, &mut spare, element.key(), whole)?;
+                continue 'levels;
+            }
+            Opened::Nested(nested) => nested,
+        };
+        if waiting.len() >= most_waiting {
+            return Err(Error::malformed(Reason::TooDeep));
+        }
+        let key = element.key();
+        waiting.push(Waiting { level, key })?;
+        level = begin(alloc, nested);
     }
 }
 
@@ -84,31 +73,6 @@ fn read_all<'a>(alloc: Global, nested: Nested<'a>, steps: &mut Steps) -> Result<
     ensures count { TellsFrames (bytes_of nested.entry.document) result steps.new }
 {
     read(alloc, nested, usize::MAX, steps)
-}
-
-fn read_list(alloc: Global, array: RawArray<'_>) -> Result<Vec<Bson>>
-    ensures tree { IfOk result
-        (λ list. ReadsAs as_array (array_bytes_of array.entry) (tree_of_list list.items)) }
-    ensures fault { IfErr result (TellsFirstFault (array_bytes_of array.entry)) }
-{
-    let nested = Nested {
-        document: array.as_doc(),
-        holder: Holder::Array,
-    };
-    match read_all(alloc, nested, &mut Steps::new())? {
-        Contents::Array(list) => Ok(list),
-        Contents::Document(..) => unreachable!(),
-    }
-}
-
-fn read_value(alloc: Global, value: RawBsonRef<'_>) -> Result<Bson>
-    ensures tree { IfOk result (λ t. StandsFor ReadsAs (value_of value.entry) (tree_of t)) }
-    ensures fault { IfErr result (TellsFirstFaultOfValue (value_of value.entry)) }
-{
-    match open(alloc, value)? {
-        Opened::Whole(value) => Ok(value),
-        Opened::Nested(nested) => close(alloc, read_all(alloc, nested, &mut Steps::new())?),
-    }
 }
 
 /// The tree of a document: its pairs in order, a repeated key in the place of its first occurrence with the
@@ -139,6 +103,7 @@ pub fn document_from_raw(alloc: Global, document: RawDocument<'_>) -> Result<Doc
 /// let (tree, steps) = document_from_raw_counted(alloc, document);
 /// assert!(rt; tree.is_ok() && steps.count() == 1);
 /// ```
+#[tactic(auto, using(std::proofs::lemmas::Grind::common_steps, bson_model::proofs::Face::tree_laws, crate::proofs::Laws::documents_read, crate::proofs::Laws::documents_spelled, crate::proofs::OneWay::counted_one_way, crate::proofs::FrameCounts::one_frame_count))]
 pub fn document_from_raw_counted(
     alloc: Global,
     document: RawDocument<'_>,
@@ -172,6 +137,7 @@ pub fn document_from_raw_counted(
 /// let list = list_from_raw(alloc, array)?;
 /// assert_eq!(rt; list.as_slice(), [Bson::Int32(1), Bson::Int32(2)].as_slice());
 /// ```
+#[tactic(auto, using(std::proofs::lemmas::Grind::common_steps, bson_model::proofs::Face::tree_laws, crate::proofs::Laws::arrays_read, crate::proofs::Laws::arrays_spelled))]
 pub fn list_from_raw(alloc: Global, array: RawArray<'_>) -> Result<Vec<Bson>>
     ensures tree { IfOk result
         (λ list. ReadsAs as_array (array_bytes_of array.entry) (tree_of_list list.items)) }
@@ -179,7 +145,14 @@ pub fn list_from_raw(alloc: Global, array: RawArray<'_>) -> Result<Vec<Bson>>
     ensures one_reading { AllAreReadOneWay as_array }
     ensures one_spelling { AllAreSpelledOneWay as_array }
 {
-    read_list(alloc, array)
+    let nested = Nested {
+        document: array.as_doc(),
+        holder: Holder::Array,
+    };
+    match read_all(alloc, nested, &mut Steps::new())? {
+        Contents::Array(list) => Ok(list),
+        Contents::Document(..) => unreachable!(),
+    }
 }
 
 /// The value with parts of its own: of a nested document, an array or a scope the tree of its bytes, of a
@@ -193,7 +166,10 @@ pub fn bson_from_raw(alloc: Global, value: RawBsonRef<'_>) -> Result<Bson>
     ensures fault { IfErr result (TellsFirstFaultOfValue (value_of value.entry)) }
     ensures one_reading { IsValueReadOneWay (value_of value.entry) }
 {
-    read_value(alloc, value)
+    match open(alloc, value)? {
+        Opened::Whole(value) => Ok(value),
+        Opened::Nested(nested) => close(alloc, read_all(alloc, nested, &mut Steps::new())?),
+    }
 }
 
 /// The value of an element with parts of its own, as `bson_from_raw` gives it. The fault that the payload

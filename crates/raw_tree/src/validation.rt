@@ -13,9 +13,8 @@ ghost use Rattle.raw_view.specs.Value.{array_bytes_of, value_of};
 use crate::breach::{Breach, Cause};
 use crate::keys::Keys;
 use bson_model::do_options_ascend;
-use raw_view::{Elements, Error, RawArray, RawBsonRef, RawDocument, Result};
+use raw_view::{Elements, RawArray, RawBsonRef, RawDocument, Result};
 use std::alloc::Global;
-use std::mem;
 
 /// A level that is being judged: what is left of it, how many elements of it are judged, and their keys.
 #[derive(Drop)]
@@ -128,16 +127,26 @@ fn put_number(path: &mut Vec<usize>, number: usize) -> Result<()>
     ensures put { OnOk result (path.new.items ≡ path.old.items ++ number ∷ []) }
     ensures err { IfErr result IsOutOfMemory }
 {
-    match path.push(number) {
-        Ok(()) => Ok(()),
-        Err(_) => Err(Error::out_of_memory()),
-    }
+    path.push(number)?;
+    Ok(())
 }
 
-/// The first breach of a document, if it isn't canonical. The only error is out of memory.
-fn first_breach(alloc: Global, document: RawDocument<'_>) -> Result<Option<Breach>>
+/// Whether a document is canonical: `None` exactly where it is, and it then has a tree, which is written back as its
+/// own bytes; else the first place, depth first in byte order, where it fails to be, and why. At each element the key
+/// is judged first, then the value, then what is inside. No tree is built, and no depth fills the stack; memory is
+/// taken for the keys of the levels that are open and for the path, and the only error is out of memory. BSON 1.1,
+/// `document`.
+/// ```
+/// let document = RawDocument::from_bytes(b"\x13\0\0\0\x10a\0\x01\0\0\0\x10a\0\x02\0\0\0\0")?;
+/// let Some(breach) = validate(alloc, document)? else { unreachable!() };
+/// assert_eq!(rt; (breach.cause, breach.path.as_slice()), (Cause::RepeatedKey, [1].as_slice()));
+/// ```
+#[tactic(auto, using(crate::proofs::Laws::documents_judged, crate::proofs::Laws::documents_spelled))]
+pub fn validate(alloc: Global, document: RawDocument<'_>) -> Result<Option<Breach>>
     ensures breach { IfOk result (TellsBreach (bytes_of document.entry)) }
     ensures err { IfErr result IsOutOfMemory }
+    ensures one_judgement { AllAreJudgedOneWay as_document }
+    ensures one_spelling { AllAreSpelledOneWay as_document }
 {
     let mut listed: Vec<&str> = Vec::new(alloc);
     let mut waiting: Vec<Judged<'_>> = Vec::new(alloc);
@@ -146,10 +155,8 @@ fn first_breach(alloc: Global, document: RawDocument<'_>) -> Result<Option<Breac
         match level.step(alloc, &mut listed)? {
             Step::Whole => {}
             Step::Inside(inner) => {
-                let outer = mem::replace(&mut level, inner);
-                if waiting.push(outer).is_err() {
-                    return Err(Error::out_of_memory());
-                }
+                waiting.push(level)?;
+                level = inner;
             }
             Step::Breach(cause) => {
                 let path = path_to(alloc, &waiting, level.number)?;
@@ -165,23 +172,4 @@ fn first_breach(alloc: Global, document: RawDocument<'_>) -> Result<Option<Breac
             }
         }
     }
-}
-
-/// Whether a document is canonical: `None` exactly where it is, and it then has a tree, which is written back as its
-/// own bytes; else the first place, depth first in byte order, where it fails to be, and why. At each element the key
-/// is judged first, then the value, then what is inside. No tree is built, and no depth fills the stack; memory is
-/// taken for the keys of the levels that are open and for the path, and the only error is out of memory. BSON 1.1,
-/// `document`.
-/// ```
-/// let document = RawDocument::from_bytes(b"\x13\0\0\0\x10a\0\x01\0\0\0\x10a\0\x02\0\0\0\0")?;
-/// let Some(breach) = validate(alloc, document)? else { unreachable!() };
-/// assert_eq!(rt; (breach.cause, breach.path.as_slice()), (Cause::RepeatedKey, [1].as_slice()));
-/// ```
-pub fn validate(alloc: Global, document: RawDocument<'_>) -> Result<Option<Breach>>
-    ensures breach { IfOk result (TellsBreach (bytes_of document.entry)) }
-    ensures err { IfErr result IsOutOfMemory }
-    ensures one_judgement { AllAreJudgedOneWay as_document }
-    ensures one_spelling { AllAreSpelledOneWay as_document }
-{
-    first_breach(alloc, document)
 }

@@ -137,9 +137,7 @@ fn write(alloc: Global, out: &mut Vec<u8>, container: Container<'_>) -> Result<(
         match show(value) {
             Shown::Leaf(leaf) => put_element(out, key, leaf),
             Shown::Container(inner) => {
-                if waiting.push(level).is_err() {
-                    return Err(Error::out_of_memory());
-                }
+                waiting.push(level)?;
                 put_head(out, tag(inner), key);
                 level = begin(out, inner);
             }
@@ -161,6 +159,17 @@ fn room_for(alloc: Global, judged: Option<usize>) -> Result<Vec<u8>>
     Ok(Vec::with_capacity(alloc, len)?)
 }
 
+/// The payload of a container; or why it isn't written.
+fn encoded(alloc: Global, container: Container<'_>) -> Result<Vec<u8>>
+    ensures ok { IfOk result (λ out. IsEncoded (tree_of_container container.entry) out.items) }
+    ensures bytes { IfOk result (λ out. AreBytes out.items) }
+    ensures err { IfErr result (IsRefused (tree_of_container container.entry)) }
+{
+    let mut out = room_for(alloc, judged(alloc, container))?;
+    write(alloc, &mut out, container)?;
+    Ok(out)
+}
+
 /// The bytes of a document. BSON 1.1, `document`. It fails, without a key, first if a key, a pattern or
 /// options at any depth hold a 0, then where the bytes would be over 2147483647, and then where memory runs
 /// out; it reserves the whole once. Of every document's tree without such a 0, whose options never descend
@@ -177,10 +186,7 @@ pub fn encode(alloc: Global, document: &Document) -> Result<Vec<u8>>
     ensures comes_back { DocumentsComeBack }
     ensures err { IfErr result (IsRefused (tree_of_document document.now)) }
 {
-    let container = Container::Document(document);
-    let mut out = room_for(alloc, judged(alloc, container))?;
-    write(alloc, &mut out, container)?;
-    Ok(out)
+    encoded(alloc, Container::Document(document))
 }
 
 /// The bytes of a list, its keys the decimals from 0. BSON 1.1, `array`. It fails as `encode` does, in
@@ -191,8 +197,5 @@ pub fn encode_list(alloc: Global, values: &[Bson]) -> Result<Vec<u8>>
     ensures comes_back { ListsComeBack }
     ensures err { IfErr result (IsRefused (tree_of_list values.now)) }
 {
-    let container = Container::Array(values);
-    let mut out = room_for(alloc, judged(alloc, container))?;
-    write(alloc, &mut out, container)?;
-    Ok(out)
+    encoded(alloc, Container::Array(values))
 }

@@ -7,7 +7,7 @@ returns-in_ok-document-in-Document-clause-finished c =
     let made = c.in_ok-document-in-Document in
     let all = ap (λ v. v.items) c.replace-values.ensures.value in
     let trees = rw c.as_slice.ensures.value at made.ensures.trees in
-    document_finished c.args.draft.now made.document c.args.holder c.replace-values.result.items c.in-Document.is all trees
+    document_finished c.args.draft.now made.document c.replace-values.result.items c.args.holder all trees c.in-Document.is
 
 pub returns-in-Array-clause-finished : goal.returns-in-Array-clause-finished
 returns-in-Array-clause-finished c =
@@ -19,4 +19,4 @@ returns-in_ok-scope-in-Code-clause-finished c =
     let made = c.in_ok-scope-in-Code in
     let all = ap (λ v. v.items) c.replace-values.ensures.value in
     let trees = rw c.as_slice-in-Code.ensures.value at made.ensures.trees in
-    scope_finished c.args.draft.now made.scope c.in-Code.code c.args.holder c.replace-values.result.items c.in-Code.is all trees
+    scope_finished c.args.draft.now made.scope c.replace-values.result.items c.args.holder all trees c.in-Code.code c.in-Code.is

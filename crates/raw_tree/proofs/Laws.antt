@@ -1,0 +1,22 @@
+-- What contracts say of all documents and of all arrays.
+use Rattle.raw_tree.specs.Breaches.{AllAreJudgedOneWay}
+use Rattle.raw_tree.specs.CanonicalForm.{AllAreSpelledOneWay}
+use Rattle.raw_tree.specs.Reading.{AllAreReadOneWay, as_document, as_array}
+use Rattle.raw_tree.proofs.Forms.{bytes_spelled_one_way}
+use Rattle.raw_tree.proofs.OneBreach.{judged_one_way}
+use Rattle.raw_tree.proofs.OneWay.{bytes_one_way}
+
+pub documents_read : AllAreReadOneWay as_document
+documents_read = bytes_one_way as_document
+
+pub arrays_read : AllAreReadOneWay as_array
+arrays_read = bytes_one_way as_array
+
+pub documents_spelled : AllAreSpelledOneWay as_document
+documents_spelled = bytes_spelled_one_way as_document
+
+pub arrays_spelled : AllAreSpelledOneWay as_array
+arrays_spelled = bytes_spelled_one_way as_array
+
+pub documents_judged : AllAreJudgedOneWay as_document
+documents_judged = judged_one_way as_document
