@@ -107,11 +107,16 @@ if [ "$failed" = 1 ]; then
     exit 1
 fi
 echo "python: $(sed -n 's/^Ran \([0-9]* tests\) in .*/\1/p' "$work/said") by $("$python" --version)"
+if ! PYTHONPATH="$work/package:python/tests" "$python" python/tests/long.py 20000 >"$work/said" 2>&1; then
+    cat "$work/said" >&2
+    echo "python: something grows with the number of calls" >&2
+    exit 1
+fi
 
 if command -v mypy >/dev/null; then
     (cd "$work/package" && mypy --strict --no-error-summary --cache-dir "$work/mypy" -p bsonraw) || exit 1
     MYPYPATH=$work/package mypy --strict --no-error-summary --cache-dir "$work/mypy" --ignore-missing-imports \
-        --follow-imports silent examples/*.py || exit 1
+        --follow-imports silent examples/*.py python/tests/typed.py || exit 1
 else
     echo "python: mypy isn't there, so the annotations aren't looked at"
 fi

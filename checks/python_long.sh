@@ -1,6 +1,7 @@
 #!/bin/sh
 # What is too slow for the gate: a million calls of the Python package with memory and references watched, its tests under
-# AddressSanitizer where a clang with its library is there, and its tests by each other Python that is named and has its headers.
+# AddressSanitizer where a clang with its library is there, and its tests by each other Python that is named. Those of 3.11 and
+# later take the build of the first one; an older one has its headers and setuptools, and makes a build for itself.
 #
 #   checks/python_long.sh PREFIX [PYTHON..]     PREFIX: where bin/install put header and library
 set -u
@@ -45,8 +46,13 @@ else
 fi
 
 for other in "$@"; do
-    built "$other" "$work/other" || exit 1
-    if PYTHONPATH=$work/other:python/tests:examples "$other" -W ignore -m unittest discover -s python/tests >"$work/said" 2>&1; then
+    package=$work/package
+    if "$other" -c 'import sys; sys.exit(sys.version_info >= (3, 11))'; then
+        package=$work/other
+        built "$other" "$package" || exit 1
+    fi
+    if PYTHONPATH=$package:python/tests:examples "$other" -W ignore -m unittest discover -s python/tests >"$work/said" 2>&1 &&
+        PYTHONPATH=$package:python/tests "$other" python/tests/long.py 20000 >>"$work/said" 2>&1; then
         echo "python_long: $(sed -n 's/^Ran \([0-9]* tests\) in .*/\1/p' "$work/said") by $("$other" --version)"
     else
         cat "$work/said" >&2 && failed=1

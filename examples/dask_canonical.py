@@ -14,18 +14,19 @@ The package bsonraw has to be on each machine where workers run. Workers on seve
 paths.
 
 1. A dump is cut into partitions at the ends of documents, for which only the documents' lengths are read.
-2. Partitions are independent: each is brought to its canonical forms by one call, and goes to a file of its own. The mark of a
-   form is its CRC-32.
-3. Forms are sorted into buckets by their marks. Of those that share a mark the first one of each BLAKE2b of 32 bytes, in the
+2. Partitions are independent: each is brought to its canonical forms by one call. A form that is its own document is left in the
+   dump; the others go to a file of the partition. Where each form lies, and its hash, go to a second one.
+3. Forms are sorted into buckets by their hashes. Of those that share a hash the first one of each BLAKE2b of 32 bytes, in the
    order of the dumps, is kept. Two forms with one digest count as equal; no two unequal texts with one are known.
 4. What each partition keeps goes to its place in the result, which is known by the lengths.
 
 A task whose worker dies is run again on another worker, and writes the same bytes to the same place. One process needs none
-of these files: its threads bring partitions to their forms, and it writes what it keeps in order. It tells forms apart by
-Python's own hash, and compares those of one hash.
+of these files: its threads bring partitions to their forms, and it writes what it keeps in order, and compares those of one
+hash. No dump may change meanwhile.
 """
 
 import argparse
+import errno
 import hashlib
 import json
 import mmap
@@ -38,10 +39,28 @@ from array import array
 from bisect import bisect_right
 from collections import Counter, deque
 from concurrent.futures import Future, ThreadPoolExecutor
+from contextlib import contextmanager
 from functools import lru_cache
+from itertools import chain
+from operator import sub
 from pathlib import Path
-from typing import Any, Callable, Deque, Dict, Iterable, Iterator, List, NamedTuple, Optional, Sequence, Set, Tuple, Union
-from zlib import crc32
+from typing import (
+    Any,
+    BinaryIO,
+    Callable,
+    Container,
+    Deque,
+    Dict,
+    Iterable,
+    Iterator,
+    List,
+    NamedTuple,
+    Optional,
+    Sequence,
+    Set,
+    Tuple,
+    Union,
+)
 
 try:
     import bsonraw
@@ -50,14 +69,18 @@ except ImportError as error:
 
 PARTITION = 16 << 20
 BUCKETS = 16
+bytes(31 << 20)  # glibc keeps freed memory of the size that it has seen: else that of each partition is mapped and cleared anew
 
 Fault = Tuple[int, str]
+Formed = Tuple[bsonraw.Forms, List[Fault]]
+"""The canonical forms of a partition, and its faults."""
 
 
 class Dump(NamedTuple):
     path: str
     name: str
     """its name below the folder of the result"""
+    size: int
 
 
 class Part(NamedTuple):
@@ -66,38 +89,26 @@ class Part(NamedTuple):
     dump: Dump
     start: int
     end: int
-    forms: str
-    """the file for its canonical forms"""
-
-
-class Formed(NamedTuple):
-    """The canonical forms of a partition, and a number for each: equal forms have the same one."""
-
-    forms: bsonraw.Forms
-    marks: List[int]
-    faults: List[Fault]
-
-
-class Bucket(NamedTuple):
-    """Those forms of a partition whose marks fall into one bucket."""
-
-    offsets: "array[int]"
-    sizes: "array[int]"
-    marks: "array[int]"
+    files: str
+    """what the names of its own files begin with"""
 
 
 class Count(NamedTuple):
-    """What came of the documents of a partition, and how many bytes its forms have, repeated ones left out."""
+    """What came of the documents of a partition: how many there are, how many bytes their forms have, and how many of the
+    forms fall into each bucket."""
 
     documents: int
     canonical: int
-    repeated: int
     size: int
+    buckets: List[int]
     faults: List[Fault]
 
 
-Repeats = List[Tuple[int, int]]
-"""The forms of a partition that repeat one of an earlier partition: the offset and the length of each."""
+class Repeats(NamedTuple):
+    """The forms of a partition that repeat an earlier one: their numbers, and how many bytes they have."""
+
+    numbers: "array[int]"
+    size: int
 
 
 # ---- the tasks -------------------------------------------------------------------------------------------------------
@@ -126,84 +137,125 @@ def digest(form: Union[bytes, memoryview]) -> bytes:
     return hashlib.blake2b(form, digest_size=32).digest()
 
 
-def formed(path: str, start: int, end: int, mark: Callable[[memoryview], int]) -> Formed:
+def formed(path: str, start: int, end: int) -> Formed:
     """The forms of a partition. While they are made, another thread may run."""
     with open(path, "rb") as file:
         file.seek(start)
         forms = bsonraw.canonical_all(file.read(end - start), before=start)
-    faults = [(offset, said(error)) for offset, error in forms.faults]
-    return Formed(forms, list(map(mark, forms.each())), faults)
+    return forms, [(offset, said(error)) for offset, error in forms.faults]
 
 
-def repeated_in(marks: Iterable[int]) -> Set[int]:
-    return {mark for mark, count in Counter(marks).items() if count > 1}
-
-
-def distinct(forms: bsonraw.Forms, marks: Sequence[int]) -> Iterator[Tuple[int, int, int]]:
-    """Where each form begins and ends, and its mark; those that repeat one of the partition are left out."""
-    common = repeated_in(marks)
-    seen: Set[bytes] = set()
-    start = 0
-    for end, mark in zip(forms.ends, marks):
-        is_new = True
-        if mark in common:
-            found = digest(forms.data[start:end])
-            is_new = found not in seen
-            seen.add(found)
-        if is_new:
-            yield start, end, mark
-        start = end
-
-
-def canonise(part: Part) -> Tuple[Count, List[Bucket]]:
-    """Writes the canonical forms of a partition, each once, and gives their marks by bucket."""
-    forms, marks, faults = formed(part.dump.path, part.start, part.end, crc32)
-    buckets = [Bucket(array("Q"), array("I"), array("I")) for _ in range(BUCKETS)]
-    begin = last = size = count = 0
-    unfinished = f"{part.forms}.{uuid.uuid4().hex}"
+@contextmanager
+def written(path: str) -> Iterator[BinaryIO]:
+    """A new file, which has its name once it is whole."""
+    unfinished = f"{path}.{uuid.uuid4().hex}"
     with open(unfinished, "wb") as out:
-        for start, end, mark in distinct(forms, marks):
-            if start > last:
-                out.write(forms.data[begin:last])
-                begin = start
-            last = end
-            bucket = buckets[mark % BUCKETS]
-            bucket.offsets.append(size)
-            bucket.sizes.append(end - start)
-            bucket.marks.append(mark)
-            size += end - start
-            count += 1
-        out.write(forms.data[begin:last])
-    os.replace(unfinished, part.forms)
-    return Count(len(marks) + len(faults), forms.canonical, len(marks) - count, size, faults), buckets
+        yield out
+    os.replace(unfinished, path)
 
 
-def find_repeats(outcomes: Sequence[Tuple[Count, List[Bucket]]], paths: Sequence[str], number: int) -> List[Repeats]:
-    """Of one bucket of all partitions in their order: which forms repeat an earlier one. Those with a mark of others are read."""
-    common = repeated_in(mark for _, buckets in outcomes for mark in buckets[number].marks)
+def numbers_in(path: str, start: int, count: int) -> "array[int]":
+    """So many numbers of 64 bits of a file of these."""
+    numbers = array("Q")
+    with open(path, "rb") as file:
+        file.seek(start * numbers.itemsize)
+        numbers.fromfile(file, count)
+    return numbers
+
+
+def canonise(part: Part) -> Count:
+    """Writes those forms of a partition that aren't in its dump, and where each form lies; then the forms' numbers and hashes by
+    bucket."""
+    forms, faults = formed(part.dump.path, part.start, part.end)
+    offsets = array("Q", bytes(forms.starts))
+    sizes = array("Q", map(sub, forms.ends, chain((0,), forms.ends)))
+    end = part.dump.size
+    with written(f"{part.files}.forms") as out:
+        for number, is_own in enumerate(forms.own):
+            if not is_own:
+                offsets[number] = end
+                end += out.write(forms.data[forms.ends[number] - sizes[number] : forms.ends[number]])
+    buckets = [(array("Q"), array("Q")) for _ in range(BUCKETS)]
+    for number, mark in enumerate(forms.hashes):
+        numbers, marks = buckets[mark % BUCKETS]
+        numbers.append(number)
+        marks.append(mark)
+    with written(f"{part.files}.index") as out:
+        for column in (offsets, sizes, *chain.from_iterable(buckets)):
+            column.tofile(out)
+    counts = [len(numbers) for numbers, _ in buckets]
+    return Count(len(offsets) + len(faults), forms.canonical, len(forms.data), counts, faults)
+
+
+def places_of(part: Part, count: Count) -> Tuple["array[int]", "array[int]"]:
+    """Where each form of a partition lies, and how long it is."""
+    index, total = f"{part.files}.index", sum(count.buckets)
+    return numbers_in(index, 0, total), numbers_in(index, total, total)
+
+
+def bucket_of(part: Part, count: Count, bucket: int) -> Tuple["array[int]", "array[int]"]:
+    """The numbers of those forms of a partition that are in a bucket, and their hashes."""
+    index, size = f"{part.files}.index", count.buckets[bucket]
+    start = 2 * sum(count.buckets) + 2 * sum(count.buckets[:bucket])
+    return numbers_in(index, start, size), numbers_in(index, start + size, size)
+
+
+@contextmanager
+def opened(part: Part) -> Iterator[Callable[[int], Tuple[int, int]]]:
+    """Finds the file where a form lies, and the place in it: in the dump, or behind the dump's end in the partition's own file."""
+    with open(part.dump.path, "rb") as dump, open(f"{part.files}.forms", "rb") as own:
+
+        def find(offset: int) -> Tuple[int, int]:
+            return (dump.fileno(), offset) if offset < part.dump.size else (own.fileno(), offset - part.dump.size)
+
+        yield find
+
+
+def find_repeats(parts: Sequence[Part], counts: Sequence[Count], bucket: int) -> List[Repeats]:
+    """Of one bucket of all partitions in their order: which forms repeat an earlier one. Those with a hash of others are read."""
+    columns = [bucket_of(part, count, bucket) for part, count in zip(parts, counts)]
+    hashes = Counter(chain.from_iterable(hashes for _, hashes in columns))
     seen: Set[bytes] = set()
     found = []
-    for (_, buckets), path in zip(outcomes, paths):
-        places = [place for place in zip(*buckets[number]) if place[2] in common]
-        repeats = []
-        with open(path, "rb") as forms:
-            for offset, size, _ in places:
-                mark = digest(os.pread(forms.fileno(), size, offset))
-                repeats += [(offset, size)] if mark in seen else []
-                seen.add(mark)
-        found.append(repeats)
+    for part, count, (numbers, marks) in zip(parts, counts, columns):
+        repeats, size = array("Q"), 0
+        offsets, sizes = places_of(part, count)
+        with opened(part) as find:
+            for number, mark in zip(numbers, marks):
+                if hashes[mark] > 1:
+                    file, place = find(offsets[number])
+                    form = digest(os.pread(file, sizes[number], place))
+                    if form in seen:
+                        repeats.append(number)
+                        size += sizes[number]
+                    seen.add(form)
+        found.append(Repeats(repeats, size))
     return found
 
 
-def keep(part: Part, repeated: Repeats, result: str, offset: int) -> None:
+def kept(offsets: Iterable[int], sizes: Iterable[int], repeated: Container[int]) -> Iterator[Tuple[int, int]]:
+    """From where to where forms lie that aren't repeated; those side by side are one."""
+    start = end = 0
+    for number, (offset, size) in enumerate(zip(offsets, sizes)):
+        if number not in repeated:
+            if offset != end:
+                yield start, end
+                start = offset
+            end = offset + size
+    yield start, end
+
+
+def keep(part: Part, count: Count, repeated: Iterable[int], result: str, offset: int) -> None:
     """Writes the forms of a partition but for repeated ones to their place in the result."""
-    with open(part.forms, "rb") as forms, open(result, "r+b", buffering=0) as out:
+    with opened(part) as find, open(result, "r+b", buffering=0) as out:
         out.seek(offset)
-        start = 0
-        for end, size in [*sorted(repeated), (os.fstat(forms.fileno()).st_size, 0)]:
+        for start, end in kept(*places_of(part, count), set(repeated)):
             while start < end:
-                start += os.sendfile(out.fileno(), forms.fileno(), start, end - start)
-            start = end + size
+                file, place = find(start)
+                sent = os.sendfile(out.fileno(), file, place, end - start)
+                if sent == 0:
+                    raise OSError(errno.EIO, "it became shorter meanwhile", part.dump.path)
+                start += sent
 
 
 # ---- the whole run ---------------------------------------------------------------------------------------------------
@@ -211,15 +263,16 @@ def keep(part: Part, repeated: Repeats, result: str, offset: int) -> None:
 
 def dumps_in(names: Sequence[str]) -> List[Dump]:
     """The dumps of these names, those in a folder in the order of their names."""
-    dumps = []
+    dumps: List[Dump] = []
     for name in names:
         path = Path(name).resolve()
         if not path.exists():
             raise SystemExit(f"dask_canonical: {name} isn't there")
         if path.is_dir():
-            dumps += [Dump(str(found), str(found.relative_to(path))) for found in sorted(path.rglob("*.bson"))]
+            found = [(file, str(file.relative_to(path))) for file in sorted(path.rglob("*.bson"))]
         else:
-            dumps.append(Dump(str(path), path.name))
+            found = [(path, path.name)]
+        dumps += [Dump(str(file), name, file.stat().st_size) for file, name in found]
     if len({dump.name for dump in dumps}) < len(dumps):
         raise SystemExit("dask_canonical: two dumps have the same name, and would have the same result")
     return dumps
@@ -238,22 +291,29 @@ def prepare(dumps: Sequence[Dump], folder: Path) -> Path:
     return work
 
 
-def finish(dumps: Sequence[Dump], folder: Path, report: Dict[str, Any]) -> Dict[str, Any]:
+class Report:
+    """What came of all documents."""
+
+    def __init__(self) -> None:
+        self.documents = self.canonical = self.repeated = 0
+        self.faults: List[Dict[str, Any]] = []
+
+    def add(self, dump: Dump, documents: int, canonical: int, faults: Sequence[Fault]) -> None:
+        self.documents += documents
+        self.canonical += canonical
+        self.faults += [{"file": dump.name, "offset": offset, "fault": said} for offset, said in faults]
+
+    def numbers(self) -> Dict[str, int]:
+        return {"documents": self.documents, "canonical before": self.canonical, "repeated": self.repeated}
+
+
+def finish(dumps: Sequence[Dump], folder: Path, report: Report) -> Report:
     """Moves the result to its place and writes the report."""
     for dump in dumps:
         os.replace(folder / "unfinished" / "result" / dump.name, folder / dump.name)
-    (folder / "report.json").write_text(json.dumps(report, indent=1) + "\n")
+    (folder / "report.json").write_text(json.dumps({**report.numbers(), "faults": report.faults}, indent=1) + "\n")
     shutil.rmtree(folder / "unfinished")
     return report
-
-
-def report_of(counts: Sequence[Count], repeated: int, faults: List[Tuple[str, Fault]]) -> Dict[str, Any]:
-    return {
-        "documents": sum(count.documents for count in counts),
-        "canonical before": sum(count.canonical for count in counts),
-        "repeated": repeated,
-        "faults": [{"file": name, "offset": offset, "fault": said} for name, (offset, said) in faults],
-    }
 
 
 class Progress:
@@ -273,14 +333,15 @@ class Progress:
 
 
 class Written:
-    """The result of one process, and where each form is in it, by its hash. Forms of one hash are compared."""
+    """The result of one process, and where each form is in it, by its hash. Of forms that share one the first is noted by it and
+    the others by their digests."""
 
     def __init__(self) -> None:
         self.paths: List[Path] = []
         self.starts: List[int] = []
         """how many bytes are before each file"""
         self.size = 0
-        self.places: Dict[int, int] = {}
+        self.places: Dict[Union[int, bytes], int] = {}
         self.opened = lru_cache(maxsize=64)(lambda number: open(self.paths[number], "r+b", buffering=0))
 
     def begin(self, path: Path) -> None:
@@ -296,32 +357,31 @@ class Written:
         while forms:
             forms = forms[file.write(forms) :]
 
-    def is_at(self, place: int, form: memoryview) -> bool:
+    def is_at(self, place: int, form: bytes) -> bool:
         number = bisect_right(self.starts, place) - 1
         return os.pread(self.opened(number).fileno(), len(form), place - self.starts[number]) == form
 
-    def free_mark(self, form: memoryview, mark: int) -> Optional[int]:
-        """The first number from the hash on that no form has; None where this form is there."""
-        while mark in self.places:
-            if self.is_at(self.places[mark], form):
-                return None
-            mark += 1
-        return mark
+    def key_of(self, form: bytes, mark: int) -> Optional[bytes]:
+        """What notes a form whose hash is noted already; None where the form is there."""
+        if self.is_at(self.places[mark], form):
+            return None
+        found = digest(form)
+        return None if found in self.places else found
 
-    def add(self, forms: bsonraw.Forms, marks: Sequence[int]) -> int:
+    def add(self, forms: bsonraw.Forms) -> int:
         """Writes the forms that aren't there, and says how many are."""
         repeated = begin = start = 0
-        for end, mark in zip(forms.ends, marks):
+        for end, mark in zip(forms.ends, forms.hashes):
+            key: Union[int, bytes, None] = mark
             if mark in self.places:
                 self.write(forms.data[begin:start])
                 begin = start
-                free = self.free_mark(forms.data[start:end], mark)
-                if free is None:
-                    repeated += 1
-                    begin = start = end
-                    continue
-                mark = free
-            self.places[mark] = self.size + start - begin
+                key = self.key_of(bytes(forms.data[start:end]), mark)
+            if key is None:
+                repeated += 1
+                begin = end
+            else:
+                self.places[key] = self.size + start - begin
             start = end
         self.write(forms.data[begin:start])
         return repeated
@@ -331,32 +391,30 @@ def in_order(pool: ThreadPoolExecutor, parts: Sequence[Tuple[str, int, int]], ah
     """The forms of partitions in their order, of which so many are made ahead."""
     tasks: Deque["Future[Formed]"] = deque()
     for part in parts:
-        tasks.append(pool.submit(formed, *part, hash))
+        tasks.append(pool.submit(formed, *part))
         if len(tasks) > ahead:
             yield tasks.popleft().result()
     while tasks:
         yield tasks.popleft().result()
 
 
-def run_alone(dumps: Sequence[Dump], folder: Path, threads: int = 1, partition: int = PARTITION) -> Dict[str, Any]:
+def run_alone(dumps: Sequence[Dump], folder: Path, threads: int = 1, partition: int = PARTITION) -> Report:
     """All in this process: threads bring partitions to their forms, and this one writes them in order."""
     work = prepare(dumps, folder)
-    progress = Progress("bytes", sum(os.path.getsize(dump.path) for dump in dumps))
+    progress = Progress("bytes", sum(dump.size for dump in dumps))
     written = Written()
-    counts = []
-    faults: List[Tuple[str, Fault]] = []
+    report = Report()
     with ThreadPoolExecutor(threads) as pool:
         for dump in dumps:
             ends, last = cut(dump.path, partition)
             parts = [(dump.path, start, end) for start, end in ends]
             written.begin(work / "result" / dump.name)
-            for (forms, marks, found), (start, end) in zip(in_order(pool, parts, threads), ends):
-                repeated = written.add(forms, marks)
-                counts.append(Count(len(marks) + len(found), forms.canonical, repeated, 0, found))
-                faults += [(dump.name, fault) for fault in found]
+            for (forms, faults), (start, end) in zip(in_order(pool, parts, threads), ends):
+                report.add(dump, len(forms.ends) + len(faults), forms.canonical, faults)
+                report.repeated += written.add(forms)
                 progress.add(end - start)
-            faults += [(dump.name, last)] if last else []
-    return finish(dumps, folder, report_of(counts, sum(count.repeated for count in counts), faults))
+            report.add(dump, 0, 0, [last] if last else [])
+    return finish(dumps, folder, report)
 
 
 def engine() -> Any:
@@ -368,46 +426,45 @@ def engine() -> Any:
     return distributed
 
 
-def run_on(client: Any, dumps: Sequence[Dump], folder: Path, partition: int = PARTITION) -> Dict[str, Any]:
+def run_on(client: Any, dumps: Sequence[Dump], folder: Path, partition: int = PARTITION) -> Report:
     """On the workers of a Dask client."""
     work = prepare(dumps, folder)
+    report = Report()
     cuts = client.gather(client.map(cut, [dump.path for dump in dumps], size=partition, pure=False))
     parts: List[Part] = []
-    for dump, (ends, _) in zip(dumps, cuts):
+    for dump, (ends, last) in zip(dumps, cuts):
         for start, end in ends:
             parts.append(Part(dump, start, end, str(work / "forms" / f"{len(parts):06}")))
 
-    outcomes = client.map(canonise, parts, pure=False)
+    tasks = client.map(canonise, parts, pure=False)
     progress = Progress("partitions", len(parts))
-    for _ in engine().as_completed(outcomes):
+    for _ in engine().as_completed(tasks):
         progress.add(1)
-    counts = client.gather(client.map(lambda outcome: outcome[0], outcomes, pure=False))
-    paths = [part.forms for part in parts]
-    found = client.gather([client.submit(find_repeats, outcomes, paths, number, pure=False) for number in range(BUCKETS)])
+    counts: List[Count] = client.gather(tasks)
+    tasks = [client.submit(find_repeats, parts, counts, bucket, pure=False) for bucket in range(BUCKETS)]
+    repeats: List[Tuple[Repeats, ...]] = list(zip(*client.gather(tasks)))
 
+    places = dict.fromkeys(dumps, 0)
     writes = []
-    offsets = dict.fromkeys(dumps, 0)
     for dump in dumps:
         open(work / "result" / dump.name, "wb").close()
-    for number, (part, count) in enumerate(zip(parts, counts)):
-        repeats = [bucket[number] for bucket in found]
-        left_out = [form for repeat in repeats for form in repeat]
-        result = str(work / "result" / part.dump.name)
-        writes.append(client.submit(keep, part, left_out, result, offsets[part.dump], pure=False))
-        offsets[part.dump] += count.size - sum(size for _, size in left_out)
-    client.gather(writes)
+    for part, count, found in zip(parts, counts, repeats):
+        numbers = array("Q", chain.from_iterable(bucket.numbers for bucket in found))
+        writes.append((part, count, numbers, str(work / "result" / part.dump.name), places[part.dump]))
+        places[part.dump] += count.size - sum(bucket.size for bucket in found)
+        report.add(part.dump, count.documents, count.canonical, count.faults)
+        report.repeated += len(numbers)
+    writes.sort(key=lambda write: write[0].start)  # the dumps in turns, since two workers can't write to one file at a time
+    client.gather([client.submit(keep, *write, pure=False) for write in writes])
 
-    faults = []
     for dump, (_, last) in zip(dumps, cuts):
-        faults += [
-            (dump.name, fault) for part, count in zip(parts, counts) if part.dump == dump for fault in count.faults
-        ]
-        faults += [(dump.name, last)] if last else []
-    repeated = sum(count.repeated for count in counts) + sum(len(repeat) for bucket in found for repeat in bucket)
-    return finish(dumps, folder, report_of(counts, repeated, faults))
+        report.add(dump, 0, 0, [last] if last else [])
+    order = {dump.name: number for number, dump in enumerate(dumps)}
+    report.faults.sort(key=lambda fault: (order[fault["file"]], fault["offset"]))
+    return finish(dumps, folder, report)
 
 
-def run_here(workers: int, dumps: Sequence[Dump], folder: Path, partition: int) -> Dict[str, Any]:
+def run_here(workers: int, dumps: Sequence[Dump], folder: Path, partition: int) -> Report:
     """On so many worker processes of this machine."""
     dask = engine()
     dask.config["distributed"]["worker"]["profile"]["enabled"] = False  # it looks at a worker's threads 100 times a second
@@ -417,7 +474,7 @@ def run_here(workers: int, dumps: Sequence[Dump], folder: Path, partition: int) 
         return run_on(client, dumps, folder, partition)
 
 
-def run(options: argparse.Namespace, dumps: Sequence[Dump], folder: Path) -> Dict[str, Any]:
+def run(options: argparse.Namespace, dumps: Sequence[Dump], folder: Path) -> Report:
     if not options.scheduler and not options.workers:
         return run_alone(dumps, folder, max(1, options.threads), options.partition)
     if not options.scheduler:
@@ -444,9 +501,9 @@ def main() -> int:
         raise SystemExit(f"dask_canonical: {where}{error.strerror or error}") from None
     except KeyboardInterrupt:
         raise SystemExit("dask_canonical: interrupted") from None
-    print(", ".join(f"{number} {what}" for what, number in report.items() if what != "faults"), end=", ")
-    print(f"{len(report['faults'])} faults; {folder}/report.json has them all", flush=True)
-    return 1 if report["faults"] else 0
+    print(", ".join(f"{number} {what}" for what, number in report.numbers().items()), end=", ")
+    print(f"{len(report.faults)} faults; {folder}/report.json has them all", flush=True)
+    return 1 if report.faults else 0
 
 
 if __name__ == "__main__":

@@ -1,4 +1,4 @@
-"""BSON documents: read, written, checked and brought to their canonical form, over a proved library.
+"""BSON documents: read, written, checked, and brought to canonical form.
 
     >>> import bsonraw
     >>> data = bsonraw.encode({"name": "Ada", "born": 1815, "tags": ["maths"]})
@@ -11,27 +11,34 @@
     >>> bsonraw.canonical(data) == data
     True
 
-Whole documents: `decode` and `encode`; `canonical`, `check` and `first_fault`; `to_json`. Parts of one: `find` by a path, `get` by
-a key, `elements` of one level, `walk` of all. Dumps, which are documents one behind the other: `documents` cuts them, `decode_all`
-reads them, `columns` has them as a table, `canonical_all` brings them to their forms, and `partitions` says where to cut one for many
-workers.
+Whole documents: `decode` and `encode`; `canonical`, `check` and `first_fault`;
+`to_json`. Parts of one: `find` by a path, `get` by a key, `elements` of one
+level, `walk` of all. Dumps, which are documents one behind the other:
+`documents` cuts them, `decode_all` reads them, `columns` has them as a table,
+`canonical_all` brings them to their forms, and `partitions` says where to cut
+one for many workers.
 
-Values are those of Python: float, str, dict, list, bytes, bool, None, int, aware datetimes. An int that is stored in 64 bits
-comes as Int64, a class over int, so that it stays one when it is written again. The other kinds of BSON have small classes
-here. MongoDB's own are taken by `encode`, and given by `decode(data, types="bson")`.
+Values are those of Python: float, str, dict, list, bytes, bool, None, int,
+aware datetimes. An int that is stored in 64 bits comes as Int64, a class over
+int, so that it stays one when it is written again. The other kinds of BSON
+have small classes here. MongoDB's own are taken by `encode`, and given by
+`decode(data, types="bson")`.
 
-Data is any bytes-like object whose bytes lie one behind the other: bytes, bytearray, memoryview, mmap, an array. It is not
-copied, and each call leaves it as it is. A call over more than 64 KiB of a bytes object, or of a view of one, lets go of the
-interpreter's lock; other buffers can be written, and are read under it.
+Data is any bytes-like object whose bytes lie one behind the other: bytes,
+bytearray, memoryview, mmap, an array. It is not copied, and each call leaves
+it as it is. A call over more than 64 KiB of a bytes object, or of a view of
+one, lets go of the interpreter's lock; other buffers can be written, and are
+read under it.
 
-Damage raises BsonError, with the place, and does no harm. MemoryError comes where memory runs out.
+Damage raises BsonError, with the place, and does no harm. MemoryError comes
+where memory runs out. The library below is proved; this package is tested.
 """
 
 from __future__ import annotations
 
 import io
 import os
-from typing import Any, BinaryIO, Dict, Iterator, List, Optional, Tuple, Union
+from typing import TYPE_CHECKING, Any, Dict, Iterator, List, Optional, Tuple
 
 from . import _native, _types
 from ._native import Element, Int64, canonical, check, decode, elements, encode, find, first_fault, get, to_json, walk
@@ -57,6 +64,10 @@ from ._types import (
     Timestamp,
     Undefined,
 )
+
+if TYPE_CHECKING:
+    from ._native import Buffer
+    from ._types import Source
 
 __all__ = [
     "Binary",
@@ -105,7 +116,7 @@ __version__ = str.join(".", (str(_native.VERSION // unit % 100) for unit in (10_
 MAX_BYTES = 16_777_216
 """How many bytes a document may have, unless told otherwise: 16 MiB."""
 MAX_DEPTH = 500
-"""How many levels of documents, arrays and scopes it may have, the outermost counted, unless told otherwise."""
+"""How many levels it may have, the outermost counted, unless told otherwise."""
 
 
 for _name in __all__:
@@ -121,19 +132,23 @@ class _Parts:
             from ._foreign import convert
 
             return convert
-        return _types.Breach._told if name == "Breach" else getattr(_types, name)
+        return getattr(_types, name)
 
 
 _native.use(_Parts())
 
 
-def documents(source: Union[BinaryIO, _native.Buffer]) -> Iterator[Tuple[int, Any]]:
-    """The documents of a dump, one behind the other, each with its offset: bytes where they come from a file that is open
-    for reading bytes, read-only views without a copy where they come from a buffer.
+def documents(source: Source) -> Iterator[Tuple[int, Any]]:
+    """The documents of a dump, one behind the other, each with its offset.
 
-    They are cut by their length alone: what is inside, and the 0 at the end, is for who reads them. Raises BsonError, with
-    the offset, where no document can be: its length is under 5 or more than what is left. Nothing says then where a
-    next document would begin. A path, or a file that is open for text, raises TypeError at the call.
+    They are bytes where they come from a file that is open for reading bytes,
+    and read-only views without a copy where they come from a buffer.
+
+    They are cut by their length alone: what is inside, and the 0 at the end,
+    is for who reads them. Raises BsonError, with the offset, where no document
+    can be: its length is under 5 or more than what is left. Nothing says then
+    where a next document would begin. A path, or a file that is open for text,
+    raises TypeError at the call.
     """
     if isinstance(source, (str, os.PathLike)):
         raise TypeError("source is a path, not an open file: use open(path, 'rb')")
@@ -151,55 +166,66 @@ def documents(source: Union[BinaryIO, _native.Buffer]) -> Iterator[Tuple[int, An
 
 
 def decode_all(
-    source: Union[BinaryIO, _native.Buffer],
+    source: Source,
     *,
     pairs: bool = False,
     types: Optional[str] = None,
     max_bytes: int = MAX_BYTES,
     max_depth: int = MAX_DEPTH,
 ) -> List[Any]:
-    """All documents of a dump, each as `decode` gives it: of an open file, or of bytes.
+    """All documents of a dump, each as `decode` gives it.
 
-    Raises BsonError at the first document with a fault, with the offset in the dump; `documents` goes on behind one.
+    The dump is an open file, or bytes. Raises BsonError at the first document
+    with a fault, with the offset in the dump; `documents` goes on behind one.
     """
     rest = documents(source)
     return _native.decode_all(rest, pairs=pairs, types=types, max_bytes=max_bytes, max_depth=max_depth)
 
 
 def columns(
-    source: Union[BinaryIO, _native.Buffer],
+    source: Source,
     *,
     missing: Any = None,
     types: Optional[str] = None,
     max_bytes: int = MAX_BYTES,
     max_depth: int = MAX_DEPTH,
 ) -> Dict[str, List[Any]]:
-    """A dump as a table, for pandas.DataFrame and its like: by each key of the first level the list of its values, which has a
-    place for each document. Where a document lacks the key, missing is there.
+    """A dump as a table, for pandas.DataFrame and its like.
 
-    The keys come in the order in which they are first met, and the table takes memory for each key and document. Values are
-    those of `decode`, and errors those of `decode_all`.
+    By each key of the first level it has the list of its values, with a place
+    for each document. Where a document lacks the key, missing is there.
+
+    The keys come in the order in which they are first met, and the table takes
+    memory for each key and document. Values are those of `decode`, and errors
+    those of `decode_all`.
     """
     rest = documents(source)
     return _native.columns(rest, missing=missing, types=types, max_bytes=max_bytes, max_depth=max_depth)
 
 
 def canonical_all(
-    data: _native.Buffer, *, before: int = 0, max_bytes: int = MAX_BYTES, max_depth: int = MAX_DEPTH
+    data: Buffer, *, before: int = 0, max_bytes: int = MAX_BYTES, max_depth: int = MAX_DEPTH
 ) -> Forms:
-    """The canonical forms of all documents of a dump, in one call: each as `canonical` gives it.
+    """The canonical forms of all documents of a dump, in one call.
 
-    A document with a fault is left out, and the next one follows. Where data is a part of a dump, before is how many bytes
-    are before it, so that the offsets of faults are from the dump's first byte. Of a `bytes` object, or a view of one, over 64 KiB the
-    lock is let go of for the whole dump, so that threads bring several to their forms at a time.
+    Each is as `canonical` gives it. A document with a fault is left out, and
+    the next one follows. Where data is a part of a dump, before is how many
+    bytes are before it, so that the offsets of faults are from the dump's
+    first byte. Of a `bytes` object, or a view of one, over 64 KiB the lock is
+    let go of for the whole dump, so that threads bring several to their forms
+    at a time.
     """
     return Forms(*_native.canonical_all(data, before=before, max_bytes=max_bytes, max_depth=max_depth))
 
 
-def partitions(data: _native.Buffer, size: int) -> Tuple[List[int], Optional[BsonError]]:
-    """Where a dump is cut into parts of so many bytes or a little more, each of whole documents: the offset of each part, and
-    the end of the last one. Beside it the error where no document can be cut, which ends the last part, or None.
+def partitions(data: Buffer, size: int) -> Tuple[List[int], Optional[BsonError]]:
+    """Where a dump is cut into parts of so many bytes or a little more.
 
-    Only the documents' lengths are read. data[a:b] of two offsets one behind the other is a dump for `canonical_all`.
+    Each part is of whole documents. There is the offset of each, and the end
+    of the last one; beside these the error where no document can be cut, which
+    ends the last part, or None.
+
+    Only the documents' lengths are read. data[a:b] of two offsets one behind
+    the other is a dump for `canonical_all`.
     """
     return _native.partitions(data, size)

@@ -6,9 +6,21 @@ import re
 from datetime import datetime, timedelta, timezone
 from enum import IntEnum
 from functools import total_ordering
-from typing import Any, Iterator, List, Mapping, NamedTuple, Optional, Tuple, Union
+from typing import TYPE_CHECKING, Any, Iterator, List, Mapping, NamedTuple, Optional, Protocol, Tuple, Union
 
 from ._native import Pair, Raw
+
+
+class Reader(Protocol):
+    """A file that is open for reading bytes: of open, of gzip.open, of io.BytesIO."""
+
+    def read(self, size: int, /) -> bytes: ...
+
+
+if TYPE_CHECKING:
+    from ._native import Buffer
+
+    Source = Union[Reader, Buffer]
 
 
 class ElementType(IntEnum):
@@ -50,7 +62,7 @@ class ErrorKind(IntEnum):
     NO_DOCUMENT = 3
     """no document at all: too short, a length that isn't that of the bytes, or no 0 at the end"""
     REFUSED = 4
-    """more bytes or levels than were allowed, a 0 in a key, or a document of over 2147483647 bytes"""
+    """more bytes or levels than allowed, a 0 in a key, over 2147483647 bytes"""
 
 
 class Reason(IntEnum):
@@ -131,11 +143,12 @@ class BsonError(ValueError):
     kind: what kind of fault it is.
     reason: which one, or None for a text that isn't UTF-8.
     key: the key of the element at fault, or None where it has none.
-    offset: where the element at fault begins, from the first byte on (of a dump: from the dump's); None where there is no
-    such place.
-    path: for each level, from the outermost on, the number of the element, from 0; where no element could be read, how many
-    are before.
-    keys: the same path by keys, and by numbers in arrays: ".".join(error.keys) is for find.
+    offset: where the element at fault begins, from the first byte on (of a
+    dump: from the dump's); None where there is no such place.
+    path: for each level, from the outermost on, the number of the element,
+    from 0; where no element could be read, how many are before.
+    keys: the same path by keys, and by numbers in arrays: ".".join(error.keys)
+    is for find.
     """
 
     kind: ErrorKind
@@ -176,10 +189,12 @@ class BsonError(ValueError):
 
 
 class Breach(NamedTuple):
-    """The first place, in the order of the bytes, where a document isn't canonical.
+    """The first place where a document isn't canonical, in the bytes' order.
 
-    path: for each level the number of the element, from 0; for `Cause.STOP` how many elements are before.
-    keys: the same path by keys, and by numbers in arrays; a stop without a key has none for the last level.
+    path: for each level the number of the element, from 0; for `Cause.STOP`
+    how many elements are before.
+    keys: the same path by keys, and by numbers in arrays; a stop without a key
+    has none for the last level.
     offset: where the element begins.
     """
 
@@ -188,9 +203,10 @@ class Breach(NamedTuple):
     keys: Tuple[str, ...]
     offset: int
 
-    @classmethod
-    def _told(cls, cause: int, path: Tuple[int, ...], keys: Tuple[str, ...], offset: int) -> Breach:
-        return cls(Cause(cause), path, keys, offset)
+
+def breach(cause: int, path: Tuple[int, ...], keys: Tuple[str, ...], offset: int) -> Breach:
+    """What the compiled module calls."""
+    return Breach(Cause(cause), path, keys, offset)
 
 
 class Forms(NamedTuple):
@@ -198,13 +214,22 @@ class Forms(NamedTuple):
 
     data: the forms, one behind the other: a dump.
     ends: where each form ends in it.
+    starts: where the document of each form begins, from the dump's first byte
+    on.
+    own: whether each document is its own form.
+    hashes: a hash of 64 bits of each form, the same on every machine. Equal
+    forms have the same one; unequal ones hardly ever, unless they are made to.
     canonical: how many documents are their own form.
-    faults: of each document that has none its offset and its error; offsets are from the dump's first byte. The last one is
-    that where no document can be cut, if there is such a place: what follows isn't read.
+    faults: of each document that has none its offset and its error; offsets
+    are from the dump's first byte. The last one is that where no document can
+    be cut, if there is such a place: what follows isn't read.
     """
 
     data: memoryview
     ends: memoryview
+    starts: memoryview
+    own: memoryview
+    hashes: memoryview
     canonical: int
     faults: List[Tuple[int, BsonError]]
 
@@ -282,7 +307,10 @@ class ObjectId(Raw):
 
 @total_ordering
 class Timestamp(Raw):
-    """A timestamp of replication: seconds from 1970 on, and a number within the second. In order by both."""
+    """A time of replication: seconds from 1970 on, and a number within one.
+
+    In order by both.
+    """
 
     __slots__ = ()
 

@@ -212,8 +212,8 @@ int classes_add(PyObject *module) {
     raw_type = (PyTypeObject *)PyType_FromSpec(&raw_spec);
     pair_type = (PyTypeObject *)PyType_FromSpec(&pair_spec);
     classes.int64 = int64_class();
-    return add_class(module, "Raw", raw_type) < 0 || add_class(module, "Pair", pair_type) < 0 ? -1
-                                                                                                : add_class(module, "Int64", classes.int64);
+    if (add_class(module, "Raw", raw_type) < 0 || add_class(module, "Pair", pair_type) < 0) return -1;
+    return add_class(module, "Int64", classes.int64);
 }
 
 /* ---- what the package hands in ---- */
@@ -245,7 +245,7 @@ static const struct named names[] = {
     {"MinKey", &classes.min_key_type, NULL},
     {"MaxKey", &classes.max_key_type, NULL},
     {"BsonError", &classes.error, NULL},
-    {"Breach", &classes.breach, NULL},
+    {"breach", &classes.breach, NULL},
     {"convert", &classes.convert, NULL},
 };
 

@@ -248,12 +248,16 @@ static const uint8_t *utf8_of(PyObject *text, const char *name, size_t *len) {
 PyObject *py_get(PyObject *module, PyObject *const *args, Py_ssize_t count) {
     struct bsonraw_iter iter;
     const uint8_t *key;
+    int32_t status;
     size_t len;
+    const struct bytes *bytes;
     Source *source;
     (void)module;
     if (two_arguments("get", count) < 0 || (key = utf8_of(args[1], "key", &len)) == NULL) return NULL;
     if ((source = source_of(args[0])) == NULL) return NULL;
-    return found(source, bsonraw_iter_init_find(&iter, source->bytes.at, source->bytes.len, key, len), &iter);
+    bytes = &source->bytes;
+    WITHOUT_LOCK(bytes, status = bsonraw_iter_init_find(&iter, bytes->at, bytes->len, key, len));
+    return found(source, status, &iter);
 }
 
 /* The steps of a path as one text, each ended but the last by a 0, which is in no key. */
@@ -278,15 +282,15 @@ static PyObject *joined(PyObject *steps) {
 PyObject *py_find(PyObject *module, PyObject *const *args, Py_ssize_t count) {
     struct bsonraw_iter iter;
     int32_t status;
-    int is_text;
+    uint8_t separator;
     size_t len;
     PyObject *path, *result = NULL;
     const uint8_t *steps;
     Source *source;
     (void)module;
     if (two_arguments("find", count) < 0) return NULL;
-    is_text = PyUnicode_Check(args[1]);
-    path = is_text ? itself(args[1]) : joined(args[1]);
+    separator = PyUnicode_Check(args[1]) ? '.' : 0;
+    path = separator == '.' ? itself(args[1]) : joined(args[1]);
     if (path == NULL) return NULL;
     steps = utf8_of(path, "path", &len);
     source = steps == NULL ? NULL : source_of(args[0]);
@@ -294,7 +298,7 @@ PyObject *py_find(PyObject *module, PyObject *const *args, Py_ssize_t count) {
         const struct bytes *bytes = &source->bytes;
         status = bsonraw_iter_init(&iter, bytes->at, bytes->len);
         if (status == BSONRAW_OK)
-            status = bsonraw_iter_find_descendant(&iter, bytes->at, bytes->len, steps, len, is_text ? '.' : 0);
+            WITHOUT_LOCK(bytes, status = bsonraw_iter_find_descendant(&iter, bytes->at, bytes->len, steps, len, separator));
         result = found(source, status, &iter);
     }
     Py_DECREF(path);

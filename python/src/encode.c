@@ -123,12 +123,19 @@ static int put_float(struct out *out, PyObject *value) {
     return put(out, &number, 8);
 }
 
+static int put_bool(struct out *out, PyObject *value) {
+    uint8_t byte = value == Py_True;
+    return put(out, &byte, 1);
+}
+
+/* Of a datetime or a DatetimeMS. */
 static int put_time(struct out *out, PyObject *value) {
     int64_t millis;
+    if (!is_datetime(value)) return put_wide(out, value);
     return millis_of(value, &millis) < 0 ? -1 : put_i64(out, millis);
 }
 
-static int put_binary(struct out *out, PyObject *data, long subtype) {
+static int put_bytes(struct out *out, PyObject *data, long subtype) {
     struct bytes bytes;
     uint8_t byte = (uint8_t)subtype;
     size_t inner = subtype == 2 ? 4 : 0;
@@ -141,8 +148,19 @@ static int put_binary(struct out *out, PyObject *data, long subtype) {
     return status;
 }
 
+/* Of bytes or a Binary. */
+static int put_binary(struct out *out, PyObject *value) {
+    const Pair *pair = (const Pair *)value;
+    long subtype;
+    if (PyBytes_CheckExact(value)) return put_bytes(out, value, 0);
+    subtype = PyLong_AsLong(pair->second);
+    if (subtype >= 0 && subtype <= 255) return put_bytes(out, pair->first, subtype);
+    if (!PyErr_Occurred()) PyErr_SetString(PyExc_ValueError, "a subtype is from 0 to 255");
+    return -1;
+}
+
 static int put_raw(struct out *out, PyObject *value, uint8_t len) {
-    Raw *raw = (Raw *)value;
+    const Raw *raw = (const Raw *)value;
     if (raw->len != len) {
         PyErr_SetString(PyExc_ValueError, "an ObjectId, a Timestamp or a Decimal128 has the wrong length");
         return -1;
@@ -150,7 +168,13 @@ static int put_raw(struct out *out, PyObject *value, uint8_t len) {
     return put(out, raw->bytes, len);
 }
 
-static int put_pointer(struct out *out, const Pair *pair) {
+static int put_regex(struct out *out, PyObject *value) {
+    const Pair *pair = (const Pair *)value;
+    return put_cstring(out, pair->first) < 0 ? -1 : put_options(out, pair->second);
+}
+
+static int put_pointer(struct out *out, PyObject *value) {
+    const Pair *pair = (const Pair *)value;
     if (!PyUnicode_Check(pair->first) || !PyObject_TypeCheck(pair->second, classes.object_id)) {
         PyErr_SetString(PyExc_TypeError, "a DBPointer has a str and an ObjectId");
         return -1;
@@ -245,77 +269,82 @@ static int end_level(struct out *out, struct levels *levels) {
 
 /* ---- values ---- */
 
-static int put_code(struct out *out, struct levels *levels, size_t tag_at, const Pair *code) {
+/* The code's tag is that of one without a scope. */
+static int put_code(struct out *out, struct levels *levels, size_t tag_at, PyObject *value) {
+    const Pair *code = (const Pair *)value;
     size_t from = out->len;
-    if (!PyUnicode_Check(code->first) || (code->second != Py_None && !PyDict_Check(code->second) &&
-                                          !PyObject_TypeCheck(code->second, classes.pairs))) {
+    int is_dict = PyDict_Check(code->second), is_pairs = PyObject_TypeCheck(code->second, classes.pairs);
+    if (!PyUnicode_Check(code->first) || (code->second != Py_None && !is_dict && !is_pairs)) {
         PyErr_SetString(PyExc_TypeError, "a Code has a str, and for a scope a dict, Pairs or None");
         return -1;
     }
-    if (code->second == Py_None) {
-        out->at[tag_at] = BSONRAW_TAG_JAVASCRIPT;
-        return put_string(out, code->first);
-    }
+    if (code->second == Py_None) return put_string(out, code->first);
     out->at[tag_at] = BSONRAW_TAG_JAVASCRIPT_WITH_SCOPE;
     if (put_i32(out, 0) < 0 || put_string(out, code->first) < 0) return -1;
-    return push(out, levels, code->second, PyDict_Check(code->second) ? OF_DICT : OF_ITEMS, from);
+    return push(out, levels, code->second, is_dict ? OF_DICT : OF_ITEMS, from);
 }
 
-static int put_pair(struct out *out, struct levels *levels, size_t tag_at, PyObject *value) {
-    const Pair *pair = (const Pair *)value;
-    PyTypeObject *type = Py_TYPE(value);
-    if (type == classes.regex) {
-        out->at[tag_at] = BSONRAW_TAG_REGEX;
-        return put_cstring(out, pair->first) < 0 ? -1 : put_options(out, pair->second);
-    }
-    if (type == classes.binary) {
-        long subtype = PyLong_AsLong(pair->second);
-        out->at[tag_at] = BSONRAW_TAG_BINARY;
-        if (subtype < 0 || subtype > 255) {
-            if (!PyErr_Occurred()) PyErr_SetString(PyExc_ValueError, "a subtype is from 0 to 255");
-            return -1;
-        }
-        return put_binary(out, pair->first, subtype);
-    }
-    if (type == classes.code) return put_code(out, levels, tag_at, pair);
-    out->at[tag_at] = BSONRAW_TAG_DB_POINTER;
-    return put_pointer(out, pair);
+/* The tag of values of one of the package's own classes; 0 of another class. */
+static int own_tag_of(const PyTypeObject *type) {
+    if (type == classes.int64) return BSONRAW_TAG_INT64;
+    if (type == classes.object_id) return BSONRAW_TAG_OBJECT_ID;
+    if (type == classes.decimal128) return BSONRAW_TAG_DECIMAL128;
+    if (type == classes.timestamp) return BSONRAW_TAG_TIMESTAMP;
+    if (type == classes.datetime_ms) return BSONRAW_TAG_DATETIME;
+    if (type == classes.symbol) return BSONRAW_TAG_SYMBOL;
+    if (type == classes.pairs) return BSONRAW_TAG_DOCUMENT;
+    if (type == classes.binary) return BSONRAW_TAG_BINARY;
+    if (type == classes.regex) return BSONRAW_TAG_REGEX;
+    if (type == classes.code) return BSONRAW_TAG_JAVASCRIPT;
+    if (type == classes.db_pointer) return BSONRAW_TAG_DB_POINTER;
+    if (type == classes.undefined_type) return BSONRAW_TAG_UNDEFINED;
+    if (type == classes.min_key_type) return BSONRAW_TAG_MIN_KEY;
+    if (type == classes.max_key_type) return BSONRAW_TAG_MAX_KEY;
+    return 0;
 }
 
-/* Of the package's own classes: 0; 1 where the value is of another class; -1 with an error set. */
-static int put_own(struct out *out, struct levels *levels, size_t tag_at, PyObject *value) {
-    PyTypeObject *type = Py_TYPE(value);
-#define TAG(tag) (out->at[tag_at] = BSONRAW_TAG_##tag)
-    if (type == classes.int64) return TAG(INT64), put_wide(out, value);
-    if (type == classes.object_id) return TAG(OBJECT_ID), put_raw(out, value, 12);
-    if (type == classes.decimal128) return TAG(DECIMAL128), put_raw(out, value, 16);
-    if (type == classes.timestamp) return TAG(TIMESTAMP), put_raw(out, value, 8);
-    if (type == classes.datetime_ms) return TAG(DATETIME), put_wide(out, value);
-    if (type == classes.symbol) return TAG(SYMBOL), put_string(out, value);
-    if (type == classes.pairs) return TAG(DOCUMENT), push(out, levels, value, OF_ITEMS, SIZE_MAX);
-    if (type == classes.undefined_type) return TAG(UNDEFINED), 0;
-    if (type == classes.min_key_type) return TAG(MIN_KEY), 0;
-    if (type == classes.max_key_type) return TAG(MAX_KEY), 0;
-    if (type == classes.regex || type == classes.binary || type == classes.code || type == classes.db_pointer)
-        return put_pair(out, levels, tag_at, value);
-    return 1;
+/* The tag of a value, for an int that of 32 bits; 0 of a value of another class. */
+static int tag_of(PyObject *value) {
+    const PyTypeObject *type = Py_TYPE(value);
+    if (type == &PyUnicode_Type) return BSONRAW_TAG_STRING;
+    if (type == &PyLong_Type) return BSONRAW_TAG_INT32;
+    if (type == &PyFloat_Type) return BSONRAW_TAG_DOUBLE;
+    if (value == Py_None) return BSONRAW_TAG_NULL;
+    if (type == &PyBool_Type) return BSONRAW_TAG_BOOLEAN;
+    if (type == &PyDict_Type) return BSONRAW_TAG_DOCUMENT;
+    if (type == &PyList_Type || type == &PyTuple_Type) return BSONRAW_TAG_ARRAY;
+    if (is_datetime(value)) return BSONRAW_TAG_DATETIME;
+    if (type == &PyBytes_Type) return BSONRAW_TAG_BINARY;
+    return own_tag_of(type);
 }
 
+/* Writes a value of one of the classes that have a tag: 0; 1 where it is of another class; -1 with an error set. */
 static int put_known(struct out *out, struct levels *levels, size_t tag_at, PyObject *value) {
-    PyTypeObject *type = Py_TYPE(value);
-    if (type == &PyUnicode_Type) return TAG(STRING), put_string(out, value);
-    if (type == &PyLong_Type) return put_int(out, tag_at, value);
-    if (type == &PyFloat_Type) return TAG(DOUBLE), put_float(out, value);
-    if (value == Py_None) return TAG(NULL), 0;
-    if (type == &PyBool_Type) {
-        uint8_t byte = value == Py_True;
-        return TAG(BOOLEAN), put(out, &byte, 1);
+    int tag = tag_of(value);
+    out->at[tag_at] = (uint8_t)tag;
+    switch (tag) {
+    case BSONRAW_TAG_DOUBLE: return put_float(out, value);
+    case BSONRAW_TAG_STRING:
+    case BSONRAW_TAG_SYMBOL: return put_string(out, value);
+    case BSONRAW_TAG_DOCUMENT: return push(out, levels, value, PyDict_Check(value) ? OF_DICT : OF_ITEMS, SIZE_MAX);
+    case BSONRAW_TAG_ARRAY: return push(out, levels, value, OF_ARRAY, SIZE_MAX);
+    case BSONRAW_TAG_BINARY: return put_binary(out, value);
+    case BSONRAW_TAG_OBJECT_ID: return put_raw(out, value, 12);
+    case BSONRAW_TAG_BOOLEAN: return put_bool(out, value);
+    case BSONRAW_TAG_DATETIME: return put_time(out, value);
+    case BSONRAW_TAG_REGEX: return put_regex(out, value);
+    case BSONRAW_TAG_DB_POINTER: return put_pointer(out, value);
+    case BSONRAW_TAG_JAVASCRIPT: return put_code(out, levels, tag_at, value);
+    case BSONRAW_TAG_INT32: return put_int(out, tag_at, value);
+    case BSONRAW_TAG_TIMESTAMP: return put_raw(out, value, 8);
+    case BSONRAW_TAG_INT64: return put_wide(out, value);
+    case BSONRAW_TAG_DECIMAL128: return put_raw(out, value, 16);
+    case BSONRAW_TAG_UNDEFINED:
+    case BSONRAW_TAG_NULL:
+    case BSONRAW_TAG_MIN_KEY:
+    case BSONRAW_TAG_MAX_KEY: return 0;
+    default: return 1;
     }
-    if (type == &PyDict_Type) return TAG(DOCUMENT), push(out, levels, value, OF_DICT, SIZE_MAX);
-    if (type == &PyList_Type || type == &PyTuple_Type) return TAG(ARRAY), push(out, levels, value, OF_ARRAY, SIZE_MAX);
-    if (is_datetime(value)) return TAG(DATETIME), put_time(out, value);
-    if (type == &PyBytes_Type) return TAG(BINARY), put_binary(out, value, 0);
-    return put_own(out, levels, tag_at, value);
 }
 
 static int put_value(struct out *out, struct levels *levels, size_t tag_at, PyObject *value) {

@@ -33,6 +33,11 @@ static PyObject *error_new(struct fault *fault) {
     return error;
 }
 
+static void refuse(struct fault *fault, uint32_t reason) {
+    fault->kind = KIND_REFUSED;
+    fault->reason = reason;
+}
+
 static void set_error(PyObject *error) {
     if (error != NULL) PyErr_SetObject(classes.error, error);
     Py_XDECREF(error);
@@ -129,13 +134,13 @@ static void place_of(const struct bytes *bytes, const struct told *told, PyObjec
 PyObject *error_of(const struct bytes *bytes, const struct told *told) {
     const struct bsonraw_error *why = &told->report.error;
     struct fault fault = {why->kind, why->reason, NULL, NULL, NULL, NULL, why->number, why->left};
-    int has_place = 1;
+    int has_place = told->status == BSONRAW_FAULT || told->status == BSONRAW_TOO_DEEP;
     switch (told->status) {
     case BSONRAW_FAULT: break;
-    case BSONRAW_TOO_DEEP: fault.kind = KIND_REFUSED, fault.reason = TOO_DEEP; break;
-    case BSONRAW_TOO_MANY_BYTES: fault.kind = KIND_REFUSED, fault.reason = TOO_MANY_BYTES, has_place = 0; break;
-    case BSONRAW_TOO_LONG: fault.kind = KIND_REFUSED, fault.reason = TOO_LONG, has_place = 0; break;
-    case BSONRAW_NO_DOCUMENT: fault.kind = KIND_NO_DOCUMENT, has_place = 0; break;
+    case BSONRAW_TOO_DEEP: refuse(&fault, TOO_DEEP); break;
+    case BSONRAW_TOO_MANY_BYTES: refuse(&fault, TOO_MANY_BYTES); break;
+    case BSONRAW_TOO_LONG: refuse(&fault, TOO_LONG); break;
+    case BSONRAW_NO_DOCUMENT: fault.kind = KIND_NO_DOCUMENT; break;
     default: PyErr_SetString(PyExc_MemoryError, "out of memory for a document"); return NULL;
     }
     if (has_place) {

@@ -3,6 +3,12 @@
 
 #include <stdlib.h>
 
+/* A form: where its document begins and where it ends among the forms, and whether it is its own document. */
+struct form {
+    uint64_t start, end, hash;
+    uint8_t is_own;
+};
+
 /* A document that has no form. */
 struct without {
     size_t at, len;
@@ -15,8 +21,8 @@ struct forms {
     struct bsonraw_reader reader;
     uint8_t *at; /* the forms so far, one behind the other */
     size_t len, room, wanted;
-    uint64_t *ends;
-    size_t count, ends_room;
+    struct form *each;
+    size_t count, each_room;
     struct without *without;
     size_t without_count, without_room;
     size_t own; /* how many documents are their own form */
@@ -33,11 +39,34 @@ static void *one_more(void *items, size_t count, size_t *room, size_t size) {
     return items;
 }
 
-static int note_end(struct forms *all) {
-    uint64_t *ends = one_more(all->ends, all->count, &all->ends_room, sizeof *ends);
-    if (ends == NULL) return NO_MEMORY;
-    all->ends = ends;
-    ends[all->count++] = all->len;
+static uint64_t mixed(uint64_t hash, uint64_t eight) {
+    hash = (hash ^ eight) * 0x9E3779B97F4A7C15u;
+    return hash ^ hash >> 32;
+}
+
+/* A hash of bytes, the same on each machine. It keeps nobody from making bytes that share one. */
+static uint64_t hash_of(const uint8_t *at, size_t len) {
+    uint64_t hash = len, last = 0;
+    size_t done;
+    for (done = 0; len - done >= 8; done += 8) hash = mixed(hash, (uint64_t)le_i64(at + done));
+    memcpy(&last, at + done, len - done);
+    return mixed(hash, last);
+}
+
+/* Notes the form of a document, which is behind those so far. */
+static int note_form(struct forms *all, size_t start, size_t document_len, size_t len) {
+    struct form *each = one_more(all->each, all->count, &all->each_room, sizeof *each);
+    const uint8_t *at = all->at + all->len;
+    struct form form;
+    if (each == NULL) return NO_MEMORY;
+    all->each = each;
+    all->len += len;
+    form.start = all->before + start;
+    form.end = all->len;
+    form.hash = hash_of(at, len);
+    form.is_own = len == document_len && memcmp(at, all->bytes.at + start, len) == 0;
+    all->own += form.is_own;
+    each[all->count++] = form;
     return DONE;
 }
 
@@ -54,14 +83,10 @@ static int note_without(struct forms *all, size_t at, size_t len, int32_t status
 static int form_one(struct forms *all, size_t at, size_t len) {
     struct bsonraw_report report;
     uint64_t none;
-    const uint8_t *document = all->bytes.at + at;
-    int32_t status = bsonraw_canonical(document, len, all->max_bytes, all->max_depth, all->at + all->len, all->room - all->len,
-                                     &report, &none, 0);
+    int32_t status = bsonraw_canonical(all->bytes.at + at, len, all->max_bytes, all->max_depth, all->at + all->len,
+                                       all->room - all->len, &report, &none, 0);
     switch (status) {
-    case BSONRAW_OK:
-        all->own += report.count == len && memcmp(all->at + all->len, document, len) == 0;
-        all->len += (size_t)report.count;
-        return note_end(all);
+    case BSONRAW_OK: return note_form(all, at, len, (size_t)report.count);
     case BSONRAW_SMALL_BUFFER: all->wanted = (size_t)report.count; return WANTS_ROOM;
     case BSONRAW_NO_MEMORY: return NO_MEMORY;
     default: return note_without(all, at, len, status);
@@ -104,13 +129,7 @@ static PyObject *formed(struct forms *all) {
     all->room = all->bytes.len;
     while (room != NULL && outcome == WANTS_ROOM) {
         all->at = (uint8_t *)PyBytes_AsString(room);
-        if (LETS_GO(&all->bytes)) {
-            Py_BEGIN_ALLOW_THREADS
-            outcome = form_rest(all);
-            Py_END_ALLOW_THREADS
-        } else {
-            outcome = form_rest(all);
-        }
+        WITHOUT_LOCK(&all->bytes, outcome = form_rest(all));
         if (outcome == WANTS_ROOM) room = larger(all, room);
     }
     if (room != NULL && outcome == NO_MEMORY) {
@@ -161,20 +180,57 @@ static PyObject *front_of(PyObject *bytes, size_t len) {
     return front;
 }
 
-static PyObject *ends_of(const struct forms *all) {
-    PyObject *bytes = PyBytes_FromStringAndSize((const char *)all->ends, (Py_ssize_t)(all->count * sizeof *all->ends));
+/* A view of bytes as items of a format. Takes the bytes. */
+static PyObject *as_items(PyObject *bytes, const char *format) {
     PyObject *view = bytes == NULL ? NULL : PyMemoryView_FromObject(bytes);
-    PyObject *numbers = view == NULL ? NULL : PyObject_CallMethod(view, "cast", "s", "Q");
+    PyObject *items = view == NULL ? NULL : PyObject_CallMethod(view, "cast", "s", format);
     Py_XDECREF(view);
     Py_XDECREF(bytes);
-    return numbers;
+    return items;
 }
 
-/* canonical_all(data, ..): the forms, where each ends, how many documents are their own form, and the errors of the others. */
+/* One number of each form, which is at this place of its struct. */
+static PyObject *numbers_of(const struct forms *all, size_t place) {
+    PyObject *bytes = PyBytes_FromStringAndSize(NULL, (Py_ssize_t)(all->count * sizeof(uint64_t)));
+    char *at = bytes == NULL ? NULL : PyBytes_AsString(bytes);
+    size_t number;
+    for (number = 0; at != NULL && number < all->count; number++)
+        memcpy(at + number * sizeof(uint64_t), (const char *)&all->each[number] + place, sizeof(uint64_t));
+    return as_items(bytes, "Q");
+}
+
+/* Which forms are their own documents. */
+static PyObject *own_of(const struct forms *all) {
+    PyObject *bytes = PyBytes_FromStringAndSize(NULL, (Py_ssize_t)all->count);
+    char *at = bytes == NULL ? NULL : PyBytes_AsString(bytes);
+    size_t number;
+    for (number = 0; at != NULL && number < all->count; number++) at[number] = (char)all->each[number].is_own;
+    return as_items(bytes, "?");
+}
+
+static int put_part(PyObject *parts, Py_ssize_t number, PyObject *part) {
+    return part == NULL ? -1 : PyTuple_SetItem(parts, number, part);
+}
+
+/* What Forms is made of, in front of whose bytes the forms are: NULL with an error set. Takes the bytes. */
+static PyObject *parts_of(const struct forms *all, PyObject *room) {
+    PyObject *parts = room == NULL ? NULL : PyTuple_New(7);
+    if (parts != NULL && (put_part(parts, 0, front_of(room, all->len)) < 0 ||
+                          put_part(parts, 1, numbers_of(all, offsetof(struct form, end))) < 0 ||
+                          put_part(parts, 2, numbers_of(all, offsetof(struct form, start))) < 0 ||
+                          put_part(parts, 3, own_of(all)) < 0 ||
+                          put_part(parts, 4, numbers_of(all, offsetof(struct form, hash))) < 0 ||
+                          put_part(parts, 5, PyLong_FromSize_t(all->own)) < 0 || put_part(parts, 6, faults_of(all)) < 0))
+        Py_CLEAR(parts);
+    Py_XDECREF(room);
+    return parts;
+}
+
+/* canonical_all(data, ..): the parts of Forms. */
 PyObject *py_canonical_all(PyObject *module, PyObject *const *args, Py_ssize_t count, PyObject *names) {
     struct options options;
     struct forms all;
-    PyObject *room, *data, *ends, *faults, *result = NULL;
+    PyObject *parts;
     (void)module;
     if (options_read(&options, "canonical_all", OF_A_PART, args, count, names) < 0) return NULL;
     memset(&all, 0, sizeof all);
@@ -182,19 +238,11 @@ PyObject *py_canonical_all(PyObject *module, PyObject *const *args, Py_ssize_t c
     all.max_depth = options.max_depth;
     all.before = options.before;
     if (bytes_open(&all.bytes, args[0]) < 0) return NULL;
-    room = formed(&all);
-    data = front_of(room, all.len);
-    ends = data == NULL ? NULL : ends_of(&all);
-    faults = ends == NULL ? NULL : faults_of(&all);
-    if (faults != NULL) result = Py_BuildValue("OOnO", data, ends, (Py_ssize_t)all.own, faults);
-    Py_XDECREF(faults);
-    Py_XDECREF(ends);
-    Py_XDECREF(data);
-    Py_XDECREF(room);
-    free(all.ends);
+    parts = parts_of(&all, formed(&all));
+    free(all.each);
     free(all.without);
     bytes_close(&all.bytes);
-    return result;
+    return parts;
 }
 
 /* ---- where a dump is cut ---- */
@@ -250,13 +298,7 @@ PyObject *py_partitions(PyObject *module, PyObject *const *args, Py_ssize_t coun
     if (count != 2 || ((size = PyLong_AsSize_t(args[1])) == (size_t)-1 && PyErr_Occurred())) return NULL;
     if (bytes_open(&bytes, args[0]) < 0) return NULL;
     memset(&reader, 0, sizeof reader);
-    if (LETS_GO(&bytes)) {
-        Py_BEGIN_ALLOW_THREADS
-        outcome = cut_all(&cuts, &bytes, size, &reader);
-        Py_END_ALLOW_THREADS
-    } else {
-        outcome = cut_all(&cuts, &bytes, size, &reader);
-    }
+    WITHOUT_LOCK(&bytes, outcome = cut_all(&cuts, &bytes, size, &reader));
     if (outcome == NO_MEMORY) PyErr_NoMemory();
     offsets = outcome == NO_MEMORY ? NULL : offsets_of(&cuts);
     if (offsets != NULL) {

@@ -1,17 +1,6 @@
 /* The module bsonraw._native, and its calls over whole documents. */
 #include "native.h"
 
-/* One of the library's calls over a whole document, with the lock let go of where that may be. */
-#define TELL(told, bytes, call)                                                                                                \
-    do {                                                                                                                       \
-        if (LETS_GO(bytes)) {                                                                                                  \
-            Py_BEGIN_ALLOW_THREADS(told)->status = call;                                                                       \
-            Py_END_ALLOW_THREADS                                                                                               \
-        } else {                                                                                                               \
-            (told)->status = call;                                                                                             \
-        }                                                                                                                      \
-    } while (0)
-
 /* The bytes and the limits of a call. */
 struct call {
     struct bytes bytes;
@@ -37,8 +26,8 @@ static PyObject *py_check(PyObject *module, PyObject *const *args, Py_ssize_t co
     PyObject *result = NULL;
     (void)module;
     if (call_begin(&call, "check", args, count, names) < 0) return NULL;
-    TELL(told, bytes, bsonraw_check(bytes->at, bytes->len, told->max_bytes, told->max_depth, &told->report, told->path,
-                                    PATH_ROOM));
+    WITHOUT_LOCK(bytes, told->status = bsonraw_check(bytes->at, bytes->len, told->max_bytes, told->max_depth, &told->report,
+                                                     told->path, PATH_ROOM));
     if (told->status == BSONRAW_BREACH) result = breach_of(bytes, told);
     else if (told->status != BSONRAW_OK) set_error_of(bytes, told);
     else Py_INCREF(result = Py_None);
@@ -53,8 +42,8 @@ static PyObject *py_first_fault(PyObject *module, PyObject *const *args, Py_ssiz
     PyObject *result;
     (void)module;
     if (call_begin(&call, "first_fault", args, count, names) < 0) return NULL;
-    TELL(told, bytes, bsonraw_first_fault(bytes->at, bytes->len, told->max_bytes, told->max_depth, &told->report, told->path,
-                                          PATH_ROOM));
+    WITHOUT_LOCK(bytes, told->status = bsonraw_first_fault(bytes->at, bytes->len, told->max_bytes, told->max_depth,
+                                                           &told->report, told->path, PATH_ROOM));
     if (told->status != BSONRAW_OK) result = error_of(bytes, told);
     else Py_INCREF(result = Py_None);
     bytes_close(&call.bytes);
@@ -68,8 +57,8 @@ static PyObject *form_in(struct call *call, size_t room) {
     PyObject *form = PyBytes_FromStringAndSize(NULL, (Py_ssize_t)room);
     uint8_t *at = form == NULL ? NULL : (uint8_t *)PyBytes_AsString(form);
     if (at != NULL)
-        TELL(told, bytes, bsonraw_canonical(bytes->at, bytes->len, told->max_bytes, told->max_depth, at, room, &told->report,
-                                            told->path, PATH_ROOM));
+        WITHOUT_LOCK(bytes, told->status = bsonraw_canonical(bytes->at, bytes->len, told->max_bytes, told->max_depth, at, room,
+                                                             &told->report, told->path, PATH_ROOM));
     return form;
 }
 
@@ -145,9 +134,9 @@ static int write_text(struct call *call, const struct options *options, struct r
     size_t wanted = room_for(bytes->len, told->max_bytes);
     do {
         if (room->len < wanted && make_room(room, wanted) < 0) return -1;
-        TELL(told, bytes, bsonraw_json(bytes->at, bytes->len, told->max_bytes, told->max_depth, (uint32_t)options->is_canonical,
-                                       (uint32_t)options->is_indented, room->at, room->len, &told->report, told->path,
-                                       PATH_ROOM));
+        WITHOUT_LOCK(bytes, told->status = bsonraw_json(bytes->at, bytes->len, told->max_bytes, told->max_depth,
+                                                        (uint32_t)options->is_canonical, (uint32_t)options->is_indented,
+                                                        room->at, room->len, &told->report, told->path, PATH_ROOM));
         wanted = (size_t)told->report.count + 1;
     } while (told->status == BSONRAW_SMALL_BUFFER);
     if (told->status != BSONRAW_OK) set_error_of(bytes, told);

@@ -65,6 +65,18 @@ static inline void bytes_close(struct bytes *bytes) {
 /* Whether a call over these bytes lets go of the lock. */
 #define LETS_GO(bytes) ((bytes)->len > LET_GO_OVER && (bytes)->is_fixed)
 
+/* Does some work over bytes, which touches no object of Python, with the lock let go of where that may be. */
+#define WITHOUT_LOCK(bytes, work)                                                                                              \
+    do {                                                                                                                       \
+        if (LETS_GO(bytes)) {                                                                                                  \
+            Py_BEGIN_ALLOW_THREADS                                                                                             \
+            work;                                                                                                              \
+            Py_END_ALLOW_THREADS                                                                                               \
+        } else {                                                                                                               \
+            work;                                                                                                              \
+        }                                                                                                                      \
+    } while (0)
+
 /* Bytes that elements and iterators keep open. */
 typedef struct {
     PyObject_HEAD

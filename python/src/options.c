@@ -47,10 +47,16 @@ static int read_one(struct options *options, const char *name, PyObject *given) 
     if (strcmp(name, "max_bytes") == 0) return limit_of(given, name, &options->max_bytes);
     if (strcmp(name, "before") == 0) return limit_of(given, name, &options->before);
     if (strcmp(name, "max_depth") == 0) return limit_of(given, name, &options->max_depth);
-    if (strcmp(name, "missing") == 0) return options->missing = given, 0;
     if (strcmp(name, "style") == 0) return style_of(given, &options->is_canonical);
     if (strcmp(name, "indent") == 0) return indent_of(given, &options->is_indented);
-    if (strcmp(name, "pairs") == 0) return (options->is_pairs = PyObject_IsTrue(given)) < 0 ? -1 : 0;
+    if (strcmp(name, "missing") == 0) {
+        options->missing = given;
+        return 0;
+    }
+    if (strcmp(name, "pairs") == 0) {
+        options->is_pairs = PyObject_IsTrue(given);
+        return options->is_pairs < 0 ? -1 : 0;
+    }
     Py_CLEAR(options->types);
     options->types = types_of(given);
     return PyErr_Occurred() ? -1 : 0;

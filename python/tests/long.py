@@ -1,4 +1,5 @@
-"""A million calls and more, with memory and reference counts watched: what grows is a leak. Run by checks/python_long.sh.
+"""Calls with memory and reference counts watched: what grows is a leak. checks/python_long.sh makes a million of them, and
+checks/python.sh a few.
 
     python3 long.py [CALLS]
 """
@@ -72,21 +73,21 @@ def run(made: List[bytes], calls: int) -> None:
 
 
 def kept() -> List[int]:
-    """How many objects there are that count, and how often some that are shared are referred to."""
+    """How many blocks of memory and objects there are, and how often some that are shared are referred to."""
     gc.collect()
     shared = [None, True, bsonraw.ObjectId, bsonraw.Int64, bsonraw.Element, bsonraw.ElementType.STRING, bsonraw.MinKey()]
-    return [len(gc.get_objects()), *map(sys.getrefcount, shared)]
+    return [sys.getallocatedblocks(), len(gc.get_objects()), *map(sys.getrefcount, shared)]
 
 
 def main() -> int:
     made = list(all_made(77, 400))
-    run(made, CALLS // 4)
+    run(made, max(CALLS // 4, 10_000))
     before, used = kept(), resource.getrusage(resource.RUSAGE_SELF).ru_maxrss
     run(made, CALLS)
     after, more = kept(), resource.getrusage(resource.RUSAGE_SELF).ru_maxrss - used
     grown = [two - one for one, two in zip(before, after)]
-    print(f"{CALLS} calls: objects and references grew by {grown}, the peak of memory by {more} kB")
-    return 1 if max(grown) > 20 or more > 2000 else 0
+    print(f"{CALLS} calls: blocks, objects and references grew by {grown}, the peak of memory by {more} kB")
+    return 1 if grown[0] > 200 or max(grown[1:]) > 20 or more > 2000 else 0
 
 
 if __name__ == "__main__":

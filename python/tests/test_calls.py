@@ -420,8 +420,15 @@ class Threads(unittest.TestCase):
         self.assertEqual(wrong, [])
 
     def test_a_long_call_lets_others_run(self) -> None:
-        """Another thread counts on while a large document of bytes is checked."""
-        data = framed(b"".join(b"\x0a%07d\0" % number for number in range(1_500_000, 0, -1)))
+        """Another thread counts on while a large document of bytes is read."""
+        elements = b"".join(b"\x0a%07d\0" % number for number in range(1_500_000, 0, -1))
+        data = framed(elements)
+        longer = framed(elements * 4)
+        calls = (
+            lambda: bsonraw.check(data, max_bytes=1 << 30),
+            lambda: bsonraw.get(longer, "x"),
+            lambda: bsonraw.find(longer, "x.0"),
+        )
         counted = [0]
         is_on = [True]
 
@@ -432,14 +439,16 @@ class Threads(unittest.TestCase):
 
         thread = threading.Thread(target=count)
         thread.start()
+        during = []
         try:
-            before = counted[0]
-            bsonraw.check(data, max_bytes=1 << 30)
-            during = counted[0] - before
+            for call in calls:
+                before = counted[0]
+                call()
+                during.append(counted[0] - before)
         finally:
             is_on[0] = False
             thread.join()
-        self.assertGreater(during, 5)
+        self.assertGreater(min(during), 5, during)
 
 
 if __name__ == "__main__":

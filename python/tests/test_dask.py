@@ -10,10 +10,10 @@ import tempfile
 import threading
 import time
 import unittest
+from array import array
 from pathlib import Path
 from typing import Any, Dict, List
 from unittest.mock import patch
-from zlib import crc32
 
 import bsonraw
 from made import Maker, with_repeats
@@ -122,12 +122,18 @@ class Canonical(unittest.TestCase):
 
     def test_marks_that_many_forms_share(self) -> None:
         alone, tasks = self.folder / "shared", self.folder / "tasks"
-        with patch.object(dask_canonical, "hash", lambda form: crc32(form) % 20_000, create=True):
+        canonical_all = bsonraw.canonical_all
+
+        def few_hashes(data: bytes, before: int) -> bsonraw.Forms:
+            forms = canonical_all(data, before=before)
+            return forms._replace(hashes=memoryview(array("Q", (mark % 20 for mark in forms.hashes))))
+
+        with patch.object(bsonraw, "canonical_all", few_hashes):
             dask_canonical.run_alone(self.dumps, alone, partition=50_000)
-        self.compare(alone)
-        with patch.object(dask_canonical, "crc32", lambda form: len(form) % 3), patch.object(dask_canonical, "engine", Here):
-            dask_canonical.run_on(Here(), self.dumps, tasks, partition=50_000)
-        self.compare(tasks)
+            self.compare(alone)
+            with patch.object(dask_canonical, "engine", Here):
+                dask_canonical.run_on(Here(), self.dumps, tasks, partition=50_000)
+            self.compare(tasks)
 
     def test_what_is_missing_gets_a_line(self) -> None:
         script = str(EXAMPLES / "dask_canonical.py")

@@ -179,14 +179,24 @@ class Decoded(unittest.TestCase):
             self.assertEqual((error.offset, error.path, error.keys), (24 + 8, (1,), ("b",)))
 
 
+def hash_of(form: bytes) -> int:
+    """The hash of a form, plainly: eight bytes at a time, what is left of them last."""
+    found = len(form)
+    for at in range(0, len(form) // 8 * 8 + 1, 8):
+        found = (found ^ int.from_bytes(form[at : at + 8], "little")) * 0x9E3779B97F4A7C15 % (1 << 64)
+        found ^= found >> 32
+    return found
+
+
 class Forms(unittest.TestCase):
     def test_each_as_canonical_gives_it(self) -> None:
         made = [data for data in all_made(13, 6000) if len(data) > 4 and int.from_bytes(data[:4], "little") == len(data)]
         dump = b"".join(made)
-        wanted, faults, own, at = [], [], 0, 0
+        wanted, places, faults, own, at = [], [], [], 0, 0
         for data in made:
             try:
                 wanted.append(bsonraw.canonical(data))
+                places.append((at, wanted[-1] == data))
                 own += wanted[-1] == data
             except BsonError as error:
                 faults.append((at, error))
@@ -195,6 +205,9 @@ class Forms(unittest.TestCase):
             forms = bsonraw.canonical_all(source, before=before)
             self.assertEqual(list(map(bytes, forms.each())), wanted)
             self.assertEqual((bytes(forms.data), forms.canonical), (b"".join(wanted), own))
+            self.assertEqual(list(zip(forms.starts, forms.own)), [(before + at, is_own) for at, is_own in places])
+            self.assertEqual(list(forms.hashes), list(map(hash_of, wanted)))
+            self.assertEqual(len(set(forms.hashes)), len(set(wanted)))
             self.assertTrue(forms.data.readonly)
             self.assertEqual([offset for offset, _ in forms.faults], [before + offset for offset, _ in faults])
             for (_, one), (offset, two) in zip(forms.faults, faults):
