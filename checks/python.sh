@@ -107,7 +107,7 @@ if [ "$failed" = 1 ]; then
     exit 1
 fi
 echo "python: $(sed -n 's/^Ran \([0-9]* tests\) in .*/\1/p' "$work/said") by $("$python" --version)"
-if ! PYTHONPATH="$work/package:python/tests" "$python" python/tests/long.py 20000 >"$work/said" 2>&1; then
+if ! PYTHONPATH="$work/package:python/tests" "$python" python/tests/long.py 100000 >"$work/said" 2>&1; then
     cat "$work/said" >&2
     echo "python: something grows with the number of calls" >&2
     exit 1

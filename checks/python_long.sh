@@ -38,7 +38,7 @@ if [ -f "$asan" ] && CC=clang LDSHARED="clang -shared" BSONRAW_CFLAGS="-fsanitiz
     LD_PRELOAD=$asan ASAN_OPTIONS=detect_leaks=0 PYTHONMALLOC=malloc PYTHONPATH=$work/asan:python/tests \
         "$python" -W ignore -m unittest $tests >"$work/said" 2>&1 || { cat "$work/said" >&2 && failed=1; }
     LD_PRELOAD=$asan ASAN_OPTIONS=detect_leaks=0 PYTHONMALLOC=malloc PYTHONPATH=$work/asan:python/tests \
-        "$python" python/tests/long.py 20000 >"$work/said" 2>&1
+        "$python" python/tests/long.py 100000 >"$work/said" 2>&1
     grep -A30 'ERROR: AddressSanitizer' "$work/said" >&2 && failed=1
     [ "$failed" = 1 ] || echo "python_long: nothing was found by AddressSanitizer"
 else
@@ -52,7 +52,7 @@ for other in "$@"; do
         built "$other" "$package" || exit 1
     fi
     if PYTHONPATH=$package:python/tests:examples "$other" -W ignore -m unittest discover -s python/tests >"$work/said" 2>&1 &&
-        PYTHONPATH=$package:python/tests "$other" python/tests/long.py 20000 >>"$work/said" 2>&1; then
+        PYTHONPATH=$package:python/tests "$other" python/tests/long.py 100000 >>"$work/said" 2>&1; then
         echo "python_long: $(sed -n 's/^Ran \([0-9]* tests\) in .*/\1/p' "$work/said") by $("$other" --version)"
     else
         cat "$work/said" >&2 && failed=1

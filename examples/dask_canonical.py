@@ -426,6 +426,24 @@ def engine() -> Any:
     return distributed
 
 
+def joined(buckets: Iterable[Repeats]) -> Repeats:
+    """The repeated forms of a partition in all buckets."""
+    found = list(buckets)
+    return Repeats(array("Q", chain.from_iterable(one.numbers for one in found)), sum(one.size for one in found))
+
+
+def writes_of(
+    parts: Sequence[Part], counts: Sequence[Count], repeats: Sequence[Repeats], folder: Path
+) -> List[Tuple[Part, Count, "array[int]", str, int]]:
+    """What each partition writes to the result: the dumps in turns, since two workers can't write to one file at a time."""
+    places: Dict[Dump, int] = Counter()
+    writes = []
+    for part, count, repeated in zip(parts, counts, repeats):
+        writes.append((part, count, repeated.numbers, str(folder / part.dump.name), places[part.dump]))
+        places[part.dump] += count.size - repeated.size
+    return sorted(writes, key=lambda write: write[0].start)
+
+
 def run_on(client: Any, dumps: Sequence[Dump], folder: Path, partition: int = PARTITION) -> Report:
     """On the workers of a Dask client."""
     work = prepare(dumps, folder)
@@ -440,23 +458,17 @@ def run_on(client: Any, dumps: Sequence[Dump], folder: Path, partition: int = PA
     progress = Progress("partitions", len(parts))
     for _ in engine().as_completed(tasks):
         progress.add(1)
-    counts: List[Count] = client.gather(tasks)
-    tasks = [client.submit(find_repeats, parts, counts, bucket, pure=False) for bucket in range(BUCKETS)]
-    repeats: List[Tuple[Repeats, ...]] = list(zip(*client.gather(tasks)))
-
-    places = dict.fromkeys(dumps, 0)
-    writes = []
+    counts = client.gather(tasks)
+    found = client.gather([client.submit(find_repeats, parts, counts, bucket, pure=False) for bucket in range(BUCKETS)])
+    repeats = [joined(buckets) for buckets in zip(*found)]
     for dump in dumps:
         open(work / "result" / dump.name, "wb").close()
-    for part, count, found in zip(parts, counts, repeats):
-        numbers = array("Q", chain.from_iterable(bucket.numbers for bucket in found))
-        writes.append((part, count, numbers, str(work / "result" / part.dump.name), places[part.dump]))
-        places[part.dump] += count.size - sum(bucket.size for bucket in found)
-        report.add(part.dump, count.documents, count.canonical, count.faults)
-        report.repeated += len(numbers)
-    writes.sort(key=lambda write: write[0].start)  # the dumps in turns, since two workers can't write to one file at a time
+    writes = writes_of(parts, counts, repeats, work / "result")
     client.gather([client.submit(keep, *write, pure=False) for write in writes])
 
+    for part, count, repeated in zip(parts, counts, repeats):
+        report.add(part.dump, count.documents, count.canonical, count.faults)
+        report.repeated += len(repeated.numbers)
     for dump, (_, last) in zip(dumps, cuts):
         report.add(dump, 0, 0, [last] if last else [])
     order = {dump.name: number for number, dump in enumerate(dumps)}
