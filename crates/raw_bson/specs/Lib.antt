@@ -8,7 +8,6 @@ pub mod EachItem
 pub mod Fills
 pub mod Lending
 pub mod Owned
-pub mod OwnedAccessors
 pub mod Rows
 -- what the crates below say, for whoever lists this crate alone
 pub use Rattle.bson_model.specs.Bytes
@@ -28,7 +27,6 @@ pub use Rattle.raw_tree.specs.Payload
 pub use Rattle.raw_tree.specs.Reading
 pub use Rattle.raw_tree.specs.WithinLimits
 pub use Rattle.raw_view.specs.Access
-pub use Rattle.raw_view.specs.Accessors
 pub use Rattle.raw_view.specs.Answers
 pub use Rattle.raw_view.specs.Document
 pub use Rattle.raw_view.specs.ElementLookUp

@@ -1,7 +1,3 @@
-ghost use Rattle.std.specs.Prelude.{◌≡◌, option_copied, option_map};
-ghost use Rattle.raw_view.specs.Document.{bytes_of};
-ghost use Rattle.raw_view.specs.Value.{array_bytes_of};
-
 use crate::bson::{RawBson, binary_ref, pointer_ref, regex_ref};
 use bson_model::{DateTime, DoubleBits, ObjectId, Timestamp};
 use raw_view::{
@@ -11,15 +7,12 @@ use raw_view::{
 
 impl RawBson {
     ghost use Rattle.raw_bson.specs.Owned.{owned_value};
-    ghost use Rattle.raw_bson.specs.OwnedAccessors as accessors;
     ghost use Rattle.raw_view.specs.Access.{Shows};
     ghost use Rattle.raw_view.specs.Typed as typed;
     ghost use Rattle.raw_view.specs.declared.element_type.ElementType.TheVariants as variants;
-    ghost use Rattle.raw_bson.specs.OwnedAccessors.{binary_parts, regex_parts, pointer_parts, scope_parts};
 
     /// The value of this kind: the double; `None` for every other kind.
     pub fn as_f64(&self) -> Option<DoubleBits>
-        ensures part { result ≡ accessors.as_f64 self.now }
         ensures meaning { Shows typed.f64_value variants.Double (owned_value self.now) result }
     {
         match self {
@@ -33,7 +26,6 @@ impl RawBson {
     /// assert_eq!(rt; RawBson::from_str(alloc, "Ada")?.as_str(), Some("Ada"));
     /// ```
     pub fn as_str(&self) -> Option<&str>
-        ensures part { option_copied result ≡ accessors.as_str self.now }
         ensures meaning { Shows typed.str_value variants.String (owned_value self.now) result }
     {
         match self {
@@ -44,7 +36,6 @@ impl RawBson {
 
     /// The value of this kind: the array; `None` for every other kind.
     pub fn as_array(&self) -> Option<RawArray<'_>>
-        ensures part { option_map array_bytes_of result ≡ accessors.as_array self.now }
         ensures meaning { Shows typed.array_value variants.Array (owned_value self.now) result }
     {
         match self {
@@ -55,7 +46,6 @@ impl RawBson {
 
     /// The value of this kind: the nested document; `None` for every other kind.
     pub fn as_document(&self) -> Option<RawDocument<'_>>
-        ensures part { option_map bytes_of result ≡ accessors.as_document self.now }
         ensures meaning { Shows typed.document_value variants.EmbeddedDocument (owned_value self.now) result }
     {
         match self {
@@ -66,7 +56,6 @@ impl RawBson {
 
     /// The value of this kind: the boolean; `None` for every other kind.
     pub fn as_bool(&self) -> Option<bool>
-        ensures part { result ≡ accessors.as_bool self.now }
         ensures meaning { Shows typed.bool_value variants.Boolean (owned_value self.now) result }
     {
         match self {
@@ -81,7 +70,6 @@ impl RawBson {
     /// assert_eq!(rt; RawBson::Null.as_i32(), None);
     /// ```
     pub fn as_i32(&self) -> Option<i32>
-        ensures part { result ≡ accessors.as_i32 self.now }
         ensures meaning { Shows typed.i32_value variants.Int32 (owned_value self.now) result }
     {
         match self {
@@ -92,7 +80,6 @@ impl RawBson {
 
     /// The value of this kind: the number; `None` for every other kind.
     pub fn as_i64(&self) -> Option<i64>
-        ensures part { result ≡ accessors.as_i64 self.now }
         ensures meaning { Shows typed.i64_value variants.Int64 (owned_value self.now) result }
     {
         match self {
@@ -103,7 +90,6 @@ impl RawBson {
 
     /// The value of this kind: the identifier; `None` for every other kind.
     pub fn as_object_id(&self) -> Option<ObjectId>
-        ensures part { result ≡ accessors.as_object_id self.now }
         ensures meaning { Shows typed.object_id_value variants.ObjectId (owned_value self.now) result }
     {
         match self {
@@ -114,7 +100,6 @@ impl RawBson {
 
     /// The value of this kind: the bytes and their subtype; `None` for every other kind.
     pub fn as_binary(&self) -> Option<RawBinaryRef<'_>>
-        ensures part { option_map binary_parts result ≡ accessors.as_binary self.now }
         ensures meaning { Shows typed.binary_value variants.Binary (owned_value self.now) result }
     {
         match self {
@@ -125,7 +110,6 @@ impl RawBson {
 
     /// The value of this kind: the pattern and the options; `None` for every other kind.
     pub fn as_regex(&self) -> Option<RawRegexRef<'_>>
-        ensures part { option_map regex_parts result ≡ accessors.as_regex self.now }
         ensures meaning { Shows typed.regex_value variants.RegularExpression (owned_value self.now) result }
     {
         match self {
@@ -136,7 +120,6 @@ impl RawBson {
 
     /// The value of this kind: the time; `None` for every other kind.
     pub fn as_datetime(&self) -> Option<DateTime>
-        ensures part { result ≡ accessors.as_datetime self.now }
         ensures meaning { Shows typed.datetime_value variants.DateTime (owned_value self.now) result }
     {
         match self {
@@ -147,7 +130,6 @@ impl RawBson {
 
     /// The value of this kind: the symbol's text; `None` for every other kind.
     pub fn as_symbol(&self) -> Option<&str>
-        ensures part { option_copied result ≡ accessors.as_symbol self.now }
         ensures meaning { Shows typed.symbol_value variants.Symbol (owned_value self.now) result }
     {
         match self {
@@ -158,7 +140,6 @@ impl RawBson {
 
     /// The value of this kind: the timestamp; `None` for every other kind.
     pub fn as_timestamp(&self) -> Option<Timestamp>
-        ensures part { result ≡ accessors.as_timestamp self.now }
         ensures meaning { Shows typed.timestamp_value variants.Timestamp (owned_value self.now) result }
     {
         match self {
@@ -169,7 +150,6 @@ impl RawBson {
 
     /// `Some` exactly for null.
     pub fn as_null(&self) -> Option<()>
-        ensures part { result ≡ accessors.as_null self.now }
         ensures meaning { Shows typed.null_value variants.Null (owned_value self.now) result }
     {
         match self {
@@ -180,7 +160,6 @@ impl RawBson {
 
     /// The value of this kind: the pointer; `None` for every other kind.
     pub fn as_db_pointer(&self) -> Option<RawDbPointerRef<'_>>
-        ensures part { option_map pointer_parts result ≡ accessors.as_db_pointer self.now }
         ensures meaning { Shows typed.db_pointer_value variants.DbPointer (owned_value self.now) result }
     {
         match self {
@@ -191,7 +170,6 @@ impl RawBson {
 
     /// The value of this kind: the code; `None` for every other kind.
     pub fn as_javascript(&self) -> Option<&str>
-        ensures part { option_copied result ≡ accessors.as_javascript self.now }
         ensures meaning { Shows typed.javascript_value variants.JavaScriptCode (owned_value self.now) result }
     {
         match self {
@@ -202,7 +180,6 @@ impl RawBson {
 
     /// The value of this kind: the code and its scope; `None` for every other kind.
     pub fn as_javascript_with_scope(&self) -> Option<RawJavaScriptCodeWithScopeRef<'_>>
-        ensures part { option_map scope_parts result ≡ accessors.as_javascript_with_scope self.now }
         ensures meaning { Shows typed.javascript_with_scope_value variants.JavaScriptCodeWithScope (owned_value self.now) result }
     {
         match self {

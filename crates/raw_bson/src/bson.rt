@@ -1,13 +1,12 @@
 ghost use Rattle.std.specs.Prelude.{◌≡◌, IfOk, IfErr};
 ghost use Rattle.std.specs.String.{string_bytes};
-ghost use Rattle.raw_bson.specs.OwnedAccessors.{binary_parts, regex_parts, pointer_parts, scope_parts};
 ghost use Rattle.std.specs.Borrow.{sem};
 ghost use Rattle.raw_bson.specs.Lending.{HoldsArray, HoldsDocument, LendsArray, LendsDocument};
 ghost use Rattle.raw_view.specs.Meaning.{single};
 ghost use Rattle.bson_model.specs.Leaf.{string};
 ghost use Rattle.raw_view.specs.Document.{bytes_of};
 ghost use Rattle.raw_view.specs.Errors.{IsOutOfMemory};
-ghost use Rattle.raw_view.specs.Value.{value_of, array_bytes_of};
+ghost use Rattle.raw_view.specs.Value.{value_of, namespace_of, id_of};
 ghost use Rattle.bson_model.specs.Scalars.{bytes_of_object_id};
 
 use crate::array_buf::RawArrayBuf;
@@ -88,7 +87,8 @@ pub struct RawJavaScriptCodeWithScope {
 impl RawJavaScriptCodeWithScope {
     /// A view of the code and its scope.
     pub(crate) fn as_ref(&self) -> RawJavaScriptCodeWithScopeRef<'_>
-        ensures { scope_parts result ≡ (string_bytes self.now.code, self.now.scope) }
+        ensures code { result.code.now ≡ string_bytes self.now.code }
+        ensures scope { bytes_of result.scope ≡ self.now.scope }
     {
         RawJavaScriptCodeWithScopeRef {
             code: self.code.as_str(),
@@ -178,7 +178,8 @@ impl Clone for RawBson {
 }
 
 pub(crate) fn binary_ref(binary: &Binary) -> RawBinaryRef<'_>
-    ensures { binary_parts result ≡ (binary.now.subtype, binary.now.bytes.items) }
+    ensures subtype { result.subtype ≡ binary.now.subtype }
+    ensures bytes { result.bytes.now ≡ binary.now.bytes.items }
 {
     RawBinaryRef {
         subtype: binary.subtype,
@@ -187,8 +188,8 @@ pub(crate) fn binary_ref(binary: &Binary) -> RawBinaryRef<'_>
 }
 
 pub(crate) fn regex_ref(regex: &Regex) -> RawRegexRef<'_>
-    ensures { regex_parts result
-        ≡ (string_bytes regex.now.pattern, string_bytes regex.now.options) }
+    ensures pattern { result.pattern.now ≡ string_bytes regex.now.pattern }
+    ensures options { result.options.now ≡ string_bytes regex.now.options }
 {
     RawRegexRef {
         pattern: regex.pattern.as_str(),
@@ -197,8 +198,8 @@ pub(crate) fn regex_ref(regex: &Regex) -> RawRegexRef<'_>
 }
 
 pub(crate) fn pointer_ref(pointer: &DbPointer) -> RawDbPointerRef<'_>
-    ensures { pointer_parts result
-        ≡ (string_bytes pointer.now.namespace, bytes_of_object_id pointer.now.id) }
+    ensures namespace { namespace_of result ≡ string_bytes pointer.now.namespace }
+    ensures id { id_of result ≡ bytes_of_object_id pointer.now.id }
 {
     RawDbPointerRef::new(pointer.namespace.as_str(), pointer.id)
 }

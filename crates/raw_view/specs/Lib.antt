@@ -7,7 +7,6 @@ pub mod Meaning
 pub mod Errors
 pub mod Document
 pub mod Value
-pub mod Accessors
 pub mod Item
 pub mod LookUp
 pub mod Answers

@@ -1,5 +1,3 @@
-ghost use Rattle.std.specs.Prelude.{◌≡◌};
-
 use crate::array::RawArray;
 use crate::bson_ref::{
     RawBinaryRef, RawBsonRef, RawDbPointerRef, RawJavaScriptCodeWithScopeRef, RawRegexRef,
@@ -9,14 +7,12 @@ use bson_model::{DateTime, DoubleBits, ObjectId, Timestamp};
 
 impl<'a> RawBsonRef<'a> {
     ghost use Rattle.raw_view.specs.Access.{Shows};
-    ghost use Rattle.raw_view.specs.Accessors as accessors;
     ghost use Rattle.raw_view.specs.Typed as typed;
     ghost use Rattle.raw_view.specs.Value.{value_of};
     ghost use Rattle.raw_view.specs.declared.element_type.ElementType.TheVariants as variants;
 
     /// The value of this kind: the double; `None` for every other kind.
     pub fn as_f64(self) -> Option<DoubleBits>
-        ensures part { result ≡ accessors.as_f64 self.entry }
         ensures meaning { Shows typed.f64_value variants.Double (value_of self.entry) result }
     {
         match self {
@@ -30,7 +26,6 @@ impl<'a> RawBsonRef<'a> {
     /// assert_eq!(rt; RawBsonRef::String("Ada").as_str(), Some("Ada"));
     /// ```
     pub fn as_str(self) -> Option<&'a str>
-        ensures part { result ≡ accessors.as_str self.entry }
         ensures meaning { Shows typed.str_value variants.String (value_of self.entry) result }
     {
         match self {
@@ -41,7 +36,6 @@ impl<'a> RawBsonRef<'a> {
 
     /// The value of this kind: the array; `None` for every other kind.
     pub fn as_array(self) -> Option<RawArray<'a>>
-        ensures part { result ≡ accessors.as_array self.entry }
         ensures meaning { Shows typed.array_value variants.Array (value_of self.entry) result }
     {
         match self {
@@ -52,7 +46,6 @@ impl<'a> RawBsonRef<'a> {
 
     /// The value of this kind: the nested document; `None` for every other kind.
     pub fn as_document(self) -> Option<RawDocument<'a>>
-        ensures part { result ≡ accessors.as_document self.entry }
         ensures meaning { Shows typed.document_value variants.EmbeddedDocument (value_of self.entry) result }
     {
         match self {
@@ -63,7 +56,6 @@ impl<'a> RawBsonRef<'a> {
 
     /// The value of this kind: the boolean; `None` for every other kind.
     pub fn as_bool(self) -> Option<bool>
-        ensures part { result ≡ accessors.as_bool self.entry }
         ensures meaning { Shows typed.bool_value variants.Boolean (value_of self.entry) result }
     {
         match self {
@@ -78,7 +70,6 @@ impl<'a> RawBsonRef<'a> {
     /// assert_eq!(rt; RawBsonRef::Null.as_i32(), None);
     /// ```
     pub fn as_i32(self) -> Option<i32>
-        ensures part { result ≡ accessors.as_i32 self.entry }
         ensures meaning { Shows typed.i32_value variants.Int32 (value_of self.entry) result }
     {
         match self {
@@ -89,7 +80,6 @@ impl<'a> RawBsonRef<'a> {
 
     /// The value of this kind: the number; `None` for every other kind.
     pub fn as_i64(self) -> Option<i64>
-        ensures part { result ≡ accessors.as_i64 self.entry }
         ensures meaning { Shows typed.i64_value variants.Int64 (value_of self.entry) result }
     {
         match self {
@@ -100,7 +90,6 @@ impl<'a> RawBsonRef<'a> {
 
     /// The value of this kind: the identifier; `None` for every other kind.
     pub fn as_object_id(self) -> Option<ObjectId>
-        ensures part { result ≡ accessors.as_object_id self.entry }
         ensures meaning { Shows typed.object_id_value variants.ObjectId (value_of self.entry) result }
     {
         match self {
@@ -111,7 +100,6 @@ impl<'a> RawBsonRef<'a> {
 
     /// The value of this kind: the bytes and their subtype; `None` for every other kind.
     pub fn as_binary(self) -> Option<RawBinaryRef<'a>>
-        ensures part { result ≡ accessors.as_binary self.entry }
         ensures meaning { Shows typed.binary_value variants.Binary (value_of self.entry) result }
     {
         match self {
@@ -122,7 +110,6 @@ impl<'a> RawBsonRef<'a> {
 
     /// The value of this kind: the regular expression; `None` for every other kind.
     pub fn as_regex(self) -> Option<RawRegexRef<'a>>
-        ensures part { result ≡ accessors.as_regex self.entry }
         ensures meaning { Shows typed.regex_value variants.RegularExpression (value_of self.entry) result }
     {
         match self {
@@ -133,7 +120,6 @@ impl<'a> RawBsonRef<'a> {
 
     /// The value of this kind: the time; `None` for every other kind.
     pub fn as_datetime(self) -> Option<DateTime>
-        ensures part { result ≡ accessors.as_datetime self.entry }
         ensures meaning { Shows typed.datetime_value variants.DateTime (value_of self.entry) result }
     {
         match self {
@@ -144,7 +130,6 @@ impl<'a> RawBsonRef<'a> {
 
     /// The value of this kind: the symbol's text; `None` for every other kind.
     pub fn as_symbol(self) -> Option<&'a str>
-        ensures part { result ≡ accessors.as_symbol self.entry }
         ensures meaning { Shows typed.symbol_value variants.Symbol (value_of self.entry) result }
     {
         match self {
@@ -155,7 +140,6 @@ impl<'a> RawBsonRef<'a> {
 
     /// The value of this kind: the timestamp; `None` for every other kind.
     pub fn as_timestamp(self) -> Option<Timestamp>
-        ensures part { result ≡ accessors.as_timestamp self.entry }
         ensures meaning { Shows typed.timestamp_value variants.Timestamp (value_of self.entry) result }
     {
         match self {
@@ -166,7 +150,6 @@ impl<'a> RawBsonRef<'a> {
 
     /// `Some` exactly for null.
     pub fn as_null(self) -> Option<()>
-        ensures part { result ≡ accessors.as_null self.entry }
         ensures meaning { Shows typed.null_value variants.Null (value_of self.entry) result }
     {
         match self {
@@ -177,7 +160,6 @@ impl<'a> RawBsonRef<'a> {
 
     /// The value of this kind: the pointer; `None` for every other kind.
     pub fn as_db_pointer(self) -> Option<RawDbPointerRef<'a>>
-        ensures part { result ≡ accessors.as_db_pointer self.entry }
         ensures meaning { Shows typed.db_pointer_value variants.DbPointer (value_of self.entry) result }
     {
         match self {
@@ -188,7 +170,6 @@ impl<'a> RawBsonRef<'a> {
 
     /// The value of this kind: the code; `None` for every other kind.
     pub fn as_javascript(self) -> Option<&'a str>
-        ensures part { result ≡ accessors.as_javascript self.entry }
         ensures meaning { Shows typed.javascript_value variants.JavaScriptCode (value_of self.entry) result }
     {
         match self {
@@ -199,7 +180,6 @@ impl<'a> RawBsonRef<'a> {
 
     /// The value of this kind: the code and its scope; `None` for every other kind.
     pub fn as_javascript_with_scope(self) -> Option<RawJavaScriptCodeWithScopeRef<'a>>
-        ensures part { result ≡ accessors.as_javascript_with_scope self.entry }
         ensures meaning { Shows typed.javascript_with_scope_value variants.JavaScriptCodeWithScope (value_of self.entry) result }
     {
         match self {
