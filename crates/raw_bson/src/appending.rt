@@ -9,7 +9,7 @@ ghost use Rattle.raw_view.specs.Frame.{IsShortScope};
 ghost use Rattle.raw_view.specs.Number.{max_length};
 ghost use Rattle.raw_view.specs.Value.{value_of};
 
-use crate::laws::{attest_element, attest_view};
+use crate::laws::attest_view;
 use raw_tree::{
     is_nul_free, is_value_nul_free, payload_len, put_element, put_raw_element, set_len, total_len,
 };
@@ -95,7 +95,6 @@ pub(crate) fn append_raw_element(bytes: &mut Vec<u8>, element: RawElement<'_>) -
         .len()
         .saturating_add(element.key().len() + 2);
     make_room(bytes, len)?;
-    attest_element(element);
     put_raw_at_end(bytes, element);
     set_len(bytes, 0);
     Ok(())

@@ -12,6 +12,8 @@ pub use Rattle.raw_view.proofs.Meanings.{has_meaning}
 pub use Rattle.raw_view.proofs.Unique.{one_frame, one_stop, one_walk, the_walk, no_frame_at_stop, no_frame_at_final, no_stop_at_final}
 pub use Rattle.raw_view.proofs.UniqueItems.{the_items}
 pub use Rattle.raw_view.proofs.UniqueMeanings.{one_meaning}
+-- an element is one before any bytes
+pub use Rattle.raw_view.proofs.Standing.{stands_anywhere}
 -- documents, and bytes that begin with their own length
 pub use Rattle.raw_view.proofs.Payloads.{counted_whole, document_framed}
 -- what is written by the format

@@ -3,6 +3,7 @@ use Rattle.bson_model.specs.Bytes.{AreBytes}
 use Rattle.bson_model.proofs.Face.{AreBytes-from_elements}
 use Rattle.raw_view.specs.ElementSteps.{frame_of}
 use Rattle.raw_view.specs.Envelope.{IsEnvelope}
+use Rattle.raw_view.proofs.Face.{stands_anywhere}
 use Rattle.raw_bson.specs.Append.{frame_bytes, appended_bytes, HasRoom}
 use Rattle.raw_bson.proofs.Appended.{written_is_appended, written_len}
 use Rattle.raw_bson.proofs.KeptWalks.{length-appended_bytes, appended_is_envelope, keeps_walk}
@@ -26,7 +27,9 @@ has_room c =
     omega (arith, length-appended_bytes c.args.bytes.now.items (frame_of c.args.element) c.requires.enough, fits, ap length c.payload.ensures, ap length c.key.ensures, c.saturating_add-len.ensures)
 
 pub returns-clause-walk : goal.returns-clause-walk
-returns-clause-walk c = λ long. rw (written c) (keeps_walk c.args.bytes.now.items (frame_of c.args.element) c.requires (c.attest_element.ensures long))
+returns-clause-walk c = λ long.
+    let stands = stands_anywhere (frame_of c.args.element) c.args.element.named (rw c.key.ensures at c.key.utf8) c.args.element.framed long in
+    rw (written c) (keeps_walk c.args.bytes.now.items (frame_of c.args.element) c.requires stands)
 
 pub returns-clause-envelope : goal.returns-clause-envelope
 returns-clause-envelope c =
