@@ -85,18 +85,18 @@ module _ {X : Type 0} (Tells : Result X Error → Item → Type 0) where
   told_first : (r : List ℕ) (rest : List Frame) (end : End) (more : List Item) (out : Result X Error) (new : Option (List ℕ))
       → StepsItems Tells (Some r) (Some out) new → IsWalk r rest end → ItemsOf rest end more
       → (item : Item) × (after : List Item) × (more ≡ item ∷ after) × Tells out item
-  told_first r [] end more out new (inl g) w i = absurd (no_frame_at_end r end g.0 g.1 w g.3)
-  told_first r [] Done more out new (inr g) w i = absurd (no_stop_at_final r g.0.fault g.0.key w g.1)
+  told_first r [] end more out new (inl g) w i = absurd (no_frame_at_end r end g.frame g.rest w g.in_front)
+  told_first r [] Done more out new (inr g) w i = absurd (no_stop_at_final r g.fault.fault g.fault.key w g.stops)
   told_first r [] (Stopped fault key) more out new (inr g) w i =
-      let same = one_stop r g.0.fault fault g.0.key key g.1 w in
-      let this : g.0 ≡ record { fault = fault; key = key } = λ j. record { fault = same.0 j; key = same.1 j } in
-      (stopped (record { fault = fault; key = key }), [], i, subst (λ (x : KeyedFault). Tells out (stopped x)) this g.2)
+      let same = one_stop r g.fault.fault fault g.fault.key key g.stops w in
+      let this : g.fault ≡ record { fault = fault; key = key } = λ j. record { fault = same.0 j; key = same.1 j } in
+      (stopped (record { fault = fault; key = key }), [], i, subst (λ (x : KeyedFault). Tells out (stopped x)) this g.told)
   told_first r (f ∷ rest) end more out new (inl g) w i =
-      let same = one_frame r g.0 f g.1 w.0 g.3 w.1 in
-      let means : Means f g.2 = subst (λ (x : Frame). Means x g.2) same.0 g.4 in
-      let told : Tells out (entry f.key g.2) = subst (λ (x : Frame). Tells out (entry x.key g.2)) same.0 g.5 in
-      (entry f.key i.0, i.1, i.3, subst (λ (m : Meaning). Tells out (entry f.key m)) (one_meaning f g.2 i.0 means i.2) told)
-  told_first r (f ∷ rest) end more out new (inr g) w i = absurd (no_frame_at_stop r g.0.fault g.0.key g.1 f w.0 w.1)
+      let same = one_frame r g.frame f g.rest w.0 g.in_front w.1 in
+      let means : Means f g.meaning = subst (λ (x : Frame). Means x g.meaning) same.0 g.means in
+      let told : Tells out (entry f.key g.meaning) = subst (λ (x : Frame). Tells out (entry x.key g.meaning)) same.0 g.told in
+      (entry f.key i.0, i.1, i.3, subst (λ (m : Meaning). Tells out (entry f.key m)) (one_meaning f g.meaning i.0 means i.2) told)
+  told_first r (f ∷ rest) end more out new (inr g) w i = absurd (no_frame_at_stop r g.fault.fault g.fault.key g.stops f w.0 w.1)
 
   -- behind the items that were read is, in every list of items, the one that a step tells
   pub HasReadItems-next : (b : List ℕ) (items : List Item) (old new : Option (List ℕ)) (out : Result X Error) (all : List Item)

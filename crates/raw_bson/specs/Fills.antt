@@ -25,14 +25,28 @@ module _ {X A : Type 0} (Takes : X → A → Result (Unit {0}) Error → X → T
   TakesEach b [] left = left ≡ b
   TakesEach b (x ∷ xs) left = (mid : X) × Takes b x (Ok tt) mid × TakesEach mid xs left
 
+  -- the iterator gives these items and then none, and the buffer `empty` takes each
+  pub record TakesAll {S : Type 0} (empty : X) (next_gives : S → Option A → S → Type 0) (s : S) (full : X) : Type 0 where
+    pub items : List A
+    pub given : Drains next_gives s items
+    pub taken : TakesEach empty items full
+
+  -- the iterator gives items that the buffer `empty` takes, and then one that fails with this error
+  pub record FailsAtOne {S : Type 0} (empty : X) (next_gives : S → Option A → S → Type 0) (s : S) (e : Error) : Type 0 where
+    pub items : List A
+    pub last : A
+    pub after : S
+    pub left : X
+    pub given : Yields next_gives s (items ++ last ∷ []) after
+    pub taken : TakesEach empty items left
+    pub failed : Takes left last (Err e) left
+
   -- What filling the buffer `empty` from an iterator returns, where next_gives says what its calls give: all
   -- items taken in order; or the error of the first one that fails, or out of memory for the empty
   -- buffer.
   abbrev pub Fills : {S : Type 0} → X → (S → Option A → S → Type 0) → S → Result X Error → Type 0
-  Fills empty next_gives s (Ok full) = (xs : List A) × Drains next_gives s xs × TakesEach empty xs full
-  Fills {S = S} empty next_gives s (Err e) =
-      IsOutOfMemory e
-      ⊎ ((xs : List A) × (x : A) × (t : S) × (mid : X) × Yields next_gives s (xs ++ x ∷ []) t × TakesEach empty xs mid × Takes mid x (Err e) mid)
+  Fills empty next_gives s (Ok full) = TakesAll empty next_gives s full
+  Fills empty next_gives s (Err e) = IsOutOfMemory e ⊎ FailsAtOne empty next_gives s e
 
 -- an append of a key and a value
 abbrev pub TakesPair : List ℕ → Bor (List ℕ) × RawBson → Result (Unit {0}) Error → List ℕ → Type 0

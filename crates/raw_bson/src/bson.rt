@@ -283,6 +283,7 @@ impl RawBson {
 
     /// The array, to change it; `None` for every other kind. The value stays an array.
     pub fn as_array_mut(&mut self) -> Option<&mut RawArrayBuf>
+        // when the loan ends, the value holds the array as it is then; where none was lent, it is as it was
         ensures* writes_back { sem 𝓛 (LendsArray self.entry result) }
         ensures value { HoldsArray self.old result }
     {
@@ -294,6 +295,7 @@ impl RawBson {
 
     /// The nested document, to change it; `None` for every other kind. The value stays a document.
     pub fn as_document_mut(&mut self) -> Option<&mut RawDocumentBuf>
+        // when the loan ends, the value holds the document as it is then; where none was lent, it is as it was
         ensures* writes_back { sem 𝓛 (LendsDocument self.entry result) }
         ensures value { HoldsDocument self.old result }
     {

@@ -82,9 +82,9 @@ HasReadItems-pair s items None new p h st = absurd h.read
 HasReadItems-pair s items (Some r) new p h st =
     elim st [
       | inl g ↦
-          let told = told_pair g.0 p g.2 g.4 g.5 in
-          subst (λ key. HasReadItems s (items ++ entry key (value (value_of p.1)) ∷ []) new) told.0 (one_more s items r g.0 g.1 (value_of p.1) new h g.3 told.1 g.6)
-      | inr g ↦ absurd g.2
+          let told = told_pair g.frame p g.meaning g.means g.told in
+          subst (λ key. HasReadItems s (items ++ entry key (value (value_of p.1)) ∷ []) new) told.0 (one_more s items r g.frame g.rest (value_of p.1) new h g.in_front told.1 g.left)
+      | inr g ↦ absurd g.told
     ]
 
 -- one more value of an array was read, under some key
@@ -93,8 +93,8 @@ pub HasReadItems-value : (s : List ℕ) (items : List Item) (old new : Option (L
 HasReadItems-value s items None new v h st = absurd h.read
 HasReadItems-value s items (Some r) new v h st =
     elim st [
-      | inl g ↦ (g.0.key, one_more s items r g.0 g.1 (value_of v) new h g.3 (told_value g.0 v g.2 g.4 g.5) g.6)
-      | inr g ↦ absurd g.2
+      | inl g ↦ (g.frame.key, one_more s items r g.frame g.rest (value_of v) new h g.in_front (told_value g.frame v g.meaning g.means g.told) g.left)
+      | inr g ↦ absurd g.told
     ]
 
 -- no item is left: these are the items of the document
@@ -120,8 +120,8 @@ pub HasReadItems-pair_fault : (b : List ℕ) (items : List Item) (old new : Opti
 HasReadItems-pair_fault b items None new e h st = absurd h.read
 HasReadItems-pair_fault b items (Some r) new e h st =
     elim st [
-      | inl g ↦ first_fault b items r g.0 g.1 e g.2 h g.3 g.4 (meaning_told g.0 e g.2 g.5)
-      | inr g ↦ first_stop b items r e g.0 h g.1 g.2
+      | inl g ↦ first_fault b items r g.frame g.rest e g.meaning h g.in_front g.means (meaning_told g.frame e g.meaning g.told)
+      | inr g ↦ first_stop b items r e g.fault h g.stops g.told
     ]
 
 -- by an error in place of a value
@@ -130,6 +130,6 @@ pub HasReadItems-value_fault : (b : List ℕ) (items : List Item) (old new : Opt
 HasReadItems-value_fault b items None new e h st = absurd h.read
 HasReadItems-value_fault b items (Some r) new e h st =
     elim st [
-      | inl g ↦ first_fault b items r g.0 g.1 e g.2 h g.3 g.4 g.5
-      | inr g ↦ first_stop b items r e g.0 h g.1 g.2
+      | inl g ↦ first_fault b items r g.frame g.rest e g.meaning h g.in_front g.means g.told
+      | inr g ↦ first_stop b items r e g.fault h g.stops g.told
     ]

@@ -21,14 +21,14 @@ module _ {X : Type 0} (Tells : Result X Error → Item → Type 0) where
   pub item_ok : (old new : Option (List ℕ)) (e : RawElement) (out : Result X Error) → StepsElement old (Some (Ok e)) new
       → (m : Meaning) × Means (frame_of e) m × Tells out (entry (frame_of e).key m) → StepsItems Tells old (Some out) new
   item_ok None new e out st h = let bad : ◌≡◌ {A = Option (Result RawElement Error)} (Some (Ok e)) None = st.0 in cc
-  item_ok (Some s) new e out st h = inl (frame_of e, st.0, h.0, st.1, h.1, h.2, st.2)
+  item_ok (Some s) new e out st h = inl (record { frame = frame_of e; rest = st.0; meaning = h.0; in_front = st.1; means = h.1; told = h.2; left = st.2 })
 
   pub item_stop : ((e : Error) (fault : KeyedFault) → Says e fault → Tells (Err e) (stopped fault)) → (old new : Option (List ℕ)) (e : Error)
       → StepsElement old (Some (Err e)) new → StepsItems Tells old (Some (Err e)) new
   item_stop says None new e st = let bad : ◌≡◌ {A = Option (Result RawElement Error)} (Some (Err e)) None = st.0 in cc
   item_stop says (Some s) new e st =
       let fault : KeyedFault = record { fault = st.0; key = st.1 } in
-      inr (fault, st.2, says e fault st.3, st.4)
+      inr (record { fault = fault; stops = st.2; told = says e fault st.3; left = st.4 })
 
   -- nothing comes after a stop
   none_after : (xs : List (Result X Error)) (t : Option (List ℕ)) → Yields (StepsItems Tells) None xs t → xs ≡ []
@@ -46,13 +46,14 @@ module _ {X : Type 0} (Tells : Result X Error → Item → Type 0) where
   items_of s (x ∷ xs) d =
       elim d.1.1.1 as (λ _. Told s (x ∷ xs)) [
         | inl a ↦
-            let f = a.0 in
-            let rest : Drains (StepsItems Tells) (Some a.1) xs = (d.0, (d.1.0, subst (λ (x : Option (List ℕ)). Yields (StepsItems Tells) x xs d.1.0) a.6 d.1.1.2, d.1.2)) in
-            let w = items_of a.1 xs rest in
-            (f ∷ w.0, w.1, entry f.key a.2 ∷ w.2, (a.1, a.3, w.3), (a.2, w.2, a.4, refl, w.4), (a.5, w.5))
+            let f = a.frame in
+            let rest : Drains (StepsItems Tells) (Some a.rest) xs = (d.0, (d.1.0, subst (λ (x : Option (List ℕ)). Yields (StepsItems Tells) x xs d.1.0) a.left d.1.1.2, d.1.2)) in
+            let w = items_of a.rest xs rest in
+            (f ∷ w.0, w.1, entry f.key a.meaning ∷ w.2, (a.rest, a.in_front, w.3), (a.meaning, w.2, a.means, refl, w.4), (a.told, w.5))
         | inr b ↦
-            let none : xs ≡ [] = none_after xs d.1.0 (subst (λ (x : Option (List ℕ)). Yields (StepsItems Tells) x xs d.1.0) b.3 d.1.1.2) in
-            ([], Stopped b.0.fault b.0.key, stopped b.0 ∷ [], b.1, refl, subst (λ (ys : List (Result X Error)). TellsEach Tells (x ∷ ys) (stopped b.0 ∷ [])) (sym none) (b.2, tt))
+            let none : xs ≡ [] = none_after xs d.1.0 (subst (λ (x : Option (List ℕ)). Yields (StepsItems Tells) x xs d.1.0) b.left d.1.1.2) in
+            let one = subst (λ (ys : List (Result X Error)). TellsEach Tells (x ∷ ys) (stopped b.fault ∷ [])) (sym none) (b.told, tt) in
+            ([], Stopped b.fault.fault b.fault.key, stopped b.fault ∷ [], b.stops, refl, one)
       ]
 
 -- there is no item exactly where the final 0 is behind the header

@@ -24,13 +24,13 @@ told_kind (what.MalformedValue r) None fault e reading h is = subst (λ (x : Err
 told_kind (what.MalformedValue r) (Some key) fault e reading h is =
     elim is as (λ _. TellsFault e fault (Some key)) [
       | inl a ↦ subst (λ (x : ErrorKind). Tells x (key_of e) fault (Some key)) (sym a.0) (h, a.1, reading r refl)
-      | inr a ↦ subst (λ (x : ErrorKind). Tells x (key_of e) fault (Some key)) (sym a.0) a.1
+      | inr a ↦ subst (λ (x : ErrorKind). Tells x (key_of e) fault (Some key)) (sym a.kind_is) a.no_key
     ]
 told_kind (what.Utf8EncodingError u) None fault e reading h is = subst (λ (x : ErrorKind). Tells x (key_of e) fault None) (sym is.0) (h, is.1)
 told_kind (what.Utf8EncodingError u) (Some key) fault e reading h is =
     elim is as (λ _. TellsFault e fault (Some key)) [
       | inl a ↦ subst (λ (x : ErrorKind). Tells x (key_of e) fault (Some key)) (sym a.0) (h, a.1)
-      | inr a ↦ subst (λ (x : ErrorKind). Tells x (key_of e) fault (Some key)) (sym a.0) a.1
+      | inr a ↦ subst (λ (x : ErrorKind). Tells x (key_of e) fault (Some key)) (sym a.kind_is) a.no_key
     ]
 told_kind what.OutOfMemory key fault e reading h is = absurd h
 

@@ -60,11 +60,31 @@ module _ {X : Type 0} (Tells : Result X Error → Item → Type 0) where
   TellsEach (out ∷ outs) [] = ⊥
   TellsEach (out ∷ outs) (item ∷ items) = Tells out item × TellsEach outs items
 
-  -- What a call of next gives. The state is what is left to read, and nothing from a stop on; a value fault
-  -- leaves what is behind its frame.
+  -- the steps from the bytes s that are left, where t is what is left behind
+
+  -- at the final 0 nothing is given, and it stays
+  abbrev pub StepsAtFinal : List ℕ → Option (List ℕ) → Type 0
+  StepsAtFinal s t = (s ≡ 0 ∷ []) × (t ≡ Some s)
+
+  -- over a frame: what it means is given, a fault too, and what is behind it is left
+  pub record StepsOverFrame (s : List ℕ) (out : Result X Error) (t : Option (List ℕ)) : Type 0 where
+    pub frame : Frame
+    pub rest : List ℕ
+    pub meaning : Meaning
+    pub in_front : IsFrame s frame rest
+    pub means : Means frame meaning
+    pub told : Tells out (entry frame.key meaning)
+    pub left : t ≡ Some rest
+
+  -- to the stop: its fault is given, and nothing is left
+  pub record StepsToStop (s : List ℕ) (out : Result X Error) (t : Option (List ℕ)) : Type 0 where
+    pub fault : KeyedFault
+    pub stops : IsStop s fault.fault fault.key
+    pub told : Tells out (stopped fault)
+    pub left : t ≡ None
+
+  -- What a call of next gives. The state is what is left to read, and nothing from a stop on.
   abbrev pub StepsItems : Option (List ℕ) → Option (Result X Error) → Option (List ℕ) → Type 0
   StepsItems None out t = (out ≡ None) × (t ≡ None)
-  StepsItems (Some s) None t = (s ≡ 0 ∷ []) × (t ≡ Some s)
-  StepsItems (Some s) (Some out) t =
-      ((f : Frame) × (r : List ℕ) × (m : Meaning) × IsFrame s f r × Means f m × Tells out (entry f.key m) × (t ≡ Some r))
-      ⊎ ((fault : KeyedFault) × IsStop s fault.fault fault.key × Tells out (stopped fault) × (t ≡ None))
+  StepsItems (Some s) None t = StepsAtFinal s t
+  StepsItems (Some s) (Some out) t = StepsOverFrame s out t ⊎ StepsToStop s out t

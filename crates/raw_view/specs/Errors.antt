@@ -64,12 +64,12 @@ Tells kind.OutOfMemory carried fault (Some _) = carried ≡ None
 abbrev pub TellsFault : Error → Fault → Option (List ℕ) → Type 0
 TellsFault e fault key = Tells e.kind (key_of e) fault key
 
--- the error has this kind and a copy of this key; or memory ran out for the copy
-abbrev pub HasKeyCopy : ErrorKind → Option (List ℕ) → Error → Type 0
-HasKeyCopy what None e = (e.kind ≡ what) × (key_of e ≡ None)
-HasKeyCopy what (Some key) e = ((e.kind ≡ what) × (key_of e ≡ Some key)) ⊎ ((e.kind ≡ kind.OutOfMemory) × (key_of e ≡ None))
-
 -- no memory was left; the error has no key
 pub record IsOutOfMemory (e : Error) : Type 0 where
   pub kind_is : e.kind ≡ kind.OutOfMemory
   pub no_key : key_of e ≡ None
+
+-- the error has this kind and a copy of this key; or memory ran out for the copy
+abbrev pub HasKeyCopy : ErrorKind → Option (List ℕ) → Error → Type 0
+HasKeyCopy what None e = (e.kind ≡ what) × (key_of e ≡ None)
+HasKeyCopy what (Some key) e = ((e.kind ≡ what) × (key_of e ≡ Some key)) ⊎ IsOutOfMemory e
