@@ -156,6 +156,17 @@ fn answers_an_unknown_command_without_a_read(rt: HostRuntime) {
 }
 
 #[test]
+fn answers_unknown_commands(rt: HostRuntime) {
+    for command in ["show", "checks", "LIST", "list ", "Canon", ""] {
+        let mut reader: &[u8] = GREETING;
+        assert!(rt;
+            has_run(rt.alloc(), command, &mut reader, 3, USAGE_LINE),
+            "{command}"
+        );
+    }
+}
+
+#[test]
 fn tells_that_the_usage_was_not_written(rt: HostRuntime) {
     for calls in 0..=USAGE_LINE.len() {
         let mut reader: &[u8] = GREETING;

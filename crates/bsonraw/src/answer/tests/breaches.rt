@@ -1,9 +1,11 @@
 use super::documents::*;
 use super::forms::levels;
 use super::{Row, assert_answer, assert_rows};
+use crate::command::Command;
 use std::test::Fail;
 
-const BREACHES: &[Row] = &[
+/// Documents that aren't canonical, and what `check` prints of them.
+pub(super) const BREACHES: &[Row] = &[
     // no element and no final 0 where the elements end
     (SWALLOWED_TERMINATOR, 1, "breach stop 1\n"),
     (TAG_ZERO, 1, "breach stop 0\n"),
@@ -55,23 +57,24 @@ const BREACHES: &[Row] = &[
 
 #[test]
 fn tells_the_first_breach(rt: HostRuntime) {
-    assert_rows(&rt, rt.alloc(), "check", BREACHES);
+    assert_rows(&rt, rt.alloc(), Command::Check, BREACHES);
 }
+
+/// Documents that are.
+pub(super) const CANONICAL: &[Row] = &[
+    (EMPTY, 0, "canonical\n"),
+    (GREETING, 0, "canonical\n"),
+    (LEAST_CODE_WITH_SCOPE, 0, "canonical\n"),
+    (SWALLOWED_TERMINATOR_PUSHED, 0, "canonical\n"),
+    (OLD_BINARY, 0, "canonical\n"),
+    (BOOL_AND_INT32, 0, "canonical\n"),
+];
 
 #[test]
 fn tells_that_documents_are_canonical(rt: HostRuntime) {
-    for text in [
-        EMPTY,
-        GREETING,
-        LEAST_CODE_WITH_SCOPE,
-        SWALLOWED_TERMINATOR_PUSHED,
-        OLD_BINARY,
-        BOOL_AND_INT32,
-    ] {
-        assert_answer(&rt, rt.alloc(), "check", text, 0, "canonical\n");
-    }
+    assert_rows(&rt, rt.alloc(), Command::Check, CANONICAL);
     for (_, form) in FORMS {
-        assert_answer(&rt, rt.alloc(), "check", form, 0, "canonical\n");
+        assert_answer(&rt, rt.alloc(), Command::Check, form, 0, "canonical\n");
     }
 }
 
@@ -80,6 +83,6 @@ fn five_hundred_and_one_levels_are_canonical(rt: HostRuntime) -> Result<(), Fail
     // `check` has no limits
     let text = levels(rt.alloc(), 501)?;
     assert!(rt; text.starts_with("b10d00000300"));
-    assert_answer(&rt, rt.alloc(), "check", &text, 0, "canonical\n");
+    assert_answer(&rt, rt.alloc(), Command::Check, &text, 0, "canonical\n");
     Ok(())
 }

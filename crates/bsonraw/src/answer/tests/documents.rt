@@ -84,8 +84,9 @@ pub(super) const TRUNCATED_STRING: &str = "0C 00 00 00 02 61 00 06 00 00 00 00";
 pub(super) const BOOL_AND_INT32: &str =
     "15 00 00 00 08 62 6F 6F 6C 00 01 10 69 33 32 00 40 42 0F 00 00";
 
-/// Documents that aren't canonical, and what `canon` prints of them.
+/// Documents, and what `canon` prints of them.
 pub(super) const FORMS: &[(&str, &str)] = &[
+    (GREETING, "1300000002686900060000007927616c6c0000\n"),
     (REPEATED_KEY, "0c0000001061000200000000\n"),
     // a key repeated after another
     (

@@ -1,10 +1,12 @@
 use super::documents::*;
 use super::{Row, assert_answer, assert_rows};
+use crate::command::Command;
 use std::alloc::{AllocError, Global};
 use std::process::Abort;
 use std::test::Fail;
 
-const LISTINGS: &[Row] = &[
+/// Documents, and what `list` prints of them.
+pub(super) const LISTINGS: &[Row] = &[
     (EMPTY, 0, "end\n"),
     (GREETING, 0, "02 6869 10\nend\n"),
     (SWALLOWED_TERMINATOR, 1, "0a - 0\nfault malformed none\n"),
@@ -33,11 +35,11 @@ const LISTINGS: &[Row] = &[
 
 #[test]
 fn lists_documents(rt: HostRuntime) {
-    assert_rows(&rt, rt.alloc(), "list", LISTINGS);
+    assert_rows(&rt, rt.alloc(), Command::List, LISTINGS);
 }
 
 /// Documents of one damaged element.
-const DAMAGED: &[Row] = &[
+pub(super) const DAMAGED: &[Row] = &[
     // the greeting, whose text declares seven bytes, fourteen, and less than none
     (
         "13 00 00 00 02 68 69 00 07 00 00 00 79 27 61 6C 6C 00 00",
@@ -100,7 +102,7 @@ const DAMAGED: &[Row] = &[
 ];
 
 /// What is in a buffer after an append or a push onto damage.
-const APPENDED: &[Row] = &[
+pub(super) const APPENDED: &[Row] = &[
     // the swallowed terminator
     (
         "0A 00 00 00 0A 08 62 00 01 00",
@@ -132,12 +134,12 @@ const APPENDED: &[Row] = &[
 
 #[test]
 fn lists_damaged_documents(rt: HostRuntime) {
-    assert_rows(&rt, rt.alloc(), "list", DAMAGED);
-    assert_rows(&rt, rt.alloc(), "list", APPENDED);
+    assert_rows(&rt, rt.alloc(), Command::List, DAMAGED);
+    assert_rows(&rt, rt.alloc(), Command::List, APPENDED);
 }
 
 /// The first so many bytes of the greeting, with this header and a final 0.
-const CUT_GREETINGS: &[Row] = &[
+pub(super) const CUT_GREETINGS: &[Row] = &[
     ("06 00 00 00 02 00", 1, "fault malformed -\n"),
     ("07 00 00 00 02 68 00", 1, "fault malformed 68\n"),
     ("08 00 00 00 02 68 69 00", 1, "fault malformed 6869\n"),
@@ -187,7 +189,7 @@ const CUT_GREETINGS: &[Row] = &[
 
 #[test]
 fn lists_the_greeting_cut_off(rt: HostRuntime) {
-    assert_rows(&rt, rt.alloc(), "list", CUT_GREETINGS);
+    assert_rows(&rt, rt.alloc(), Command::List, CUT_GREETINGS);
 }
 
 /// Seventy letters `a` in hex.
@@ -204,7 +206,7 @@ fn assert_null_listed(
     let text = format!(in alloc; "{len:02x}0000000a{digits}0000")?;
     let key = if digits.is_empty() { "-" } else { digits };
     let listing = format!(in alloc; "0a {key} 0\nend\n")?;
-    assert_answer(rt, alloc, "list", &text, 0, &listing);
+    assert_answer(rt, alloc, Command::List, &text, 0, &listing);
     Ok(())
 }
 

@@ -1,59 +1,64 @@
-//! `bin/test` runs these with each request for memory refused in turn, alone.
+//! The tables again, where memory may run out: `bin/test` runs these with each request for memory refused in turn, alone.
 
-use super::Row;
-use super::documents::*;
-use crate::answer::answer;
+use super::breaches::{BREACHES, CANONICAL};
+use super::documents::FORMS;
+use super::forms::{FIRST_FAULTS, OWN_FORMS};
+use super::listings::{APPENDED, CUT_GREETINGS, DAMAGED, LISTINGS};
+use super::{REFUSALS, Row, outcome};
+use crate::command::Command;
 use std::alloc::Global;
 use std::process::Abort;
 
-const LISTINGS: &[Row] = &[
-    (GREETING, 0, "02 6869 10\nend\n"),
-    // faults, whose keys may find no memory
-    (TAG_ZERO, 1, "fault malformed -\n"),
-    (NEGATIVE_DOCUMENT_LENGTH, 1, "fault malformed 61\n"),
-];
-
-const FORMS_AND_FAULTS: &[Row] = &[
-    (GREETING, 0, "1300000002686900060000007927616c6c0000\n"),
-    (FAULT_UNDER_A_LATER_GOOD_KEY, 1, "fault malformed 61\n"),
-    (NEGATIVE_DOCUMENT_LENGTH, 1, "fault malformed 61\n"),
-];
-
-const BREACHES: &[Row] = &[
-    (GREETING, 0, "canonical\n"),
-    (REPEATED_KEY, 1, "breach repeated-key 1\n"),
-    // a breach in an inner level, for which the outer one waits
-    (ARRAY_WITH_AN_EMPTY_KEY, 1, "breach array-key 0.0\n"),
-];
-
-/// Whether the result is the one with ample memory, or status 4 and nothing.
-fn is_answer_or_nothing(
-    alloc: Global,
-    command: &str,
-    text: &str,
-    status: u8,
-    output: &str,
-) -> bool {
-    match answer(alloc, command, text.as_bytes()) {
+/// Whether the outcome is that of the row, or status 4 and nothing.
+fn is_row_or_nothing(alloc: Global, command: Command, (text, status, output): Row) -> bool {
+    match outcome(alloc, command, text.as_bytes()) {
         (4, found) => found.is_empty(),
         (found_status, found) => found_status == status && found.as_slice() == output.as_bytes(),
     }
 }
 
-fn assert_rows_or_nothing(rt: &impl Abort, alloc: Global, command: &str, rows: &[Row]) {
-    for (text, status, output) in rows {
-        let is_answered = is_answer_or_nothing(alloc, command, text, *status, output);
-        assert!(rt; is_answered, "{command} {text}");
+fn assert_rows_or_nothing(rt: &impl Abort, alloc: Global, command: Command, rows: &[Row]) {
+    for row in rows {
+        assert!(rt;
+            is_row_or_nothing(alloc, command, *row),
+            "{command:?} {row:?}"
+        );
     }
 }
 
 #[test]
-fn answers_or_want_of_memory(rt: HostRuntime) {
-    assert_rows_or_nothing(&rt, rt.alloc(), "list", LISTINGS);
-    assert_rows_or_nothing(&rt, rt.alloc(), "canon", FORMS_AND_FAULTS);
-    assert_rows_or_nothing(&rt, rt.alloc(), "check", BREACHES);
+fn listings_or_out_of_memory(rt: HostRuntime) {
+    for rows in [REFUSALS, LISTINGS, DAMAGED, APPENDED, CUT_GREETINGS] {
+        assert_rows_or_nothing(&rt, rt.alloc(), Command::List, rows);
+    }
+}
+
+fn assert_form_or_nothing(rt: &impl Abort, alloc: Global, text: &'static str, form: &'static str) {
+    let row = (text, 0, form);
+    assert!(rt; is_row_or_nothing(alloc, Command::Canon, row), "{row:?}");
+}
+
+#[test]
+fn forms_or_out_of_memory(rt: HostRuntime) {
     for (text, form) in FORMS {
-        let is_answered = is_answer_or_nothing(rt.alloc(), "canon", text, 0, form);
-        assert!(rt; is_answered, "canon {text}");
+        assert_form_or_nothing(&rt, rt.alloc(), text, form);
+        assert_form_or_nothing(&rt, rt.alloc(), form, form);
+    }
+    for form in OWN_FORMS {
+        assert_form_or_nothing(&rt, rt.alloc(), form, form);
+    }
+}
+
+#[test]
+fn faults_or_out_of_memory(rt: HostRuntime) {
+    for rows in [REFUSALS, FIRST_FAULTS] {
+        assert_rows_or_nothing(&rt, rt.alloc(), Command::Canon, rows);
+    }
+}
+
+#[test]
+fn breaches_or_out_of_memory(rt: HostRuntime) {
+    for rows in [REFUSALS, BREACHES, CANONICAL] {
+        assert_rows_or_nothing(&rt, rt.alloc(), Command::Check, rows);
     }
 }
