@@ -1,10 +1,8 @@
 -- Bytes that are read ahead.
-use Rattle.std.proofs.Common.{◌≡◌, ℕ, suc, ◌+◌, ◌-◌, ◌*◌, ◌<◌, ◌≤◌, List, [], ◌∷◌, ◌++◌, Option, None, Some, arith, length, take, drop, min, sym, ap, ◌∙◌, subst, refl, append_assoc, append-nil, length-append}
+use Rattle.std.proofs.Common.{◌≡◌, ℕ, suc, ◌+◌, ◌-◌, ◌≤◌, List, [], ◌∷◌, ◌++◌, Option, None, Some, arith, length, take, drop, min, sym, ap, ◌∙◌, refl, append-nil}
 use Rattle.std.proofs.lemmas.List.{drop-take, drop-drop, length-take, take-append-drop, take-take}
 use Rattle.std.specs.Io.KnownBytes.{Consumes, IsAtEnd}
-use Rattle.bsonraw_dump.specs.Reading.{Looks, LooksSome, ReadsSome, ahead_of}
-use Rattle.bsonraw_dump.specs.Resync.{Stays}
-use Rattle.bsonraw_dump.specs.declared.window.Window.{Window}
+use Rattle.bsonraw_dump.specs.Reading.{Looks, LooksSome}
 
 -- some bytes are passed
 pub passed_ahead : (at len n : ℕ) (room : List ℕ) → n ≤ length (take len (drop at room)) → take (len - n) (drop (at + n) room) ≡ drop n (take len (drop at room))
@@ -13,18 +11,10 @@ passed_ahead at len n room h =
     let same : n + (len - n) ≡ len = omega arith in
     ap (take (len - n)) (sym (drop-drop n at room)) ∙ sym (drop-take n (len - n) (drop at room)) ∙ ap (λ k. drop n (take k (drop at room))) same
 
-pub passed_within : (at len n offset behind spent : ℕ) (room : List ℕ) → n ≤ length (take len (drop at room)) → at + len ≤ length room → spent ≤ 8 * (offset + len) → behind ≡ offset + n
-    → ((at + n) + (len - n) ≤ length room) × (spent ≤ 8 * (behind + (len - n)))
-passed_within at len n offset behind spent room h within work is =
+pub passed_within : (at len n : ℕ) (room : List ℕ) → n ≤ length (take len (drop at room)) → at + len ≤ length room → (at + n) + (len - n) ≤ length room
+passed_within at len n room h within =
     let size : length (take len (drop at room)) ≡ min len (length (drop at room)) = length-take len (drop at room) in
-    (omega arith, omega arith)
-
-pub more_read : (old new : Window) → new.spent ≡ old.spent → new.offset ≡ old.offset → old.len ≤ new.len → old.spent ≤ 8 * (old.offset + old.len) → new.spent ≤ 8 * (new.offset + new.len)
-more_read old new spent offset more work = omega arith
-
--- nothing more is read
-pub looks_same : (r : Option (List ℕ)) (ahead : List ℕ) → take (length ahead) ahead ≡ ahead → Looks r r ahead ahead
-looks_same r ahead all = record { is_read = λ before read. read; len = omega arith; kept = all }
+    omega arith
 
 -- one after the other
 pub looks_on : (a b c : Option (List ℕ)) (x y z : List ℕ) → Looks a b x y → Looks b c y z → Looks a c x z
@@ -36,9 +26,6 @@ looks_on a b c x y z p q =
       len = omega arith;
       kept = sym (take-take (length x) (length y) z less) ∙ ap (take (length x)) q.kept ∙ p.kept;
     }
-
-pub stays_on : (a b c : Option (List ℕ)) (x y z : Window) → y.offset ≡ x.offset → Looks a b (ahead_of x) (ahead_of y) → Stays b c y z → Stays a c x z
-stays_on a b c x y z same p q = record { window = q.window; offset = q.offset ∙ same; looks = looks_on a b c (ahead_of x) (ahead_of y) (ahead_of z) p q.looks }
 
 pub fails_on : (a b c : Option (List ℕ)) (x y : List ℕ) → Looks a b x y → LooksSome b c y → LooksSome a c x
 fails_on a b c x y p f before read = f before (p.is_read before read)

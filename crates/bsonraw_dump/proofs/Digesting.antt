@@ -1,5 +1,5 @@
 -- What a set of digests knows when one more is put to it.
-use Rattle.std.proofs.Common.{◌≡◌, ℕ, List, Bool, true, cond, not, bytes_eq, sym, ap, ◌∙◌}
+use Rattle.std.proofs.Common.{◌≡◌, ℕ, List, Bool, true, cond, bytes_eq, sym, ap, ◌∙◌}
 use Rattle.std.specs.BTreeSet.{BTreeSet, contains, Updates}
 use Rattle.std.specs.Cmp.Lexicographic.{slice_cmp, texts_ties}
 use Rattle.std.specs.Ordering.{nat_cmp}

@@ -1,6 +1,7 @@
 mod Filling
 mod Ahead
 mod Going
+mod Counting
 mod Skipping
 mod Digesting
 mod Writing

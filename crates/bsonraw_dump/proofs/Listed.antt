@@ -7,7 +7,7 @@ use Rattle.raw_form.specs.Looking.{HoldsBytes}
 use Rattle.raw_view.specs.Document.{bytes_of}
 use Rattle.raw_view.specs.ElementSteps.{frame_of, HasRead}
 use Rattle.raw_view.specs.Envelope.{IsEnvelope, Refuses}
-use Rattle.raw_view.specs.Errors.{IsMalformed, IsReadingKind, TellsRefusal}
+use Rattle.raw_view.specs.Errors.{IsMalformed, TellsRefusal}
 use Rattle.raw_view.specs.declared.error.Error.{Error}
 use Rattle.raw_view.specs.declared.error.Reason.{Reason}
 use Rattle.raw_view.specs.Frame.{Frame, IsStop, Fault, Malformed, Utf8, Done, Stopped}

@@ -1,21 +1,20 @@
 -- How what was passed grows by one more part.
-use Rattle.std.proofs.Common.{◌≡◌, ℕ, ◌+◌, ◌<◌, ◌≤◌, List, [], ◌∷◌, ◌++◌, Bool, true, false, Option, None, Some, IfSome, Result, Ok, Err, IfErr, IsErrAnd, arith, length, length-take-le, drop, take, flat_map, sym, ap, ◌∙◌, subst, refl, inl, inr, ◌⊎◌, append_assoc, append-nil, length-append, add_assoc, add-zero, zero-add}
+use Rattle.std.proofs.Common.{◌≡◌, ℕ, ◌+◌, List, [], ◌∷◌, ◌++◌, Bool, true, false, Option, None, Some, IfSome, Result, Ok, Err, IfErr, IsErrAnd, length, length-take-le, drop, take, flat_map, fold, sym, ap, ◌∙◌, subst, refl, append_assoc, append-nil, length-append, add_assoc, add-zero, zero-add}
 use Rattle.std.proofs.Math.Seq.{drop-append_seam}
 use Rattle.std.proofs.lemmas.List.{take-append-drop}
 use Rattle.std.specs.Io.KnownBytes.{Consumes, Appends, Keeps}
-use Rattle.std.proofs.KnownBytes.{Consumes-nil, Consumes-trans, Appends-kept, Appends-nil, Appends-trans}
-use Rattle.bsonraw_dump.proofs.Ahead.{all_ahead, front_ahead}
-use Rattle.bsonraw_dump.proofs.Going.{said_front}
+use Rattle.std.proofs.KnownBytes.{Consumes-nil, Appends-kept, Appends-nil, Appends-trans}
+use Rattle.bsonraw_dump.proofs.Going.{ends_all}
 use Rattle.bsonraw_dump.proofs.Skipping.{read_behind}
 use Rattle.bsonraw_dump.proofs.Writing.{writes_none, writes_more}
 use Rattle.std.proofs.lemmas.Grind.{flat_map-append, fold-append}
-use Rattle.bsonraw_dump.specs.Cut.{EndsWith, IsPiece, most, said_len}
-use Rattle.bsonraw_dump.specs.Reading.{IsReadBehind, Looks, LooksSome, TellsNext, ahead_of}
-use Rattle.bsonraw_dump.specs.Resync.{IsNextPlace}
-use Rattle.bsonraw_dump.specs.Run.{AreParts, Ends, Entry, Gap, IsEntry, IsGap, IsPart, IsReading, Part, piece, gap, Passed, PassesFront, PassesGap, PassesOne, Reports, Stops, Writes, are_sound, bytes_of_part, bytes_of_parts, made_of_part, made_of_parts, lines_of_part, lines_of_parts, count_entry, count_part}
+use Rattle.bsonraw_dump.specs.Cut.{EndsWith, IsPiece}
+use Rattle.bsonraw_dump.specs.Reading.{Looks, LooksSome, TellsNext, ahead_of}
+use Rattle.bsonraw_dump.specs.Resync.{IsNextPlace, no_work}
+use Rattle.bsonraw_dump.specs.declared.resync.Work.{Work}
+use Rattle.bsonraw_dump.specs.Run.{AreParts, Ends, Entry, Gap, IsEntry, IsGap, IsPart, IsReading, Part, piece, gap, Passed, PassesFront, PassesGap, PassesOne, Reports, Stops, Writes, are_sound, bytes_of_part, bytes_of_parts, made_of_part, made_of_parts, lines_of_part, lines_of_parts, count_entry, count_part, work_behind}
 use Rattle.bsonraw_dump.specs.Told.{ending_line}
 use Rattle.bsonraw_dump.specs.declared.ending.Ending.{Ending}
-use Rattle.bsonraw_dump.specs.declared.ending.Ending.TheVariants as ending
 use Rattle.bsonraw_dump.specs.declared.failure.Failure.{Failure}
 use Rattle.bsonraw_dump.specs.declared.find.Finding.{Finding}
 use Rattle.bsonraw_dump.specs.declared.command.Command.{Command}
@@ -27,14 +26,15 @@ use Rattle.bsonraw_dump.specs.declared.window.Next.TheVariants as next
 use Rattle.bsonraw_dump.specs.declared.window.Window.{Window}
 
 module _ (c : Command) (style : Style) (resync : Bool) (name : List ℕ) where
-  parts_more : (input : Option (List ℕ)) (offset : ℕ) (ps : List Part) (p : Part) → AreParts c style resync name input offset ps
-      → IsPart c style resync name input (offset + length (bytes_of_parts ps)) p
-      → AreParts c style resync name input offset (ps ++ p ∷ [])
-  parts_more input offset [] p are is = (subst (λ (n : ℕ). IsPart c style resync name input n p) (add-zero offset) is, tt)
-  parts_more input offset (x ∷ ps) p (first, rest) is =
+  parts_more : (input : Option (List ℕ)) (offset : ℕ) (work : Work) (ps : List Part) (p : Part) → AreParts c style resync name input offset work ps
+      → IsPart c style resync name input (offset + length (bytes_of_parts ps)) (fold work_behind work ps) p
+      → AreParts c style resync name input offset work (ps ++ p ∷ [])
+  parts_more input offset work [] p are is = (subst (λ (n : ℕ). IsPart c style resync name input n work p) (add-zero offset) is, tt)
+  parts_more input offset work (x ∷ ps) p (first, rest) is =
       let sum : offset + length (bytes_of_parts (x ∷ ps)) ≡ (offset + length (bytes_of_part x)) + length (bytes_of_parts ps) =
       ap (λ n. offset + n) (length-append (bytes_of_part x) (bytes_of_parts ps)) ∙ sym (add_assoc offset (length (bytes_of_part x)) (length (bytes_of_parts ps))) in
-      (first, parts_more input (offset + length (bytes_of_part x)) ps p rest (subst (λ (n : ℕ). IsPart c style resync name input n p) sum is))
+      let behind = work_behind work x in
+      (first, parts_more input (offset + length (bytes_of_part x)) behind ps p rest (subst (λ (n : ℕ). IsPart c style resync name input n (fold work_behind behind ps) p) sum is))
 
 one_more : {A : Type 0} (f : Part → List A) (ps : List Part) (p : Part) → flat_map f ps ++ f p ≡ flat_map f (ps ++ p ∷ [])
 one_more f ps p = sym (flat_map-append f ps (p ∷ []) ∙ ap (λ xs. flat_map f ps ++ xs) (append-nil (f p)))
@@ -57,15 +57,6 @@ input_behind bytes x (Some s) (Some rest) P read holds =
     let behind : drop (length bytes) s ≡ x ++ rest = ap (drop (length bytes)) (read ∙ append_assoc bytes x rest) ∙ drop-append_seam bytes (x ++ rest) in
     subst P (sym behind) (holds (x ++ rest) refl)
 
--- what ends the bytes ahead ends all that is left
-ends_all : (e : Ending) (s x : List ℕ) (r : Option (List ℕ)) → EndsWith e x → IsReadBehind e r → Consumes (Some s) r x → EndsWith e s
-ends_all (ending.CutOff count) s x r ends end read = subst (EndsWith (ending.CutOff count)) (sym (all_ahead s x r read end)) ends
-ends_all ending.Unsound s x r (four, unsound) end read =
-    let (rest, split) = front_ahead s x r read in
-    let len : length s ≡ length x + length rest = ap length split ∙ length-append x rest in
-    let said : said_len s ≡ said_len x = ap said_len split ∙ said_front x rest four in
-    (omega arith, subst (λ n. (n < 5) ⊎ (most < n)) (sym said) unsound)
-
 -- more is read ahead
 pub passed_ahead : (c : Command) (style : Style) (resync : Bool) (name x y : List ℕ) (r r' r'' d d' w w' : Option (List ℕ)) (n n' : Counts) (k k' : Digests) (ps : List Part)
     → Passed c style resync name x r r' d d' w w' n n' k k' ps → Looks r' r'' x y → Passed c style resync name y r r'' d d' w w' n n' k k' ps
@@ -79,11 +70,11 @@ passed_ahead c style resync name x y r r' r'' d d' w w' n n' k k' ps p looks = r
 
 -- one more part is passed, and these bytes are ahead then
 passed_more : (c : Command) (style : Style) (resync : Bool) (name x y : List ℕ) (r r' r'' d d' d'' w w' w'' : Option (List ℕ)) (n n' n'' : Counts) (k k' k'' : Digests) (ps : List Part) (p : Part)
-    → Passed c style resync name x r r' d d' w w' n n' k k' ps → IsPart c style resync name r (length (bytes_of_parts ps)) p
+    → Passed c style resync name x r r' d d' w w' n n' k k' ps → IsPart c style resync name r (length (bytes_of_parts ps)) (fold work_behind no_work ps) p
     → ((before : Option (List ℕ)) → Consumes before r' x → Consumes before r'' (bytes_of_part p ++ y)) → Writes c (made_of_part p) d' d'' k' k'' → Appends w' w'' (lines_of_part p)
     → n'' ≡ count_part n' p → Passed c style resync name y r r'' d d'' w w'' n n'' k k'' (ps ++ p ∷ [])
 passed_more c style resync name x y r r' r'' d d' d'' w w' w'' n n' n'' k k' k'' ps p passed is read written told counted = record {
-  parts = parts_more c style resync name r 0 ps p passed.parts (subst (λ (n : ℕ). IsPart c style resync name r n p) (sym (zero-add _)) is);
+  parts = parts_more c style resync name r 0 no_work ps p passed.parts (subst (λ (n : ℕ). IsPart c style resync name r n (fold work_behind no_work ps) p) (sym (zero-add _)) is);
   is_read =
       let all = read_behind (bytes_of_parts ps) x (bytes_of_part p ++ y) r r' r'' passed.is_read read in
       subst (Consumes r r'') (sym (append_assoc (bytes_of_parts ps) (bytes_of_part p) y) ∙ ap (λ l. l ++ y) (one_more bytes_of_part ps p)) all;
@@ -105,29 +96,32 @@ unsound_more [] g end = refl
 unsound_more (piece x ∷ ps) g end = unsound_more ps g end
 unsound_more (gap x ∷ ps) g end = refl
 
--- what the loop keeps: parts were passed, the next one begins behind them, and whether there is no gap
-pub record HasPassed (c : Command) (style : Style) (resync : Bool) (name ahead : List ℕ) (r r' d d' w w' : Option (List ℕ)) (n n' : Counts) (k k' : Digests) (offset : ℕ) (sound : Bool) : Type 0 where
+-- what the loop keeps: parts were passed, the next one begins behind them, what the searches in them cost, and whether there is no gap
+pub record HasPassed (c : Command) (style : Style) (resync : Bool) (name ahead : List ℕ) (r r' d d' w w' : Option (List ℕ)) (n n' : Counts) (k k' : Digests)
+    (offset : ℕ) (work : Work) (sound : Bool) : Type 0 where
   pub ps : List Part
   pub passed : Passed c style resync name ahead r r' d d' w w' n n' k k' ps
   pub at : offset ≡ length (bytes_of_parts ps)
+  pub worked : work ≡ fold work_behind no_work ps
   pub is_sound : sound ≡ are_sound ps None
 
-pub has_passed_none : (c : Command) (style : Style) (resync : Bool) (name ahead : List ℕ) (r d w : Option (List ℕ)) (n : Counts) (k : Digests) (offset : ℕ)
-    → ahead ≡ [] → offset ≡ 0 → HasPassed c style resync name ahead r r d d w w n n k k offset true
-has_passed_none c style resync name ahead r d w n k offset none start = record {
+pub has_passed_none : (c : Command) (style : Style) (resync : Bool) (name ahead : List ℕ) (r d w : Option (List ℕ)) (n : Counts) (k : Digests) (offset : ℕ) (v : Work)
+    → ahead ≡ [] → offset ≡ 0 → v ≡ no_work → HasPassed c style resync name ahead r r d d w w n n k k offset v true
+has_passed_none c style resync name ahead r d w n k offset v none start unworked = record {
   ps = [];
   passed = subst (λ (x : List ℕ). Passed c style resync name x r r d d w w n n k k []) (sym none) (passed_none c style resync name r d w n k);
   at = start;
+  worked = unworked;
   is_sound = refl;
 }
 
 -- a piece in front of the bytes ahead is passed
 pub has_passed_piece : (c : Command) (style : Style) (resync : Bool) (name x y z b : List ℕ) (r r' r'' d d' d'' w w' w'' : Option (List ℕ)) (n n' n'' : Counts)
-    (k k' k'' : Digests) (offset behind len : ℕ) (sound : Bool) (f : Finding)
-    → HasPassed c style resync name x r r' d d' w w' n n' k k' offset sound → Looks r' r'' x y → IsPiece b → y ≡ b ++ z → length b ≡ len → PassesOne c style name offset b d' d'' w' w'' k' k'' f
+    (k k' k'' : Digests) (offset behind len : ℕ) (v : Work) (sound : Bool) (f : Finding)
+    → HasPassed c style resync name x r r' d d' w w' n n' k k' offset v sound → Looks r' r'' x y → IsPiece b → y ≡ b ++ z → length b ≡ len → PassesOne c style name offset b d' d'' w' w'' k' k'' f
     → ((e : Entry) → length e.bytes ≡ len → e.finding ≡ f → n'' ≡ count_entry n' e) → behind ≡ offset + len
-    → HasPassed c style resync name z r r'' d d'' w w'' n n'' k k'' behind sound
-has_passed_piece c style resync name x y z b r r' r'' d d' d'' w w' w'' n n' n'' k k' k'' offset behind len sound f h looks is split size passes counted sum =
+    → HasPassed c style resync name z r r'' d d'' w w'' n n'' k k'' behind v sound
+has_passed_piece c style resync name x y z b r r' r'' d d' d'' w w' w'' n n' n'' k k' k'' offset behind len v sound f h looks is split size passes counted sum =
     let (told, found, (made, makes, put), (lines, reports, reported)) = passes in
     let e : Entry = record { bytes = b; finding = f; told = told; made = made; lines = lines } in
     let entry : IsEntry c style name (length (bytes_of_parts h.ps)) e =
@@ -137,47 +131,51 @@ has_passed_piece c style resync name x y z b r r' r'' d d' d'' w w' w'' n n' n''
       ps = h.ps ++ piece e ∷ [];
       passed = passed_more c style resync name x z r r' r'' d d' d'' w w' w'' n n' n'' k k' k'' h.ps (piece e) h.passed entry read put reported (counted e size refl);
       at = sum ∙ ap (λ k. k + len) h.at ∙ ap (λ k. length (bytes_of_parts h.ps) + k) (sym size) ∙ sym (bytes_more h.ps (piece e));
+      worked = h.worked ∙ sym (fold-append work_behind no_work h.ps (piece e ∷ []));
       is_sound = h.is_sound ∙ sym (sound_more h.ps e None);
     }
 
 -- the document in front of the bytes ahead is passed
 pub has_passed_front : (c : Command) (style : Style) (resync : Bool) (name : List ℕ) (x y z : Window) (r r' r'' d d' d'' w w' w'' : Option (List ℕ))
-    (n n' n'' : Counts) (k k' k'' : Digests) (len : ℕ) (sound : Bool)
-    → HasPassed c style resync name (ahead_of x) r r' d d' w w' n n' k k' x.offset sound → TellsNext r' r'' x y (next.Document len) → PassesFront c style name len y z d' d'' w' w'' n' n'' k' k''
-    → HasPassed c style resync name (ahead_of z) r r'' d d'' w w'' n n'' k k'' z.offset sound
-has_passed_front c style resync name x y z r r' r'' d d' d'' w w' w'' n n' n'' k k' k'' len sound h t p =
+    (n n' n'' : Counts) (k k' k'' : Digests) (len : ℕ) (v : Work) (sound : Bool)
+    → HasPassed c style resync name (ahead_of x) r r' d d' w w' n n' k k' x.offset v sound → TellsNext r' r'' x y 0 (next.Document len) → PassesFront c style name len y z d' d'' w' w'' n' n'' k' k''
+    → HasPassed c style resync name (ahead_of z) r r'' d d'' w w'' n n'' k k'' z.offset v sound
+has_passed_front c style resync name x y z r r' r'' d d' d'' w w' w'' n n' n'' k k' k'' len v sound h t p =
     let b = take len (ahead_of y) in
     let split : ahead_of y ≡ b ++ ahead_of z = sym (take-append-drop len (ahead_of y)) ∙ ap (λ l. b ++ l) (sym p.ahead) in
     let size : length b ≡ len = length-take-le len (ahead_of y) t.is.0 in
     let passes = subst (λ (m : ℕ). PassesOne c style name m b d' d'' w' w'' k' k'' p.finding) t.offset p.passed in
     let behind : z.offset ≡ x.offset + len = p.offset ∙ ap (λ m. m + len) t.offset in
     has_passed_piece c style resync name (ahead_of x) (ahead_of y)
-    (ahead_of z) b r r' r'' d d' d'' w w' w'' n n' n'' k k' k'' x.offset z.offset len sound p.finding h t.looks t.is.1 split size passes p.is_counted behind
+    (ahead_of z) b r r' r'' d d' d'' w w' w'' n n' n'' k k' k'' x.offset z.offset len v sound p.finding h t.looks t.is.1 split size passes p.is_counted behind
 
 -- a gap is passed
 pub has_passed_gap : (c : Command) (style : Style) (resync : Bool) (name : List ℕ) (x y z : Window) (r r' r'' q d d' w w' w'' : Option (List ℕ)) (n n' : Counts)
-    (k k' : Digests) (sound : Bool) (e : Ending)
-    → HasPassed c style resync name (ahead_of x) r r' d d' w w' n n' k k' x.offset sound → TellsNext r' r'' x y (next.End e) → resync ≡ true → PassesGap style name e r'' q y z w' w''
-    → HasPassed c style resync name (ahead_of z) r q d d' w w'' n n' k k' z.offset false
-has_passed_gap c style resync name x y z r r' r'' q d d' w w' w'' n n' k k' sound e h t asked over =
+    (k k' : Digests) (v v' : Work) (sound : Bool) (e : Ending)
+    → HasPassed c style resync name (ahead_of x) r r' d d' w w' n n' k k' x.offset v sound → TellsNext r' r'' x y 0 (next.End e) → resync ≡ true → PassesGap style name e r'' q y z v v' w' w''
+    → HasPassed c style resync name (ahead_of z) r q d d' w w'' n n' k k' z.offset v' false
+has_passed_gap c style resync name x y z r r' r'' q d d' w w' w'' n n' k k' v v' sound e h t asked over =
     let bytes = bytes_of_parts h.ps in
     let p = over.skips.passes in
     let line = ending_line style name (length bytes) e (Some over.skip) in
-    let g : Gap = record { bytes = p.bytes; end = e; skip = over.skip; lines = line } in
+    let g : Gap = record { bytes = p.bytes; end = e; skip = over.skip; work = v'; lines = line } in
     let read = passed_ahead c style resync name (ahead_of x) (ahead_of y) r r' r'' d d' w w' n n' k k' h.ps h.passed t.looks in
-    let is : IsGap style resync name r (length bytes) g = record {
+    let at : y.offset ≡ length bytes = t.offset ∙ h.at in
+    let is : IsGap style resync name r (length bytes) v g = record {
       asked = asked;
       ends = input_behind bytes (ahead_of y) r r'' (EndsWith e) read.is_read (λ s all. ends_all e s (ahead_of y) r'' t.is.0 t.is.1 all);
       len = p.len;
-      next = input_behind bytes (ahead_of y) r r'' (λ s. IsNextPlace s over.skip) read.is_read over.skips.is;
+      next = input_behind bytes (ahead_of y) r r'' (λ s. IsNextPlace s (length bytes) v v' over.skip) read.is_read
+          (λ s all. subst (λ (m : ℕ). IsNextPlace s m v v' over.skip) at (over.skips.is s all));
       reports = refl;
     } in
-    let at : y.offset ≡ length bytes = t.offset ∙ h.at in
+    let here = subst (λ (u : Work). IsGap style resync name r (length bytes) u g) h.worked is in
     let told : Appends w' w'' line = subst (λ m. Appends w' w'' (ending_line style name m e (Some over.skip))) at over.told in
     record {
       ps = h.ps ++ gap g ∷ [];
-      passed = passed_more c style resync name (ahead_of y) (ahead_of z) r r'' q d d' d' w w' w'' n n' n' k k' k' h.ps (gap g) read is p.is_read (writes_none c d' k') told refl;
+      passed = passed_more c style resync name (ahead_of y) (ahead_of z) r r'' q d d' d' w w' w'' n n' n' k k' k' h.ps (gap g) read here p.is_read (writes_none c d' k') told refl;
       at = over.skips.offset ∙ ap (λ m. m + over.skip.count) at ∙ ap (λ m. length bytes + m) (sym p.len) ∙ sym (bytes_more h.ps (gap g));
+      worked = sym (fold-append work_behind no_work h.ps (gap g ∷ []));
       is_sound = sym (unsound_more h.ps g None);
     }
 
@@ -187,9 +185,9 @@ are_unsound (piece x ∷ ps) e = are_unsound ps e
 are_unsound (gap x ∷ ps) e = refl
 
 -- the input is at its end
-pub ends_whole : (c : Command) (style : Style) (resync : Bool) (name : List ℕ) (x y : Window) (r r' r'' d d' w w' : Option (List ℕ)) (n n' : Counts) (k k' : Digests) (sound : Bool)
-    → HasPassed c style resync name (ahead_of x) r r' d d' w w' n n' k k' x.offset sound → TellsNext r' r'' x y next.Nothing → Ends c style resync name r r'' d d' w w' n n' k k' sound
-ends_whole c style resync name x y r r' r'' d d' w w' n n' k k' sound h t = record {
+pub ends_whole : (c : Command) (style : Style) (resync : Bool) (name : List ℕ) (x y : Window) (r r' r'' d d' w w' : Option (List ℕ)) (n n' : Counts) (k k' : Digests) (v : Work) (sound : Bool)
+    → HasPassed c style resync name (ahead_of x) r r' d d' w w' n n' k k' x.offset v sound → TellsNext r' r'' x y 0 next.Nothing → Ends c style resync name r r'' d d' w w' n n' k k' sound
+ends_whole c style resync name x y r r' r'' d d' w w' n n' k k' v sound h t = record {
   ps = h.ps;
   report_between = w';
   left = ahead_of y;
@@ -202,10 +200,12 @@ ends_whole c style resync name x y r r' r'' d d' w w' n n' k k' sound h t = reco
 }
 
 -- nothing is passed over
-pub ends_unasked : (c : Command) (style : Style) (resync : Bool) (name : List ℕ) (x y : Window) (r r' r'' d d' w w' w'' : Option (List ℕ)) (n n' : Counts) (k k' : Digests) (sound : Bool) (e : Ending)
-    → HasPassed c style resync name (ahead_of x) r r' d d' w w' n n' k k' x.offset sound → TellsNext r' r'' x y (next.End e) → resync ≡ false → Appends w' w'' (ending_line style name y.offset e None)
+pub ends_unasked : (c : Command) (style : Style) (resync : Bool) (name : List ℕ) (x y : Window) (r r' r'' d d' w w' w'' : Option (List ℕ)) (n n' : Counts)
+    (k k' : Digests) (v : Work) (sound : Bool) (e : Ending)
+    → HasPassed c style resync name (ahead_of x) r r' d d' w w' n n' k k' x.offset v sound → TellsNext r' r'' x y 0 (next.End e) → resync ≡ false
+    → Appends w' w'' (ending_line style name y.offset e None)
     → Ends c style resync name r r'' d d' w w'' n n' k k' false
-ends_unasked c style resync name x y r r' r'' d d' w w' w'' n n' k k' sound e h t unasked told = record {
+ends_unasked c style resync name x y r r' r'' d d' w w' w'' n n' k k' v sound e h t unasked told = record {
   ps = h.ps;
   report_between = w';
   left = ahead_of y;
@@ -227,9 +227,9 @@ left_some bytes x (Some s) (Some rest) (Some left) read some =
     (more, read ∙ append_assoc bytes x rest ∙ ap (λ l. bytes ++ l) is ∙ sym (append_assoc bytes more left))
 
 -- reading fails where some bytes are ahead
-pub stops_reading : (c : Command) (style : Style) (resync : Bool) (name x : List ℕ) (r r' r'' d d' w w' : Option (List ℕ)) (n n' : Counts) (k k' : Digests) (offset : ℕ) (sound : Bool)
-    → HasPassed c style resync name x r r' d d' w w' n n' k k' offset sound → LooksSome r' r'' x → Stops c style resync name r r'' d d' w w' n n' k k'
-stops_reading c style resync name x r r' r'' d d' w w' n n' k k' offset sound h some =
+pub stops_reading : (c : Command) (style : Style) (resync : Bool) (name x : List ℕ) (r r' r'' d d' w w' : Option (List ℕ)) (n n' : Counts) (k k' : Digests) (offset : ℕ) (v : Work) (sound : Bool)
+    → HasPassed c style resync name x r r' d d' w w' n n' k k' offset v sound → LooksSome r' r'' x → Stops c style resync name r r'' d d' w w' n n' k k'
+stops_reading c style resync name x r r' r'' d d' w w' n n' k k' offset v sound h some =
     let (more, read) = left_some (bytes_of_parts h.ps) x r r' r'' h.passed.is_read some in
     record {
       ps = h.ps;
@@ -238,9 +238,9 @@ stops_reading c style resync name x r r' r'' d d' w w' n n' k k' offset sound h 
     }
 
 -- the same where the report is kept
-pub stops_kept : (c : Command) (style : Style) (resync : Bool) (name x : List ℕ) (r r' r'' d d' w w' w'' : Option (List ℕ)) (n n' : Counts) (k k' : Digests) (offset : ℕ) (sound : Bool)
-    → HasPassed c style resync name x r r' d d' w w' n n' k k' offset sound → LooksSome r' r'' x × Keeps w' w'' → Stops c style resync name r r'' d d' w w'' n n' k k'
-stops_kept c style resync name x r r' r'' d d' w w' w'' n n' k k' offset sound h (some, kept) =
+pub stops_kept : (c : Command) (style : Style) (resync : Bool) (name x : List ℕ) (r r' r'' d d' w w' w'' : Option (List ℕ)) (n n' : Counts) (k k' : Digests) (offset : ℕ) (v : Work) (sound : Bool)
+    → HasPassed c style resync name x r r' d d' w w' n n' k k' offset v sound → LooksSome r' r'' x × Keeps w' w'' → Stops c style resync name r r'' d d' w w'' n n' k k'
+stops_kept c style resync name x r r' r'' d d' w w' w'' n n' k k' offset v sound h (some, kept) =
     let (more, read) = left_some (bytes_of_parts h.ps) x r r' r'' h.passed.is_read some in
     record {
       ps = h.ps;
@@ -255,13 +255,15 @@ stops_kept c style resync name x r r' r'' d d' w w' w'' n n' k k' offset sound h
     }
 
 -- what is next was told, and nothing is passed yet
-pub has_passed_ahead : (c : Command) (style : Style) (resync : Bool) (name : List ℕ) (x y : Window) (r r' r'' d d' w w' : Option (List ℕ)) (n n' : Counts) (k k' : Digests) (sound : Bool) (told : Next)
-    → HasPassed c style resync name (ahead_of x) r r' d d' w w' n n' k k' x.offset sound → TellsNext r' r'' x y told
-    → HasPassed c style resync name (ahead_of y) r r'' d d' w w' n n' k k' y.offset sound
-has_passed_ahead c style resync name x y r r' r'' d d' w w' n n' k k' sound told h t = record {
+pub has_passed_ahead : (c : Command) (style : Style) (resync : Bool) (name : List ℕ) (x y : Window) (r r' r'' d d' w w' : Option (List ℕ)) (n n' : Counts) (k k' : Digests)
+    (v : Work) (sound : Bool) (told : Next)
+    → HasPassed c style resync name (ahead_of x) r r' d d' w w' n n' k k' x.offset v sound → TellsNext r' r'' x y 0 told
+    → HasPassed c style resync name (ahead_of y) r r'' d d' w w' n n' k k' y.offset v sound
+has_passed_ahead c style resync name x y r r' r'' d d' w w' n n' k k' v sound told h t = record {
   ps = h.ps;
   passed = passed_ahead c style resync name (ahead_of x) (ahead_of y) r r' r'' d d' w w' n n' k k' h.ps h.passed t.looks;
   at = t.offset ∙ h.at;
+  worked = h.worked;
   is_sound = h.is_sound;
 }
 

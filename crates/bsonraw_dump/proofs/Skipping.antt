@@ -1,12 +1,14 @@
 -- Bytes that are passed over, one after the other.
-use Rattle.std.proofs.Common.{◌≡◌, ℕ, ◌+◌, ◌<◌, ◌≤◌, ◌⊎◌, List, [], ◌++◌, Option, None, Some, Bool, true, false, Result, Ok, Err, IfErr, arith, length, take, drop, sym, ap, ◌∙◌, subst, refl, inl, inr, append_assoc, length-append, length-take-le}
+use Rattle.std.proofs.Common.{◌≡◌, ℕ, zero, suc, ◌+◌, ◌<◌, ◌≤◌, ◌⊎◌, List, [], ◌++◌, Option, None, Some, Bool, true, false, Result, Ok, Err, IfErr, arith, length, take, drop, sym, ap, ◌∙◌, subst, refl, inl, inr, append_assoc, length-append, length-take-le}
 use Rattle.std.proofs.lemmas.List.{take-append-drop}
 use Rattle.std.proofs.Math.Nat.{eq-or-lt_of_le}
 use Rattle.std.proofs.Math.Seq.{drop-append_seam}
 use Rattle.std.specs.Io.KnownBytes.{Consumes}
 use Rattle.bsonraw_dump.specs.Reading.{IsWindow, Looks, LooksSome, ReadsSome, ahead_of}
-use Rattle.bsonraw_dump.specs.Resync.{GoesOn, HasNoneBefore, IfJudged, IsNextPlace, Passes, SkipsTo, Stays}
+use Rattle.bsonraw_dump.specs.Resync.{Checks, GoesOn, HasNoneBefore, IsWork, Passes, Searches, SkipsTo, TellsPlace}
+use Rattle.bsonraw_dump.specs.declared.resync.Work.{Work}
 use Rattle.bsonraw_dump.specs.declared.window.Window.{Window}
+use Rattle.bsonraw_dump.proofs.Going.{checked_goes, checked_stops}
 
 -- behind these bytes more is read ahead
 pub read_behind : (bytes x y : List ℕ) (r r' r'' : Option (List ℕ)) → Consumes r r' (bytes ++ x)
@@ -73,80 +75,102 @@ left_behind r (Some rest) x y s n p read =
 pub none_before : (s : List ℕ) → HasNoneBefore s 1
 none_before s j some less = absurd (omega arith)
 
-pub none_more : (s : List ℕ) (n : ℕ) → HasNoneBefore s n → ¬ GoesOn (drop n s) → HasNoneBefore s (n + 1)
+none_more : (s : List ℕ) (n : ℕ) → HasNoneBefore s n → ¬ GoesOn (drop n s) → HasNoneBefore s (suc n)
 none_more s n none not j some less =
     elim (eq-or-lt_of_le {n = j} {m = n} (omega arith)) [
       | inl same ↦ subst (λ k. ¬ GoesOn (drop k s)) (sym same) not
       | inr before ↦ none j some before
     ]
 
--- what the loop keeps of all that was to be read: where each place was checked, none of them is one
-abbrev pub Searches : (r : Option (List ℕ)) → (x : List ℕ) → ℕ → (all : Bool) → Type 0
-Searches r x n all = (s : List ℕ) → Consumes (Some s) r x → all ≡ true → HasNoneBefore s n
+-- where each place was checked, documents go on at none of them
+none_searched : (s : List ℕ) (at : ℕ) (old new : Work) (n : ℕ) (all : Bool) → Searches s at old new n all → all ≡ true → HasNoneBefore s (suc n)
+none_searched s at old new zero all is checked = none_before s
+none_searched s at old new (suc n) all (mid, before, searches, inl (stops, same)) checked =
+    none_more s (suc n) (none_searched s at old mid n before searches (sym same ∙ checked)) (checked_stops (drop (suc n) s) (at + suc n) mid new stops)
+none_searched s at old new (suc n) all (mid, before, searches, inr (left, not)) checked = let impossible : ⊥ = cc in absurd impossible
 
--- what the loop keeps: bytes are passed over, more are ahead, and no place is in those
-pub record IsSearched (r r' : Option (List ℕ)) (x y : Window) (n : ℕ) (all : Bool) : Type 0 where
+-- what the loop keeps: bytes are passed over, more are ahead, and the places in those were searched
+pub record IsSearched (r r' : Option (List ℕ)) (x y : Window) (old new : Work) (n : ℕ) (all : Bool) : Type 0 where
   pub window : IsWindow y
+  pub work : IsWork new
   pub offset : y.offset ≡ x.offset + n
   pub some : 0 < length (ahead_of y)
   pub passes : Passes r r' (ahead_of x) (ahead_of y) n
-  pub searches : Searches r (ahead_of x) (n + 1) all
+  pub searches : (s : List ℕ) → Consumes (Some s) r (ahead_of x) → Searches s x.offset old new n all
 
-pub searched_none : (r : Option (List ℕ)) (x : Window) → IsWindow x → 0 < length (ahead_of x) → IsSearched r r x x 0 true
-searched_none r x is some = record { window = is; offset = omega arith; some = some; passes = passes_none r (ahead_of x); searches = λ s read all. none_before s }
+pub searched_none : (r : Option (List ℕ)) (x : Window) (w : Work) → IsWindow x → IsWork w → 0 < length (ahead_of x) → IsSearched r r x x w w 0 true
+searched_none r x w is work some = record {
+  window = is;
+  work = work;
+  offset = omega arith;
+  some = some;
+  passes = passes_none r (ahead_of x);
+  searches = λ s read. (refl, refl);
+}
 
--- a byte is passed, and behind it more may be read
-module _ (r r' r'' : Option (List ℕ)) (x y z w : Window) (n : ℕ) (all : Bool) (is : IsSearched r r' x y n all) (one : ahead_of z ≡ drop 1 (ahead_of y))
-    (at : z.offset ≡ y.offset + 1) (stays : Stays r' r'' z w) where
-  over : Passes r r'' (ahead_of x) (ahead_of w) (n + 1)
-  over = passes_ahead r r' r'' (ahead_of x) (ahead_of z) (ahead_of w) (n + 1) (passes_more r r' (ahead_of x) (ahead_of y) (ahead_of z) n is.passes is.some one) stays.looks
-
-  behind : (s : List ℕ) → Consumes (Some s) r (ahead_of x) → Consumes (Some (drop (n + 1) s)) r' (ahead_of z) × (n + 1 ≤ length s)
-  behind s read = left_behind r r' (ahead_of x) (ahead_of z) s (n + 1) (passes_more r r' (ahead_of x) (ahead_of y) (ahead_of z) n is.passes is.some one) read
-
-  there : w.offset ≡ x.offset + (n + 1)
-  there =
-      let first : w.offset ≡ z.offset = stays.offset in
-      let second : y.offset ≡ x.offset + n = is.offset in
-      omega arith
-
-  -- documents go on there
-  pub searched_to : (j : Option Bool) → j ≡ Some true → ((s : List ℕ) → Consumes (Some s) r' (ahead_of z) → IfJudged j (GoesOn s) (¬ GoesOn s))
-      → SkipsTo r r'' x w (record { count = n + 1; all = all })
-  searched_to j found judged = record {
-    window = stays.window;
-    offset = there;
-    passes = over;
-    is = λ s read. let (left, within) = behind s read in record {
-      some = omega arith;
-      within = within;
-      goes_on = subst (λ k. IfJudged k (GoesOn (drop (n + 1) s)) (¬ GoesOn (drop (n + 1) s))) found (judged (drop (n + 1) s) left);
-      first = is.searches s read;
-    };
-  }
-
-  -- they don't
-  pub searched_on : (j : Option Bool) → j ≡ Some false → ((s : List ℕ) → Consumes (Some s) r' (ahead_of z) → IfJudged j (GoesOn s) (¬ GoesOn s))
-      → 0 < length (ahead_of w) → IsSearched r r'' x w (n + 1) all
-  searched_on j found judged some = record {
-    window = stays.window;
-    offset = there;
-    some = some;
-    passes = over;
-    searches = λ s read checked.
-        none_more s (n + 1) (is.searches s read checked) (subst (λ k. IfJudged k (GoesOn (drop (n + 1) s)) (¬ GoesOn (drop (n + 1) s))) found (judged (drop (n + 1) s) ((behind s read).0)));
-  }
-
-  -- it isn't known
-  pub searched_past : 0 < length (ahead_of w) → IsSearched r r'' x w (n + 1) false
-  searched_past some = record {
-    window = stays.window;
-    offset = there;
-    some = some;
-    passes = over;
-    searches = λ s read checked. let no : false ≡ true = checked in let impossible : ⊥ = cc in absurd impossible;
-  }
-
-pub some_judged : (j : Option Bool) (P : Type 0) → ¬ (j ≡ Some true) → (j ≡ Some true) ⊎ P → P
+some_judged : (j : Option Bool) (P : Type 0) → ¬ (j ≡ Some true) → (j ≡ Some true) ⊎ P → P
 some_judged j P not (inl found) = absurd (not found)
 some_judged j P not (inr is) = is
+
+-- a byte is passed, and the place behind it is checked
+module _ (r r' r'' : Option (List ℕ)) (x y z w : Window) (old mid new : Work) (n : ℕ) (all : Bool) (is : IsSearched r r' x y old mid n all)
+    (one : ahead_of z ≡ drop 1 (ahead_of y)) (at : z.offset ≡ y.offset + 1) (judged : Option Bool) (place : TellsPlace r' r'' z w mid new judged) where
+  first : Passes r r' (ahead_of x) (ahead_of z) (n + 1)
+  first = passes_more r r' (ahead_of x) (ahead_of y) (ahead_of z) n is.passes is.some one
+
+  over : Passes r r'' (ahead_of x) (ahead_of w) (n + 1)
+  over = passes_ahead r r' r'' (ahead_of x) (ahead_of z) (ahead_of w) (n + 1) first place.stays.looks
+
+  there : z.offset ≡ x.offset + (n + 1)
+  there = let before : y.offset ≡ x.offset + n = is.offset in omega arith
+
+  checks : (s : List ℕ) → Consumes (Some s) r (ahead_of x) → Checks (drop (n + 1) s) (x.offset + (n + 1)) mid new judged
+  checks s read = subst (λ m. Checks (drop (n + 1) s) m mid new judged) there (place.checks (drop (n + 1) s) ((left_behind r r' (ahead_of x) (ahead_of z) s (n + 1) first read).0))
+
+  -- documents go on there
+  pub searched_to : judged ≡ Some true → SkipsTo r r'' x w old new (record { count = n + 1; all = all })
+  searched_to found = record {
+    window = place.stays.window;
+    offset = place.stays.offset ∙ there;
+    work = place.work;
+    passes = over;
+    is = λ s read.
+        let goes = subst (λ j. Checks (drop (n + 1) s) (x.offset + (n + 1)) mid new j) found (checks s read) in
+        let searches = is.searches s read in record {
+          some = omega arith;
+          within = (left_behind r r' (ahead_of x) (ahead_of z) s (n + 1) first read).1;
+          goes_on = checked_goes (drop (n + 1) s) (x.offset + (n + 1)) mid new goes;
+          first = λ checked. let next : suc n ≡ n + 1 = omega arith in subst (HasNoneBefore s) next (none_searched s x.offset old mid n all searches checked);
+          before = n;
+          count = omega arith;
+          mid = mid;
+          searches = searches;
+          checks = goes;
+        };
+  }
+
+  -- what the search is then
+  searched : (more : Bool) → ((judged ≡ Some false) × (more ≡ all)) ⊎ ((judged ≡ None) × (more ≡ false)) → (s : List ℕ) → Consumes (Some s) r (ahead_of x) → Searches s x.offset old new (n + 1) more
+  searched more how s read =
+      let next : suc n ≡ n + 1 = omega arith in
+      let here : Checks (drop (suc n) s) (x.offset + suc n) mid new judged = subst (λ m. Checks (drop m s) (x.offset + m) mid new judged) (sym next) (checks s read) in
+      subst (λ m. Searches s x.offset old new m more) next (
+        mid,
+        all,
+        is.searches s read,
+        elim how [
+          | inl (stops, same) ↦ inl (subst (λ j. Checks (drop (suc n) s) (x.offset + suc n) mid new j) stops here, same)
+          | inr (left, not) ↦ inr (subst (λ j. Checks (drop (suc n) s) (x.offset + suc n) mid new j) left here, not)
+        ],
+      )
+
+  -- they don't, or it isn't known
+  pub searched_on : (more : Bool) → ((judged ≡ Some false) × (more ≡ all)) ⊎ ((judged ≡ None) × (more ≡ false)) → ¬ (judged ≡ Some true) → IsSearched r r'' x w old new (n + 1) more
+  searched_on more how not = record {
+    window = place.stays.window;
+    work = place.work;
+    offset = place.stays.offset ∙ there;
+    some = some_judged judged (0 < length (ahead_of w)) not place.some;
+    passes = over;
+    searches = searched more how;
+  }

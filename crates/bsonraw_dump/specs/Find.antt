@@ -1,5 +1,5 @@
 -- What is found in the bytes of one document, and what is told of it.
-use Rattle.std.specs.Prelude.{◌≡◌, ◌⊎◌, ℕ, List, [], Option, None, Some, codes, map}
+use Rattle.std.specs.Prelude.{◌≡◌, ◌⊎◌, ℕ, List, [], Option, None, Some, codes}
 use Rattle.std.specs.Option.{option_copied, option_map}
 use Rattle.bson_model.specs.Tree.{Tree}
 use Rattle.raw_view.specs.Envelope.{IsEnvelope, Refuses}

@@ -1,5 +1,5 @@
 -- What reading an input gives, where some of it is read ahead.
-use Rattle.std.specs.Prelude.{◌≡◌, ◌+◌, ◌*◌, ◌^◌, ◌≤◌, ◌<◌, ℕ, List, [], Bool, true, false, Option, None, Some, take, drop, length}
+use Rattle.std.specs.Prelude.{◌≡◌, ◌+◌, ◌≤◌, ◌<◌, ℕ, List, [], Bool, true, false, Option, take, drop, length}
 use Rattle.std.specs.Io.KnownBytes.{Consumes, IsAtEnd}
 use Rattle.bsonraw_dump.specs.Cut.{IsPiece, EndsWith}
 use Rattle.bsonraw_dump.specs.declared.ending.Ending.{Ending}
@@ -27,17 +27,8 @@ abbrev pub FillsSome : Option (List ℕ) → Option (List ℕ) → ℕ → List 
 FillsSome old new front buffer = (before : Option (List ℕ)) → Consumes before old (take front buffer) → ReadsSome before new
 
 -- the bytes ahead are in the room
-abbrev pub IsRoom : Window → Type 0
-IsRoom w = w.at + w.len ≤ length w.room.items
-
--- so it is, and a search looked at no more than eight times the bytes that were read
-pub record IsWindow (w : Window) : Type 0 where
-  pub room : IsRoom w
-  pub work : w.spent ≤ 8 * (w.offset + w.len)
-
--- so it is after a search looks at so many more bytes
-abbrev pub Affords : Window → ℕ → Type 0
-Affords w count = (w.spent + count ≤ 8 * (w.offset + w.len)) × (w.spent + count < 2 ^ 64)
+abbrev pub IsWindow : Window → Type 0
+IsWindow w = w.at + w.len ≤ length w.room.items
 
 -- the bytes that were read, and aren't passed
 abbrev pub ahead_of : Window → List ℕ
@@ -52,16 +43,6 @@ pub record Looks (old new : Option (List ℕ)) (ahead more : List ℕ) : Type 0 
 -- so it is, and so many bytes are ahead; or fewer, and the input is at its end
 pub record SeesAhead (old new : Option (List ℕ)) (window_old window_new : Window) (want : ℕ) (is_there : Bool) : Type 0 where
   pub window : IsWindow window_new
-  pub offset : window_new.offset ≡ window_old.offset
-  pub looks : Looks old new (ahead_of window_old) (ahead_of window_new)
-  pub there : is_there ≡ true → want ≤ length (ahead_of window_new)
-  pub ends : is_there ≡ false → (length (ahead_of window_new) < want) × IsAtEnd new
-
--- the same, but for what a search looked at, of which nothing changed
-pub record ReadsOn (old new : Option (List ℕ)) (window_old window_new : Window) (want : ℕ) (is_there : Bool) : Type 0 where
-  pub room : IsRoom window_new
-  pub more : window_old.len ≤ window_new.len
-  pub spent : window_new.spent ≡ window_old.spent
   pub offset : window_new.offset ≡ window_old.offset
   pub looks : Looks old new (ahead_of window_old) (ahead_of window_new)
   pub there : is_there ≡ true → want ≤ length (ahead_of window_new)
@@ -82,9 +63,9 @@ IsNext new ahead (next.Document len) = (len ≤ length ahead) × IsPiece (take l
 IsNext new ahead next.Nothing = (ahead ≡ []) × IsAtEnd new
 IsNext new ahead (next.End ending) = EndsWith ending ahead × IsReadBehind ending new
 
--- with the known bytes of a reader before and after, and a window: what is next was told
-pub record TellsNext (old new : Option (List ℕ)) (window_old window_new : Window) (told : Next) : Type 0 where
+-- with the known bytes of a reader before and after, and a window: what is next behind so many of the bytes ahead was told
+pub record TellsNext (old new : Option (List ℕ)) (window_old window_new : Window) (from : ℕ) (told : Next) : Type 0 where
   pub window : IsWindow window_new
   pub offset : window_new.offset ≡ window_old.offset
   pub looks : Looks old new (ahead_of window_old) (ahead_of window_new)
-  pub is : IsNext new (ahead_of window_new) told
+  pub is : IsNext new (drop from (ahead_of window_new)) told

@@ -6,7 +6,7 @@ use Rattle.bson_json.specs.Json.{IsJson}
 use Rattle.bson_json.specs.declared.style.Style as json
 use Rattle.bsonraw_dump.specs.Cut.{IsPiece, EndsWith}
 use Rattle.bsonraw_dump.specs.Reading.{IsReadBehind, IsWindow, ahead_of}
-use Rattle.bsonraw_dump.specs.Resync.{IsNextPlace, SkipsTo}
+use Rattle.bsonraw_dump.specs.Resync.{IsNextPlace, SkipsTo, no_work}
 use Rattle.bsonraw_dump.specs.declared.window.Window.{Window}
 use Rattle.bsonraw_dump.specs.Find.{Account, Finds}
 use Rattle.bsonraw_dump.specs.Listing.{ListsDocument}
@@ -20,6 +20,7 @@ use Rattle.bsonraw_dump.specs.declared.counts.Counts.{Counts}
 use Rattle.bsonraw_dump.specs.declared.digests.Digests.{Digests}
 use Rattle.bsonraw_dump.specs.declared.ending.Ending.{Ending}
 use Rattle.bsonraw_dump.specs.declared.resync.Skip.{Skip}
+use Rattle.bsonraw_dump.specs.declared.resync.Work.{Work}
 use Rattle.bsonraw_dump.specs.declared.find.Finding.{Finding}
 use Rattle.bsonraw_dump.specs.declared.find.Finding.TheVariants as finding
 use Rattle.bsonraw_dump.specs.declared.style.Style.{Style}
@@ -80,20 +81,22 @@ pub record IsEntry (c : Command) (style : Style) (name : List ℕ) (offset : ℕ
   pub makes : Makes c e.bytes e.finding e.made
   pub reports : Reports c style name offset e.bytes e.finding e.told e.lines
 
--- bytes of an input that are passed over, since no document is in front of them, why not, how many, and the line of that
+-- bytes of an input that are passed over, since no document is in front of them, why not, how many, what the searches cost then,
+-- and the line of that
 pub record Gap : Type 0 where
   pub bytes : List ℕ
   pub end : Ending
   pub skip : Skip
+  pub work : Work
   pub lines : List ℕ
 
--- What is so of a gap at this offset of an input, of which these bytes are known: it is asked for, no document is in front of
--- it, and the next place at which documents go on is behind it.
-pub record IsGap (style : Style) (resync : Bool) (name : List ℕ) (input : Option (List ℕ)) (offset : ℕ) (g : Gap) : Type 0 where
+-- What is so of a gap at this offset of an input, of which these bytes are known, where earlier searches cost so much: it is
+-- asked for, no document is in front of it, and the next place at which documents are found to go on is behind it.
+pub record IsGap (style : Style) (resync : Bool) (name : List ℕ) (input : Option (List ℕ)) (offset : ℕ) (work : Work) (g : Gap) : Type 0 where
   pub asked : resync ≡ true
   pub ends : IfSome input (λ s. EndsWith g.end (drop offset s))
   pub len : length g.bytes ≡ g.skip.count
-  pub next : IfSome input (λ s. IsNextPlace (drop offset s) g.skip)
+  pub next : IfSome input (λ s. IsNextPlace (drop offset s) offset work g.work g.skip)
   pub reports : g.lines ≡ ending_line style name offset g.end (Some g.skip)
 
 -- a part of an input: a piece, or a gap
@@ -113,16 +116,21 @@ abbrev pub lines_of_part : Part → List ℕ
 lines_of_part (piece e) = e.lines
 lines_of_part (gap g) = g.lines
 
--- what is so of a part at this offset of an input
-abbrev pub IsPart : Command → Style → (resync : Bool) → List ℕ → Option (List ℕ) → ℕ → Part → Type 0
-IsPart c style resync name input offset (piece e) = IsEntry c style name offset e
-IsPart c style resync name input offset (gap g) = IsGap style resync name input offset g
+-- what the searches cost behind a part
+abbrev pub work_behind : Work → Part → Work
+work_behind work (piece e) = work
+work_behind work (gap g) = g.work
 
--- parts one behind the other, the first of which begins at this offset of the input
-abbrev pub AreParts : Command → Style → (resync : Bool) → List ℕ → Option (List ℕ) → ℕ → List Part → Type 0
-AreParts c style resync name input offset [] = Unit {0}
-AreParts c style resync name input offset (p ∷ ps) =
-    IsPart c style resync name input offset p × AreParts c style resync name input (offset + length (bytes_of_part p)) ps
+-- what is so of a part at this offset of an input, where the searches before it cost so much
+abbrev pub IsPart : Command → Style → (resync : Bool) → List ℕ → Option (List ℕ) → ℕ → Work → Part → Type 0
+IsPart c style resync name input offset work (piece e) = IsEntry c style name offset e
+IsPart c style resync name input offset work (gap g) = IsGap style resync name input offset work g
+
+-- parts one behind the other, the first of which begins at this offset of the input, where the searches before it cost so much
+abbrev pub AreParts : Command → Style → (resync : Bool) → List ℕ → Option (List ℕ) → ℕ → Work → List Part → Type 0
+AreParts c style resync name input offset work [] = Unit {0}
+AreParts c style resync name input offset work (p ∷ ps) =
+    IsPart c style resync name input offset work p × AreParts c style resync name input (offset + length (bytes_of_part p)) (work_behind work p) ps
 
 -- these documents are written, or of unique those that are new, and their digests are known then
 pub record Writes (c : Command) (made : List (List ℕ)) (out_old out_new : Option (List ℕ)) (digests_old digests_new : Digests) : Type 0 where
@@ -175,7 +183,7 @@ are_sound (gap g ∷ ps) end = false
 pub record Passed (c : Command) (style : Style) (resync : Bool) (name ahead : List ℕ)
     (read_old read_new out_old out_new report_old report_new : Option (List ℕ)) (counts_old counts_new : Counts) (digests_old digests_new : Digests)
     (ps : List Part) : Type 0 where
-  pub parts : AreParts c style resync name read_old 0 ps
+  pub parts : AreParts c style resync name read_old 0 no_work ps
   pub is_read : Consumes read_old read_new (bytes_of_parts ps ++ ahead)
   pub is_written : Writes c (made_of_parts ps) out_old out_new digests_old digests_new
   pub is_reported : Appends report_old report_new (lines_of_parts ps)
@@ -213,9 +221,10 @@ IsReading (failure.Reading e) = Unit {0}
 IsReading _ = ⊥
 
 -- at the bytes ahead no document begins, and bytes are passed over; their line was written
-pub record PassesGap (style : Style) (name : List ℕ) (end : Ending) (read_old read_new : Option (List ℕ)) (window_old window_new : Window) (report_old report_new : Option (List ℕ)) : Type 0 where
+pub record PassesGap (style : Style) (name : List ℕ) (end : Ending) (read_old read_new : Option (List ℕ)) (window_old window_new : Window)
+    (work_old work_new : Work) (report_old report_new : Option (List ℕ)) : Type 0 where
   pub skip : Skip
-  pub skips : SkipsTo read_old read_new window_old window_new skip
+  pub skips : SkipsTo read_old read_new window_old window_new work_old work_new skip
   pub told : Appends report_old report_new (ending_line style name window_old.offset end (Some skip))
 
 -- the document of so many bytes in front of the bytes ahead is passed

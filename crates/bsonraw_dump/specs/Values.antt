@@ -1,5 +1,5 @@
 -- Values as a person reads them, in a line.
-use Rattle.std.specs.Prelude.{◌≡◌, ◌⊎◌, ◌<◌, ◌≤◌, ◌%◌, ℕ, ℤ, List, [], ◌++◌, Bool, true, false, Some, codes, cond, decimal, from_bits, length, nat_lt}
+use Rattle.std.specs.Prelude.{◌≡◌, ◌⊎◌, ◌<◌, ◌≤◌, ◌%◌, ℕ, List, [], ◌++◌, Bool, true, false, Some, codes, cond, decimal, from_bits, length, nat_lt}
 use Rattle.std.specs.Fmt.{signed_decimal}
 use Rattle.std.specs.Float.{binary64}
 use Rattle.ryu.specs.Parse.{parse_float}

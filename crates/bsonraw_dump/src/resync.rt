@@ -1,16 +1,15 @@
 //! Looks where documents go on behind bytes that no document begins with.
 #![tactic(auto)]
 
-ghost use Rattle.std.specs.Prelude.{◌≡◌, ◌+◌, ◌≤◌, ◌<◌, ◌^◌, ◌⊎◌, ℕ, List, Some, true, MatchBool, min, IfErr, IfOk, drop, length, slice_range};
-ghost use Rattle.std.specs.Io.KnownBytes.{Consumes};
+ghost use Rattle.std.specs.Prelude.{◌≡◌, ◌+◌, ◌≤◌, ◌<◌, ◌^◌, ℕ, List, [], ◌∷◌, IfErr, IfOk, length};
 ghost use Rattle.bsonraw_dump.specs.Cut.{IsPiece, said_len};
 ghost use Rattle.bsonraw_dump.specs.Reading.{IsWindow, LooksSome, ahead_of};
-ghost use Rattle.bsonraw_dump.specs.Resync.{AreFramed, AreThere, Frames, Fronts, GoesOn, IsFramed, IfJudged, IsSound, KeepsWindow, LooksAt, SkipsTo, Spends, Stays};
+ghost use Rattle.bsonraw_dump.specs.Resync.{CountsTo, IsJudged, IsWork, Judges, JudgesAll, SkipsTo, TellsPlace, no_work, said_behind};
 ghost use Rattle.bsonraw_dump.specs.Run.{IsReading};
 
 use crate::failure::Failure;
 use crate::find::most_allowed;
-use crate::window::{Window, is_sound, length_at};
+use crate::window::{Next, Window, look_ahead};
 use memchr::memchr;
 use raw_form::first_fault_within;
 use raw_view::RawDocument;
@@ -24,6 +23,9 @@ const REGULAR_EXPRESSION: u8 = 11;
 /// So many bytes an element has at most beside its key and those that its length says.
 const AROUND: usize = 24;
 
+/// So many bytes are looked at, at most, for each byte up to the furthest end of a piece.
+const MOST_FOR_EACH: u128 = 8;
+
 /// What was passed over.
 #[derive(Clone, Copy)]
 pub struct Skip {
@@ -33,20 +35,39 @@ pub struct Skip {
     pub all: bool,
 }
 
+/// What the searches of an input cost so far. The range is over that of any sum.
+#[derive(Clone, Copy)]
+pub struct Work {
+    /// how many bytes they looked at
+    pub spent: u128,
+    /// the offset in the input of the furthest end of a piece that they came to
+    pub reach: u128,
+}
+
+impl Work {
+    /// There was no search.
+    pub fn new() -> Work
+        ensures { result ≡ no_work }
+    {
+        Work { spent: 0, reach: 0 }
+    }
+}
+
 /// Passes over bytes, at least one, until documents go on.
 pub fn pass_over<R: Read>(
     alloc: Global,
     reader: &mut R,
     window: &mut Window,
+    work: &mut Work,
 ) -> Result<Skip, Failure>
-    requires { IsWindow window.old × (0 < length (ahead_of window.old)) }
-    ensures skips { IfOk result (SkipsTo (R.remaining reader.old) (R.remaining reader.new) window.old window.new) }
+    requires { IsWindow window.old × IsWork work.old × (0 < length (ahead_of window.old)) }
+    ensures skips { IfOk result (SkipsTo (R.remaining reader.old) (R.remaining reader.new) window.old window.new work.old work.new) }
     ensures fails { IfErr result (λ failure. IsReading failure → LooksSome (R.remaining reader.old) (R.remaining reader.new) (ahead_of window.old)) }
 {
     let mut all = true;
     for passed in 0..u64::MAX {
         window.pass(1)?;
-        match goes_on(alloc, reader, window)? {
+        match goes_on(alloc, reader, window, work)? {
             Some(true) => {
                 return Ok(Skip {
                     count: passed + 1,
@@ -60,127 +81,64 @@ pub fn pass_over<R: Read>(
     Err(Failure::Reading(io::Error::from(io::ErrorKind::TimedOut)))
 }
 
-/// What is in front of the bytes ahead, as far as lengths tell.
-#[derive(Clone, Copy)]
-pub enum Front {
-    /// the input is at its end
-    Nothing,
-    /// no document, or none behind the first
-    Other,
-    /// a document that ends here can be all that is left
-    One(usize),
-    /// two documents that end here can be there
-    Two(usize, usize),
-}
-
 /// Whether documents go on at the bytes ahead; `None` where it would cost too much to know.
 fn goes_on<R: Read>(
     alloc: Global,
     reader: &mut R,
     window: &mut Window,
+    work: &mut Work,
 ) -> Result<Option<bool>, Failure>
-    requires { IsWindow window.old }
-    ensures stays { IfOk result (λ _. Stays (R.remaining reader.old) (R.remaining reader.new) window.old window.new) }
-    ensures some { IfOk result (λ judged. (judged ≡ Some true) ⊎ (0 < length (ahead_of window.new))) }
-    ensures judged { IfOk result (λ judged. (s : List ℕ) → Consumes (Some s) (R.remaining reader.old) (ahead_of window.old)
-        → IfJudged judged (GoesOn s) (¬ GoesOn s)) }
+    requires { IsWindow window.old × IsWork work.old }
+    ensures told { IfOk result (TellsPlace (R.remaining reader.old) (R.remaining reader.new) window.old window.new work.old work.new) }
     ensures fails { IfErr result (λ _. LooksSome (R.remaining reader.old) (R.remaining reader.new) (ahead_of window.old)) }
 {
-    match look_front(reader, window)? {
-        Front::Nothing => Ok(Some(true)),
-        Front::Other => Ok(Some(false)),
-        Front::One(end) => Ok(judge(alloc, window, 0, end)?),
-        Front::Two(end, last) => Ok(judge_two(alloc, window, end, last)?),
+    let end = match look_ahead(reader, window, 0)? {
+        Next::Nothing => return Ok(Some(true)),
+        Next::End(_) => return Ok(Some(false)),
+        Next::Document(len) => len,
+    };
+    let next = look_ahead(reader, window, end)?;
+    let at = u128::from(window.offset());
+    let (first, rest) = window.ahead().split_at(end);
+    match next {
+        Next::Nothing => Ok(judge(alloc, first, at, work)?),
+        Next::End(_) => Ok(Some(false)),
+        Next::Document(len) => Ok(judge_two(alloc, first, &rest[..len], at, work)?),
     }
 }
 
-/// Whether two pieces are documents without damage.
+/// Whether two pieces one behind the other, at this offset of the input, are documents without damage; `None` where it would
+/// cost too much to know.
 fn judge_two(
     alloc: Global,
-    window: &mut Window,
-    end: usize,
-    last: usize,
+    first: &[u8],
+    second: &[u8],
+    at: u128,
+    work: &mut Work,
 ) -> Result<Option<bool>, AllocError>
-    requires { IsWindow window.old × IsFramed (ahead_of window.old) 0 end × IsFramed (ahead_of window.old) end last }
-    ensures keeps { KeepsWindow window.old window.new }
-    ensures judged { IfOk result (λ judged. IfJudged judged
-        (IsSound (slice_range (ahead_of window.old) 0 end) × IsSound (slice_range (ahead_of window.old) end last))
-        ((¬ IsSound (slice_range (ahead_of window.old) 0 end)) ⊎ (¬ IsSound (slice_range (ahead_of window.old) end last)))) }
+    requires { IsPiece first.now × IsPiece second.now × IsWork work.old × (at < 2 ^ 64) }
+    ensures work { IsWork work.new }
+    ensures judged { IfOk result (JudgesAll (first.now ∷ second.now ∷ []) at work.old work.new) }
 {
-    match judge(alloc, window, 0, end)? {
-        Some(true) => judge(alloc, window, end, last),
+    match judge(alloc, first, at, work)? {
+        Some(true) => judge(alloc, second, at + first.len() as u128, work),
         other => Ok(other),
     }
 }
 
-/// Looks what is in front of the bytes ahead.
-fn look_front<R: Read>(reader: &mut R, window: &mut Window) -> Result<Front, Failure>
-    requires { IsWindow window.old }
-    ensures stays { IfOk result (λ _. Stays (R.remaining reader.old) (R.remaining reader.new) window.old window.new) }
-    ensures there { IfOk result (AreThere (ahead_of window.new)) }
-    ensures fronts { IfOk result (λ front. (s : List ℕ) → Consumes (Some s) (R.remaining reader.old) (ahead_of window.old)
-        → Fronts s (ahead_of window.new) front) }
-    ensures fails { IfErr result (λ _. LooksSome (R.remaining reader.old) (R.remaining reader.new) (ahead_of window.old)) }
+/// Whether a piece at this offset of the input is a document without damage; `None` where it would cost too much to know.
+fn judge(alloc: Global, bytes: &[u8], at: u128, work: &mut Work) -> Result<Option<bool>, AllocError>
+    requires { IsPiece bytes.now × IsWork work.old × (at < 2 ^ 65) }
+    ensures work { IsWork work.new }
+    ensures judged { IfOk result (Judges bytes.now (at + length bytes.now) work.old work.new) }
 {
-    if !window.look(reader, 1)? {
-        return Ok(Front::Nothing);
-    }
-    let Some(end) = document_at(reader, window, 0)? else {
-        return Ok(Front::Other);
-    };
-    if !window.look(reader, end + 1)? {
-        return Ok(Front::One(end));
-    }
-    match document_at(reader, window, end)? {
-        Some(last) => Ok(Front::Two(end, last)),
-        None => Ok(Front::Other),
-    }
-}
-
-/// Where a document that begins at this offset of the bytes ahead has to end; `None` where no document can begin there.
-fn document_at<R: Read>(
-    reader: &mut R,
-    window: &mut Window,
-    from: usize,
-) -> Result<Option<usize>, Failure>
-    requires { IsWindow window.old × (from ≤ length (ahead_of window.old)) × (from < 2 ^ 26) }
-    ensures stays { IfOk result (λ _. Stays (R.remaining reader.old) (R.remaining reader.new) window.old window.new) }
-    ensures within { IfOk result (AreFramed (ahead_of window.new) from) }
-    ensures framed { IfOk result (λ found. (s : List ℕ) → Consumes (Some s) (R.remaining reader.old) (ahead_of window.old)
-        → Frames s (ahead_of window.new) from found) }
-    ensures fails { IfErr result (λ _. LooksSome (R.remaining reader.old) (R.remaining reader.new) (ahead_of window.old)) }
-{
-    if !window.look(reader, from + 4)? {
+    let len = bytes.len() as u128;
+    work.reach = work.reach.max(at + len);
+    if MOST_FOR_EACH * work.reach <= work.spent + len {
         return Ok(None);
     }
-    let len = length_at(window.ahead(), from);
-    if !is_sound(len) {
-        return Ok(None);
-    }
-    if !window.look(reader, from + len)? {
-        return Ok(None);
-    }
-    Ok(Some(from + len))
-}
-
-/// Whether a piece of the bytes ahead is a document without damage; `None` where it would cost too much to know.
-fn judge(
-    alloc: Global,
-    window: &mut Window,
-    from: usize,
-    end: usize,
-) -> Result<Option<bool>, AllocError>
-    requires { IsWindow window.old × IsFramed (ahead_of window.old) from end }
-    ensures keeps { KeepsWindow window.old window.new }
-    ensures judged { IfOk result (λ judged. IfJudged judged (IsSound (slice_range (ahead_of window.old) from end))
-        (¬ IsSound (slice_range (ahead_of window.old) from end))) }
-    ensures spends { IfOk result (Spends window.old window.new (slice_range (ahead_of window.old) from end)) }
-{
-    if !window.affords(end - from) {
-        return Ok(None);
-    }
-    let verdict = verdict_on(alloc, &window.ahead()[from..end])?;
-    window.spend(verdict.cost);
+    let verdict = verdict_on(alloc, bytes)?;
+    work.spent += verdict.cost as u128;
     Ok(Some(verdict.is_sound))
 }
 
@@ -193,10 +151,8 @@ struct Verdict {
 
 fn verdict_on(alloc: Global, bytes: &[u8]) -> Result<Verdict, AllocError>
     requires { IsPiece bytes.now }
-    ensures sound { IfOk result
-        (λ verdict. MatchBool verdict.is_sound (IsSound bytes.now) (¬ IsSound bytes.now)) }
-    ensures cost { IfOk result
-        (λ verdict. LooksAt bytes.now verdict.cost × (verdict.cost ≤ length bytes.now)) }
+    ensures judged { IfOk result (λ verdict. IsJudged bytes.now verdict.is_sound verdict.cost) }
+    ensures cost { IfOk result (λ verdict. verdict.cost ≤ length bytes.now) }
 {
     let Ok(document) = RawDocument::from_bytes(bytes) else {
         return Ok(Verdict {
@@ -218,27 +174,33 @@ fn verdict_on(alloc: Global, bytes: &[u8]) -> Result<Verdict, AllocError>
 }
 
 /// How many bytes are looked at of a document whose first fault begins here, or somewhat more: those in front of it, its
-/// key, and as many as the length behind the key says. Of a regular expression they are all, since it says no length.
+/// key, and as many as the length behind the key says. Where no key is there, they are all.
 fn looked_at(bytes: &[u8], offset: usize) -> usize
-    ensures { (min offset (length bytes.now) ≤ result) × (result ≤ length bytes.now) }
+    ensures counts { CountsTo bytes.now offset result }
+    ensures within { result ≤ length bytes.now }
 {
-    let Some((tag, rest)) = bytes
-        .get(offset..)
-        .and_then(|element| element.split_first())
-    else {
+    if offset >= bytes.len() {
+        return bytes.len();
+    }
+    let Some(end) = memchr(0, &bytes[offset + 1..]) else {
         return bytes.len();
     };
-    let Some(end) = memchr(0, rest) else {
-        return bytes.len();
-    };
-    let said = match rest[end + 1..].first_chunk::<4>() {
-        Some(head) if *tag != REGULAR_EXPRESSION => u32::from_le_bytes(*head) as usize,
-        _ => bytes.len(),
-    };
+    let said = length_behind(bytes[offset], &bytes[offset + end + 2..], bytes.len());
     bytes.len().min(
         offset
             .saturating_add(end)
             .saturating_add(said)
             .saturating_add(AROUND),
     )
+}
+
+/// The length that an element of this tag says behind its key; of a regular expression, which says none, and where none is
+/// there, this one.
+fn length_behind(tag: u8, rest: &[u8], otherwise: usize) -> usize
+    ensures { result ≡ said_behind tag rest.now otherwise }
+{
+    match rest.first_chunk::<4>() {
+        Some(head) if tag != REGULAR_EXPRESSION => u32::from_le_bytes(*head) as usize,
+        _ => otherwise,
+    }
 }

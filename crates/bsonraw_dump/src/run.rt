@@ -7,6 +7,7 @@ ghost use Rattle.std.specs.Io.KnownBytes.{Appends, Keeps};
 ghost use Rattle.bsonraw_dump.specs.Cut.{IsPiece};
 ghost use Rattle.bsonraw_dump.specs.Find.{Finds};
 ghost use Rattle.bsonraw_dump.specs.Reading.{IsWindow, LooksSome, ahead_of};
+ghost use Rattle.bsonraw_dump.specs.Resync.{IsWork};
 ghost use Rattle.bsonraw_dump.specs.Listing.{ListsDocument};
 ghost use Rattle.bsonraw_dump.specs.Find.{Account, account_of};
 ghost use Rattle.bsonraw_dump.specs.Told.{ending_line, line, summary_line};
@@ -25,7 +26,7 @@ use crate::failure::Failure;
 use crate::find::{Finding, Found, Told, find, most_allowed};
 use crate::listing::list_level;
 use crate::object::{ending_object, summary_object, told_object};
-use crate::resync::{Skip, pass_over};
+use crate::resync::{Skip, Work, pass_over};
 use crate::style::Style;
 use crate::text::{ending_words, line_of, sized, summary, told_line};
 use crate::window::{Next, Window, look_ahead};
@@ -68,9 +69,10 @@ pub fn run<R: Read, D: Write, W: Write>(
         (D.contents out.old) (D.contents out.new) (W.contents report.old) (W.contents report.new) counts.old counts.new digests.old digests.new) }
 {
     let mut window = Window::new(alloc);
+    let mut work = Work::new();
     let mut are_sound = true;
     for _ in 0..u64::MAX {
-        match look_ahead(reader, &mut window)? {
+        match look_ahead(reader, &mut window, 0)? {
             Next::Document(len) => {
                 pass_front(alloc, asked, len, &mut window, out, report, counts, digests)?;
             }
@@ -80,7 +82,7 @@ pub fn run<R: Read, D: Write, W: Write>(
                     put_ending(alloc, asked, window.offset(), ending, None, report)?;
                     return Ok(false);
                 }
-                pass_gap(alloc, asked, ending, reader, &mut window, report)?;
+                pass_gap(alloc, asked, ending, reader, &mut window, &mut work, report)?;
                 are_sound = false;
             }
         }
@@ -130,16 +132,17 @@ fn pass_gap<R: Read, W: Write>(
     ending: Ending,
     reader: &mut R,
     window: &mut Window,
+    work: &mut Work,
     report: &mut W,
 ) -> Result<(), Failure>
-    requires { IsWindow window.old × (0 < length (ahead_of window.old)) }
+    requires { IsWindow window.old × IsWork work.old × (0 < length (ahead_of window.old)) }
     ensures passed { OnOk result (PassesGap asked.entry.style asked.entry.name.now ending (R.remaining reader.old) (R.remaining reader.new)
-        window.old window.new (W.contents report.old) (W.contents report.new)) }
+        window.old window.new work.old work.new (W.contents report.old) (W.contents report.new)) }
     ensures fails { IfErr result (λ failure. IsReading failure
         → LooksSome (R.remaining reader.old) (R.remaining reader.new) (ahead_of window.old) × Keeps (W.contents report.old) (W.contents report.new)) }
 {
     let offset = window.offset();
-    let skip = pass_over(alloc, reader, window)?;
+    let skip = pass_over(alloc, reader, window, work)?;
     put_ending(alloc, asked, offset, ending, Some(skip), report)
 }
 

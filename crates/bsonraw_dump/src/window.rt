@@ -4,7 +4,7 @@
 ghost use Rattle.std.specs.Prelude.{◌≡◌, ◌+◌, ◌≤◌, ◌<◌, ◌^◌, ◌⊎◌, ℕ, List, MatchBool, Option, [], true, drop, length, take, IfErr, IfOk, OnOk};
 ghost use Rattle.std.specs.Io.KnownBytes.{IsAtEnd};
 ghost use Rattle.bsonraw_dump.specs.Cut.{most, said_len, IsSoundLength};
-ghost use Rattle.bsonraw_dump.specs.Reading.{Affords, Fills, FillsSome, IsNext, IsRoom, IsWindow, LooksSome, ReadsOn, SeesAhead, TellsNext, ahead_of};
+ghost use Rattle.bsonraw_dump.specs.Reading.{Fills, FillsSome, IsNext, IsWindow, LooksSome, SeesAhead, TellsNext, ahead_of};
 ghost use Rattle.bsonraw_dump.specs.Run.{IsReading};
 
 use crate::ending::Ending;
@@ -30,12 +30,7 @@ pub struct Window {
     len: usize,
     /// how many bytes of the input were passed
     offset: u64,
-    /// how many bytes a search for documents looked at
-    spent: u64,
 }
-
-/// So many bytes a search for documents looks at, at most, for each byte that was read.
-const WORK: u64 = 8;
 
 /// What is next in an input.
 #[derive(Clone, Copy)]
@@ -60,7 +55,6 @@ impl Window {
             at: 0,
             len: 0,
             offset: 0,
-            spent: 0,
         }
     }
 
@@ -100,15 +94,6 @@ impl Window {
         ensures looks { IfOk result (SeesAhead (R.remaining reader.old) (R.remaining reader.new) self.old self.new want) }
         ensures fails { IfErr result (λ _. LooksSome (R.remaining reader.old) (R.remaining reader.new) (ahead_of self.old)) }
     {
-        let is_there = self.read_on(reader, want)?;
-        Ok(is_there)
-    }
-
-    fn read_on<R: Read>(&mut self, reader: &mut R, want: usize) -> Result<bool, Failure>
-        requires { IsRoom self.old × (want < 2 ^ 32) }
-        ensures looks { IfOk result (ReadsOn (R.remaining reader.old) (R.remaining reader.new) self.old self.new want) }
-        ensures fails { IfErr result (λ _. LooksSome (R.remaining reader.old) (R.remaining reader.new) (ahead_of self.old)) }
-    {
         if want <= self.len {
             return Ok(true);
         }
@@ -122,40 +107,14 @@ impl Window {
         }
     }
 
-    /// Whether a search may look at so many more bytes: all that it looks at are fewer than eight times those that were read.
-    pub fn affords(&self, count: usize) -> bool
-        requires { IsWindow self.now }
-        ensures { result ≡ true → Affords self.now count }
-    {
-        let (Some(read), Some(spent)) = (
-            self.offset.checked_add(self.len as u64),
-            self.spent.checked_add(count as u64),
-        ) else {
-            return false;
-        };
-        spent / WORK < read
-    }
-
-    /// So many bytes were looked at.
-    pub fn spend(&mut self, count: usize)
-        requires { IsWindow self.old × Affords self.old count }
-        ensures window { IsWindow self.new }
-        ensures ahead { ahead_of self.new ≡ ahead_of self.old }
-        ensures offset { self.new.offset ≡ self.old.offset }
-        ensures spent { self.new.spent ≡ self.old.spent + count }
-    {
-        self.spent += count as u64;
-    }
-
     /// Makes room for so many bytes from the first one ahead on. No more bytes are moved than were passed.
     fn make_room(&mut self, want: usize) -> Result<(), AllocError>
-        requires { IsRoom self.old × (want < 2 ^ 32) }
-        ensures room { IsRoom self.new }
+        requires { IsWindow self.old × (want < 2 ^ 32) }
+        ensures window { IsWindow self.new }
         ensures wide { OnOk result (self.new.at + want ≤ length self.new.room.items) }
         ensures ahead { ahead_of self.new ≡ ahead_of self.old }
         ensures len { self.new.len ≡ self.old.len }
         ensures offset { self.new.offset ≡ self.old.offset }
-        ensures spent { self.new.spent ≡ self.old.spent }
     {
         if self.len <= self.at {
             self.room.copy_within(self.at..self.at + self.len, 0);
@@ -199,28 +158,32 @@ fn fill<R: Read>(
     Err(io::Error::from(ErrorKind::TimedOut))
 }
 
-/// Looks what is next in an input.
-pub fn look_ahead<R: Read>(reader: &mut R, window: &mut Window) -> Result<Next, Failure>
-    requires { IsWindow window.old }
-    ensures told { IfOk result (TellsNext (R.remaining reader.old) (R.remaining reader.new) window.old window.new) }
+/// Looks what is next in an input behind so many of the bytes ahead.
+pub fn look_ahead<R: Read>(
+    reader: &mut R,
+    window: &mut Window,
+    from: usize,
+) -> Result<Next, Failure>
+    requires { IsWindow window.old × (from ≤ length (ahead_of window.old)) × (from < 2 ^ 26) }
+    ensures told { IfOk result (TellsNext (R.remaining reader.old) (R.remaining reader.new) window.old window.new from) }
     ensures fails { IfErr result (λ _. LooksSome (R.remaining reader.old) (R.remaining reader.new) (ahead_of window.old)) }
 {
-    if !window.look(reader, 4)? {
-        return Ok(too_few(window.ahead().len()));
+    if !window.look(reader, from + 4)? {
+        return Ok(too_few(window.ahead().len() - from));
     }
-    let len = length_at(window.ahead(), 0);
+    let len = length_at(window.ahead(), from);
     if !is_sound(len) {
         return Ok(Next::End(Ending::Unsound));
     }
-    if window.look(reader, len)? {
+    if window.look(reader, from + len)? {
         Ok(Next::Document(len))
     } else {
-        Ok(Next::End(Ending::CutOff(window.ahead().len())))
+        Ok(Next::End(Ending::CutOff(window.ahead().len() - from)))
     }
 }
 
 /// The length that four bytes at this offset say.
-pub fn length_at(bytes: &[u8], from: usize) -> usize
+fn length_at(bytes: &[u8], from: usize) -> usize
     requires { from + 4 ≤ length bytes.now }
     ensures { result ≡ said_len (drop from bytes.now) }
 {
@@ -243,7 +206,7 @@ fn too_few(count: usize) -> Next
 }
 
 /// Whether a document has so many bytes.
-pub fn is_sound(len: usize) -> bool
+fn is_sound(len: usize) -> bool
     ensures { MatchBool result (IsSoundLength len) ((len < 5) ⊎ (most < len)) }
 {
     5 <= len && len <= MOST

@@ -1,4 +1,3 @@
-use Rattle.std.proofs.Common.{◌≡◌}
 use Rattle.raw_view.specs.Document.{bytes_of}
 use Rattle.raw_tree.specs.Validating.{left_of}
 use Rattle.bsonraw_dump.proofs.Listed.{IsListed}

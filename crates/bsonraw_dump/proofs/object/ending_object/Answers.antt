@@ -1,5 +1,5 @@
-use Rattle.std.proofs.Common.{[], ◌∷◌, ◌++◌, codes, decimal}
-use Rattle.json.specs.Token.{begin_object, key, number, string}
+use Rattle.std.proofs.Common.{◌∷◌, ◌++◌}
+use Rattle.json.specs.Token.{begin_object}
 use Rattle.bsonraw_dump.specs.Told.{ending_members, head_members, skip_members}
 use Rattle.bsonraw_dump.proofs.Objects.{has_more}
 use Rattle.bsonraw_dump.proofs.object.ending_object.Goals as goal

@@ -1,5 +1,5 @@
 use Rattle.std.proofs.Common.{[], ◌∷◌, ◌++◌, codes, decimal}
-use Rattle.json.specs.Token.{begin_object, key, number, string}
+use Rattle.json.specs.Token.{begin_object, key, number}
 use Rattle.bsonraw_dump.proofs.Objects.{has_more}
 use Rattle.bsonraw_dump.proofs.object.summary_object.Goals as goal
 

@@ -1,5 +1,5 @@
-use Rattle.std.proofs.Common.{[], ◌∷◌, ◌++◌, codes, decimal}
-use Rattle.json.specs.Token.{begin_object, key, number, string}
+use Rattle.std.proofs.Common.{◌∷◌, ◌++◌}
+use Rattle.json.specs.Token.{begin_object}
 use Rattle.bsonraw_dump.specs.Find.{account_of}
 use Rattle.bsonraw_dump.specs.Told.{head_members, members_of}
 use Rattle.bsonraw_dump.proofs.Objects.{has_more}

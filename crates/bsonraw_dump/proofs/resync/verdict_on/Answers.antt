@@ -1,24 +1,16 @@
-use Rattle.std.proofs.Common.{rules, ◌≡◌, ◌≤◌, List, ℕ, Some, min, length, subst}
+use Rattle.std.proofs.Common.{◌≡◌, Some, subst}
 use Rattle.raw_form.specs.Barriers.{TellsBarrier}
 use Rattle.raw_tree.specs.WithinLimits.{AllAreAnsweredOneWay}
 use Rattle.raw_view.specs.Document.{bytes_of}
 use Rattle.bsonraw_dump.specs.Find.{limits}
-use Rattle.bsonraw_dump.proofs.Going.{barrier_is_damage, looks_to_fault}
+use Rattle.bsonraw_dump.proofs.Going.{damage_is_judged}
 use Rattle.bsonraw_dump.proofs.resync.verdict_on.Goals as goal
 
-pub returns-in-Ok-Some-clause-sound : goal.returns-in-Ok-Some-clause-sound
-returns-in-Ok-Some-clause-sound c is =
+pub returns-in-Ok-Some-clause-judged : goal.returns-in-Ok-Some-clause-judged
+returns-in-Ok-Some-clause-judged c =
     let b = bytes_of c.in-Ok.document in
     let same : b ≡ c.args.bytes.now = c.in-Ok.ensures.same in
     let told = subst (TellsBarrier c.most_allowed.result b) c.in-Ok-Some.field-0-is c.in-Ok-Some.ensures.barrier in
     let told' : TellsBarrier limits b (Some c.in-Ok-Some.barrier) = subst (λ m. TellsBarrier m b (Some c.in-Ok-Some.barrier)) c.most_allowed.ensures told in
     let one : AllAreAnsweredOneWay limits = subst (λ m. AllAreAnsweredOneWay m) c.most_allowed.ensures c.in-Ok-Some.ensures.one_answer in
-    barrier_is_damage b c.args.bytes.now c.in-Ok-Some.barrier same c.in-Ok.document.envelope told' one is
-
-pub returns-in-Ok-Some-clause-cost : goal.returns-in-Ok-Some-clause-cost
-returns-in-Ok-Some-clause-cost c =
-    let b = bytes_of c.in-Ok.document in
-    let same : b ≡ c.args.bytes.now = c.in-Ok.ensures.same in
-    let told = subst (TellsBarrier c.most_allowed.result b) c.in-Ok-Some.field-0-is c.in-Ok-Some.ensures.barrier in
-    let told' : TellsBarrier limits b (Some c.in-Ok-Some.barrier) = subst (λ m. TellsBarrier m b (Some c.in-Ok-Some.barrier)) c.most_allowed.ensures told in
-    (looks_to_fault b c.args.bytes.now c.in-Ok-Some.barrier c.looked_at.result same told' c.looked_at.ensures.0, c.looked_at.ensures.1)
+    damage_is_judged b c.args.bytes.now c.in-Ok-Some.barrier c.looked_at.result same c.in-Ok.document.envelope told' one c.looked_at.ensures.counts

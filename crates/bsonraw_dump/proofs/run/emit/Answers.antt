@@ -1,7 +1,6 @@
 use Rattle.std.proofs.Common.{rules, ◌≡◌, ℕ, List, ◌++◌, codes, subst, sym}
 use Rattle.std.specs.Io.KnownBytes.{Appends}
 use Rattle.bson_json.specs.Json.{IsJson}
-use Rattle.bsonraw_dump.specs.declared.command.Command.TheVariants as command
 use Rattle.bsonraw_dump.specs.declared.find.Finding.TheVariants as finding
 use Rattle.bsonraw_dump.specs.Run.{Emits}
 use Rattle.bsonraw_dump.proofs.Listed.{on_ok}

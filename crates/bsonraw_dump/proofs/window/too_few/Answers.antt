@@ -1,4 +1,4 @@
-use Rattle.std.proofs.Common.{◌≡◌, ◌<◌, ◌∙◌, arith, inl}
+use Rattle.std.proofs.Common.{arith, inl}
 use Rattle.bsonraw_dump.proofs.Ahead.{nil_of_none}
 use Rattle.bsonraw_dump.proofs.window.too_few.Goals as goal
 

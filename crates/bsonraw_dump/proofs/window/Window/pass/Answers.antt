@@ -6,5 +6,4 @@ pub returns-clause-passed : goal.returns-clause-passed
 returns-clause-passed c =
     let w = c.args.self.now in
     let sum : c.in-Some.offset ≡ w.offset + c.args.count = search rules in
-    let (room, work) = passed_within w.at w.len c.args.count w.offset c.in-Some.offset w.spent w.room.items c.requires.1 c.requires.0.room c.requires.0.work sum in
-    (record { room = room; work = work }, passed_ahead w.at w.len c.args.count w.room.items c.requires.1, sum)
+    (passed_within w.at w.len c.args.count w.room.items c.requires.1 c.requires.0, passed_ahead w.at w.len c.args.count w.room.items c.requires.1, sum)
