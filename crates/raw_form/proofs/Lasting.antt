@@ -1,13 +1,14 @@
--- A document with repeated keys that is passed key by key: each key once, with its last frame.
-use Rattle.std.proofs.Common.{◌≡◌, ◌∙◌, ◌≤◌, ◌+◌, ◌-◌, ◌++◌, ◌∷◌, [], ℕ, Bool, true, false, cond, List, Option, None, Some, Ok, Err, drop, length, append_assoc, arith, ap, refl, sym, subst, length-append, length-drop}
-use denote.Ref.{Bor}
+-- A document with repeated keys: where the last frame of each key is, and what is left to be written.
+use Rattle.std.proofs.Common.{◌≡◌, ◌∙◌, ◌<◌, ◌≤◌, ◌+◌, ◌-◌, ◌++◌, ◌∷◌, [], ℕ, zero, suc, Bool, true, false, cond, List, Option, None, Some, Ok, Err, drop, length, map, option_map, ltb, slice_get, slice_index_or, arith, ap, refl, sym, subst, length-append, length-drop}
 use Rattle.std.proofs.Math.Seq.{drop-append-add}
+use Rattle.std.proofs.lemmas.Bool.Decides.{nat_tests}
 use Rattle.std.proofs.lemmas.List.{drop-drop}
+use Rattle.std.proofs.lemmas.Option.{slice_get-get_or}
 use Rattle.std.proofs.lemmas.Slice.Eq.{bytes_eq-Decides}
+use Rattle.std.specs.List.{filter_map}
 use Rattle.std.specs.Option.{option_copied}
-use Rattle.std.specs.BTreeMap.{BTreeMap, UpdatesBy, get}
 use Rattle.std.specs.Str.{bytes_eq}
-use Rattle.bson_model.specs.Pairs.{last_value_at}
+use Rattle.bson_model.specs.Pairs.{first_keys, keep, keys_of, last_value_at}
 use Rattle.bson_model.specs.Tree.{Tree, entries}
 use Rattle.raw_view.specs.Document.{bytes_of}
 use Rattle.raw_view.specs.ElementSteps.{frame_of}
@@ -18,15 +19,13 @@ use Rattle.raw_view.specs.declared.element.RawElement.{RawElement}
 use Rattle.raw_view.specs.declared.error.BorrowedError.{BorrowedError}
 use Rattle.raw_view.specs.declared.error.ErrorKind.{ErrorKind}
 use Rattle.raw_view.specs.declared.error.ErrorKind.TheVariants as kind
-use Rattle.raw_view.proofs.Face.{LeadsTo-more, front_and_rest, no_frame_at_final, no_frame_at_stop, one_frame}
-use Rattle.raw_tree.specs.Breaches.{keys_of_frames}
-use Rattle.raw_tree.specs.Members.{MemberKey, text, keyed}
+use Rattle.raw_view.proofs.Face.{front_and_rest, no_frame_at_final, no_frame_at_stop, one_frame}
+use Rattle.raw_tree.specs.Members.{MemberKey, keyed, text}
 use Rattle.raw_tree.specs.Reading.{StandForEach, ReadsAs, FrameStandsFor}
 use Rattle.raw_form.specs.Looking.{size_of}
-use Rattle.raw_form.specs.Staying.{HasPlaces, IsLeftAt, IsLeftOf, TakesFrame, TakesMember, is_among, is_repeated, place_of, placed, staying, text_cmp}
+use Rattle.raw_form.specs.Staying.{AreFramesAt, IsLeftAt, TakesFrame, TakesMember, last_places, placed}
 use Rattle.raw_form.specs.declared.last.LastPlaces.{LastPlaces}
-use Rattle.raw_form.proofs.Keeping.{first_or, found_unseen, has_place, here, itself, last_front, missed_seen, staying_new, staying_seen}
-use Rattle.raw_form.proofs.Repeating.{found_none, found_some, keys_more, or_none, place_over, place_taken, unrepeated}
+use Rattle.raw_form.proofs.Keeping.{first_or, here, last_front}
 
 -- what is in front of a walk
 
@@ -153,178 +152,94 @@ last_frame key at s (f ∷ fs) pairs o w h e =
           }
     ] refl (sym (last_front key (f.key, at) (placed (at + size_of f) fs)) ∙ e)
 
--- what is left, and one frame more
+-- the last frames of all keys
 
--- the value of a frame whose key is that of no other is the last of this key
+keys_placed : (at : ℕ) (frames : List Frame) (pairs : List (List ℕ × Tree)) → StandForEach ReadsAs frames pairs → keys_of (placed at frames) ≡ keys_of pairs
+keys_placed at [] pairs h = ap (λ ps. keys_of {T = Tree} ps) (sym h)
+keys_placed at (f ∷ frames) pairs h = ap (λ ks. f.key ∷ ks) (keys_placed (at + size_of f) frames h.2 h.6) ∙ ap (λ ps. keys_of {T = Tree} ps) (sym h.5)
 
-none_has : (q : List ℕ) (fs : List Frame) (pairs : List (List ℕ × Tree)) → StandForEach ReadsAs fs pairs → is_among (keys_of_frames fs) q ≡ false → last_value_at q pairs ≡ None
-none_has q [] pairs h e = ap (λ (ps : List (List ℕ × Tree)). last_value_at q ps) h
-none_has q (f ∷ fs) pairs h e =
-    let both = or_none (bytes_eq q f.key) (is_among (keys_of_frames fs) q) e in
-    ap (λ (ps : List (List ℕ × Tree)). last_value_at q ps) h.5
-    ∙ last_front q (f.key, h.1) h.2
-    ∙ (λ i. first_or (none_has q fs h.2 h.6 both.1 i) (cond (both.0 i) (Some h.1) None))
+-- what each key has
+abbrev looked_up : {T : Type 0} → List (List ℕ × T) → List (List ℕ) → List (List ℕ × T)
+looked_up pairs keys = filter_map (λ key. option_map (λ value. (key, value)) (last_value_at key pairs)) keys
 
-only_value : (q : List ℕ) (passed : List Frame) (f : Frame) (fs : List Frame) (pairs : List (List ℕ × Tree)) → StandForEach ReadsAs (passed ++ f ∷ fs) pairs
-    → bytes_eq q f.key ≡ true → is_among (keys_of_frames fs) q ≡ false → (t : Tree) × FrameStandsFor f t × (last_value_at q pairs ≡ Some t)
-only_value q [] f fs pairs h e none =
-    (h.1, (h.0, h.3, h.4), ap (λ (ps : List (List ℕ × Tree)). last_value_at q ps) h.5 ∙ last_front q (f.key, h.1) h.2 ∙ (λ i. first_or (none_has q fs h.2 h.6 none i) (cond (e i) (Some h.1) None)))
-only_value q (x ∷ passed) f fs pairs h e none =
-    let rest = only_value q passed f fs h.2 h.6 e none in
-    (rest.0, rest.1, ap (λ (ps : List (List ℕ × Tree)). last_value_at q ps) h.5 ∙ last_front q (x.key, h.1) h.2 ∙ ap (λ (v : Option Tree). first_or v (here q (x.key, h.1))) rest.2)
+frames_of : (d : List ℕ) (frames : List Frame) (pairs : List (List ℕ × Tree)) → IsWalk (drop 4 d) frames Done → StandForEach ReadsAs frames pairs → 5 ≤ length d
+    → (keys : List (List ℕ)) → AreFramesAt d (map (λ p. p.1) (looked_up (placed 4 frames) keys)) (looked_up pairs keys)
+frames_of d frames pairs w h long [] = refl
+frames_of d frames pairs w h long (k ∷ keys) =
+    elim (last_value_at k (placed 4 frames)) as (λ x. last_value_at k (placed 4 frames) ≡ x → AreFramesAt d (map (λ p. p.1) (looked_up (placed 4 frames) (k ∷ keys))) (looked_up pairs (k ∷ keys))) [
+      | Some o ↦ λ e.
+          let last = last_frame k 4 (drop 4 d) frames pairs o w h e in
+          let there : drop (o - 4) (drop 4 d) ≡ drop o d = drop_both d o last.first in
+          rw (e, last.last) (
+            last.f,
+            last.r,
+            last.t,
+            looked_up pairs keys,
+            last.first,
+            omega (arith, last.within, length-drop 4 d, long),
+            subst (λ (x : List ℕ). IsFrame x last.f last.r) there last.frame,
+            last.stands,
+            ap (λ (q : List ℕ). (q, last.t) ∷ looked_up pairs keys) (sym last.key_is),
+            frames_of d frames pairs w h long keys,
+          )
+      | None ↦ λ e.
+          let none : last_value_at k pairs ≡ None = no_value k 4 frames pairs h e in
+          rw (e, none) (frames_of d frames pairs w h long keys)
+    ] refl
 
-module _ (old new : LastPlaces) (s : List ℕ) (ms : List (MemberKey × Tree)) (is : IsLeftOf old s ms) (f : Frame) (r : List ℕ) (at : IsFrame s f r) where
-  parted : (fs : List Frame) → is.left ≡ f ∷ fs → is.frames ≡ (is.passed ++ f ∷ []) ++ fs
-  parted fs e = is.parts ∙ ap (λ (l : List Frame). is.passed ++ l) e ∙ sym (append_assoc is.passed (f ∷ []) fs)
+pub frames_at : (d : List ℕ) (frames : List Frame) (pairs : List (List ℕ × Tree)) → IsWalk (drop 4 d) frames Done → StandForEach ReadsAs frames pairs → 5 ≤ length d
+    → AreFramesAt d (last_places frames) (keep pairs)
+frames_at d frames pairs w h long =
+    subst (λ (keys : List (List ℕ)). AreFramesAt d (map (λ p. p.1) (looked_up (placed 4 frames) keys)) (keep pairs))
+    (ap first_keys (sym (keys_placed 4 frames pairs h))) (frames_of d frames pairs w h long (first_keys (keys_of pairs)))
 
-  -- its key has a last place
-  placed_here : (o : ℕ) × (last_value_at f.key (placed 4 is.frames) ≡ Some o)
-  placed_here =
-      let step = walk_step s is.left f r is.left_walk at in
-      let there = has_place 4 is.passed f step.0 in
-      (there.0, ap (λ (fs : List Frame). last_value_at f.key (placed 4 fs)) (is.parts ∙ ap (λ (l : List Frame). is.passed ++ l) step.1) ∙ there.1)
+-- the next of them
 
-  -- the frame is passed
-  left_behind : (fs : List Frame) (rest : List (MemberKey × Tree)) → is.left ≡ f ∷ fs → IsWalk r fs Done → bytes_of new.document ≡ bytes_of old.document
-      → HasPlaces new.places (place_of is.mapped (keys_of_frames is.passed ++ f.key ∷ []) is.frames)
-      → rest ≡ keyed (entries (staying (keys_of_frames is.passed ++ f.key ∷ []) is.pairs (keys_of_frames fs))) → IsLeftOf new r rest
-  left_behind fs rest e w same places members = record {
-    frames = is.frames;
-    pairs = is.pairs;
-    walk = rw same is.walk;
-    stand = is.stand;
-    passed = is.passed ++ f ∷ [];
-    left = fs;
-    parts = parted fs e;
-    reaches = rw same (LeadsTo-more (drop 4 (bytes_of old.document)) is.passed s f r is.reaches at);
-    left_walk = w;
-    mapped = is.mapped;
-    are_mapped = is.are_mapped;
-    places = subst (λ (seen : List (List ℕ)). HasPlaces new.places (place_of is.mapped seen is.frames)) (sym (keys_more is.passed f)) places;
-    members_are = members ∙ ap (λ (seen : List (List ℕ)). keyed (entries (staying seen is.pairs (keys_of_frames fs)))) (sym (keys_more is.passed f));
-  }
+none_behind : (i : ℕ) (xs : List ℕ) → slice_get xs i ≡ None → drop i xs ≡ []
+none_behind zero [] e = refl
+none_behind zero (x ∷ xs) e = cc
+none_behind (suc i) [] e = refl
+none_behind (suc i) (x ∷ xs) e = none_behind i xs e
 
-  -- what the map has of the frame's key
-  found_so : (k : Bor (List ℕ)) (x : Option (Option ℕ)) → k.now ≡ f.key → get text_cmp old.places k ≡ x → place_of is.mapped (keys_of_frames is.passed) is.frames f.key ≡ x
-  found_so k x key has = ap (λ (q : List ℕ). place_of is.mapped (keys_of_frames is.passed) is.frames q) (sym key) ∙ sym (is.places k) ∙ has
+one_behind : (i : ℕ) (xs : List ℕ) (x : ℕ) → slice_get xs i ≡ Some x → drop i xs ≡ x ∷ drop (suc i) xs
+one_behind zero [] x e = cc
+one_behind zero (y ∷ xs) x e = let same : y ≡ x = cc in ap (λ (z : ℕ). z ∷ xs) same
+one_behind (suc i) [] x e = cc
+one_behind (suc i) (y ∷ xs) x e = one_behind i xs x e
 
-  members_so : (fs : List Frame) (l : List (List ℕ × Tree)) → is.left ≡ f ∷ fs → staying (keys_of_frames is.passed) is.pairs (f.key ∷ keys_of_frames fs) ≡ l → ms ≡ keyed (entries l)
-  members_so fs l e stay = is.members_are ∙ ap (λ (gs : List Frame). keyed (entries (staying (keys_of_frames is.passed) is.pairs (keys_of_frames gs)))) e
-      ∙ ap (λ (ps : List (List ℕ × Tree)). keyed (entries ps)) stay
+more_behind : (i : ℕ) (xs : List ℕ) (x : ℕ) → slice_get xs i ≡ Some x → drop i xs ≡ x ∷ drop (i + 1) xs
+more_behind i xs x e =
+    let next : suc i ≡ i + 1 = omega arith in
+    one_behind i xs x e ∙ ap (λ (n : ℕ). x ∷ drop n xs) next
 
-  -- a frame whose key was seen is passed over
-  pub left_skips : (k : Bor (List ℕ)) → bytes_of new.document ≡ bytes_of old.document → UpdatesBy text_cmp (text_cmp k) old.places new.places (Some None)
-      → k.now ≡ f.key → get text_cmp old.places k ≡ Some None → IsLeftOf new r ms
-  left_skips k same u key none =
-      let step = walk_step s is.left f r is.left_walk at in
-      let found = found_some is.mapped (keys_of_frames is.passed) is.frames f.key None (found_so k (Some None) key none) in
-      let seen : is_among (keys_of_frames is.passed) f.key ≡ true = missed_seen (keys_of_frames is.passed) is.frames f.key placed_here.0 found.1 placed_here.1 in
-      let members = members_so step.0 (staying (keys_of_frames is.passed ++ f.key ∷ []) is.pairs (keys_of_frames step.0)) step.1
-      (staying_seen (keys_of_frames is.passed) is.pairs f.key (keys_of_frames step.0) seen) in
-      left_behind step.0 ms step.1 step.2 same (place_taken old.places new.places is.mapped (keys_of_frames is.passed) is.frames k f.key is.places u key found.0) members
+pub nothing_left : (last : LastPlaces) (ms : List (MemberKey × Tree)) → IsLeftAt last ms → slice_get last.places.items last.passed ≡ None → ms ≡ []
+nothing_left last ms is none =
+    let over : is.0 ≡ [] = subst (λ (places : List ℕ). AreFramesAt (bytes_of last.document) places is.0) (none_behind last.passed last.places.items none) is.1 in
+    is.2 ∙ ap (λ (pairs : List (List ℕ × Tree)). keyed (entries pairs)) over
 
-  -- a frame whose key isn't repeated stands for the member
-  pub left_keeps : (k : Bor (List ℕ)) (e : RawElement) → bytes_of new.document ≡ bytes_of old.document → new.places ≡ old.places → k.now ≡ f.key
-      → get text_cmp old.places k ≡ None → frame_of e ≡ f → TakesMember ms (Some e) new (Some r)
-  left_keeps k e same unchanged key none element =
-      let step = walk_step s is.left f r is.left_walk at in
-      let absent : is_among is.mapped f.key ≡ false = found_none is.mapped (keys_of_frames is.passed) is.frames f.key (found_so k None key none) in
-      let once : is_repeated f.key is.frames ≡ false = is.are_mapped f.key absent in
-      let parts : is.frames ≡ is.passed ++ f ∷ step.0 = is.parts ∙ ap (λ (l : List Frame). is.passed ++ l) step.1 in
-      let apart = unrepeated is.passed f step.0 f.key (ap (λ (fs : List Frame). is_repeated f.key fs) (sym parts) ∙ once) (itself f.key) in
-      let only = only_value f.key is.passed f step.0 is.pairs (subst (λ (fs : List Frame). StandForEach ReadsAs fs is.pairs) parts is.stand) (itself f.key) apart.1 in
-      let rest : List (MemberKey × Tree) = keyed (entries (staying (keys_of_frames is.passed ++ f.key ∷ []) is.pairs (keys_of_frames step.0))) in
-      let members : ms ≡ (text f.key, only.0) ∷ rest =
-      members_so step.0 ((f.key, only.0) ∷ staying (keys_of_frames is.passed ++ f.key ∷ []) is.pairs (keys_of_frames step.0)) step.1
-      (staying_new (keys_of_frames is.passed) is.pairs f.key (keys_of_frames step.0) only.0 apart.0 only.2) in
-      let places : HasPlaces new.places (place_of is.mapped (keys_of_frames is.passed ++ f.key ∷ []) is.frames) =
-      rw unchanged (place_over old.places is.mapped (keys_of_frames is.passed) is.frames f.key is.places absent) in (
-        only.0,
-        rest,
-        members ∙ ap (λ (x : Frame). (text x.key, only.0) ∷ rest) (sym element),
-        subst (λ (g : Frame). FrameStandsFor g only.0) (sym element) only.1,
-        left_behind step.0 rest step.1 step.2 same places refl,
-      )
+next_left : (last : LastPlaces) (o : ℕ) (ms : List (MemberKey × Tree)) (is : IsLeftAt last ms) → slice_get last.places.items last.passed ≡ Some o
+    → AreFramesAt (bytes_of last.document) (o ∷ drop (last.passed + 1) last.places.items) is.0
+next_left last o ms is some = subst (λ (places : List ℕ). AreFramesAt (bytes_of last.document) places is.0) (more_behind last.passed last.places.items o some) is.1
 
-  found_last : (k : Bor (List ℕ)) (o : ℕ) → k.now ≡ f.key → get text_cmp old.places k ≡ Some (Some o)
-      → (is_among (keys_of_frames is.passed) f.key ≡ false) × IsLast 4 (drop 4 (bytes_of old.document)) is.pairs f.key o
-  found_last k o key some =
-      let there = found_some is.mapped (keys_of_frames is.passed) is.frames f.key (Some o) (found_so k (Some (Some o)) key some) in
-      let found = found_unseen (keys_of_frames is.passed) is.frames f.key o there.1 in
-      (found.0, last_frame f.key 4 (drop 4 (bytes_of old.document)) is.frames is.pairs o is.walk is.stand found.1)
+pub place_within : (last : LastPlaces) (o : ℕ) (ms : List (MemberKey × Tree)) → IsLeftAt last ms → slice_get last.places.items last.passed ≡ Some o
+    → (4 ≤ o) × (o ≤ length (bytes_of last.document)) × (f : Frame) × (r : List ℕ) × IsFrame (drop o (bytes_of last.document)) f r
+place_within last o ms is some = let next = next_left last o ms is some in (next.4, next.5, next.0, next.1, next.6)
 
-  -- the last frame of another key is within the document
-  pub last_within : (k : Bor (List ℕ)) (o : ℕ) → k.now ≡ f.key → get text_cmp old.places k ≡ Some (Some o) → 5 ≤ length (bytes_of old.document)
-      → (4 ≤ o) × (o ≤ length (bytes_of old.document)) × (g : Frame) × (q : List ℕ) × IsFrame (drop o (bytes_of old.document)) g q
-  last_within k o key some long =
-      let b : List ℕ = bytes_of old.document in
-      let last = (found_last k o key some).1 in
-      let there : drop (o - 4) (drop 4 b) ≡ drop o b = drop_both b o last.first in
-      (last.first, omega (arith, last.within, length-drop 4 b, long), last.f, last.r, subst (λ (x : List ℕ). IsFrame x last.f last.r) there last.frame)
+-- an item that is lent is at its place
+pub item_at : (xs : List ℕ) (i x : ℕ) → true ≡ ltb i (length xs) → x ≡ slice_index_or xs i x → slice_get xs i ≡ Some x
+item_at xs i x h is =
+    let within : i < length xs = grind (arith, nat_tests) in
+    slice_get-get_or xs i x within ∙ ap (λ (n : ℕ). Some n) (sym is)
 
-  -- and stands for the member
-  pub left_takes : (k : Bor (List ℕ)) (o : ℕ) (e : RawElement) → bytes_of new.document ≡ bytes_of old.document
-      → UpdatesBy text_cmp (text_cmp k) old.places new.places (Some None) → k.now ≡ f.key → get text_cmp old.places k ≡ Some (Some o)
-      → ((g : Frame) (q : List ℕ) → IsFrame (drop o (bytes_of old.document)) g q → frame_of e ≡ g) → TakesMember ms (Some e) new (Some r)
-  left_takes k o e same u key some is_there =
-      let b : List ℕ = bytes_of old.document in
-      let step = walk_step s is.left f r is.left_walk at in
-      let found = found_last k o key some in
-      let last = found.1 in
-      let there : drop (o - 4) (drop 4 b) ≡ drop o b = drop_both b o last.first in
-      let element : frame_of e ≡ last.f = is_there last.f last.r (subst (λ (x : List ℕ). IsFrame x last.f last.r) there last.frame) in
-      let rest : List (MemberKey × Tree) = keyed (entries (staying (keys_of_frames is.passed ++ f.key ∷ []) is.pairs (keys_of_frames step.0))) in
-      let same_key : (frame_of e).key ≡ f.key = ap (λ (x : Frame). x.key) element ∙ last.key_is in
-      let members : ms ≡ (text f.key, last.t) ∷ rest =
-      is.members_are ∙ ap (λ (l : List Frame). keyed (entries (staying (keys_of_frames is.passed) is.pairs (keys_of_frames l)))) step.1
-      ∙ ap (λ (ps : List (List ℕ × Tree)). keyed (entries ps))
-      (staying_new (keys_of_frames is.passed) is.pairs f.key (keys_of_frames step.0) last.t found.0 last.last) in (
-        last.t,
-        rest,
-        members ∙ ap (λ (x : List ℕ). (text x, last.t) ∷ rest) (sym same_key),
-        subst (λ (g : Frame). FrameStandsFor g last.t) (sym element) last.stands,
-        left_behind step.0 rest step.1 step.2 same (place_taken old.places new.places is.mapped (keys_of_frames is.passed) is.frames k f.key is.places u key
-            (found_some is.mapped (keys_of_frames is.passed) is.frames f.key (Some o) (found_so k (Some (Some o)) key some)).0) refl,
-      )
-
--- the loop that looks for the next key
-
--- what was left is left, and something is
-pub record IsSame (before : LastPlaces) (old : Option (List ℕ)) (now : LastPlaces) (left : Option (List ℕ)) : Type 0 where
-  pub same : (ms : List (MemberKey × Tree)) → IsLeftAt before old ms → IsLeftAt now left ms
-  pub some : (ms : List (MemberKey × Tree)) × IsLeftAt now left ms
-
-pub nothing_left : (last : LastPlaces) (old new : Option (List ℕ)) (ms : List (MemberKey × Tree)) → IsLeftAt last old ms → TakesFrame old None new → ms ≡ []
-nothing_left last None new ms is none = absurd is
-nothing_left last (Some s) new ms is none =
-    is.members_are ∙ ap (λ (fs : List Frame). keyed (entries (staying (keys_of_frames is.passed) is.pairs (keys_of_frames fs)))) (walk_over s is.left is.left_walk none)
-
-module _ (last : LastPlaces) (places : BTreeMap (Bor (List ℕ)) (Option ℕ)) (e : RawElement) (k : Bor (List ℕ)) (key : k.now ≡ (frame_of e).key) where
-  pub skipped : (old new : Option (List ℕ)) (ms : List (MemberKey × Tree)) → TakesFrame old (Some e) new → IsLeftAt last old ms
-      → UpdatesBy text_cmp (text_cmp k) last.places places (Some None) → get text_cmp last.places k ≡ Some None
-      → IsLeftAt (record { document = last.document; places = places }) new ms
-  skipped None new ms takes is u none = absurd is
-  skipped (Some s) new ms (r, at, new_is) is u none =
-      rw new_is (left_skips last (record { document = last.document; places = places }) s ms is (frame_of e) r at k refl u key none)
-
-  pub place_within : (old new : Option (List ℕ)) (o : ℕ) (ms : List (MemberKey × Tree)) → TakesFrame old (Some e) new → IsLeftAt last old ms
-      → get text_cmp last.places k ≡ Some (Some o) → 5 ≤ length (bytes_of last.document)
-      → (4 ≤ o) × (o ≤ length (bytes_of last.document)) × (g : Frame) × (q : List ℕ) × IsFrame (drop o (bytes_of last.document)) g q
-  place_within None new o ms takes is some long = absurd is
-  place_within (Some s) new o ms (r, at, new_is) is some long = last_within last last s ms is (frame_of e) r at k o key some long
-
-  pub member_taken : (old new : Option (List ℕ)) (o : ℕ) (x : RawElement) (ms : List (MemberKey × Tree)) → TakesFrame old (Some e) new → IsLeftAt last old ms
-      → UpdatesBy text_cmp (text_cmp k) last.places places (Some None) → get text_cmp last.places k ≡ Some (Some o)
-      → ((g : Frame) (q : List ℕ) → IsFrame (drop o (bytes_of last.document)) g q → frame_of x ≡ g)
-      → TakesMember ms (Some x) (record { document = last.document; places = places }) new
-  member_taken None new o x ms takes is u some is_there = absurd is
-  member_taken (Some s) new o x ms (r, at, new_is) is u some is_there =
-      subst (λ (l : Option (List ℕ)). TakesMember ms (Some x) (record { document = last.document; places = places }) l) (sym new_is)
-      (left_takes last (record { document = last.document; places = places }) s ms is (frame_of e) r at k o x refl u key some is_there)
-
-  pub member_kept : (old new : Option (List ℕ)) (ms : List (MemberKey × Tree)) → TakesFrame old (Some e) new → IsLeftAt last old ms → places ≡ last.places
-      → get text_cmp last.places k ≡ None → TakesMember ms (Some e) (record { document = last.document; places = places }) new
-  member_kept None new ms takes is unchanged none = absurd is
-  member_kept (Some s) new ms (r, at, new_is) is unchanged none =
-      subst (λ (l : Option (List ℕ)). TakesMember ms (Some e) (record { document = last.document; places = places }) l) (sym new_is)
-      (left_keeps last (record { document = last.document; places = places }) s ms is (frame_of e) r at k e refl unchanged key none refl)
+pub member_taken : (last : LastPlaces) (o : ℕ) (e : RawElement) (ms : List (MemberKey × Tree)) → IsLeftAt last ms → slice_get last.places.items last.passed ≡ Some o
+    → ((f : Frame) (r : List ℕ) → IsFrame (drop o (bytes_of last.document)) f r → frame_of e ≡ f)
+    → TakesMember ms (Some e) (record { document = last.document; places = last.places; passed = last.passed + 1 })
+member_taken last o e ms is some there =
+    let next = next_left last o ms is some in
+    let element : frame_of e ≡ next.0 = there next.0 next.1 next.6 in (
+      next.2,
+      keyed (entries next.3),
+      is.2 ∙ ap (λ (pairs : List (List ℕ × Tree)). keyed (entries pairs)) next.8 ∙ ap (λ (g : Frame). (text g.key, next.2) ∷ keyed (entries next.3)) (sym element),
+      subst (λ (g : Frame). FrameStandsFor g next.2) (sym element) next.7,
+      (next.3, next.9, refl),
+    )

@@ -1,9 +1,9 @@
 -- What is left of a level that is rewritten.
-use Rattle.std.proofs.Common.{◌≡◌, ◌∙◌, ◌<◌, ◌+◌, ◌^◌, ◌∷◌, [], zero, suc, ℕ, List, Option, None, Some, drop, length, map, arith, ap, refl, sym, subst}
+use Rattle.std.proofs.Common.{◌≡◌, ◌∙◌, ◌<◌, ◌≤◌, ◌+◌, ◌^◌, ◌∷◌, [], zero, suc, ℕ, List, Option, None, Some, drop, length, map, arith, ap, refl, sym, subst}
 use Rattle.std.specs.List.{IsDistinct}
 use Rattle.std.specs.Str.{bytes_eq}
 use Rattle.bson_model.specs.Leaf.{Leaf}
-use Rattle.bson_model.specs.Pairs.{keys_of}
+use Rattle.bson_model.specs.Pairs.{keep, keys_of}
 use Rattle.bson_model.specs.Tree.{Tree, document, trees, entries}
 use Rattle.bson_model.proofs.Face.{keep-distinct}
 use Rattle.raw_view.specs.Document.{bytes_of}
@@ -19,14 +19,13 @@ use Rattle.raw_tree.specs.Reading.{as_document, as_array, StandForEach, StandsFo
 use Rattle.raw_tree.specs.Validating.{left_of}
 use Rattle.raw_tree.proofs.Face.{each_read}
 use Rattle.raw_form.specs.Rewriting.{HasCode, IsLeft, IsRest, ShowsHeld, TakesNext, TakesPair, held_value}
-use Rattle.raw_form.specs.Staying.{HasRepeated, IsLeftOf, TakesFrame, staying}
+use Rattle.raw_form.specs.Staying.{IsLeftAt, TakesFrame, last_places}
 use Rattle.raw_form.specs.declared.held.Held.{Held}
 use Rattle.raw_form.specs.declared.last.LastPlaces.{LastPlaces}
 use Rattle.raw_form.specs.declared.rewritten.Keys.{Keys}
 use Rattle.raw_form.specs.declared.rewritten.Rewritten.{Rewritten}
 use Rattle.raw_form.specs.declared.rewritten.Keys.TheVariants as keys
-use Rattle.raw_form.proofs.Keeping.{staying_all}
-use Rattle.raw_form.proofs.Lasting.{nothing_left, walk_over, walk_step}
+use Rattle.raw_form.proofs.Lasting.{frames_at, walk_over, walk_step}
 
 -- pairs
 
@@ -66,12 +65,16 @@ distinct_taken old new ms pairs e is (t, rest, pairs_are, stands, left, shorter)
     (t, keyed (entries rest), is ∙ ap (λ (ps : List (List ℕ × Tree)). keyed (entries ps)) pairs_are, stands, (rest, left, refl))
 
 -- where no frame is in front, no member is left
-pub left_over : (k : Keys) (old new : Option (List ℕ)) (ms : List (MemberKey × Tree)) → IsLeft k old ms → TakesFrame old None new → ms ≡ []
-left_over (keys.Numbers n) old new ms (small, pairs, rest, ms_are) none =
-    ms_are ∙ ap (λ (ps : List (List ℕ × Tree)). numbered n (trees (map (λ p. p.1) ps))) (pair_over old new pairs rest none)
-left_over keys.Distinct old new ms (pairs, rest, ms_are) none =
-    ms_are ∙ ap (λ (ps : List (List ℕ × Tree)). keyed (entries ps)) (pair_over old new pairs rest none)
-left_over (keys.Repeated last) old new ms left none = nothing_left last.value old new ms left none
+
+pub number_over : (k : Keys) (n : ℕ) (old new : Option (List ℕ)) (ms : List (MemberKey × Tree)) → k ≡ keys.Numbers n → IsLeft k old ms → TakesFrame old None new → ms ≡ []
+number_over k n old new ms same left none =
+    let here : IsLeft (keys.Numbers n) old ms = subst (λ (x : Keys). IsLeft x old ms) same left in
+    here.3 ∙ ap (λ (ps : List (List ℕ × Tree)). numbered n (trees (map (λ p. p.1) ps))) (pair_over old new here.1 here.2 none)
+
+pub distinct_over : (k : Keys) (old new : Option (List ℕ)) (ms : List (MemberKey × Tree)) → k ≡ keys.Distinct → IsLeft k old ms → TakesFrame old None new → ms ≡ []
+distinct_over k old new ms same left none =
+    let here : IsLeft keys.Distinct old ms = subst (λ (x : Keys). IsLeft x old ms) same left in
+    here.2 ∙ ap (λ (ps : List (List ℕ × Tree)). keyed (entries ps)) (pair_over old new here.0 here.1 none)
 
 -- the next member by its number, and by its key
 pub next_number : (k : Keys) (n : ℕ) (old new : Option (List ℕ)) (ms : List (MemberKey × Tree)) (e : RawElement) → k ≡ keys.Numbers n → IsLeft k old ms
@@ -106,28 +109,12 @@ distinct_begins d t distinct (suc n, h) =
     let apart : IsDistinct bytes_eq (keys_of h.0) = subst (λ (ks : List (List ℕ)). IsDistinct bytes_eq ks) (keys_stand h.1.0 h.0 each) (distinct h.1.0 h.1.1) in
     (h.0, (h.1.0, h.1.1, each), ap members h.2 ∙ ap (λ (ps : List (List ℕ × Tree)). keyed (entries ps)) (keep-distinct h.0 apart))
 
-pub repeated_begins : (d : List ℕ) (t : Tree) (last : LastPlaces) → bytes_of last.document ≡ d
-    → ((frames : List Frame) → IsWalk (drop 4 d) frames Done → HasRepeated (Some last.places) frames) → ReadsAs as_document d t
-    → IsLeftOf last (drop 4 d) (members t)
-repeated_begins d t last same places (zero, h) = absurd h
-repeated_begins d t last same places (suc n, h) =
+pub repeated_begins : (d : List ℕ) (t : Tree) (last : LastPlaces) → bytes_of last.document ≡ d → last.passed ≡ 0 → 5 ≤ length d
+    → ((frames : List Frame) → IsWalk (drop 4 d) frames Done → last.places.items ≡ last_places frames) → ReadsAs as_document d t → IsLeftAt last (members t)
+repeated_begins d t last same none long places (zero, h) = absurd h
+repeated_begins d t last same none long places (suc n, h) =
     let each = each_read n h.1.0 h.0 h.1.2 in
-    record {
-      frames = h.1.0;
-      pairs = h.0;
-      walk = rw same h.1.1;
-      stand = each;
-      passed = [];
-      left = h.1.0;
-      parts = refl;
-      reaches = rw same refl;
-      left_walk = h.1.1;
-      mapped = (places h.1.0 h.1.1).0;
-      are_mapped = (places h.1.0 h.1.1).1;
-      places = (places h.1.0 h.1.1).2;
-      members_are = ap members h.2 ∙ ap (λ (ps : List (List ℕ × Tree)). keyed (entries ps)) (sym (staying_all h.0))
-          ∙ ap (λ (ks : List (List ℕ)). keyed (entries (staying [] h.0 ks))) (sym (keys_stand h.1.0 h.0 each));
-    }
+    (keep h.0, rw (same, none, places h.1.0 h.1.1) (frames_at d h.1.0 h.0 h.1.1 each long), ap members h.2)
 
 pub document_code : (d : List ℕ) (t : Tree) → ReadsAs as_document d t → HasCode t None
 document_code d t (zero, h) = absurd h

@@ -5,7 +5,7 @@ pub mod Lying
 pub mod Levels
 pub mod Told
 pub mod Keeping
-pub mod Repeating
+pub mod Numbering
 pub mod Lasting
 pub mod Beginning
 pub mod Placing

@@ -1,10 +1,12 @@
--- The loop over the elements of a document that lists the last places of its keys from the first repeated one on.
-use Rattle.std.proofs.Common.{◌≡◌, ◌∙◌, ◌≤◌, ◌<◌, ◌+◌, ◌++◌, ◌∷◌, [], ℕ, Bool, true, false, List, Option, None, Some, is_some, not, drop, length, append_assoc, arith, ap, refl, sym, subst, length-append, length-drop}
+-- The loops over the elements of a document that look for a repeated key, and that list the last places of its keys.
+use Rattle.std.proofs.Common.{◌≡◌, ◌∙◌, ◌≤◌, ◌<◌, ◌+◌, ◌++◌, ◌∷◌, [], ℕ, Bool, false, List, Option, None, Some, is_some, drop, length, arith, ap, refl, sym, subst, length-append, length-drop}
+use Rattle.std.proofs.lemmas.List.{map-append}
 use denote.Ref.{Bor}
-use Rattle.std.proofs.lemmas.List.{append-nil}
-use Rattle.std.specs.BTreeMap.{BTreeMap, IsEmpty, UpdatesBy}
+use Rattle.std.specs.BTreeMap.{BTreeMap, IsEmpty}
 use Rattle.std.specs.List.{IsDistinct}
 use Rattle.std.specs.Str.{bytes_eq}
+use Rattle.bson_model.specs.Pairs.{keep, with_pair}
+use Rattle.bson_model.proofs.Face.{keep-last}
 use Rattle.raw_view.specs.ElementSteps.{HasRead, frame_of}
 use Rattle.raw_view.specs.Frame.{Frame, HasNoFrame, IsFrame, IsWalk, Done, LeadsTo}
 use Rattle.raw_view.specs.declared.element.RawElement.{RawElement}
@@ -17,10 +19,10 @@ use Rattle.raw_tree.specs.References.{texts}
 use Rattle.raw_tree.specs.Validating.{left_of}
 use Rattle.raw_tree.specs.declared.keys_so_far.KeysSoFar.{KeysSoFar}
 use Rattle.raw_form.specs.Looking.{size_of}
-use Rattle.raw_form.specs.Staying.{HasPlaces, HasRepeated, TakesFrame, end_of, place_of, text_cmp}
-use Rattle.raw_form.proofs.Keeping.{end_behind}
+use Rattle.raw_form.specs.Staying.{AreNumbered, TakesFrame, end_of, last_places, placed}
+use Rattle.raw_form.proofs.Keeping.{end_behind, placed_behind}
 use Rattle.raw_form.proofs.Lasting.{frame_size}
-use Rattle.raw_form.proofs.Repeating.{are_mapped, keys_more, no_places, place_put}
+use Rattle.raw_form.proofs.Numbering.{numbered_begins}
 
 -- the frames passed are those of the walk, where no frame is in front of what is left
 pub walk_led : (s : List ℕ) (passed : List Frame) (r : List ℕ) (frames : List Frame) → LeadsTo s passed r → HasNoFrame r → IsWalk s frames Done → frames ≡ passed
@@ -36,130 +38,120 @@ pub taken_smaller : (old new : Option (List ℕ)) (e : RawElement) → TakesFram
 taken_smaller None new e h = cc
 taken_smaller (Some s) new e (r, at, new_is) = rw new_is (omega (arith, IsFrame-shorter s (frame_of e) r at))
 
--- places
+keys_more : (fs : List Frame) (f : Frame) → keys_of_frames (fs ++ f ∷ []) ≡ keys_of_frames fs ++ f.key ∷ []
+keys_more fs f = map-append (λ (x : Frame). x.key) fs (f ∷ [])
 
--- the keys of the frames passed are distinct and are listed, none of them being mapped
-pub record AreListed (d : List ℕ) (head tail : List Frame) (left : Option (List ℕ)) (k : KeysSoFar) (listed : List (Bor (List ℕ))) (number : ℕ) : Type 0 where
-  pub none : tail ≡ []
+-- keys that are distinct
+
+-- the keys of the frames passed are distinct and are listed
+pub record AreApart (d : List ℕ) (left : Option (List ℕ)) (k : KeysSoFar) (listed : List (Bor (List ℕ))) (number : ℕ) : Type 0 where
+  pub passed : List Frame
+  pub read : HasRead (drop 4 d) passed left
+  pub apart : AreKeysCanonical as_document (keys_of_frames passed)
   pub below : List (List ℕ)
-  pub keys : HasKeysSoFar k listed as_document below (keys_of_frames head)
-  pub count : number ≡ length (keys_of_frames head)
+  pub keys : HasKeysSoFar k listed as_document below (keys_of_frames passed)
+  pub count : number ≡ length (keys_of_frames passed)
   pub fits : number + left_of left ≤ length (drop 4 d)
 
--- of the frames passed some have distinct keys, the map has the last places of those of the others, and what is left begins
--- here
-pub record IsPlacing (d : List ℕ) (m : BTreeMap (Bor (List ℕ)) (Option ℕ)) (left : Option (List ℕ)) (offset : ℕ) (k : KeysSoFar) (listed : List (Bor (List ℕ)))
-    (number : ℕ) (distinct : Bool) : Type 0 where
-  pub head : List Frame
-  pub tail : List Frame
-  pub read : HasRead (drop 4 d) (head ++ tail) left
-  pub apart : IsDistinct bytes_eq (keys_of_frames head)
-  pub has : HasPlaces m (place_of (keys_of_frames tail) [] (head ++ tail))
-  pub offset_is : offset ≡ end_of 4 (head ++ tail)
-  pub begins : offset + left_of left ≡ 4 + length (drop 4 d)
-  pub are_listed : distinct ≡ true → AreListed d head tail left k listed number
-
-pub placing_begins : (d : List ℕ) (m : BTreeMap (Bor (List ℕ)) (Option ℕ)) (left : Option (List ℕ)) (k : KeysSoFar) (listed : List (Bor (List ℕ))) → IsEmpty m
-    → left ≡ Some (drop 4 d) → HasKeysSoFar k listed as_document (texts listed) [] → IsPlacing d m left 4 k listed 0 true
+pub apart_begins : (d : List ℕ) (left : Option (List ℕ)) (k : KeysSoFar) (listed : List (Bor (List ℕ))) → left ≡ Some (drop 4 d)
+    → HasKeysSoFar k listed as_document (texts listed) [] → AreApart d left k listed 0
 unfolding IsDistinct
-placing_begins d m left k listed none e keys = record {
-  head = [];
-  tail = [];
+apart_begins d left k listed e keys = record {
+  passed = [];
   read = rw e refl;
   apart = tt;
-  has = no_places m none;
-  offset_is = refl;
-  begins = rw e refl;
-  are_listed = λ _. record { none = refl; below = texts listed; keys = keys; count = refl; fits = rw e (omega arith) };
+  below = texts listed;
+  keys = keys;
+  count = refl;
+  fits = rw e (omega arith);
 }
 
-pub placing_fits : (d : List ℕ) (m : BTreeMap (Bor (List ℕ)) (Option ℕ)) (old new : Option (List ℕ)) (offset : ℕ) (k : KeysSoFar) (listed : List (Bor (List ℕ)))
-    (number : ℕ) (distinct : Bool) (e : RawElement) → IsPlacing d m old offset k listed number distinct → TakesFrame old (Some e) new
-    → offset + size_of (frame_of e) ≤ 4 + length d
-placing_fits d m None new offset k listed number distinct e is h = absurd is.read
-placing_fits d m (Some s) new offset k listed number distinct e is (r, at, new_is) = omega (arith, is.begins, frame_size s (frame_of e) r at, length-drop 4 d)
-
--- a frame whose key is put into the map
-pub placing_more : (d : List ℕ) (m : BTreeMap (Bor (List ℕ)) (Option ℕ)) (old new : Option (List ℕ)) (offset : ℕ) (k : KeysSoFar) (listed : List (Bor (List ℕ)))
-    (number : ℕ) (distinct : Bool) (n : BTreeMap (Bor (List ℕ)) (Option ℕ)) (behind : ℕ) (l : KeysSoFar) (after : List (Bor (List ℕ))) (e : RawElement)
-    (key : Bor (List ℕ)) → IsPlacing d m old offset k listed number distinct → TakesFrame old (Some e) new
-    → UpdatesBy text_cmp (text_cmp key) m n (Some (Some offset)) → key.now ≡ (frame_of e).key → behind ≡ offset + size_of (frame_of e)
-    → IsPlacing d n new behind l after number false
-placing_more d m None new offset k listed number distinct n behind l after e key is h u same far = absurd is.read
-placing_more d m (Some s) new offset k listed number distinct n behind l after e key is (r, at, new_is) u same far =
-    let f : Frame = frame_of e in
-    let parts : (is.head ++ is.tail) ++ f ∷ [] ≡ is.head ++ (is.tail ++ f ∷ []) = append_assoc is.head is.tail (f ∷ []) in
-    let has : HasPlaces n (place_of (keys_of_frames is.tail ++ f.key ∷ []) [] ((is.head ++ is.tail) ++ f ∷ [])) =
-    place_put m n (keys_of_frames is.tail) (is.head ++ is.tail) f key offset is.has u same is.offset_is in
-    record {
-      head = is.head;
-      tail = is.tail ++ f ∷ [];
-      read = subst (λ (fs : List Frame). HasRead (drop 4 d) fs new) parts (rw new_is (LeadsTo-more (drop 4 d) (is.head ++ is.tail) s f r is.read at));
-      apart = is.apart;
-      has = subst (λ (ks : List (List ℕ)). HasPlaces n (place_of ks [] (is.head ++ (is.tail ++ f ∷ [])))) (sym (keys_more is.tail f))
-          (subst (λ (fs : List Frame). HasPlaces n (place_of (keys_of_frames is.tail ++ f.key ∷ []) [] fs)) parts has);
-      offset_is = far ∙ ap (λ (x : ℕ). x + size_of f) is.offset_is ∙ sym (end_behind 4 (is.head ++ is.tail) f) ∙ ap (λ (fs : List Frame). end_of 4 fs) parts;
-      begins = rw new_is (omega (arith, far, is.begins, frame_size s f r at));
-      are_listed = λ e. cc;
-    }
-
 -- a frame whose key is distinct from those before
-pub placing_new : (d : List ℕ) (m : BTreeMap (Bor (List ℕ)) (Option ℕ)) (old new : Option (List ℕ)) (offset : ℕ) (k : KeysSoFar) (listed : List (Bor (List ℕ)))
-    (number : ℕ) (distinct : Bool) (behind : ℕ) (l : KeysSoFar) (after : List (Bor (List ℕ))) (e : RawElement) (key : List ℕ)
-    (is : IsPlacing d m old offset k listed number distinct) (listing : AreListed d is.head is.tail old k listed number) → TakesFrame old (Some e) new
-    → key ≡ (frame_of e).key → TellsOpenKey as_document listing.below (keys_of_frames is.head) key l after None → behind ≡ offset + size_of (frame_of e)
-    → IsPlacing d m new behind l after (number + 1) distinct
-placing_new d m None new offset k listed number distinct behind l after e key is listing h same told far = absurd is.read
-placing_new d m (Some s) new offset k listed number distinct behind l after e key is listing (r, at, new_is) same told far =
+pub apart_more : (d : List ℕ) (old new : Option (List ℕ)) (k l : KeysSoFar) (listed after : List (Bor (List ℕ))) (number : ℕ) (e : RawElement) (key : List ℕ)
+    (is : AreApart d old k listed number) → TakesFrame old (Some e) new → key ≡ (frame_of e).key
+    → TellsOpenKey as_document is.below (keys_of_frames is.passed) key l after None → AreApart d new l after (number + 1)
+apart_more d None new k l listed after number e key is h same told = absurd is.read
+apart_more d (Some s) new k l listed after number e key is (r, at, new_is) same told =
     let f : Frame = frame_of e in
-    let all : is.head ++ is.tail ≡ is.head = ap (λ (fs : List Frame). is.head ++ fs) listing.none ∙ append-nil is.head in
-    let more : (is.head ++ is.tail) ++ f ∷ [] ≡ (is.head ++ f ∷ []) ++ [] = ap (λ (fs : List Frame). fs ++ f ∷ []) all ∙ sym (append-nil (is.head ++ f ∷ [])) in
-    let grown : keys_of_frames is.head ++ key ∷ [] ≡ keys_of_frames (is.head ++ f ∷ []) = ap (λ (x : List ℕ). keys_of_frames is.head ++ x ∷ []) same ∙ sym (keys_more is.head f) in
-    let empty : HasPlaces m (place_of [] [] (is.head ++ is.tail)) = subst (λ (fs : List Frame). HasPlaces m (place_of (keys_of_frames fs) [] (is.head ++ is.tail))) listing.none is.has in
+    let grown : keys_of_frames is.passed ++ key ∷ [] ≡ keys_of_frames (is.passed ++ f ∷ []) = ap (λ (x : List ℕ). keys_of_frames is.passed ++ x ∷ []) same ∙ sym (keys_more is.passed f) in
     record {
-      head = is.head ++ f ∷ [];
-      tail = [];
-      read = subst (λ (fs : List Frame). HasRead (drop 4 d) fs new) more (rw new_is (LeadsTo-more (drop 4 d) (is.head ++ is.tail) s f r is.read at));
+      passed = is.passed ++ f ∷ [];
+      read = rw new_is (LeadsTo-more (drop 4 d) is.passed s f r is.read at);
       apart = subst (λ (ks : List (List ℕ)). AreKeysCanonical as_document ks) grown told.1;
-      has = λ q. empty q;
-      offset_is = far ∙ ap (λ (x : ℕ). x + size_of f) is.offset_is ∙ sym (end_behind 4 (is.head ++ is.tail) f) ∙ ap (λ (fs : List Frame). end_of 4 fs) more;
-      begins = rw new_is (omega (arith, far, is.begins, frame_size s f r at));
-      are_listed = λ _. record {
-        none = refl;
-        below = listing.below;
-        keys = subst (λ (ks : List (List ℕ)). HasKeysSoFar l after as_document listing.below ks) grown told.0;
-        count = omega (arith, listing.count, sym (ap length grown), length-append (keys_of_frames is.head) (key ∷ []));
-        fits = rw new_is (omega (arith, listing.fits, IsFrame-shorter s f r at));
-      };
+      below = is.below;
+      keys = subst (λ (ks : List (List ℕ)). HasKeysSoFar l after as_document is.below ks) grown told.0;
+      count = omega (arith, is.count, sym (ap length grown), length-append (keys_of_frames is.passed) (key ∷ []));
+      fits = rw new_is (omega (arith, is.fits, IsFrame-shorter s f r at));
     }
 
 -- the next frame has a number
-pub placing_small : (d : List ℕ) (m : BTreeMap (Bor (List ℕ)) (Option ℕ)) (old new : Option (List ℕ)) (offset : ℕ) (k : KeysSoFar)
-    (listed : List (Bor (List ℕ))) (number : ℕ) (distinct : Bool) (e : RawElement) (is : IsPlacing d m old offset k listed number distinct)
-    → AreListed d is.head is.tail old k listed number → TakesFrame old (Some e) new → number < length (drop 4 d)
-placing_small d m None new offset k listed number distinct e is listing h = absurd is.read
-placing_small d m (Some s) new offset k listed number distinct e is listing (r, at, new_is) = omega (arith, listing.fits, IsFrame-shorter s (frame_of e) r at)
+pub apart_small : (d : List ℕ) (old new : Option (List ℕ)) (k : KeysSoFar) (listed : List (Bor (List ℕ))) (number : ℕ) (e : RawElement)
+    → AreApart d old k listed number → TakesFrame old (Some e) new → number < length (drop 4 d)
+apart_small d None new k listed number e is h = absurd is.read
+apart_small d (Some s) new k listed number e is (r, at, new_is) = omega (arith, is.fits, IsFrame-shorter s (frame_of e) r at)
 
 -- no frame is left
-pub placing_over : (d : List ℕ) (m : BTreeMap (Bor (List ℕ)) (Option ℕ)) (old new : Option (List ℕ)) (offset : ℕ) (k : KeysSoFar) (listed : List (Bor (List ℕ)))
-    (number : ℕ) (distinct : Bool) → IsPlacing d m old offset k listed number distinct → TakesFrame old None new → (frames : List Frame)
-    → IsWalk (drop 4 d) frames Done → HasRepeated (Some m) frames
-placing_over d m None new offset k listed number distinct is h frames w = absurd is.read
-placing_over d m (Some s) new offset k listed number distinct is h frames w =
-    let same : frames ≡ is.head ++ is.tail = walk_led (drop 4 d) (is.head ++ is.tail) s frames is.read h w in
-    subst (λ (fs : List Frame). HasRepeated (Some m) fs) (sym same) (keys_of_frames is.tail, are_mapped is.head is.tail is.apart, is.has)
-
-pub distinct_over : (d : List ℕ) (m : BTreeMap (Bor (List ℕ)) (Option ℕ)) (old new : Option (List ℕ)) (offset : ℕ) (k : KeysSoFar)
-    (listed : List (Bor (List ℕ))) (number : ℕ) (distinct : Bool) → IsPlacing d m old offset k listed number distinct → distinct ≡ true
+pub apart_over : (d : List ℕ) (old new : Option (List ℕ)) (k : KeysSoFar) (listed : List (Bor (List ℕ))) (number : ℕ) → AreApart d old k listed number
     → TakesFrame old None new → (frames : List Frame) → IsWalk (drop 4 d) frames Done → IsDistinct bytes_eq (keys_of_frames frames)
-distinct_over d m None new offset k listed number distinct is yes_all h frames w = absurd is.read
-distinct_over d m (Some s) new offset k listed number distinct is yes_all h frames w =
-    let listing = is.are_listed yes_all in
-    let same : frames ≡ is.head ++ is.tail = walk_led (drop 4 d) (is.head ++ is.tail) s frames is.read h w in
-    let all : is.head ≡ frames = sym (same ∙ ap (λ (fs : List Frame). is.head ++ fs) listing.none ∙ append-nil is.head) in
+apart_over d None new k listed number is h frames w = absurd is.read
+apart_over d (Some s) new k listed number is h frames w =
+    let all : is.passed ≡ frames = sym (walk_led (drop 4 d) is.passed s frames is.read h w) in
     subst (λ (fs : List Frame). IsDistinct bytes_eq (keys_of_frames fs)) all is.apart
 
 -- a key that breaches nothing
-pub none_added : {T : Type 0} (o : Option T) (none : Bool) → is_some o ≡ not none → none ≡ true → o ≡ None
-none_added None none e is_true = refl
-none_added (Some x) none e is_true = let there : true ≡ false = e ∙ ap not is_true in cc
+pub none_added : {T : Type 0} (o : Option T) (some : Bool) → some ≡ is_some o → some ≡ false → o ≡ None
+none_added None some e is_false = refl
+none_added (Some x) some e is_false = cc
+
+-- places
+
+-- the last places of the keys of the frames passed are listed, and what is left begins here
+pub record AreListed (d : List ℕ) (numbers : BTreeMap (ℕ × Bor (List ℕ)) ℕ) (places : List ℕ) (left : Option (List ℕ)) (offset : ℕ) : Type 0 where
+  pub passed : List Frame
+  pub read : HasRead (drop 4 d) passed left
+  pub numbered : AreNumbered numbers places (keep (placed 4 passed))
+  pub offset_is : offset ≡ end_of 4 passed
+  pub begins : offset + left_of left ≡ 4 + length (drop 4 d)
+  pub few : length places ≤ offset
+
+pub listed_begins : (d : List ℕ) (numbers : BTreeMap (ℕ × Bor (List ℕ)) ℕ) (places : List ℕ) (left : Option (List ℕ)) → IsEmpty numbers → places ≡ []
+    → left ≡ Some (drop 4 d) → AreListed d numbers places left 4
+listed_begins d numbers places left none empty e = record {
+  passed = [];
+  read = rw e refl;
+  numbered = rw empty (numbered_begins numbers none);
+  offset_is = refl;
+  begins = rw e refl;
+  few = rw empty (omega arith);
+}
+
+pub listed_fits : (d : List ℕ) (numbers : BTreeMap (ℕ × Bor (List ℕ)) ℕ) (places : List ℕ) (old new : Option (List ℕ)) (offset : ℕ) (e : RawElement)
+    → AreListed d numbers places old offset → TakesFrame old (Some e) new → offset + size_of (frame_of e) ≤ 4 + length d
+listed_fits d numbers places None new offset e is h = absurd is.read
+listed_fits d numbers places (Some s) new offset e is (r, at, new_is) = omega (arith, is.begins, frame_size s (frame_of e) r at, length-drop 4 d)
+
+pub listed_more : (d : List ℕ) (numbers after : BTreeMap (ℕ × Bor (List ℕ)) ℕ) (places more : List ℕ) (old new : Option (List ℕ)) (offset behind : ℕ) (e : RawElement)
+    (is : AreListed d numbers places old offset) → TakesFrame old (Some e) new → AreNumbered after more (with_pair (frame_of e).key offset (keep (placed 4 is.passed)))
+    → length more ≤ offset + 1 → behind ≡ offset + size_of (frame_of e) → AreListed d after more new behind
+listed_more d numbers after places more None new offset behind e is h numbered few far = absurd is.read
+listed_more d numbers after places more (Some s) new offset behind e is (r, at, new_is) numbered few far =
+    let f : Frame = frame_of e in
+    let grown : with_pair f.key offset (keep (placed 4 is.passed)) ≡ keep (placed 4 (is.passed ++ f ∷ [])) =
+    ap (λ (o : ℕ). with_pair f.key o (keep (placed 4 is.passed))) is.offset_is
+    ∙ sym (keep-last (placed 4 is.passed) f.key (end_of 4 is.passed))
+    ∙ ap (λ (ps : List (List ℕ × ℕ)). keep ps) (sym (placed_behind 4 is.passed f)) in
+    record {
+      passed = is.passed ++ f ∷ [];
+      read = rw new_is (LeadsTo-more (drop 4 d) is.passed s f r is.read at);
+      numbered = subst (λ (ps : List (List ℕ × ℕ)). AreNumbered after more ps) grown numbered;
+      offset_is = far ∙ ap (λ (x : ℕ). x + size_of f) is.offset_is ∙ sym (end_behind 4 is.passed f);
+      begins = rw new_is (omega (arith, far, is.begins, frame_size s f r at));
+      few = omega (arith, few, far);
+    }
+
+pub listed_over : (d : List ℕ) (numbers : BTreeMap (ℕ × Bor (List ℕ)) ℕ) (places : List ℕ) (old new : Option (List ℕ)) (offset : ℕ)
+    → AreListed d numbers places old offset → TakesFrame old None new → (frames : List Frame) → IsWalk (drop 4 d) frames Done → places ≡ last_places frames
+listed_over d numbers places None new offset is h frames w = absurd is.read
+listed_over d numbers places (Some s) new offset is h frames w =
+    let all : is.passed ≡ frames = sym (walk_led (drop 4 d) is.passed s frames is.read h w) in
+    is.numbered.place ∙ ap (λ (fs : List Frame). last_places fs) all

@@ -91,7 +91,7 @@ TakesPair old pairs (Some e) new =
 abbrev pub IsLeft : Keys → Option (List ℕ) → List (MemberKey × Tree) → Type 0
 IsLeft (keys.Numbers n) left ms = (n + left_of left < 2 ^ 64) × (pairs : List (List ℕ × Tree)) × IsRest left pairs × (ms ≡ numbered n (trees (map (λ p. p.1) pairs)))
 IsLeft keys.Distinct left ms = (pairs : List (List ℕ × Tree)) × IsRest left pairs × (ms ≡ keyed (entries pairs))
-IsLeft (keys.Repeated last) left ms = IsLeftAt last.value left ms
+IsLeft (keys.Repeated last) left ms = IsLeftAt last.value ms
 
 -- the key under which a member is written
 abbrev pub numbered_key : Option ℕ → List ℕ → MemberKey

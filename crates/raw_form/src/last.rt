@@ -1,9 +1,13 @@
-//! Where the last element of each key begins that is repeated in a document.
+//! Where the last element of each key begins in a document with repeated keys.
 #![tactic(auto)]
 
-ghost use Rattle.std.specs.Prelude.{◌≡◌, ◌≤◌, ℕ, List, drop, length, IfOk, IfErr};
+ghost use Rattle.std.specs.Prelude.{◌≡◌, ◌≤◌, ℕ, List, Some, drop, length, IsTrue, IfOk, IfErr};
+ghost use Rattle.std.specs.List.{IsDistinct};
+ghost use Rattle.std.specs.Option.{option_map};
+ghost use Rattle.std.specs.Str.{bytes_eq};
 ghost use Rattle.bson_model.specs.Tree.{Tree};
-ghost use Rattle.raw_form.specs.Staying.{HasRepeated, IsLeftAt, TakesFrame, TakesMember};
+ghost use Rattle.raw_form.specs.Staying.{HasLastPlaces, IsLeftAt, TakesFrame, TakesMember, last_places};
+ghost use Rattle.raw_tree.specs.Breaches.{keys_of_frames};
 ghost use Rattle.raw_tree.specs.Members.{MemberKey};
 ghost use Rattle.raw_view.specs.Document.{bytes_of};
 ghost use Rattle.raw_view.specs.ElementSteps.{frame_of};
@@ -11,8 +15,9 @@ ghost use Rattle.raw_view.specs.Errors.{IsOutOfMemory};
 ghost use Rattle.raw_view.specs.Frame.{Done, Frame, IsFrame, IsWalk};
 
 use crate::level::behind;
+use crate::numbered::put_place;
 use raw_tree::KeysSoFar;
-use raw_view::{Elements, Error, RawDocument, RawElement, Result};
+use raw_view::{Elements, RawDocument, RawElement, Result};
 use std::alloc::Global;
 use std::collections::BTreeMap;
 
@@ -28,52 +33,85 @@ pub(crate) fn next_element<'a>(elements: &mut Elements<'a>) -> Option<RawElement
     }
 }
 
-/// A document in which keys are repeated, and where the last element begins of each key from the first repeated one on, until
-/// an element of this key has been passed. No two elements have another key.
+/// A document in which keys are repeated, and where the last element of each key begins, in the order in which the keys come
+/// first. So many of them have been passed.
 #[derive(Drop)]
 pub(crate) struct LastPlaces<'a> {
     pub(crate) document: RawDocument<'a>,
-    pub(crate) places: BTreeMap<&'a str, Option<usize>>,
+    pub(crate) places: Vec<u32>,
+    pub(crate) passed: usize,
 }
 
-/// The last place of each key from the first repeated one on, of a document all of whose elements can be read; `None` where
-/// no key is repeated. What is in the list goes out of it. The only error is out of memory.
-pub(crate) fn places_of<'a>(
+/// So many keys are looked through for a repeated one. Keys that were chosen cost more to look through than to number.
+const MOST_LOOKED_THROUGH: usize = 4096;
+
+/// Whether there are few keys and none is repeated in a document all of whose elements can be read. What is in the list goes
+/// out of it. The only error is out of memory.
+fn are_keys_distinct<'a>(
     alloc: Global,
     document: RawDocument<'a>,
     listed: &mut Vec<&'a str>,
-) -> Result<Option<BTreeMap<&'a str, Option<usize>>>>
-    ensures places { (frames : List Frame)
+) -> Result<bool>
+    ensures distinct { (frames : List Frame)
         → IsWalk (drop 4 (bytes_of document.entry)) frames Done
-        → IfOk result (λ places. HasRepeated places frames) }
+        → IfOk result (λ distinct. IsTrue distinct → IsDistinct bytes_eq (keys_of_frames frames)) }
     ensures err { IfErr result IsOutOfMemory }
 {
     listed.truncate(0);
     let mut keys = KeysSoFar::of_document(listed);
     let mut number = 0;
-    let mut places = BTreeMap::new(alloc);
-    let mut are_distinct = true;
+    let mut elements = Elements::new(document);
+    'elements: loop {
+        let Some(element) = next_element(&mut elements) else {
+            return Ok(true);
+        };
+        if number == MOST_LOOKED_THROUGH {
+            return Ok(false);
+        }
+        if keys.add(alloc, listed, number, element.key())?.is_some() {
+            return Ok(false);
+        }
+        number += 1;
+    }
+}
+
+/// The last place of each key of a document all of whose elements can be read. The only error is out of memory.
+fn list_places(alloc: Global, document: RawDocument<'_>) -> Result<Vec<u32>>
+    ensures places { (frames : List Frame)
+        → IsWalk (drop 4 (bytes_of document.entry)) frames Done
+        → IfOk result (λ places. places.items ≡ last_places frames) }
+    ensures err { IfErr result IsOutOfMemory }
+{
+    let mut numbers = BTreeMap::new(alloc);
+    let mut places = Vec::new(alloc);
     let mut elements = Elements::new(document);
     let mut offset = 4;
     'elements: loop {
         let Some(element) = next_element(&mut elements) else {
-            if are_distinct {
-                return Ok(None);
-            }
-            return Ok(Some(places));
+            return Ok(places);
         };
-        let key = element.key();
-        let place = offset;
+        put_place(&mut numbers, &mut places, element.key(), offset as u32)?;
         offset = behind(offset, element);
-        if are_distinct && keys.add(alloc, listed, number, key)?.is_none() {
-            number += 1;
-            continue 'elements;
-        }
-        are_distinct = false;
-        if places.insert(key, Some(place)).is_err() {
-            return Err(Error::out_of_memory());
-        }
     }
+}
+
+/// The last place of each key of a document all of whose elements can be read; `None` where they are few and none is
+/// repeated. What is in the list goes out of it. The only error is out of memory.
+pub(crate) fn places_of<'a>(
+    alloc: Global,
+    document: RawDocument<'a>,
+    listed: &mut Vec<&'a str>,
+) -> Result<Option<Vec<u32>>>
+    ensures places { (frames : List Frame)
+        → IsWalk (drop 4 (bytes_of document.entry)) frames Done
+        → IfOk result (λ places. HasLastPlaces (option_map (λ v. v.items) places) frames) }
+    ensures err { IfErr result IsOutOfMemory }
+{
+    if are_keys_distinct(alloc, document, listed)? {
+        return Ok(None);
+    }
+    let places = list_places(alloc, document)?;
+    Ok(Some(places))
 }
 
 /// The element that begins at this offset.
@@ -94,21 +132,15 @@ pub(crate) fn element_at(document: RawDocument<'_>, offset: usize) -> RawElement
 }
 
 impl<'a> LastPlaces<'a> {
-    /// The last element of the next key that no element before has, where these elements of the document are left.
-    pub(crate) fn next(&mut self, elements: &mut Elements<'a>) -> Option<RawElement<'a>>
-        requires { (ms : List (MemberKey × Tree)) × IsLeftAt self.old elements.old ms }
+    /// The last element of the next key.
+    pub(crate) fn next(&mut self) -> Option<RawElement<'a>>
+        requires { (ms : List (MemberKey × Tree)) × IsLeftAt self.old ms }
         ensures { (ms : List (MemberKey × Tree))
-            → IsLeftAt self.old elements.old ms
-            → TakesMember ms result self.new elements.new }
+            → IsLeftAt self.old ms
+            → TakesMember ms result self.new }
     {
-        'elements: loop {
-            let element = next_element(elements)?;
-            let Some(place) = self.places.get_mut(&element.key()) else {
-                return Some(element);
-            };
-            if let Some(offset) = place.take() {
-                return Some(element_at(self.document, offset));
-            }
-        }
+        let place = *self.places.get(self.passed)?;
+        self.passed += 1;
+        Some(element_at(self.document, place as usize))
     }
 }

@@ -10,6 +10,7 @@ mod held;
 mod judge;
 mod last;
 mod level;
+mod numbered;
 mod place;
 mod rewriting;
 mod rewritten;

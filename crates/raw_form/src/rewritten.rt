@@ -79,7 +79,11 @@ fn keys_of<'a>(
     let Some(places) = places_of(alloc, document, listed)? else {
         return Ok(Keys::Distinct);
     };
-    let last = LastPlaces { document, places };
+    let last = LastPlaces {
+        document,
+        places,
+        passed: 0,
+    };
     Ok(Keys::Repeated(Box::new(alloc, last)?))
 }
 
@@ -161,7 +165,7 @@ impl<'a> Rewritten<'a> {
                 })
             }
             Keys::Repeated(last) => {
-                let element = last.next(&mut self.elements)?;
+                let element = last.next()?;
                 Some(Member {
                     number: None,
                     element,

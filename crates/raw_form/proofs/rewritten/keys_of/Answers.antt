@@ -1,21 +1,19 @@
-use Rattle.std.proofs.Common.{◌≡◌, ℕ, List, Option, refl, subst}
-use denote.Ref.{Bor}
-use Rattle.std.specs.BTreeMap.{BTreeMap}
+use Rattle.std.proofs.Common.{◌≡◌, ℕ, Option, Vec, Global, option_map, refl, subst}
 use Rattle.raw_view.specs.Document.{bytes_of}
-use Rattle.raw_form.specs.Staying.{HasRepeated}
+use Rattle.raw_form.specs.Staying.{HasLastPlaces}
 use Rattle.raw_form.specs.declared.last.LastPlaces.{LastPlaces}
 use Rattle.raw_form.proofs.Leaving.{distinct_begins, repeated_begins}
 use Rattle.raw_form.proofs.rewritten.keys_of.Goals as goal
 
 pub returns-in_default-clause-left : goal.returns-in_default-clause-left
 returns-in_default-clause-left c t read = distinct_begins (bytes_of c.args.document) t
-    (λ frames w. subst (λ (x : Option (BTreeMap (Bor (List ℕ)) (Option ℕ))). HasRepeated x frames) c.in_default.is (c.in_ok-places.ensures.places frames w))
+    (λ frames w. subst (λ (x : Option (Vec ℕ Global)). HasLastPlaces (option_map (λ v. v.items) x) frames) c.in_default.is (c.in_ok-places.ensures.places frames w))
     read
 
 pub returns-clause-left : goal.returns-clause-left
 returns-clause-left c t read =
-    let last : LastPlaces = record { document = c.args.document; places = c.in-Some.places } in
+    let last : LastPlaces = record { document = c.args.document; places = c.in-Some.places; passed = 0 } in
     let same : c.in_ok-new.field-0.value ≡ last = c.in_ok-new.ensures.ok in
-    rw same (repeated_begins (bytes_of c.args.document) t last refl
-    (λ frames w. subst (λ (x : Option (BTreeMap (Bor (List ℕ)) (Option ℕ))). HasRepeated x frames) c.in-Some.is (c.in_ok-places.ensures.places frames w))
+    rw same (repeated_begins (bytes_of c.args.document) t last refl refl c.args.document.envelope.enough
+    (λ frames w. subst (λ (x : Option (Vec ℕ Global)). HasLastPlaces (option_map (λ v. v.items) x) frames) c.in-Some.is (c.in_ok-places.ensures.places frames w))
     read)

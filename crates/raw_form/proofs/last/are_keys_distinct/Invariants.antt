@@ -1,0 +1,10 @@
+use Rattle.raw_view.specs.Document.{bytes_of}
+use Rattle.raw_tree.specs.Validating.{left_of}
+use Rattle.raw_form.proofs.Placing.{AreApart}
+use Rattle.raw_form.proofs.last.are_keys_distinct.Given as goal
+
+abbrev pub invariant-elements : goal.invariant-elements
+invariant-elements l = AreApart (bytes_of l.fn.document) l.elements l.keys l.listed.items l.number
+
+abbrev pub decreases-elements : goal.decreases-elements
+decreases-elements l = left_of l.elements
