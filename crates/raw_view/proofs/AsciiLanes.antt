@@ -2,6 +2,7 @@
 use Rattle.std.proofs.Common.{◌≡◌, ℕ, ◌%◌, ◌^◌, ◌<◌, ◌≤◌, Bool, false, cond, leb, List, map, length, get_or, take, replicate, IsAscii, ap, sym, subst, ◌∙◌, arith, inl, inr, w8, leb-false}
 use Rattle.std.proofs.lemmas.Bool.{cases_lt}
 use Rattle.std.proofs.lemmas.List.{get_or-take, length-map, length-take}
+use Rattle.std.specs.List.{All}
 use Rattle.std.proofs.lemmas.Simd.{length-chunk, zip2_splat_left, tops_compared, mask_l-mod, none_from_empty_mask, trailing_mask_l, run_in_chunk_fails}
 use Rattle.std.proofs.Math.ListN.{get_or-eq_default}
 use lib.Count.{count_trailing_zeros}
@@ -41,3 +42,11 @@ ascii_below_lowest bs n l some below =
     let lowest = trailing_mask_l wide 64 (chunk 0 16 bs) (omega (arith, long)) (omega (arith, same, some)) in
     let counted = ap (λ m. count_trailing_zeros 64 m) same ∙ lowest in
     ascii_below bs n (λ k lt. run_in_chunk_fails wide bs 0 16 _ 0 l counted k (omega arith) (omega arith))
+
+-- bytes that are each under 128
+pub ascii_of_each : (bs : List ℕ) → All (λ b. b < 128) bs → IsAscii bs
+ascii_of_each bs each i =
+    elim (cases_lt i (length bs)) [
+      | inl l ↦ each i 0 l
+      | inr l ↦ subst (λ b. b < 128) (sym (get_or-eq_default bs 0 {n = i} (omega (arith, l)))) (omega arith)
+    ]

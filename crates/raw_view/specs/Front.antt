@@ -3,8 +3,6 @@ use Rattle.std.specs.Prelude.{◌≡◌, ◌<◌, ◌-◌, ℕ, length, slice_ge
 use Rattle.raw_view.specs.declared.element.RawElement.{RawElement}
 use Rattle.raw_view.specs.declared.error.BorrowedError.{BorrowedError}
 use Rattle.std.specs.Option.{option_copied}
-use Rattle.raw_view.specs.declared.front.Front.{Front}
-use Rattle.raw_view.specs.declared.front.Front.TheVariants as front
 use Rattle.raw_view.specs.declared.error.ErrorKind.{ErrorKind}
 use Rattle.raw_view.specs.declared.error.ErrorKind.TheVariants as kind
 use Rattle.bson_model.specs.Bytes.{NulFree}
@@ -21,11 +19,6 @@ abbrev pub StopsWith : ErrorKind → Option (List ℕ) → List ℕ → Type 0
 StopsWith (kind.MalformedValue _) key s = IsStop s Malformed key
 StopsWith (kind.Utf8EncodingError _) key s = IsStop s Utf8 key
 StopsWith kind.OutOfMemory key s = ⊥
-
-abbrev pub IsFront : List ℕ → Front → Type 0
-IsFront s front.Final = s ≡ 0 ∷ []
-IsFront s (front.Element e r) = IsFrame s (frame_of e) r.now
-IsFront s (front.Stop e) = StopsWith e.kind (option_copied e.key) s
 
 -- What a step over the elements gives. The state is what is left to read, and nothing from a stop on.
 abbrev pub StepsFront : Option (List ℕ) → Option (Result RawElement BorrowedError) → Option (List ℕ) → Type 0

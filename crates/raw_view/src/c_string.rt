@@ -6,7 +6,7 @@ ghost use Rattle.bson_model.specs.Bytes.{NulFree};
 ghost use Rattle.raw_view.specs.Front.{IsTextFault};
 
 use crate::error::{ErrorKind, Reason};
-use crate::utf8::{front_text, short_text};
+use crate::utf8::{ascii_text, front_text, short_text};
 use std::simd::prelude::*;
 
 /// How many bytes are compared in one step.
@@ -87,12 +87,34 @@ fn split_longer_text(bytes: &[u8]) -> Option<(&str, &[u8])>
     Some((unsafe { std::str::from_utf8_unchecked(text) }, behind))
 }
 
+/// The same of few bytes, as at the end of a document: they are looked at one by one.
+#[inline(always)]
+fn split_last_text(bytes: &[u8]) -> Option<(&str, &[u8])>
+    ensures { IfSome result
+        (λ x. (bytes.now ≡ x.0.now ++ 0 ∷ x.1.now) × NulFree x.0.now × IsUtf8 x.0.now) }
+{
+    for at in 0..bytes.len() {
+        let byte = bytes[at];
+        if byte == 0 {
+            let (text, behind) = bytes.split_at(at);
+            return Some((ascii_text(text), &behind[1..]));
+        }
+        if byte >= 128 {
+            return None;
+        }
+    }
+    None
+}
+
 /// The text up to the first 0, and what is behind that 0, where it is of less than 32 bytes and ASCII; `None` says nothing.
 #[inline(always)]
 pub(crate) fn split_plain_text(bytes: &[u8]) -> Option<(&str, &[u8])>
     ensures { IfSome result
         (λ x. (bytes.now ≡ x.0.now ++ 0 ∷ x.1.now) × NulFree x.0.now × IsUtf8 x.0.now) }
 {
+    if bytes.len() < LANES {
+        return split_last_text(bytes);
+    }
     match split_short_text(bytes) {
         Some(parts) => Some(parts),
         None => split_longer_text(bytes),

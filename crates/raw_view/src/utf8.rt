@@ -14,7 +14,7 @@ const LANES: usize = 16;
 
 /// The text of bytes under 128.
 #[inline(always)]
-fn ascii_text(bytes: &[u8]) -> &str
+pub(crate) fn ascii_text(bytes: &[u8]) -> &str
     requires { IsAscii bytes.now }
     ensures text { result.now ≡ bytes.now }
     ensures utf8 { IsUtf8 bytes.now }
