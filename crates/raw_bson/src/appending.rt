@@ -13,7 +13,27 @@ use crate::laws::attest_view;
 use raw_tree::{
     is_nul_free, is_value_nul_free, payload_len, put_element, put_raw_element, set_len, total_len,
 };
-use raw_view::{Error, RawBsonRef, RawElement, Reason, Result};
+use raw_view::{Error, ErrorKind, RawBsonRef, RawElement, Reason, Result};
+
+/// The error of a 0 in a key, in a pattern or in options.
+#[cold]
+#[inline(never)]
+fn interior_nul() -> Error
+    ensures kind { result.kind ≡ ErrorKind.MalformedValue Reason.InteriorNul }
+    ensures no_key { key_of result ≡ None }
+{
+    Error::malformed(Reason::InteriorNul)
+}
+
+/// The error of a length that no header can say.
+#[cold]
+#[inline(never)]
+fn too_long() -> Error
+    ensures kind { result.kind ≡ ErrorKind.MalformedValue Reason.TooLong }
+    ensures no_key { key_of result ≡ None }
+{
+    Error::malformed(Reason::TooLong)
+}
 
 /// Puts the element of a value in place of the last byte, and a 0 behind it, where there is room for them.
 #[inline(always)]
@@ -54,7 +74,7 @@ fn make_room(bytes: &mut Vec<u8>, added: usize) -> Result<()>
     ensures same { bytes.new.items ≡ bytes.old.items }
 {
     if total_len(bytes.len(), added).is_none() {
-        return Err(Error::malformed(Reason::TooLong));
+        return Err(too_long());
     }
     bytes.reserve(added)?;
     Ok(())
@@ -72,7 +92,7 @@ pub(crate) fn append_value(bytes: &mut Vec<u8>, key: &str, value: RawBsonRef<'_>
     ensures envelope { IsEnvelope bytes.new.items }
 {
     if !is_nul_free(key) || !is_value_nul_free(value) {
-        return Err(Error::malformed(Reason::InteriorNul));
+        return Err(interior_nul());
     }
     make_room(bytes, payload_len(value).saturating_add(key.len() + 2))?;
     attest_view(value);
