@@ -369,13 +369,6 @@ fn a_text_is_copied(rt: HostRuntime) -> Result<(), Fail> {
     check_same(RawBson::from_str(rt.alloc(), "a")?, wanted)
 }
 
-#[test]
-fn a_new_regex_has_its_options_in_order(rt: HostRuntime) -> Result<(), Fail> {
-    let ordered = Regex::new(rt.alloc(), "^a", "mi")?;
-    check_text(ordered.pattern.as_str(), "^a")?;
-    check_text(ordered.options.as_str(), "im")
-}
-
 /// A regular expression as a literal makes it, which leaves the order of its options.
 fn regex_as_written(alloc: Global) -> Result<RawBson, Fail> {
     Ok(RawBson::RegularExpression(Regex {

@@ -1,9 +1,9 @@
 use crate::asserts::{is_document, is_want_of_memory};
 use crate::kinds::has_memory;
 use raw_bson::{
-    Binary, BinarySubtype, ElementType, NoMemory, RawArrayBuf, RawBinaryRef, RawBson, RawBsonRef,
-    RawDocument, RawDocumentBuf, RawElement, RawJavaScriptCodeWithScope, Regex, ToRawArrayBuf,
-    ToRawBson, ToRawDocumentBuf,
+    Binary, BinarySubtype, ElementType, RawArrayBuf, RawBinaryRef, RawBson, RawBsonRef,
+    RawDocument, RawDocumentBuf, RawElement, RawJavaScriptCodeWithScope, ToRawArrayBuf, ToRawBson,
+    ToRawDocumentBuf,
 };
 use std::alloc::Global;
 use std::test::Fail;
@@ -241,16 +241,4 @@ fn is_text(answer: raw_bson::Result<RawBson>, text: &str) -> bool {
 #[test]
 fn from_str_or_want_of_memory(rt: HostRuntime) {
     assert!(rt; is_text(RawBson::from_str(rt.alloc(), "a"), "a"));
-}
-
-fn is_regex(answer: Result<Regex, NoMemory>, pattern: &str, options: &str) -> bool {
-    match answer {
-        Ok(regex) => regex.pattern.as_str() == pattern && regex.options.as_str() == options,
-        Err(error) => error == NoMemory,
-    }
-}
-
-#[test]
-fn regex_or_want_of_memory(rt: HostRuntime) {
-    assert!(rt; is_regex(Regex::new(rt.alloc(), "^a", "mi"), "^a", "im"));
 }

@@ -1,4 +1,4 @@
-//! Tests of `bson_model`, `raw_view`, `raw_tree` and `raw_bson` that `bin/test` runs with each request for memory refused in turn,
+//! Tests of `raw_view`, `raw_tree`, `raw_form` and `raw_bson` that `bin/test` runs with each request for memory refused in turn,
 //! alone: each call returns what it returns with ample memory, or out of memory where it may. They are apart,
 //! since each runs once for each request that it makes.
 #![tactic(auto)]
@@ -19,8 +19,6 @@ mod counts;
 mod errors;
 #[cfg(test)]
 mod getters;
-#[cfg(test)]
-mod inserts;
 #[cfg(test)]
 mod kinds;
 #[cfg(test)]

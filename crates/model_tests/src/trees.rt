@@ -15,7 +15,12 @@ fn text(alloc: Global, content: &str) -> Result<String, AllocError> {
     String::from_str(alloc, content)
 }
 
-fn put(alloc: Global, document: &mut Document, key: &str, value: Bson) -> Result<(), NoMemory> {
+pub(crate) fn put(
+    alloc: Global,
+    document: &mut Document,
+    key: &str,
+    value: Bson,
+) -> Result<(), NoMemory> {
     let key = text(alloc, key)?;
     document.put(key, value)
 }
@@ -117,7 +122,7 @@ fn the_order_of_keys_counts(rt: HostRuntime) {
     );
 }
 
-fn string(alloc: Global, content: &str) -> Result<Bson, NoMemory> {
+pub(crate) fn string(alloc: Global, content: &str) -> Result<Bson, NoMemory> {
     Ok(Bson::String(text(alloc, content)?))
 }
 
@@ -257,6 +262,34 @@ fn a_document_is_printed_in_order(rt: HostRuntime) {
     let text =
         "Document { pairs: {\"key\": Document(Document { pairs: {\"b\": Int32(3), \"a\": Int32(2)} })} }";
     assert!(rt; is_document_printed(alloc, &two_pairs_held(alloc), text));
+}
+
+/// The number -7 and a null, under the keys `x` and `y`.
+fn scope(alloc: Global) -> Result<Document, NoMemory> {
+    let mut scope = Document::new(alloc);
+    put(alloc, &mut scope, "x", Bson::Int32(-7))?;
+    put(alloc, &mut scope, "y", Bson::Null)?;
+    Ok(scope)
+}
+
+fn code_over_scope(alloc: Global) -> Result<JavaScriptCodeWithScope, NoMemory> {
+    let scope = scope(alloc)?;
+    let code = text(alloc, "g")?;
+    Ok(JavaScriptCodeWithScope { code, scope })
+}
+
+fn is_code_printed(alloc: Global, text: &str) -> bool {
+    match code_over_scope(alloc) {
+        Ok(code) => has_debug(alloc, &code, text),
+        Err(_) => false,
+    }
+}
+
+#[test]
+fn code_with_scope_has_a_debug_text(rt: HostRuntime) {
+    let text =
+        "JavaScriptCodeWithScope { code: \"g\", scope: Document { pairs: {\"x\": Int32(-7), \"y\": Null} } }";
+    assert!(rt; is_code_printed(rt.alloc(), text));
 }
 
 /// The value in a document, a list or a code with scope.

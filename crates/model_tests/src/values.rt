@@ -68,6 +68,13 @@ fn small_values_keep_what_they_are_given(rt: HostRuntime) {
     assert!(rt; has_debug(alloc, &seven, "DateTime { millis: 7 }"));
 }
 
+#[test]
+fn a_decimal_has_a_debug_text(rt: HostRuntime) {
+    let decimal = Decimal128::from_bytes([0, 1, 2, 3, 4, 5, 6, 7, 8, 9, 10, 11, 12, 13, 14, 255]);
+    let text = "Decimal128 { bytes: [0, 1, 2, 3, 4, 5, 6, 7, 8, 9, 10, 11, 12, 13, 14, 255] }";
+    assert!(rt; has_debug(rt.alloc(), &decimal, text));
+}
+
 /// Bits, each with its number in IEEE 754.
 const NUMBERS: &[(u64, f64)] = &[
     (0x3FE0_0000_0000_0000, 0.5),
@@ -173,6 +180,11 @@ fn options_are_put_in_order(rt: HostRuntime) {
     // The characters are U+FFFD, U+10000, the letters x, i, i; in UTF-16 the second would come first.
     let options = "\u{10000}xi\u{FFFD}i";
     assert!(rt; are_in_order(rt.alloc(), options, "iix\u{FFFD}\u{10000}"));
+}
+
+#[test]
+fn a_new_regex_has_its_options_in_order(rt: HostRuntime) {
+    assert!(rt; is_regex(&Regex::new(rt.alloc(), "^a", "mi"), "^a", "im"));
 }
 
 fn is_regex_printed(alloc: Global, pattern: &str, options: &str, text: &str) -> bool {

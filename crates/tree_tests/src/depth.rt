@@ -1,5 +1,5 @@
 use crate::checks::check_written;
-use crate::trees_fixtures::{one_and_two, put, text, tree_of};
+use crate::trees_fixtures::tree_of;
 use bson_fixtures::{check_equal, document_of, holds};
 use raw_bson::{Bson, Document, RawArrayBuf, RawBson, encode, encode_list, list_from_raw};
 use std::alloc::Global;
@@ -92,29 +92,6 @@ fn a_list_of_deep_documents_comes_back(rt: HostRuntime) -> Result<(), Fail> {
     check_thousand(rt.alloc(), &list, array.as_bytes())
 }
 
-/// Puts a list, this document and a text.
-fn put_between_others(alloc: Global, outer: &mut Document, inner: Document) -> Result<(), Fail> {
-    put(alloc, outer, "a", one_and_two(alloc)?)?;
-    put(alloc, outer, "b", Bson::Document(inner))?;
-    put(alloc, outer, "c", text(alloc, "t")?)
-}
-
-/// A document that holds this one between a list and a text.
-fn between_others(alloc: Global, inner: Document) -> Result<Document, Fail> {
-    let mut outer = Document::new(alloc);
-    put_between_others(alloc, &mut outer, inner)?;
-    Ok(outer)
-}
-
-#[test]
-fn a_deep_branch_among_others_is_let_go(rt: HostRuntime) -> Result<(), Fail> {
-    let mut tree = Document::new(rt.alloc());
-    for _ in 0..200_000 {
-        tree = between_others(rt.alloc(), tree)?;
-    }
-    check_equal(&tree.len(), &3, "pairs")
-}
-
 /// Whether these are the digits of the bytes, two for each.
 fn are_digits(mut digits: &[u8], bytes: &[u8]) -> bool {
     for &byte in bytes {
@@ -161,117 +138,4 @@ fn a_million_owned_levels_are_compared_and_printed(rt: HostRuntime) -> Result<()
     let bytes = nested_in_turn(rt.alloc(), IN_TURN, MILLION, EMPTY)?;
     let value = RawBson::from(document_of(rt.alloc(), &bytes)?);
     check_owned_levels(rt.alloc(), &value, &bytes)
-}
-
-/// The tree of so many levels.
-fn tree_of_levels(alloc: Global, holder: Holder, levels: usize) -> Result<Document, Fail> {
-    tree_of(alloc, &nested_in_turn(alloc, &[holder], levels, EMPTY)?)
-}
-
-/// Whether two trees of so many levels are equal.
-fn are_equal(alloc: Global, holder: Holder, levels: usize) -> Result<bool, Fail> {
-    let tree = tree_of_levels(alloc, holder, levels)?;
-    Ok(tree == tree_of_levels(alloc, holder, levels)?)
-}
-
-/// Two trees of so many levels are equal.
-fn check_compared(alloc: Global, holder: Holder, levels: usize) -> Result<(), Fail> {
-    if are_equal(alloc, holder, levels)? {
-        Ok(())
-    } else {
-        Err(Fail::new(format_args!("{holder:?}")))
-    }
-}
-
-#[test]
-fn levels_are_compared(rt: HostRuntime) -> Result<(), Fail> {
-    // as many as the page of `Bson` says
-    for &holder in IN_TURN.iter() {
-        check_compared(rt.alloc(), holder, 40_000)?;
-    }
-    Ok(())
-}
-
-/// A text of levels: what is before and behind the levels, before and behind the next one in each, and in the last.
-struct LevelsText {
-    outside: (&'static str, &'static str),
-    around: (&'static str, &'static str),
-    innermost: &'static str,
-}
-
-/// The texts of levels.
-const TEXTS: &[(Holder, LevelsText)] = &[
-    (
-        Holder::Document,
-        LevelsText {
-            outside: ("", ""),
-            around: (r#"Document { pairs: {"0": Document("#, ")} }"),
-            innermost: "Document { pairs: {} }",
-        },
-    ),
-    (
-        Holder::Array,
-        LevelsText {
-            outside: (r#"Document { pairs: {"0": "#, "} }"),
-            around: ("Array([", "])"),
-            innermost: "",
-        },
-    ),
-    (
-        Holder::CodeWithScope,
-        LevelsText {
-            outside: ("", ""),
-            around: (
-                r#"Document { pairs: {"0": JavaScriptCodeWithScope(JavaScriptCodeWithScope { code: "", scope: "#,
-                " })} }",
-            ),
-            innermost: "Document { pairs: {} }",
-        },
-    ),
-];
-
-/// What is between these two, where they begin and end the text.
-fn inside<'a>(text: &'a str, around: (&str, &str)) -> Option<&'a str> {
-    text.strip_prefix(around.0)?.strip_suffix(around.1)
-}
-
-/// What is in so many levels, where each has these two around the next one.
-fn inside_levels<'a>(text: &'a str, around: (&str, &str), levels: usize) -> Option<&'a str> {
-    let mut rest = text;
-    for _ in 0..levels {
-        rest = inside(rest, around)?;
-    }
-    Some(rest)
-}
-
-/// Whether this is the text of so many levels.
-fn is_text_of_levels(text: &str, wanted: &LevelsText, levels: usize) -> bool {
-    match inside(text, wanted.outside) {
-        Some(whole) => inside_levels(whole, wanted.around, levels) == Some(wanted.innermost),
-        None => false,
-    }
-}
-
-/// The tree of so many levels is printed so.
-fn check_levels_text(
-    alloc: Global,
-    tree: &Document,
-    wanted: &LevelsText,
-    levels: usize,
-) -> Result<(), Fail> {
-    let printed = format!(in alloc; "{tree:?}")?;
-    holds(
-        is_text_of_levels(printed.as_str(), wanted, levels),
-        wanted.around.0,
-    )
-}
-
-#[test]
-fn levels_are_printed(rt: HostRuntime) -> Result<(), Fail> {
-    // as many as the page of `Bson` says
-    for (holder, wanted) in TEXTS.iter() {
-        let tree = tree_of_levels(rt.alloc(), *holder, 15_000)?;
-        check_levels_text(rt.alloc(), &tree, wanted, 15_000)?;
-    }
-    Ok(())
 }

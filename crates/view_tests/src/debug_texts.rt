@@ -1,7 +1,7 @@
 //! The `Debug` texts: those that Rust's `derive` gives, and of views their bytes as hexadecimal digits.
 
 use crate::texts::has_debug;
-use bson_model::{BinarySubtype, Bson, Decimal128, Document, JavaScriptCodeWithScope, NoMemory};
+use bson_model::BinarySubtype;
 use raw_view::{
     ElementType, Error, ErrorKind, RawBinaryRef, RawBsonRef, RawDbPointerRef, RawDocument,
     RawJavaScriptCodeWithScopeRef, RawRegexRef, Reason, ValueAccessErrorKind, ValueAccessResult,
@@ -73,42 +73,6 @@ fn parts_of_values_have_a_debug_text(rt: HostRuntime) {
     let text =
         "RawDbPointerRef { namespace: \"db.c\", id: ObjectId { bytes: [12, 11, 10, 9, 8, 7, 6, 5, 4, 3, 2, 1] } }";
     assert!(rt; has_debug(rt.alloc(), &pointer, text));
-    let decimal = Decimal128::from_bytes([0, 1, 2, 3, 4, 5, 6, 7, 8, 9, 10, 11, 12, 13, 14, 255]);
-    let text = "Decimal128 { bytes: [0, 1, 2, 3, 4, 5, 6, 7, 8, 9, 10, 11, 12, 13, 14, 255] }";
-    assert!(rt; has_debug(rt.alloc(), &decimal, text));
-}
-
-fn insert(alloc: Global, scope: &mut Document, key: &str, value: Bson) -> Result<(), NoMemory> {
-    let key = String::from_str(alloc, key)?;
-    scope.put(key, value)
-}
-
-/// The number -7 and a null, under the keys `x` and `y`.
-fn scope(alloc: Global) -> Result<Document, NoMemory> {
-    let mut scope = Document::new(alloc);
-    insert(alloc, &mut scope, "x", Bson::Int32(-7))?;
-    insert(alloc, &mut scope, "y", Bson::Null)?;
-    Ok(scope)
-}
-
-fn code(alloc: Global) -> Result<JavaScriptCodeWithScope, NoMemory> {
-    let scope = scope(alloc)?;
-    let code = String::from_str(alloc, "g")?;
-    Ok(JavaScriptCodeWithScope { code, scope })
-}
-
-fn is_code_printed(alloc: Global, text: &str) -> bool {
-    match code(alloc) {
-        Ok(code) => has_debug(alloc, &code, text),
-        Err(_) => false,
-    }
-}
-
-#[test]
-fn code_with_scope_has_a_debug_text(rt: HostRuntime) {
-    let text =
-        "JavaScriptCodeWithScope { code: \"g\", scope: Document { pairs: {\"x\": Int32(-7), \"y\": Null} } }";
-    assert!(rt; is_code_printed(rt.alloc(), text));
 }
 
 /// Each reason with its `Debug` text.

@@ -24,5 +24,3 @@ mod reasons;
 mod rows;
 #[cfg(test)]
 mod texts;
-#[cfg(test)]
-mod trees;

@@ -1,8 +1,8 @@
-use raw_bson::{Bson, Document};
+//! `bin/test` runs these with each request for memory refused in turn, alone.
+
+use bson_model::{Bson, Document, NoMemory, Regex};
 use std::alloc::Global;
 use std::process::Abort;
-
-// `bin/test` runs these with each request for memory refused in turn, alone.
 
 /// So many pairs that the keys and the values ask for memory more than once.
 const PAIRS: &[(&str, i32)] = &[
@@ -85,4 +85,16 @@ fn insert_of_a_key_that_is_there_or_want_of_memory(rt: HostRuntime) {
         }
     }
     assert_eq!(rt; document.len(), PAIRS.len());
+}
+
+fn is_regex(answer: Result<Regex, NoMemory>, pattern: &str, options: &str) -> bool {
+    match answer {
+        Ok(regex) => regex.pattern.as_str() == pattern && regex.options.as_str() == options,
+        Err(error) => error == NoMemory,
+    }
+}
+
+#[test]
+fn regex_or_want_of_memory(rt: HostRuntime) {
+    assert!(rt; is_regex(Regex::new(rt.alloc(), "^a", "mi"), "^a", "im"));
 }
