@@ -23,19 +23,16 @@ use Rattle.bson_uses.specs.declared.op_msg.Section.TheVariants.{Body, Sequence}
 abbrev pub HasNumber : ℕ → List ℕ → ℤ → Type 0
 HasNumber place b z = IsLe32 (take 4 (drop place b)) z
 
--- b has five numbers, of which the first is its size, and the fourth the code
-abbrev pub IsHeader : List ℕ → Type 0
-IsHeader b = (20 ≤ length b) × HasNumber 0 b (pos (length b)) × HasNumber 12 b (pos 2013)
+-- b has five numbers, of which the first is its size, the fourth the code, and the fifth the flags
+pub record IsHeader (b : List ℕ) (flags : ℕ) : Type 0 where
+  pub enough : 20 ≤ length b
+  pub size : HasNumber 0 b (pos (length b))
+  pub code : HasNumber 12 b (pos 2013)
+  pub bits : take 4 (drop 16 b) ≡ le_u32 flags
 
 -- of the bits 0 to 15, which a reader has to know, the flags have 0 and 1 at most
 abbrev pub AreKnown : ℕ → Type 0
 AreKnown flags = flags % 65536 < 4
-
--- b begins as a message does, with these flags as its fifth number
-pub record IsFront (b : List ℕ) (flags : ℕ) : Type 0 where
-  pub header : IsHeader b
-  pub bits : take 4 (drop 16 b) ≡ le_u32 flags
-  pub known : AreKnown flags
 
 -- where the checksum of b begins: it is the last four bytes where the lowest bit of the flags is set, and else nothing
 abbrev pub sections_end : List ℕ → ℕ → ℕ
@@ -67,7 +64,9 @@ BeginWith (x ∷ xs) s behind = (kind : ℕ) × (t next : List ℕ) × (s ≡ ki
 
 -- b is this message: its numbers, its sections, and its checksum
 pub record IsMessage (b : List ℕ) (m : Message) : Type 0 where
-  pub front : IsFront b m.flags
+  pub header : IsHeader b m.flags
+  pub known : AreKnown m.flags
+  pub room : 20 ≤ sections_end b m.flags
   pub request_id : HasNumber 4 b m.request_id
   pub response_to : HasNumber 8 b m.response_to
   pub sections : BeginWith m.sections.items (sections_of b m.flags) []
@@ -77,22 +76,17 @@ pub record IsMessage (b : List ℕ) (m : Message) : Type 0 where
 abbrev pub HasNoSize : List ℕ → Type 0
 HasNoSize s = (inside behind : List ℕ) → ¬ IsSized s inside behind
 
--- why no identifier is at the front of s: there is no 0; or what is before the first isn't UTF-8
-abbrev pub RefusesIdentifier : List ℕ → MessageError → Type 0
-RefusesIdentifier s e =
-    ((e ≡ NoIdentifier) × NulFree s)
-    ⊎ ((e ≡ NotText) × (text behind : List ℕ) × IsIdentified s text behind × ¬ IsUtf8 text)
-
 -- why s isn't documents end to end: behind some of them is something that is no document, and why; or memory ran out
 abbrev pub RefusesDocuments : List ℕ → MessageError → Type 0
 RefusesDocuments s e =
     ((why : WhyNone) × (e ≡ NoDocument why) × (ds : List RawDocument) × (rest : List ℕ) × (s ≡ joined ds ++ rest) × RefusesRest rest why)
     ⊎ (e ≡ OutOfMemory)
 
--- why what a size counts is no sequence: its identifier, else its documents
+-- why what a size counts is no sequence, the first of: its identifier has no end, isn't UTF-8; its documents
 abbrev pub RefusesInside : List ℕ → MessageError → Type 0
 RefusesInside inside e =
-    RefusesIdentifier inside e
+    ((e ≡ NoIdentifier) × NulFree inside)
+    ⊎ ((e ≡ NotText) × (text behind : List ℕ) × IsIdentified inside text behind × ¬ IsUtf8 text)
     ⊎ ((text documents : List ℕ) × IsIdentified inside text documents × IsUtf8 text × RefusesDocuments documents e)
 
 -- why no sequence is at the front of s: its size, else what that counts
@@ -112,23 +106,16 @@ RefusesSections s e =
     ((xs : List Section) × (kind : ℕ) × (t : List ℕ) × BeginWith xs s (kind ∷ t) × RefusesSection kind t e)
     ⊎ (e ≡ OutOfMemory)
 
--- why what is behind these flags of b is none of a message: no bytes for the checksum that they announce; else its sections
-abbrev pub RefusesBody : List ℕ → ℕ → MessageError → Type 0
-RefusesBody b flags e =
-    ((e ≡ NoChecksum) × (sections_end b flags < 20))
-    ⊎ ((20 ≤ sections_end b flags) × RefusesSections (sections_of b flags) e)
-
--- why b doesn't begin as a message does, the first of: it has no five numbers, its size, its code, and its flags
-abbrev pub RefusesFront : List ℕ → MessageError → Type 0
-RefusesFront b e =
+-- why b is no message, the first of: it has no five numbers, its size, its code, its flags, no bytes for the checksum that
+-- they announce, its sections
+abbrev pub RefusesMessage : List ℕ → MessageError → Type 0
+RefusesMessage b e =
     ((e ≡ TooShort) × (length b < 20))
     ⊎ ((e ≡ WrongSize) × (20 ≤ length b) × (size : ℤ) × HasNumber 0 b size × (size ≢ pos (length b)))
     ⊎ ((e ≡ OtherCode) × (20 ≤ length b) × HasNumber 0 b (pos (length b)) × (code : ℤ) × HasNumber 12 b code × (code ≢ pos 2013))
-    ⊎ ((flags : ℕ) × (e ≡ UnknownFlags flags) × ¬ AreKnown flags × IsHeader b × (take 4 (drop 16 b) ≡ le_u32 flags))
-
--- why b is no message: how it begins; or what is behind its flags
-abbrev pub RefusesMessage : List ℕ → MessageError → Type 0
-RefusesMessage b e = RefusesFront b e ⊎ ((flags : ℕ) × IsFront b flags × RefusesBody b flags e)
+    ⊎ ((flags : ℕ) × (e ≡ UnknownFlags flags) × IsHeader b flags × ¬ AreKnown flags)
+    ⊎ ((flags : ℕ) × (e ≡ NoChecksum) × IsHeader b flags × AreKnown flags × (sections_end b flags < 20))
+    ⊎ ((flags : ℕ) × IsHeader b flags × AreKnown flags × (20 ≤ sections_end b flags) × RefusesSections (sections_of b flags) e)
 
 -- the message of this number with the document b: its size, numbers and code, no flags, and a body
 abbrev pub message_bytes : ℤ → List ℕ → List ℕ

@@ -112,6 +112,7 @@ fn are_met(alloc: Global, found: Option<RawBsonRef<'_>>, condition: RawDocument<
 }
 
 /// Whether a value was found, and is this.
+#[tactic(auto, using(raw_bson::proofs::Face::view_same))]
 fn is_equal(found: Option<RawBsonRef<'_>>, wanted: RawBsonRef<'_>) -> Met
     ensures { Wants (IsThis (value_in found.entry) (value_of wanted.entry)) result }
 {

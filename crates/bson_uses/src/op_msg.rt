@@ -1,8 +1,7 @@
-ghost use Rattle.std.specs.Prelude.{◌≡◌, ◌≤◌, ◌+◌, ◌++◌, [], length, take, drop, IsTrue, IfOk, IfErr, IfSome, MatchOption};
-ghost use Rattle.std.specs.Str.{IsUtf8};
+ghost use Rattle.std.specs.Prelude.{◌≡◌, ◌≤◌, ◌+◌, [], length, IsTrue, IfOk, IfErr, IfSome, MatchOption};
 ghost use Rattle.raw_bson.specs.Document.{bytes_of};
-ghost use Rattle.raw_bson.specs.Number.{IsLe32};
-ghost use Rattle.bson_uses.specs.Messages.{message_bytes, IsSized, IsIdentified, IsSection, BeginWith, IsFront, IsMessage, HasNoSize, RefusesIdentifier, RefusesSection, RefusesSections, RefusesFront, RefusesMessage, RefusesLength};
+ghost use Rattle.raw_bson.specs.Bytes.{NulFree};
+ghost use Rattle.bson_uses.specs.Messages.{message_bytes, HasNumber, IsSized, IsIdentified, IsSection, BeginWith, IsMessage, HasNoSize, RefusesSequence, RefusesSection, RefusesSections, RefusesMessage, RefusesLength};
 
 use crate::dump::split_dump;
 use raw_bson::{Error, NoDocument, RawDocument, Reason, Result};
@@ -81,12 +80,12 @@ fn check(holds: bool, error: MessageError) -> Read<()>
     if holds { Ok(()) } else { Err(error) }
 }
 
-/// The number at the front.
-fn first_i32(bytes: &[u8]) -> i32
-    requires { 4 ≤ length bytes.now }
-    ensures { IsLe32 (take 4 bytes.now) result }
+/// The number whose four bytes begin at this place.
+fn i32_at(bytes: &[u8], at: usize) -> i32
+    requires { at + 4 ≤ length bytes.now }
+    ensures { HasNumber at bytes.now result }
 {
-    i32::from_le_bytes([bytes[0], bytes[1], bytes[2], bytes[3]])
+    i32::from_le_bytes([bytes[at], bytes[at + 1], bytes[at + 2], bytes[at + 3]])
 }
 
 /// The bytes that a size in front counts, without it, and what is behind them; nothing where there are fewer.
@@ -95,24 +94,33 @@ fn split_sized(bytes: &[u8]) -> Option<(&[u8], &[u8])>
     ensures shorter { IfSome result (λ parts. length parts.1.now ≤ length bytes.now) }
 {
     let (_, behind) = bytes.split_at_checked(4)?;
-    let size = usize::try_from(first_i32(bytes)).ok()?;
+    let size = usize::try_from(i32_at(bytes, 0)).ok()?;
     behind.split_at_checked(size.checked_sub(4)?)
 }
 
-/// The text in front that ends with a 0, and what is behind it.
-fn split_identifier(bytes: &[u8]) -> Read<(&str, &[u8])>
-    ensures parts { IfOk result (λ parts. IsIdentified bytes.now parts.0.now parts.1.now) }
-    ensures text { IfOk result (λ parts. IsUtf8 parts.0.now) }
-    ensures refused { IfErr result (RefusesIdentifier bytes.now) }
+/// What is in front of the first 0, and what is behind it; nothing where there is none.
+fn split_at_nul(bytes: &[u8]) -> Option<(&[u8], &[u8])>
+    ensures { MatchOption result (NulFree bytes.now) (λ parts. IsIdentified bytes.now parts.0.now parts.1.now) }
 {
-    let Some(end) = memchr::memchr(0, bytes) else {
-        return Err(MessageError::NoIdentifier);
-    };
-    let identifier = std::str::from_utf8(&bytes[..end]).map_err(|_| MessageError::NotText)?;
-    Ok((identifier, &bytes[end + 1..]))
+    let end = memchr::memchr(0, bytes)?;
+    Some((&bytes[..end], &bytes[end + 1..]))
 }
 
-/// The section of this kind at the front of the bytes, and what is behind it.
+/// The sequence at the front of the bytes, which begin behind its kind, and what is behind it.
+fn first_sequence<'a>(alloc: Global, bytes: &'a [u8]) -> Read<(Section<'a>, &'a [u8])>
+    ensures section { IfOk result (λ parts. IsSection 1 bytes.now parts.0 parts.1.now) }
+    ensures refused { IfErr result (RefusesSequence bytes.now) }
+    ensures shorter { IfOk result (λ parts. length parts.1.now ≤ length bytes.now) }
+{
+    let (inside, rest) = split_sized(bytes).ok_or(MessageError::WrongSequenceSize)?;
+    let (text, behind) = split_at_nul(inside).ok_or(MessageError::NoIdentifier)?;
+    let identifier = std::str::from_utf8(text).map_err(|_| MessageError::NotText)?;
+    let dump = split_dump(alloc, behind).map_err(|_| MessageError::OutOfMemory)?;
+    let documents = dump.whole().map_err(MessageError::NoDocument)?;
+    Ok((Section::Sequence(identifier, documents), rest))
+}
+
+/// The section of this kind at the front of the bytes, which begin behind the kind, and what is behind it.
 fn first_section<'a>(alloc: Global, kind: u8, bytes: &'a [u8]) -> Read<(Section<'a>, &'a [u8])>
     ensures section { IfOk result (λ parts. IsSection kind bytes.now parts.0 parts.1.now) }
     ensures refused { IfErr result (RefusesSection kind bytes.now) }
@@ -122,13 +130,7 @@ fn first_section<'a>(alloc: Global, kind: u8, bytes: &'a [u8]) -> Read<(Section<
         0 => RawDocument::split_first(bytes)
             .map(|(body, rest)| (Section::Body(body), rest))
             .map_err(MessageError::NoDocument),
-        1 => {
-            let (inside, rest) = split_sized(bytes).ok_or(MessageError::WrongSequenceSize)?;
-            let (identifier, documents) = split_identifier(inside)?;
-            let dump = split_dump(alloc, documents).map_err(|_| MessageError::OutOfMemory)?;
-            let documents = dump.whole().map_err(MessageError::NoDocument)?;
-            Ok((Section::Sequence(identifier, documents), rest))
-        }
+        1 => first_sequence(alloc, bytes),
         _ => Err(MessageError::OtherKind(kind)),
     }
 }
@@ -147,31 +149,23 @@ fn all_sections<'a>(alloc: Global, mut rest: &'a [u8]) -> Read<Vec<Section<'a>>>
     Ok(all)
 }
 
-/// The flags of a message, behind its size and its code.
-fn known_flags(bytes: &[u8]) -> Read<u32>
-    ensures front { IfOk result (IsFront bytes.now) }
-    ensures refused { IfErr result (RefusesFront bytes.now) }
-{
-    check(bytes.len() >= 20, MessageError::TooShort)?;
-    let size = first_i32(bytes);
-    check(size as i64 == bytes.len() as i64, MessageError::WrongSize)?;
-    check(first_i32(&bytes[12..]) == 2013, MessageError::OtherCode)?;
-    let flags = first_i32(&bytes[16..]).cast_unsigned();
-    check(flags % 0x1_0000 < 4, MessageError::UnknownFlags(flags))?;
-    Ok(flags)
-}
-
 /// The message that these bytes are.
 pub fn read_message<'a>(alloc: Global, bytes: &'a [u8]) -> Read<Message<'a>>
     ensures message { IfOk result (IsMessage bytes.now) }
     ensures refused { IfErr result (RefusesMessage bytes.now) }
 {
-    let flags = known_flags(bytes)?;
+    // five numbers in front: the size, the message's number, that of the other message, the code, the flags
+    check(bytes.len() >= 20, MessageError::TooShort)?;
+    let size = i32_at(bytes, 0);
+    check(size as i64 == bytes.len() as i64, MessageError::WrongSize)?;
+    check(i32_at(bytes, 12) == 2013, MessageError::OtherCode)?;
+    let flags = i32_at(bytes, 16).cast_unsigned();
+    check(flags % 0x1_0000 < 4, MessageError::UnknownFlags(flags))?;
     let end = bytes.len() - 4 * (flags as usize % 2);
     check(end >= 20, MessageError::NoChecksum)?;
     Ok(Message {
-        request_id: first_i32(&bytes[4..]),
-        response_to: first_i32(&bytes[8..]),
+        request_id: i32_at(bytes, 4),
+        response_to: i32_at(bytes, 8),
         flags,
         sections: all_sections(alloc, &bytes[20..end])?,
         checksum: &bytes[end..],
