@@ -100,14 +100,21 @@ def passed_on(text: str) -> List[str]:
     return [name for uses in lists for name in re.findall(r"\w+", re.sub(r".*\{|.*::", "", " ".join(uses.split())))]
 
 
+def file_of(crates: Path, crate: str, path: str) -> str:
+    """The file of specs/ that a dotted path leads into, in a folder or not; the first name's where there is none."""
+    parts = path.split(".")
+    files = [f"{crate}/specs/{'/'.join(parts[:count])}.antt" for count in range(len(parts), 0, -1)]
+    return next((file for file in files if (crates / file).exists()), files[-1])
+
+
 def cited(crates: Path, name: str, items: List[Item]) -> Set[str]:
     """The files of specs/ whose words the clauses of these items of a file cite."""
     uses = {}
-    for crate, file, names, alias in re.findall(
-        r"^ *ghost use Rattle\.(\w+)\.specs\.(\w+)[\w.]*(?:\.\{([^}]*)\}| as (\w+));", (crates / name).read_text(encoding="utf-8"), re.M
+    for crate, path, names, alias in re.findall(
+        r"^ *ghost use Rattle\.(\w+)\.specs\.(\w+(?:\.\w+)*)(?:\.\{([^}]*)\}| as (\w+));", (crates / name).read_text(encoding="utf-8"), re.M
     ):
-        for name in (names or alias).split(", "):
-            uses[name] = f"{crate}/specs/{file}.antt"
+        for word in (names or alias).split(", "):
+            uses[word] = file_of(crates, crate, path)
     words = {word for item in items for word in re.findall(r"[A-Za-z_]\w*", item.clauses)}
     return {uses[word] for word in words & uses.keys() if (crates / uses[word]).exists()}
 
@@ -119,7 +126,7 @@ class Crates:
         self.crates = folder / "crates"
         self.items: Dict[str, List[Item]] = {}
         for crate in CRATES:
-            for path in sorted((self.crates / crate / "src").glob("*.rt")):
+            for path in sorted((self.crates / crate / "src").rglob("*.rt")):
                 name = str(path.relative_to(self.crates))
                 self.items[name] = list(items_of(path, name))
         self.lists: Dict[str, List[str]] = {}

@@ -8,7 +8,7 @@ ghost use Rattle.base64.specs.GeneralPurpose.{encode_of};
 ghost use Rattle.bson_model.specs.Scalars.{bytes_of_object_id};
 ghost use Rattle.hex.specs.Hex.{encode_lower};
 ghost use Rattle.json.specs.Print.{quoted};
-ghost use Rattle.raw_view.specs.Value.{namespace_of, id_of};
+ghost use Rattle.raw_view.specs.Meaning.Value.{namespace_of, id_of};
 ghost use Rattle.bson_json.specs.Leaves.{binary_json, int32_json, int64_json, pointer_json, regex_json, timestamp_json};
 
 use crate::put::{put, put_between, put_bytes_between, put_words};

@@ -7,7 +7,7 @@ ghost use Rattle.bson_json.specs.Json.{colon, end_text, head_text, line};
 ghost use Rattle.json.specs.Print.{quoted};
 ghost use Rattle.bson_json.specs.Levels.{Gives, IsReadable, PutsSingle, PutsValue, sort_of, after};
 ghost use Rattle.raw_view.specs.Document.{bytes_of};
-ghost use Rattle.raw_view.specs.Value.{value_of};
+ghost use Rattle.raw_view.specs.Meaning.Value.{value_of};
 
 use crate::dates::put_date;
 use crate::decimals::put_decimal;

@@ -7,7 +7,7 @@ use Rattle.raw_bson.proofs.Face.{LeadsTo-more}
 use Rattle.raw_bson.specs.ElementSteps.{frame_of}
 use Rattle.raw_bson.specs.Frame.{Frame, IsFrame, LeadsTo}
 use Rattle.raw_bson.specs.RawElement.{RawElement}
-use Rattle.raw_view.specs.Front.{StepsFront}
+use Rattle.raw_view.specs.Frame.Front.{StepsFront}
 use Rattle.raw_view.specs.declared.error.BorrowedError.{BorrowedError}
 use Rattle.bsonraw_c.specs.Entries.{AreEntries, GoesFrom, GoesOver, IsEntry, IsEntryWorkedOut}
 use Rattle.bsonraw_c.specs.Codes.{SaysKind}

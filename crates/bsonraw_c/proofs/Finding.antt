@@ -6,7 +6,7 @@ use Rattle.raw_bson.specs.ElementSteps.{frame_of}
 use Rattle.raw_bson.specs.Frame.{Frame, LeadsTo}
 use Rattle.raw_bson.specs.LookUp.{HasNoKey, HasThisKey}
 use Rattle.raw_bson.specs.RawElement.{RawElement}
-use Rattle.raw_view.specs.Front.{StepsFront}
+use Rattle.raw_view.specs.Frame.Front.{StepsFront}
 use Rattle.raw_view.specs.declared.error.BorrowedError.{BorrowedError}
 use Rattle.bsonraw_c.specs.Codes.{SaysKind}
 use Rattle.bsonraw_c.specs.Iters.{FindsFrom, GoesThrough, HasNoElement, IsKeyAt, IsShortKey, IsWorkedOut, Returns, StopsAt, place_of_none}

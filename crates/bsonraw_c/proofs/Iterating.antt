@@ -9,7 +9,7 @@ use Rattle.raw_bson.specs.ErrorKind.{ErrorKind}
 use Rattle.raw_bson.specs.ErrorKind.TheVariants as kind
 use Rattle.raw_bson.specs.Frame.{Frame, IsFrame, Fault, Malformed, Utf8, IsStop, HasKey}
 use Rattle.raw_bson.specs.Kind.{tag_of}
-use Rattle.raw_view.specs.Front.{StopsWith}
+use Rattle.raw_view.specs.Frame.Front.{StopsWith}
 use Rattle.raw_view.specs.declared.error.BorrowedError.{BorrowedError}
 use Rattle.bsonraw_c.specs.Codes.{SaysKind}
 use Rattle.bsonraw_c.specs.Iters.{GoesThrough, IsAstray, IsAtFrame, IsAtStop, IsKeyAt, IsShortKey, IsWorkedOut, StopsAtFault, place_of_none}

@@ -9,7 +9,7 @@ use Rattle.raw_bson.specs.Frame.{Frame, IsFrame, Fault, Malformed, Utf8, IsStop}
 use Rattle.raw_bson.specs.Kind.{tag_of}
 use Rattle.raw_bson.specs.Number.{max_length}
 use Rattle.raw_bson.specs.RawElement.{RawElement}
-use Rattle.raw_view.specs.Front.{StepsFront, StopsWith}
+use Rattle.raw_view.specs.Frame.Front.{StepsFront, StopsWith}
 use Rattle.raw_view.specs.declared.error.BorrowedError.{BorrowedError}
 use Rattle.bsonraw_c.specs.Codes.{SaysKind, TellsFaultCode}
 use Rattle.bsonraw_c.specs.Places.{StandsAt}

@@ -5,7 +5,7 @@ use Rattle.raw_bson.specs.ErrorKind.TheVariants as kind
 use Rattle.raw_bson.specs.Frame.{Frame, IsFrame, Malformed, Utf8}
 use Rattle.raw_bson.specs.Kind.{tag_of}
 use Rattle.raw_view.proofs.Face.{no_frame_at_final, no_frame_at_stop}
-use Rattle.raw_view.specs.Front.{StopsWith}
+use Rattle.raw_view.specs.Frame.Front.{StopsWith}
 use Rattle.bsonraw_c.specs.Iters.{GoesThrough}
 use Rattle.bsonraw_c.specs.Places.{StandsAt}
 use Rattle.bsonraw_c.specs.Values.{HasPart, HasParts, IsOn}

@@ -4,7 +4,7 @@ use Rattle.std.proofs.lemmas.List.{drop-append-le, take-append-drop, take-append
 use Rattle.std.proofs.Math.Seq.{take-append_seam, drop-append_seam}
 use Rattle.std.specs.Int.{w32, from_le_bytes}
 use Rattle.std.specs.Io.KnownBytes.{Consumes}
-use Rattle.raw_view.specs.Envelope.{IsEnvelope}
+use Rattle.raw_view.specs.Frame.Envelope.{IsEnvelope}
 use Rattle.raw_tree.specs.WithinLimits.{AllAreAnsweredOneWay, ReadsWithin}
 use Rattle.raw_form.specs.Barriers.{TellsBarrier, steps_of}
 use Rattle.raw_form.specs.Places.{FirstBarrierAt}

@@ -5,11 +5,11 @@ use Rattle.std.specs.Io.KnownBytes.{Appends}
 use Rattle.std.specs.Option.{option_copied}
 use Rattle.json.specs.Print.{quoted}
 use Rattle.raw_form.specs.Looking.{HoldsBytes}
-use Rattle.raw_view.specs.Envelope.{IsEnvelope, Refuses}
+use Rattle.raw_view.specs.Frame.Envelope.{IsEnvelope, Refuses}
 use Rattle.raw_view.specs.Errors.{IsReadingKind}
 use Rattle.raw_view.specs.Frame.{Frame, IsWalk, Fault, End, Done, Stopped}
-use Rattle.raw_view.specs.Front.{SaysFault}
-use Rattle.raw_view.specs.Kind.{kind_text}
+use Rattle.raw_view.specs.Frame.Front.{SaysFault}
+use Rattle.raw_view.specs.Frame.Kind.{kind_text}
 use Rattle.raw_view.specs.Meaning.{RawValue, KeyedFault, Means, value, faulty}
 use Rattle.raw_view.specs.Meaning as raw
 use Rattle.raw_view.specs.declared.document.RawDocument.{RawDocument}

@@ -3,7 +3,7 @@ use Rattle.std.specs.Prelude.{◌≡◌, ◌⊎◌, ◌<◌, ◌≤◌, ◌+◌,
 use Rattle.std.specs.Io.KnownBytes.{Consumes}
 use Rattle.memchr.specs.Find.{IsFirstByte, is_byte}
 use Rattle.bson_model.specs.Tree.{Tree}
-use Rattle.raw_view.specs.Envelope.{IsEnvelope}
+use Rattle.raw_view.specs.Frame.Envelope.{IsEnvelope}
 use Rattle.raw_tree.specs.WithinLimits.{Barrier, ReadsWithin}
 use Rattle.raw_form.specs.Places.{FirstBarrierAt, Step}
 use Rattle.bsonraw_dump.specs.Cut.{IsPiece, said_len}

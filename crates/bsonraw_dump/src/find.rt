@@ -4,7 +4,7 @@
 ghost use Rattle.std.specs.Prelude.{◌≡◌, ◌≤◌, ℕ, List, IfOk, length};
 ghost use Rattle.std.specs.Option.{option_map};
 ghost use Rattle.raw_view.specs.Document.{bytes_of};
-ghost use Rattle.raw_view.specs.Envelope.{Refuses};
+ghost use Rattle.raw_view.specs.Frame.Envelope.{Refuses};
 ghost use Rattle.raw_view.specs.Errors.{IsMalformed};
 ghost use Rattle.raw_form.specs.Barriers.{IsBarrier, steps_of};
 ghost use Rattle.raw_form.specs.Verdicts.{FirstVerdict};

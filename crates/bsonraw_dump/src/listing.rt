@@ -6,11 +6,11 @@ ghost use Rattle.std.specs.Io.KnownBytes.{Appends};
 ghost use Rattle.json.specs.Print.{quoted};
 ghost use Rattle.raw_form.specs.Looking.{HoldsBytes};
 ghost use Rattle.raw_view.specs.Document.{bytes_of};
-ghost use Rattle.raw_view.specs.ElementSteps.{frame_of};
-ghost use Rattle.raw_view.specs.Value.{value_of};
+ghost use Rattle.raw_view.specs.Frame.ElementSteps.{frame_of};
+ghost use Rattle.raw_view.specs.Meaning.Value.{value_of};
 ghost use Rattle.bsonraw_dump.specs.Listing.{element_line, indented, Lists, PutsElement, PutsStop};
 ghost use Rattle.bsonraw_dump.specs.Values.{ShowsValue};
-ghost use Rattle.raw_view.specs.Kind.{kind_text};
+ghost use Rattle.raw_view.specs.Frame.Kind.{kind_text};
 ghost use Rattle.bsonraw_dump.specs.Find as find;
 ghost use Rattle.bsonraw_dump.specs.Run.{IsReading};
 

@@ -14,7 +14,7 @@ ghost use Rattle.bsonraw_dump.specs.Told.{ending_line, line, summary_line};
 ghost use Rattle.bsonraw_dump.specs.Run.{Emits, Ends, IsReading, PassesFront, PassesGap, PassesOne, Reports, Stops, Writes, head_text};
 ghost use Rattle.bsonraw_dump.specs.Run as says;
 ghost use Rattle.raw_tree.specs.CanonicalForm.{IsCanonicalForm};
-ghost use Rattle.raw_view.specs.Envelope.{IsEnvelope};
+ghost use Rattle.raw_view.specs.Frame.Envelope.{IsEnvelope};
 ghost use Rattle.bson_json.specs.Json.{IsJson};
 ghost use Rattle.bsonraw_dump.specs.declared.command.Command.TheVariants.{Unique};
 

@@ -5,10 +5,10 @@ ghost use Rattle.std.specs.Prelude.{◌≡◌, ◌++◌, ℕ, List, codes, decim
 ghost use Rattle.std.specs.Fmt.{signed_decimal};
 ghost use Rattle.hex.specs.Hex.{encode_lower};
 ghost use Rattle.json.specs.Print.{quoted};
-ghost use Rattle.raw_view.specs.Kind.{kind_text};
+ghost use Rattle.raw_view.specs.Frame.Kind.{kind_text};
 ghost use Rattle.bson_model.specs.Subtype.{subtype_byte};
 ghost use Rattle.raw_view.specs.Document.{bytes_of};
-ghost use Rattle.raw_view.specs.Value.{id_of, namespace_of, value_of};
+ghost use Rattle.raw_view.specs.Meaning.Value.{id_of, namespace_of, value_of};
 ghost use Rattle.bsonraw_dump.specs.Values.{ShowsBehind, ShowsDouble, ShowsValue, size_text, sized_text};
 
 use crate::text::{push_number, push_words, quotation};

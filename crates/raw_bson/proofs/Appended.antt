@@ -2,8 +2,8 @@
 use Rattle.std.proofs.Common.{◌≡◌, ◌≤◌, ◌+◌, ◌-◌, ◌∷◌, ◌++◌, [], ℕ, ℤ, List, pos, length, take, drop, ap, sym, ◌∙◌, arith, append_assoc, length-append}
 use Rattle.std.proofs.lemmas.List.{drop-take, drop-append-le, length-take, length-take-le}
 use Rattle.raw_view.specs.Frame.{Frame}
-use Rattle.raw_view.specs.Number.{le32}
-use Rattle.raw_view.specs.Format.{inside_of}
+use Rattle.raw_view.specs.Frame.Number.{le32}
+use Rattle.raw_view.specs.Frame.Format.{inside_of}
 use Rattle.raw_bson.specs.Append.{frame_bytes, appended_bytes}
 use Rattle.raw_bson.proofs.KeptWalks.{length-inside, length-frame_bytes}
 

@@ -3,7 +3,7 @@ use Rattle.std.proofs.Common.{◌≡◌, ◌≢◌, inl, inr, ◌≤◌, ◌+◌
 use Rattle.bson_model.specs.Proper.{IsProper, IsNulFree}
 use Rattle.bson_model.specs.Leaf.{Leaf}
 use Rattle.bson_model.specs.Tree.{Tree, leaf, array, trees, items_in}
-use Rattle.raw_view.specs.Envelope.{IsEnvelope}
+use Rattle.raw_view.specs.Frame.Envelope.{IsEnvelope}
 use Rattle.raw_view.specs.Meaning.{RawValue}
 use Rattle.raw_view.specs.Meaning as raw
 use Rattle.raw_view.specs.declared.error.Error.{Error}

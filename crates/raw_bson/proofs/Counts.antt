@@ -1,8 +1,8 @@
 -- How many items a document has.
 use Rattle.std.proofs.Common.{◌≡◌, arith, ℕ, ◌+◌, List, [], ◌∷◌, length, Result, Ok, Err, refl, ◌∙◌}
-use Rattle.raw_view.specs.ElementSteps.{ListsWalk}
+use Rattle.raw_view.specs.Frame.ElementSteps.{ListsWalk}
 use Rattle.raw_view.specs.Frame.{Frame, End, Done, Stopped, IsWalk}
-use Rattle.raw_view.specs.Item.{Item, entry, stopped, ItemsOf}
+use Rattle.raw_view.specs.Meaning.Item.{Item, entry, stopped, ItemsOf}
 use Rattle.bson_model.specs.Bytes.{AreBytes}
 use Rattle.raw_view.specs.declared.element.RawElement.{RawElement}
 use Rattle.raw_view.specs.declared.error.Error.{Error}

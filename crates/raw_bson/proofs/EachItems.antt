@@ -3,13 +3,13 @@ use Rattle.std.proofs.Common.{◌≡◌, ◌⊎◌, ◌++◌, ◌∷◌, [], ◌
 use Rattle.std.proofs.lemmas.Result.{err_from_is_err_and}
 use Rattle.std.specs.Prelude.{option_map, IsErrAnd}
 use denote.Ref.{Bor}
-use Rattle.raw_view.specs.Answers.{Says, TellsItem, TellsValue, TellsFound, StepsItems}
-use Rattle.raw_view.specs.ElementSteps.{HasReadItems}
+use Rattle.raw_view.specs.Errors.Answers.{Says, TellsItem, TellsValue, TellsFound, StepsItems}
+use Rattle.raw_view.specs.Frame.ElementSteps.{HasReadItems}
 use Rattle.raw_view.specs.Frame.{Frame, IsFrame, End, Done, Stopped, EndsIn, IsWalk, LeadsTo}
-use Rattle.raw_view.specs.Item.{Item, entry, stopped, ItemsOf, AreItems}
+use Rattle.raw_view.specs.Meaning.Item.{Item, entry, stopped, ItemsOf, AreItems}
 use Rattle.raw_view.specs.LookUp.{LooksUp}
 use Rattle.raw_view.specs.Meaning.{RawValue, KeyedFault, Meaning, value, faulty, Means}
-use Rattle.raw_view.specs.Value.{value_of}
+use Rattle.raw_view.specs.Meaning.Value.{value_of}
 use Rattle.raw_view.specs.declared.bson_ref.RawBsonRef.{RawBsonRef}
 use Rattle.raw_view.specs.declared.error.Error.{Error}
 use Rattle.raw_view.proofs.Face.{one_frame, one_meaning, one_stop, the_items, no_frame_at_stop, no_frame_at_final, no_stop_at_final, HasReadItems-none, HasReadItems-pair, HasReadItems-value, HasReadItems-end}

@@ -4,7 +4,7 @@ use denote.Ref.{Bor}
 use Rattle.bson_model.specs.Leaf.{Leaf, double}
 use Rattle.raw_view.specs.Frame.{Frame, IsFrame, IsShortScope}
 use Rattle.raw_view.specs.Meaning.{RawValue, single, document, array, scoped, Means, value}
-use Rattle.raw_view.specs.Number.{max_length}
+use Rattle.raw_view.specs.Frame.Number.{max_length}
 use Rattle.raw_view.proofs.Face.{leaf_means, scoped_means}
 use Rattle.raw_tree.specs.Payload.{payload_of, IsValueNulFree}
 use Rattle.raw_tree.proofs.Face.{value_spelled}

@@ -4,12 +4,12 @@ use Rattle.std.specs.Str.{IsUtf8}
 use Rattle.std.proofs.lemmas.List.{take-append-le, get_or_at, get_or-take, same_from_push, length-take-le}
 use Rattle.std.proofs.lemmas.Bool.{cases_lt}
 use Rattle.bson_model.specs.Bytes.{AreBytes}
-use Rattle.raw_view.specs.Envelope.{IsEnvelope}
-use Rattle.raw_view.specs.Format.{string_payload, inside_of}
+use Rattle.raw_view.specs.Frame.Envelope.{IsEnvelope}
+use Rattle.raw_view.specs.Frame.Format.{string_payload, inside_of}
 use Rattle.raw_view.specs.Frame.{HasDeclaredLength, HasShape, Frame, IsFrame, IsWalk, Done, StandsAnywhere}
-use Rattle.raw_view.specs.Kind.{tag_of}
+use Rattle.raw_view.specs.Frame.Kind.{tag_of}
 use Rattle.raw_view.specs.Meaning.{RawValue, single, document, array, scoped, kind_of_raw}
-use Rattle.raw_view.specs.Number.{max_length, IsLe32, le32}
+use Rattle.raw_view.specs.Frame.Number.{max_length, IsLe32, le32}
 use Rattle.raw_view.specs.declared.element_type.ElementType.{ElementType}
 use Rattle.raw_view.specs.declared.element_type.ElementType.TheVariants as kind
 use Rattle.raw_view.proofs.Face.{document_framed, the_walk, length-framed, leaf_shape, declared_shape, framed_is_envelope}

@@ -18,7 +18,7 @@ use Rattle.bson_model.specs.declared.times.Timestamp.{Timestamp}
 use Rattle.bson_model.proofs.Face.{same_subtype, Kinds, AllDecide, decided, along, joined}
 use Rattle.raw_view.specs.Document.{bytes_of}
 use Rattle.raw_view.specs.Meaning.{RawValue, single, document, array, scoped}
-use Rattle.raw_view.specs.Value.{value_of, array_bytes_of}
+use Rattle.raw_view.specs.Meaning.Value.{value_of, array_bytes_of}
 use Rattle.raw_view.specs.declared.array.RawArray.{RawArray}
 use Rattle.raw_view.specs.declared.bson_ref.RawBinaryRef.{RawBinaryRef}
 use Rattle.raw_view.specs.declared.bson_ref.RawBsonRef.{RawBsonRef}

@@ -1,6 +1,6 @@
 -- The error that those of reading and writing and of typed access turn into.
 use Rattle.std.specs.Prelude.{◌≡◌, ℕ, List, Option, Some}
-use Rattle.raw_view.specs.Access.{IsSameAccess, key_asked}
+use Rattle.raw_view.specs.Errors.Access.{IsSameAccess, key_asked}
 use Rattle.raw_view.specs.Errors.{IsOutOfMemory, IsSameError, key_of}
 use Rattle.raw_bson.specs.declared.any_error.AnyError.{AnyError}
 use Rattle.raw_bson.specs.declared.any_error.AnyError.TheVariants as any

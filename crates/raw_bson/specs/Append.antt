@@ -3,12 +3,12 @@ use Rattle.std.specs.Prelude.{◌≡◌, ◌≤◌, ℕ, List, [], ◌∷◌, �
 use Rattle.std.specs.Str.{IsUtf8}
 use Rattle.bson_model.specs.Bytes.{NulFree}
 use Rattle.bson_model.specs.Proper.{IsLeafInRange, IsLeafSubtypeProper}
-use Rattle.raw_view.specs.Envelope.{IsEnvelope}
+use Rattle.raw_view.specs.Frame.Envelope.{IsEnvelope}
 use Rattle.raw_view.specs.Errors.{key_of}
-use Rattle.raw_view.specs.Format.{framed, inside_of, element_of}
+use Rattle.raw_view.specs.Frame.Format.{framed, inside_of, element_of}
 use Rattle.raw_view.specs.Frame.{Frame, IsWalk, Done, IsShortScope}
 use Rattle.raw_view.specs.Meaning.{RawValue, single, document, array, scoped, kind_of_raw, Means, value}
-use Rattle.raw_view.specs.Number.{max_length}
+use Rattle.raw_view.specs.Frame.Number.{max_length}
 use Rattle.raw_view.specs.OneReading.{IsTheWalk}
 use Rattle.raw_view.specs.declared.error.Error.{Error}
 use Rattle.raw_view.specs.declared.error.ErrorKind.{ErrorKind}

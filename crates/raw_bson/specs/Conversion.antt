@@ -3,7 +3,7 @@ pub use Rattle.raw_tree.specs.CanonicalForm.{TellsTooLong}
 use Rattle.std.specs.Prelude.{◌≡◌, ◌⊎◌, ℕ, List, length, Some, Result, Ok, Err}
 use Rattle.bson_model.specs.Tree.{Tree, leaf, array, document, code_with_scope, items_in, tree_of}
 use Rattle.bson_model.specs.declared.bson.Bson.{Bson}
-use Rattle.raw_view.specs.Envelope.{IsEnvelope}
+use Rattle.raw_view.specs.Frame.Envelope.{IsEnvelope}
 use Rattle.raw_view.specs.Errors.{TellsRefusal}
 use Rattle.raw_view.specs.Meaning.{RawValue}
 use Rattle.raw_view.specs.Meaning as raw

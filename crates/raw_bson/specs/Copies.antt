@@ -1,8 +1,8 @@
 -- Copies that own their bytes.
 use Rattle.std.specs.Prelude.{◌≡◌, ℕ, List, length, Result, Ok, Err}
-use Rattle.raw_view.specs.Item.{Item}
+use Rattle.raw_view.specs.Meaning.Item.{Item}
 use Rattle.raw_view.specs.OneReading.{AreTheItems}
-use Rattle.raw_view.specs.Answers.{Says}
+use Rattle.raw_view.specs.Errors.Answers.{Says}
 use Rattle.raw_view.specs.Errors.{IsOutOfMemory}
 use Rattle.raw_view.specs.Meaning.{RawValue, single, Meaning, value, faulty}
 use Rattle.raw_view.specs.declared.error.Error.{Error}

@@ -1,7 +1,7 @@
 -- Documents and arrays that are borrowed or owned.
 use Rattle.std.specs.Prelude.{◌≡◌, ℕ, List}
 use Rattle.raw_view.specs.Document.{bytes_of}
-use Rattle.raw_view.specs.Value.{array_bytes_of}
+use Rattle.raw_view.specs.Meaning.Value.{array_bytes_of}
 use Rattle.raw_view.specs.declared.document.RawDocument.{RawDocument}
 use Rattle.raw_view.specs.declared.array.RawArray.{RawArray}
 use Rattle.raw_bson.specs.declared.cow.CowRawDocument.{CowRawDocument}

@@ -1,12 +1,12 @@
 -- What holds of each item of a document or an array, or of one; which item is met first of which it doesn't hold; and
 -- what a call returns that looks up a key first.
 use Rattle.std.specs.Prelude.{◌≡◌, ◌⊎◌, ℕ, List, [], ◌∷◌, ◌++◌, Bool, true, false, Option, Some, None, Result, Ok, Err, drop, option_map}
-use Rattle.raw_view.specs.Answers.{Says}
-use Rattle.raw_view.specs.ElementSteps.{HasReadItems}
-use Rattle.raw_view.specs.Item.{Item, entry, stopped, AreItems}
+use Rattle.raw_view.specs.Errors.Answers.{Says}
+use Rattle.raw_view.specs.Frame.ElementSteps.{HasReadItems}
+use Rattle.raw_view.specs.Meaning.Item.{Item, entry, stopped, AreItems}
 use Rattle.raw_view.specs.LookUp.{LooksUp}
 use Rattle.raw_view.specs.Meaning.{RawValue, KeyedFault, value, faulty}
-use Rattle.raw_view.specs.Value.{value_of}
+use Rattle.raw_view.specs.Meaning.Value.{value_of}
 use Rattle.raw_view.specs.declared.bson_ref.RawBsonRef.{RawBsonRef}
 use Rattle.raw_view.specs.declared.error.Error.{Error}
 

@@ -7,8 +7,8 @@ use raw_view::{
 
 impl RawBson {
     ghost use Rattle.raw_bson.specs.Owned.{owned_value};
-    ghost use Rattle.raw_view.specs.Access.{Shows};
-    ghost use Rattle.raw_view.specs.Typed as typed;
+    ghost use Rattle.raw_view.specs.Errors.Access.{Shows};
+    ghost use Rattle.raw_view.specs.Meaning.Typed as typed;
     ghost use Rattle.raw_view.specs.declared.element_type.ElementType.TheVariants as variants;
 
     /// The value of this kind: the double; `None` for every other kind.

@@ -2,12 +2,12 @@
 
 ghost use Rattle.std.specs.Prelude.{◌≡◌, ◌≤◌, ◌<◌, ◌+◌, ◌-◌, ◌++◌, ◌∷◌, [], None, length, take, vec_len, vec_capacity, OnOk, IfErr};
 ghost use Rattle.raw_bson.specs.Append.{AddsValue, Appends, AppendsFrame, KeepsWalk, RefusesLength, frame_bytes, value_frame};
-ghost use Rattle.raw_view.specs.ElementSteps.{frame_of};
-ghost use Rattle.raw_view.specs.Envelope.{IsEnvelope};
+ghost use Rattle.raw_view.specs.Frame.ElementSteps.{frame_of};
+ghost use Rattle.raw_view.specs.Frame.Envelope.{IsEnvelope};
 ghost use Rattle.raw_view.specs.Errors.{key_of};
 ghost use Rattle.raw_view.specs.Frame.{IsShortScope};
-ghost use Rattle.raw_view.specs.Number.{max_length};
-ghost use Rattle.raw_view.specs.Value.{value_of};
+ghost use Rattle.raw_view.specs.Frame.Number.{max_length};
+ghost use Rattle.raw_view.specs.Meaning.Value.{value_of};
 
 use crate::laws::attest_view;
 use raw_tree::{

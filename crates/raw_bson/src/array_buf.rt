@@ -5,9 +5,9 @@ ghost use Rattle.std.specs.Iterator.{Drains, IsFinite};
 ghost use Rattle.raw_bson.specs.Fills.{Fills, TakesEach, TakesValue, empty_array, frames_from};
 ghost use Rattle.raw_bson.specs.Owned.{owned_value};
 ghost use Rattle.raw_bson.specs.declared.bson.RawBson.{RawBson};
-ghost use Rattle.raw_view.specs.Envelope.{IsEnvelope};
+ghost use Rattle.raw_view.specs.Frame.Envelope.{IsEnvelope};
 ghost use Rattle.raw_view.specs.Errors.{IsOutOfMemory};
-ghost use Rattle.raw_view.specs.Value.{array_bytes_of};
+ghost use Rattle.raw_view.specs.Meaning.Value.{array_bytes_of};
 
 use crate::bson::RawBson;
 use crate::document_buf::RawDocumentBuf;
@@ -128,12 +128,12 @@ impl RawArrayBuf {
 impl RawArrayBuf {
     ghost use Rattle.std.specs.Prelude.{List, Option, Result, Some, decimal, drop};
     ghost use Rattle.std.specs.Iterator.{Drains};
-    ghost use Rattle.raw_view.specs.Access.{GetsAt};
-    ghost use Rattle.raw_view.specs.Answers.{StepsItems, TellsEach, TellsFound, TellsValue};
-    ghost use Rattle.raw_view.specs.Item.{Item, AreItems};
+    ghost use Rattle.raw_view.specs.Errors.Access.{GetsAt};
+    ghost use Rattle.raw_view.specs.Errors.Answers.{StepsItems, TellsEach, TellsFound, TellsValue};
+    ghost use Rattle.raw_view.specs.Meaning.Item.{Item, AreItems};
     ghost use Rattle.raw_view.specs.LookUp.{IsAt};
     ghost use Rattle.raw_view.specs.Meaning.{Meaning};
-    ghost use Rattle.raw_view.specs.Typed as typed;
+    ghost use Rattle.raw_view.specs.Meaning.Typed as typed;
     ghost use Rattle.raw_view.specs.declared.bson_ref.RawBsonRef.{RawBsonRef};
     ghost use Rattle.raw_view.specs.declared.element_type.ElementType.TheVariants as variants;
     ghost use Rattle.raw_view.specs.declared.error.Error.{Error};
@@ -310,7 +310,7 @@ impl Clone for RawArrayBuf {
 impl<'a> From<&'a RawArrayBuf> for RawBsonRef<'a> {
     ghost use Rattle.std.specs.Prelude.{◌≡◌};
     ghost use Rattle.raw_view.specs.Meaning.{array};
-    ghost use Rattle.raw_view.specs.Value.{value_of};
+    ghost use Rattle.raw_view.specs.Meaning.Value.{value_of};
 
     ghost from_gives = { λ x r. value_of r ≡ array x.now.bytes };
 

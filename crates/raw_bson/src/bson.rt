@@ -6,7 +6,7 @@ ghost use Rattle.raw_view.specs.Meaning.{single};
 ghost use Rattle.bson_model.specs.Leaf.{string};
 ghost use Rattle.raw_view.specs.Document.{bytes_of};
 ghost use Rattle.raw_view.specs.Errors.{IsOutOfMemory};
-ghost use Rattle.raw_view.specs.Value.{value_of, namespace_of, id_of};
+ghost use Rattle.raw_view.specs.Meaning.Value.{value_of, namespace_of, id_of};
 ghost use Rattle.bson_model.specs.Scalars.{bytes_of_object_id};
 
 use crate::array_buf::RawArrayBuf;

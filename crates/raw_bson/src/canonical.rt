@@ -2,7 +2,7 @@ ghost use Rattle.std.specs.Prelude.{◌≢◌, IfOk, IfErr};
 ghost use Rattle.raw_bson.specs.Conversion.{RefusesForm};
 ghost use Rattle.raw_tree.specs.CanonicalForm.{IsCanonicalForm};
 ghost use Rattle.raw_tree.specs.Reading.{AreReadOneWay, as_document};
-ghost use Rattle.raw_view.specs.Envelope.{IsEnvelope};
+ghost use Rattle.raw_view.specs.Frame.Envelope.{IsEnvelope};
 
 use crate::document_buf::RawDocumentBuf;
 use raw_tree::document_from_raw;

@@ -2,11 +2,11 @@ ghost use Rattle.std.specs.Prelude.{◌≡◌, ◌≤◌, ◌+◌, ◌-◌, ◌/
 ghost use Rattle.std.specs.String.{string_bytes};
 ghost use Rattle.raw_bson.specs.Copies.{CountsItems, CopiesMeaning, IsCopy};
 ghost use Rattle.raw_view.specs.Document.{bytes_of};
-ghost use Rattle.raw_view.specs.ElementSteps.{frame_of};
+ghost use Rattle.raw_view.specs.Frame.ElementSteps.{frame_of};
 ghost use Rattle.raw_view.specs.Errors.{IsOutOfMemory};
 ghost use Rattle.raw_view.specs.Meaning.{Meaning, Means, value};
 ghost use Rattle.raw_view.specs.declared.bson_ref.RawBsonRef.TheVariants as ref;
-ghost use Rattle.raw_view.specs.Value.{value_of, array_bytes_of};
+ghost use Rattle.raw_view.specs.Meaning.Value.{value_of, array_bytes_of};
 
 use crate::array_buf::RawArrayBuf;
 use crate::bson::{RawBson, RawJavaScriptCodeWithScope};

@@ -1,6 +1,6 @@
 ghost use Rattle.std.specs.Prelude.{◌≡◌};
 ghost use Rattle.raw_view.specs.Document.{bytes_of};
-ghost use Rattle.raw_view.specs.Value.{array_bytes_of};
+ghost use Rattle.raw_view.specs.Meaning.Value.{array_bytes_of};
 
 use crate::array_buf::RawArrayBuf;
 use crate::document_buf::RawDocumentBuf;

@@ -6,11 +6,11 @@ ghost use Rattle.raw_bson.specs.Fills.{Fills, TakesEach, TakesPair, empty_docume
 ghost use Rattle.raw_bson.specs.Owned.{owned_value};
 ghost use Rattle.raw_bson.specs.declared.bson.RawBson.{RawBson};
 ghost use Rattle.raw_view.specs.Document.{bytes_of};
-ghost use Rattle.raw_view.specs.ElementSteps.{frame_of};
-ghost use Rattle.raw_view.specs.Envelope.{IsEnvelope};
+ghost use Rattle.raw_view.specs.Frame.ElementSteps.{frame_of};
+ghost use Rattle.raw_view.specs.Frame.Envelope.{IsEnvelope};
 ghost use Rattle.raw_view.specs.Errors.{IsOutOfMemory, TellsRefusal};
 ghost use Rattle.raw_view.specs.Frame.{IsShortScope};
-ghost use Rattle.raw_view.specs.Value.{value_of};
+ghost use Rattle.raw_view.specs.Meaning.Value.{value_of};
 
 use crate::appending::{append_raw_element, append_value};
 use crate::bson::RawBson;
@@ -33,7 +33,7 @@ pub struct RawDocumentBuf {
 
 impl Model for RawDocumentBuf {
     ghost use Rattle.std.specs.Prelude.{ℕ, List};
-    ghost use Rattle.raw_view.specs.Envelope.{IsEnvelope};
+    ghost use Rattle.raw_view.specs.Frame.Envelope.{IsEnvelope};
 
     ghost Value = { List ℕ };
 
@@ -233,7 +233,7 @@ impl Clone for RawDocumentBuf {
 impl<'a> From<&'a RawDocumentBuf> for RawBsonRef<'a> {
     ghost use Rattle.std.specs.Prelude.{◌≡◌};
     ghost use Rattle.raw_view.specs.Meaning.{document};
-    ghost use Rattle.raw_view.specs.Value.{value_of};
+    ghost use Rattle.raw_view.specs.Meaning.Value.{value_of};
 
     ghost from_gives = { λ x r. value_of r ≡ document x.now };
 

@@ -12,15 +12,15 @@ use raw_view::{
 impl RawDocumentBuf {
     ghost use denote.Ref.{Bor};
     ghost use Rattle.std.specs.Iterator.{Drains};
-    ghost use Rattle.raw_view.specs.Access.{GetsByKey};
-    ghost use Rattle.raw_view.specs.Answers.{StepsItems, TellsEach, TellsFound, TellsItem, TellsKey};
-    ghost use Rattle.raw_view.specs.ElementSteps.{StepsElement, ListsWalk};
+    ghost use Rattle.raw_view.specs.Errors.Access.{GetsByKey};
+    ghost use Rattle.raw_view.specs.Errors.Answers.{StepsItems, TellsEach, TellsFound, TellsItem, TellsKey};
+    ghost use Rattle.raw_view.specs.Frame.ElementSteps.{StepsElement, ListsWalk};
     ghost use Rattle.raw_view.specs.Frame.{Frame, End};
-    ghost use Rattle.raw_view.specs.Item.{Item, AreItems};
+    ghost use Rattle.raw_view.specs.Meaning.Item.{Item, AreItems};
     ghost use Rattle.raw_view.specs.LookUp.{FindsKey, KeyAnswer, LooksUp};
     ghost use Rattle.raw_view.specs.Meaning.{Meaning};
     ghost use Rattle.raw_view.specs.OneReading.{IsTheWalk};
-    ghost use Rattle.raw_view.specs.Typed as typed;
+    ghost use Rattle.raw_view.specs.Meaning.Typed as typed;
     ghost use Rattle.raw_view.specs.declared.bson_ref.RawBsonRef.{RawBsonRef};
     ghost use Rattle.raw_view.specs.declared.element.RawElement.{RawElement};
     ghost use Rattle.raw_view.specs.declared.element_type.ElementType.TheVariants as variants;

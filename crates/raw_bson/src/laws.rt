@@ -6,7 +6,7 @@ ghost use Rattle.std.specs.String.{string_bytes};
 ghost use Rattle.raw_bson.specs.Append.{IsRawInRange};
 ghost use Rattle.raw_bson.specs.Conversion.{BecomesOneTree};
 ghost use Rattle.raw_bson.specs.Owned.{IsSameOwned, owned_value};
-ghost use Rattle.raw_view.specs.Value.{value_of};
+ghost use Rattle.raw_view.specs.Meaning.Value.{value_of};
 
 use crate::array_buf::RawArrayBuf;
 use crate::bson::{RawBson, RawJavaScriptCodeWithScope};

@@ -1,7 +1,7 @@
 -- A search for the first barrier may begin at the element of the outermost level that breaches.
 use Rattle.std.proofs.Common.{◌≡◌, ◌∙◌, ◌≤◌, ◌-◌, ◌∷◌, [], ℕ, zero, suc, List, Option, None, Some, inl, inr, ◌⊎◌, ◌<◌, map, slice_index_or, length, drop, arith, ap, refl, sym, subst, length-drop}
-use Rattle.raw_view.specs.ElementSteps.{HasRead}
-use Rattle.raw_view.specs.Envelope.{IsEnvelope}
+use Rattle.raw_view.specs.Frame.ElementSteps.{HasRead}
+use Rattle.raw_view.specs.Frame.Envelope.{IsEnvelope}
 use Rattle.raw_view.specs.Meaning.{Meaning, value, faulty}
 use Rattle.raw_view.specs.Meaning as raw
 use Rattle.raw_view.proofs.Face.{LeadsTo-bound}

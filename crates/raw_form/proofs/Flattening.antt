@@ -3,9 +3,9 @@ use Rattle.std.proofs.Common.{◌≡◌, ◌∙◌, ◌≤◌, ◌<◌, ◌+◌,
 use denote.Ref.{Bor}
 use Rattle.std.specs.Option.{option_copied}
 use Rattle.raw_view.specs.Document.{bytes_of}
-use Rattle.raw_view.specs.ElementSteps.{frame_of}
+use Rattle.raw_view.specs.Frame.ElementSteps.{frame_of}
 use Rattle.raw_view.specs.Frame.{Frame, IsFrame, Done}
-use Rattle.raw_view.specs.Front.{TellsBorrowed}
+use Rattle.raw_view.specs.Frame.Front.{TellsBorrowed}
 use Rattle.raw_view.specs.Meaning.{RawValue, KeyedFault, Means, value}
 use Rattle.raw_view.specs.Meaning as raw
 use Rattle.raw_view.specs.declared.document.RawDocument.{RawDocument}

@@ -1,7 +1,7 @@
 -- What the canonical form within limits is told by.
 use Rattle.std.proofs.Common.{◌≡◌, ◌≤◌, inl, inr, List, ℕ, Result, Ok, Err, IfOk, IfErr, Vec, Global, length, subst}
 use Rattle.bson_model.specs.Tree.{Tree, document}
-use Rattle.raw_view.specs.Envelope.{IsEnvelope}
+use Rattle.raw_view.specs.Frame.Envelope.{IsEnvelope}
 use Rattle.raw_view.specs.Errors.{IsOutOfMemory}
 use Rattle.raw_view.specs.declared.error.Error.{Error}
 use Rattle.raw_tree.specs.Canonical.{IsCanonicalUpTo}

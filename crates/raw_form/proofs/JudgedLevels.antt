@@ -5,7 +5,7 @@ use Rattle.std.proofs.lemmas.List.{length-map, map-append}
 use Rattle.std.specs.List.{IsDistinct}
 use denote.Ref.{Bor}
 use Rattle.raw_view.specs.Document.{bytes_of}
-use Rattle.raw_view.specs.ElementSteps.{frame_of}
+use Rattle.raw_view.specs.Frame.ElementSteps.{frame_of}
 use Rattle.raw_view.specs.Frame.{Frame, IsFrame, Done, LeadsTo}
 use Rattle.raw_view.specs.Meaning.{RawValue, Meaning, Means, value, faulty}
 use Rattle.raw_view.specs.Meaning as raw

@@ -11,10 +11,10 @@ use Rattle.std.specs.Str.{bytes_eq}
 use Rattle.bson_model.specs.Pairs.{first_keys, keep, keys_of, last_value_at}
 use Rattle.bson_model.specs.Tree.{Tree, entries}
 use Rattle.raw_view.specs.Document.{bytes_of}
-use Rattle.raw_view.specs.ElementSteps.{frame_of}
-use Rattle.raw_view.specs.Format.{element_of}
+use Rattle.raw_view.specs.Frame.ElementSteps.{frame_of}
+use Rattle.raw_view.specs.Frame.Format.{element_of}
 use Rattle.raw_view.specs.Frame.{Frame, HasNoFrame, IsFrame, IsWalk, Done, Malformed, Utf8}
-use Rattle.raw_view.specs.Front.{StepsFront, StopsWith}
+use Rattle.raw_view.specs.Frame.Front.{StepsFront, StopsWith}
 use Rattle.raw_view.specs.declared.element.RawElement.{RawElement}
 use Rattle.raw_view.specs.declared.error.BorrowedError.{BorrowedError}
 use Rattle.raw_view.specs.declared.error.ErrorKind.{ErrorKind}

@@ -7,7 +7,7 @@ use Rattle.bson_model.specs.Pairs.{keep, keys_of}
 use Rattle.bson_model.specs.Tree.{Tree, document, trees, entries}
 use Rattle.bson_model.proofs.Face.{keep-distinct}
 use Rattle.raw_view.specs.Document.{bytes_of}
-use Rattle.raw_view.specs.ElementSteps.{frame_of}
+use Rattle.raw_view.specs.Frame.ElementSteps.{frame_of}
 use Rattle.raw_view.specs.Frame.{Frame, IsFrame, IsWalk, Done}
 use Rattle.raw_view.specs.Meaning.{RawValue}
 use Rattle.raw_view.specs.Meaning as raw

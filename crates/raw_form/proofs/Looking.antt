@@ -1,9 +1,9 @@
 -- What a look at the front of a level tells.
 use Rattle.std.proofs.Common.{◌≡◌, List, ℕ, Option, None, Some, Ok, Err, refl, subst}
 use Rattle.std.specs.Option.{option_copied}
-use Rattle.raw_view.specs.ElementSteps.{frame_of}
+use Rattle.raw_view.specs.Frame.ElementSteps.{frame_of}
 use Rattle.raw_view.specs.Frame.{Malformed, Utf8, IsStop}
-use Rattle.raw_view.specs.Front.{StepsFront, StopsWith, SaysFault}
+use Rattle.raw_view.specs.Frame.Front.{StepsFront, StopsWith, SaysFault}
 use Rattle.raw_view.specs.Meaning.{RawValue, KeyedFault, Means, value, faulty}
 use Rattle.raw_view.specs.Meaning as raw
 use Rattle.raw_view.specs.declared.document.RawDocument.{RawDocument}

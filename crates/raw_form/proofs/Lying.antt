@@ -3,13 +3,13 @@ use Rattle.std.proofs.Common.{inl, inr, pos, ◌≡◌, ◌∙◌, ◌<◌, ◌�
 use Rattle.std.proofs.Math.Seq.{drop-append_seam, take-length}
 use Rattle.std.proofs.lemmas.List.{append-nil, drop-append-le, drop-drop, map-append, take-append-le}
 use Rattle.bson_model.specs.Leaf.{Leaf}
-use Rattle.raw_view.specs.Envelope.{IsEnvelope}
-use Rattle.raw_view.specs.Format.{element_of, string_payload}
+use Rattle.raw_view.specs.Frame.Envelope.{IsEnvelope}
+use Rattle.raw_view.specs.Frame.Format.{element_of, string_payload}
 use Rattle.raw_view.specs.Frame.{Frame, HasShape, IsFrame, LeadsTo}
-use Rattle.raw_view.specs.Kind.{tag_of}
+use Rattle.raw_view.specs.Frame.Kind.{tag_of}
 use Rattle.raw_view.specs.Meaning.{RawValue, Means, MeansValue, value}
 use Rattle.raw_view.specs.Meaning as raw
-use Rattle.raw_view.specs.Number.{IsLe32, le32, max_length}
+use Rattle.raw_view.specs.Frame.Number.{IsLe32, le32, max_length}
 use Rattle.raw_view.specs.declared.element_type.ElementType.{ElementType}
 use Rattle.raw_view.specs.declared.element_type.ElementType.TheVariants as kind
 use Rattle.raw_view.proofs.Face.{IsFrame-shorter, LeadsTo-bound, front_and_rest}

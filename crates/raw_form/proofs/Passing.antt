@@ -6,9 +6,9 @@ use Rattle.std.specs.Option.{option_copied}
 use Rattle.bson_model.specs.Pairs.{keep}
 use Rattle.bson_model.specs.Tree.{Tree, leaf, entries, code_with_scope}
 use Rattle.raw_view.specs.Document.{bytes_of}
-use Rattle.raw_view.specs.ElementSteps.{HasRead, frame_of}
+use Rattle.raw_view.specs.Frame.ElementSteps.{HasRead, frame_of}
 use Rattle.raw_view.specs.Frame.{Frame, IsFrame, LeadsTo}
-use Rattle.raw_view.specs.Front.{TellsBorrowed}
+use Rattle.raw_view.specs.Frame.Front.{TellsBorrowed}
 use Rattle.raw_view.specs.Meaning.{RawValue, KeyedFault, Means, value}
 use Rattle.raw_view.specs.Meaning as raw
 use Rattle.raw_view.specs.declared.document.RawDocument.{RawDocument}

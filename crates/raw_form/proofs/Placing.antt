@@ -7,7 +7,7 @@ use Rattle.std.specs.List.{IsDistinct}
 use Rattle.std.specs.Str.{bytes_eq}
 use Rattle.bson_model.specs.Pairs.{keep, with_pair}
 use Rattle.bson_model.proofs.Face.{keep-last}
-use Rattle.raw_view.specs.ElementSteps.{HasRead, frame_of}
+use Rattle.raw_view.specs.Frame.ElementSteps.{HasRead, frame_of}
 use Rattle.raw_view.specs.Frame.{Frame, HasNoFrame, IsFrame, IsWalk, Done, LeadsTo}
 use Rattle.raw_view.specs.declared.element.RawElement.{RawElement}
 use Rattle.raw_view.proofs.Face.{IsFrame-shorter, LeadsTo-more, no_frame_at_final, one_frame}

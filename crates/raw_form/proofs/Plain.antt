@@ -3,9 +3,9 @@ use Rattle.std.proofs.Common.{◌≡◌, ◌∙◌, inl, inr, List, ℕ, ap, ref
 use Rattle.std.proofs.Math.Logic.{∥∥₁_elim}
 use Rattle.std.proofs.Props.{props}
 use Rattle.bson_model.specs.Leaf.{Leaf}
-use Rattle.raw_view.specs.Format.{element_of, leaf_payload}
+use Rattle.raw_view.specs.Frame.Format.{element_of, leaf_payload}
 use Rattle.raw_view.specs.Frame.{HasPayload}
-use Rattle.raw_view.specs.Kind.{kind_of_leaf}
+use Rattle.raw_view.specs.Frame.Kind.{kind_of_leaf}
 use Rattle.raw_view.specs.Meaning.{RawValue, MeansValue, kind_of_raw}
 use Rattle.raw_view.specs.Meaning as raw
 use Rattle.raw_view.specs.declared.element_type.ElementType.{ElementType}

@@ -2,12 +2,12 @@
 use Rattle.std.proofs.Common.{◌≡◌, ◌∙◌, ◌<◌, ◌≤◌, ◌+◌, ◌++◌, ◌∷◌, [], inl, inr, zero, suc, ℕ, List, Option, Some, length, arith, ap, refl, sym, subst, length-append}
 use Rattle.bson_model.specs.Leaf.{Leaf}
 use Rattle.bson_model.specs.Tree.{Tree, leaf, array, document, code_with_scope}
-use Rattle.raw_view.specs.ElementSteps.{frame_of}
-use Rattle.raw_view.specs.Format.{element_of, leaf_payload, string_payload, tagged}
-use Rattle.raw_view.specs.Kind.{kind_of_leaf, tag_of}
+use Rattle.raw_view.specs.Frame.ElementSteps.{frame_of}
+use Rattle.raw_view.specs.Frame.Format.{element_of, leaf_payload, string_payload, tagged}
+use Rattle.raw_view.specs.Frame.Kind.{kind_of_leaf, tag_of}
 use Rattle.raw_view.specs.Meaning.{RawValue, KeyedFault, Means, faulty, kind_of_raw, value}
 use Rattle.raw_view.specs.Meaning as raw
-use Rattle.raw_view.specs.Number.{max_length}
+use Rattle.raw_view.specs.Frame.Number.{max_length}
 use Rattle.raw_view.specs.declared.error.Error.{Error}
 use Rattle.raw_view.proofs.Face.{one_meaning}
 use Rattle.raw_tree.specs.Encoding.{encoded_len, kind_of_tree, tree_payload}

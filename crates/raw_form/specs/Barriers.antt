@@ -3,7 +3,7 @@ use Rattle.std.specs.Prelude.{◌≡◌, ◌<◌, ◌≤◌, ℕ, List, map, len
 use Rattle.std.specs.Option.{option_copied}
 use Rattle.bson_model.specs.Tree.{Tree}
 use Rattle.raw_view.specs.Errors.{IsOutOfMemory}
-use Rattle.raw_view.specs.Front.{TellsBorrowed}
+use Rattle.raw_view.specs.Frame.Front.{TellsBorrowed}
 use Rattle.raw_view.specs.Meaning.{KeyedFault}
 use Rattle.raw_view.specs.declared.error.Error.{Error}
 use Rattle.raw_tree.specs.Reading.{as_document, ReadsUpTo}

@@ -1,7 +1,7 @@
 -- Canonical forms within limits, without a tree.
 use Rattle.std.specs.Prelude.{◌⊎◌, ℕ, List}
 use Rattle.bson_model.specs.Tree.{Tree}
-use Rattle.raw_view.specs.Envelope.{IsEnvelope}
+use Rattle.raw_view.specs.Frame.Envelope.{IsEnvelope}
 use Rattle.raw_view.specs.Errors.{TellsRefusal}
 use Rattle.raw_view.specs.declared.error.Error.{Error}
 use Rattle.raw_tree.specs.CanonicalForm.{IsCanonicalForm, TellsTooLong}

@@ -4,7 +4,7 @@ use Rattle.std.specs.Option.{option_copied}
 use denote.Ref.{Bor}
 use Rattle.bson_model.specs.Proper.{DoLeafOptionsAscend}
 use Rattle.raw_view.specs.Document.{bytes_of}
-use Rattle.raw_view.specs.ElementSteps.{frame_of}
+use Rattle.raw_view.specs.Frame.ElementSteps.{frame_of}
 use Rattle.raw_view.specs.Frame.{Frame, Fault, IsFrame, IsStop}
 use Rattle.raw_view.specs.Meaning.{RawValue, Meaning, Means, value, faulty}
 use Rattle.raw_view.specs.Meaning as raw

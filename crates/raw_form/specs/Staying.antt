@@ -12,7 +12,7 @@ use denote.Ref.{Bor}
 use Rattle.bson_model.specs.Pairs.{keep, keys_of}
 use Rattle.bson_model.specs.Tree.{Tree, entries}
 use Rattle.raw_view.specs.Document.{bytes_of}
-use Rattle.raw_view.specs.ElementSteps.{frame_of}
+use Rattle.raw_view.specs.Frame.ElementSteps.{frame_of}
 use Rattle.raw_view.specs.Frame.{Frame, HasNoFrame, IsFrame}
 use Rattle.raw_view.specs.declared.element.RawElement.{RawElement}
 use Rattle.raw_tree.specs.Breaches.{keys_of_frames}

@@ -4,7 +4,7 @@ use Rattle.std.specs.Prelude.{◌≡◌, ◌+◌, ◌++◌, ◌∷◌, [], ℕ, 
 use Rattle.std.specs.Option.{option_copied}
 use Rattle.bson_model.specs.Tree.{Tree}
 use Rattle.raw_view.specs.Frame.{Frame, IsWalk, Done}
-use Rattle.raw_view.specs.Kind.{tag_of}
+use Rattle.raw_view.specs.Frame.Kind.{tag_of}
 use Rattle.raw_view.specs.Meaning.{RawValue, Means, value}
 use Rattle.raw_view.specs.Meaning as raw
 use Rattle.raw_tree.specs.WithinLimits.{ReadsWithin, FirstBarrier}

@@ -1,6 +1,6 @@
 -- What is stored of a level that waits, in terms of lists. No public contract cites this file.
 use Rattle.std.specs.Prelude.{◌≡◌, ◌≤◌, ◌+◌, ◌-◌, ◌++◌, ◌∷◌, [], ℕ, List, Option, Some, drop, length}
-use Rattle.raw_view.specs.Envelope.{IsEnvelope}
+use Rattle.raw_view.specs.Frame.Envelope.{IsEnvelope}
 use Rattle.raw_view.specs.Frame.{Frame, IsFrame}
 use Rattle.raw_form.specs.declared.level.Waiting.{Waiting}
 

@@ -7,7 +7,7 @@ ghost use Rattle.raw_form.specs.Places.{AllAreBarredAtOnePlace};
 ghost use Rattle.raw_form.specs.Tokens.{Flattens};
 ghost use Rattle.raw_tree.specs.WithinLimits.{AllAreAnsweredOneWay};
 ghost use Rattle.raw_view.specs.Document.{bytes_of};
-ghost use Rattle.raw_view.specs.Number.{max_length};
+ghost use Rattle.raw_view.specs.Frame.Number.{max_length};
 
 use crate::barrier::BarrierKind;
 use crate::level::{Level, Next, behind, look};

@@ -6,12 +6,12 @@ ghost use Rattle.bson_model.specs.Leaf.{Leaf};
 ghost use Rattle.raw_form.specs.Rewriting.{FailsFor, IsPlain, ShowsHeld, ended_by, header_len, held_opening, held_value};
 ghost use Rattle.raw_tree.specs.Payload.{element_bytes};
 ghost use Rattle.raw_tree.specs.Reading.{leaf_in_order};
-ghost use Rattle.raw_view.specs.ElementSteps.{frame_of};
-ghost use Rattle.raw_view.specs.Format.{element_of, leaf_payload, tagged};
-ghost use Rattle.raw_view.specs.Kind.{kind_of_leaf, tag_of};
+ghost use Rattle.raw_view.specs.Frame.ElementSteps.{frame_of};
+ghost use Rattle.raw_view.specs.Frame.Format.{element_of, leaf_payload, tagged};
+ghost use Rattle.raw_view.specs.Frame.Kind.{kind_of_leaf, tag_of};
 ghost use Rattle.raw_view.specs.Meaning.{kind_of_raw, single};
-ghost use Rattle.raw_view.specs.Number.{max_length};
-ghost use Rattle.raw_view.specs.Value.{value_of};
+ghost use Rattle.raw_view.specs.Frame.Number.{max_length};
+ghost use Rattle.raw_view.specs.Meaning.Value.{value_of};
 
 use crate::code_len::CodeLen;
 use bson_model::Regex;

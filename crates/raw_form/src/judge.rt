@@ -6,7 +6,7 @@ ghost use Rattle.raw_form.specs.Judging.{HoldsAsTold, Judges, sort_of};
 ghost use Rattle.raw_tree.specs.OpenKeys.{AreOpenKeys, HasKeysSoFar};
 ghost use Rattle.raw_tree.specs.References.{texts};
 ghost use Rattle.raw_view.specs.Errors.{IsOutOfMemory};
-ghost use Rattle.raw_view.specs.Value.{value_of};
+ghost use Rattle.raw_view.specs.Meaning.Value.{value_of};
 
 use bson_model::do_options_ascend;
 use raw_tree::{Cause, KeysSoFar};

@@ -10,7 +10,7 @@ ghost use Rattle.raw_form.specs.Staying.{HasLastPlaces, IsLeftAt, TakesFrame, Ta
 ghost use Rattle.raw_tree.specs.Breaches.{keys_of_frames};
 ghost use Rattle.raw_tree.specs.Members.{MemberKey};
 ghost use Rattle.raw_view.specs.Document.{bytes_of};
-ghost use Rattle.raw_view.specs.ElementSteps.{frame_of};
+ghost use Rattle.raw_view.specs.Frame.ElementSteps.{frame_of};
 ghost use Rattle.raw_view.specs.Errors.{IsOutOfMemory};
 ghost use Rattle.raw_view.specs.Frame.{Done, Frame, IsFrame, IsWalk};
 

@@ -5,8 +5,8 @@ ghost use Rattle.std.specs.Prelude.{◌≡◌, ◌≤◌, ◌<◌, ◌+◌, ◌^
 ghost use Rattle.raw_form.specs.Looking.{HoldsBytes, Looks, size_of};
 ghost use Rattle.raw_form.specs.Waits.{GoesOn, LiesAt, Stores, Wait};
 ghost use Rattle.raw_view.specs.Document.{bytes_of};
-ghost use Rattle.raw_view.specs.ElementSteps.{frame_of};
-ghost use Rattle.raw_view.specs.Value.{value_of};
+ghost use Rattle.raw_view.specs.Frame.ElementSteps.{frame_of};
+ghost use Rattle.raw_view.specs.Meaning.Value.{value_of};
 
 use raw_view::{BorrowedError, Elements, RawBsonRef, RawDocument, RawElement};
 

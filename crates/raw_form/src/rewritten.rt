@@ -12,7 +12,7 @@ ghost use Rattle.raw_tree.specs.Reading.{ReadsAs, StandsFor, as_document};
 ghost use Rattle.raw_view.specs.Document.{bytes_of};
 ghost use Rattle.raw_view.specs.Errors.{IsOutOfMemory};
 ghost use Rattle.raw_view.specs.Frame.{Done, Frame, IsWalk};
-ghost use Rattle.raw_view.specs.Number.{max_length};
+ghost use Rattle.raw_view.specs.Frame.Number.{max_length};
 
 use crate::code_len::CodeLen;
 use crate::held::Held;

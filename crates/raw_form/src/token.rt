@@ -3,7 +3,7 @@
 
 ghost use Rattle.std.specs.Prelude.{◌≡◌, ◌+◌, ◌<◌, ◌^◌, ◌∷◌, [], length};
 ghost use Rattle.raw_form.specs.Tokens.{IsTokenOf, filled_from};
-ghost use Rattle.raw_view.specs.ElementSteps.{frame_of};
+ghost use Rattle.raw_view.specs.Frame.ElementSteps.{frame_of};
 
 use crate::barrier::BarrierKind;
 use raw_view::RawElement;

@@ -1,8 +1,8 @@
 -- The canonical form theorem, from what is proved of every document.
 use Rattle.std.proofs.Common.{◌≡◌, ◌≤◌, List, ℕ, ap, sym, subst, ◌∙◌}
 use Rattle.bson_model.specs.Tree.{Tree}
-use Rattle.raw_view.specs.Envelope.{IsEnvelope}
-use Rattle.raw_view.specs.Number.{max_length}
+use Rattle.raw_view.specs.Frame.Envelope.{IsEnvelope}
+use Rattle.raw_view.specs.Frame.Number.{max_length}
 use Rattle.raw_tree.specs.Canonical.{IsCanonical}
 use Rattle.raw_tree.specs.CanonicalForm.{ComesBack, IsCanonicalForm, IsSpelling}
 use Rattle.raw_tree.specs.Encoding.{encoding, encoded_len}

@@ -5,7 +5,7 @@ use Rattle.std.proofs.Math.Nat.{le-max_left, le-max_right, max-le}
 use Rattle.bson_model.specs.Bytes.{AreBytes}
 use Rattle.bson_model.specs.Tree.{Tree, document}
 use Rattle.bson_model.proofs.Face.{AreBytes-drop}
-use Rattle.raw_view.specs.Envelope.{IsEnvelope}
+use Rattle.raw_view.specs.Frame.Envelope.{IsEnvelope}
 use Rattle.raw_view.specs.Frame.{Frame, IsFrame, IsWalk, End, Done}
 use Rattle.raw_view.specs.Meaning.{RawValue, Meaning, Means, value, faulty}
 use Rattle.raw_view.specs.Meaning as raw

@@ -8,7 +8,7 @@ use Rattle.bson_model.specs.Bytes.{AreBytes}
 use Rattle.bson_model.specs.Leaf.{Leaf, regular_expression}
 use Rattle.bson_model.specs.Proper.{DoLeafOptionsAscend}
 use Rattle.bson_model.proofs.Face.{AreBytes-drop, options_decided}
-use Rattle.raw_view.specs.Envelope.{IsEnvelope}
+use Rattle.raw_view.specs.Frame.Envelope.{IsEnvelope}
 use Rattle.raw_view.specs.Frame.{Frame, IsFrame, IsWalk, End, Done, Stopped, LeadsTo}
 use Rattle.raw_view.specs.Meaning.{RawValue, Means, Meaning, value, faulty}
 use Rattle.raw_view.specs.Meaning as raw

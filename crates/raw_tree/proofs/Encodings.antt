@@ -2,9 +2,9 @@
 use Rattle.std.proofs.Common.{◌≡◌, ℕ, ◌+◌, ◌-◌, List, [], ◌∷◌, ◌++◌, length, take, drop, decimal, pos, refl, ap, sym, ◌∙◌, append_assoc, length-append, arith}
 use Rattle.std.proofs.Math.Seq.{take-append_seam, drop-append-add}
 use Rattle.bson_model.specs.Tree.{Tree, Trees, Entries, leaf, array, document, code_with_scope, no_tree, tree_then, no_entry, entry_then}
-use Rattle.raw_view.specs.Format.{framed, element_of}
+use Rattle.raw_view.specs.Frame.Format.{framed, element_of}
 use Rattle.raw_view.specs.Meaning.{RawValue, single, document as document_value, array as array_value, scoped}
-use Rattle.raw_view.specs.Number.{le32}
+use Rattle.raw_view.specs.Frame.Number.{le32}
 use Rattle.raw_view.specs.declared.element_type.ElementType.{ElementType}
 use Rattle.raw_view.proofs.Face.{length-framed, length-scoped_payload}
 use Rattle.raw_tree.specs.Encoding.{kind_of_tree, tree_payload, items_bytes, entries_bytes, encoded_len, items_len, entries_len}

@@ -4,7 +4,7 @@ use Rattle.std.proofs.Common.{◌≡◌, inl, inr, ◌≤◌, ◌+◌, ◌*◌, 
 use Rattle.bson_model.specs.Tree.{Tree}
 use Rattle.bson_model.specs.Bytes.{AreBytes}
 use Rattle.bson_model.proofs.Face.{AreBytes-drop}
-use Rattle.raw_view.specs.Envelope.{IsEnvelope}
+use Rattle.raw_view.specs.Frame.Envelope.{IsEnvelope}
 use Rattle.raw_view.specs.Frame.{Frame, IsFrame, IsStop, IsWalk, End, LeadsTo}
 use Rattle.raw_view.specs.Meaning.{RawValue, KeyedFault, Meaning, Means, value, faulty}
 use Rattle.raw_view.specs.Meaning as raw

@@ -6,15 +6,15 @@ use Rattle.std.proofs.lemmas.List.Sums.{sum_by_push}
 use Rattle.std.proofs.lemmas.Option.{none-some}
 use Rattle.bson_model.specs.Tree.{Tree, tree_of}
 use Rattle.bson_model.specs.declared.bson.Bson.{Bson}
-use Rattle.raw_view.specs.Answers.{Says, TellsMeaning}
+use Rattle.raw_view.specs.Errors.Answers.{Says, TellsMeaning}
 use Rattle.raw_view.specs.Document.{bytes_of}
-use Rattle.raw_view.specs.ElementSteps.{StepsElement, frame_of}
+use Rattle.raw_view.specs.Frame.ElementSteps.{StepsElement, frame_of}
 use Rattle.raw_view.specs.Errors.{IsOutOfMemory}
 use Rattle.raw_view.specs.Frame.{Frame, Done}
 use Rattle.raw_view.specs.Meaning.{RawValue, KeyedFault, Meaning, Means, value, faulty}
 use Rattle.raw_view.specs.Meaning as raw
-use Rattle.raw_view.specs.Number.{max_length}
-use Rattle.raw_view.specs.Value.{value_of}
+use Rattle.raw_view.specs.Frame.Number.{max_length}
+use Rattle.raw_view.specs.Meaning.Value.{value_of}
 use Rattle.raw_view.specs.declared.bson_ref.RawBsonRef.{RawBsonRef}
 use Rattle.raw_view.specs.declared.element.RawElement.{RawElement}
 use Rattle.raw_view.specs.declared.error.Error.{Error}

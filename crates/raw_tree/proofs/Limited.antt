@@ -2,7 +2,7 @@
 use Rattle.std.proofs.Common.{◌≡◌, ◌⊎◌, inl, inr, ◌≤◌, ◌∷◌, [], ℕ, zero, suc, List, length, drop, arith, refl, sym, ◌∙◌}
 use Rattle.std.proofs.lemmas.Bool.{cases_lt}
 use Rattle.bson_model.specs.Tree.{Tree, document}
-use Rattle.raw_view.specs.Envelope.{IsEnvelope}
+use Rattle.raw_view.specs.Frame.Envelope.{IsEnvelope}
 use Rattle.raw_view.specs.Frame.{Frame, IsFrame, Done, LeadsTo}
 use Rattle.raw_view.specs.Meaning.{RawValue, KeyedFault, Means, value}
 use Rattle.raw_view.specs.Meaning as raw

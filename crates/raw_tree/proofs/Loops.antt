@@ -5,8 +5,8 @@ use Rattle.std.specs.Str.{IsUtf8}
 use Rattle.bson_model.specs.Leaf.{Leaf}
 use Rattle.bson_model.specs.Pairs.{keep}
 use Rattle.bson_model.specs.Tree.{Tree, Entries, document, entries}
-use Rattle.raw_view.specs.Envelope.{IsEnvelope}
-use Rattle.raw_view.specs.Format.{string_payload}
+use Rattle.raw_view.specs.Frame.Envelope.{IsEnvelope}
+use Rattle.raw_view.specs.Frame.Format.{string_payload}
 use Rattle.raw_view.specs.Frame.{Frame, IsFrame, HasShape, IsWalk, Done}
 use Rattle.raw_view.specs.Meaning.{RawValue, Means, MeansValue, IsCodeWithScope, value}
 use Rattle.raw_view.specs.Meaning as raw

@@ -1,11 +1,11 @@
 -- Bytes, values and frames are read in one way alone.
 use Rattle.std.proofs.Common.{◌≡◌, inl, inr, List, ℕ, Result, Ok, Err, sym, ◌∙◌, subst}
 use Rattle.bson_model.specs.Tree.{Tree}
-use Rattle.raw_view.specs.Answers.{TellsMeaning}
-use Rattle.raw_view.specs.Envelope.{IsEnvelope}
+use Rattle.raw_view.specs.Errors.Answers.{TellsMeaning}
+use Rattle.raw_view.specs.Frame.Envelope.{IsEnvelope}
 use Rattle.raw_view.specs.Frame.{Frame}
 use Rattle.raw_view.specs.Meaning.{RawValue, KeyedFault, Means, Meaning, value, faulty}
-use Rattle.raw_view.specs.Value.{value_of}
+use Rattle.raw_view.specs.Meaning.Value.{value_of}
 use Rattle.raw_view.specs.declared.bson_ref.RawBsonRef.{RawBsonRef}
 use Rattle.raw_view.specs.declared.bson_ref.RawBsonRef.TheVariants as ref
 use Rattle.raw_view.specs.declared.error.Error.{Error}

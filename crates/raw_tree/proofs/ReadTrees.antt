@@ -10,13 +10,13 @@ use Rattle.bson_model.specs.Subtype.{subtype_of, subtype_byte}
 use Rattle.bson_model.specs.Tree.{Tree, document, trees, entries}
 use Rattle.bson_model.specs.declared.binaries.BinarySubtype.TheVariants.{BinaryOld}
 use Rattle.bson_model.proofs.Face.{fold-keep, HasDistinctKeys-keep, IsUtf8-sorted_options, OptionsAscend-sorted_options, NulFree-sorted_options, subtype_byte-subtype_of, IsProperSubtype-subtype_of, keys_in-entries, AreBytes-front, AreBytes-back, AreBytes-drop}
-use Rattle.raw_view.specs.Envelope.{IsEnvelope}
-use Rattle.raw_view.specs.Format.{string_payload}
+use Rattle.raw_view.specs.Frame.Envelope.{IsEnvelope}
+use Rattle.raw_view.specs.Frame.Format.{string_payload}
 use Rattle.raw_view.specs.Frame.{Frame, IsFrame, HasShape, IsBinary, IsRegex, IsDbPointer, IsWalk, Done}
-use Rattle.raw_view.specs.Kind.{tag_of}
+use Rattle.raw_view.specs.Frame.Kind.{tag_of}
 use Rattle.raw_view.specs.Meaning.{RawValue, HasInnerLength, IsBinaryValue, Means, MeansValue, value}
 use Rattle.raw_view.specs.Meaning as raw
-use Rattle.raw_view.specs.Number.{le32}
+use Rattle.raw_view.specs.Frame.Number.{le32}
 use Rattle.raw_view.specs.declared.element_type.ElementType.{ElementType}
 use Rattle.raw_view.specs.declared.element_type.ElementType.TheVariants as kind
 use Rattle.raw_view.proofs.Face.{AreBytes-rest}

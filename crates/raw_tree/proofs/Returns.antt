@@ -11,13 +11,13 @@ use Rattle.bson_model.specs.Pairs.{keys_of}
 use Rattle.bson_model.specs.Proper.{keys_in, InTrees, InEntries, Whatever, IsWellFormed, IsNulFree, DoOptionsAscend, AreSubtypesProper, IsLeafInRange, IsLeafNulFree, DoLeafOptionsAscend, IsLeafSubtypeProper, IsProper}
 use Rattle.bson_model.specs.Tree.{Tree, Trees, Entries, leaf, array, document, code_with_scope, no_tree, tree_then, no_entry, entry_then, trees, entries, pairs_in}
 use Rattle.bson_model.proofs.Face.{AreBytes-nil, AreBytes-append, NulFree-nil, NulFree-cons, keep-distinct, sorted_options-same}
-use Rattle.raw_view.specs.Envelope.{IsEnvelope}
-use Rattle.raw_view.specs.Format.{string_payload, leaf_payload, framed, element_of}
+use Rattle.raw_view.specs.Frame.Envelope.{IsEnvelope}
+use Rattle.raw_view.specs.Frame.Format.{string_payload, leaf_payload, framed, element_of}
 use Rattle.raw_view.specs.Frame.{HasShape, Frame, IsWalk, Done}
-use Rattle.raw_view.specs.Kind.{tag_of}
+use Rattle.raw_view.specs.Frame.Kind.{tag_of}
 use Rattle.raw_view.specs.Meaning.{RawValue, MeansValue}
 use Rattle.raw_view.specs.Meaning as raw
-use Rattle.raw_view.specs.Number.{max_length}
+use Rattle.raw_view.specs.Frame.Number.{max_length}
 use Rattle.raw_view.proofs.Face.{length-framed, AreBytes-leaf, AreBytes-scoped, AreBytes-framed, AreBytes-element, leaf_shape, declared_shape, framed_is_envelope, leaf_means, scoped_means}
 use Rattle.raw_tree.specs.Canonical.{AreDecimalsFrom, AreKeysCanonical, IsValueCanonical, AreFramesCanonical, IsCanonicalUpTo, IsCanonicalAs}
 use Rattle.raw_tree.specs.Encoding.{kind_of_tree, tree_payload, items_bytes, entries_bytes, encoding, encoded_len, items_len, entries_len}

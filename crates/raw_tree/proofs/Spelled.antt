@@ -9,10 +9,10 @@ use Rattle.bson_model.specs.Tree.{Tree, leaf, document, trees, entries}
 use Rattle.bson_model.specs.declared.binaries.BinarySubtype.{BinarySubtype}
 use Rattle.bson_model.specs.declared.binaries.BinarySubtype.TheVariants.{BinaryOld}
 use Rattle.bson_model.proofs.Face.{keep-distinct, sorted_options-same, subtype_byte-subtype_of}
-use Rattle.raw_view.specs.Envelope.{IsEnvelope}
-use Rattle.raw_view.specs.Format.{plain_binary_payload, binary_payload, leaf_payload, scoped_payload, framed, element_of}
+use Rattle.raw_view.specs.Frame.Envelope.{IsEnvelope}
+use Rattle.raw_view.specs.Frame.Format.{plain_binary_payload, binary_payload, leaf_payload, scoped_payload, framed, element_of}
 use Rattle.raw_view.specs.Frame.{Frame, IsFrame, HasShape, IsBinary, IsWalk, Done}
-use Rattle.raw_view.specs.Kind.{kind_of_leaf}
+use Rattle.raw_view.specs.Frame.Kind.{kind_of_leaf}
 use Rattle.raw_view.specs.Meaning.{RawValue, kind_of_raw, IsBinaryValue, Means, MeansValue, value}
 use Rattle.raw_view.specs.Meaning as raw
 use Rattle.raw_view.specs.declared.element_type.ElementType.{ElementType}

@@ -1,9 +1,9 @@
 -- Reading to a depth: its first fault is the first fault, and where no level is too deep, each takes bytes.
 use Rattle.std.proofs.Common.{◌≡◌, inl, inr, ◌≤◌, ◌<◌, ℕ, zero, suc, List, length, Result, Ok, Err, IfOk, IfErr, drop, arith, length-drop}
 use Rattle.raw_view.specs.Document.{bytes_of}
-use Rattle.raw_view.specs.Envelope.{IsEnvelope}
+use Rattle.raw_view.specs.Frame.Envelope.{IsEnvelope}
 use Rattle.raw_view.specs.Meaning.{KeyedFault}
-use Rattle.raw_view.specs.Number.{max_length}
+use Rattle.raw_view.specs.Frame.Number.{max_length}
 use Rattle.raw_view.proofs.Face.{LeadsTo-bound}
 use Rattle.raw_view.specs.declared.error.Error.{Error}
 use Rattle.raw_tree.specs.FrameCount.{TellsFrames}

@@ -6,9 +6,9 @@ use Rattle.bson_model.specs.Tree.{Tree, Trees, Entries, leaf, array, document, c
 use Rattle.bson_model.specs.Proper.{IsNulFree}
 use Rattle.raw_view.specs.Errors.{IsOutOfMemory}
 use Rattle.raw_view.specs.declared.error.Error.{Error}
-use Rattle.raw_view.specs.Format.{string_payload, element_of, tagged, framed, scoped_payload}
-use Rattle.raw_view.specs.Kind.{tag_of}
-use Rattle.raw_view.specs.Number.{max_length, le32}
+use Rattle.raw_view.specs.Frame.Format.{string_payload, element_of, tagged, framed, scoped_payload}
+use Rattle.raw_view.specs.Frame.Kind.{tag_of}
+use Rattle.raw_view.specs.Frame.Number.{max_length, le32}
 use Rattle.raw_tree.specs.Encoding.{kind_of_tree, tree_payload, items_bytes, entries_bytes, encoded_len, RefusesTree, IsRefused}
 use Rattle.raw_tree.specs.Members.{MemberKey, key_bytes, numbered, keyed, members, members_bytes, members_len, left_of, tree_of_container, unset, opening, opening_len, measured, ended, Begun, begun_of, members_start, HoldsTrees}
 use Rattle.raw_tree.specs.declared.members.Container.{Container}

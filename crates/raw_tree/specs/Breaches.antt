@@ -3,7 +3,7 @@
 use Rattle.std.specs.Prelude.{◌≡◌, ◌≢◌, ◌⊎◌, ◌++◌, ℕ, suc, zero, List, [], ◌∷◌, Option, None, Some, codes, drop, map, length, decimal}
 use Rattle.std.specs.List.{Contains}
 use Rattle.bson_model.specs.Proper.{DoLeafOptionsAscend}
-use Rattle.raw_view.specs.Envelope.{IsEnvelope}
+use Rattle.raw_view.specs.Frame.Envelope.{IsEnvelope}
 use Rattle.raw_view.specs.Frame.{Frame, IsFrame, Fault, IsStop, LeadsTo}
 use Rattle.raw_view.specs.Meaning.{Meaning, Means, value, faulty}
 use Rattle.raw_view.specs.Meaning as raw

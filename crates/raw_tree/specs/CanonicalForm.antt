@@ -3,9 +3,9 @@
 use Rattle.std.specs.Prelude.{◌≡◌, ◌<◌, ◌≤◌, ◌↔◌, ℕ, List, None}
 use Rattle.bson_model.specs.Proper.{IsProper}
 use Rattle.bson_model.specs.Tree.{Tree, Trees, Entries, array, document}
-use Rattle.raw_view.specs.Envelope.{IsEnvelope}
+use Rattle.raw_view.specs.Frame.Envelope.{IsEnvelope}
 use Rattle.raw_view.specs.Errors.{key_of}
-use Rattle.raw_view.specs.Number.{max_length}
+use Rattle.raw_view.specs.Frame.Number.{max_length}
 use Rattle.raw_view.specs.declared.error.Error.{Error}
 use Rattle.raw_view.specs.declared.error.ErrorKind.TheVariants.{MalformedValue}
 use Rattle.raw_view.specs.declared.error.Reason.TheVariants.{TooLong}

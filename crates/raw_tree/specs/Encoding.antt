@@ -3,9 +3,9 @@ use Rattle.std.specs.Prelude.{◌≡◌, ◌<◌, ◌≤◌, None, ℕ, ◌+◌,
 use Rattle.bson_model.specs.Proper.{IsNulFree}
 use Rattle.bson_model.specs.Tree.{Tree, Trees, Entries, leaf, array, document, code_with_scope, no_tree, tree_then, no_entry, entry_then}
 use Rattle.raw_view.specs.Errors.{key_of}
-use Rattle.raw_view.specs.Format.{leaf_payload, scoped_payload, framed, element_of}
-use Rattle.raw_view.specs.Kind.{kind_of_leaf}
-use Rattle.raw_view.specs.Number.{max_length}
+use Rattle.raw_view.specs.Frame.Format.{leaf_payload, scoped_payload, framed, element_of}
+use Rattle.raw_view.specs.Frame.Kind.{kind_of_leaf}
+use Rattle.raw_view.specs.Frame.Number.{max_length}
 use Rattle.raw_view.specs.declared.element_type.ElementType.{ElementType}
 use Rattle.raw_view.specs.declared.element_type.ElementType.TheVariants as kind
 use Rattle.raw_view.specs.declared.error.Error.{Error}

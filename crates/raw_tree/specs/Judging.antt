@@ -3,7 +3,7 @@ use Rattle.std.specs.Prelude.{◌≡◌, ◌≤◌, ◌-◌, ◌^◌, ℕ, [], m
 use Rattle.std.specs.Global.{Global}
 use Rattle.bson_model.specs.Proper.{IsNulFree}
 use Rattle.bson_model.specs.Tree.{Tree}
-use Rattle.raw_view.specs.Number.{max_length}
+use Rattle.raw_view.specs.Frame.Number.{max_length}
 use Rattle.raw_tree.specs.Encoding.{encoded_len}
 
 -- what is returned of a tree before it is written: its length, the greatest number of 64 bits where that is

@@ -8,10 +8,10 @@ use Rattle.bson_model.specs.Bytes.{NulFree}
 use Rattle.bson_model.specs.Proper.{IsNulFree}
 use Rattle.bson_model.specs.Tree.{Tree, Trees, Entries, leaf, array, document, code_with_scope, no_tree, tree_then, no_entry, entry_then, entries, tree_of, tree_of_document, tree_of_list, pairs_of, with_trees}
 use Rattle.bson_model.specs.declared.bson.Bson.{Bson}
-use Rattle.raw_view.specs.Format.{string_payload, element_of}
+use Rattle.raw_view.specs.Frame.Format.{string_payload, element_of}
 use Rattle.raw_view.specs.Meaning.{RawValue, single}
-use Rattle.raw_view.specs.Number.{le32}
-use Rattle.raw_view.specs.Value.{value_of}
+use Rattle.raw_view.specs.Frame.Number.{le32}
+use Rattle.raw_view.specs.Meaning.Value.{value_of}
 use Rattle.raw_tree.specs.Encoding.{kind_of_tree, tree_payload, encoded_len}
 use Rattle.raw_tree.specs.declared.members.Container.{Container}
 use Rattle.raw_tree.specs.declared.members.Container.TheVariants as container

@@ -1,7 +1,7 @@
 -- The bytes that values are written as.
 use Rattle.std.specs.Prelude.{ℕ, List}
 use Rattle.bson_model.specs.Proper.{IsLeafNulFree}
-use Rattle.raw_view.specs.Format.{leaf_payload, scoped_payload, element_of}
+use Rattle.raw_view.specs.Frame.Format.{leaf_payload, scoped_payload, element_of}
 use Rattle.raw_view.specs.Meaning.{RawValue, single, document, array, scoped, kind_of_raw}
 
 -- the payload of a value; a nested document, an array and a scope are their bytes

@@ -5,8 +5,8 @@ use Rattle.bson_model.specs.Leaf.{Leaf, regular_expression}
 use Rattle.bson_model.specs.Options.{sorted_options}
 use Rattle.bson_model.specs.Pairs.{keep}
 use Rattle.bson_model.specs.Tree.{Tree, Entries, leaf, array, document, code_with_scope, trees, entries}
-use Rattle.raw_view.specs.Answers.{Says}
-use Rattle.raw_view.specs.Envelope.{IsEnvelope}
+use Rattle.raw_view.specs.Errors.Answers.{Says}
+use Rattle.raw_view.specs.Frame.Envelope.{IsEnvelope}
 use Rattle.raw_view.specs.Errors.{IsOutOfMemory}
 use Rattle.raw_view.specs.Frame.{Frame, IsFrame, IsStop, IsWalk, Done, LeadsTo}
 use Rattle.raw_view.specs.Meaning.{RawValue, KeyedFault, Means, value, faulty}

@@ -7,7 +7,7 @@ use Rattle.std.specs.Cmp.Lexicographic.{slice_cmp}
 use denote.Ref.{Bor}
 use Rattle.raw_tree.specs.Notes.{AreNoted}
 use Rattle.raw_tree.specs.References.{texts}
-use Rattle.raw_view.specs.Envelope.{IsEnvelope}
+use Rattle.raw_view.specs.Frame.Envelope.{IsEnvelope}
 use Rattle.raw_view.specs.Frame.{Frame, IsFrame, LeadsTo}
 use Rattle.raw_view.specs.Meaning.{RawValue, Means, value}
 use Rattle.raw_view.specs.Meaning as raw

@@ -2,8 +2,8 @@
 -- of the others. The bytes b of a document, or of an array, have an envelope.
 use Rattle.std.specs.Prelude.{◌≡◌, ◌⊎◌, ◌≤◌, ◌<◌, ◌+◌, max, ℕ, suc, zero, List, [], ◌∷◌, None, drop, length}
 use Rattle.bson_model.specs.Tree.{Tree}
-use Rattle.raw_view.specs.Answers.{Says}
-use Rattle.raw_view.specs.Envelope.{IsEnvelope}
+use Rattle.raw_view.specs.Errors.Answers.{Says}
+use Rattle.raw_view.specs.Frame.Envelope.{IsEnvelope}
 use Rattle.raw_view.specs.Errors.{IsOutOfMemory, key_of}
 use Rattle.raw_view.specs.Frame.{Frame, IsFrame, IsStop, End, IsWalk, LeadsTo}
 use Rattle.raw_view.specs.Meaning.{RawValue, KeyedFault, Meaning, Means, value, faulty}

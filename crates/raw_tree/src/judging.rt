@@ -7,7 +7,7 @@ ghost use Rattle.bson_model.specs.Tree.{leaf};
 ghost use Rattle.raw_tree.specs.Judging.{Judges};
 ghost use Rattle.raw_tree.specs.Members.{opening_len, tree_of_container};
 ghost use Rattle.raw_view.specs.Meaning.{single};
-ghost use Rattle.raw_view.specs.Value.{value_of};
+ghost use Rattle.raw_view.specs.Meaning.Value.{value_of};
 
 use crate::members::{Container, Members, Shown, key_len, show};
 use crate::payload::{is_value_nul_free, payload_len};

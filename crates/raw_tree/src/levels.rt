@@ -7,7 +7,7 @@ ghost use Rattle.bson_model.specs.Scalars.{bytes_of_object_id};
 ghost use Rattle.bson_model.specs.Tree.{tree_of};
 ghost use Rattle.raw_tree.specs.Levels.{Closes, Ends, Finishes, IsOneMore, IsPairMore, IsSameDraft, IsUnread, Opens};
 ghost use Rattle.raw_view.specs.Errors.{IsOutOfMemory};
-ghost use Rattle.raw_view.specs.Value.{id_of, namespace_of, value_of};
+ghost use Rattle.raw_view.specs.Meaning.Value.{id_of, namespace_of, value_of};
 
 use bson_model::{Bson, DbPointer, Document, JavaScriptCodeWithScope, Regex};
 use raw_view::{RawBsonRef, RawDbPointerRef, RawDocument, RawIter, Result};

@@ -3,8 +3,8 @@
 ghost use Rattle.std.specs.Prelude.{◌≡◌, ◌-◌, ◌^◌, min, ◌↔◌, length, IsTrue};
 ghost use Rattle.bson_model.specs.Bytes.{NulFree};
 ghost use Rattle.raw_tree.specs.Payload.{payload_of, IsValueNulFree};
-ghost use Rattle.raw_view.specs.Format.{string_payload, binary_payload};
-ghost use Rattle.raw_view.specs.Value.{value_of};
+ghost use Rattle.raw_view.specs.Frame.Format.{string_payload, binary_payload};
+ghost use Rattle.raw_view.specs.Meaning.Value.{value_of};
 
 use bson_model::BinarySubtype;
 use raw_view::{RawBinaryRef, RawBsonRef};

@@ -4,10 +4,10 @@ ghost use Rattle.std.specs.Prelude.{◌≡◌, ◌≤◌, ◌+◌, ◌-◌, ◌+
 ghost use Rattle.raw_tree.specs.Members.{unset};
 ghost use Rattle.raw_tree.specs.Payload.{payload_of, element_bytes};
 ghost use Rattle.raw_view.specs.Document.{bytes_of};
-ghost use Rattle.raw_view.specs.ElementSteps.{frame_of};
-ghost use Rattle.raw_view.specs.Format.{c_string, string_payload, binary_payload, pointer_payload, regex_payload, scoped_payload, tagged, element_of};
-ghost use Rattle.raw_view.specs.Number.{max_length, le32};
-ghost use Rattle.raw_view.specs.Value.{value_of, namespace_of, id_of};
+ghost use Rattle.raw_view.specs.Frame.ElementSteps.{frame_of};
+ghost use Rattle.raw_view.specs.Frame.Format.{c_string, string_payload, binary_payload, pointer_payload, regex_payload, scoped_payload, tagged, element_of};
+ghost use Rattle.raw_view.specs.Frame.Number.{max_length, le32};
+ghost use Rattle.raw_view.specs.Meaning.Value.{value_of, namespace_of, id_of};
 
 use crate::payload::string_len;
 use bson_model::BinarySubtype;

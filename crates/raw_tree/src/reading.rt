@@ -8,8 +8,8 @@ ghost use Rattle.raw_tree.specs.FrameCount.{AllAreCountedOneWay, AllHaveOneFrame
 ghost use Rattle.raw_tree.specs.Levels.{AreRead, TellsReading};
 ghost use Rattle.raw_tree.specs.Reading.{as_array, as_document, AllAreReadOneWay, FrameStandsFor, IsFrameReadOneWay, IsValueReadOneWay, Reads, ReadsAs, StandsFor, TellsFirstFault, TellsFirstFaultOfFrame, TellsFirstFaultOfValue};
 ghost use Rattle.raw_view.specs.Document.{bytes_of};
-ghost use Rattle.raw_view.specs.ElementSteps.{frame_of};
-ghost use Rattle.raw_view.specs.Value.{array_bytes_of, value_of};
+ghost use Rattle.raw_view.specs.Frame.ElementSteps.{frame_of};
+ghost use Rattle.raw_view.specs.Meaning.Value.{array_bytes_of, value_of};
 
 use crate::levels::{
     Contents, Draft, Holder, Nested, Opened, Waiting, begin, close, end, finish, open, put,

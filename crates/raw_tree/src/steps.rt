@@ -2,8 +2,8 @@
 
 ghost use Rattle.std.specs.Prelude.{◌≡◌, ◌<◌};
 ghost use Rattle.raw_tree.specs.Levels.{counted};
-ghost use Rattle.raw_view.specs.ElementSteps.{StepsElement};
-ghost use Rattle.raw_view.specs.Number.{max_length};
+ghost use Rattle.raw_view.specs.Frame.ElementSteps.{StepsElement};
+ghost use Rattle.raw_view.specs.Frame.Number.{max_length};
 
 use raw_view::{RawElement, RawIter, Result};
 use std::marker::Model;

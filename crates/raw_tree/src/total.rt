@@ -1,5 +1,5 @@
 ghost use Rattle.std.specs.Prelude.{◌≡◌, ◌≤◌, ◌<◌, ◌+◌, pos, IfSome, IfNone};
-ghost use Rattle.raw_view.specs.Number.{max_length};
+ghost use Rattle.raw_view.specs.Frame.Number.{max_length};
 
 /// The length of a document of so many bytes to which so many more are added; `None` where that is over
 /// 2147483647, the greatest length that a header can say. BSON 1.1, `document`.

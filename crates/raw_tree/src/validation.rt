@@ -8,7 +8,7 @@ ghost use Rattle.raw_tree.specs.Reading.{as_array, as_document};
 ghost use Rattle.raw_tree.specs.Validating.{IsLevel, IsUnjudged, JudgesValue, Shrinks, Steps};
 ghost use Rattle.raw_view.specs.Document.{bytes_of};
 ghost use Rattle.raw_view.specs.Errors.{IsOutOfMemory};
-ghost use Rattle.raw_view.specs.Value.{array_bytes_of, value_of};
+ghost use Rattle.raw_view.specs.Meaning.Value.{array_bytes_of, value_of};
 
 use crate::breach::{Breach, Cause};
 use crate::keys::Keys;

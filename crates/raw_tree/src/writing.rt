@@ -8,10 +8,10 @@ ghost use Rattle.raw_tree.specs.CanonicalForm.{DocumentsComeBack, ListsComeBack}
 ghost use Rattle.raw_tree.specs.Encoding.{encoded_len, tree_payload, kind_of_tree, IsEncoded, IsRefused};
 ghost use Rattle.raw_tree.specs.Judging.{HasRoomFor, Judges};
 ghost use Rattle.raw_tree.specs.Members.{end_of_opening, ended, key_bytes, key_of, left_of, members, opening, opening_len, tree_of_container};
-ghost use Rattle.raw_view.specs.Envelope.{IsEnvelope};
+ghost use Rattle.raw_view.specs.Frame.Envelope.{IsEnvelope};
 ghost use Rattle.raw_view.specs.Errors.{IsOutOfMemory};
-ghost use Rattle.raw_view.specs.Kind.{tag_of};
-ghost use Rattle.raw_view.specs.Number.{max_length};
+ghost use Rattle.raw_view.specs.Frame.Kind.{tag_of};
+ghost use Rattle.raw_view.specs.Frame.Number.{max_length};
 
 use crate::judging::judged;
 use crate::members::{Container, Key, Members, Shown, show};

@@ -1,4 +1,6 @@
 -- What errors say.
+pub mod Answers
+pub mod Access
 use Rattle.std.specs.Prelude.{◌≡◌, ◌≢◌, ◌⊎◌, ℕ, List, Option, None, Some, String}
 use Rattle.std.specs.String.{string_bytes}
 use Rattle.raw_view.specs.declared.error.Reason.{Reason}
@@ -7,7 +9,7 @@ use Rattle.raw_view.specs.declared.error.ErrorKind.{ErrorKind}
 use Rattle.raw_view.specs.declared.error.ErrorKind.TheVariants as kind
 use Rattle.raw_view.specs.declared.error.Error.{Error}
 use Rattle.raw_view.specs.Frame.{Fault, Malformed, Utf8}
-use Rattle.raw_view.specs.Envelope.{Refuses}
+use Rattle.raw_view.specs.Frame.Envelope.{Refuses}
 use Rattle.raw_view.specs.declared.first_document.NoDocument.{NoDocument}
 use Rattle.raw_view.specs.declared.first_document.NoDocument.TheVariants as no
 

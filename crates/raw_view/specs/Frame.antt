@@ -1,13 +1,20 @@
 -- What is in a document: frames, and where they end. Relations between whole byte lists: s is what is
 -- left of a document, p a payload, r what is behind it, each a list of bytes; that they are bytes is what
 -- the envelope of the document says.
+pub mod Number
+pub mod Format
+pub mod Envelope
+pub mod FirstDocument
+pub mod Kind
+pub mod ElementSteps
+pub mod Front
 use Rattle.std.specs.Prelude.{◌≡◌, ◌⊎◌, ℕ, ◌<◌, ◌≤◌, pos, List, [], ◌∷◌, ◌++◌, length, take, Option, Some, None}
 use Rattle.std.specs.Str.{IsUtf8}
 use Rattle.bson_model.specs.Bytes.{NulFree}
-use Rattle.raw_view.specs.Number.{max_length, IsLe32}
-use Rattle.raw_view.specs.Envelope.{IsEnvelope}
-use Rattle.raw_view.specs.Format.{c_string, string_payload, plain_binary_payload, regex_payload, pointer_payload, tagged, element_of}
-use Rattle.raw_view.specs.Kind.{tag_of}
+use Rattle.raw_view.specs.Frame.Number.{max_length, IsLe32}
+use Rattle.raw_view.specs.Frame.Envelope.{IsEnvelope}
+use Rattle.raw_view.specs.Frame.Format.{c_string, string_payload, plain_binary_payload, regex_payload, pointer_payload, tagged, element_of}
+use Rattle.raw_view.specs.Frame.Kind.{tag_of}
 use Rattle.raw_view.specs.declared.element_type.ElementType.{ElementType}
 use Rattle.raw_view.specs.declared.element_type.ElementType.TheVariants as kind
 

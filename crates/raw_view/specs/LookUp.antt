@@ -1,4 +1,5 @@
 -- Look-up, by key and by position.
+pub mod ElementLookUp
 use Rattle.std.specs.Prelude.{◌≡◌, ◌≢◌, ◌⊎◌, ◌<◌, ℕ, List, [], ◌∷◌, length, drop, Option, Some, None}
 use Rattle.raw_view.specs.Frame.{Frame, IsFrame, End, Done, Stopped, EndsIn, IsWalk, LeadsTo}
 use Rattle.raw_view.specs.Meaning.{Meaning, faulty, Means}

@@ -1,14 +1,17 @@
 -- What a payload means: a value, or a fault. A payload p here is one that was framed, so it has the shape of
 -- its kind.
+pub mod Item
+pub mod Value
+pub mod Typed
 use Rattle.std.specs.Prelude.{◌≡◌, ◌≢◌, ◌⊎◌, ℕ, ◌<◌, ◌≤◌, ◌^◌, ◌+ℤ◌, ◌≤ℤ◌, ℤ, pos, negsuc, Bool, List, [], ◌∷◌, ◌++◌, length, take, drop, Option, Some, None}
 use Rattle.std.specs.Str.{IsUtf8}
 use Rattle.bson_model.specs.Leaf.{Leaf, double, string, binary, undefined, object_id, boolean, date_time, null, regular_expression, db_pointer, javascript_code, symbol, int32, timestamp, int64, decimal128, max_key, min_key}
 use Rattle.bson_model.specs.Subtype.{subtype_of}
 use Rattle.bson_model.specs.declared.binaries.BinarySubtype.TheVariants.{BinaryOld}
-use Rattle.raw_view.specs.Number.{max_length, IsLe32, IsLe64, IsUnsigned64}
-use Rattle.raw_view.specs.Envelope.{IsEnvelope}
-use Rattle.raw_view.specs.Format.{boolean_payload, inner_payload, scoped_payload, timestamp_payload}
-use Rattle.raw_view.specs.Kind.{kind_of_leaf}
+use Rattle.raw_view.specs.Frame.Number.{max_length, IsLe32, IsLe64, IsUnsigned64}
+use Rattle.raw_view.specs.Frame.Envelope.{IsEnvelope}
+use Rattle.raw_view.specs.Frame.Format.{boolean_payload, inner_payload, scoped_payload, timestamp_payload}
+use Rattle.raw_view.specs.Frame.Kind.{kind_of_leaf}
 use Rattle.raw_view.specs.declared.element_type.ElementType.{ElementType}
 use Rattle.raw_view.specs.declared.element_type.ElementType.TheVariants as kind
 use Rattle.raw_view.specs.Frame.{Frame, IsString, HasText, IsBinary, IsRegex, IsDbPointer, Fault, Malformed, Utf8}

@@ -2,7 +2,7 @@
 use Rattle.std.specs.Prelude.{◌≡◌, ℕ, List, Option}
 use Rattle.raw_view.specs.Frame.{Frame, IsFrame, End, IsWalk}
 use Rattle.raw_view.specs.Meaning.{Meaning, Means}
-use Rattle.raw_view.specs.Item.{Item, AreItems}
+use Rattle.raw_view.specs.Meaning.Item.{Item, AreItems}
 use Rattle.raw_view.specs.LookUp.{LooksUp, KeyAnswer, FindsKey, IsAt}
 
 -- at most one first frame is at the front of any byte list

@@ -46,7 +46,7 @@ pub struct ValueAccessError {
 
 impl ValueAccessError {
     ghost use Rattle.std.specs.Fmt.{decimal};
-    ghost use Rattle.raw_view.specs.Access.{key_asked, HasKeyAsked};
+    ghost use Rattle.raw_view.specs.Errors.Access.{key_asked, HasKeyAsked};
     ghost use Rattle.raw_view.specs.declared.access.ValueAccessErrorKind.TheVariants as access;
 
     /// The key asked for, or the index in decimal; empty where memory ran out.
@@ -117,7 +117,7 @@ impl fmt::Display for ValueAccessError {
 impl std::error::Error for ValueAccessError {}
 
 impl Clone for ValueAccessErrorKind {
-    ghost use Rattle.raw_view.specs.Access.{IsSameAccess};
+    ghost use Rattle.raw_view.specs.Errors.Access.{IsSameAccess};
 
     ghost is_clone = { IsSameAccess };
 
@@ -140,7 +140,7 @@ impl Clone for ValueAccessErrorKind {
 
 impl Clone for ValueAccessError {
     ghost use Rattle.std.specs.Prelude.{◌≡◌};
-    ghost use Rattle.raw_view.specs.Access.{IsSameAccess, key_asked};
+    ghost use Rattle.raw_view.specs.Errors.Access.{IsSameAccess, key_asked};
 
     ghost is_clone = { λ s t. IsSameAccess s.kind t.kind × (key_asked t ≡ key_asked s) };
 

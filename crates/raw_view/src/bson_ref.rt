@@ -61,7 +61,7 @@ pub enum RawBsonRef<'a> {
 
 impl<'a> RawBsonRef<'a> {
     ghost use Rattle.raw_view.specs.Meaning.{kind_of_raw};
-    ghost use Rattle.raw_view.specs.Value.{value_of};
+    ghost use Rattle.raw_view.specs.Meaning.Value.{value_of};
 
     /// The kind of the value.
     pub fn element_type(self) -> ElementType
@@ -165,7 +165,7 @@ pub struct RawDbPointerRef<'a> {
 }
 
 impl<'a> RawDbPointerRef<'a> {
-    ghost use Rattle.raw_view.specs.Value.{namespace_of, id_of};
+    ghost use Rattle.raw_view.specs.Meaning.Value.{namespace_of, id_of};
     ghost use Rattle.bson_model.specs.Scalars.{bytes_of_object_id};
 
     /// The pointer to the object of this identifier in this namespace.

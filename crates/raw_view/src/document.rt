@@ -1,7 +1,9 @@
 ghost use Rattle.std.specs.Prelude.{◌≡◌, ◌↔◌, IsOk, IfOk, IfErr, IsTrue, None, Some, drop, length, [], ◌∷◌};
-ghost use Rattle.raw_view.specs.ElementSteps.{frame_of};
-ghost use Rattle.raw_view.specs.Envelope.{IsEnvelope};
+ghost use Rattle.raw_view.specs.Frame.ElementSteps.{frame_of};
+ghost use Rattle.raw_view.specs.Frame.Envelope.{IsEnvelope};
 ghost use Rattle.raw_view.specs.Errors.{TellsRefusal};
+
+mod look_up;
 
 use crate::access::ValueAccessResult;
 use crate::array::RawArray;
@@ -9,10 +11,10 @@ use crate::bson_ref::{RawBinaryRef, RawBsonRef, RawRegexRef};
 use crate::element::RawElement;
 use crate::elements::Elements;
 use crate::error::{Error, Reason, Result};
+use crate::front::number::front_i32;
 use crate::hex_digits::HexDigits;
 use crate::iter::{Iter, RawIter};
-use crate::number::front_i32;
-use crate::typed::{Typed, typed_at_key};
+use crate::value::typed::{Typed, typed_at_key};
 use bson_model::{DateTime, DoubleBits, ObjectId, Timestamp};
 use std::alloc::Global;
 use std::fmt;
@@ -41,17 +43,17 @@ pub(crate) fn has_key(element: RawElement<'_>, key: &str) -> bool
 impl<'a> RawDocument<'a> {
     ghost use Rattle.std.specs.Prelude.{ℕ, List, Option, Result};
     ghost use denote.Ref.{Bor};
-    ghost use Rattle.raw_view.specs.Access.{GetsByKey};
-    ghost use Rattle.raw_view.specs.Answers.{StepsItems, TellsEach, TellsFound, TellsItem, TellsKey};
-    ghost use Rattle.raw_view.specs.Typed as typed;
+    ghost use Rattle.raw_view.specs.Errors.Access.{GetsByKey};
+    ghost use Rattle.raw_view.specs.Errors.Answers.{StepsItems, TellsEach, TellsFound, TellsItem, TellsKey};
+    ghost use Rattle.raw_view.specs.Meaning.Typed as typed;
     ghost use Rattle.raw_view.specs.declared.element_type.ElementType.TheVariants as variants;
-    ghost use Rattle.raw_view.specs.Item.{Item, AreItems};
+    ghost use Rattle.raw_view.specs.Meaning.Item.{Item, AreItems};
     ghost use Rattle.raw_view.specs.LookUp.{FindsKey, KeyAnswer, LooksUp};
     ghost use Rattle.raw_view.specs.Meaning.{Meaning};
     ghost use Rattle.raw_view.specs.declared.bson_ref.RawBsonRef.{RawBsonRef};
     ghost use Rattle.std.specs.Iterator.{Drains};
     ghost use Rattle.raw_view.specs.Document.{bytes_of};
-    ghost use Rattle.raw_view.specs.ElementSteps.{StepsElement, ListsWalk};
+    ghost use Rattle.raw_view.specs.Frame.ElementSteps.{StepsElement, ListsWalk};
     ghost use Rattle.raw_view.specs.Frame.{Frame, End};
     ghost use Rattle.raw_view.specs.OneReading.{OneFirstFrame, IsTheWalk, AreTheItems, IsTheAnswer, IsTheKeyAnswer};
     ghost use Rattle.raw_view.specs.declared.element.RawElement.{RawElement};

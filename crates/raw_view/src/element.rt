@@ -7,7 +7,7 @@ use crate::bson_ref::RawBsonRef;
 use crate::document::RawDocument;
 use crate::element_type::ElementType;
 use crate::error::{BorrowedError, Result};
-use crate::number::{array_of, i32_of, i64_of, u64_of};
+use crate::front::number::{array_of, i32_of, i64_of, u64_of};
 use crate::value::{
     binary_of, boolean_of, code_with_scope_of, db_pointer_of, regex_of, text_of, timestamp_of,
 };
@@ -33,7 +33,7 @@ pub struct RawElement<'a> {
 }
 
 impl<'a> RawElement<'a> {
-    ghost use Rattle.raw_view.specs.ElementSteps.{frame_of};
+    ghost use Rattle.raw_view.specs.Frame.ElementSteps.{frame_of};
 
     /// The element's key.
     pub fn key(self) -> &'a str
@@ -65,11 +65,11 @@ impl<'a> RawElement<'a> {
 }
 
 impl<'a> RawElement<'a> {
-    ghost use Rattle.raw_view.specs.ElementSteps.{frame_of};
-    ghost use Rattle.raw_view.specs.Front.{TellsBorrowed};
-    ghost use Rattle.raw_view.specs.Kind.{CanBeAtFault};
+    ghost use Rattle.raw_view.specs.Frame.ElementSteps.{frame_of};
+    ghost use Rattle.raw_view.specs.Frame.Front.{TellsBorrowed};
+    ghost use Rattle.raw_view.specs.Frame.Kind.{CanBeAtFault};
     ghost use Rattle.raw_view.specs.Meaning.{KeyedFault, Means, value, faulty};
-    ghost use Rattle.raw_view.specs.Value.{value_of};
+    ghost use Rattle.raw_view.specs.Meaning.Value.{value_of};
 
     /// The value of a kind whose payloads all mean one; `None` for the kinds whose payload can be at fault.
     #[inline(always)]
@@ -157,9 +157,9 @@ impl<'a> RawElement<'a> {
 }
 
 impl<'a> RawElement<'a> {
-    ghost use Rattle.raw_view.specs.Answers.{TellsItem, TellsMeaning};
-    ghost use Rattle.raw_view.specs.ElementSteps.{frame_of};
-    ghost use Rattle.raw_view.specs.Item.{entry};
+    ghost use Rattle.raw_view.specs.Errors.Answers.{TellsItem, TellsMeaning};
+    ghost use Rattle.raw_view.specs.Frame.ElementSteps.{frame_of};
+    ghost use Rattle.raw_view.specs.Meaning.Item.{entry};
     ghost use Rattle.raw_view.specs.Meaning.{Meaning, Means};
     ghost use Rattle.raw_view.specs.OneReading.{IsTheMeaning};
 

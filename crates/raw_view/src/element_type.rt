@@ -1,5 +1,5 @@
 ghost use Rattle.std.specs.Prelude.{◌≡◌, ◌≢◌, ◌↔◌, MatchOption, Some};
-ghost use Rattle.raw_view.specs.Kind.{kind_text, tag_of};
+ghost use Rattle.raw_view.specs.Frame.Kind.{kind_text, tag_of};
 ghost use Rattle.raw_view.specs.declared.element_type.ElementType.{ElementType};
 
 use std::fmt;

@@ -235,7 +235,7 @@ pub struct BorrowedError<'a> {
 
 impl<'a> BorrowedError<'a> {
     ghost use Rattle.raw_view.specs.Errors.{HasKeyCopy};
-    ghost use Rattle.raw_view.specs.Front.{TellsBorrowed};
+    ghost use Rattle.raw_view.specs.Frame.Front.{TellsBorrowed};
     ghost use Rattle.raw_view.specs.Meaning.{malformed, malformed_at};
 
     /// Malformed, without a key.

@@ -3,11 +3,11 @@
 
 ghost use Rattle.std.specs.Prelude.{◌≡◌, ◌++◌, IfOk, IfErr};
 ghost use Rattle.raw_view.specs.Document.{bytes_of};
-ghost use Rattle.raw_view.specs.FirstDocument.{HasNoDocument, OneFirstDocument, RefusesFirst};
+ghost use Rattle.raw_view.specs.Frame.FirstDocument.{HasNoDocument, OneFirstDocument, RefusesFirst};
 
 use crate::document::RawDocument;
 use crate::error::{Error, Reason};
-use crate::payload::declared_len;
+use crate::front::payload::declared_len;
 
 /// Why no document is at the front of bytes.
 /// ```

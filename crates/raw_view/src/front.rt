@@ -1,14 +1,19 @@
 ghost use Rattle.std.specs.Prelude.{◌≢◌, length, IfOk, IfErr, IfSome};
 ghost use Rattle.std.specs.Option.{option_copied};
-ghost use Rattle.raw_view.specs.ElementSteps.{frame_of};
+ghost use Rattle.raw_view.specs.Frame.ElementSteps.{frame_of};
 ghost use Rattle.raw_view.specs.Frame.{IsFrame};
-ghost use Rattle.raw_view.specs.Front.{EndsWithNul, StopsWith};
+ghost use Rattle.raw_view.specs.Frame.Front.{EndsWithNul, StopsWith};
 
-use crate::c_string::{split_plain_text, split_text};
+pub(crate) mod c_string;
+pub(crate) mod number;
+pub(crate) mod payload;
+pub(crate) mod utf8;
+
 use crate::element::RawElement;
 use crate::element_type::ElementType;
 use crate::error::{BorrowedError, Reason};
-use crate::payload::{front_len, plain_len};
+use crate::front::c_string::{split_plain_text, split_text};
+use crate::front::payload::{front_len, plain_len};
 
 /// The element at the front of the bytes that are left, and the bytes behind it, for most elements in few steps; `None`
 /// says nothing.

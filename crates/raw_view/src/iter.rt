@@ -38,7 +38,7 @@ impl<'a> RawIter<'a> {
 }
 
 impl<'a> Iterator for RawIter<'a> {
-    ghost use Rattle.raw_view.specs.ElementSteps.{StepsElement, items_left};
+    ghost use Rattle.raw_view.specs.Frame.ElementSteps.{StepsElement, items_left};
 
     type Item = Result<RawElement<'a>>;
 
@@ -87,8 +87,8 @@ impl<'a> Iter<'a> {
 }
 
 impl<'a> Iterator for Iter<'a> {
-    ghost use Rattle.raw_view.specs.Answers.{StepsItems, TellsItem};
-    ghost use Rattle.raw_view.specs.ElementSteps.{items_left};
+    ghost use Rattle.raw_view.specs.Errors.Answers.{StepsItems, TellsItem};
+    ghost use Rattle.raw_view.specs.Frame.ElementSteps.{items_left};
 
     type Item = Result<(&'a str, RawBsonRef<'a>)>;
 
@@ -136,8 +136,8 @@ impl<'a> RawArrayIter<'a> {
 }
 
 impl<'a> Iterator for RawArrayIter<'a> {
-    ghost use Rattle.raw_view.specs.Answers.{StepsItems, TellsValue};
-    ghost use Rattle.raw_view.specs.ElementSteps.{items_left};
+    ghost use Rattle.raw_view.specs.Errors.Answers.{StepsItems, TellsValue};
+    ghost use Rattle.raw_view.specs.Frame.ElementSteps.{items_left};
 
     type Item = Result<RawBsonRef<'a>>;
 

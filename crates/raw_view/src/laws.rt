@@ -3,9 +3,9 @@
 
 ghost use Rattle.std.specs.Prelude.{◌≡◌, ◌↔◌, IsTrue};
 ghost use Rattle.raw_view.specs.Document.{bytes_of};
-ghost use Rattle.raw_view.specs.ElementSteps.{frame_of};
+ghost use Rattle.raw_view.specs.Frame.ElementSteps.{frame_of};
 ghost use Rattle.raw_view.specs.Frame.{IsShortScope, StandsAnywhere};
-ghost use Rattle.raw_view.specs.Value.{array_bytes_of};
+ghost use Rattle.raw_view.specs.Meaning.Value.{array_bytes_of};
 
 use crate::array::RawArray;
 use crate::document::RawDocument;

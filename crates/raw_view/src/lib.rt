@@ -3,26 +3,18 @@
 #![tactic(auto)]
 
 mod access;
-mod accessors;
 mod array;
 mod bson_ref;
-mod c_string;
 mod document;
 mod element;
 mod element_type;
 mod elements;
 mod error;
 mod first_document;
-mod from;
 mod front;
 mod hex_digits;
 mod iter;
 pub mod laws;
-mod look_up;
-mod number;
-mod payload;
-mod typed;
-mod utf8;
 mod value;
 
 pub use access::{ValueAccessError, ValueAccessErrorKind, ValueAccessResult};

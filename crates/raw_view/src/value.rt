@@ -4,21 +4,25 @@ ghost use Rattle.std.specs.Prelude.{◌≡◌, length, ℕ, List, IfOk, IfErr};
 ghost use Rattle.std.specs.Str.{IsUtf8};
 ghost use Rattle.bson_model.specs.Leaf.{binary, boolean};
 ghost use Rattle.raw_view.specs.Document.{bytes_of};
-ghost use Rattle.raw_view.specs.Envelope.{IsEnvelope};
+ghost use Rattle.raw_view.specs.Frame.Envelope.{IsEnvelope};
 ghost use Rattle.raw_view.specs.Frame.{HasText, HasPayload, IsBinary, IsDbPointer, IsRegex};
-ghost use Rattle.raw_view.specs.Front.{TellsBorrowed};
+ghost use Rattle.raw_view.specs.Frame.Front.{TellsBorrowed};
 ghost use Rattle.raw_view.specs.Meaning.{KeyedFault, SpellsText, SpellsNoText, MeansValue, MeansFault, single, HasInnerLength, OldBinaryFault, IsCodeWithScope, IsTimestamp, not_text};
-ghost use Rattle.raw_view.specs.Value.{namespace_of, id_of};
+ghost use Rattle.raw_view.specs.Meaning.Value.{namespace_of, id_of};
 ghost use Rattle.raw_view.specs.declared.element_type.ElementType.TheVariants.{RegularExpression, JavaScriptCodeWithScope};
 
+mod accessors;
+mod from;
+pub(crate) mod typed;
+
 use crate::bson_ref::{RawBinaryRef, RawDbPointerRef, RawJavaScriptCodeWithScopeRef, RawRegexRef};
-use crate::c_string::split_text;
 use crate::document::RawDocument;
 use crate::element_type::ElementType;
 use crate::error::{BorrowedError, ErrorKind, Reason};
-use crate::number::{array_of, front_i32, u32_of};
-use crate::payload::front_string_len;
-use crate::utf8::text_from;
+use crate::front::c_string::split_text;
+use crate::front::number::{array_of, front_i32, u32_of};
+use crate::front::payload::front_string_len;
+use crate::front::utf8::text_from;
 use bson_model::{BinarySubtype, ObjectId, Timestamp};
 
 /// The text of a string.

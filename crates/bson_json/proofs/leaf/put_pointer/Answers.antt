@@ -3,7 +3,7 @@ use Rattle.std.specs.Io.KnownBytes.{Appends}
 use Rattle.bson_model.specs.Scalars.{bytes_of_object_id}
 use Rattle.hex.specs.Hex.{encode_lower}
 use Rattle.json.specs.Print.{quoted}
-use Rattle.raw_view.specs.Value.{namespace_of, id_of}
+use Rattle.raw_view.specs.Meaning.Value.{namespace_of, id_of}
 use Rattle.bson_json.specs.Leaves.{pointer_json}
 use Rattle.bson_json.proofs.Puts.{on_ok, joined, whole_put}
 use Rattle.bson_json.proofs.leaf.put_pointer.Goals as goal

@@ -1,5 +1,5 @@
 use Rattle.std.proofs.Common.{Some, Result, subst}
-use Rattle.raw_view.specs.Front.{StepsFront}
+use Rattle.raw_view.specs.Frame.Front.{StepsFront}
 use Rattle.raw_view.specs.declared.element.RawElement.{RawElement}
 use Rattle.raw_view.specs.declared.error.BorrowedError.{BorrowedError}
 use Rattle.bson_json.proofs.Fronts.{no_fault, no_stop}

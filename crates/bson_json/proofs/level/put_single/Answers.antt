@@ -2,7 +2,7 @@ use Rattle.std.proofs.Common.{◌++◌, codes, sym, subst, refl}
 use Rattle.std.specs.Io.KnownBytes.{Appends}
 use Rattle.std.proofs.KnownBytes.{Appends-trans}
 use Rattle.bson_model.specs.Scalars.{bytes_of_decimal128}
-use Rattle.raw_view.specs.Value.{value_of}
+use Rattle.raw_view.specs.Meaning.Value.{value_of}
 use Rattle.raw_view.specs.declared.bson_ref.RawBsonRef.{RawBsonRef}
 use Rattle.bson_json.specs.Decimals.{decimal128_text}
 use Rattle.bson_json.specs.Levels.{PutsSingle}

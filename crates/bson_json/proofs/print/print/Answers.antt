@@ -3,7 +3,7 @@ use Rattle.std.specs.Io.KnownBytes.{Appends}
 use Rattle.std.proofs.KnownBytes.{Appends-trans}
 use Rattle.raw_view.specs.Document.{bytes_of}
 use Rattle.raw_view.specs.Meaning.{RawValue, Means, value}
-use Rattle.raw_view.specs.Value.{value_of}
+use Rattle.raw_view.specs.Meaning.Value.{value_of}
 use Rattle.bson_json.specs.Json.{end_text, head_text}
 use Rattle.bson_json.specs.Levels.{Gives, PutsValue, sort_of, after}
 use Rattle.bson_json.specs.declared.level.Level.{Level}

@@ -2,7 +2,7 @@ use Rattle.std.proofs.Common.{rules, ◌≡◌, ◌++◌, ◌∙◌, [], List, �
 use Rattle.std.specs.Io.KnownBytes.{Appends}
 use Rattle.std.specs.Option.{option_map}
 use Rattle.raw_view.specs.Document.{bytes_of}
-use Rattle.raw_view.specs.Envelope.{IsEnvelope}
+use Rattle.raw_view.specs.Frame.Envelope.{IsEnvelope}
 use Rattle.bsonraw_dump.specs.Find.{account_of}
 use Rattle.bsonraw_dump.specs.Listing.{ListsDocument}
 use Rattle.bsonraw_dump.specs.Run.{head_text}

@@ -1,8 +1,8 @@
 use Rattle.std.proofs.Common.{◌≡◌, ◌+◌, ◌-◌, ◌++◌, ◌∷◌, [], ℕ, ap, arith, pos, subst, sym, length, take, vec_len}
 use Rattle.bson_model.specs.Bytes.{AreBytes}
 use Rattle.bson_model.proofs.Face.{AreBytes-from_elements}
-use Rattle.raw_view.specs.ElementSteps.{frame_of}
-use Rattle.raw_view.specs.Envelope.{IsEnvelope}
+use Rattle.raw_view.specs.Frame.ElementSteps.{frame_of}
+use Rattle.raw_view.specs.Frame.Envelope.{IsEnvelope}
 use Rattle.raw_view.proofs.Face.{stands_anywhere}
 use Rattle.raw_bson.specs.Append.{frame_bytes, appended_bytes, HasRoom}
 use Rattle.raw_bson.proofs.Appended.{written_is_appended, written_len}

@@ -2,9 +2,9 @@ use Rattle.std.proofs.Common.{◌≡◌, ◌≤◌, ◌+◌, ◌-◌, ◌++◌, 
 use Rattle.bson_model.specs.Bytes.{AreBytes}
 use Rattle.bson_model.proofs.Face.{AreBytes-from_elements}
 use Rattle.raw_tree.specs.Payload.{payload_of}
-use Rattle.raw_view.specs.Envelope.{IsEnvelope}
-use Rattle.raw_view.specs.Number.{max_length}
-use Rattle.raw_view.specs.Value.{value_of}
+use Rattle.raw_view.specs.Frame.Envelope.{IsEnvelope}
+use Rattle.raw_view.specs.Frame.Number.{max_length}
+use Rattle.raw_view.specs.Meaning.Value.{value_of}
 use Rattle.raw_bson.specs.Append.{frame_bytes, value_frame, appended_bytes, HasRoom, IsNulFreeElement}
 use Rattle.raw_bson.proofs.Appended.{written_is_appended, written_len}
 use Rattle.raw_bson.proofs.KeptWalks.{length-appended_bytes, appended_is_envelope, value_stands, keeps_walk}

@@ -1,7 +1,7 @@
 use Rattle.std.proofs.Common.{inl, inr, List, ℕ, subst, sym, ◌∙◌}
 use Rattle.std.proofs.lemmas.Result.{err_from_is_err_and}
 use Rattle.bson_model.specs.Tree.{tree_of_document}
-use Rattle.raw_view.specs.Envelope.{IsEnvelope}
+use Rattle.raw_view.specs.Frame.Envelope.{IsEnvelope}
 use Rattle.raw_tree.specs.Reading.{Reads, TellsFirstFault}
 use Rattle.raw_tree.proofs.Face.{canonical_form}
 use Rattle.raw_bson.proofs.Converted.{refused_form, refused_no_nul}

@@ -1,6 +1,6 @@
 use Rattle.std.proofs.Common.{◌∙◌, drop, subst}
 use Rattle.raw_view.specs.Frame.{IsWalk}
-use Rattle.raw_view.specs.Value.{array_bytes_of}
+use Rattle.raw_view.specs.Meaning.Value.{array_bytes_of}
 use Rattle.bson_model.proofs.Face.{AreBytes-drop}
 use Rattle.raw_view.proofs.Face.{the_items}
 use Rattle.raw_bson.proofs.Counts.{items_listed}

@@ -1,7 +1,7 @@
 use Rattle.std.proofs.Common.{rules, ◌≡◌, ◌⊎◌, ◌<◌, ◌≤◌, Option, IfSome, drop, ◌++◌, ◌∷◌, ◌∙◌, [], List, ℕ, suc, Some, arith, map, length, length-drop, ap, refl, sym, subst}
 use Rattle.std.specs.Option.{option_copied}
 use Rattle.raw_view.specs.Document.{bytes_of}
-use Rattle.raw_view.specs.ElementSteps.{frame_of}
+use Rattle.raw_view.specs.Frame.ElementSteps.{frame_of}
 use Rattle.raw_tree.specs.WithinLimits.{Barrier, fault_of, too_deep}
 use Rattle.raw_form.specs.Barriers.{steps_of}
 use Rattle.raw_form.specs.Looking.{Looks, step_at}

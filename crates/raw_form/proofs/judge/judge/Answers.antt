@@ -1,11 +1,11 @@
 use Rattle.std.proofs.Common.{◌≡◌, ◌++◌, ◌∷◌, [], List, ℕ, Bor, Option, Result, None, Some, Ok, Err, length, refl, subst, inr}
 use Rattle.std.specs.Option.{option_copied}
-use Rattle.raw_view.specs.ElementSteps.{frame_of}
+use Rattle.raw_view.specs.Frame.ElementSteps.{frame_of}
 use Rattle.raw_view.specs.Frame.{Fault, Malformed, Utf8, IsFrame, IsStop}
-use Rattle.raw_view.specs.Front.{StepsFront, StopsWith}
+use Rattle.raw_view.specs.Frame.Front.{StepsFront, StopsWith}
 use Rattle.raw_view.specs.Meaning.{RawValue, value, faulty}
 use Rattle.raw_view.specs.Meaning as raw
-use Rattle.raw_view.specs.Value.{value_of}
+use Rattle.raw_view.specs.Meaning.Value.{value_of}
 use Rattle.raw_view.specs.declared.element.RawElement.{RawElement}
 use Rattle.raw_view.specs.declared.error.BorrowedError.{BorrowedError}
 use Rattle.raw_view.specs.declared.error.ErrorKind.{ErrorKind}

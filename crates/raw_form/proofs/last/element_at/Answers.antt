@@ -1,6 +1,6 @@
 use Rattle.std.proofs.Common.{List, Option, Some, ℕ, drop, subst}
 use Rattle.raw_view.specs.Document.{bytes_of}
-use Rattle.raw_view.specs.ElementSteps.{frame_of}
+use Rattle.raw_view.specs.Frame.ElementSteps.{frame_of}
 use Rattle.raw_view.proofs.Face.{one_frame}
 use Rattle.raw_form.specs.Staying.{TakesFrame}
 use Rattle.raw_form.proofs.last.element_at.Goals as goal

@@ -1,5 +1,5 @@
 use Rattle.std.proofs.Common.{Result, Some, subst}
-use Rattle.raw_view.specs.Front.{StepsFront}
+use Rattle.raw_view.specs.Frame.Front.{StepsFront}
 use Rattle.raw_view.specs.declared.element.RawElement.{RawElement}
 use Rattle.raw_view.specs.declared.error.BorrowedError.{BorrowedError}
 use Rattle.raw_form.proofs.Lasting.{taken_stop}

@@ -1,6 +1,6 @@
 use Rattle.std.proofs.Common.{Some, Result, subst}
-use Rattle.raw_view.specs.Front.{StepsFront}
-use Rattle.raw_view.specs.Value.{value_of}
+use Rattle.raw_view.specs.Frame.Front.{StepsFront}
+use Rattle.raw_view.specs.Meaning.Value.{value_of}
 use Rattle.raw_view.specs.declared.element.RawElement.{RawElement}
 use Rattle.raw_view.specs.declared.error.BorrowedError.{BorrowedError}
 use Rattle.raw_form.proofs.Looking.{looks_stop, looks_whole}

@@ -1,9 +1,9 @@
 use Rattle.std.proofs.Common.{rules, ◌≡◌, ◌∙◌, ◌+◌, ◌++◌, ◌∷◌, [], List, ℕ, length, vec_len, arith, ap, refl, sym}
 use Rattle.std.proofs.lemmas.Result.{err_from_is_err_and}
 use Rattle.raw_view.specs.Document.{bytes_of}
-use Rattle.raw_view.specs.ElementSteps.{frame_of}
-use Rattle.raw_view.specs.Format.{leaf_payload}
-use Rattle.raw_view.specs.Value.{value_of}
+use Rattle.raw_view.specs.Frame.ElementSteps.{frame_of}
+use Rattle.raw_view.specs.Frame.Format.{leaf_payload}
+use Rattle.raw_view.specs.Meaning.Value.{value_of}
 use Rattle.raw_tree.specs.Reading.{leaf_in_order}
 use Rattle.raw_form.specs.Rewriting.{held_opening, held_value}
 use Rattle.raw_form.specs.declared.held.Held.{Held}

@@ -1,7 +1,7 @@
 use Rattle.std.proofs.Common.{rules, ◌≡◌, ◌≤◌, ◌<◌, ◌+◌, ◌++◌, ◌∷◌, ◌∙◌, [], List, ℕ, suc, Bor, Some, arith, map, length, drop, length-drop, ap, refl, sym, subst}
 use Rattle.std.specs.Option.{option_copied}
 use Rattle.raw_view.specs.Document.{bytes_of}
-use Rattle.raw_view.specs.ElementSteps.{frame_of}
+use Rattle.raw_view.specs.Frame.ElementSteps.{frame_of}
 use Rattle.raw_tree.specs.OpenKeys.{HasKeysSoFar}
 use Rattle.raw_tree.specs.Reading.{as_document}
 use Rattle.raw_tree.specs.References.{texts}

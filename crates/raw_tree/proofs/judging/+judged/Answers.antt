@@ -1,6 +1,6 @@
 use Rattle.std.proofs.Common.{◌≡◌, ◌<◌, ◌++◌, ◌∷◌, [], Some, Vec, Global, rules, refl, ap, ◌∙◌, ◌^◌, arith}
 use Rattle.bson_model.specs.Tree.{tree_of}
-use Rattle.raw_view.specs.Value.{value_of}
+use Rattle.raw_view.specs.Meaning.Value.{value_of}
 use Rattle.raw_tree.specs.Judging.{Judges}
 use Rattle.raw_tree.specs.Members.{key_of, left_of, members_len, tree_of_container}
 use Rattle.raw_tree.specs.declared.members.Members.{Members}

@@ -1,9 +1,9 @@
 use Rattle.std.proofs.Common.{◌≡◌, ◌++◌, ◌∷◌, [], suc, Some, Result, Ok, ap, sym, subst, rules, arith, vec_len}
 use Rattle.std.proofs.lemmas.Result.{err_from_is_err_and}
 use Rattle.bson_model.specs.Tree.{tree_of}
-use Rattle.raw_view.specs.ElementSteps.{StepsElement, frame_of}
+use Rattle.raw_view.specs.Frame.ElementSteps.{StepsElement, frame_of}
 use Rattle.raw_view.specs.Meaning.{Means, value, faulty}
-use Rattle.raw_view.specs.Value.{value_of}
+use Rattle.raw_view.specs.Meaning.Value.{value_of}
 use Rattle.raw_view.specs.declared.element.RawElement.{RawElement}
 use Rattle.raw_view.specs.declared.error.Error.{Error}
 use Rattle.raw_tree.specs.Levels.{Opens}

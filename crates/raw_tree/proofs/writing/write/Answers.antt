@@ -4,7 +4,7 @@ use Rattle.raw_tree.specs.Encoding.{encoded_len}
 use Rattle.raw_tree.specs.Members.{begun_of, key_of, left_of, members_len, tree_of_container}
 use Rattle.raw_tree.specs.declared.members.Container.{Container}
 use Rattle.raw_tree.specs.declared.writing.Level.{Level}
-use Rattle.raw_view.specs.Value.{value_of}
+use Rattle.raw_view.specs.Meaning.Value.{value_of}
 use Rattle.raw_tree.proofs.Encodings.{length-shown}
 use Rattle.raw_tree.proofs.WrittenMembers.{begun_at, begun_last, begins, container_holds, left_with, room_left, writing_begins, writing_inside, writing_ends, inward_smaller, outward_smaller}
 use Rattle.raw_tree.proofs.writing.write.Goals as goal

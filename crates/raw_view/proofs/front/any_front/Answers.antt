@@ -1,6 +1,6 @@
 use Rattle.std.proofs.Common.{◌≡◌, ◌≢◌, ◌∷◌, ◌++◌, ◌∙◌, [], List, ℕ, ap, length, rules, arith}
 use Rattle.std.proofs.lemmas.Grind.{common_steps}
-use Rattle.raw_view.proofs.Frames.{key_stop, tag_stop, payload_stop}
+use Rattle.raw_view.proofs.Frames.Fronts.{key_stop, tag_stop, payload_stop}
 use Rattle.raw_view.proofs.front.any_front.Goals as goal
 
 pub returns-in-Err-clause-stop : goal.returns-in-Err-clause-stop

@@ -1,5 +1,5 @@
-use Rattle.raw_view.specs.ElementSteps.{frame_of}
-use Rattle.raw_view.proofs.Standing.{stands_anywhere}
+use Rattle.raw_view.specs.Frame.ElementSteps.{frame_of}
+use Rattle.raw_view.proofs.Frames.Standing.{stands_anywhere}
 use Rattle.raw_view.proofs.laws.attest_element.Goals as goal
 
 pub returns : goal.returns

@@ -3,7 +3,7 @@ use Rattle.std.proofs.lemmas.Result.{err_from_is_err_and}
 use Rattle.bson_model.specs.Leaf.{binary}
 use Rattle.bson_model.specs.Subtype.{subtype_of}
 use Rattle.raw_view.specs.Meaning.{single}
-use Rattle.raw_view.proofs.Shapes.{binary_cut, old_byte}
+use Rattle.raw_view.proofs.Frames.Shapes.{binary_cut, old_byte}
 use Rattle.raw_view.proofs.value.binary_of.Goals as goal
 
 pub returns-in_ok-inner_bytes-in-BinaryOld-clause-value : goal.returns-in_ok-inner_bytes-in-BinaryOld-clause-value

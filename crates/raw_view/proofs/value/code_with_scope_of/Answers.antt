@@ -1,8 +1,8 @@
 use Rattle.std.proofs.Common.{◌≡◌, ◌++◌, ◌∙◌, sym, arith, inl, inr, refl, drop}
 use Rattle.std.proofs.lemmas.Result.{err_from_is_err_and}
-use Rattle.raw_view.specs.Envelope.{IsEnvelope}
+use Rattle.raw_view.specs.Frame.Envelope.{IsEnvelope}
 use Rattle.raw_view.specs.Meaning.{malformed}
-use Rattle.raw_view.proofs.Shapes.{scoped_had, scope_parts, says_malformed, cut_at}
+use Rattle.raw_view.proofs.Frames.Shapes.{scoped_had, scope_parts, says_malformed, cut_at}
 use Rattle.raw_view.proofs.value.code_with_scope_of.Goals as goal
 
 pub returns-in_err-code-clause-fault : goal.returns-in_err-code-clause-fault

@@ -1,7 +1,7 @@
 use Rattle.std.proofs.Common.{◌≡◌, ◌++◌, sym, arith}
 use Rattle.std.proofs.lemmas.List.{take-append-drop}
 use Rattle.std.proofs.lemmas.Result.{err_from_is_err_and}
-use Rattle.raw_view.proofs.Shapes.{pointer_no_text, pointer_len}
+use Rattle.raw_view.proofs.Frames.Shapes.{pointer_no_text, pointer_len}
 use Rattle.raw_view.proofs.value.db_pointer_of.Goals as goal
 
 pub returns-in_err-namespace-clause-fault : goal.returns-in_err-namespace-clause-fault

@@ -2,8 +2,8 @@ use Rattle.std.proofs.Common.{◌≡◌, ◌-◌, ◌++◌, ◌∙◌, take, dro
 use Rattle.std.proofs.lemmas.Int.{ints}
 use Rattle.std.proofs.lemmas.List.{take_all, take-append-drop}
 use Rattle.raw_view.specs.Meaning.{malformed_at}
-use Rattle.raw_view.specs.Number.{IsLe32}
-use Rattle.raw_view.proofs.Numbers.{length_fits}
+use Rattle.raw_view.specs.Frame.Number.{IsLe32}
+use Rattle.raw_view.proofs.Bytes.Numbers.{length_fits}
 use Rattle.raw_view.proofs.value.inner_bytes.Goals as goal
 
 pub returns-then-outer-lt4-clause-fault : goal.returns-then-outer-lt4-clause-fault

@@ -1,5 +1,5 @@
 use Rattle.std.proofs.Common.{◌≡◌, ◌++◌, ◌∷◌, [], ap, ◌∙◌}
-use Rattle.raw_view.proofs.Shapes.{no_pattern_fault, no_options_fault, regex_ends}
+use Rattle.raw_view.proofs.Frames.Shapes.{no_pattern_fault, no_options_fault, regex_ends}
 use Rattle.raw_view.proofs.value.regex_of.Goals as goal
 
 pub unreachable-requires : goal.unreachable-requires

@@ -1,6 +1,6 @@
 use Rattle.std.proofs.Common.{◌≡◌, ◌∙◌, refl}
 use Rattle.raw_view.specs.Meaning.{not_text}
-use Rattle.raw_view.proofs.Shapes.{string_cut}
+use Rattle.raw_view.proofs.Frames.Shapes.{string_cut}
 use Rattle.raw_view.proofs.value.text_of.Goals as goal
 
 pub returns-in-Ok-clause-text : goal.returns-in-Ok-clause-text

@@ -1,6 +1,6 @@
 use Rattle.std.proofs.Common.{◌≡◌, ◌++◌, sym}
 use Rattle.std.proofs.lemmas.List.{take-append-drop}
-use Rattle.raw_view.proofs.Payloads.{timestamp_found}
+use Rattle.raw_view.proofs.Frames.Payloads.{timestamp_found}
 use Rattle.raw_view.proofs.value.timestamp_of.Goals as goal
 
 pub returns : goal.returns

@@ -1,7 +1,7 @@
 use Rattle.std.proofs.Common.{refl, Result, Ok, Err, IfOk, IfErr}
 use Rattle.raw_view.specs.Errors.{IsOutOfMemory}
 use Rattle.raw_view.specs.Meaning.{RawValue, value}
-use Rattle.raw_view.specs.Value.{value_of}
+use Rattle.raw_view.specs.Meaning.Value.{value_of}
 use Rattle.raw_view.specs.declared.error.Error.{Error}
 use Rattle.raw_bson.specs.Copies.{IsCopy, CopiesMeaning}
 use Rattle.raw_bson.specs.declared.bson.RawBson.{RawBson}

@@ -1,10 +1,10 @@
 use Rattle.std.proofs.Common.{◌≡◌, List, ℕ, Option, Result, None, Some, Ok, arith, refl, subst}
-use Rattle.raw_view.specs.ElementSteps.{frame_of}
-use Rattle.raw_view.specs.Front.{StepsFront}
+use Rattle.raw_view.specs.Frame.ElementSteps.{frame_of}
+use Rattle.raw_view.specs.Frame.Front.{StepsFront}
 use Rattle.raw_view.specs.Meaning.{faulty}
 use Rattle.raw_view.specs.declared.element.RawElement.{RawElement}
 use Rattle.raw_view.specs.declared.error.BorrowedError.{BorrowedError}
-use Rattle.raw_view.specs.Value.{value_of}
+use Rattle.raw_view.specs.Meaning.Value.{value_of}
 use Rattle.raw_tree.specs.Breaches.{keys_of_frames}
 use Rattle.raw_tree.specs.Reading.{Sort}
 use Rattle.raw_tree.specs.Validating.{IsJudged, TellsKey, JudgesValue}

@@ -1,12 +1,12 @@
 use Rattle.std.proofs.Common.{refl, Option, List, ℕ, Some, None, Ok, Err, subst}
 use Rattle.std.specs.Iterator.{SkipsThenYields}
-use Rattle.raw_view.specs.Front.{StepsFront}
+use Rattle.raw_view.specs.Frame.Front.{StepsFront}
 use Rattle.raw_view.specs.Meaning.{faulty}
-use Rattle.raw_view.specs.Value.{array_bytes_of}
-use Rattle.raw_view.proofs.Iteration.{told_fault}
-use Rattle.raw_view.proofs.LookUps.{found_value, found_fault}
-use Rattle.raw_view.proofs.Places.{nth_none, nth_element, nth_stop}
-use Rattle.raw_view.proofs.UniqueItems.{the_answer_at}
+use Rattle.raw_view.specs.Meaning.Value.{array_bytes_of}
+use Rattle.raw_view.proofs.Frames.Iteration.{told_fault}
+use Rattle.raw_view.proofs.LookUps.ByKey.{found_value, found_fault}
+use Rattle.raw_view.proofs.LookUps.ByNumber.{nth_none, nth_element, nth_stop}
+use Rattle.raw_view.proofs.Unique.Items.{the_answer_at}
 use Rattle.raw_view.proofs.array.RawArray.get.Goals as goal
 
 pub returns-in-None-clause-found : goal.returns-in-None-clause-found

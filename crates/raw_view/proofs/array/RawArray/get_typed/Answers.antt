@@ -1,4 +1,4 @@
-use Rattle.raw_view.proofs.Accessed.{gets}
+use Rattle.raw_view.proofs.LookUps.Accessed.{gets}
 use Rattle.raw_view.proofs.array.RawArray.get_typed.Goals as goal
 
 pub returns : goal.returns

@@ -1,10 +1,10 @@
 use Rattle.std.proofs.Common.{Option, List, ℕ, subst}
 use Rattle.std.specs.Iterator.{Drains}
-use Rattle.raw_view.specs.Answers.{StepsItems, TellsValue}
-use Rattle.raw_view.specs.Value.{array_bytes_of}
-use Rattle.raw_view.proofs.ItemSteps.{items_of}
-use Rattle.raw_view.proofs.Meanings.{has_items}
-use Rattle.raw_view.proofs.UniqueItems.{the_items}
+use Rattle.raw_view.specs.Errors.Answers.{StepsItems, TellsValue}
+use Rattle.raw_view.specs.Meaning.Value.{array_bytes_of}
+use Rattle.raw_view.proofs.Values.ItemSteps.{items_of}
+use Rattle.raw_view.proofs.Values.Meanings.{has_items}
+use Rattle.raw_view.proofs.Unique.Items.{the_items}
 use Rattle.raw_view.proofs.array.RawArray.iter.Goals as goal
 
 pub returns-clause-items : goal.returns-clause-items

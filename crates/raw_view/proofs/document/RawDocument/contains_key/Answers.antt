@@ -1,12 +1,12 @@
 use Rattle.std.proofs.Common.{◌≡◌, ◌≢◌, ◌++◌, ◌∷◌, [], refl}
-use Rattle.raw_view.specs.ElementSteps.{frame_of}
+use Rattle.raw_view.specs.Frame.ElementSteps.{frame_of}
 use Rattle.raw_view.specs.Document.{bytes_of}
 use Rattle.raw_view.specs.Frame.{Done}
 use Rattle.raw_view.specs.LookUp.{present, absent}
-use Rattle.raw_view.proofs.Iteration.{step_none, step_ok, step_stop}
-use Rattle.raw_view.proofs.Loops.{HasRead-more}
-use Rattle.raw_view.proofs.LookUps.{HasNoKey-more, key_present, key_stop, key_absent}
-use Rattle.raw_view.proofs.UniqueItems.{the_key_answer}
+use Rattle.raw_view.proofs.Frames.Iteration.{step_none, step_ok, step_stop}
+use Rattle.raw_view.proofs.Frames.Loops.{HasRead-more}
+use Rattle.raw_view.proofs.LookUps.ByKey.{HasNoKey-more, key_present, key_stop, key_absent}
+use Rattle.raw_view.proofs.Unique.Items.{the_key_answer}
 use Rattle.raw_view.proofs.document.RawDocument.contains_key.Goals as goal
 
 pub returns-in-Err-clause-found : goal.returns-in-Err-clause-found

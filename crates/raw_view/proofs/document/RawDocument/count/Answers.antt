@@ -1,10 +1,10 @@
 use Rattle.std.proofs.Common.{◌++◌, ◌∷◌, [], drop, take, length, arith, length-append, length-drop}
-use Rattle.raw_view.specs.ElementSteps.{frame_of}
+use Rattle.raw_view.specs.Frame.ElementSteps.{frame_of}
 use Rattle.raw_view.specs.Document.{bytes_of}
-use Rattle.raw_view.proofs.Iteration.{step_none, step_ok}
-use Rattle.raw_view.proofs.Loops.{HasRead-more, HasRead-end, HasRead-bound}
-use Rattle.raw_view.proofs.Numbers.{length_fits}
-use Rattle.raw_view.proofs.ElementLookUps.{stopped_walk}
+use Rattle.raw_view.proofs.Frames.Iteration.{step_none, step_ok}
+use Rattle.raw_view.proofs.Frames.Loops.{HasRead-more, HasRead-end, HasRead-bound}
+use Rattle.raw_view.proofs.Bytes.Numbers.{length_fits}
+use Rattle.raw_view.proofs.LookUps.Elements.{stopped_walk}
 use Rattle.raw_view.proofs.document.RawDocument.count.Goals as goal
 
 pub returns-in-Err-clause-count : goal.returns-in-Err-clause-count

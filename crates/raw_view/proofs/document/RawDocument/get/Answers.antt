@@ -1,10 +1,10 @@
 use Rattle.std.proofs.Common.{◌≡◌, ◌≢◌, ◌++◌, ◌∷◌, [], Some, None, refl}
-use Rattle.raw_view.specs.ElementSteps.{frame_of}
+use Rattle.raw_view.specs.Frame.ElementSteps.{frame_of}
 use Rattle.raw_view.specs.Document.{bytes_of}
-use Rattle.raw_view.proofs.Iteration.{step_none, step_ok, step_stop}
-use Rattle.raw_view.proofs.Loops.{HasRead-more}
-use Rattle.raw_view.proofs.LookUps.{HasNoKey-more, found_frame, found_stop, found_none, found_value, found_fault}
-use Rattle.raw_view.proofs.UniqueItems.{the_answer}
+use Rattle.raw_view.proofs.Frames.Iteration.{step_none, step_ok, step_stop}
+use Rattle.raw_view.proofs.Frames.Loops.{HasRead-more}
+use Rattle.raw_view.proofs.LookUps.ByKey.{HasNoKey-more, found_frame, found_stop, found_none, found_value, found_fault}
+use Rattle.raw_view.proofs.Unique.Items.{the_answer}
 use Rattle.raw_view.proofs.document.RawDocument.get.Goals as goal
 
 pub returns-in-Err-clause-found : goal.returns-in-Err-clause-found

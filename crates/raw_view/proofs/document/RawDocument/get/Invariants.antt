@@ -1,6 +1,6 @@
 use Rattle.std.proofs.Common.{List, drop}
 use Rattle.raw_view.specs.Frame.{Frame}
-use Rattle.raw_view.specs.ElementSteps.{HasRead}
+use Rattle.raw_view.specs.Frame.ElementSteps.{HasRead}
 use Rattle.raw_view.specs.LookUp.{HasNoKey}
 use Rattle.raw_view.specs.Document.{bytes_of}
 use Rattle.raw_view.proofs.document.RawDocument.get.Given as goal

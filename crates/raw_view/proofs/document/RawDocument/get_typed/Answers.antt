@@ -1,4 +1,4 @@
-use Rattle.raw_view.proofs.Accessed.{gets}
+use Rattle.raw_view.proofs.LookUps.Accessed.{gets}
 use Rattle.raw_view.proofs.document.RawDocument.get_typed.Goals as goal
 
 pub returns : goal.returns

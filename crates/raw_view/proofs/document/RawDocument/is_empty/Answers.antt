@@ -1,7 +1,7 @@
 use Rattle.std.proofs.Common.{ap, length}
 use Rattle.std.proofs.lemmas.Bool.{eq-eqb, eqb-true}
 use Rattle.raw_view.specs.Document.{bytes_of}
-use Rattle.raw_view.proofs.ItemSteps.{five_is_empty, empty_is_five}
+use Rattle.raw_view.proofs.Values.ItemSteps.{five_is_empty, empty_is_five}
 use Rattle.raw_view.proofs.document.RawDocument.is_empty.Goals as goal
 
 pub returns-clause-no_item : goal.returns-clause-no_item

@@ -1,10 +1,10 @@
 use Rattle.std.proofs.Common.{Option, List, ℕ, subst}
 use Rattle.std.specs.Iterator.{Drains}
-use Rattle.raw_view.specs.Answers.{StepsItems, TellsItem}
+use Rattle.raw_view.specs.Errors.Answers.{StepsItems, TellsItem}
 use Rattle.raw_view.specs.Document.{bytes_of}
-use Rattle.raw_view.proofs.ItemSteps.{items_of}
-use Rattle.raw_view.proofs.Meanings.{has_items}
-use Rattle.raw_view.proofs.UniqueItems.{the_items}
+use Rattle.raw_view.proofs.Values.ItemSteps.{items_of}
+use Rattle.raw_view.proofs.Values.Meanings.{has_items}
+use Rattle.raw_view.proofs.Unique.Items.{the_items}
 use Rattle.raw_view.proofs.document.RawDocument.iter.Goals as goal
 
 pub returns-clause-items : goal.returns-clause-items

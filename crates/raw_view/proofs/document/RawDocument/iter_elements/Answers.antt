@@ -1,9 +1,9 @@
 use Rattle.std.proofs.Common.{Option, List, ℕ, subst}
 use Rattle.std.specs.Iterator.{Drains}
-use Rattle.raw_view.specs.ElementSteps.{StepsElement}
-use Rattle.raw_view.proofs.Iteration.{walk_of}
-use Rattle.raw_view.proofs.Unique.{one_frame, the_walk}
-use Rattle.raw_view.proofs.Walks.{document_has_walk}
+use Rattle.raw_view.specs.Frame.ElementSteps.{StepsElement}
+use Rattle.raw_view.proofs.Frames.Iteration.{walk_of}
+use Rattle.raw_view.proofs.Unique.Walks.{one_frame, the_walk}
+use Rattle.raw_view.proofs.Frames.Walks.{document_has_walk}
 use Rattle.raw_view.proofs.document.RawDocument.iter_elements.Goals as goal
 
 pub returns-clause-walk : goal.returns-clause-walk

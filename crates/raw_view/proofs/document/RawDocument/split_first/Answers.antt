@@ -1,8 +1,8 @@
 use Rattle.std.proofs.Common.{◌-◌, arith}
 use Rattle.std.proofs.lemmas.Option.{get_or_from_slice_get}
 use Rattle.raw_view.specs.declared.first_document.NoDocument.TheVariants as no
-use Rattle.raw_view.proofs.FirstDocuments.{refused_none, one_first}
-use Rattle.raw_view.proofs.Payloads.{document_found}
+use Rattle.raw_view.proofs.Frames.FirstDocuments.{refused_none, one_first}
+use Rattle.raw_view.proofs.Frames.Payloads.{document_found}
 use Rattle.raw_view.proofs.document.RawDocument.split_first.Goals as goal
 
 pub framed-requires : goal.framed-requires

@@ -1,5 +1,5 @@
 use Rattle.std.proofs.Common.{lit<}
-use Rattle.raw_view.proofs.Shapes.{document_had, double_had, object_id_had, int32_had, decimal128_had}
+use Rattle.raw_view.proofs.Frames.Shapes.{document_had, double_had, object_id_had, int32_had, decimal128_had}
 use Rattle.raw_view.proofs.element.RawElement.faultless_value.Goals as goal
 
 pub framed-requires : goal.framed-requires

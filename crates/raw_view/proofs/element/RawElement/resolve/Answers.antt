@@ -1,5 +1,5 @@
 use Rattle.std.proofs.lemmas.Result.{err_from_is_err_and}
-use Rattle.raw_view.proofs.Shapes.{text_had, binary_had, pointer_had, boolean_had}
+use Rattle.raw_view.proofs.Frames.Shapes.{text_had, binary_had, pointer_had, boolean_had}
 use Rattle.raw_view.proofs.element.RawElement.resolve.Goals as goal
 
 pub text_of-requires : goal.text_of-requires

@@ -1,8 +1,8 @@
 use Rattle.std.proofs.Common.{refl}
 use Rattle.raw_view.specs.Meaning.{value, faulty}
-use Rattle.raw_view.specs.Value.{value_of}
-use Rattle.raw_view.proofs.Iteration.{told_fault}
-use Rattle.raw_view.proofs.UniqueMeanings.{the_meaning}
+use Rattle.raw_view.specs.Meaning.Value.{value_of}
+use Rattle.raw_view.proofs.Frames.Iteration.{told_fault}
+use Rattle.raw_view.proofs.Unique.Meanings.{the_meaning}
 use Rattle.raw_view.proofs.element.RawElement.value.Goals as goal
 
 pub returns-in-Ok-clause-meaning : goal.returns-in-Ok-clause-meaning

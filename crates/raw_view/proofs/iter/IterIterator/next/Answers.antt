@@ -1,6 +1,6 @@
 use Rattle.std.proofs.Common.{subst, Option, List, ℕ, Some, None, Err}
-use Rattle.raw_view.specs.Answers.{StepsItems, TellsItem}
-use Rattle.raw_view.proofs.ItemSteps.{item_none, item_ok, item_stop}
+use Rattle.raw_view.specs.Errors.Answers.{StepsItems, TellsItem}
+use Rattle.raw_view.proofs.Values.ItemSteps.{item_none, item_ok, item_stop}
 use Rattle.raw_view.proofs.iter.IterIterator.next.Goals as goal
 use Rattle.raw_view.proofs.iter.IterIterator.next.Goals.{in-None, in-Some-Ok, in-Some-Err}
 

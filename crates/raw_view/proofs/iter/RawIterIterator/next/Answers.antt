@@ -1,6 +1,6 @@
 use Rattle.std.proofs.Common.{subst, Option, List, ℕ, Some, None, Ok, Err}
-use Rattle.raw_view.specs.ElementSteps.{StepsElement}
-use Rattle.raw_view.proofs.Iteration.{step_none, step_ok, step_stop}
+use Rattle.raw_view.specs.Frame.ElementSteps.{StepsElement}
+use Rattle.raw_view.proofs.Frames.Iteration.{step_none, step_ok, step_stop}
 use Rattle.raw_view.proofs.iter.RawIterIterator.next.Goals as goal
 use Rattle.raw_view.proofs.iter.RawIterIterator.next.Goals.{in-None, in-Some-Ok, in-Some-Err}
 

@@ -1,0 +1,91 @@
+-- A look-up by position along a walk.
+use Rattle.std.proofs.Common.{◌≡◌, ◌≤◌, ◌<◌, ◌+◌, ℕ, suc, List, [], ◌∷◌, length, subst, refl, Option, Some, None, Result, Ok, Err, inl, inr, ◌⊎◌, sym, ap, ◌∙◌, arith}
+use Rattle.std.specs.Iterator.{Yields, SkipsThenYields}
+use Rattle.std.specs.Option.{option_copied}
+use Rattle.raw_view.specs.declared.element.RawElement.{RawElement}
+use Rattle.raw_view.specs.declared.error.ErrorKind.{ErrorKind}
+use Rattle.raw_view.specs.declared.error.ErrorKind.TheVariants as what
+use Rattle.raw_view.specs.declared.error.BorrowedError.{BorrowedError}
+use Rattle.raw_view.specs.Frame.{Frame, IsFrame, LeadsTo, Fault, IsStop, EndsIn, End, Done, Stopped, Malformed, Utf8}
+use Rattle.raw_view.specs.Meaning.{Meaning, Means, faulty, KeyedFault}
+use Rattle.raw_view.specs.Frame.ElementSteps.{frame_of}
+use Rattle.raw_view.specs.Frame.Front.{StepsFront, StopsWith, SaysFault, TellsBorrowed}
+use Rattle.raw_view.specs.LookUp.{IsAny, Finds, FindsNothing}
+
+abbrev Step : Type 0
+Step = Result RawElement BorrowedError
+
+-- what was passed: frames that lead to what is left; or all of the walk, and the stop
+abbrev Passed : List ℕ → List Step → Option (List ℕ) → Type 0
+Passed s xs None = (fs : List Frame) × (q : List ℕ) × (end : End) × LeadsTo s fs q × EndsIn q end × (length xs ≡ length fs + 1)
+Passed s xs (Some q) = (fs : List Frame) × LeadsTo s fs q × (length xs ≡ length fs)
+
+-- a stop with the key that the error borrows
+pub stop_said : (k : ErrorKind) (key : Option (List ℕ)) (s : List ℕ) → StopsWith k key s → (fault : Fault) × SaysFault k fault × IsStop s fault key
+stop_said (what.MalformedValue r) key s h = (Malformed, refl, h)
+stop_said (what.Utf8EncodingError u) key s h = (Utf8, refl, h)
+stop_said what.OutOfMemory key s h = absurd h
+
+none_after : (xs : List Step) (t : Option (List ℕ)) → Yields StepsFront None xs t → (xs ≡ []) × (t ≡ None)
+none_after [] t y = (refl, sym y)
+none_after (x ∷ xs) t y = let bad : Some x ≡ None = y.1.0 in cc
+
+one_more : (s : List ℕ) (f : Frame) (r : List ℕ) (xs : List Step) (x : Step) (t : Option (List ℕ)) → IsFrame s f r → Passed r xs t → Passed s (x ∷ xs) t
+one_more s f r xs x None b p = (f ∷ p.0, p.1, p.2, (r, b, p.3), p.4, ap suc p.5 ∙ omega arith)
+one_more s f r xs x (Some q) b p = (f ∷ p.0, (r, b, p.1), ap suc p.2)
+
+passed_of : (s : List ℕ) (xs : List Step) (t : Option (List ℕ)) → Yields StepsFront (Some s) xs t → Passed s xs t
+passed_of s [] t y = subst (Passed s []) y ([], refl, refl)
+passed_of s (Ok e ∷ xs) t y =
+    let st = y.1 in
+    one_more s (frame_of e) st.0 xs (Ok e) t st.1 (passed_of st.0 xs t (subst (λ (x : Option (List ℕ)). Yields StepsFront x xs t) st.2 y.2))
+passed_of s (Err b ∷ xs) t y =
+    let st = y.1 in
+    let none = none_after xs t (subst (λ (x : Option (List ℕ)). Yields StepsFront x xs t) st.1 y.2) in
+    let said = stop_said b.kind (option_copied b.key) s st.0 in
+    let len : length (Err b ∷ xs) ≡ 1 = ap (λ (zs : List Step). suc (length zs)) none.0 in
+    subst (Passed s (Err b ∷ xs)) (sym none.1) ([], s, Stopped said.0 (option_copied b.key), refl, said.2, len)
+
+-- where a look-up from s by position arrives
+abbrev pub Arrives : List ℕ → ℕ → Option Meaning → Type 0
+Arrives start index found = (passed : List Frame) × (s : List ℕ) × LeadsTo start passed s × (((length passed ≡ index) × Finds IsAny s found) ⊎ ((length passed < index) × FindsNothing s found))
+
+le_cases : (m n : ℕ) → m ≤ n → (m ≡ n) ⊎ (m < n)
+le_cases m n h = grind arith
+
+-- at the final 0
+at_none : (s q : List ℕ) (index : ℕ) (fs : List Frame) → LeadsTo s fs q → q ≡ 0 ∷ [] → length fs ≤ index → Arrives s index None
+at_none s q index fs l e h =
+    elim (le_cases (length fs) index h) [
+      | inl here ↦ (fs, q, l, inl (here, inr (Done, e, refl)))
+      | inr past ↦ (fs, q, l, inr (past, (Done, e, refl)))
+    ]
+
+none_from : (s : List ℕ) (xs : List Step) (t : Option (List ℕ)) (index : ℕ) (u : Option (List ℕ)) → Passed s xs t → StepsFront t None u → length xs ≤ index → Arrives s index None
+none_from s xs None index u p st l = (p.0, p.1, p.3, inr (omega (arith, p.5), (p.2, p.4, refl)))
+none_from s xs (Some q) index u p st l = at_none s q index p.0 p.1 st.0 (omega (arith, p.2))
+
+pub nth_none : (s : List ℕ) (index : ℕ) (u : Option (List ℕ)) → SkipsThenYields StepsFront (Some s) index None u → Arrives s index None
+nth_none s index u h = none_from s h.0 h.1.0 index u (passed_of s h.0 h.1.0 h.1.1) h.1.2 h.2
+
+element_from : (s : List ℕ) (xs : List Step) (t : Option (List ℕ)) (index : ℕ) (e : RawElement) (u : Option (List ℕ)) → Passed s xs t
+    → StepsFront t (Some (Ok e)) u → length xs ≡ index → (m : Meaning) → Means (frame_of e) m → Arrives s index (Some m)
+element_from s xs None index e u p st l m means = let bad : ◌≡◌ {A = Option Step} (Some (Ok e)) None = st.0 in cc
+element_from s xs (Some q) index e u p st l m means = (p.0, q, p.1, inl (sym p.2 ∙ l, inl (frame_of e, st.0, m, st.1, tt, means, refl)))
+
+-- the element of that number
+pub nth_element : (s : List ℕ) (index : ℕ) (e : RawElement) (u : Option (List ℕ)) → SkipsThenYields StepsFront (Some s) index (Some (Ok e)) u → (m : Meaning)
+    → Means (frame_of e) m → Arrives s index (Some m)
+nth_element s index e u h m means = element_from s h.0 h.1.0 index e u (passed_of s h.0 h.1.0 h.1.1) h.1.2 h.2 m means
+
+stop_from : (s : List ℕ) (xs : List Step) (t : Option (List ℕ)) (index : ℕ) (b : BorrowedError) (u : Option (List ℕ)) → Passed s xs t
+    → StepsFront t (Some (Err b)) u → length xs ≡ index → (fault : KeyedFault) × TellsBorrowed b fault × Arrives s index (Some (faulty fault))
+stop_from s xs None index b u p st l = let bad : ◌≡◌ {A = Option Step} (Some (Err b)) None = st.0 in cc
+stop_from s xs (Some q) index b u p st l =
+    let said = stop_said b.kind (option_copied b.key) q st.0 in
+    (record { fault = said.0; key = option_copied b.key }, record { says = said.1; key_is = refl }, (p.0, q, p.1, inl (sym p.2 ∙ l, inr (Stopped said.0 (option_copied b.key), said.2, refl))))
+
+-- the stop, if it has that number
+pub nth_stop : (s : List ℕ) (index : ℕ) (b : BorrowedError) (u : Option (List ℕ)) → SkipsThenYields StepsFront (Some s) index (Some (Err b)) u
+    → (fault : KeyedFault) × TellsBorrowed b fault × Arrives s index (Some (faulty fault))
+nth_stop s index b u h = stop_from s h.0 h.1.0 index b u (passed_of s h.0 h.1.0 h.1.1) h.1.2 h.2
