@@ -67,13 +67,15 @@ try:
 except ImportError as error:
     raise SystemExit(f"dask_canonical: the package bsonraw isn't there ({error}): see docs/PYTHON.md") from None
 
-PARTITION = 16 << 20
+PARTITION = 32 << 20
+BLOCK = 1 << 20  # what is read and brought to its forms at a time, so that it stays in a processor's cache
+AT_ONCE = 256 << 10
 BUCKETS = 16
-bytes(31 << 20)  # glibc keeps freed memory of the size that it has seen: else that of each partition is mapped and cleared anew
+bytes(4 * BLOCK)  # glibc keeps freed memory of the size that it has seen: else that of each block is mapped and cleared anew
 
 Fault = Tuple[int, str]
 Formed = Tuple[bsonraw.Forms, List[Fault]]
-"""The canonical forms of a partition, and its faults."""
+"""The canonical forms of a block, and its faults."""
 
 
 class Dump(NamedTuple):
@@ -84,13 +86,18 @@ class Dump(NamedTuple):
 
 
 class Part(NamedTuple):
-    """A partition: documents of a dump from one offset to another."""
+    """A partition: documents of a dump, in blocks."""
 
     dump: Dump
-    start: int
-    end: int
+    ends: Tuple[int, ...]
+    """where its blocks begin, and the last one ends"""
     files: str
     """what the names of its own files begin with"""
+
+    @property
+    def behind(self) -> int:
+        """Where its own forms are said to begin: behind the dump, and not right behind it, so that no run is of both files."""
+        return self.dump.size + 1
 
 
 class Count(NamedTuple):
@@ -126,11 +133,11 @@ def said(error: bsonraw.BsonError) -> str:
     return f"{error.kind.name}: {error}"
 
 
-def cut(path: str, size: int) -> Tuple[List[Tuple[int, int]], Optional[Fault]]:
-    """The partitions of a dump, each of so many bytes or a little more, and why the dump ends before its file does."""
+def cut(path: str, size: int) -> Tuple[List[int], Optional[Fault]]:
+    """Where the blocks of a dump begin and the last one ends, each of so many bytes or a little more, and why that is before the
+    end of its file."""
     ends, error = bsonraw.partitions(mapped(path), size)
-    fault = None if error is None else (ends[-1], f"{said(error)}; the rest isn't read")
-    return list(zip(ends, ends[1:])), fault
+    return ends, None if error is None else (ends[-1], f"{said(error)}; the rest isn't read")
 
 
 def digest(form: Union[bytes, memoryview]) -> bytes:
@@ -138,7 +145,7 @@ def digest(form: Union[bytes, memoryview]) -> bytes:
 
 
 def formed(path: str, start: int, end: int) -> Formed:
-    """The forms of a partition. While they are made, another thread may run."""
+    """The forms of a block. While they are made, another thread may run."""
     with open(path, "rb") as file:
         file.seek(start)
         forms = bsonraw.canonical_all(file.read(end - start), before=start)
@@ -149,66 +156,81 @@ def formed(path: str, start: int, end: int) -> Formed:
 def written(path: str) -> Iterator[BinaryIO]:
     """A new file, which has its name once it is whole."""
     unfinished = f"{path}.{uuid.uuid4().hex}"
-    with open(unfinished, "wb") as out:
+    with open(unfinished, "wb", buffering=AT_ONCE) as out:
         yield out
     os.replace(unfinished, path)
 
 
-def numbers_in(path: str, start: int, count: int) -> "array[int]":
-    """So many numbers of 64 bits of a file of these."""
-    numbers = array("Q")
-    with open(path, "rb") as file:
-        file.seek(start * numbers.itemsize)
-        numbers.fromfile(file, count)
-    return numbers
+def bucketed(hashes: Iterable[int]) -> List[Tuple["array[int]", "array[int]"]]:
+    """The numbers of the hashes of each bucket, and the hashes."""
+    buckets = [(array("Q"), array("Q")) for _ in range(BUCKETS)]
+    for number, mark in enumerate(hashes):
+        numbers, marks = buckets[mark % BUCKETS]
+        numbers.append(number)
+        marks.append(mark)
+    return buckets
 
 
 def canonise(part: Part) -> Count:
     """Writes those forms of a partition that aren't in its dump, and where each form lies; then the forms' numbers and hashes by
     bucket."""
-    forms, faults = formed(part.dump.path, part.start, part.end)
-    offsets = array("Q", bytes(forms.starts))
-    sizes = array("Q", map(sub, forms.ends, chain((0,), forms.ends)))
-    end = part.dump.size
+    offsets, sizes, hashes = array("Q"), array("Q"), array("Q")
+    faults: List[Fault] = []
+    canonical = 0
+    end = part.behind
     with written(f"{part.files}.forms") as out:
-        for number, is_own in enumerate(forms.own):
-            if not is_own:
-                offsets[number] = end
-                end += out.write(forms.data[forms.ends[number] - sizes[number] : forms.ends[number]])
-    buckets = [(array("Q"), array("Q")) for _ in range(BUCKETS)]
-    for number, mark in enumerate(forms.hashes):
-        numbers, marks = buckets[mark % BUCKETS]
-        numbers.append(number)
-        marks.append(mark)
+        for block in zip(part.ends, part.ends[1:]):
+            forms, wrong = formed(part.dump.path, *block)
+            ends = forms.ends.tolist()
+            starts = [0, *ends]
+            own = bytes(forms.own)
+            first = len(offsets)
+            offsets.frombytes(bytes(forms.starts))
+            sizes.extend(map(sub, ends, starts))
+            hashes.frombytes(bytes(forms.hashes))
+            faults += wrong
+            canonical += forms.canonical
+            number = own.find(0)
+            while number >= 0:
+                offsets[first + number] = end
+                end += out.write(forms.data[starts[number] : ends[number]])
+                number = own.find(0, number + 1)
+    buckets = bucketed(hashes)
     with written(f"{part.files}.index") as out:
         for column in (offsets, sizes, *chain.from_iterable(buckets)):
             column.tofile(out)
     counts = [len(numbers) for numbers, _ in buckets]
-    return Count(len(offsets) + len(faults), forms.canonical, len(forms.data), counts, faults)
+    return Count(len(offsets) + len(faults), canonical, sum(sizes), counts, faults)
 
 
-def places_of(part: Part, count: Count) -> Tuple["array[int]", "array[int]"]:
+def numbers_of(part: Part) -> memoryview:
+    """The numbers in the index of a partition."""
+    return memoryview(mapped(f"{part.files}.index")).cast("Q")
+
+
+def places_of(part: Part, count: Count) -> Tuple[memoryview, memoryview]:
     """Where each form of a partition lies, and how long it is."""
-    index, total = f"{part.files}.index", sum(count.buckets)
-    return numbers_in(index, 0, total), numbers_in(index, total, total)
+    numbers, total = numbers_of(part), sum(count.buckets)
+    return numbers[:total], numbers[total : 2 * total]
 
 
-def bucket_of(part: Part, count: Count, bucket: int) -> Tuple["array[int]", "array[int]"]:
+def bucket_of(part: Part, count: Count, bucket: int) -> Tuple[memoryview, memoryview]:
     """The numbers of those forms of a partition that are in a bucket, and their hashes."""
-    index, size = f"{part.files}.index", count.buckets[bucket]
+    numbers, size = numbers_of(part), count.buckets[bucket]
     start = 2 * sum(count.buckets) + 2 * sum(count.buckets[:bucket])
-    return numbers_in(index, start, size), numbers_in(index, start + size, size)
+    return numbers[start : start + size], numbers[start + size : start + 2 * size]
 
 
-@contextmanager
-def opened(part: Part) -> Iterator[Callable[[int], Tuple[int, int]]]:
-    """Finds the file where a form lies, and the place in it: in the dump, or behind the dump's end in the partition's own file."""
-    with open(part.dump.path, "rb") as dump, open(f"{part.files}.forms", "rb") as own:
+def reader_of(part: Part) -> Callable[[int, int], memoryview]:
+    """Gives the bytes of forms side by side: of the dump, or, behind the dump's end, of the partition's own file."""
+    dump, own, behind = memoryview(mapped(part.dump.path)), memoryview(mapped(f"{part.files}.forms")), part.behind
+    if len(dump) < part.dump.size:
+        raise OSError(errno.EIO, "it became shorter meanwhile", part.dump.path)
 
-        def find(offset: int) -> Tuple[int, int]:
-            return (dump.fileno(), offset) if offset < part.dump.size else (own.fileno(), offset - part.dump.size)
+    def read(start: int, end: int) -> memoryview:
+        return dump[start:end] if start < behind else own[start - behind : end - behind]
 
-        yield find
+    return read
 
 
 def find_repeats(parts: Sequence[Part], counts: Sequence[Count], bucket: int) -> List[Repeats]:
@@ -220,15 +242,14 @@ def find_repeats(parts: Sequence[Part], counts: Sequence[Count], bucket: int) ->
     for part, count, (numbers, marks) in zip(parts, counts, columns):
         repeats, size = array("Q"), 0
         offsets, sizes = places_of(part, count)
-        with opened(part) as find:
-            for number, mark in zip(numbers, marks):
-                if hashes[mark] > 1:
-                    file, place = find(offsets[number])
-                    form = digest(os.pread(file, sizes[number], place))
-                    if form in seen:
-                        repeats.append(number)
-                        size += sizes[number]
-                    seen.add(form)
+        read = reader_of(part)
+        for number, mark in zip(numbers, marks):
+            if hashes[mark] > 1:
+                form = digest(read(offsets[number], offsets[number] + sizes[number]))
+                if form in seen:
+                    repeats.append(number)
+                    size += sizes[number]
+                seen.add(form)
         found.append(Repeats(repeats, size))
     return found
 
@@ -247,15 +268,11 @@ def kept(offsets: Iterable[int], sizes: Iterable[int], repeated: Container[int])
 
 def keep(part: Part, count: Count, repeated: Iterable[int], result: str, offset: int) -> None:
     """Writes the forms of a partition but for repeated ones to their place in the result."""
-    with opened(part) as find, open(result, "r+b", buffering=0) as out:
+    read = reader_of(part)
+    with open(result, "r+b", buffering=AT_ONCE) as out:
         out.seek(offset)
         for start, end in kept(*places_of(part, count), set(repeated)):
-            while start < end:
-                file, place = find(start)
-                sent = os.sendfile(out.fileno(), file, place, end - start)
-                if sent == 0:
-                    raise OSError(errno.EIO, "it became shorter meanwhile", part.dump.path)
-                start += sent
+            out.write(read(start, end))
 
 
 # ---- the whole run ---------------------------------------------------------------------------------------------------
@@ -387,29 +404,29 @@ class Written:
         return repeated
 
 
-def in_order(pool: ThreadPoolExecutor, parts: Sequence[Tuple[str, int, int]], ahead: int) -> Iterator[Formed]:
-    """The forms of partitions in their order, of which so many are made ahead."""
+def in_order(pool: ThreadPoolExecutor, blocks: Sequence[Tuple[str, int, int]], ahead: int) -> Iterator[Formed]:
+    """The forms of blocks in their order, of which so many are made ahead."""
     tasks: Deque["Future[Formed]"] = deque()
-    for part in parts:
-        tasks.append(pool.submit(formed, *part))
+    for block in blocks:
+        tasks.append(pool.submit(formed, *block))
         if len(tasks) > ahead:
             yield tasks.popleft().result()
     while tasks:
         yield tasks.popleft().result()
 
 
-def run_alone(dumps: Sequence[Dump], folder: Path, threads: int = 1, partition: int = PARTITION) -> Report:
-    """All in this process: threads bring partitions to their forms, and this one writes them in order."""
+def run_alone(dumps: Sequence[Dump], folder: Path, threads: int = 1, block: int = BLOCK) -> Report:
+    """All in this process: threads bring blocks to their forms, and this one writes them in order."""
     work = prepare(dumps, folder)
     progress = Progress("bytes", sum(dump.size for dump in dumps))
     written = Written()
     report = Report()
     with ThreadPoolExecutor(threads) as pool:
         for dump in dumps:
-            ends, last = cut(dump.path, partition)
-            parts = [(dump.path, start, end) for start, end in ends]
+            ends, last = cut(dump.path, block)
+            blocks = [(dump.path, start, end) for start, end in zip(ends, ends[1:])]
             written.begin(work / "result" / dump.name)
-            for (forms, faults), (start, end) in zip(in_order(pool, parts, threads), ends):
+            for (forms, faults), (_, start, end) in zip(in_order(pool, blocks, threads), blocks):
                 report.add(dump, len(forms.ends) + len(faults), forms.canonical, faults)
                 report.repeated += written.add(forms)
                 progress.add(end - start)
@@ -424,6 +441,15 @@ def engine() -> Any:
     except ImportError as error:
         raise SystemExit(f"dask_canonical: Dask isn't there ({error}): --workers 0 does without") from None
     return distributed
+
+
+def grouped(ends: Sequence[int], size: int) -> Iterator[Tuple[int, ...]]:
+    """The blocks of each partition of so many bytes or a little more."""
+    first = 0
+    for last in range(1, len(ends)):
+        if ends[last] - ends[first] >= size or last == len(ends) - 1:
+            yield tuple(ends[first : last + 1])
+            first = last
 
 
 def joined(buckets: Iterable[Repeats]) -> Repeats:
@@ -441,18 +467,18 @@ def writes_of(
     for part, count, repeated in zip(parts, counts, repeats):
         writes.append((part, count, repeated.numbers, str(folder / part.dump.name), places[part.dump]))
         places[part.dump] += count.size - repeated.size
-    return sorted(writes, key=lambda write: write[0].start)
+    return sorted(writes, key=lambda write: write[0].ends)
 
 
 def run_on(client: Any, dumps: Sequence[Dump], folder: Path, partition: int = PARTITION) -> Report:
     """On the workers of a Dask client."""
     work = prepare(dumps, folder)
     report = Report()
-    cuts = client.gather(client.map(cut, [dump.path for dump in dumps], size=partition, pure=False))
+    cuts = client.gather(client.map(cut, [dump.path for dump in dumps], size=min(partition, BLOCK), pure=False))
     parts: List[Part] = []
-    for dump, (ends, last) in zip(dumps, cuts):
-        for start, end in ends:
-            parts.append(Part(dump, start, end, str(work / "forms" / f"{len(parts):06}")))
+    for dump, (ends, _) in zip(dumps, cuts):
+        for blocks in grouped(ends, partition):
+            parts.append(Part(dump, blocks, str(work / "forms" / f"{len(parts):06}")))
 
     tasks = client.map(canonise, parts, pure=False)
     progress = Progress("partitions", len(parts))
@@ -488,7 +514,7 @@ def run_here(workers: int, dumps: Sequence[Dump], folder: Path, partition: int) 
 
 def run(options: argparse.Namespace, dumps: Sequence[Dump], folder: Path) -> Report:
     if not options.scheduler and not options.workers:
-        return run_alone(dumps, folder, max(1, options.threads), options.partition)
+        return run_alone(dumps, folder, max(1, options.threads), min(options.partition, BLOCK))
     if not options.scheduler:
         return run_here(options.workers, dumps, folder, options.partition)
     with engine().Client(options.scheduler) as client:

@@ -44,11 +44,15 @@ static uint64_t mixed(uint64_t hash, uint64_t eight) {
     return hash ^ hash >> 32;
 }
 
-/* A hash of bytes, the same on each machine. It keeps nobody from making bytes that share one. */
+/* A hash of bytes, the same on each machine, in four lanes, which a processor works on at a time. It keeps nobody from making
+   bytes that share one. */
 static uint64_t hash_of(const uint8_t *at, size_t len) {
-    uint64_t hash = len, last = 0;
-    size_t done;
-    for (done = 0; len - done >= 8; done += 8) hash = mixed(hash, (uint64_t)le_i64(at + done));
+    uint64_t lanes[4] = {1, 2, 3, 4}, hash = len, last = 0;
+    size_t done, lane;
+    for (done = 0; len - done >= 32; done += 32)
+        for (lane = 0; lane < 4; lane++) lanes[lane] = mixed(lanes[lane], (uint64_t)le_i64(at + done + 8 * lane));
+    for (lane = 0; lane < 4; lane++) hash = mixed(hash, lanes[lane]);
+    for (; len - done >= 8; done += 8) hash = mixed(hash, (uint64_t)le_i64(at + done));
     memcpy(&last, at + done, len - done);
     return mixed(hash, last);
 }

@@ -115,9 +115,9 @@ class Canonical(unittest.TestCase):
         self.assertFalse((folder / "unfinished").exists())
 
     def test_in_one_process(self) -> None:
-        for threads, partition in ((1, dask_canonical.PARTITION), (4, 20_000)):
+        for threads, block in ((1, dask_canonical.BLOCK), (4, 20_000)):
             folder = self.folder / f"alone{threads}"
-            dask_canonical.run_alone(self.dumps, folder, threads, partition)
+            dask_canonical.run_alone(self.dumps, folder, threads, block)
             self.compare(folder)
 
     def test_marks_that_many_forms_share(self) -> None:
@@ -129,7 +129,7 @@ class Canonical(unittest.TestCase):
             return forms._replace(hashes=memoryview(array("Q", (mark % 20 for mark in forms.hashes))))
 
         with patch.object(bsonraw, "canonical_all", few_hashes):
-            dask_canonical.run_alone(self.dumps, alone, partition=50_000)
+            dask_canonical.run_alone(self.dumps, alone, block=50_000)
             self.compare(alone)
             with patch.object(dask_canonical, "engine", Here):
                 dask_canonical.run_on(Here(), self.dumps, tasks, partition=50_000)
