@@ -101,9 +101,10 @@ def passed_on(text: str) -> List[str]:
 
 
 def file_of(crates: Path, crate: str, path: str) -> str:
-    """The file of specs/ that a dotted path leads into, in a folder or not; the first name's where there is none."""
+    """The file of specs/ that a dotted path leads into, in a folder or not, or that a folder's file of the first name is."""
     parts = path.split(".")
     files = [f"{crate}/specs/{'/'.join(parts[:count])}.antt" for count in range(len(parts), 0, -1)]
+    files += [str(file.relative_to(crates)) for file in (crates / crate / "specs").glob(f"*/{parts[0]}.antt")]
     return next((file for file in files if (crates / file).exists()), files[-1])
 
 

@@ -50,7 +50,7 @@ differs 's/^    \/\/\/ A view of the document with this number/    \/\/\/ The do
 differs '/^impl From<NoMemory> for AnyError/,/^}/d' raw_bson/src/any_error.rt
 differs 's/^impl std::error::Error for AnyError/impl Eq for AnyError/' raw_bson/src/any_error.rt
 differs '/^    Breach, Cause/s/Cause, //' raw_bson/src/lib.rt
-differs 's/^pub struct Limits/pub struct Bounds/' raw_tree/src/limits.rt
+differs 's/^pub struct Limits/pub struct Bounds/' raw_tree/src/reader/limits.rt
 differs '1s/^/\/\/! Another line.\n/' bson_model/src/times.rt
 
 if ! cmp -s "$work/page" "$page"; then

@@ -3,7 +3,7 @@ use Rattle.std.specs.Prelude.{◌≡◌, ◌≤◌, ℕ, List, length, Option, S
 use Rattle.bson_model.specs.Tree.{Tree}
 use Rattle.raw_form.specs.Barriers.{TellsBarrier}
 use Rattle.raw_tree.specs.WithinLimits.{ReadsWithin}
-use Rattle.raw_tree.specs.declared.limits.Limits.{Limits}
+use Rattle.raw_tree.specs.declared.reader.limits.Limits.{Limits}
 use Rattle.bson_json.specs.declared.error.ToJsonError.{ToJsonError}
 use Rattle.bson_json.specs.declared.error.ToJsonError.TheVariants as json
 use Rattle.bson_json.specs.declared.error.WriteJsonError.{WriteJsonError}

@@ -10,9 +10,9 @@ use Rattle.raw_view.specs.declared.error.ErrorKind.TheVariants as kind
 use Rattle.raw_view.specs.declared.error.Reason.{Reason}
 use Rattle.raw_view.specs.declared.error.Reason.TheVariants as reason
 use Rattle.raw_tree.specs.Breaches.{cause_text}
-use Rattle.raw_tree.specs.declared.breach.Cause.{Cause}
+use Rattle.raw_tree.specs.declared.validator.breach.Cause.{Cause}
 use Rattle.raw_tree.specs.WithinLimits.{Barrier, too_many_bytes, too_deep, fault_of, ReadsWithin}
-use Rattle.raw_tree.specs.declared.limits.Limits.{Limits}
+use Rattle.raw_tree.specs.declared.reader.limits.Limits.{Limits}
 use Rattle.raw_form.specs.Barriers.{steps_of}
 use Rattle.raw_form.specs.Places.{Step, FirstBarrierAt}
 use Rattle.raw_form.specs.declared.place.Place.{Place}

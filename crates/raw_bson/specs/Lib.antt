@@ -59,9 +59,9 @@ pub use Rattle.bson_model.specs.declared.object_id.ObjectId
 pub use Rattle.bson_model.specs.declared.regexes.Regex
 pub use Rattle.bson_model.specs.declared.times.DateTime
 pub use Rattle.bson_model.specs.declared.times.Timestamp
-pub use Rattle.raw_tree.specs.declared.breach.Breach
-pub use Rattle.raw_tree.specs.declared.breach.Cause
-pub use Rattle.raw_tree.specs.declared.limits.Limits
+pub use Rattle.raw_tree.specs.declared.validator.breach.Breach
+pub use Rattle.raw_tree.specs.declared.validator.breach.Cause
+pub use Rattle.raw_tree.specs.declared.reader.limits.Limits
 pub use Rattle.raw_view.specs.declared.access.ValueAccessError
 pub use Rattle.raw_view.specs.declared.access.ValueAccessErrorKind
 pub use Rattle.raw_view.specs.declared.array.RawArray

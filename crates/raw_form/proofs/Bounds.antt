@@ -2,7 +2,7 @@
 use Rattle.std.proofs.Common.{◌≤◌, ◌∷◌, [], inl, inr, ℕ, zero, suc, List, Some, length, arith, length-append}
 use Rattle.raw_tree.specs.Reading.{Sort, as_array, as_document}
 use Rattle.raw_tree.specs.WithinLimits.{Barrier}
-use Rattle.raw_tree.specs.declared.limits.Limits.{Limits}
+use Rattle.raw_tree.specs.declared.reader.limits.Limits.{Limits}
 use Rattle.raw_view.specs.Meaning.{Meaning, value, faulty}
 use Rattle.raw_view.specs.Meaning as raw
 use Rattle.raw_form.specs.Places.{Step, IsOffsetOf, FirstBarrierAt, FirstFaultAt}

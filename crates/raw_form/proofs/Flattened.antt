@@ -2,7 +2,7 @@
 use Rattle.std.proofs.Common.{◌≡◌, ◌∙◌, ◌≤◌, ◌++◌, ◌∷◌, [], inr, ℕ, suc, List, None, Result, Ok, Err, IfOk, IfErr, length, arith, refl, sym, subst}
 use Rattle.raw_tree.specs.Reading.{as_document, tree_of_pairs, ReadsUpTo}
 use Rattle.raw_tree.specs.WithinLimits.{Barrier, FirstBarrier}
-use Rattle.raw_tree.specs.declared.limits.Limits.{Limits}
+use Rattle.raw_tree.specs.declared.reader.limits.Limits.{Limits}
 use Rattle.raw_tree.proofs.Face.{read_within}
 use Rattle.raw_form.specs.Barriers.{IsBarrier}
 use Rattle.raw_form.specs.Flattening.{FlattensLevel, HaltsLevel}

@@ -9,7 +9,7 @@ use Rattle.raw_tree.specs.CanonicalForm.{TellsTooLong}
 use Rattle.raw_tree.specs.Reading.{as_document}
 use Rattle.raw_tree.specs.WithinLimits.{FirstBarrier, ReadsWithin, SaysBarrier}
 use Rattle.raw_tree.specs.WithinLimits as within
-use Rattle.raw_tree.specs.declared.limits.Limits.{Limits}
+use Rattle.raw_tree.specs.declared.reader.limits.Limits.{Limits}
 use Rattle.raw_tree.proofs.Face.{canonical_form, canonical_is_own_form, bytes_one_way, document_reads, read_within}
 use Rattle.raw_form.specs.Forms.{IsFormOf, RefusesFormOf}
 use Rattle.raw_form.specs.FormsWithin.{IsFormWithin, RefusesFormWithin}

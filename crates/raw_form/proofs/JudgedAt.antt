@@ -14,8 +14,8 @@ use Rattle.raw_tree.specs.OpenKeys.{AreOpenKeys, HasKeysSoFar, LeavesOpenKeys}
 use Rattle.raw_tree.specs.Reading.{Sort, as_document}
 use Rattle.raw_tree.specs.References.{texts}
 use Rattle.raw_tree.specs.Validating.{left_of}
-use Rattle.raw_tree.specs.declared.breach.Cause.{Cause}
-use Rattle.raw_tree.specs.declared.keys_so_far.KeysSoFar.{KeysSoFar}
+use Rattle.raw_tree.specs.declared.validator.breach.Cause.{Cause}
+use Rattle.raw_tree.specs.declared.validator.keys_so_far.KeysSoFar.{KeysSoFar}
 use Rattle.raw_form.specs.Judging.{sort_of, IsSingleWith, Judges, TellsJudged}
 use Rattle.raw_form.specs.Looking.{HoldsNone, Looks, size_of, step_at}
 use Rattle.raw_form.specs.Places.{Step}

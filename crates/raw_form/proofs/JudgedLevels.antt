@@ -18,8 +18,8 @@ use Rattle.raw_tree.specs.OpenKeys.{HasKeysSoFar}
 use Rattle.raw_tree.specs.Reading.{Sort, as_document, as_array, Holds}
 use Rattle.raw_tree.specs.References.{texts}
 use Rattle.raw_tree.specs.Validating.{HoldsAs, left_of}
-use Rattle.raw_tree.specs.declared.breach.Cause.{Cause}
-use Rattle.raw_tree.specs.declared.keys_so_far.KeysSoFar.{KeysSoFar}
+use Rattle.raw_tree.specs.declared.validator.breach.Cause.{Cause}
+use Rattle.raw_tree.specs.declared.validator.keys_so_far.KeysSoFar.{KeysSoFar}
 use Rattle.raw_tree.proofs.Face.{nested_beside, keys_front, keys_on}
 use Rattle.raw_form.specs.Judging.{sort_of, BreachesHere, BreachesItself, IsSingleWith, TellsJudged}
 use Rattle.raw_form.specs.Looking.{step_at}

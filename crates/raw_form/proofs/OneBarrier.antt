@@ -7,7 +7,7 @@ use Rattle.raw_view.specs.Meaning as raw
 use Rattle.raw_view.proofs.Face.{one_frame, one_stop, no_frame_at_stop, no_frame_at_final, no_stop_at_final, one_meaning}
 use Rattle.raw_tree.specs.Reading.{Sort, as_document, as_array, StandsFor, StandForEach, ReadsUpTo, Holds}
 use Rattle.raw_tree.specs.WithinLimits.{Barrier, too_many_bytes, too_deep, fault_of, IsFaultWith}
-use Rattle.raw_tree.specs.declared.limits.Limits.{Limits}
+use Rattle.raw_tree.specs.declared.reader.limits.Limits.{Limits}
 use Rattle.raw_tree.proofs.Face.{one_value_of}
 use Rattle.raw_form.specs.Places.{Step, IsOffsetOf, BarsFrameAt, BarsFrontAt, FirstFaultAt, AllAreBarredAtOnePlace}
 use Rattle.raw_form.proofs.OnePlace.{one_next, one_offset}

@@ -8,8 +8,8 @@ use Rattle.raw_view.proofs.Face.{one_frame, no_frame_at_stop, no_frame_at_final,
 use Rattle.raw_tree.specs.Breaches.{keys_of_frames, BreachesKeys}
 use Rattle.raw_tree.specs.Canonical.{AreKeysCanonical, IsValueCanonical, AreFramesCanonical, IsCanonicalUpTo}
 use Rattle.raw_tree.specs.Reading.{Sort, as_document, as_array}
-use Rattle.raw_tree.specs.declared.breach.Cause.{Cause}
-use Rattle.raw_tree.specs.declared.limits.Limits.{Limits}
+use Rattle.raw_tree.specs.declared.validator.breach.Cause.{Cause}
+use Rattle.raw_tree.specs.declared.reader.limits.Limits.{Limits}
 use Rattle.raw_tree.proofs.Face.{keys_front, key_nor_breach}
 use Rattle.raw_form.specs.Places.{Step, IsOffsetOf}
 use Rattle.raw_form.specs.Verdicts.{Verdict, breach_of, JudgesNestedAt, JudgesMeaningAt, JudgesFrameAt, JudgesFrontAt, FirstVerdictTo, AllAreJudgedOneWayWithin}

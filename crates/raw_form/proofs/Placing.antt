@@ -17,7 +17,7 @@ use Rattle.raw_tree.specs.OpenKeys.{HasKeysSoFar, TellsOpenKey}
 use Rattle.raw_tree.specs.Reading.{as_document}
 use Rattle.raw_tree.specs.References.{texts}
 use Rattle.raw_tree.specs.Validating.{left_of}
-use Rattle.raw_tree.specs.declared.keys_so_far.KeysSoFar.{KeysSoFar}
+use Rattle.raw_tree.specs.declared.validator.keys_so_far.KeysSoFar.{KeysSoFar}
 use Rattle.raw_form.specs.Looking.{size_of}
 use Rattle.raw_form.specs.Staying.{AreNumbered, TakesFrame, end_of, last_places, placed}
 use Rattle.raw_form.proofs.Keeping.{end_behind, placed_behind}

@@ -3,7 +3,7 @@ use Rattle.std.proofs.Common.{inl, inr, ◌≤◌, zero, suc, List, ℕ, Option,
 use Rattle.raw_view.specs.declared.error.Error.{Error}
 use Rattle.raw_tree.specs.WithinLimits.{FirstBarrier, FirstFaultWithin}
 use Rattle.raw_tree.specs.WithinLimits as within
-use Rattle.raw_tree.specs.declared.limits.Limits.{Limits}
+use Rattle.raw_tree.specs.declared.reader.limits.Limits.{Limits}
 use Rattle.raw_tree.proofs.Face.{read_within}
 use Rattle.raw_form.specs.Barriers.{IsBarrier, TellsBarrier, TellsBarrierWithin, steps_of}
 use Rattle.raw_form.specs.Places.{Step, FirstFaultAt}

@@ -11,7 +11,8 @@ use Rattle.raw_view.specs.Frame.Number.{max_length}
 use Rattle.raw_view.specs.declared.error.Error.{Error}
 use Rattle.raw_view.proofs.Face.{one_meaning}
 use Rattle.raw_tree.specs.Encoding.{encoded_len, kind_of_tree, tree_payload}
-use Rattle.raw_tree.specs.Members.{Begun, HoldsTrees, MemberKey, ended, key_bytes, members, members_len, opening, opening_len, unset}
+use Rattle.raw_tree.specs.Payload.{unset}
+use Rattle.raw_tree.specs.Members.{Begun, HoldsTrees, MemberKey, ended, key_bytes, members, members_len, opening, opening_len}
 use Rattle.raw_tree.specs.Reading.{leaf_in_order, Reads, ReadsAs, StandsFor}
 use Rattle.raw_tree.proofs.Face.{IsWriting, begun_at, left_in, left_with, length-tree_payload, one_value_of, room_left, writing_begins, writing_done, writing_ends, writing_inside, writing_leaf}
 use Rattle.raw_form.specs.Forms.{IsFormOf, RefusesFormOf}

@@ -9,7 +9,7 @@ use Rattle.raw_view.specs.declared.error.Error.{Error}
 use Rattle.raw_tree.specs.Reading.{as_document, ReadsUpTo}
 use Rattle.raw_tree.specs.WithinLimits.{FirstBarrier, ReadsWithin, fault_of, too_deep, too_many_bytes}
 use Rattle.raw_tree.specs.WithinLimits as within
-use Rattle.raw_tree.specs.declared.limits.Limits.{Limits}
+use Rattle.raw_tree.specs.declared.reader.limits.Limits.{Limits}
 use Rattle.raw_form.specs.Places.{Step, FirstFaultAt, FirstBarrierAt}
 use Rattle.raw_form.specs.declared.barrier.Barrier.{Barrier}
 use Rattle.raw_form.specs.declared.barrier.BarrierKind.{BarrierKind}

@@ -6,7 +6,7 @@ use Rattle.raw_view.specs.Errors.{TellsRefusal}
 use Rattle.raw_view.specs.declared.error.Error.{Error}
 use Rattle.raw_tree.specs.CanonicalForm.{IsCanonicalForm, TellsTooLong}
 use Rattle.raw_tree.specs.WithinLimits.{ReadsWithin, TellsFirstBarrier}
-use Rattle.raw_tree.specs.declared.limits.Limits.{Limits}
+use Rattle.raw_tree.specs.declared.reader.limits.Limits.{Limits}
 
 -- a is the canonical form of the document b, which is within the limits
 pub record IsFormWithin (limits : Limits) (b a : List ℕ) : Type 0 where

@@ -13,9 +13,9 @@ use Rattle.raw_tree.specs.Canonical.{AreKeysCanonical, IsCanonicalUpTo}
 use Rattle.raw_tree.specs.OpenKeys.{HasKeysSoFar}
 use Rattle.raw_tree.specs.Reading.{Sort, as_document, as_array}
 use Rattle.raw_tree.specs.Validating.{HoldsAs}
-use Rattle.raw_tree.specs.declared.breach.Cause.{Cause}
-use Rattle.raw_tree.specs.declared.breach.Cause.TheVariants as cause
-use Rattle.raw_tree.specs.declared.keys_so_far.KeysSoFar.{KeysSoFar}
+use Rattle.raw_tree.specs.declared.validator.breach.Cause.{Cause}
+use Rattle.raw_tree.specs.declared.validator.breach.Cause.TheVariants as cause
+use Rattle.raw_tree.specs.declared.validator.keys_so_far.KeysSoFar.{KeysSoFar}
 use Rattle.raw_form.specs.Barriers.{steps_of}
 use Rattle.raw_form.specs.Looking.{HasNoneBefore}
 use Rattle.raw_form.specs.Verdicts.{Verdict, too_deep, breach_of, FirstVerdictTo}

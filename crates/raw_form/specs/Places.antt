@@ -6,7 +6,7 @@ use Rattle.raw_view.specs.Frame.{Frame, IsFrame, IsStop, LeadsTo}
 use Rattle.raw_view.specs.Meaning.{RawValue, Means, value, faulty}
 use Rattle.raw_tree.specs.Reading.{Sort, StandForEach, ReadsUpTo, Holds}
 use Rattle.raw_tree.specs.WithinLimits.{Barrier, too_deep, too_many_bytes, IsFaultWith}
-use Rattle.raw_tree.specs.declared.limits.Limits.{Limits}
+use Rattle.raw_tree.specs.declared.reader.limits.Limits.{Limits}
 
 -- A step of a path: the number of an element in its level, counted from 0, and its key. The number of a stop is how many
 -- elements are before it, and it has no key.

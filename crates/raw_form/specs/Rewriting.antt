@@ -14,7 +14,8 @@ use Rattle.raw_view.specs.declared.element_type.ElementType.TheVariants as kind
 use Rattle.raw_view.specs.declared.error.Error.{Error}
 use Rattle.raw_view.specs.declared.error.ErrorKind.TheVariants.{MalformedValue}
 use Rattle.raw_view.specs.declared.error.Reason.TheVariants.{TooLong}
-use Rattle.raw_tree.specs.Members.{MemberKey, text, number, numbered, keyed, measured, unset}
+use Rattle.raw_tree.specs.Payload.{unset}
+use Rattle.raw_tree.specs.Members.{MemberKey, text, number, numbered, keyed, with_len}
 use Rattle.raw_tree.specs.Reading.{ReadsAs, ReadsRest, FrameStandsFor}
 use Rattle.raw_tree.specs.Validating.{left_of}
 use Rattle.raw_form.specs.Staying.{IsLeftAt}
@@ -71,8 +72,8 @@ header_len (Some n) = 13 + n
 
 -- the bytes whose last is the end of a payload that starts at a place, with its lengths set
 abbrev pub ended_by : Option ℕ → ℕ → List ℕ → List ℕ
-ended_by None start b = measured start b
-ended_by (Some n) start b = measured start (measured (start + 9 + n) b)
+ended_by None start b = with_len start b
+ended_by (Some n) start b = with_len start (with_len (start + 9 + n) b)
 
 -- what is left of a level
 

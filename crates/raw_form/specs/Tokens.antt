@@ -9,7 +9,7 @@ use Rattle.raw_view.specs.Meaning.{RawValue, Means, value}
 use Rattle.raw_view.specs.Meaning as raw
 use Rattle.raw_tree.specs.WithinLimits.{ReadsWithin, FirstBarrier}
 use Rattle.raw_tree.specs.WithinLimits as within
-use Rattle.raw_tree.specs.declared.limits.Limits.{Limits}
+use Rattle.raw_tree.specs.declared.reader.limits.Limits.{Limits}
 use Rattle.raw_form.specs.Barriers.{IsBarrier}
 use Rattle.raw_form.specs.Looking.{size_of}
 use Rattle.raw_form.specs.Places.{Step, FirstBarrierAt}

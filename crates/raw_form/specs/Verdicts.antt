@@ -8,9 +8,9 @@ use Rattle.raw_view.specs.Meaning as raw
 use Rattle.raw_tree.specs.Breaches.{keys_of_frames, BreachesKeys}
 use Rattle.raw_tree.specs.Canonical.{AreKeysCanonical, AreFramesCanonical, IsCanonicalUpTo}
 use Rattle.raw_tree.specs.Reading.{Sort, as_document, as_array}
-use Rattle.raw_tree.specs.declared.breach.Cause.{Cause}
-use Rattle.raw_tree.specs.declared.breach.Cause.TheVariants as cause
-use Rattle.raw_tree.specs.declared.limits.Limits.{Limits}
+use Rattle.raw_tree.specs.declared.validator.breach.Cause.{Cause}
+use Rattle.raw_tree.specs.declared.validator.breach.Cause.TheVariants as cause
+use Rattle.raw_tree.specs.declared.reader.limits.Limits.{Limits}
 use Rattle.raw_form.specs.Barriers.{steps_of}
 use Rattle.raw_form.specs.Places.{Step, IsNext, IsOffsetOf}
 use Rattle.raw_form.specs.declared.verdict.PlacedBreach.{PlacedBreach}

@@ -5,11 +5,11 @@ use Rattle.raw_view.specs.Frame.Envelope.{IsEnvelope}
 use Rattle.raw_view.specs.Frame.Number.{max_length}
 use Rattle.raw_tree.specs.Canonical.{IsCanonical}
 use Rattle.raw_tree.specs.CanonicalForm.{ComesBack, IsCanonicalForm, IsSpelling}
-use Rattle.raw_tree.specs.Encoding.{encoding, encoded_len}
-use Rattle.raw_tree.specs.Reading.{Reads, as_document}
+use Rattle.raw_tree.specs.writer.Encoding.{encoding, encoded_len}
+use Rattle.raw_tree.specs.reader.Reading.{Reads, as_document}
 use Rattle.raw_tree.proofs.Forms.{bytes_spelled_one_way}
-use Rattle.raw_tree.proofs.Loops.{document_read}
-use Rattle.raw_tree.proofs.OneWay.{bytes_one_way}
+use Rattle.raw_tree.proofs.reader.Loops.{document_read}
+use Rattle.raw_tree.proofs.reader.OneWay.{bytes_one_way}
 use Rattle.raw_tree.proofs.Returns.{document_returns}
 
 -- the encoding of a tree that was read comes back

@@ -13,10 +13,10 @@ use Rattle.raw_view.specs.Meaning as raw
 use Rattle.bson_model.specs.Bytes.{AreBytes}
 use Rattle.raw_tree.specs.Canonical.{IsValueCanonical, AreFramesCanonical, IsCanonicalUpTo, IsCanonicalAs}
 use Rattle.raw_tree.specs.CanonicalForm.{IsSpelling, IsSpelledOneWay}
-use Rattle.raw_tree.specs.Encoding.{IsEncoded, encoding, encoded_len, entries_bytes, items_bytes}
-use Rattle.raw_tree.specs.Reading.{Sort, as_document, as_array, tree_of_pairs, leaf_in_order, StandsFor, StandForEach, ReadsUpTo, ReadsAs}
-use Rattle.raw_tree.proofs.Encodings.{length-entries_bytes, length-items_bytes, length-tree_payload}
-use Rattle.raw_tree.proofs.ReadTrees.{read_is_proper}
+use Rattle.raw_tree.specs.writer.Encoding.{IsEncoded, encoding, encoded_len, entries_bytes, items_bytes}
+use Rattle.raw_tree.specs.reader.Reading.{Sort, as_document, as_array, tree_of_pairs, leaf_in_order, StandsFor, StandForEach, ReadsUpTo, ReadsAs}
+use Rattle.raw_tree.proofs.writer.Encodings.{length-entries_bytes, length-items_bytes, length-tree_payload}
+use Rattle.raw_tree.proofs.reader.ReadTrees.{read_is_proper}
 use Rattle.raw_tree.proofs.Returns.{Returns, document_returns, array_returns}
 use Rattle.raw_tree.proofs.Spelled.{canonical_is_spelled}
 

@@ -20,10 +20,10 @@ use Rattle.raw_view.specs.Meaning as raw
 use Rattle.raw_view.specs.Frame.Number.{max_length}
 use Rattle.raw_view.proofs.Face.{length-framed, AreBytes-leaf, AreBytes-scoped, AreBytes-framed, AreBytes-element, leaf_shape, declared_shape, framed_is_envelope, leaf_means, scoped_means}
 use Rattle.raw_tree.specs.Canonical.{AreDecimalsFrom, AreKeysCanonical, IsValueCanonical, AreFramesCanonical, IsCanonicalUpTo, IsCanonicalAs}
-use Rattle.raw_tree.specs.Encoding.{kind_of_tree, tree_payload, items_bytes, entries_bytes, encoding, encoded_len, items_len, entries_len}
-use Rattle.raw_tree.specs.Reading.{Sort, as_document, as_array, tree_of_pairs, leaf_in_order, StandsFor, StandForEach, ReadsAs}
-use Rattle.raw_tree.proofs.Loops.{reads_of}
-use Rattle.raw_tree.proofs.Encodings.{length-entries_bytes, length-items_bytes}
+use Rattle.raw_tree.specs.writer.Encoding.{kind_of_tree, tree_payload, items_bytes, entries_bytes, encoding, encoded_len, items_len, entries_len}
+use Rattle.raw_tree.specs.reader.Reading.{Sort, as_document, as_array, tree_of_pairs, leaf_in_order, StandsFor, StandForEach, ReadsAs}
+use Rattle.raw_tree.proofs.reader.Loops.{reads_of}
+use Rattle.raw_tree.proofs.writer.Encodings.{length-entries_bytes, length-items_bytes}
 
 -- levels
 

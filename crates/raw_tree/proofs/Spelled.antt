@@ -19,11 +19,11 @@ use Rattle.raw_view.specs.declared.element_type.ElementType.{ElementType}
 use Rattle.raw_view.specs.declared.element_type.ElementType.TheVariants as kind
 use Rattle.raw_view.proofs.Face.{front_and_rest, counted_whole, one_walk}
 use Rattle.raw_tree.specs.Canonical.{AreDecimalsFrom, AreKeysCanonical, IsValueCanonical, AreFramesCanonical, IsCanonicalUpTo, IsCanonicalAs}
-use Rattle.raw_tree.specs.Encoding.{kind_of_tree, tree_payload, items_bytes, entries_bytes, encoding}
-use Rattle.raw_tree.specs.Payload.{payload_of}
-use Rattle.raw_tree.specs.Reading.{Sort, as_document, as_array, tree_of_pairs, leaf_in_order, StandsFor, StandForEach, ReadsUpTo, ReadsAs}
-use Rattle.raw_tree.proofs.Loops.{Valued, of_single, of_document, of_array, of_code, valued, nested_envelope}
-use Rattle.raw_tree.proofs.OneTree.{one_value_of}
+use Rattle.raw_tree.specs.writer.Encoding.{kind_of_tree, tree_payload, items_bytes, entries_bytes, encoding}
+use Rattle.raw_tree.specs.put.Payload.{payload_of}
+use Rattle.raw_tree.specs.reader.Reading.{Sort, as_document, as_array, tree_of_pairs, leaf_in_order, StandsFor, StandForEach, ReadsUpTo, ReadsAs}
+use Rattle.raw_tree.proofs.reader.Loops.{Valued, of_single, of_document, of_array, of_code, valued, nested_envelope}
+use Rattle.raw_tree.proofs.reader.OneTree.{one_value_of}
 
 -- payloads
 

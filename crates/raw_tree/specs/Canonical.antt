@@ -7,7 +7,7 @@ use Rattle.bson_model.specs.Proper.{DoLeafOptionsAscend}
 use Rattle.raw_view.specs.Frame.{Frame, IsWalk, Done}
 use Rattle.raw_view.specs.Meaning.{RawValue, Means, value}
 use Rattle.raw_view.specs.Meaning as raw
-use Rattle.raw_tree.specs.Reading.{Sort, as_document, as_array}
+use Rattle.raw_tree.specs.reader.Reading.{Sort, as_document, as_array}
 
 -- these are the decimals from this number on, in order
 abbrev pub AreDecimalsFrom : ℕ → List (List ℕ) → Type 0

@@ -10,8 +10,8 @@ use Rattle.raw_view.specs.declared.error.Error.{Error}
 use Rattle.raw_view.specs.declared.error.ErrorKind.TheVariants.{MalformedValue}
 use Rattle.raw_view.specs.declared.error.Reason.TheVariants.{TooLong}
 use Rattle.raw_tree.specs.Canonical.{IsCanonical, IsCanonicalAs}
-use Rattle.raw_tree.specs.Encoding.{encoding, encoded_len}
-use Rattle.raw_tree.specs.Reading.{Sort, as_document, as_array, Reads, ReadsAs}
+use Rattle.raw_tree.specs.writer.Encoding.{encoding, encoded_len}
+use Rattle.raw_tree.specs.reader.Reading.{Sort, as_document, as_array, Reads, ReadsAs}
 
 -- the bytes are the encoding of the tree, and the tree is of a size in range
 abbrev pub IsSpelling : Tree → List ℕ → Type 0

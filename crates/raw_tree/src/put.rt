@@ -1,15 +1,18 @@
-//! The writer: what is put at the end of bytes that have room for it. Nothing is judged, sized or reserved here.
+//! Elements, values and their parts, put at the end of bytes that have room for them. Nothing is measured or reserved
+//! here, and no tree is known.
 
 ghost use Rattle.std.specs.Prelude.{◌≡◌, ◌≤◌, ◌+◌, ◌-◌, ◌++◌, ◌∷◌, [], pos, length, take, drop, vec_len, vec_capacity};
-ghost use Rattle.raw_tree.specs.Members.{unset};
-ghost use Rattle.raw_tree.specs.Payload.{payload_of, element_bytes};
+ghost use Rattle.raw_tree.specs.put.Payload.{payload_of, element_bytes, unset};
 ghost use Rattle.raw_view.specs.Document.{bytes_of};
 ghost use Rattle.raw_view.specs.Frame.ElementSteps.{frame_of};
 ghost use Rattle.raw_view.specs.Frame.Format.{c_string, string_payload, binary_payload, pointer_payload, regex_payload, scoped_payload, tagged, element_of};
 ghost use Rattle.raw_view.specs.Frame.Number.{max_length, le32};
 ghost use Rattle.raw_view.specs.Meaning.Value.{value_of, namespace_of, id_of};
 
-use crate::payload::string_len;
+pub(crate) mod payload;
+pub(crate) mod total;
+
+use crate::put::payload::string_len;
 use bson_model::BinarySubtype;
 use raw_view::{
     RawBinaryRef, RawBsonRef, RawDbPointerRef, RawElement, RawJavaScriptCodeWithScopeRef,

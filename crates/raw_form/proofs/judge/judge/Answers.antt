@@ -13,9 +13,9 @@ use Rattle.raw_view.specs.declared.error.ErrorKind.TheVariants as kind
 use Rattle.raw_tree.specs.Canonical.{AreKeysCanonical}
 use Rattle.raw_tree.specs.OpenKeys.{HasKeysSoFar, TellsOpenKey}
 use Rattle.raw_tree.specs.Reading.{Sort}
-use Rattle.raw_tree.specs.declared.breach.Cause.{Cause}
-use Rattle.raw_tree.specs.declared.breach.Cause.TheVariants as cause
-use Rattle.raw_tree.specs.declared.keys_so_far.KeysSoFar.{KeysSoFar}
+use Rattle.raw_tree.specs.declared.validator.breach.Cause.{Cause}
+use Rattle.raw_tree.specs.declared.validator.breach.Cause.TheVariants as cause
+use Rattle.raw_tree.specs.declared.validator.keys_so_far.KeysSoFar.{KeysSoFar}
 use Rattle.raw_form.specs.Judging.{BreachesItself, HoldsAsTold, IsSingleWith, Judges, TellsJudged}
 use Rattle.raw_form.specs.declared.judge.Judged.{Judged}
 use Rattle.raw_form.specs.declared.judge.Judged.TheVariants as judged

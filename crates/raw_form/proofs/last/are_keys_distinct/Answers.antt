@@ -5,7 +5,7 @@ use Rattle.raw_tree.specs.Breaches.{keys_of_frames}
 use Rattle.raw_tree.specs.OpenKeys.{HasKeysSoFar, TellsOpenKey}
 use Rattle.raw_tree.specs.Reading.{as_document}
 use Rattle.raw_tree.specs.References.{texts}
-use Rattle.raw_tree.specs.declared.breach.Cause.{Cause}
+use Rattle.raw_tree.specs.declared.validator.breach.Cause.{Cause}
 use Rattle.raw_form.proofs.Placing.{apart_begins, apart_more, apart_over, none_added, taken_smaller}
 use Rattle.raw_form.proofs.last.are_keys_distinct.Goals as goal
 

@@ -5,7 +5,7 @@ use Rattle.raw_view.specs.Frame.ElementSteps.{frame_of}
 use Rattle.raw_tree.specs.OpenKeys.{HasKeysSoFar}
 use Rattle.raw_tree.specs.Reading.{as_document}
 use Rattle.raw_tree.specs.References.{texts}
-use Rattle.raw_tree.specs.declared.keys_so_far.KeysSoFar.{KeysSoFar}
+use Rattle.raw_tree.specs.declared.validator.keys_so_far.KeysSoFar.{KeysSoFar}
 use Rattle.raw_form.specs.Barriers.{steps_of}
 use Rattle.raw_form.specs.Judging.{sort_of, Judges}
 use Rattle.raw_form.specs.Looking.{step_at}

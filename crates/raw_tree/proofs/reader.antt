@@ -1,0 +1,11 @@
+pub mod Decides
+pub mod Depths
+pub mod FrameCounts
+pub mod LevelSteps
+pub mod Limited
+pub mod Loops
+pub mod OneTree
+pub mod OneWay
+pub mod ReadTrees
+pub mod Stacks
+pub mod Within

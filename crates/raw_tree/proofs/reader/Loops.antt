@@ -1,0 +1,142 @@
+-- What a loop over elements keeps: nested bytes are shorter, some number of levels serves, frames that stand for
+-- trees.
+use Rattle.std.proofs.Common.{◌≡◌, inl, inr, ◌≤◌, ◌+◌, ◌++◌, ◌∷◌, [], ℕ, zero, suc, List, length, drop, arith, ap, refl, length-append}
+use Rattle.std.specs.Str.{IsUtf8}
+use Rattle.bson_model.specs.Leaf.{Leaf}
+use Rattle.bson_model.specs.Pairs.{keep}
+use Rattle.bson_model.specs.Tree.{Tree, Entries, document, entries}
+use Rattle.raw_view.specs.Frame.Envelope.{IsEnvelope}
+use Rattle.raw_view.specs.Frame.Format.{string_payload}
+use Rattle.raw_view.specs.Frame.{Frame, IsFrame, HasShape, IsWalk, Done}
+use Rattle.raw_view.specs.Meaning.{RawValue, Means, MeansValue, IsCodeWithScope, value}
+use Rattle.raw_view.specs.Meaning as raw
+use Rattle.raw_view.specs.declared.element_type.ElementType.{ElementType}
+use Rattle.raw_view.specs.declared.element_type.ElementType.TheVariants as kind
+use Rattle.raw_tree.specs.reader.Reading.{Sort, as_document, as_array, tree_of_pairs, StandsFor, StandForEach, ReadsUpTo, ReadsAs, Holds}
+
+-- nested bytes
+
+-- the value of a payload of this kind: one that holds no others; or the payload is a document, an array or a code and
+-- its scope
+pub data Valued : ElementType → List ℕ → RawValue → Type 0 where
+  of_single : {k : ElementType} {p : List ℕ} (l : Leaf) → Valued k p (raw.single l)
+  of_document : {p : List ℕ} → IsEnvelope p → Valued kind.EmbeddedDocument p (raw.document p)
+  of_array : {p : List ℕ} → IsEnvelope p → Valued kind.Array p (raw.array p)
+  of_code : {p : List ℕ} (code scope : List ℕ) → IsCodeWithScope p code scope → IsUtf8 code → IsEnvelope scope → Valued kind.JavaScriptCodeWithScope p (raw.scoped code scope)
+
+single_valued : {k : ElementType} {p : List ℕ} {v : RawValue} {l : Leaf} → v ≡ raw.single l → Valued k p v
+single_valued {l = l} e = rw e (of_single l)
+
+pub valued : (k : ElementType) (p r : List ℕ) (v : RawValue) → HasShape k p r → MeansValue k p v → Valued k p v
+valued kind.EmbeddedDocument p r v x m = rw m (of_document x)
+valued kind.Array p r v x m = rw m (of_array x)
+valued kind.JavaScriptCodeWithScope p r v x m = rw (m.5) (of_code m.0 m.1 m.2 m.3 m.4)
+valued kind.Double p r v x m = single_valued m.2
+valued kind.String p r v x m = single_valued m.2
+valued kind.Binary p r v x m =
+    elim m.3 [
+      | inl a ↦ single_valued a.1
+      | inr b ↦ single_valued b.3
+    ]
+valued kind.Boolean p r v x m = single_valued m.2
+valued kind.DateTime p r v x m = single_valued m.2
+valued kind.RegularExpression p r v x m = single_valued m.3
+valued kind.DbPointer p r v x m = single_valued m.4
+valued kind.JavaScriptCode p r v x m = single_valued m.2
+valued kind.Symbol p r v x m = single_valued m.2
+valued kind.Int32 p r v x m = single_valued m.2
+valued kind.Timestamp p r v x m = single_valued m.3
+valued kind.Int64 p r v x m = single_valued m.2
+valued _ p r v x m = single_valued m
+
+-- nested bytes have an envelope and are no longer than the payload
+nested_in : {k : ElementType} {p : List ℕ} {v : RawValue} (d : List ℕ) → Valued k p v → Holds v d → IsEnvelope d × (length d ≤ length p)
+nested_in d (of_single l) h = absurd h
+nested_in d (of_document env) h = (rw h env, omega (arith, ap length h))
+nested_in d (of_array env) h = (rw h env, omega (arith, ap length h))
+nested_in d (of_code code scope c u env) h = (rw h env, omega (arith, ap length h, ap length c.spelled, length-append (string_payload code) scope))
+
+nested_in_frame : (s : List ℕ) (f : Frame) (r : List ℕ) (v : RawValue) (d : List ℕ) → IsFrame s f r → Means f (value v) → Holds v d → IsEnvelope d × (length d ≤ length f.payload)
+nested_in_frame s f r v d b m h = nested_in d (valued f.kind f.payload r v b.payload_is m) h
+
+-- a payload is behind a tag and a 0
+payload_shorter : (s : List ℕ) (f : Frame) (r : List ℕ) → IsFrame s f r → length f.payload + 2 ≤ length s
+payload_shorter s f r b = omega (arith, ap length b.spelled, length-append f.key (0 ∷ (f.payload ++ r)), length-append f.payload r)
+
+-- the nested bytes of a frame's value have an envelope
+pub nested_envelope : (s : List ℕ) (f : Frame) (r : List ℕ) (v : RawValue) (d : List ℕ) → IsFrame s f r → Means f (value v) → Holds v d → IsEnvelope d
+nested_envelope s f r v d b m h = (nested_in_frame s f r v d b m h).0
+
+-- and they are shorter by two than the bytes where the frame is
+pub nested_shorter : (s : List ℕ) (f : Frame) (r : List ℕ) (v : RawValue) (d : List ℕ) → IsFrame s f r → Means f (value v) → Holds v d → length d + 2 ≤ length s
+nested_shorter s f r v d b m h = omega (arith, (nested_in_frame s f r v d b m h).1, payload_shorter s f r b)
+
+-- and they stand beside what is left behind the frame
+pub nested_beside : (s : List ℕ) (f : Frame) (r : List ℕ) (v : RawValue) (d : List ℕ) → IsFrame s f r → Means f (value v) → Holds v d → length d + length r + 2 ≤ length s
+nested_beside s f r v d b m h =
+    omega (arith, (nested_in_frame s f r v d b m h).1, ap length b.spelled, length-append f.key (0 ∷ (f.payload ++ r)), length-append f.payload r)
+
+-- levels
+
+-- where other bytes are read as the same trees, a value stands for the same tree
+stands_on : (N M : Sort → List ℕ → Tree → Type 0) → ((sort : Sort) (b : List ℕ) (t : Tree) → N sort b t → M sort b t) → (v : RawValue) (t : Tree) → StandsFor N v t → StandsFor M v t
+stands_on N M on (raw.single l) t h = h
+stands_on N M on (raw.document d) t h = on as_document d t h
+stands_on N M on (raw.array d) t h = on as_array d t h
+stands_on N M on (raw.scoped code d) t h = (h.0, on as_document d (document h.0) h.1, h.2)
+
+-- so do the values of frames
+stand_each_on : (N M : Sort → List ℕ → Tree → Type 0) → ((sort : Sort) (b : List ℕ) (t : Tree) → N sort b t → M sort b t)
+    → (fs : List Frame) (pairs : List (List ℕ × Tree)) → StandForEach N fs pairs → StandForEach M fs pairs
+stand_each_on N M on [] pairs h = h
+stand_each_on N M on (f ∷ fs) pairs h = (h.0, h.1, h.2, h.3, stands_on N M on h.0 h.1 h.4, h.5, stand_each_on N M on fs h.2 h.6)
+
+-- what is read within some levels is read within more
+pub reads_up_to : (n m : ℕ) → n ≤ m → (sort : Sort) (b : List ℕ) (t : Tree) → ReadsUpTo n sort b t → ReadsUpTo m sort b t
+reads_up_to zero m l sort b t h = absurd h
+reads_up_to (suc n) zero l sort b t h = absurd (omega arith)
+reads_up_to (suc n) (suc m) l sort b t h =
+    (h.0, (h.1.0, h.1.1, stand_each_on (ReadsUpTo n) (ReadsUpTo m) (reads_up_to n m (omega arith)) h.1.0 h.0 h.1.2), h.2)
+
+-- frames that are read within some levels are read
+pub each_read : (n : ℕ) (fs : List Frame) (pairs : List (List ℕ × Tree)) → StandForEach (ReadsUpTo n) fs pairs → StandForEach ReadsAs fs pairs
+each_read n fs pairs h = stand_each_on (ReadsUpTo n) ReadsAs (λ sort b t read. (n, read)) fs pairs h
+
+-- a value that stands for a tree does so within some levels
+stands_level : (v : RawValue) (t : Tree) → StandsFor ReadsAs v t → (n : ℕ) × StandsFor (ReadsUpTo n) v t
+stands_level (raw.single l) t h = (0, h)
+stands_level (raw.document d) t h = h
+stands_level (raw.array d) t h = h
+stands_level (raw.scoped code d) t h = (h.1.0, (h.0, h.1.1, h.2))
+
+-- frames that are read are read within some levels
+pub stand_each_level : (fs : List Frame) (pairs : List (List ℕ × Tree)) → StandForEach ReadsAs fs pairs → (n : ℕ) × StandForEach (ReadsUpTo n) fs pairs
+stand_each_level [] pairs h = (0, h)
+stand_each_level (f ∷ fs) pairs h =
+    let first = stands_level h.0 h.1 h.4 in
+    let others = stand_each_level fs h.2 h.6 in
+    let n : ℕ = first.0 + others.0 in
+    let here : StandsFor (ReadsUpTo n) h.0 h.1 = stands_on (ReadsUpTo first.0) (ReadsUpTo n) (reads_up_to first.0 n (omega arith)) h.0 h.1 first.1 in
+    let behind : StandForEach (ReadsUpTo n) fs h.2 = stand_each_on (ReadsUpTo others.0) (ReadsUpTo n) (reads_up_to others.0 n (omega arith)) fs h.2 others.1 in
+    (n, (h.0, h.1, h.2, h.3, here, h.5, behind))
+
+-- bytes whose walk is done and whose frames all stand for trees are read
+pub reads_of : (sort : Sort) (b : List ℕ) (frames : List Frame) (pairs : List (List ℕ × Tree)) → IsWalk (drop 4 b) frames Done
+    → StandForEach ReadsAs frames pairs → ReadsAs sort b (tree_of_pairs sort pairs)
+reads_of sort b frames pairs w h =
+    let each = stand_each_level frames pairs h in
+    (suc each.0, (pairs, (frames, w, each.1), refl))
+
+-- a tree as which bytes are read as a document is that of entries
+pub document_read : (b : List ℕ) (t : Tree) → ReadsAs as_document b t → (es : Entries) × (t ≡ document es)
+document_read b t (zero, h) = absurd h
+document_read b t (suc n, h) = (entries (keep h.0), h.2)
+
+-- a caller's loop
+
+-- one frame more is read
+pub stand_more : (Nested : Sort → List ℕ → Tree → Type 0) (fs : List Frame) (pairs : List (List ℕ × Tree)) (f : Frame) (v : RawValue) (t : Tree)
+    → StandForEach Nested fs pairs → Means f (value v) → StandsFor Nested v t → StandForEach Nested (fs ++ f ∷ []) (pairs ++ (f.key, t) ∷ [])
+stand_more Nested [] pairs f v t h m st = (v, t, [], m, st, ap (λ x. x ++ (f.key, t) ∷ []) h, refl)
+stand_more Nested (g ∷ fs) pairs f v t h m st =
+    (h.0, h.1, h.2 ++ (f.key, t) ∷ [], h.3, h.4, ap (λ x. x ++ (f.key, t) ∷ []) h.5, stand_more Nested fs h.2 f v t h.6 m st)

@@ -1,0 +1,239 @@
+-- Reading is determined: bytes are read as one tree at most, have one first fault at most, and never both; so it is of
+-- barriers, where nested bytes have one.
+use Rattle.std.proofs.Common.{◌≡◌, ◌⊎◌, inl, inr, ◌∷◌, [], ℕ, zero, suc, List, drop, ap, refl, sym, ◌∙◌, subst}
+use Rattle.bson_model.specs.Tree.{Tree, document, code_with_scope}
+use Rattle.raw_view.specs.Frame.{Frame, IsFrame, IsStop, IsWalk, Done, LeadsTo}
+use Rattle.raw_view.specs.Meaning.{RawValue, KeyedFault, Means, value, faulty}
+use Rattle.raw_view.specs.Meaning as raw
+use Rattle.raw_view.proofs.Face.{one_frame, one_stop, one_walk, no_frame_at_stop, no_frame_at_final, no_stop_at_final, one_meaning}
+use Rattle.raw_tree.specs.reader.WithinLimits.{Barrier, too_many_bytes, too_deep, fault_of, IsFaultWith, BarsFrame, BarsFront, BarsRest}
+use Rattle.raw_tree.specs.reader.Reading.{Sort, as_document, as_array, tree_of_pairs, StandsFor, StandForEach, ReadsUpTo, ReadsAs, Holds, FailsInFrame, FirstFaultUpTo, FirstFault, FirstFaultOfValue}
+
+-- values
+
+-- a frame means one value at most
+pub one_value_of : (f : Frame) (v w : RawValue) → Means f (value v) → Means f (value w) → v ≡ w
+one_value_of f v w a b = let same : value v ≡ value w = one_meaning f (value v) (value w) a b in cc
+
+-- one fault at most
+pub one_fault_of : (f : Frame) (x y : KeyedFault) → Means f (faulty x) → Means f (faulty y) → x ≡ y
+one_fault_of f x y a b = let same : faulty x ≡ faulty y = one_meaning f (faulty x) (faulty y) a b in cc
+
+-- and never both
+pub value_nor_fault : (f : Frame) (v : RawValue) (x : KeyedFault) → Means f (value v) → Means f (faulty x) → ⊥
+value_nor_fault f v x a b = let same : value v ≡ faulty x = one_meaning f (value v) (faulty x) a b in cc
+
+-- a value holds the nested bytes of one list at most
+pub one_nested : (v : RawValue) (d e : List ℕ) → Holds v d → Holds v e → d ≡ e
+one_nested (raw.single l) d e a b = absurd a
+one_nested (raw.document x) d e a b = a ∙ sym b
+one_nested (raw.array x) d e a b = a ∙ sym b
+one_nested (raw.scoped code x) d e a b = a ∙ sym b
+
+-- trees
+
+-- bytes that are read in one way and in another are read as one tree
+abbrev AgreeOn : (Sort → List ℕ → Tree → Type 0) → (Sort → List ℕ → Tree → Type 0) → Type 0
+AgreeOn N M = (sort : Sort) (b : List ℕ) (t u : Tree) → N sort b t → M sort b u → t ≡ u
+
+-- then a value stands for one tree
+stands_same : (N M : Sort → List ℕ → Tree → Type 0) → AgreeOn N M → (v : RawValue) (t u : Tree) → StandsFor N v t → StandsFor M v u → t ≡ u
+stands_same N M same (raw.single l) t u h k = h ∙ sym k
+stands_same N M same (raw.document d) t u h k = same as_document d t u h k
+stands_same N M same (raw.array d) t u h k = same as_array d t u h k
+stands_same N M same (raw.scoped code d) t u h k =
+    let scopes : document h.0 ≡ document k.0 = same as_document d (document h.0) (document k.0) h.1 k.1 in
+    let inside : h.0 ≡ k.0 = cc in
+    h.2 ∙ ap (λ es. code_with_scope code es) inside ∙ sym k.2
+
+-- and frames for one list of pairs
+stand_each_same : (N M : Sort → List ℕ → Tree → Type 0) → AgreeOn N M → (fs : List Frame) (ps qs : List (List ℕ × Tree)) → StandForEach N fs ps → StandForEach M fs qs → ps ≡ qs
+stand_each_same N M same [] ps qs h k = h ∙ sym k
+stand_each_same N M same (f ∷ fs) ps qs h k =
+    let values : h.0 ≡ k.0 = one_value_of f h.0 k.0 h.3 k.3 in
+    let there : StandsFor M h.0 k.1 = subst (λ (x : RawValue). StandsFor M x k.1) (sym values) k.4 in
+    let first : h.1 ≡ k.1 = stands_same N M same h.0 h.1 k.1 h.4 there in
+    let rest : h.2 ≡ k.2 = stand_each_same N M same fs h.2 k.2 h.6 k.6 in
+    h.5 ∙ rw (first, rest) (sym k.5)
+
+-- one tree within any levels
+one_tree_within : (n m : ℕ) → AgreeOn (ReadsUpTo n) (ReadsUpTo m)
+one_tree_within zero m sort b t u h k = absurd h
+one_tree_within (suc n) zero sort b t u h k = absurd k
+one_tree_within (suc n) (suc m) sort b t u h k =
+    let frames : h.1.0 ≡ k.1.0 = (one_walk (drop 4 b) h.1.0 k.1.0 Done Done h.1.1 k.1.1).0 in
+    let there : StandForEach (ReadsUpTo m) h.1.0 k.0 = subst (λ (x : List Frame). StandForEach (ReadsUpTo m) x k.0) (sym frames) k.1.2 in
+    let pairs : h.0 ≡ k.0 = stand_each_same (ReadsUpTo n) (ReadsUpTo m) (one_tree_within n m) h.1.0 h.0 k.0 h.1.2 there in
+    h.2 ∙ ap (tree_of_pairs sort) pairs ∙ sym k.2
+
+-- bytes are read as one tree at most
+pub one_tree : (sort : Sort) (b : List ℕ) (t u : Tree) → ReadsAs sort b t → ReadsAs sort b u → t ≡ u
+one_tree sort b t u h k = one_tree_within h.0 k.0 sort b t u h.1 k.1
+
+-- a value stands for one tree at most
+pub one_tree_of_value : (v : RawValue) (t u : Tree) → StandsFor ReadsAs v t → StandsFor ReadsAs v u → t ≡ u
+one_tree_of_value v t u h k = stands_same ReadsAs ReadsAs one_tree v t u h k
+
+-- a tree and a barrier exclude each other
+
+-- a barrier that is a fault of which something holds
+some_fault : (P : KeyedFault → Type 0) (x : Barrier) → IsFaultWith P x → (fault : KeyedFault) × P fault
+some_fault P (fault_of fault) h = (fault, h)
+some_fault P too_many_bytes h = absurd h
+some_fault P too_deep h = absurd h
+
+-- no bytes are read as a tree and have a barrier
+abbrev pub AreApart : (Sort → List ℕ → Tree → Type 0) → (List ℕ → Barrier → Type 0) → Type 0
+AreApart N Nested = (sort : Sort) (b : List ℕ) (t : Tree) (x : Barrier) → N sort b t → Nested b x → ⊥
+
+-- where that holds of nested bytes
+module _ (N : Sort → List ℕ → Tree → Type 0) (Nested : List ℕ → Barrier → Type 0) (apart : AreApart N Nested) where
+  -- no value stands for a tree and holds nested bytes with a barrier
+  value_apart : (v : RawValue) (t : Tree) (d : List ℕ) (x : Barrier) → StandsFor N v t → Holds v d → Nested d x → ⊥
+  value_apart (raw.single l) t d x h holds bars = holds
+  value_apart (raw.document e) t d x h holds bars = apart as_document e t x h (rw (← holds) bars)
+  value_apart (raw.array e) t d x h holds bars = apart as_array e t x h (rw (← holds) bars)
+  value_apart (raw.scoped code e) t d x h holds bars = apart as_document e (document h.0) x h.1 (rw (← holds) bars)
+
+  -- no frame at the front whose value stands for a tree has the barrier
+  frame_apart : (s : List ℕ) (f : Frame) (r : List ℕ) (v : RawValue) (t : Tree) (x : Barrier) → IsFrame s f r → Means f (value v) → StandsFor N v t
+      → BarsFront N Nested s x → ⊥
+  frame_apart s f r v t x at m h (inl stop) =
+      let fault = some_fault (λ y. IsStop s y.fault y.key) x stop in
+      no_frame_at_stop s fault.0.fault fault.0.key fault.1 f r at
+  frame_apart s f r v t x at m h (inr bars) =
+      let frames : bars.0 ≡ f = (one_frame s bars.0 f bars.1 r bars.2 at).0 in
+      elim bars.3 [
+        | inl meant ↦ (
+            let fault = some_fault (λ y. Means bars.0 (faulty y)) x meant in
+            value_nor_fault f v fault.0 m (subst (λ (g : Frame). Means g (faulty fault.0)) frames fault.1))
+        | inr inside ↦ (
+            let values : inside.0 ≡ v = one_value_of f inside.0 v (subst (λ (g : Frame). Means g (value inside.0)) frames inside.2) m in
+            value_apart v t inside.1 x h (subst (λ (w : RawValue). Holds w inside.1) values inside.3) inside.4)
+      ]
+
+  -- nor does the final 0
+  final_apart : (s : List ℕ) (x : Barrier) → s ≡ 0 ∷ [] → BarsFront N Nested s x → ⊥
+  final_apart s x e (inl stop) = let fault = some_fault (λ y. IsStop s y.fault y.key) x stop in no_stop_at_final s fault.0.fault fault.0.key e fault.1
+  final_apart s x e (inr bars) = no_frame_at_final s e bars.0 bars.1 bars.2
+
+  -- along a walk whose frames all stand for trees the barrier is nowhere
+  pub walk_apart : (s : List ℕ) (frames passed : List Frame) (r : List ℕ) (pairs : List (List ℕ × Tree)) (x : Barrier) → IsWalk s frames Done
+      → StandForEach N frames pairs → LeadsTo s passed r → BarsFront N Nested r x → ⊥
+  walk_apart s [] [] r pairs x w h l bars = final_apart s x w (rw l bars)
+  walk_apart s [] (g ∷ passed) r pairs x w h l bars = no_frame_at_final s w g l.0 l.1
+  walk_apart s (f ∷ frames) [] r pairs x w h l bars = frame_apart s f w.0 h.0 h.1 x w.1 h.3 h.4 (rw l bars)
+  walk_apart s (f ∷ frames) (g ∷ passed) r pairs x w h l bars =
+      let same : l.0 ≡ w.0 = (one_frame s g f l.0 w.0 l.1 w.1).1 in
+      walk_apart w.0 frames passed r h.2 x w.2 h.6 (subst (λ (y : List ℕ). LeadsTo y passed r) same l.2) bars
+
+-- one barrier at most
+
+-- where a fault with one property and one with another are one fault, so are barriers
+one_fault_with : (P Q : KeyedFault → Type 0) → ((a c : KeyedFault) → P a → Q c → a ≡ c) → (x y : Barrier) → IsFaultWith P x → IsFaultWith Q y → x ≡ y
+one_fault_with P Q same (fault_of a) (fault_of c) h k = ap fault_of (same a c h k)
+one_fault_with P Q same (fault_of a) too_many_bytes h k = absurd k
+one_fault_with P Q same (fault_of a) too_deep h k = absurd k
+one_fault_with P Q same too_many_bytes y h k = absurd h
+one_fault_with P Q same too_deep y h k = absurd h
+
+-- of two sorts of barriers of nested bytes
+module _ (N : Sort → List ℕ → Tree → Type 0) (Nested Other : List ℕ → Barrier → Type 0) (apart : AreApart N Nested) (away : AreApart N Other) where
+  -- frames that stand for trees lead to one place with a barrier alone
+  pub passed_same : (s : List ℕ) (fs gs : List Frame) (r q : List ℕ) (ps qs : List (List ℕ × Tree)) (x y : Barrier)
+      → LeadsTo s fs r → StandForEach N fs ps → BarsFront N Nested r x → LeadsTo s gs q → StandForEach N gs qs → BarsFront N Other q y → (fs ≡ gs) × (r ≡ q)
+  passed_same s [] [] r q ps qs x y l h a m k c = (refl, sym l ∙ m)
+  passed_same s [] (g ∷ gs) r q ps qs x y l h a m k c = absurd (frame_apart N Nested apart s g m.0 k.0 k.1 x m.1 k.3 k.4 (rw l a))
+  passed_same s (f ∷ fs) [] r q ps qs x y l h a m k c = absurd (frame_apart N Other away s f l.0 h.0 h.1 y l.1 h.3 h.4 (rw m c))
+  passed_same s (f ∷ fs) (g ∷ gs) r q ps qs x y l h a m k c =
+      let front = one_frame s g f m.0 l.0 m.1 l.1 in
+      let others = passed_same l.0 fs gs r q h.2 k.2 x y l.2 h.6 a (subst (λ (z : List ℕ). LeadsTo z gs q) front.1 m.2) k.6 c in
+      (rw (front.0, others.0) refl, others.1)
+
+  -- where nested bytes have one of them, so has what is left of a document or an array
+  module _ (same : (b : List ℕ) (x y : Barrier) → Nested b x → Other b y → x ≡ y) where
+    frame_same : (f : Frame) (x y : Barrier) → BarsFrame N Nested f x → BarsFrame N Other f y → x ≡ y
+    frame_same f x y (inl a) (inl c) = one_fault_with (λ z. Means f (faulty z)) (λ z. Means f (faulty z)) (one_fault_of f) x y a c
+    frame_same f x y (inl a) (inr c) = let fault = some_fault (λ z. Means f (faulty z)) x a in absurd (value_nor_fault f c.0 fault.0 c.2 fault.1)
+    frame_same f x y (inr a) (inl c) = let fault = some_fault (λ z. Means f (faulty z)) y c in absurd (value_nor_fault f a.0 fault.0 a.2 fault.1)
+    frame_same f x y (inr a) (inr c) =
+        let values : c.0 ≡ a.0 = one_value_of f c.0 a.0 c.2 a.2 in
+        let nested : c.1 ≡ a.1 = one_nested a.0 c.1 a.1 (subst (λ (v : RawValue). Holds v c.1) values c.3) a.3 in
+        same a.1 x y a.4 (subst (λ (d : List ℕ). Other d y) nested c.4)
+
+    stop_same : (s : List ℕ) (a c : KeyedFault) → IsStop s a.fault a.key → IsStop s c.fault c.key → a ≡ c
+    stop_same s a c h k = let stops = one_stop s a.fault c.fault a.key c.key h k in (λ i. record { fault = stops.0 i; key = stops.1 i })
+
+    front_same : (s : List ℕ) (x y : Barrier) → BarsFront N Nested s x → BarsFront N Other s y → x ≡ y
+    front_same s x y (inl a) (inl c) = one_fault_with (λ z. IsStop s z.fault z.key) (λ z. IsStop s z.fault z.key) (stop_same s) x y a c
+    front_same s x y (inl a) (inr c) = let fault = some_fault (λ z. IsStop s z.fault z.key) x a in absurd (no_frame_at_stop s fault.0.fault fault.0.key fault.1 c.0 c.1 c.2)
+    front_same s x y (inr a) (inl c) = let fault = some_fault (λ z. IsStop s z.fault z.key) y c in absurd (no_frame_at_stop s fault.0.fault fault.0.key fault.1 a.0 a.1 a.2)
+    front_same s x y (inr a) (inr c) =
+        let frames : c.0 ≡ a.0 = (one_frame s c.0 a.0 c.1 a.1 c.2 a.2).0 in
+        frame_same a.0 x y a.3 (rw frames at c.3)
+
+    pub rest_same : (s : List ℕ) (x y : Barrier) → BarsRest N Nested s x → BarsRest N Other s y → x ≡ y
+    rest_same s x y h k =
+        let to = passed_same s h.0 k.0 h.2 k.2 h.1 k.1 x y h.3 h.4 h.5 k.3 k.4 k.5 in
+        front_same h.2 x y h.5 (subst (λ (r : List ℕ). BarsFront N Other r y) (sym to.1) k.5)
+
+-- faults
+
+-- a fault is a barrier of the bytes that have it
+abbrev pub BarsAs : (List ℕ → KeyedFault → Type 0) → List ℕ → Barrier → Type 0
+BarsAs Inner b x = IsFaultWith (Inner b) x
+
+-- the bytes have the fault at their front, where Inner says which nested bytes have it
+abbrev pub FailsAt : (List ℕ → KeyedFault → Type 0) → List ℕ → KeyedFault → Type 0
+FailsAt Inner s fault = BarsFront ReadsAs (BarsAs Inner) s (fault_of fault)
+
+-- so have those whose first fault it is
+fails_at : (Inner : List ℕ → KeyedFault → Type 0) (s : List ℕ) (fault : KeyedFault)
+    → IsStop s fault.fault fault.key ⊎ ((f : Frame) × (r : List ℕ) × IsFrame s f r × FailsInFrame Inner f fault) → FailsAt Inner s fault
+fails_at Inner s fault (inl stop) = inl stop
+fails_at Inner s fault (inr bad) =
+    elim bad.3 [
+      | inl meant ↦ inr (bad.0, bad.1, bad.2, inl meant)
+      | inr inside ↦ inr (bad.0, bad.1, bad.2, inr (inside.0, inside.2.0, inside.1, inside.2.1, inside.2.2))
+    ]
+
+-- no bytes are read as a tree and have a fault, within any levels
+apart_within : (n m : ℕ) → AreApart (ReadsUpTo n) (BarsAs (FirstFaultUpTo m))
+apart_within zero m sort b t x h bars = absurd h
+apart_within (suc n) zero sort b t x h bars = (some_fault (FirstFaultUpTo 0 b) x bars).1
+apart_within (suc n) (suc m) sort b t x h bars =
+    let bad = some_fault (FirstFaultUpTo (suc m) b) x bars in
+    walk_apart (ReadsUpTo n) (BarsAs (FirstFaultUpTo m)) (apart_within n m) (drop 4 b) h.1.0 bad.1.0 bad.1.2 h.0 (fault_of bad.0) h.1.1 h.1.2 bad.1.3
+    (fails_at (FirstFaultUpTo m) bad.1.2 bad.0 bad.1.5)
+
+-- no bytes are read as a tree and have a first fault
+pub tree_or_fault : (sort : Sort) (b : List ℕ) (t : Tree) (x : KeyedFault) → ReadsAs sort b t → FirstFault b x → ⊥
+tree_or_fault sort b t x h bad = apart_within h.0 bad.0 sort b t (fault_of x) h.1 bad.1
+
+pub reads_apart : AreApart ReadsAs (BarsAs FirstFault)
+reads_apart sort b t x h bars = let bad = some_fault (FirstFault b) x bars in tree_or_fault sort b t bad.0 h bad.1
+
+-- no value stands for a tree and has a first fault
+pub tree_or_fault_of_value : (v : RawValue) (t : Tree) (x : KeyedFault) → StandsFor ReadsAs v t → FirstFaultOfValue v x → ⊥
+tree_or_fault_of_value v t x h bad = value_apart ReadsAs (BarsAs FirstFault) reads_apart v t bad.0 (fault_of x) h bad.1 bad.2
+
+-- bytes have one first fault, within any levels
+one_fault_within : (n m : ℕ) (b : List ℕ) (x y : KeyedFault) → FirstFaultUpTo n b x → FirstFaultUpTo m b y → x ≡ y
+one_fault_within zero m b x y h k = absurd h
+one_fault_within (suc n) zero b x y h k = absurd k
+one_fault_within (suc n) (suc m) b x y h k =
+    let apart = λ (l : ℕ) (sort : Sort) (d : List ℕ) (t : Tree) (z : Barrier) (read : ReadsAs sort d t) (bars : BarsAs (FirstFaultUpTo l) d z). apart_within read.0 l sort d t z read.1 bars in
+    let nested = λ (d : List ℕ) (z w : Barrier). one_fault_with (FirstFaultUpTo n d) (FirstFaultUpTo m d) (one_fault_within n m d) z w in
+    let same : fault_of x ≡ fault_of y = rest_same ReadsAs (BarsAs (FirstFaultUpTo n)) (BarsAs (FirstFaultUpTo m)) (apart n) (apart m) nested (drop 4 b) (fault_of x) (fault_of y)
+    (h.0, h.1, h.2, h.3, h.4, fails_at (FirstFaultUpTo n) h.2 x h.5) (k.0, k.1, k.2, k.3, k.4, fails_at (FirstFaultUpTo m) k.2 y k.5) in
+    cc
+
+-- bytes have one first fault at most
+pub one_first_fault : (b : List ℕ) (x y : KeyedFault) → FirstFault b x → FirstFault b y → x ≡ y
+one_first_fault b x y h k = one_fault_within h.0 k.0 b x y h.1 k.1
+
+-- a value has one first fault at most
+pub one_first_fault_of_value : (v : RawValue) (x y : KeyedFault) → FirstFaultOfValue v x → FirstFaultOfValue v y → x ≡ y
+one_first_fault_of_value v x y h k =
+    let nested : k.0 ≡ h.0 = one_nested v k.0 h.0 k.1 h.1 in
+    one_first_fault h.0 x y h.2 (subst (λ (d : List ℕ). FirstFault d y) nested k.2)

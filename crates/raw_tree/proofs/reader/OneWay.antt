@@ -1,0 +1,89 @@
+-- Bytes, values and frames are read in one way alone.
+use Rattle.std.proofs.Common.{◌≡◌, inl, inr, List, ℕ, Result, Ok, Err, sym, ◌∙◌, subst}
+use Rattle.bson_model.specs.Tree.{Tree}
+use Rattle.raw_view.specs.Errors.Answers.{TellsMeaning}
+use Rattle.raw_view.specs.Frame.Envelope.{IsEnvelope}
+use Rattle.raw_view.specs.Frame.{Frame}
+use Rattle.raw_view.specs.Meaning.{RawValue, KeyedFault, Means, Meaning, value, faulty}
+use Rattle.raw_view.specs.Meaning.Value.{value_of}
+use Rattle.raw_view.specs.declared.bson_ref.RawBsonRef.{RawBsonRef}
+use Rattle.raw_view.specs.declared.bson_ref.RawBsonRef.TheVariants as ref
+use Rattle.raw_view.specs.declared.error.Error.{Error}
+use Rattle.raw_tree.specs.reader.FrameCount.{AllAreCountedOneWay}
+use Rattle.raw_tree.specs.reader.Reading.{Sort, as_document, ReadsAs, StandsFor, Holds, FirstFaultOfValue, FirstFaultOfFrame, FrameStandsFor, AreReadOneWay, IsValueReadOneWay, IsFrameReadOneWay}
+use Rattle.raw_tree.proofs.reader.Decides.{counted, counted_until, decided, value_decided}
+use Rattle.raw_tree.proofs.reader.FrameCounts.{one_until}
+use Rattle.raw_tree.proofs.reader.OneTree.{one_fault_of, one_value_of, value_nor_fault, one_tree, one_tree_of_value, one_first_fault, one_first_fault_of_value, tree_or_fault, tree_or_fault_of_value}
+
+-- bytes with an envelope
+pub bytes_one_way : (sort : Sort) (b : List ℕ) → IsEnvelope b → AreReadOneWay sort b
+bytes_one_way sort b env = record {
+  either = decided sort b env;
+  not_both = λ t fault. tree_or_fault sort b t fault;
+  one_tree = λ t other r s. one_tree sort b other t s r;
+  one_fault = λ fault other r s. one_first_fault b other fault s r;
+}
+
+-- and have one number of frames until the first fault
+pub counted_one_way : AllAreCountedOneWay
+counted_one_way b env =
+    let n = counted as_document b env in
+    let until = counted_until as_document b n.0 n.1 in
+    (n.0, until, λ other h. one_until b other n.0 h until)
+
+-- the nested bytes of a borrowed value have an envelope
+viewed_envelope : (v : RawBsonRef) (d : List ℕ) → Holds (value_of v) d → IsEnvelope d
+viewed_envelope (ref.Document x) d h = rw h x.envelope
+viewed_envelope (ref.Array x) d h = rw h x.document.envelope
+viewed_envelope (ref.JavaScriptCodeWithScope x) d h = rw h x.scope.envelope
+viewed_envelope _ d h = absurd h
+
+-- a value whose nested bytes have an envelope
+pub enveloped_one_way : (v : RawValue) → ((d : List ℕ) → Holds v d → IsEnvelope d) → IsValueReadOneWay v
+enveloped_one_way v env = record {
+  either = value_decided v (λ sort d h. counted sort d (env d h));
+  not_both = λ t fault. tree_or_fault_of_value v t fault;
+  one_tree = λ t other r s. one_tree_of_value v other t s r;
+  one_fault = λ fault other r s. one_first_fault_of_value v other fault s r;
+}
+
+-- a borrowed value
+pub value_one_way : (v : RawBsonRef) → IsValueReadOneWay (value_of v)
+value_one_way v = enveloped_one_way (value_of v) (viewed_envelope v)
+
+-- a frame of which the value or the fault was returned
+module _ (f : Frame) where
+  of_value : (v : RawValue) → Means f (value v) → IsValueReadOneWay v → IsFrameReadOneWay f
+  of_value v m read = record {
+    either = elim read.either [
+      | inl t ↦ inl (t.0, (v, m, t.1))
+      | inr bad ↦ inr (bad.0, inr (v, m, bad.1))
+    ];
+    not_both = λ t fault r s. read.not_both t fault (tree t r) (fault_in fault s);
+    one_tree = λ t other r s. read.one_tree t other (tree t r) (tree other s);
+    one_fault = λ fault other r s. read.one_fault fault other (fault_in fault r) (fault_in other s);
+  }
+    where
+      tree : (t : Tree) → FrameStandsFor f t → StandsFor ReadsAs v t
+      tree t r = subst (λ (w : RawValue). StandsFor ReadsAs w t) (one_value_of f r.0 v r.1 m) r.2
+
+      fault_in : (fault : KeyedFault) → FirstFaultOfFrame f fault → FirstFaultOfValue v fault
+      fault_in fault (inl bad) = absurd (value_nor_fault f v fault m bad)
+      fault_in fault (inr inside) = subst (λ (w : RawValue). FirstFaultOfValue w fault) (one_value_of f inside.0 v inside.1 m) inside.2
+
+  of_fault : (fault : KeyedFault) → Means f (faulty fault) → IsFrameReadOneWay f
+  of_fault fault m = record {
+    either = inr (fault, inl m);
+    not_both = λ t x r s. value_nor_fault f r.0 fault r.1 m;
+    one_tree = λ t other r s. absurd (value_nor_fault f r.0 fault r.1 m);
+    one_fault = λ x other r s. only other s ∙ sym (only x r);
+  }
+    where
+      only : (x : KeyedFault) → FirstFaultOfFrame f x → x ≡ fault
+      only x (inl bad) = one_fault_of f x fault bad m
+      only x (inr inside) = absurd (value_nor_fault f inside.0 fault inside.1 m)
+
+  pub element_one_way : (answer : Result RawBsonRef Error) → (m : Meaning) × Means f m × TellsMeaning answer m → IsFrameReadOneWay f
+  element_one_way (Ok w) (value v, m, told) = of_value v m (subst IsValueReadOneWay told (value_one_way w))
+  element_one_way (Err e) (value v, m, told) = absurd told
+  element_one_way answer (faulty fault, m, told) = of_fault fault m

@@ -1,0 +1,258 @@
+-- What a loop over levels knows of the bytes: each level has passed frames that stand for the pairs that it has
+-- drafted, and each but the innermost waits for the value of the frame behind them.
+use Rattle.std.proofs.Common.{◌≡◌, Option, None, Some, inl, inr, ◌+◌, ◌++◌, ◌∷◌, [], ℕ, suc, List, length, arith, ap, refl, sym, ◌∙◌, subst, map, length-append, Vec, Global}
+use Rattle.std.proofs.lemmas.List.{map-append}
+use denote.Ref.{Bor}
+use Rattle.std.specs.List.{zip}
+use Rattle.bson_model.specs.Pairs.{keep}
+use Rattle.bson_model.specs.Tree.{Tree, document, array, code_with_scope, trees, entries, tree_of, with_trees, pairs_of}
+use Rattle.bson_model.specs.declared.bson.Bson.{Bson}
+use Rattle.bson_model.specs.declared.bson.Document.{Document}
+use Rattle.raw_view.specs.Document.{bytes_of}
+use Rattle.raw_view.specs.Frame.{Frame, IsFrame}
+use Rattle.raw_view.specs.Meaning.{RawValue, KeyedFault, Meaning, Means, value}
+use Rattle.raw_view.specs.Meaning as raw
+use Rattle.raw_tree.specs.reader.FrameCount.{CountsIn, HasFrameCount, HasFramesToFault}
+use Rattle.raw_tree.specs.reader.Levels.{KeepsKeys, sort_of, holding, holder_of, tree_of_contents, texts_of, AreDrafted, IsPairMore, IsSameDraft, HoldsNone, Closes, Finishes, Ends}
+use Rattle.raw_tree.specs.reader.WithinLimits.{Barrier, BarsFront, FirstFaultWithin}
+use Rattle.raw_tree.specs.reader.Reading.{Sort, as_document, as_array, tree_of_pairs, StandsFor, ReadsUpTo, ReadsAs, Holds}
+use Rattle.raw_tree.specs.declared.reader.levels.Contents.{Contents}
+use Rattle.raw_tree.specs.declared.reader.levels.Contents.TheVariants as contents
+use Rattle.raw_tree.specs.declared.reader.levels.Draft.{Draft}
+use Rattle.raw_tree.specs.declared.reader.levels.Holder.{Holder}
+use Rattle.raw_tree.specs.declared.reader.levels.Holder.TheVariants as of
+use Rattle.raw_tree.specs.declared.reader.levels.Level.{Level}
+use Rattle.raw_tree.specs.declared.reader.levels.Nested.{Nested}
+use Rattle.raw_tree.specs.declared.reader.levels.Waiting.{Waiting}
+use Rattle.raw_tree.proofs.reader.Decides.{IsCountedFrom, counted_from}
+use Rattle.raw_tree.proofs.reader.FrameCounts.{Passed, Fails, passed_more, passed_read, fails_inside}
+use Rattle.raw_tree.proofs.reader.Loops.{document_read}
+use Rattle.raw_tree.proofs.reader.OneTree.{one_tree}
+
+-- contents
+
+-- nothing is drafted
+pub drafted_none : (h : Holder) (d : Draft) → d.keys.items ≡ [] → d.values.items ≡ [] → AreDrafted h d []
+drafted_none h d k v = ((λ _. ap texts_of k), ap (λ vs. map tree_of vs) v)
+
+no_trees : (pairs : List (List ℕ × Tree)) → [] ≡ map (λ (p : List ℕ × Tree). p.1) pairs → pairs ≡ []
+no_trees [] h = refl
+no_trees (p ∷ ps) h = absurd (omega (arith, ap length h))
+
+-- nor is it anew
+pub same_none : (old new : Draft) → old.values.items ≡ [] → new.keys.items ≡ [] → new.values.items ≡ [] → IsSameDraft old new
+same_none old new e k v h pairs are =
+    let none : pairs ≡ [] = no_trees pairs (sym (ap (λ vs. map tree_of vs) e) ∙ are.1) in
+    rw none (drafted_none h new k v)
+
+-- a column with a pair more
+column_more : {X : Type 0} (f : List ℕ × Tree → X) (xs new : List X) (pairs : List (List ℕ × Tree)) (p : List ℕ × Tree) → new ≡ xs ++ f p ∷ [] → xs ≡ map f pairs → new ≡ map f (pairs ++ p ∷ [])
+column_more f xs new pairs p e h = e ∙ ap (λ x. x ++ f p ∷ []) h ∙ sym (map-append f pairs (p ∷ []))
+
+module _ (h : Holder) (old mid new : Draft) (key : List ℕ) (t : Tree) (same : IsSameDraft old mid) (pairs : List (List ℕ × Tree)) (are : AreDrafted h old pairs) where
+  values_more : map tree_of new.values.items ≡ map tree_of mid.values.items ++ t ∷ [] → map tree_of new.values.items ≡ map (λ (p : List ℕ × Tree). p.1) (pairs ++ (key, t) ∷ [])
+  values_more e = column_more (λ (p : List ℕ × Tree). p.1) (map tree_of mid.values.items) (map tree_of new.values.items) pairs (key, t) e (same h pairs are).1
+
+  -- a pair more, and of an array a value more
+  pub pair_put : IsPairMore mid key t new → AreDrafted h new (pairs ++ (key, t) ∷ [])
+  pair_put more =
+      ((λ k. column_more (λ (p : List ℕ × Tree). p.0) (texts_of mid.keys.items) (texts_of new.keys.items) pairs (key, t) more.0 ((same h pairs are).0 k)), values_more more.1)
+
+  pub value_put : h ≡ of.Array → map tree_of new.values.items ≡ map tree_of mid.values.items ++ t ∷ [] → AreDrafted h new (pairs ++ (key, t) ∷ [])
+  value_put e more = ((λ k. absurd (subst KeepsKeys e k)), values_more more)
+
+-- a draft whose lists have the same items
+pub same_items : (old new : Draft) → new.keys.items ≡ old.keys.items → new.values.items ≡ old.values.items → IsSameDraft old new
+same_items old new keys values h pairs are = ((λ k. ap texts_of keys ∙ are.0 k), ap (λ vs. map tree_of vs) values ∙ are.1)
+
+-- pairs that are taken apart
+zip_pairs : (pairs : List (List ℕ × Tree)) → zip (map (λ (p : List ℕ × Tree). p.0) pairs) (map (λ (p : List ℕ × Tree). p.1) pairs) ≡ pairs
+zip_pairs [] = refl
+zip_pairs (p ∷ ps) = ap (λ l. p ∷ l) (zip_pairs ps)
+
+-- what is finished of a document or a scope
+module _ (d : Draft) (made : Document) (values : List Bson) (h : Holder) (all : values ≡ d.values.items)
+    (trees_are : with_trees (pairs_of made) ≡ keep (zip (texts_of d.keys.items) (map tree_of values))) where
+  pairs_finished : KeepsKeys h → (pairs : List (List ℕ × Tree)) → AreDrafted h d pairs → document (entries (with_trees (pairs_of made))) ≡ document (entries (keep pairs))
+  pairs_finished k pairs are =
+      let kept : keep (zip (texts_of d.keys.items) (map tree_of d.values.items)) ≡ keep pairs = rw (are.0 k, are.1) (ap keep (zip_pairs pairs)) in
+      ap (λ ps. document (entries ps)) (trees_are ∙ ap (λ vs. keep (zip (texts_of d.keys.items) (map tree_of vs))) all ∙ kept)
+
+  pub document_finished : h ≡ of.Document → Finishes h d (contents.Document None made)
+  document_finished e = (sym e, λ pairs are. pairs_finished (rw e tt) pairs are ∙ ap (λ (x : Holder). tree_of_pairs (sort_of x) pairs) (sym e))
+
+  pub scope_finished : (code : Bor (List ℕ)) → h ≡ of.Code code → Finishes h d (contents.Document (Some code) made)
+  scope_finished code e = (sym e, λ pairs are. pairs_finished (rw e tt) pairs are ∙ ap (λ (x : Holder). tree_of_pairs (sort_of x) pairs) (sym e))
+
+-- and of an array
+pub array_finished : (d : Draft) (made : Vec Bson Global) (h : Holder) → h ≡ of.Array → made.items ≡ d.values.items → Finishes h d (contents.Array made)
+array_finished d made h e all =
+    rw e (refl, λ pairs are. ap (λ ts. array (trees ts)) (ap (λ vs. map tree_of vs) all ∙ are.1))
+
+-- the value that holds what a level is read as
+pub ended : (h : Holder) (d : Draft) (c : Contents) (t : Bson) → Finishes h d c → Closes c t → Ends h d t
+ended h d c t fin closes pairs b are read =
+    let same : tree_of_contents c ≡ tree_of_pairs (sort_of h) pairs = fin.1 pairs are in
+    let whole : ReadsAs (sort_of (holder_of c)) b (tree_of_contents c) = rw (fin.0, same) read in
+    subst (λ (x : Holder). StandsFor ReadsAs (holding x b) (tree_of t)) fin.0 (closes b whole)
+
+-- the value of a code and the contents of its scope
+pub closes_scope : (c : Contents) (held : Option (Bor (List ℕ))) (code : Bor (List ℕ)) (d : Document) (t : Bson) → c ≡ contents.Document held d
+    → held ≡ Some code → tree_of t ≡ code_with_scope code.now (entries (with_trees (pairs_of d))) → Closes c t
+closes_scope c held code d t is some same = rw (is, some) (λ b read. (entries (with_trees (pairs_of d)), read, same))
+
+-- the value of nested bytes
+abbrev pub held_value : Nested → RawValue
+held_value u = holding u.holder (bytes_of u.document)
+
+-- what holds bytes that are read as a tree stands for one, and the frames of the bytes are in it
+held_stands : (h : Holder) (d : List ℕ) (t : Tree) → ReadsAs (sort_of h) d t → (u : Tree) × StandsFor ReadsAs (holding h d) u
+held_stands of.Document d t read = (t, read)
+held_stands of.Array d t read = (t, read)
+held_stands (of.Code code) d t read =
+    let scope = document_read d t read in
+    (code_with_scope code.now scope.0, (scope.0, subst (ReadsAs as_document d) scope.1 read, refl))
+
+pub held_counts : (h : Holder) (d : List ℕ) (n : ℕ) → HasFrameCount d n → CountsIn HasFrameCount (value (holding h d)) n
+held_counts of.Document d n c = c
+held_counts of.Array d n c = c
+held_counts (of.Code code) d n c = c
+
+pub held_holds : (h : Holder) (d : List ℕ) → Holds (holding h d) d
+held_holds of.Document d = refl
+held_holds of.Array d = refl
+held_holds (of.Code code) d = refl
+
+-- a value that holds no nested bytes stands for the same tree to any depth
+pub none_stands : (inside : ℕ) (v : RawValue) (t : Tree) → HoldsNone v → StandsFor ReadsAs v t → StandsFor (ReadsUpTo inside) v t
+none_stands inside (raw.single l) t none h = h
+none_stands inside (raw.document d) t none h = absurd none
+none_stands inside (raw.array d) t none h = absurd none
+none_stands inside (raw.scoped code d) t none h = absurd none
+
+-- bytes that are read within some levels are read as their one tree within these
+read_within : (levels : ℕ) (sort : Sort) (d : List ℕ) (t u : Tree) → ReadsUpTo levels sort d t → ReadsAs sort d u → ReadsUpTo levels sort d u
+read_within levels sort d t u read other = subst (λ (x : Tree). ReadsUpTo levels sort d x) (one_tree sort d t u (levels, read) other) read
+
+-- so what holds them stands for its one tree within them
+pub held_within : (levels : ℕ) (h : Holder) (d : List ℕ) (t u : Tree) → ReadsUpTo levels (sort_of h) d t → StandsFor ReadsAs (holding h d) u → StandsFor (ReadsUpTo levels) (holding h d) u
+held_within levels of.Document d t u read stands = read_within levels as_document d t u read stands
+held_within levels of.Array d t u read stands = read_within levels as_array d t u read stands
+held_within levels (of.Code code) d t u read stands = (stands.0, read_within levels as_document d t (document stands.0) read stands.1, stands.2)
+
+-- a level
+
+-- the level has passed frames of the nested bytes u: they stand for the pairs that it has drafted, with at most so many
+-- levels inside, and are so many with those that are in them
+pub record IsReading (inside : ℕ) (u : Nested) (level : Level) (n : ℕ) : Type 0 where
+  pub pairs : List (List ℕ × Tree)
+  pub rest : List ℕ
+  pub left : level.elements ≡ Some rest
+  pub passed : Passed (ReadsUpTo inside) (bytes_of u.document) rest pairs n
+  pub drafted : AreDrafted level.holder level.draft pairs
+  pub held : level.holder ≡ u.holder
+
+-- a barrier at the front of what is left is that of the bytes
+pub bars_at : {inside n : ℕ} {u : Nested} {level : Level} (is : IsReading inside u level n) (x : Barrier)
+    → BarsFront (ReadsUpTo inside) (FirstFaultWithin inside) is.rest x → FirstFaultWithin (suc inside) (bytes_of u.document) x
+bars_at is x front = (is.passed.frames, is.pairs, is.rest, is.passed.leads, is.passed.each, front)
+
+-- the level with these elements left
+abbrev pub with_left : Level → Option (List ℕ) → Level
+with_left level new = record { elements = new; holder = level.holder; draft = level.draft }
+
+-- the level is behind the frame of this key and this meaning, which is counted and not yet drafted
+pub record IsBehind (inside : ℕ) (u : Nested) (level : Level) (key : List ℕ) (m : Meaning) (n : ℕ) : Type 0 where
+  pub old : Level
+  pub before : ℕ
+  pub reading : IsReading inside u old before
+  pub frame : Frame
+  pub rest : List ℕ
+  pub stands : IsFrame reading.rest frame rest
+  pub means : Means frame m
+  pub key_is : key ≡ frame.key
+  pub level_is : level ≡ with_left old (Some rest)
+  pub total : n ≡ before + 1
+
+-- so a level waits for the value of nested bytes
+pub record IsWaiting (inside : ℕ) (u : Nested) (w : Waiting) (v : Nested) (n : ℕ) : Type 0 where
+  pub behind : IsBehind inside u w.level w.key.now (value (held_value v)) n
+
+-- the first barrier, the first fault and the count of the bytes v are those of the bytes u
+module _ {inside n : ℕ} {u : Nested} (v : Nested) {level : Level} {key : List ℕ} (is : IsBehind inside u level key (value (held_value v)) n) where
+  pub inner_barrier : (x : Barrier) → FirstFaultWithin inside (bytes_of v.document) x → FirstFaultWithin (suc inside) (bytes_of u.document) x
+  inner_barrier x bars =
+      bars_at is.reading x (inr (is.frame, is.rest, is.stands, inr (held_value v, bytes_of v.document, is.means, held_holds v.holder (bytes_of v.document), bars)))
+
+  inner_fault : (fault : KeyedFault) (m : ℕ) → Fails (bytes_of v.document) fault m → Fails (bytes_of u.document) fault (n + m)
+  inner_fault fault m bad =
+      rw is.total (fails_inside (passed_read inside is.reading.passed) is.frame is.rest (held_value v) (bytes_of v.document) fault m is.stands is.means
+      (held_holds v.holder (bytes_of v.document)) bad)
+
+  inner_counted : (m : ℕ) → IsCountedFrom (sort_of v.holder) (bytes_of v.document) m → IsCountedFrom (sort_of u.holder) (bytes_of u.document) (n + m)
+  inner_counted m from =
+      elim from.2 [
+        | inl all ↦ (
+            let stands = held_stands v.holder (bytes_of v.document) all.0 all.1 in
+            let on = counted_from (sort_of u.holder) u.document.envelope (passed_more (held_value v) stands.0 from.0 (passed_read inside is.reading.passed) is.stands is.means stands.1
+            (held_counts v.holder (bytes_of v.document) from.0 all.2)) in
+            (on.0, omega (arith, on.1, from.1, is.total), on.2))
+        | inr to ↦ (n + from.0, omega (arith, from.1), inr (to.0, inner_fault to.0 from.0 to.1))
+      ]
+
+-- levels that wait, from the outermost, of the nested bytes u, inward to the nested bytes v; with so many levels that may
+-- be inside of those they are as many as the depth, and so many frames are counted in them
+pub data AreWaiting (depth : ℕ) (u : Nested) : List Waiting → ℕ → Nested → ℕ → Type 0 where
+  none_waits : {inside : ℕ} → depth ≡ suc inside → AreWaiting depth u [] inside u 0
+  one_more : {ws all : List Waiting} {w : Waiting} {inside n here total : ℕ} {v inner : Nested} → AreWaiting depth u ws (suc inside) v n
+      → IsWaiting (suc inside) v w inner here → all ≡ ws ++ w ∷ [] → total ≡ n + here → AreWaiting depth u all inside inner total
+
+-- their first barrier, their first fault and their count are those of the outermost bytes
+pub barrier_outward : {depth : ℕ} {u : Nested} {ws : List Waiting} {inside : ℕ} {v : Nested} {n : ℕ} → AreWaiting depth u ws inside v n → (x : Barrier)
+    → FirstFaultWithin (suc inside) (bytes_of v.document) x → FirstFaultWithin depth (bytes_of u.document) x
+barrier_outward (none_waits e) x bars = rw e bars
+barrier_outward (one_more {inner = inner} h waits all total) x bars = barrier_outward h x (inner_barrier inner waits.behind x bars)
+
+pub fault_outward : {depth : ℕ} {u : Nested} {ws : List Waiting} {inside : ℕ} {v : Nested} {n : ℕ} → AreWaiting depth u ws inside v n → (fault : KeyedFault) (m : ℕ)
+    → Fails (bytes_of v.document) fault m → Fails (bytes_of u.document) fault (n + m)
+fault_outward {u = u} (none_waits e) fault m bad = (bad.0, subst (HasFramesToFault (bytes_of u.document)) (omega arith) bad.1)
+fault_outward {u = u} (one_more {here = here} {inner = inner} h waits all total) fault m bad =
+    let out = fault_outward h fault (here + m) (inner_fault inner waits.behind fault m bad) in
+    (out.0, subst (HasFramesToFault (bytes_of u.document)) (omega (arith, total)) out.1)
+
+pub counted_outward : {depth : ℕ} {u : Nested} {ws : List Waiting} {inside : ℕ} {v : Nested} {n : ℕ} → AreWaiting depth u ws inside v n → (m : ℕ)
+    → IsCountedFrom (sort_of v.holder) (bytes_of v.document) m → IsCountedFrom (sort_of u.holder) (bytes_of u.document) (n + m)
+counted_outward (none_waits e) m from = (from.0, omega (arith, from.1), from.2)
+counted_outward (one_more {here = here} {inner = inner} h waits all total) m from =
+    let out = counted_outward h (here + m) (inner_counted inner waits.behind m from) in
+    (out.0, omega (arith, out.1, total), out.2)
+
+-- the levels are as many as the depth
+pub levels_in : {depth : ℕ} {u : Nested} {ws : List Waiting} {inside : ℕ} {v : Nested} {n : ℕ} → AreWaiting depth u ws inside v n → depth ≡ suc (length ws + inside)
+levels_in (none_waits e) = omega (arith, e)
+levels_in (one_more {ws = ws} {w = w} h waits all total) = omega (arith, levels_in h, ap length all, length-append ws (w ∷ []))
+
+-- where none waits, the innermost bytes are the outermost
+pub none_inside : {depth : ℕ} {u : Nested} {ws : List Waiting} {inside : ℕ} {v : Nested} {n : ℕ} → AreWaiting depth u ws inside v n → ws ≡ [] → (depth ≡ suc inside) × (v ≡ u) × (n ≡ 0)
+none_inside (none_waits e) none = (e, refl, refl)
+none_inside (one_more {ws = ws} {w = w} h waits all total) none = absurd (omega (arith, ap length all, ap length none, length-append ws (w ∷ [])))
+
+-- the innermost is taken off
+lists_same : (ws vs : List Waiting) (w x : Waiting) → ws ++ w ∷ [] ≡ vs ++ x ∷ [] → (ws ≡ vs) × (w ≡ x)
+lists_same [] [] w x e = (refl, cc)
+lists_same [] (v ∷ vs) w x e = absurd (omega (arith, ap length e, length-append vs (x ∷ [])))
+lists_same (y ∷ ws) [] w x e = absurd (omega (arith, ap length e, length-append ws (w ∷ [])))
+lists_same (y ∷ ws) (v ∷ vs) w x e =
+    let head : y ≡ v = cc in
+    let rest : ws ++ w ∷ [] ≡ vs ++ x ∷ [] = cc in
+    let same = lists_same ws vs w x rest in
+    ((λ i. head i ∷ same.0 i), same.1)
+
+pub waiting_less : {depth : ℕ} {u : Nested} {all : List Waiting} {inside : ℕ} {v : Nested} {n : ℕ} → AreWaiting depth u all inside v n → (ws : List Waiting) (w : Waiting)
+    → all ≡ ws ++ w ∷ []
+    → (outer : Nested) × (others : ℕ) × (here : ℕ) × AreWaiting depth u ws (suc inside) outer others × IsWaiting (suc inside) outer w v here × (n ≡ others + here)
+waiting_less (none_waits e) ws w f = absurd (omega (arith, ap length f, length-append ws (w ∷ [])))
+waiting_less {depth = depth} {u = u} {inside = inside} {v = v} (one_more {ws = vs} {w = x} {n = n} {here = here} {v = outer} h waits all total) ws w f =
+    let same = lists_same vs ws x w (sym all ∙ f) in
+    let waiting = subst (λ (l : List Waiting). AreWaiting depth u l (suc inside) outer n) same.0 h in
+    (outer, n, here, waiting, subst (λ (y : Waiting). IsWaiting (suc inside) outer y v here) same.1 waits, total)

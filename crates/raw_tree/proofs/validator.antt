@@ -1,0 +1,7 @@
+pub mod EitherWay
+pub mod Judgement
+pub mod KeyOrder
+pub mod LevelKeys
+pub mod Marking
+pub mod Noting
+pub mod OneBreach

@@ -1,0 +1,125 @@
+-- Bytes with an envelope are canonical, or have a first breach.
+use Rattle.std.proofs.Common.{◌≡◌, ◌⊎◌, inl, inr, ◌≤◌, ◌+◌, ◌++◌, ◌∷◌, [], ℕ, zero, suc, Bool, true, false, List, length, decimal, drop, arith, refl, sym, subst, ◌∙◌, true≢false, length-drop}
+use Rattle.std.proofs.lemmas.List.{map-append}
+use Rattle.std.specs.Cmp.Lexicographic.{bytes_decides}
+use Rattle.std.specs.List.{IsDistinct, list_any}
+use Rattle.std.specs.Str.{bytes_eq}
+use Rattle.bson_model.specs.Bytes.{AreBytes}
+use Rattle.bson_model.specs.Leaf.{Leaf, regular_expression}
+use Rattle.bson_model.specs.Proper.{DoLeafOptionsAscend}
+use Rattle.bson_model.proofs.Face.{AreBytes-drop, options_decided}
+use Rattle.raw_view.specs.Frame.Envelope.{IsEnvelope}
+use Rattle.raw_view.specs.Frame.{Frame, IsFrame, IsWalk, End, Done, Stopped, LeadsTo}
+use Rattle.raw_view.specs.Meaning.{RawValue, Means, Meaning, value, faulty}
+use Rattle.raw_view.specs.Meaning as raw
+use Rattle.raw_view.proofs.Face.{LeadsTo-walk, LeadsTo-more, IsFrame-shorter, has_meaning, AreBytes-rest, document_has_walk}
+use Rattle.raw_tree.specs.validator.Breaches.{keys_of_frames, BreachesKeys, BreachesMeaning, BreachesFront, HasBreachUpTo, HasBreachAs}
+use Rattle.raw_tree.specs.Canonical.{AreDecimalsFrom, AreKeysCanonical, IsValueCanonical, AreFramesCanonical, IsCanonicalAs}
+use Rattle.raw_tree.specs.reader.Reading.{Sort, as_document, as_array, Holds}
+use Rattle.raw_tree.specs.declared.validator.breach.Cause.{Cause}
+use Rattle.raw_tree.specs.declared.validator.breach.Cause.TheVariants as cause
+use Rattle.raw_tree.proofs.validator.Judgement.{frames_more}
+use Rattle.raw_tree.proofs.validator.LevelKeys.{Contains-found, not_found, document_key, array_key}
+use Rattle.raw_tree.proofs.reader.Loops.{nested_envelope, nested_shorter}
+use Rattle.raw_tree.proofs.Returns.{canonical_of}
+
+-- bytes are canonical, or have a first breach
+abbrev IsEither : Sort → List ℕ → Type 0
+IsEither sort b = IsCanonicalAs sort b ⊎ ((path : List ℕ) × (why : Cause) × HasBreachAs sort b path why)
+
+-- a key behind canonical keys keeps them canonical, or breaches
+abbrev KeepsOrBreaches : Sort → List (List ℕ) → List ℕ → Type 0
+KeepsOrBreaches sort keys key = AreKeysCanonical sort (keys ++ key ∷ []) ⊎ ((why : Cause) × BreachesKeys sort keys key why)
+
+document_key_where : (keys : List (List ℕ)) (key : List ℕ) (there : Bool) → list_any (bytes_eq key) keys ≡ there → IsDistinct bytes_eq keys → KeepsOrBreaches as_document keys key
+document_key_where keys key true e h = inr (cause.RepeatedKey, (Contains-found keys key e, refl))
+document_key_where keys key false e h = inl (document_key keys key h (not_found keys key e))
+
+array_key_where : (keys : List (List ℕ)) (key : List ℕ) (same : Bool) → bytes_eq key (decimal (length keys)) ≡ same → AreDecimalsFrom 0 keys → KeepsOrBreaches as_array keys key
+array_key_where keys key true e h = inl (array_key keys key h ((bytes_decides key (decimal (length keys))).0 e))
+array_key_where keys key false e h = inr (cause.ArrayKey, ((λ same. true≢false (sym ((bytes_decides key (decimal (length keys))).1 same) ∙ e)), refl))
+
+key_decided : (sort : Sort) (keys : List (List ℕ)) (key : List ℕ) → AreKeysCanonical sort keys → KeepsOrBreaches sort keys key
+key_decided as_document keys key h = document_key_where keys key (list_any (bytes_eq key) keys) refl h
+key_decided as_array keys key h = array_key_where keys key (bytes_eq key (decimal (length keys))) refl h
+
+leaf_decided : (l : Leaf) → DoLeafOptionsAscend l ⊎ ¬ DoLeafOptionsAscend l
+leaf_decided (regular_expression pattern options) = options_decided options
+leaf_decided _ = inl tt
+
+-- a value is canonical, or has a first breach
+abbrev IsValueEither : RawValue → Type 0
+IsValueEither v = IsValueCanonical IsCanonicalAs v ⊎ ((path : List ℕ) × (why : Cause) × (n : ℕ) × BreachesMeaning (HasBreachUpTo n) (value v) path why)
+
+single_decided : (l : Leaf) → DoLeafOptionsAscend l ⊎ ¬ DoLeafOptionsAscend l → IsValueEither (raw.single l)
+single_decided l (inl ascend) = inl ascend
+single_decided l (inr descend) = inr ([], cause.Options, 0, (descend, refl, refl))
+
+nested_decided : (sort : Sort) (d : List ℕ) → IsEither sort d → IsCanonicalAs sort d ⊎ ((path : List ℕ) × (why : Cause) × (n : ℕ) × HasBreachUpTo n sort d path why)
+nested_decided sort d (inl c) = inl c
+nested_decided sort d (inr bad) = inr (bad.0, bad.1, bad.2.0, bad.2.1)
+
+value_decided : (v : RawValue) → ((sort : Sort) (d : List ℕ) → Holds v d → IsEither sort d) → IsValueEither v
+value_decided (raw.single l) nested = single_decided l (leaf_decided l)
+value_decided (raw.document d) nested = nested_decided as_document d (nested as_document d refl)
+value_decided (raw.array d) nested = nested_decided as_array d (nested as_array d refl)
+value_decided (raw.scoped code d) nested = nested_decided as_document d (nested as_document d refl)
+
+-- shorter bytes with an envelope are canonical, or have a first breach
+abbrev AreEitherWithin : ℕ → Type 0
+AreEitherWithin n = (sort : Sort) (d : List ℕ) → length d ≤ n → IsEnvelope d → IsEither sort d
+
+-- behind canonical frames a breach at the front is the first
+module _ (sort : Sort) (b : List ℕ) (passed : List Frame) (s : List ℕ) (lead : LeadsTo (drop 4 b) passed s)
+    (keys : AreKeysCanonical sort (keys_of_frames passed)) (each : AreFramesCanonical IsCanonicalAs passed) where
+  breach_at : (n : ℕ) (inside : List ℕ) (why : Cause) → BreachesFront (HasBreachUpTo n) sort (keys_of_frames passed) s inside why → IsEither sort b
+  breach_at n inside why front = inr (length passed ∷ inside, why, (suc n, (passed, s, inside, lead, keys, each, front, refl)))
+
+  -- a frame there whose key is canonical has that breach, or its value is canonical, too
+  frame_decided : (n : ℕ) → AreEitherWithin n → length s ≤ n + 1 → (f : Frame) (r : List ℕ) → IsFrame s f r
+      → AreKeysCanonical sort (keys_of_frames passed ++ f.key ∷ []) → (m : Meaning) → Means f m
+      → IsEither sort b ⊎ ((v : RawValue) × Means f (value v) × IsValueCanonical IsCanonicalAs v)
+  frame_decided n shorter l f r at more (faulty fault) m = inl (breach_at 0 [] cause.Value (inr (f, r, at, inr (more, faulty fault, m, (refl, refl)))))
+  frame_decided n shorter l f r at more (value v) m =
+      elim (value_decided v (λ of_sort d h. shorter of_sort d (omega (arith, nested_shorter s f r v d at m h)) (nested_envelope s f r v d at m h))) [
+        | inr bad ↦ inl (breach_at bad.2 bad.0 bad.1 (inr (f, r, at, inr (more, value v, m, bad.3))))
+        | inl c ↦ inr (v, m, c)
+      ]
+
+-- along a walk, behind frames that are canonical
+along : (n : ℕ) → AreEitherWithin n → (sort : Sort) (b : List ℕ) (passed : List Frame) (s : List ℕ) (frames : List Frame) (end : End)
+    → LeadsTo (drop 4 b) passed s → AreKeysCanonical sort (keys_of_frames passed) → AreFramesCanonical IsCanonicalAs passed
+    → AreBytes s → length s ≤ n + 1 → IsWalk s frames end → IsEither sort b
+along n shorter sort b passed s [] Done lead keys each bytes l w =
+    inl (canonical_of sort b passed (LeadsTo-walk (drop 4 b) passed s Done lead w) keys each)
+along n shorter sort b passed s [] (Stopped fault key) lead keys each bytes l w =
+    breach_at sort b passed s lead keys each 0 [] cause.Stop (inl (fault, key, w, refl, refl))
+along n shorter sort b passed s (f ∷ frames) end lead keys each bytes l w =
+    elim (key_decided sort (keys_of_frames passed) f.key keys) [
+      | inr bad ↦ breach_at sort b passed s lead keys each 0 [] bad.0 (inr (f, w.0, w.1, inl (bad.1, refl)))
+      | inl more ↦ (
+          let m = has_meaning f w.0 s bytes w.1 in
+          elim (frame_decided sort b passed s lead keys each n shorter l f w.0 w.1 more m.0 m.1) [
+            | inl done ↦ done
+            | inr v ↦ (
+                let on : LeadsTo (drop 4 b) (passed ++ f ∷ []) w.0 = LeadsTo-more (drop 4 b) passed s f w.0 lead w.1 in
+                let kept : AreKeysCanonical sort (keys_of_frames (passed ++ f ∷ [])) = subst (AreKeysCanonical sort) (sym (map-append (λ (x : Frame). x.key) passed (f ∷ []))) more in
+                along n shorter sort b (passed ++ f ∷ []) w.0 frames end on kept (frames_more passed f v.0 each v.1 v.2) (AreBytes-rest s f w.0 w.1 bytes)
+                (omega (arith, IsFrame-shorter s f w.0 w.1)) w.2)
+          ])
+    ]
+
+either_within : (n : ℕ) → AreEitherWithin n
+unfolding IsDistinct
+either_within zero sort b l env = absurd (omega (arith, env.enough))
+either_within (suc n) sort b l env =
+    let w = document_has_walk b env in
+    let size : length (drop 4 b) ≤ n + 1 = omega (arith, length-drop 4 b) in
+    along n (either_within n) sort b [] (drop 4 b) w.0 w.1 refl (no_keys sort) tt (AreBytes-drop 4 b env.bytes) size w.2
+  where
+    no_keys : (sort : Sort) → AreKeysCanonical sort []
+    no_keys as_document = tt
+    no_keys as_array = tt
+
+pub either_way : (sort : Sort) (b : List ℕ) → IsEnvelope b → IsCanonicalAs sort b ⊎ ((path : List ℕ) × (why : Cause) × HasBreachAs sort b path why)
+either_way sort b env = either_within (length b) sort b (omega arith) env

@@ -1,0 +1,264 @@
+-- The keys of a level and one more behind them, as lists and as the references that the code holds.
+use Rattle.std.proofs.Common.{zero, inl, inr, is_eq, is_le, is_lt, Ordering, Less, Equal, Greater, nat_cmp, Box, Global, None, ◌-◌, length-drop, true≢false, subst, suc, ◌<◌, ◌≤◌, ◌≡◌, ◌≢◌, ◌+◌, ◌++◌, ◌∷◌, [], ℕ, List, Bool, true, false, length, decimal, drop, take, arith, ap, refl, sym, ◌∙◌, append_assoc}
+use Rattle.std.proofs.Math.Seq.{drop-append_seam, drop-cons, take-append_seam}
+use Rattle.std.proofs.lemmas.Cmp.{nat_list_cmp_total, nat_list_eq_equiv}
+use Rattle.std.proofs.Math.ListN.{get_or}
+use Rattle.std.proofs.lemmas.List.{drop-map, map-append, take-append-drop, take_all, take-map, take_more}
+use Rattle.std.proofs.lemmas.Map.Keys.{IsDistinct-push}
+use Rattle.std.proofs.lemmas.Map.Views.{Contains-from_any, list_any-from_Contains}
+use Rattle.std.specs.Ordering.{ordering_reverse}
+use Rattle.std.specs.Cmp.Lexicographic.{same_text, slice_cmp}
+use Rattle.std.specs.List.{Contains, IsDistinct, AllByRecursion, list_any}
+use Rattle.std.specs.Str.{bytes_eq}
+use denote.Ref.{Bor}
+use Rattle.raw_tree.specs.validator.Breaches.{BreachesKeys}
+use Rattle.raw_tree.specs.Canonical.{AreDecimalsFrom, AreKeysCanonical}
+use Rattle.raw_tree.specs.reader.Reading.{Sort, as_document, as_array}
+use Rattle.raw_tree.proofs.validator.Noting.{noted_more}
+use Rattle.raw_tree.specs.validator.KeySets.{InsertsKey}
+use Rattle.raw_tree.specs.validator.Notes.{note_of, AreNoted, HasNote}
+use Rattle.raw_tree.specs.validator.References.{texts}
+use Rattle.raw_tree.specs.validator.Validating.{AreAscending, HasKeys, IsBehind, IsBehindLast, TellsOwnKey}
+use Rattle.raw_tree.specs.declared.validator.breach.Cause.{Cause}
+use Rattle.raw_tree.specs.declared.validator.breach.Cause.TheVariants as cause
+use Rattle.raw_tree.specs.declared.validator.keys.Keys.TheVariants as keys
+
+-- a test for a key finds it alone
+same_key : (x y : List ℕ) → bytes_eq x y ≡ true → x ≡ y
+same_key x y e = same_text x y (sym e)
+
+pub Contains-found : (keys : List (List ℕ)) (key : List ℕ) → list_any (bytes_eq key) keys ≡ true → Contains keys key
+Contains-found keys key e = Contains-from_any same_key key keys e
+
+pub not_found : (keys : List (List ℕ)) (key : List ℕ) → list_any (bytes_eq key) keys ≡ false → ¬ Contains keys key
+not_found keys key e c = true≢false (sym (list_any-from_Contains nat_list_eq_equiv key keys c) ∙ e)
+
+none_found : (keys : List (List ℕ)) (key : List ℕ) (b : Bool) → list_any (bytes_eq key) keys ≡ b → ¬ Contains keys key → b ≡ false
+none_found keys key true e new = absurd (new (Contains-found keys key e))
+none_found keys key false e new = refl
+
+-- distinct keys in front of others, and behind others
+all_front : (x : List ℕ) (xs ys : List (List ℕ)) → AllByRecursion (λ y. bytes_eq x y ≡ false) (xs ++ ys) → AllByRecursion (λ y. bytes_eq x y ≡ false) xs
+all_front x [] ys h = tt
+all_front x (y ∷ xs) ys h = (h.0, all_front x xs ys h.1)
+
+distinct_front : (xs ys : List (List ℕ)) → IsDistinct bytes_eq (xs ++ ys) → IsDistinct bytes_eq xs
+unfolding IsDistinct
+distinct_front [] ys h = tt
+distinct_front (x ∷ xs) ys h = (all_front x xs ys h.0, distinct_front xs ys h.1)
+
+last_apart : (x : List ℕ) (xs : List (List ℕ)) (key : List ℕ) → AllByRecursion (λ y. bytes_eq x y ≡ false) (xs ++ key ∷ []) → bytes_eq x key ≡ false
+last_apart x [] key h = h.0
+last_apart x (y ∷ xs) key h = last_apart x xs key h.1
+
+distinct_apart : (xs : List (List ℕ)) (key : List ℕ) → IsDistinct bytes_eq (xs ++ key ∷ []) → list_any (bytes_eq key) xs ≡ false
+unfolding IsDistinct
+distinct_apart [] key h = refl
+distinct_apart (x ∷ xs) key h =
+    let apart : bytes_eq key x ≡ false = nat_list_eq_equiv.symm key x ∙ last_apart x xs key h.0 in
+    rw apart (distinct_apart xs key h.1)
+
+-- decimals in front of others, and behind others
+decimals_front : (n : ℕ) (xs ys : List (List ℕ)) → AreDecimalsFrom n (xs ++ ys) → AreDecimalsFrom n xs
+decimals_front n [] ys h = tt
+decimals_front n (x ∷ xs) ys h = (h.0, decimals_front (n + 1) xs ys h.1)
+
+decimals_last : (n : ℕ) (xs : List (List ℕ)) (key : List ℕ) → AreDecimalsFrom n (xs ++ key ∷ []) → key ≡ decimal (n + length xs)
+decimals_last n [] key h = h.0 ∙ ap decimal (omega arith)
+decimals_last n (x ∷ xs) key h = decimals_last (n + 1) xs key h.1 ∙ ap decimal (omega arith)
+
+decimals_more : (n : ℕ) (xs : List (List ℕ)) (key : List ℕ) → AreDecimalsFrom n xs → key ≡ decimal (n + length xs) → AreDecimalsFrom n (xs ++ key ∷ [])
+decimals_more n [] key h e = (e ∙ ap decimal (omega arith), tt)
+decimals_more n (x ∷ xs) key h e = (h.0, decimals_more (n + 1) xs key h.1 (e ∙ ap decimal (omega arith)))
+
+-- canonical keys have canonical keys in front
+pub keys_front : (sort : Sort) (xs ys : List (List ℕ)) → AreKeysCanonical sort (xs ++ ys) → AreKeysCanonical sort xs
+keys_front as_document xs ys h = distinct_front xs ys h
+keys_front as_array xs ys h = decimals_front 0 xs ys h
+
+-- a key that stays canonical behind these has no breach
+pub key_nor_breach : (sort : Sort) (keys : List (List ℕ)) (key : List ℕ) (why : Cause) → AreKeysCanonical sort (keys ++ key ∷ []) → BreachesKeys sort keys key why → ⊥
+key_nor_breach as_document keys key why h b = not_found keys key (distinct_apart keys key h) b.0
+key_nor_breach as_array keys key why h b = b.0 (decimals_last 0 keys key h ∙ ap decimal (omega arith))
+
+-- one key more
+pub document_key : (keys : List (List ℕ)) (key : List ℕ) → IsDistinct bytes_eq keys → ¬ Contains keys key → IsDistinct bytes_eq (keys ++ key ∷ [])
+document_key keys key h new = IsDistinct-push nat_list_eq_equiv keys key h (none_found keys key (list_any (bytes_eq key) keys) refl new)
+
+pub array_key : (keys : List (List ℕ)) (key : List ℕ) → AreDecimalsFrom 0 keys → key ≡ decimal (length keys) → AreDecimalsFrom 0 (keys ++ key ∷ [])
+array_key keys key h e = decimals_more 0 keys key h (e ∙ ap decimal (omega arith))
+
+-- the texts of references
+pub texts_found : (refs : List (Bor (List ℕ))) (key : List ℕ) → list_any (λ k. bytes_eq k.now key) refs ≡ list_any (bytes_eq key) (texts refs)
+texts_found [] key = refl
+texts_found (k ∷ refs) key = rw (nat_list_eq_equiv.symm key k.now, texts_found refs key) refl
+
+pub texts_behind : (refs : List (Bor (List ℕ))) (below own : List (List ℕ)) (first : ℕ) → first ≡ length below → texts refs ≡ below ++ own → texts (drop first refs) ≡ own
+texts_behind refs below own first f e =
+    sym (drop-map (λ (k : Bor (List ℕ)). k.now) first refs) ∙ ap (λ (xs : List (List ℕ)). drop first xs) e ∙ ap (λ (n : ℕ). drop n (below ++ own)) f ∙ drop-append_seam below own
+
+pub texts_front : (refs : List (Bor (List ℕ))) (below own : List (List ℕ)) (first : ℕ) → first ≡ length below → texts refs ≡ below ++ own → texts (take first refs) ≡ below
+texts_front refs below own first f e =
+    sym (take-map (λ (k : Bor (List ℕ)). k.now) first refs) ∙ ap (λ (xs : List (List ℕ)). take first xs) e ∙ ap (λ (n : ℕ). take n (below ++ own)) f ∙ take-append_seam below own
+
+-- where keys are distinct, one of them that is inserted behind those before it is new
+pub inserted_last : (before after rest : List (List ℕ)) (key : List ℕ) (new : Bool) → IsDistinct bytes_eq (before ++ key ∷ rest) → InsertsKey before key new after → after ≡ before ++ key ∷ []
+inserted_last before after rest key true h i = i.1
+inserted_last before after rest key false h i =
+    let front : IsDistinct bytes_eq (before ++ key ∷ []) = distinct_front (before ++ key ∷ []) rest (rw append_assoc h) in
+    absurd (not_found before key (distinct_apart before key front) i.0)
+
+-- so each of distinct references is put last in turn
+pub each_inserted : (refs : List (Bor (List ℕ))) (i : ℕ) (d : Bor (List ℕ)) (last : List ℕ) (before after : List (List ℕ)) (new : Bool) → i < length refs
+    → before ≡ texts (take i refs) → IsDistinct bytes_eq (texts refs ++ last ∷ []) → InsertsKey before (get_or refs i d).now new after
+    → after ≡ texts (take (i + 1) refs)
+each_inserted refs i d last before after new l e distinct put =
+    let k : Bor (List ℕ) = get_or refs i d in
+    let whole : refs ≡ take i refs ++ k ∷ drop (suc i) refs = sym (take-append-drop i refs) ∙ ap (λ (xs : List (Bor (List ℕ))). take i refs ++ xs) (drop-cons refs i d l) in
+    let behind : List (List ℕ) = texts (drop (suc i) refs) ++ last ∷ [] in
+    let cut : texts refs ++ last ∷ [] ≡ before ++ k.now ∷ behind =
+    ap (λ (xs : List (Bor (List ℕ))). texts xs ++ last ∷ []) whole
+    ∙ ap (λ (xs : List (List ℕ)). xs ++ last ∷ []) (map-append (λ (x : Bor (List ℕ)). x.now) (take i refs) (k ∷ drop (suc i) refs))
+    ∙ append_assoc (texts (take i refs)) (k.now ∷ texts (drop (suc i) refs)) (last ∷ []) ∙ ap (λ (xs : List (List ℕ)). xs ++ k.now ∷ behind) (sym e) in
+    inserted_last before after behind k.now new (subst (IsDistinct bytes_eq) cut distinct) put ∙ ap (λ (xs : List (List ℕ)). xs ++ k.now ∷ []) e
+    ∙ sym (map-append (λ (x : Bor (List ℕ)). x.now) (take i refs) (k ∷ [])) ∙ sym (ap texts (take_more refs i d l))
+
+pub all_inserted : (refs : List (Bor (List ℕ))) (i : ℕ) (last : List ℕ) (before after : List (List ℕ)) (new : Bool) → length refs ≤ i
+    → before ≡ texts (take i refs) → IsDistinct bytes_eq (texts refs ++ last ∷ []) → InsertsKey before last new after → after ≡ texts refs ++ last ∷ []
+all_inserted refs i last before after new l e distinct put =
+    let whole : before ≡ texts refs = e ∙ ap texts (take_all i refs l) in
+    inserted_last before after [] last new (rw whole distinct) put ∙ ap (λ (xs : List (List ℕ)). xs ++ last ∷ []) whole
+
+-- the keys of a level in the list, and one more
+pub own_texts : (refs : List (Bor (List ℕ))) (below own : List (List ℕ)) (first : ℕ) → first ≡ length below → texts refs ≡ below ++ own → texts (take (length refs - first) (drop first refs)) ≡ own
+own_texts refs below own first f e = ap texts (take_all (length refs - first) (drop first refs) (omega (arith, length-drop first refs))) ∙ texts_behind refs below own first f e
+
+module _ (refs : List (Bor (List ℕ))) (sort : Sort) (below own : List (List ℕ)) (key : Bor (List ℕ)) (first notes : ℕ) (has : HasKeys (keys.Listed first notes) refs sort below own) where
+  pub listed_repeats : Contains own key.now → BreachesKeys sort own key.now cause.RepeatedKey
+  listed_repeats c = subst (λ (s : Sort). BreachesKeys s own key.now cause.RepeatedKey) (sym has.0) (c, refl)
+
+  pub listed_new : AreKeysCanonical sort own → ¬ Contains own key.now → IsDistinct bytes_eq (own ++ key.now ∷ [])
+  listed_new canonical new = document_key own key.now (subst (λ (s : Sort). AreKeysCanonical s own) has.0 canonical) new
+
+  pub keys_canonical : IsDistinct bytes_eq (own ++ key.now ∷ []) → AreKeysCanonical sort (own ++ key.now ∷ [])
+  keys_canonical distinct = subst (λ (s : Sort). AreKeysCanonical s (own ++ key.now ∷ [])) (sym has.0) distinct
+
+  pub listed_texts : texts (refs ++ key ∷ []) ≡ below ++ (own ++ key.now ∷ [])
+  listed_texts = map-append (λ (k : Bor (List ℕ)). k.now) refs (key ∷ []) ∙ ap (λ (xs : List (List ℕ)). xs ++ key.now ∷ []) has.2 ∙ append_assoc below own (key.now ∷ [])
+
+  pub listed_more : (after : ℕ) → ((n : ℕ) → HasNote notes n → HasNote after n) → HasNote after (note_of key.now)
+      → HasKeys (keys.Listed first after) (refs ++ key ∷ []) sort below (own ++ key.now ∷ [])
+  listed_more after kept here = (has.0, has.1, listed_texts, noted_more notes after own key.now has.3 kept here)
+
+  pub listed_moved : (set : Box (List (List ℕ)) Global) → set.value ≡ texts (take (length refs - first) (drop first refs)) ++ key.now ∷ []
+      → HasKeys (keys.Indexed set) (take first refs) sort below (own ++ key.now ∷ [])
+  listed_moved set e = (has.0, texts_front refs below own first has.1 has.2, e ∙ ap (λ (xs : List (List ℕ)). xs ++ key.now ∷ []) (own_texts refs below own first has.1 has.2))
+
+-- the keys of an array, and one more
+pub numbers_more : (refs : List (Bor (List ℕ))) (sort : Sort) (below own : List (List ℕ)) (key : List ℕ) (number : ℕ) → HasKeys keys.Numbers refs sort below own
+    → AreKeysCanonical sort own → number ≡ length own → key ≡ decimal number → TellsOwnKey sort below own key keys.Numbers refs None
+numbers_more refs sort below own key number has canonical n e =
+    (has, subst (λ (s : Sort). AreKeysCanonical s (own ++ key ∷ [])) (sym has.0) (array_key own key (subst (λ (s : Sort). AreKeysCanonical s own) has.0 canonical) (e ∙ ap decimal n)))
+
+pub numbers_breach : (refs : List (Bor (List ℕ))) (sort : Sort) (below own : List (List ℕ)) (key : List ℕ) (number : ℕ)
+    → HasKeys keys.Numbers refs sort below own → number ≡ length own → key ≢ decimal number → BreachesKeys sort own key cause.ArrayKey
+numbers_breach refs sort below own key number has n e =
+    subst (λ (s : Sort). BreachesKeys s own key cause.ArrayKey) (sym has.0) (λ same. e (same ∙ ap decimal (sym n)), refl)
+
+-- the keys of a level in a set, and one more
+pub indexed_more : (old new : Box (List (List ℕ)) Global) (refs : List (Bor (List ℕ))) (sort : Sort) (below own : List (List ℕ)) (key : List ℕ)
+    → HasKeys (keys.Indexed old) refs sort below own → AreKeysCanonical sort own → InsertsKey old.value key true new.value
+    → TellsOwnKey sort below own key (keys.Indexed new) refs None
+indexed_more old new refs sort below own key has canonical put =
+    let distinct = document_key own key (subst (λ (s : Sort). AreKeysCanonical s own) has.0 canonical) (subst (λ (xs : List (List ℕ)). ¬ Contains xs key) has.2 put.0) in
+    ((has.0, has.1, put.1 ∙ ap (λ (xs : List (List ℕ)). xs ++ key ∷ []) has.2), subst (λ (s : Sort). AreKeysCanonical s (own ++ key ∷ [])) (sym has.0) distinct)
+
+pub indexed_breach : (old new : Box (List (List ℕ)) Global) (refs : List (Bor (List ℕ))) (sort : Sort) (below own : List (List ℕ)) (key : List ℕ)
+    → HasKeys (keys.Indexed old) refs sort below own → InsertsKey old.value key false new.value → BreachesKeys sort own key cause.RepeatedKey
+indexed_breach old new refs sort below own key has put =
+    subst (λ (s : Sort). BreachesKeys s own key cause.RepeatedKey) (sym has.0) (subst (λ (xs : List (List ℕ)). Contains xs key) has.2 put.0, refl)
+
+-- keys that ascend
+
+behind_more : (a b c : List ℕ) → IsBehind a b → IsBehind b c → IsBehind a c
+behind_more a b c x y =
+    elim x [
+      | inl l ↦ elim y [
+        | inl m ↦ inl (omega arith)
+        | inr m ↦ inl (omega (arith, m.0))
+      ]
+      | inr l ↦ elim y [
+        | inl m ↦ inl (omega (arith, l.0))
+        | inr m ↦ inr (l.0 ∙ m.0, nat_list_cmp_total.trans a b c l.1 m.1)
+      ]
+    ]
+
+less_apart : (o : Ordering) → o ≡ ordering_reverse o → o ≡ Less → ⊥
+less_apart Less e l = true≢false (ap is_le e)
+less_apart Equal e l = true≢false (ap is_eq l)
+less_apart Greater e l = true≢false (sym (ap is_le l))
+
+not_behind_itself : (a : List ℕ) → IsBehind a a → ⊥
+not_behind_itself a x =
+    elim x [
+      | inl l ↦ absurd (omega (arith, l))
+      | inr l ↦ less_apart (slice_cmp nat_cmp a a) (nat_list_cmp_total.antisymm a a) l.1
+    ]
+
+differs_as : (first key : List ℕ) (same : Bool) → bytes_eq key first ≡ same → IsBehind first key → same ≡ false
+differs_as first key false e b = refl
+differs_as first key true e b = absurd (not_behind_itself first (subst (IsBehind first) (same_key key first e) b))
+
+behind_differs : (first key : List ℕ) → IsBehind first key → bytes_eq key first ≡ false
+behind_differs first key b = differs_as first key (bytes_eq key first) refl b
+
+-- a key behind the last of keys that ascend is behind the first
+behind_first : (key first : List ℕ) (keys : List (List ℕ)) → AreAscending (first ∷ keys) → IsBehindLast (first ∷ keys) key → IsBehind first key
+behind_first key first [] h b = b
+behind_first key first (next ∷ keys) h b = behind_more first next key h.0 (behind_first key next keys h.1 b)
+
+-- it is none of them
+ascending_test : (keys : List (List ℕ)) (key : List ℕ) → AreAscending keys → IsBehindLast keys key → list_any (bytes_eq key) keys ≡ false
+ascending_test [] key h b = refl
+ascending_test (first ∷ []) key h b = rw (behind_differs first key b) refl
+ascending_test (first ∷ next ∷ keys) key h b = rw (behind_differs first key (behind_first key first (next ∷ keys) h b)) (ascending_test (next ∷ keys) key h.1 b)
+
+-- and they ascend with it
+ascending_more : (keys : List (List ℕ)) (key : List ℕ) → AreAscending keys → IsBehindLast keys key → AreAscending (keys ++ key ∷ [])
+ascending_more [] key h b = tt
+ascending_more (first ∷ []) key h b = (b, tt)
+ascending_more (first ∷ next ∷ keys) key h b = (h.0, ascending_more (next ∷ keys) key h.1 b)
+
+-- the last of references
+last_behind_at : (refs : List (Bor (List ℕ))) (n : ℕ) (last : Bor (List ℕ)) (key : List ℕ) → length refs ≡ suc n → last ≡ get_or refs n last → IsBehind last.now key → IsBehindLast (texts refs) key
+last_behind_at [] n last key l e b = tt
+last_behind_at (x ∷ []) n last key l e b =
+    let here : n ≡ 0 = omega (arith, l) in
+    let same : last ≡ x = e ∙ ap (λ (m : ℕ). get_or (x ∷ []) m last) here in
+    subst (λ (k : Bor (List ℕ)). IsBehind k.now key) same b
+last_behind_at (x ∷ y ∷ refs) zero last key l e b = absurd (omega (arith, l))
+last_behind_at (x ∷ y ∷ refs) (suc n) last key l e b = last_behind_at (y ∷ refs) n last key (omega (arith, l)) e b
+
+pub last_behind : (refs : List (Bor (List ℕ))) (last : Bor (List ℕ)) (key : List ℕ) → 0 < length refs → last ≡ get_or refs (length refs - 1) last
+    → IsBehind last.now key → IsBehindLast (texts refs) key
+last_behind refs last key some e b = last_behind_at refs (length refs - 1) last key (omega (arith, some)) e b
+
+-- keys that ascend in the list, and one more behind them
+pub listed_of : (refs : List (Bor (List ℕ))) (sort : Sort) (below own : List (List ℕ)) (first notes : ℕ) → HasKeys (keys.Ascending first) refs sort below own
+    → AreNoted notes own → HasKeys (keys.Listed first notes) refs sort below own
+listed_of refs sort below own first notes has noted = (has.0, has.1, has.2, noted)
+
+pub ascending_kept : (refs : List (Bor (List ℕ))) (sort : Sort) (below own : List (List ℕ)) (key : Bor (List ℕ)) (first : ℕ)
+    → HasKeys (keys.Ascending first) refs sort below own → AreKeysCanonical sort own → IsBehindLast own key.now
+    → TellsOwnKey sort below own key.now (keys.Ascending first) (refs ++ key ∷ []) None
+ascending_kept refs sort below own key first has canonical behind =
+    let listed : texts (refs ++ key ∷ []) ≡ below ++ (own ++ key.now ∷ []) =
+    map-append (λ (k : Bor (List ℕ)). k.now) refs (key ∷ []) ∙ ap (λ (xs : List (List ℕ)). xs ++ key.now ∷ []) has.2
+    ∙ append_assoc below own (key.now ∷ []) in
+    let distinct = document_key own key.now (subst (λ (s : Sort). AreKeysCanonical s own) has.0 canonical) (not_found own key.now (ascending_test own key.now has.3 behind)) in
+    ((has.0, has.1, listed, ascending_more own key.now has.3 behind), subst (λ (s : Sort). AreKeysCanonical s (own ++ key.now ∷ [])) (sym has.0) distinct)
+
+pub less_from_test : (o : Ordering) → is_lt o ≡ true → o ≡ Less
+less_from_test Less e = refl
+less_from_test Equal e = absurd (true≢false (sym e))
+less_from_test Greater e = absurd (true≢false (sym e))

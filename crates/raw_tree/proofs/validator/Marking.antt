@@ -1,0 +1,135 @@
+-- Marks of keys in a table: what a free slot says, and that marks stay.
+use Rattle.std.proofs.Common.{zero, suc, inl, inr, nat_cmp, ◌≡◌, ◌≢◌, ◌<◌, ◌≤◌, ◌+◌, ◌++◌, ◌∷◌, [], ℕ, List, Bor, Some, length, take, get_or, arith, ap, refl, sym, subst, ◌∙◌, Bool, true, false}
+use Rattle.std.proofs.Math.ListN.{set, length-set}
+use Rattle.std.proofs.lemmas.Cmp.{by_ranked, ranked}
+use Rattle.std.proofs.lemmas.List.{get_or-set_same, map-append, take_more, take_all}
+use Rattle.std.proofs.lemmas.List.Elements.{Contains-push_cases}
+use Rattle.std.proofs.lemmas.Option.{slice_get-get_or, slice_get_within}
+use Rattle.std.specs.List.{slice_get}
+use Rattle.raw_tree.specs.validator.KeySets.{InsertsKey}
+use Rattle.raw_tree.specs.validator.Marks.{mark_of, AreMarked, AreTaken, IsFreeFrom, IsMarkAt, IsMarked}
+use Rattle.raw_tree.specs.validator.References.{texts}
+use Rattle.raw_tree.specs.declared.validator.marks.Marks.{Marks}
+
+get_set_other : {X : Type 0} (xs : List X) (i j : ℕ) (y : X) → j ≢ i → slice_get (set xs i y) j ≡ slice_get xs j
+get_set_other [] i j y h = refl
+get_set_other (x ∷ xs) zero zero y h = absurd (h refl)
+get_set_other (x ∷ xs) zero (suc j) y h = refl
+get_set_other (x ∷ xs) (suc i) zero y h = refl
+get_set_other (x ∷ xs) (suc i) (suc j) y h = get_set_other xs i j y (λ e. h (ap suc e))
+
+get_set_same : {X : Type 0} (xs : List X) (i : ℕ) (y : X) → i < length xs → slice_get (set xs i y) i ≡ Some y
+get_set_same xs i y l =
+    let within : i < length (set xs i y) = rw (length-set xs i y) l in
+    slice_get-get_or (set xs i y) i y within ∙ ap Some (get_or-set_same xs i y y l)
+
+-- what is taken isn't free
+taken_apart : (slots : List ℕ) (at i mark : ℕ) → mark ≢ 0 → slice_get slots i ≡ Some mark → slice_get slots at ≡ Some 0 → i ≢ at
+taken_apart slots at i mark some is free e =
+    let both : Some mark ≡ Some 0 = sym is ∙ ap (λ (n : ℕ). slice_get slots n) e ∙ free in
+    some (cc)
+
+-- the slots from the start up to a place are taken, and not by the mark
+pub record ArePassed (slots : List ℕ) (start mark at : ℕ) : Type 0 where
+  pub behind : start ≤ at
+  pub taken : AreTaken slots start at
+  pub apart : (i : ℕ) → start ≤ i → i < at → slice_get slots i ≢ Some mark
+
+pub passed_none : (slots : List ℕ) (start mark : ℕ) → ArePassed slots start mark start
+passed_none slots start mark = record {
+  behind = omega arith;
+  taken = λ i s l. absurd (omega (arith, s, l));
+  apart = λ i s l. absurd (omega (arith, s, l));
+}
+
+-- up to the next place, if up to this one
+one_more : (slots : List ℕ) (start at other : ℕ) → ((i : ℕ) → start ≤ i → i < at → slice_get slots i ≢ Some other) → slice_get slots at ≢ Some other → (i : ℕ)
+    → start ≤ i → i < at + 1 → slice_get slots i ≢ Some other
+one_more slots start at other before here i s l e =
+    by_ranked (i < at) (i ≡ at) (at < i) (nat_cmp i at) (ranked i at (nat_cmp i at) refl)
+    (λ _ m. before i s m e)
+    (λ _ same. here (ap (λ (n : ℕ). slice_get slots n) (sym same) ∙ e))
+    (λ _ m. absurd (omega (arith, l, m)))
+
+not_slot : (slots : List ℕ) (at slot other : ℕ) → slice_get slots at ≡ Some slot → slot ≢ other → slice_get slots at ≢ Some other
+not_slot slots at slot other is apart e =
+    let both : Some slot ≡ Some other = sym is ∙ e in
+    apart (cc)
+
+pub passed_more : (slots : List ℕ) (start mark at slot : ℕ) → ArePassed slots start mark at → slice_get slots at ≡ Some slot → slot ≢ 0 → slot ≢ mark → ArePassed slots start mark (at + 1)
+passed_more slots start mark at slot p is some apart = record {
+  behind = omega (arith, p.behind);
+  taken = one_more slots start at 0 p.taken (not_slot slots at slot 0 is some);
+  apart = one_more slots start at mark p.apart (not_slot slots at slot mark is apart);
+}
+
+pub free_here : (slots : List ℕ) (start mark at slot : ℕ) → ArePassed slots start mark at → slice_get slots at ≡ Some slot → slot ≡ 0 → IsFreeFrom slots start mark at
+free_here slots start mark at slot p is none = record {
+  behind = p.behind;
+  within = slice_get_within slots at slot is;
+  free = is ∙ ap Some none;
+  taken = p.taken;
+  apart = p.apart;
+}
+
+pub mark_here : (slots : List ℕ) (start mark at slot : ℕ) → ArePassed slots start mark at → slice_get slots at ≡ Some slot → slot ≡ mark → IsMarkAt slots start mark
+mark_here slots start mark at slot p is same = (at, p.behind, is ∙ ap Some same, p.taken)
+
+pub none_marked : (slots : List ℕ) (start mark at : ℕ) → mark ≢ 0 → IsFreeFrom slots start mark at → ¬ IsMarkAt slots start mark
+none_marked slots start mark at some f h =
+    by_ranked (h.0 < at) (h.0 ≡ at) (at < h.0) (nat_cmp h.0 at) (ranked h.0 at (nat_cmp h.0 at) refl)
+    (λ _ l. f.apart h.0 h.1 l h.2)
+    (λ _ e. taken_apart slots at h.0 mark some h.2 f.free e)
+    (λ _ l. h.3 at f.behind l f.free)
+
+pub marked_now : (slots : List ℕ) (start mark at : ℕ) → IsFreeFrom slots start mark at → IsMarkAt (set slots at mark) start mark
+marked_now slots start mark at f =
+    (at, f.behind, get_set_same slots at mark f.within, λ i s l e. f.taken i s l (sym (get_set_other slots at i mark (λ same. absurd (omega (arith, l, same)))) ∙ e))
+
+-- a slot that was free and is marked is taken, and so is each that was
+still_taken : (slots : List ℕ) (at mark i : ℕ) → mark ≢ 0 → at < length slots → slice_get slots i ≢ Some 0 → slice_get (set slots at mark) i ≢ Some 0
+still_taken slots at mark i some within was e =
+    by_ranked (i < at) (i ≡ at) (at < i) (nat_cmp i at) (ranked i at (nat_cmp i at) refl)
+    (λ _ l. was (sym (get_set_other slots at i mark (λ same. absurd (omega (arith, l, same)))) ∙ e))
+    (λ _ same. let both : Some mark ≡ Some 0 = sym (get_set_same slots at mark within) ∙ ap (λ (n : ℕ). slice_get (set slots at mark) n) (sym same) ∙ e in some (cc))
+    (λ _ l. was (sym (get_set_other slots at i mark (λ same. absurd (omega (arith, l, same)))) ∙ e))
+
+pub marks_kept : (slots : List ℕ) (at mark start m : ℕ) → mark ≢ 0 → m ≢ 0 → at < length slots → slice_get slots at ≡ Some 0 → IsMarkAt slots start m → IsMarkAt (set slots at mark) start m
+marks_kept slots at mark start m some other within free h =
+    (h.0, h.1, get_set_other slots at h.0 mark (taken_apart slots at h.0 m other h.2 free) ∙ h.2, λ i s l. still_taken slots at mark i some within (h.3 i s l))
+
+pub mark_some : (hash : ℕ) → mark_of hash ≢ 0
+mark_some hash = omega arith
+
+-- one key more
+pub marked_more : (old new : Marks) (keys : List (List ℕ)) (key : List ℕ) → AreMarked old keys → ((k : List ℕ) → IsMarked old k → IsMarked new k) → IsMarked new key → AreMarked new (keys ++ key ∷ [])
+marked_more old new keys key h kept here k c =
+    elim (Contains-push_cases keys key k c) [
+      | inl d ↦ kept k (h k d)
+      | inr e ↦ subst (IsMarked new) e here
+    ]
+
+pub texts_push : (refs : List (Bor (List ℕ))) (key : Bor (List ℕ)) → texts (refs ++ key ∷ []) ≡ texts refs ++ key.now ∷ []
+texts_push refs key = map-append (λ (k : Bor (List ℕ)). k.now) refs (key ∷ [])
+
+pub texts_more : (refs : List (Bor (List ℕ))) (i : ℕ) (d : Bor (List ℕ)) → i < length refs → texts (take (i + 1) refs) ≡ texts (take i refs) ++ (get_or refs i d).now ∷ []
+texts_more refs i d l = ap texts (take_more refs i d l) ∙ texts_push (take i refs) (get_or refs i d)
+
+pub texts_all : (refs : List (Bor (List ℕ))) (i : ℕ) → length refs ≤ i → texts (take i refs) ≡ texts refs
+texts_all refs i l = ap texts (take_all i refs l)
+
+pub marked_each : (refs : List (Bor (List ℕ))) (i : ℕ) (d : Bor (List ℕ)) (old new : Marks) → i < length refs → AreMarked old (texts (take i refs))
+    → ((k : List ℕ) → IsMarked old k → IsMarked new k) → IsMarked new (get_or refs i d).now → AreMarked new (texts (take (i + 1) refs))
+marked_each refs i d old new l h kept here = subst (AreMarked new) (sym (texts_more refs i d l)) (marked_more old new (texts (take i refs)) (get_or refs i d).now h kept here)
+
+pub marked_push : (refs after : List (Bor (List ℕ))) (key : Bor (List ℕ)) (marks : Marks) → after ≡ refs ++ key ∷ [] → AreMarked marks (texts refs ++ key.now ∷ []) → AreMarked marks (texts after)
+marked_push refs after key marks e h = subst (AreMarked marks) (sym (ap texts e ∙ texts_push refs key)) h
+
+pub marked_kept : (old new : Marks) (keys after : List (List ℕ)) → ((k : List ℕ) → IsMarked old k → IsMarked new k) → after ≡ keys → AreMarked old keys → AreMarked new after
+marked_kept old new keys after kept same h = subst (AreMarked new) (sym same) (λ k c. kept k (h k c))
+
+-- a key that was there or was put last
+pub marked_inserted : (old new : Marks) (before after : List (List ℕ)) (key : List ℕ) (b : Bool) → AreMarked old before
+    → ((k : List ℕ) → IsMarked old k → IsMarked new k) → IsMarked new key → InsertsKey before key b after → AreMarked new after
+marked_inserted old new before after key true h kept here inserts = subst (AreMarked new) (sym inserts.1) (marked_more old new before key h kept here)
+marked_inserted old new before after key false h kept here inserts = subst (AreMarked new) (sym inserts.1) (λ k c. kept k (h k c))

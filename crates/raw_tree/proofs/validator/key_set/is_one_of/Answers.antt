@@ -1,0 +1,14 @@
+use Rattle.std.proofs.Common.{sym, ◌∙◌}
+use Rattle.std.proofs.lemmas.Cmp.{nat_list_eq_equiv}
+use Rattle.std.proofs.lemmas.Map.Views.{list_any-from_Contains}
+use Rattle.raw_tree.specs.validator.References.{texts}
+use Rattle.raw_tree.proofs.validator.LevelKeys.{Contains-found, texts_found}
+use Rattle.raw_tree.proofs.validator.key_set.is_one_of.Goals as goal
+
+pub returns : goal.returns
+returns c =
+    let keys = c.args.keys.now in
+    let key = c.args.key.now in (
+      λ is. Contains-found (texts keys) key (sym (texts_found keys key) ∙ (sym c.contains.ensures.value ∙ is)),
+      λ there. c.contains.ensures.value ∙ (texts_found keys key ∙ list_any-from_Contains nat_list_eq_equiv key (texts keys) there),
+    )

@@ -1,0 +1,11 @@
+use Rattle.std.proofs.Common.{subst}
+use Rattle.raw_tree.specs.validator.Marks.{AreMarked}
+use Rattle.raw_tree.proofs.validator.Marking.{marked_each, texts_all}
+use Rattle.raw_tree.proofs.validator.marks.Marks.mark_all.Goals as goal
+
+pub loop-key-preserved : goal.loop-key-preserved
+loop-key-preserved c = marked_each c.args.keys.now c.loop-key.key-index _ c.loop-key.self c.mark.new.self c.loop-key-test.true c.loop-key.invariant
+    c.mark.ensures.kept (c.mark.ensures.marked c.if-not-mark.false)
+
+pub returns : goal.returns
+returns c = record { marked = λ _. subst (AreMarked c.loop-key.self) (texts_all c.args.keys.now c.loop-key.key-index c.loop-key-test.false) c.loop-key.invariant }

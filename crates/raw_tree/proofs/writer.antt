@@ -1,0 +1,4 @@
+pub mod Encodings
+pub mod MeasuredMembers
+pub mod MemberSteps
+pub mod WrittenMembers

@@ -1,0 +1,142 @@
+-- How a container is measured member by member: what is counted so far and what the members that are left take are the
+-- whole, and no 0 is in it where it may not be exactly where none is in those.
+use Rattle.std.proofs.Common.{◌≡◌, ◌<◌, ◌-◌, ◌^◌, ℕ, ◌+◌, List, [], ◌∷◌, ◌++◌, length, min, Option, None, Some, MatchOption, Vec, Global, vec_len, refl, ap, length-append, arith}
+use Rattle.std.proofs.lemmas.List.{nil_from_length}
+use Rattle.bson_model.specs.Leaf.{Leaf}
+use Rattle.bson_model.specs.Proper.{IsNulFree}
+use Rattle.bson_model.specs.Tree.{Tree, leaf}
+use Rattle.raw_view.specs.Meaning.{RawValue, single, document as document_value, array as array_value, scoped}
+use Rattle.raw_tree.specs.writer.Encoding.{encoded_len}
+use Rattle.raw_tree.specs.writer.Measuring.{Measures}
+use Rattle.raw_tree.specs.writer.Members.{MemberKey, key_bytes, members, members_len, opening_len, IsKeyFree, AreMembersFree, IsLeafOf, members_left, tree_of_container}
+use Rattle.raw_tree.specs.declared.writer.members.Container.{Container}
+use Rattle.raw_tree.specs.declared.writer.members.Members.{Members}
+use Rattle.raw_tree.proofs.writer.MemberSteps.{container_len, members_free}
+
+-- what is left of those that wait
+abbrev pub len_waiting : List Members → ℕ
+len_waiting [] = 0
+len_waiting (w ∷ ws) = members_len (members_left w) + len_waiting ws
+
+abbrev pub AreWaitingFree : List Members → Type 0
+AreWaitingFree [] = Unit {0}
+AreWaitingFree (w ∷ ws) = AreMembersFree (members_left w) × AreWaitingFree ws
+
+pub len_waiting-last : (ws : List Members) (w : Members) → len_waiting (ws ++ w ∷ []) ≡ len_waiting ws + members_len (members_left w)
+len_waiting-last [] w = omega arith
+len_waiting-last (x ∷ ws) w = omega (arith, len_waiting-last ws w)
+
+waiting_free-more : (ws : List Members) (w : Members) → AreWaitingFree ws → AreMembersFree (members_left w) → AreWaitingFree (ws ++ w ∷ [])
+waiting_free-more [] w h free = (free, tt)
+waiting_free-more (x ∷ ws) w h free = (h.0, waiting_free-more ws w h.1 free)
+
+waiting_free-less : (ws : List Members) (w : Members) → AreWaitingFree (ws ++ w ∷ []) → AreWaitingFree ws × AreMembersFree (members_left w)
+waiting_free-less [] w h = (tt, h.0)
+waiting_free-less (x ∷ ws) w h = let less = waiting_free-less ws w h.1 in ((h.0, less.0), less.1)
+
+-- the tree is measured but for the members that wait and those that are left
+pub record IsMeasuring (t : Tree) (ws : List Members) (left : List (MemberKey × Tree)) (total : ℕ) : Type 0 where
+  pub counted : ℕ
+  pub total_is : total ≡ min counted (2 ^ 64 - 1)
+  pub whole : counted + members_len left + len_waiting ws ≡ encoded_len t
+  pub inward : IsNulFree t → AreWaitingFree ws × AreMembersFree left
+  pub outward : AreWaitingFree ws → AreMembersFree left → IsNulFree t
+
+pub measuring_begins : (c : Container) (total : ℕ) → total ≡ opening_len (tree_of_container c) + 1 → total < 2 ^ 64 → IsMeasuring (tree_of_container c) [] (members (tree_of_container c)) total
+measuring_begins c total e fits = record {
+  counted = total;
+  total_is = omega arith;
+  whole = omega (arith, container_len c);
+  inward = λ h. (tt, (members_free c).0 h);
+  outward = λ waiting h. (members_free c).1 h;
+}
+
+module _ (t : Tree) (ws : List Members) (m : MemberKey × Tree) (old left : List (MemberKey × Tree)) (total : ℕ) (was : IsMeasuring t ws old total) (step : old ≡ m ∷ left) where
+  is : IsMeasuring t ws (m ∷ left) total
+  is = rw step at was
+
+  -- a member is measured
+  pub measuring_member : (same : List Members) (new : List (MemberKey × Tree)) (len after : ℕ) → same ≡ ws → new ≡ left → IsKeyFree m.0 → Measures m.1 (Some len)
+      → after ≡ min (min (min (total + 2) (2 ^ 64 - 1) + length (key_bytes m.0)) (2 ^ 64 - 1) + len) (2 ^ 64 - 1) → IsMeasuring t same new after
+  measuring_member same new len after f l key measured a =
+      let before = is.total_is in
+      let on : IsMeasuring t ws left after = record {
+        counted = is.counted + (2 + length (key_bytes m.0) + encoded_len m.1);
+        total_is = omega (arith, before, measured.1);
+        whole = omega (arith, is.whole);
+        inward = λ h. let all = is.inward h in (all.0, all.1.2);
+        outward = λ waiting free. is.outward waiting (key, measured.0, free);
+      } in
+      rw (f, l) on
+
+  -- its own members are measured first
+  pub measuring_inside : (w : Members) (more : List Members) (new : List (MemberKey × Tree)) (c : Container) (len after : ℕ) → more ≡ ws ++ w ∷ []
+      → new ≡ members (tree_of_container c) → members_left w ≡ left → m.1 ≡ tree_of_container c → IsKeyFree m.0 → len ≡ opening_len (tree_of_container c) + 1
+      → after ≡ min (min (min (total + 2) (2 ^ 64 - 1) + length (key_bytes m.0)) (2 ^ 64 - 1) + len) (2 ^ 64 - 1) → IsMeasuring t more new after
+  measuring_inside w more new c len after f n l e key frame a =
+      let before = is.total_is in
+      let on : IsMeasuring t (ws ++ w ∷ []) (members (tree_of_container c)) after = record {
+        counted = is.counted + (2 + length (key_bytes m.0) + len);
+        total_is = omega (arith, before);
+        whole = omega (arith, is.whole, container_len c, len_waiting-last ws w, ap encoded_len e, ap members_len l);
+        inward = λ h. let all = is.inward h in (waiting_free-more ws w all.0 (rw l all.1.2), (members_free c).0 (rw e at all.1.1));
+        outward = λ waiting free. let less = waiting_free-less ws w waiting in is.outward less.0 (key, rw e ((members_free c).1 free), rw l at less.1);
+      } in
+      rw (f, n) on
+
+  -- a 0 is in its key, or in it
+  pub measuring_bad_key : ¬ IsKeyFree m.0 → Measures t None
+  measuring_bad_key bad h = bad (is.inward h).1.0
+
+  pub measuring_bad_value : ¬ IsNulFree m.1 → Measures t None
+  measuring_bad_value bad h = bad (is.inward h).1.1
+
+  -- it is smaller than the tree
+  pub member_smaller : encoded_len m.1 < encoded_len t
+  member_smaller = omega (arith, is.whole)
+
+-- the members of the innermost are measured
+pub measuring_ends : (t : Tree) (ws less : List Members) (w : Members) (left : List (MemberKey × Tree)) (total : ℕ) → IsMeasuring t ws left total → left ≡ []
+    → ws ≡ less ++ w ∷ [] → IsMeasuring t less (members_left w) total
+measuring_ends t ws less w left total is none f =
+    let before = is.total_is in
+    record {
+      counted = is.counted;
+      total_is = before;
+      whole = omega (arith, is.whole, ap members_len none, ap len_waiting f, len_waiting-last less w);
+      inward = λ h. waiting_free-less less w (rw f at (is.inward h).0);
+      outward = λ waiting free. is.outward (rw f (waiting_free-more less w waiting free)) (rw none tt);
+    }
+
+pub measuring_done : (t : Tree) (ws : List Members) (left : List (MemberKey × Tree)) (total : ℕ) → IsMeasuring t ws left total → left ≡ [] → ws ≡ [] → Measures t (Some total)
+measuring_done t ws left total is none f =
+    let before = is.total_is in
+    (is.outward (rw f tt) (rw none tt), omega (arith, is.whole, ap members_len none, ap len_waiting f))
+
+-- a leaf is measured by its view
+pub leaf_measured : (t : Tree) (v : RawValue) (r : Option ℕ) → IsLeafOf t v → ((l : Leaf) → v ≡ single l → Measures (leaf l) r) → Measures t r
+leaf_measured t (single l) r e h = rw e (h l refl)
+leaf_measured t (document_value d) r e h = absurd e
+leaf_measured t (array_value d) r e h = absurd e
+leaf_measured t (scoped code d) r e h = absurd e
+
+-- less is left as a member is measured, as its own members are to be measured first, and as those that wait are measured on
+pub leaf_smaller : (ws same : List Members) (old new after : List (MemberKey × Tree)) (m : MemberKey × Tree) → same ≡ ws → old ≡ m ∷ new → after ≡ new
+    → members_len after + (len_waiting same + length same) < members_len old + (len_waiting ws + length ws)
+leaf_smaller ws same old new after m f step e =
+    omega (arith, ap members_len step, ap members_len e, ap len_waiting f, ap (λ (l : List Members). length l) f)
+
+pub inward_smaller : (ws more : List Members) (w inner : Members) (old after : List (MemberKey × Tree)) (m : MemberKey × Tree) (c : Container)
+    → more ≡ ws ++ w ∷ [] → old ≡ m ∷ members_left w → m.1 ≡ tree_of_container c → after ≡ members (tree_of_container c)
+    → members_len after + (len_waiting more + length more) < members_len old + (len_waiting ws + length ws)
+inward_smaller ws more w inner old after m c f step e l =
+    omega (arith, ap len_waiting f, len_waiting-last ws w, ap (λ (l : List Members). length l) f, length-append ws (w ∷ []), ap members_len step, ap encoded_len e, ap members_len l, container_len c)
+
+pub outward_smaller : (n : ℕ) (ws less : List Members) (w : Members) → ws ≡ less ++ w ∷ [] → members_len (members_left w) + (len_waiting less + length less) < n + (len_waiting ws + length ws)
+outward_smaller n ws less w f =
+    omega (arith, ap len_waiting f, len_waiting-last less w, ap (λ (l : List Members). length l) f, length-append less (w ∷ []))
+
+-- none waits
+pub none_waits : (old new : Vec Members Global) (last : Option Members) → MatchOption last ((vec_len old ≡ 0) × (vec_len new ≡ 0)) (λ x. vec_len new + 1 ≡ vec_len old) → last ≡ None → old.items ≡ []
+none_waits old new None h e = nil_from_length old.items (omega (arith, h.0, old.ok.0))
+none_waits old new (Some x) h e = cc

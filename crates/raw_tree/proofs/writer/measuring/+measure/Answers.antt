@@ -1,0 +1,80 @@
+use Rattle.std.proofs.Common.{◌≡◌, ◌<◌, ◌++◌, ◌∷◌, [], Some, Vec, Global, rules, refl, ap, ◌∙◌, ◌^◌, arith}
+use Rattle.bson_model.specs.Tree.{tree_of}
+use Rattle.raw_view.specs.Meaning.Value.{value_of}
+use Rattle.raw_tree.specs.writer.Measuring.{Measures}
+use Rattle.raw_tree.specs.writer.Members.{key_of, members_left, members_len, tree_of_container}
+use Rattle.raw_tree.specs.declared.writer.members.Members.{Members}
+use Rattle.raw_tree.proofs.writer.MeasuredMembers.{measuring_begins, measuring_member, measuring_inside, measuring_ends, leaf_measured, leaf_smaller, inward_smaller, outward_smaller}
+use Rattle.raw_tree.proofs.writer.measuring.+measure.Goals as goal
+use Rattle.raw_tree.proofs.writer.measuring.+measure.Goals.{in-Leaf+in_ok-len-in-Leaf, in-Container+then-is_ok, in-Container+else-is_ok+in_ok-len-in-Container}
+
+pub members-init : goal.members-init
+members-init t c =
+    let fits : c.frame_len-total.result < 2 ^ 64 = omega (arith, c.frame_len-total.type_inv) in
+    rw (c.new-waiting.ensures.items, c.of-members.ensures.all) (measuring_begins c.args.container c.frame_len-total.result c.frame_len-total.ensures fits)
+
+pub members-smaller-in_default : goal.members-smaller-in_default
+members-smaller-in_default t c =
+    outward_smaller (members_len (members_left c.members.members)) c.members.waiting.items c.pop.new.self.items c.in-Some-pop.outer c.in-Some-pop.ensures.items
+
+pub members-preserved-in_default : goal.members-preserved-in_default
+members-preserved-in_default t c =
+    measuring_ends (tree_of_container c.args.container) c.members.waiting.items c.pop.new.self.items c.in-Some-pop.outer
+    (members_left c.members.members) c.members.total c.members.invariant c.in_default.ensures.step c.in-Some-pop.ensures.items
+
+pub members-smaller : goal.members-smaller
+members-smaller t c =
+    let ws = c.members.waiting.items in
+    let old = members_left c.members.members in
+    elim c.match-show.branch [
+      | in-Leaf+in_ok-len-in-Leaf w ↦ (
+          let same : c.match-show.waiting.items ≡ ws = ap (λ (v : Vec Members Global). v.items) w.waiting-is in
+          leaf_smaller ws c.match-show.waiting.items old (members_left c.next.new.self) (members_left c.match-show.members)
+          (key_of c.in-Some.key, tree_of c.in-Some.value.now) same c.in-Some.ensures.step (ap members_left w.members-is))
+      | in-Container+then-is_ok w ↦ (
+          let grown : w.push.new.self.items ≡ ws ++ c.next.new.self ∷ [] = search rules in
+          let more : c.match-show.waiting.items ≡ w.push.new.self.items = ap (λ (v : Vec Members Global). v.items) w.waiting-is in
+          inward_smaller ws c.match-show.waiting.items c.next.new.self c.match-show.members old (members_left c.match-show.members)
+          (key_of c.in-Some.key, tree_of c.in-Some.value.now) w.in-Container.inner (more ∙ grown) c.in-Some.ensures.step w.in-Container.ensures
+          (ap members_left w.members-is ∙ w.of-members-then-is_ok.ensures.all))
+      | in-Container+else-is_ok+in_ok-len-in-Container w ↦ (
+          let kept : w.push.new.self.items ≡ ws = search rules in
+          let same : c.match-show.waiting.items ≡ w.push.new.self.items = ap (λ (v : Vec Members Global). v.items) w.waiting-is in
+          leaf_smaller ws c.match-show.waiting.items old (members_left c.next.new.self) (members_left c.match-show.members)
+          (key_of c.in-Some.key, tree_of c.in-Some.value.now) (same ∙ kept) c.in-Some.ensures.step (ap members_left w.members-is))
+    ]
+
+pub members-preserved : goal.members-preserved
+members-preserved t c =
+    let tree = tree_of_container c.args.container in
+    let ws = c.members.waiting.items in
+    let old = members_left c.members.members in
+    let a = c.saturating_add.ensures in let b = c.saturating_add-in-members.ensures in let d = c.saturating_add-total.ensures in
+    let key = c.in_ok-key_len.ensures.some in
+    elim c.match-show.branch [
+      | in-Leaf+in_ok-len-in-Leaf w ↦ (
+          let same : c.match-show.waiting.items ≡ ws = ap (λ (v : Vec Members Global). v.items) w.waiting-is in
+          let measured : Measures (tree_of c.in-Some.value.now) (Some w.in_ok-len-in-Leaf.len) =
+          leaf_measured (tree_of c.in-Some.value.now) (value_of w.in-Leaf.leaf)
+          (Some w.in_ok-len-in-Leaf.len) w.in-Leaf.ensures w.in_ok-len-in-Leaf.ensures in
+          measuring_member tree ws (key_of c.in-Some.key, tree_of c.in-Some.value.now) old
+          (members_left c.next.new.self) c.members.total c.members.invariant c.in-Some.ensures.step c.match-show.waiting.items
+          (members_left c.match-show.members) w.in_ok-len-in-Leaf.len c.saturating_add-total.result same (ap members_left w.members-is) key.0 measured
+          (omega (arith, a, b, d, key.1, w.len-is)))
+      | in-Container+then-is_ok w ↦ (
+          let grown : w.push.new.self.items ≡ ws ++ c.next.new.self ∷ [] = search rules in
+          let more : c.match-show.waiting.items ≡ w.push.new.self.items = ap (λ (v : Vec Members Global). v.items) w.waiting-is in
+          measuring_inside tree ws (key_of c.in-Some.key, tree_of c.in-Some.value.now) old
+          (members_left c.next.new.self) c.members.total c.members.invariant c.in-Some.ensures.step c.next.new.self c.match-show.waiting.items
+          (members_left c.match-show.members) w.in-Container.inner w.frame_len.result c.saturating_add-total.result (more ∙ grown)
+          (ap members_left w.members-is ∙ w.of-members-then-is_ok.ensures.all) refl w.in-Container.ensures key.0 w.frame_len.ensures
+          (omega (arith, a, b, d, key.1, w.len-is)))
+      | in-Container+else-is_ok+in_ok-len-in-Container w ↦ (
+          let kept : w.push.new.self.items ≡ ws = search rules in
+          let same : c.match-show.waiting.items ≡ w.push.new.self.items = ap (λ (v : Vec Members Global). v.items) w.waiting-is in
+          let measured : Measures (tree_of c.in-Some.value.now) (Some w.in_ok-len-in-Container.len) = rw w.in-Container.ensures w.in_ok-len-in-Container.ensures in
+          measuring_member tree ws (key_of c.in-Some.key, tree_of c.in-Some.value.now) old
+          (members_left c.next.new.self) c.members.total c.members.invariant c.in-Some.ensures.step c.match-show.waiting.items
+          (members_left c.match-show.members) w.in_ok-len-in-Container.len c.saturating_add-total.result (same ∙ kept) (ap members_left w.members-is) key.0 measured
+          (omega (arith, a, b, d, key.1, w.len-is)))
+    ]

@@ -1,0 +1,4 @@
+pub mod FrameCount
+pub mod Levels
+pub mod Reading
+pub mod WithinLimits

@@ -1,0 +1,126 @@
+-- The helpers of the converter: what is read so far of a document, of an array or of a scope, and how a value
+-- is made of it. No public contract cites this file.
+use Rattle.std.specs.Prelude.{◌≡◌, ◌⊎◌, ℕ, ◌+◌, List, [], ◌∷◌, ◌++◌, Option, None, Some, Result, Ok, Err, IfOk, IfErr, drop, map}
+use denote.Ref.{Bor}
+use Rattle.bson_model.specs.Tree.{Tree, tree_of, tree_of_document, tree_of_list}
+use Rattle.bson_model.specs.declared.bson.Bson.{Bson}
+use Rattle.raw_view.specs.Document.{bytes_of}
+use Rattle.raw_view.specs.Meaning.{RawValue}
+use Rattle.raw_view.specs.Meaning as raw
+use Rattle.raw_view.specs.declared.element.RawElement.{RawElement}
+use Rattle.raw_view.specs.declared.error.Error.{Error}
+use Rattle.raw_tree.specs.reader.FrameCount.{TellsFrames}
+use Rattle.raw_tree.specs.reader.WithinLimits.{FirstFaultWithin, TellsFirstFaultWithin, too_deep}
+use Rattle.raw_tree.specs.reader.Reading.{Sort, as_document, as_array, tree_of_pairs, StandsFor, ReadsUpTo, ReadsAs}
+use Rattle.raw_tree.specs.declared.reader.levels.Contents.{Contents}
+use Rattle.raw_tree.specs.declared.reader.levels.Contents.TheVariants as contents
+use Rattle.raw_tree.specs.declared.reader.levels.Draft.{Draft}
+use Rattle.raw_tree.specs.declared.reader.levels.Holder.{Holder}
+use Rattle.raw_tree.specs.declared.reader.levels.Holder.TheVariants as of
+use Rattle.raw_tree.specs.declared.reader.levels.Level.{Level}
+use Rattle.raw_tree.specs.declared.reader.levels.Nested.{Nested}
+use Rattle.raw_tree.specs.declared.reader.levels.Opened.{Opened}
+use Rattle.raw_tree.specs.declared.reader.levels.Opened.TheVariants as opened
+
+-- nested bytes are read as a document or as an array
+abbrev pub sort_of : Holder → Sort
+sort_of of.Document = as_document
+sort_of of.Array = as_array
+sort_of (of.Code _) = as_document
+
+-- the value that holds these bytes
+abbrev pub holding : Holder → List ℕ → RawValue
+holding of.Document d = raw.document d
+holding of.Array d = raw.array d
+holding (of.Code code) d = raw.scoped code.now d
+
+-- what holds the bytes of which these are the contents
+abbrev pub holder_of : Contents → Holder
+holder_of (contents.Document None _) = of.Document
+holder_of (contents.Document (Some code) _) = of.Code code
+holder_of (contents.Array _) = of.Array
+
+-- the tree of the contents
+abbrev pub tree_of_contents : Contents → Tree
+tree_of_contents (contents.Document _ d) = tree_of_document d
+tree_of_contents (contents.Array l) = tree_of_list l.items
+
+-- the bytes of keys
+abbrev pub texts_of : List (Bor (List ℕ)) → List (List ℕ)
+texts_of keys = map (λ key. key.now) keys
+
+-- what holds the bytes is read with its keys, which those of an array aren't
+abbrev pub KeepsKeys : Holder → Type 0
+KeepsKeys of.Document = Unit {0}
+KeepsKeys of.Array = ⊥
+KeepsKeys (of.Code _) = Unit {0}
+
+-- the values of the draft, and its keys if there are any, are those of the pairs
+abbrev pub AreDrafted : Holder → Draft → List (List ℕ × Tree) → Type 0
+AreDrafted h d pairs = (KeepsKeys h → texts_of d.keys.items ≡ map (λ p. p.0) pairs) × (map tree_of d.values.items ≡ map (λ p. p.1) pairs)
+
+-- what is drafted in old is drafted in new
+abbrev pub IsSameDraft : Draft → Draft → Type 0
+IsSameDraft old new = (h : Holder) (pairs : List (List ℕ × Tree)) → AreDrafted h old pairs → AreDrafted h new pairs
+
+-- new has a key and a value more
+abbrev pub IsPairMore : Draft → List ℕ → Tree → Draft → Type 0
+IsPairMore old key t new = (texts_of new.keys.items ≡ texts_of old.keys.items ++ key ∷ []) × (map tree_of new.values.items ≡ map tree_of old.values.items ++ t ∷ [])
+
+-- nothing is read of the level of these nested bytes
+abbrev pub IsUnread : Nested → Level → Type 0
+IsUnread u level = (level.elements ≡ Some (drop 4 (bytes_of u.document))) × (level.holder ≡ u.holder) × (level.draft.keys.items ≡ []) × (level.draft.values.items ≡ [])
+
+-- new is the level old with a pair more
+abbrev pub IsOneMore : Level → List ℕ → Tree → Level → Type 0
+IsOneMore old key t new =
+    (new.elements ≡ old.elements) × (new.holder ≡ old.holder)
+    × ((pairs : List (List ℕ × Tree)) → AreDrafted old.holder old.draft pairs → AreDrafted old.holder new.draft (pairs ++ (key, t) ∷ []))
+
+-- the value holds no nested bytes
+abbrev pub HoldsNone : RawValue → Type 0
+HoldsNone (raw.single _) = Unit {0}
+HoldsNone (raw.document _) = ⊥
+HoldsNone (raw.array _) = ⊥
+HoldsNone (raw.scoped _ _) = ⊥
+
+-- the value holds no nested bytes and stands for the tree; or it holds these
+abbrev pub Opens : RawValue → Opened → Type 0
+Opens v (opened.Whole t) = HoldsNone v × StandsFor ReadsAs v (tree_of t)
+Opens v (opened.Nested n) = v ≡ holding n.holder (bytes_of n.document)
+
+-- the tree is that of the value which holds bytes that are read as the contents
+abbrev pub Closes : Contents → Bson → Type 0
+Closes c t = (d : List ℕ) → ReadsAs (sort_of (holder_of c)) d (tree_of_contents c) → StandsFor ReadsAs (holding (holder_of c) d) (tree_of t)
+
+-- the contents are those of the pairs that are drafted
+abbrev pub Finishes : Holder → Draft → Contents → Type 0
+Finishes h d c = (holder_of c ≡ h) × ((pairs : List (List ℕ × Tree)) → AreDrafted h d pairs → tree_of_contents c ≡ tree_of_pairs (sort_of h) pairs)
+
+-- the tree is that of the value which holds bytes that are read as the pairs that are drafted
+abbrev pub Ends : Holder → Draft → Bson → Type 0
+Ends h d t = (pairs : List (List ℕ × Tree)) (b : List ℕ) → AreDrafted h d pairs → ReadsAs (sort_of h) b (tree_of_pairs (sort_of h) pairs) → StandsFor ReadsAs (holding h b) (tree_of t)
+
+-- the bytes that this holds are read as the contents
+abbrev pub AreRead : Holder → List ℕ → Contents → Type 0
+AreRead h b c = (holder_of c ≡ h) × ReadsAs (sort_of h) b (tree_of_contents c)
+
+-- and have at most so many levels
+abbrev pub AreReadUpTo : ℕ → Holder → List ℕ → Contents → Type 0
+AreReadUpTo levels h b c = (holder_of c ≡ h) × ReadsUpTo levels (sort_of h) b (tree_of_contents c)
+
+-- what a result of reading b to a depth says of the frames that were counted, unless a level was too deep
+abbrev pub TellsFramesWithin : {X : Type 0} → ℕ → List ℕ → Result X Error → ℕ → Type 0
+TellsFramesWithin depth b result n = FirstFaultWithin depth b too_deep ⊎ TellsFrames b result n
+
+-- what a call says that reads these nested bytes to a depth and counts so many frames
+abbrev pub TellsReading : ℕ → Nested → Result Contents Error → ℕ → Type 0
+TellsReading depth u result n =
+    IfOk result (AreReadUpTo depth u.holder (bytes_of u.document)) × IfErr result (TellsFirstFaultWithin depth (bytes_of u.document))
+    × TellsFramesWithin depth (bytes_of u.document) result n
+
+-- a count after a call for the next element: one more for an element, the same for a stop and for the end
+abbrev pub counted : ℕ → Option (Result RawElement Error) → ℕ
+counted n (Some (Ok _)) = n + 1
+counted n (Some (Err _)) = n
+counted n None = n

@@ -1,0 +1,111 @@
+-- Reading within limits: the depth of a document, the trees of documents that keep to limits, and the first barrier
+-- of the others. The bytes b of a document, or of an array, have an envelope.
+use Rattle.std.specs.Prelude.{◌≡◌, ◌⊎◌, ◌≤◌, ◌<◌, ◌+◌, max, ℕ, suc, zero, List, [], ◌∷◌, None, drop, length}
+use Rattle.bson_model.specs.Tree.{Tree}
+use Rattle.raw_view.specs.Errors.Answers.{Says}
+use Rattle.raw_view.specs.Frame.Envelope.{IsEnvelope}
+use Rattle.raw_view.specs.Errors.{IsOutOfMemory, key_of}
+use Rattle.raw_view.specs.Frame.{Frame, IsFrame, IsStop, End, IsWalk, LeadsTo}
+use Rattle.raw_view.specs.Meaning.{RawValue, KeyedFault, Meaning, Means, value, faulty}
+use Rattle.raw_view.specs.Meaning as raw
+use Rattle.raw_view.specs.declared.error.Error.{Error}
+use Rattle.raw_view.specs.declared.error.ErrorKind.TheVariants as kind
+use Rattle.raw_view.specs.declared.error.Reason.TheVariants as reason
+use Rattle.raw_tree.specs.reader.Reading.{Sort, StandForEach, ReadsUpTo, Reads, Holds}
+use Rattle.raw_tree.specs.declared.reader.limits.Limits.{Limits}
+
+-- depths, where Nested says that of nested bytes
+module _ (Nested : List ℕ → ℕ → Type 0) where
+  -- what a frame means is so deep: a value as the nested bytes that it holds; a value that holds no others is 0
+  -- deep, and so is a fault
+  abbrev pub IsSoDeep : Meaning → ℕ → Type 0
+  IsSoDeep (value (raw.single l)) n = n ≡ 0
+  IsSoDeep (value (raw.document d)) n = Nested d n
+  IsSoDeep (value (raw.array d)) n = Nested d n
+  IsSoDeep (value (raw.scoped code d)) n = Nested d n
+  IsSoDeep (faulty fault) n = n ≡ 0
+
+  -- the greatest depth of what these frames mean; 0 where there is no frame
+  abbrev pub IsGreatestDepth : List Frame → ℕ → Type 0
+  IsGreatestDepth [] n = n ≡ 0
+  IsGreatestDepth (f ∷ fs) n = (m : Meaning) × (inside : ℕ) × (others : ℕ) × Means f m × IsSoDeep m inside × IsGreatestDepth fs others × (n ≡ max inside others)
+
+-- the depth of these bytes, which have at most so many levels: one more than the greatest depth of nested bytes
+abbrev pub HasDepthUpTo : ℕ → List ℕ → ℕ → Type 0
+HasDepthUpTo zero b n = ⊥
+HasDepthUpTo (suc levels) b n = (frames : List Frame) × (end : End) × (inside : ℕ) × IsWalk (drop 4 b) frames end × IsGreatestDepth (HasDepthUpTo levels) frames inside × (n ≡ 1 + inside)
+
+-- the depth of these bytes: 1, or one more than the greatest depth of bytes that are nested in them
+abbrev pub HasDepth : List ℕ → ℕ → Type 0
+HasDepth b n = (levels : ℕ) × HasDepthUpTo levels b n
+
+-- of all bytes with an envelope there is just one depth
+abbrev pub AllHaveOneDepth : Type 0
+AllHaveOneDepth = (b : List ℕ) → IsEnvelope b → (n : ℕ) × HasDepth b n × ((other : ℕ) → HasDepth b other → other ≡ n)
+
+-- what ends a reading within limits: more bytes than allowed, a level that is deeper than allowed, or a fault
+pub data Barrier : Type 0 where
+  too_many_bytes : Barrier
+  too_deep : Barrier
+  fault_of : KeyedFault → Barrier
+
+-- the barrier is a fault of which this holds
+abbrev pub IsFaultWith : (KeyedFault → Type 0) → Barrier → Type 0
+IsFaultWith P (fault_of fault) = P fault
+IsFaultWith P too_many_bytes = ⊥
+IsFaultWith P too_deep = ⊥
+
+-- first barriers, where Passes says which trees nested bytes are read as, and Nested which first barrier they have
+module _ (Passes : Sort → List ℕ → Tree → Type 0) (Nested : List ℕ → Barrier → Type 0) where
+  -- the first barrier of a frame is the fault that it means, or that of the nested bytes in the value that it means
+  abbrev pub BarsFrame : Frame → Barrier → Type 0
+  BarsFrame f x = IsFaultWith (λ fault. Means f (faulty fault)) x ⊎ ((v : RawValue) × (d : List ℕ) × Means f (value v) × Holds v d × Nested d x)
+
+  -- the walk stops at r, with this fault; or the next frame has the barrier
+  abbrev pub BarsFront : List ℕ → Barrier → Type 0
+  BarsFront r x = IsFaultWith (λ fault. IsStop r fault.fault fault.key) x ⊎ ((f : Frame) × (q : List ℕ) × IsFrame r f q × BarsFrame f x)
+
+  -- the first barrier of what is left of a document or an array, s: frames that stand for trees are passed
+  abbrev pub BarsRest : List ℕ → Barrier → Type 0
+  BarsRest s x = (passed : List Frame) × (pairs : List (List ℕ × Tree)) × (r : List ℕ) × LeadsTo s passed r × StandForEach Passes passed pairs × BarsFront r x
+
+-- the first of a fault and the entry into a level deeper than so many, these bytes being the first level; depth
+-- first in byte order
+abbrev pub FirstFaultWithin : ℕ → List ℕ → Barrier → Type 0
+FirstFaultWithin zero b x = x ≡ too_deep
+FirstFaultWithin (suc n) b x = BarsRest (ReadsUpTo n) (FirstFaultWithin n) (drop 4 b) x
+
+-- the document b has at most so many bytes, is at most so deep, and is read as this tree
+pub record ReadsWithin (limits : Limits) (b : List ℕ) (t : Tree) : Type 0 where
+  pub few_bytes : length b ≤ limits.bytes
+  pub read : Reads b t
+  pub shallow : (n : ℕ) × HasDepth b n × (n ≤ limits.depth)
+
+-- the first barrier of the document b: that it has too many bytes; else the first within the depth
+abbrev pub FirstBarrier : Limits → List ℕ → Barrier → Type 0
+FirstBarrier limits b x = ((limits.bytes < length b) × (x ≡ too_many_bytes)) ⊎ ((length b ≤ limits.bytes) × FirstFaultWithin limits.depth b x)
+
+-- a document within the limits is read as one tree, or has one first barrier, and never both
+pub record IsAnsweredOneWay (limits : Limits) (b : List ℕ) : Type 0 where
+  pub either : ((t : Tree) × ReadsWithin limits b t) ⊎ ((x : Barrier) × FirstBarrier limits b x)
+  pub not_both : (t : Tree) (x : Barrier) → ReadsWithin limits b t → ¬ FirstBarrier limits b x
+  pub one_tree : (t other : Tree) → ReadsWithin limits b t → ReadsWithin limits b other → other ≡ t
+  pub one_barrier : (x other : Barrier) → FirstBarrier limits b x → FirstBarrier limits b other → other ≡ x
+
+-- so are all documents
+abbrev pub AllAreAnsweredOneWay : Limits → Type 0
+AllAreAnsweredOneWay limits = (b : List ℕ) → IsEnvelope b → IsAnsweredOneWay limits b
+
+-- the error says the barrier: too many bytes and a level that is too deep without a key, a fault with its own key
+abbrev pub SaysBarrier : Error → Barrier → Type 0
+SaysBarrier e too_many_bytes = (e.kind ≡ kind.MalformedValue reason.TooManyBytes) × (key_of e ≡ None)
+SaysBarrier e too_deep = (e.kind ≡ kind.MalformedValue reason.TooDeep) × (key_of e ≡ None)
+SaysBarrier e (fault_of fault) = Says e fault
+
+-- an error of reading these bytes to a depth: the first barrier within it, or out of memory
+abbrev pub TellsFirstFaultWithin : ℕ → List ℕ → Error → Type 0
+TellsFirstFaultWithin depth b e = IsOutOfMemory e ⊎ ((x : Barrier) × FirstFaultWithin depth b x × SaysBarrier e x)
+
+-- an error of reading these bytes within limits: their first barrier; or out of memory, where they aren't too many
+abbrev pub TellsFirstBarrier : Limits → List ℕ → Error → Type 0
+TellsFirstBarrier limits b e = ((length b ≤ limits.bytes) × IsOutOfMemory e) ⊎ ((x : Barrier) × FirstBarrier limits b x × SaysBarrier e x)

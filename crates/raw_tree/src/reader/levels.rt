@@ -1,0 +1,283 @@
+//! The levels of bytes that are being read: what is read of each so far.
+#![tactic(auto, using(std::proofs::lemmas::Grind::common_steps, bson_model::proofs::Face::tree_laws))]
+
+ghost use Rattle.std.specs.Prelude.{◌≡◌, [], ◌∷◌, ◌++◌, map, IfOk, IfErr, OnOk};
+ghost use Rattle.std.specs.String.{string_bytes};
+ghost use Rattle.bson_model.specs.Scalars.{bytes_of_object_id};
+ghost use Rattle.bson_model.specs.Tree.{tree_of};
+ghost use Rattle.raw_tree.specs.reader.Levels.{Closes, Ends, Finishes, IsOneMore, IsPairMore, IsSameDraft, IsUnread, Opens};
+ghost use Rattle.raw_view.specs.Errors.{IsOutOfMemory};
+ghost use Rattle.raw_view.specs.Meaning.Value.{id_of, namespace_of, value_of};
+
+use bson_model::{Bson, DbPointer, Document, JavaScriptCodeWithScope, Regex};
+use raw_view::{RawBsonRef, RawDbPointerRef, RawDocument, RawIter, Result};
+use std::alloc::Global;
+use std::mem;
+
+/// A level of more values gives them away with the room that they are in; of fewer they are moved to exact room.
+const MOST_MOVED: usize = 256;
+
+/// What holds nested bytes: a document, an array, or this code, whose scope they are.
+#[derive(Clone, Copy)]
+pub(crate) enum Holder<'a> {
+    Document,
+    Array,
+    Code(&'a str),
+}
+
+/// Nested bytes, and what holds them.
+#[derive(Clone, Copy)]
+pub(crate) struct Nested<'a> {
+    pub(crate) document: RawDocument<'a>,
+    pub(crate) holder: Holder<'a>,
+}
+
+/// What bytes are read as: a document, or the scope of this code; or an array.
+#[derive(Drop)]
+pub(crate) enum Contents<'a> {
+    Document(Option<&'a str>, Document),
+    Array(Vec<Bson>),
+}
+
+/// What is read so far of a level: its keys, unless it is an array, and its values.
+#[derive(Drop)]
+pub(crate) struct Draft<'a> {
+    pub(crate) keys: Vec<&'a str>,
+    pub(crate) values: Vec<Bson>,
+}
+
+/// Bytes that are being read: what is left of them, what holds them, and what is read of them so far.
+#[derive(Drop)]
+pub(crate) struct Level<'a> {
+    pub(crate) elements: RawIter<'a>,
+    pub(crate) holder: Holder<'a>,
+    pub(crate) draft: Draft<'a>,
+}
+
+/// A level that waits for the value under this key, whose bytes are the next level.
+#[derive(Drop)]
+pub(crate) struct Waiting<'a> {
+    pub(crate) level: Level<'a>,
+    pub(crate) key: &'a str,
+}
+
+/// A value that is whole, or one whose nested bytes are to be read.
+#[derive(Drop)]
+pub(crate) enum Opened<'a> {
+    Whole(Bson),
+    Nested(Nested<'a>),
+}
+
+/// The pointer with a namespace of its own; the only error is out of memory. BSON 1.1, `element`, DBPointer.
+pub fn copied_pointer(alloc: Global, pointer: RawDbPointerRef<'_>) -> Result<DbPointer>
+    ensures namespace { IfOk result
+        (λ p. string_bytes p.namespace ≡ namespace_of pointer.entry) }
+    ensures id { IfOk result (λ p. bytes_of_object_id p.id ≡ id_of pointer.entry) }
+    ensures err { IfErr result IsOutOfMemory }
+{
+    Ok(DbPointer {
+        namespace: String::from_str(alloc, pointer.namespace())?,
+        id: pointer.id(),
+    })
+}
+
+/// The value with parts of its own; or the nested bytes that it holds, which are not read.
+#[inline(always)]
+pub(crate) fn open<'a>(alloc: Global, value: RawBsonRef<'a>) -> Result<Opened<'a>>
+    ensures opened { IfOk result (Opens (value_of value.entry)) }
+    ensures err { IfErr result IsOutOfMemory }
+{
+    match value {
+        RawBsonRef::Double(x) => Ok(Opened::Whole(Bson::Double(x))),
+        RawBsonRef::String(x) => Ok(Opened::Whole(Bson::String(String::from_str(alloc, x)?))),
+        RawBsonRef::Array(x) => Ok(Opened::Nested(Nested {
+            document: x.as_doc(),
+            holder: Holder::Array,
+        })),
+        RawBsonRef::Document(x) => Ok(Opened::Nested(Nested {
+            document: x,
+            holder: Holder::Document,
+        })),
+        RawBsonRef::Boolean(x) => Ok(Opened::Whole(Bson::Boolean(x))),
+        RawBsonRef::Null => Ok(Opened::Whole(Bson::Null)),
+        RawBsonRef::RegularExpression(x) => {
+            let regex = Regex::new(alloc, x.pattern, x.options)?;
+            Ok(Opened::Whole(Bson::RegularExpression(regex)))
+        }
+        RawBsonRef::JavaScriptCode(x) => {
+            let code = String::from_str(alloc, x)?;
+            Ok(Opened::Whole(Bson::JavaScriptCode(code)))
+        }
+        RawBsonRef::JavaScriptCodeWithScope(x) => Ok(Opened::Nested(Nested {
+            document: x.scope,
+            holder: Holder::Code(x.code),
+        })),
+        RawBsonRef::Int32(x) => Ok(Opened::Whole(Bson::Int32(x))),
+        RawBsonRef::Int64(x) => Ok(Opened::Whole(Bson::Int64(x))),
+        RawBsonRef::Timestamp(x) => Ok(Opened::Whole(Bson::Timestamp(x))),
+        RawBsonRef::Binary(x) => Ok(Opened::Whole(Bson::Binary(x.to_binary(alloc)?))),
+        RawBsonRef::ObjectId(x) => Ok(Opened::Whole(Bson::ObjectId(x))),
+        RawBsonRef::DateTime(x) => Ok(Opened::Whole(Bson::DateTime(x))),
+        RawBsonRef::Symbol(x) => Ok(Opened::Whole(Bson::Symbol(String::from_str(alloc, x)?))),
+        RawBsonRef::Decimal128(x) => Ok(Opened::Whole(Bson::Decimal128(x))),
+        RawBsonRef::Undefined => Ok(Opened::Whole(Bson::Undefined)),
+        RawBsonRef::MaxKey => Ok(Opened::Whole(Bson::MaxKey)),
+        RawBsonRef::MinKey => Ok(Opened::Whole(Bson::MinKey)),
+        RawBsonRef::DbPointer(x) => {
+            Ok(Opened::Whole(Bson::DbPointer(copied_pointer(alloc, x)?)))
+        }
+    }
+}
+
+impl<'a> Draft<'a> {
+    /// A draft of nothing. It takes no memory.
+    pub(crate) fn new(alloc: Global) -> Draft<'a>
+        ensures keys { result.keys.items ≡ [] }
+        ensures values { result.values.items ≡ [] }
+    {
+        Draft {
+            keys: Vec::new(alloc),
+            values: Vec::new(alloc),
+        }
+    }
+
+    /// Where nothing is read yet, takes the room that a spare draft has.
+    #[inline(always)]
+    fn take_room(&mut self, spare: &mut Draft<'a>)
+        ensures { IsSameDraft self.old self.new }
+    {
+        if self.values.len() > 0 {
+            return;
+        }
+        spare.keys.clear();
+        spare.values.clear();
+        mem::swap(self, spare);
+    }
+
+    /// Puts a pair last; the only error is out of memory.
+    #[inline(always)]
+    fn put_pair(&mut self, key: &'a str, value: Bson) -> Result<()>
+        ensures put { OnOk result (IsPairMore self.old key.now (tree_of value) self.new) }
+        ensures err { IfErr result IsOutOfMemory }
+    {
+        self.keys.push(key)?;
+        self.values.push(value)?;
+        Ok(())
+    }
+
+    /// Puts a value last; the only error is out of memory.
+    #[inline(always)]
+    fn put_value(&mut self, value: Bson) -> Result<()>
+        ensures put { OnOk result (map tree_of self.new.values.items ≡ map tree_of self.old.values.items ++ tree_of value ∷ []) }
+        ensures err { IfErr result IsOutOfMemory }
+    {
+        self.values.push(value)?;
+        Ok(())
+    }
+
+    /// Moves the values to room of their exact size, unless they are many, and returns the room that they were in.
+    fn fit(&mut self, alloc: Global) -> Result<Vec<Bson>>
+        ensures keys { OnOk result (self.new.keys.items ≡ self.old.keys.items) }
+        ensures values { OnOk result (self.new.values.items ≡ self.old.values.items) }
+        ensures err { IfErr result IsOutOfMemory }
+    {
+        if self.values.len() > MOST_MOVED {
+            return Ok(Vec::new(alloc));
+        }
+        let exact = self.values.split_off(0)?;
+        Ok(mem::replace(&mut self.values, exact))
+    }
+
+    /// Leaves its room to a later level, if that is more than is spared already.
+    fn leave_room(self, spare: &mut Draft<'a>) {
+        if self.values.capacity() > spare.values.capacity() {
+            *spare = self;
+        }
+    }
+}
+
+/// A level of which nothing is read.
+#[inline(always)]
+pub(crate) fn begin<'a>(alloc: Global, nested: Nested<'a>) -> Level<'a>
+    ensures { IsUnread nested.entry result }
+{
+    Level {
+        elements: nested.document.iter_elements(alloc),
+        holder: nested.holder,
+        draft: Draft::new(alloc),
+    }
+}
+
+/// Puts a value last, under this key unless the level is an array; the only error is out of memory. The
+/// first takes the room that another level left.
+#[inline(always)]
+pub(crate) fn put<'a>(
+    level: &mut Level<'a>,
+    spare: &mut Draft<'a>,
+    key: &'a str,
+    value: Bson,
+) -> Result<()>
+    ensures put { OnOk result (IsOneMore level.old key.now (tree_of value) level.new) }
+    ensures err { IfErr result IsOutOfMemory }
+{
+    level.draft.take_room(spare);
+    match level.holder {
+        Holder::Document | Holder::Code(_) => level.draft.put_pair(key, value),
+        Holder::Array => level.draft.put_value(value),
+    }
+}
+
+/// What the bytes of a level are read as, once all are. It takes the values with the room that they are in; the
+/// only error is out of memory.
+pub(crate) fn finish<'a>(
+    alloc: Global,
+    holder: Holder<'a>,
+    draft: &mut Draft<'a>,
+) -> Result<Contents<'a>>
+    ensures finished { IfOk result (Finishes holder.entry draft.old) }
+    ensures err { IfErr result IsOutOfMemory }
+{
+    let values = mem::replace(&mut draft.values, Vec::new(alloc));
+    match holder {
+        Holder::Document => {
+            let document = Document::from_columns(alloc, draft.keys.as_slice(), values)?;
+            Ok(Contents::Document(None, document))
+        }
+        Holder::Array => Ok(Contents::Array(values)),
+        Holder::Code(code) => {
+            let scope = Document::from_columns(alloc, draft.keys.as_slice(), values)?;
+            Ok(Contents::Document(Some(code), scope))
+        }
+    }
+}
+
+/// The value that holds the bytes of a level, once all are read; the only error is out of memory. Its
+/// room goes to a later level.
+#[inline(always)]
+pub(crate) fn end<'a>(alloc: Global, level: Level<'a>, spare: &mut Draft<'a>) -> Result<Bson>
+    ensures ended { IfOk result (Ends level.entry.holder level.entry.draft) }
+    ensures err { IfErr result IsOutOfMemory }
+{
+    let mut draft = level.draft;
+    let room = draft.fit(alloc)?;
+    let contents = finish(alloc, level.holder, &mut draft)?;
+    draft.values = room;
+    draft.leave_room(spare);
+    close(alloc, contents)
+}
+
+/// The value that holds these contents; the only error is out of memory, for the copy of a code.
+#[inline(always)]
+pub(crate) fn close(alloc: Global, contents: Contents<'_>) -> Result<Bson>
+    ensures closed { IfOk result (Closes contents.entry) }
+    ensures err { IfErr result IsOutOfMemory }
+{
+    match contents {
+        Contents::Document(None, document) => Ok(Bson::Document(document)),
+        Contents::Document(Some(code), scope) => {
+            let code = String::from_str(alloc, code)?;
+            Ok(Bson::JavaScriptCodeWithScope(JavaScriptCodeWithScope { code, scope }))
+        }
+        Contents::Array(list) => Ok(Bson::Array(list)),
+    }
+}

@@ -1,0 +1,262 @@
+//! A set of keys, which finds a repeated one in n log n steps whatever the keys are.
+#![tactic(auto)]
+
+ghost use Rattle.std.specs.Prelude.{◌≡◌, ◌↔◌, ◌++◌, ◌∷◌, [], IsTrue, IfOk, IfErr, IfSome, IfNone, OnOk, OnErr};
+ghost use Rattle.std.specs.List.{Contains};
+ghost use Rattle.std.specs.Bool.{OnFalse};
+ghost use Rattle.raw_tree.specs.validator.KeySets.{Finds, HasSorted, InsertsKey, IsUnordered, PutsInOrder};
+ghost use Rattle.raw_tree.specs.validator.Marks.{AreMarked};
+ghost use Rattle.raw_tree.specs.validator.References.{texts};
+ghost use Rattle.raw_view.specs.Errors.{IsOutOfMemory};
+
+use crate::validator::marks::Marks;
+use raw_view::{Error, Result};
+use std::alloc::Global;
+use std::collections::BTreeSet;
+use std::marker::Model;
+
+/// How a key is looked for among the keys of a set.
+#[derive(Drop)]
+pub(crate) enum Finder<'a> {
+    /// by marks, and one by one where its own is found
+    Marked(Marks),
+    /// in order, where marks weren't enough, since the keys were chosen for their hashes
+    Sorted(BTreeSet<&'a str>),
+}
+
+/// Keys in the order in which they were inserted, no two of which are equal.
+#[derive(Drop)]
+pub(crate) struct KeySet<'a> {
+    keys: Vec<&'a str>,
+    finder: Finder<'a>,
+}
+
+impl<'a> Model for KeySet<'a> {
+    ghost use Rattle.std.specs.Prelude.{ℕ, List};
+    ghost use Rattle.raw_tree.specs.validator.References.{texts};
+    ghost use Rattle.raw_tree.specs.validator.KeySets.{Finds};
+
+    ghost Value = { List (List ℕ) };
+
+    ghost view = { λ a. texts a.keys.items };
+
+    ghost invariant = { λ a. Finds a.finder (texts a.keys.items) };
+}
+
+/// Puts a key last in the list. The only error is out of memory.
+#[inline(always)]
+pub(crate) fn list<'a>(listed: &mut Vec<&'a str>, key: &'a str) -> Result<()>
+    ensures listed { OnOk result (listed.new.items ≡ listed.old.items ++ key.entry ∷ []) }
+    ensures same { OnErr result (listed.new.items ≡ listed.old.items) }
+    ensures err { IfErr result IsOutOfMemory }
+{
+    match listed.push(key) {
+        Ok(()) => Ok(()),
+        Err(_) => Err(Error::out_of_memory()),
+    }
+}
+
+/// Puts a key in order, unless it is there; whether it wasn't. The only error is out of memory.
+fn put_in_order<'a>(sorted: &mut BTreeSet<&'a str>, key: &'a str) -> Result<bool>
+    ensures added { IfOk result (IsUnordered sorted.old key.entry) }
+    ensures puts { OnOk result (PutsInOrder sorted.old key.now sorted.new) }
+    ensures kept { IfOk result (λ new. OnFalse new (sorted.new.keys ≡ sorted.old.keys)) }
+    ensures same { OnErr result (sorted.new.keys ≡ sorted.old.keys) }
+    ensures err { IfErr result IsOutOfMemory }
+{
+    match sorted.insert(key) {
+        Ok(is_new) => Ok(is_new),
+        Err(_) => Err(Error::out_of_memory()),
+    }
+}
+
+/// The keys in order, each once. The only error is out of memory.
+fn sorted_keys<'a>(alloc: Global, keys: &[&'a str]) -> Result<BTreeSet<&'a str>>
+    ensures sorted { IfOk result (λ sorted. HasSorted sorted (texts keys.now)) }
+    ensures err { IfErr result IsOutOfMemory }
+{
+    let mut sorted = BTreeSet::new(alloc);
+    for key in keys {
+        put_in_order(&mut sorted, *key)?;
+    }
+    Ok(sorted)
+}
+
+/// Puts a key last and in order, unless it is there; whether it wasn't. The only error is out of memory.
+fn insert_sorted<'a>(
+    keys: &mut Vec<&'a str>,
+    sorted: &mut BTreeSet<&'a str>,
+    key: &'a str,
+) -> Result<bool>
+    requires { HasSorted sorted.old (texts keys.old.items) }
+    ensures inserts { IfOk result
+        (λ new. InsertsKey (texts keys.old.items) key.now new (texts keys.new.items)) }
+    ensures sorted { HasSorted sorted.new (texts keys.new.items) }
+    ensures same { OnErr result (keys.new.items ≡ keys.old.items) }
+    ensures err { IfErr result IsOutOfMemory }
+{
+    if keys.reserve(1).is_err() {
+        return Err(Error::out_of_memory());
+    }
+    let is_new = put_in_order(sorted, key)?;
+    if is_new {
+        keys.push_reserved(key);
+    }
+    Ok(is_new)
+}
+
+/// Whether a key is one of these.
+fn is_one_of(keys: &[&str], key: &str) -> bool
+    ensures { IsTrue result ↔ Contains (texts keys.now) key.now }
+{
+    keys.contains(&key)
+}
+
+/// Puts a key last, unless it is one of these, which are looked through; whether it wasn't. The only error is out of
+/// memory.
+#[inline(never)]
+fn insert_met<'a>(keys: &mut Vec<&'a str>, key: &'a str) -> Result<bool>
+    ensures inserts { IfOk result
+        (λ new. InsertsKey (texts keys.old.items) key.now new (texts keys.new.items)) }
+    ensures same { OnErr result (keys.new.items ≡ keys.old.items) }
+    ensures err { IfErr result IsOutOfMemory }
+{
+    if is_one_of(keys, key) {
+        return Ok(false);
+    }
+    list(keys, key)?;
+    Ok(true)
+}
+
+/// Inserts a key by its mark, unless it is there; whether it wasn't. `None`, and nothing is inserted, where there is no
+/// room or too many keys met their marks. The only error is out of memory.
+fn insert_marked<'a>(
+    keys: &mut Vec<&'a str>,
+    marks: &mut Marks,
+    key: &'a str,
+) -> Result<Option<bool>>
+    requires { AreMarked marks.old (texts keys.old.items) }
+    ensures inserts { IfOk result
+        (λ inserted. IfSome inserted
+        (λ new. InsertsKey (texts keys.old.items) key.now new (texts keys.new.items))) }
+    ensures none { IfOk result (λ inserted. IfNone inserted (keys.new.items ≡ keys.old.items)) }
+    ensures same { OnErr result (keys.new.items ≡ keys.old.items) }
+    ensures marked { AreMarked marks.new (texts keys.new.items) }
+    ensures err { IfErr result IsOutOfMemory }
+{
+    if marks.put(key) {
+        list(keys, key)?;
+        return Ok(Some(true));
+    }
+    if !marks.meet(key) {
+        return Ok(None);
+    }
+    Ok(Some(insert_met(keys, key)?))
+}
+
+/// The marks of these keys, with this one inserted, unless it is there; whether it wasn't. `None`, and nothing is inserted,
+/// where there is no room for all. The only error is out of memory.
+fn insert_wider<'a>(
+    alloc: Global,
+    keys: &mut Vec<&'a str>,
+    key: &'a str,
+) -> Result<Option<(Marks, bool)>>
+    ensures inserts { IfOk result
+        (λ wider. IfSome wider
+        (λ w. InsertsKey (texts keys.old.items) key.now w.1 (texts keys.new.items) × AreMarked w.0 (texts keys.new.items))) }
+    ensures none { IfOk result (λ wider. IfNone wider (keys.new.items ≡ keys.old.items)) }
+    ensures same { OnErr result (keys.new.items ≡ keys.old.items) }
+    ensures err { IfErr result IsOutOfMemory }
+{
+    let Some(mut marks) = Marks::of(alloc, keys)? else {
+        return Ok(None);
+    };
+    let Some(is_new) = insert_marked(keys, &mut marks, key)? else {
+        return Ok(None);
+    };
+    Ok(Some((marks, is_new)))
+}
+
+/// Inserts a key that its mark didn't tell from the others: one by one where its mark is found; else with more room for
+/// marks if there was none, or in order.
+#[inline(never)]
+fn insert_anew<'a>(
+    alloc: Global,
+    keys: &mut Vec<&'a str>,
+    finder: &mut Finder<'a>,
+    key: &'a str,
+) -> Result<bool>
+    requires { Finds finder.old (texts keys.old.items) }
+    ensures inserts { IfOk result
+        (λ new. InsertsKey (texts keys.old.items) key.now new (texts keys.new.items)) }
+    ensures finds { Finds finder.new (texts keys.new.items) }
+    ensures err { IfErr result IsOutOfMemory }
+{
+    let is_full = match finder {
+        Finder::Marked(marks) => {
+            if let Some(is_new) = insert_marked(keys, marks, key)? {
+                return Ok(is_new);
+            }
+            marks.is_full()
+        }
+        Finder::Sorted(sorted) => return insert_sorted(keys, sorted, key),
+    };
+    if is_full {
+        if let Some((marks, is_new)) = insert_wider(alloc, keys, key)? {
+            *finder = Finder::Marked(marks);
+            return Ok(is_new);
+        }
+    }
+    let mut sorted = sorted_keys(alloc, keys)?;
+    let is_new = insert_sorted(keys, &mut sorted, key)?;
+    *finder = Finder::Sorted(sorted);
+    Ok(is_new)
+}
+
+/// Inserts a key, unless it is there; whether it wasn't. The only error is out of memory.
+#[inline(always)]
+fn insert_key<'a>(
+    alloc: Global,
+    keys: &mut Vec<&'a str>,
+    finder: &mut Finder<'a>,
+    key: &'a str,
+) -> Result<bool>
+    requires { Finds finder.old (texts keys.old.items) }
+    ensures inserts { IfOk result
+        (λ new. InsertsKey (texts keys.old.items) key.now new (texts keys.new.items)) }
+    ensures finds { Finds finder.new (texts keys.new.items) }
+    ensures err { IfErr result IsOutOfMemory }
+{
+    match finder {
+        Finder::Marked(marks) => {
+            if marks.put(key) {
+                list(keys, key)?;
+                return Ok(true);
+            }
+        }
+        Finder::Sorted(sorted) => return insert_sorted(keys, sorted, key),
+    }
+    insert_anew(alloc, keys, finder, key)
+}
+
+impl<'a> KeySet<'a> {
+    /// No keys, and room for more than so many. The only error is out of memory.
+    pub(crate) fn for_keys(alloc: Global, keys: usize) -> Result<KeySet<'a>>
+        ensures empty { IfOk result (λ set. set ≡ []) }
+        ensures err { IfErr result IsOutOfMemory }
+    {
+        Ok(KeySet {
+            keys: Vec::new(alloc),
+            finder: Finder::Marked(Marks::for_keys(alloc, keys)?),
+        })
+    }
+
+    /// Inserts a key, unless it is there; whether it wasn't. The only error is out of memory.
+    #[inline(always)]
+    pub(crate) fn insert(&mut self, alloc: Global, key: &'a str) -> Result<bool>
+        ensures inserts { IfOk result (λ new. InsertsKey self.old key.now new self.new) }
+        ensures err { IfErr result IsOutOfMemory }
+    {
+        insert_key(alloc, &mut self.keys, &mut self.finder, key)
+    }
+}

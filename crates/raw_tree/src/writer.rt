@@ -1,0 +1,206 @@
+//! The bytes that trees are written as.
+#![tactic(auto, using(std::proofs::lemmas::Grind::common_steps, bson_model::proofs::Face::tree_laws))]
+
+ghost use Rattle.std.specs.Prelude.{◌≡◌, ◌≤◌, ◌+◌, ◌++◌, ◌∷◌, [], vec_len, vec_capacity, IfOk, IfErr, OnOk};
+ghost use Rattle.bson_model.specs.Bytes.{AreBytes};
+ghost use Rattle.bson_model.specs.Tree.{Tree, tree_of, tree_of_document, tree_of_list};
+ghost use Rattle.raw_tree.specs.CanonicalForm.{DocumentsComeBack, ListsComeBack};
+ghost use Rattle.raw_tree.specs.writer.Encoding.{encoded_len, tree_payload, kind_of_tree, IsEncoded, IsRefused};
+ghost use Rattle.raw_tree.specs.writer.Measuring.{HasRoomFor, Measures};
+ghost use Rattle.raw_tree.specs.writer.Members.{end_of_opening, ended, key_bytes, key_of, members_left, members, opening, opening_len, tree_of_container};
+ghost use Rattle.raw_view.specs.Frame.Envelope.{IsEnvelope};
+ghost use Rattle.raw_view.specs.Errors.{IsOutOfMemory};
+ghost use Rattle.raw_view.specs.Frame.Kind.{tag_of};
+ghost use Rattle.raw_view.specs.Frame.Number.{max_length};
+
+pub(crate) mod measuring;
+pub(crate) mod members;
+
+use crate::put::total::total_len;
+use crate::put::{put_element, put_head, put_string, put_unset, set_len};
+use crate::writer::measuring::measure;
+use crate::writer::members::{Container, Key, Members, Shown, show};
+use bson_model::{Bson, Document};
+use itoa::Buffer;
+use raw_view::{ElementType, Error, Reason, Result};
+use std::alloc::Global;
+
+/// The tag of a container.
+#[inline(always)]
+fn tag(container: Container<'_>) -> u8
+    ensures { result ≡ tag_of (kind_of_tree (tree_of_container container.entry)) }
+{
+    let kind = match container {
+        Container::Document(_) => ElementType::EmbeddedDocument,
+        Container::Array(_) => ElementType::Array,
+        Container::Code(_) => ElementType::JavaScriptCodeWithScope,
+    };
+    kind.to_tag()
+}
+
+/// A payload that is being written: the members of its container that are left, and where it starts.
+#[derive(Clone, Copy)]
+struct Payload<'a> {
+    members: Members<'a>,
+    start: usize,
+}
+
+/// Puts what the payload of a container begins with at the end, where there is room for the whole; its lengths
+/// aren't set.
+#[inline(always)]
+fn put_opening(out: &mut Vec<u8>, container: Container<'_>)
+    requires room { vec_len out.old + encoded_len (tree_of_container container) ≤ vec_capacity out.old }
+    requires fits { encoded_len (tree_of_container container) ≤ max_length }
+    ensures items { out.new.items ≡ out.old.items ++ opening (tree_of_container container.entry) }
+    ensures len { vec_len out.new ≡ vec_len out.old + opening_len (tree_of_container container.entry) }
+    ensures capacity { vec_capacity out.old ≤ vec_capacity out.new }
+{
+    match container {
+        Container::Document(_) | Container::Array(_) => put_unset(out),
+        Container::Code(code) => {
+            put_unset(out);
+            put_string(out, &code.code);
+            put_unset(out);
+        }
+    }
+}
+
+impl<'a> Payload<'a> {
+    /// Starts the payload of a container at the end, where there is room for it.
+    #[inline(always)]
+    fn start(out: &mut Vec<u8>, container: Container<'a>) -> Payload<'a>
+        requires room { vec_len out.old + encoded_len (tree_of_container container) ≤ vec_capacity out.old }
+        requires fits { encoded_len (tree_of_container container) ≤ max_length }
+        ensures items { out.new.items ≡ out.old.items ++ opening (tree_of_container container.entry) }
+        ensures len { vec_len out.new ≡ vec_len out.old + opening_len (tree_of_container container.entry) }
+        ensures capacity { vec_capacity out.old ≤ vec_capacity out.new }
+        ensures container { result.members.container ≡ container.entry }
+        ensures members { members_left result.members ≡ members (tree_of_container container.entry) }
+        ensures start { result.start ≡ vec_len out.old }
+    {
+        let start = out.len();
+        put_opening(out, container);
+        Payload {
+            members: Members::of(container),
+            start,
+        }
+    }
+
+    /// Ends the payload, all of whose members are put, and sets its lengths.
+    #[inline(always)]
+    fn end(self, out: &mut Vec<u8>)
+        requires begun { end_of_opening self ≤ vec_len out.old }
+        requires room { vec_len out.old + 1 ≤ vec_capacity out.old }
+        requires fits { vec_len out.old + 1 ≤ max_length }
+        ensures items { out.new.items ≡ ended (tree_of_container self.entry.members.container) self.entry.start (out.old.items ++ 0 ∷ []) }
+        ensures bytes { AreBytes out.new.items }
+        ensures len { vec_len out.new ≡ vec_len out.old + 1 }
+        ensures capacity { vec_capacity out.old ≤ vec_capacity out.new }
+    {
+        out.push_reserved(0);
+        if let Container::Code(code) = self.members.container {
+            set_len(out, self.start + 9 + code.code.len());
+        }
+        set_len(out, self.start);
+    }
+}
+
+/// The text of a key, that of a number in the buffer.
+#[inline(always)]
+fn text<'a>(key: Key<'a>, buffer: &'a mut Buffer) -> &'a str
+    ensures { result.now ≡ key_bytes (key_of key.entry) }
+{
+    match key {
+        Key::Text(text) => text,
+        Key::Number(number) => buffer.format(number),
+    }
+}
+
+/// Puts the payload of a container into these empty bytes, which have room for it. The containers round the one
+/// whose members are put wait in memory; the only error is out of memory.
+fn write(alloc: Global, out: &mut Vec<u8>, container: Container<'_>) -> Result<()>
+    requires empty { out.old.items ≡ [] }
+    requires room { encoded_len (tree_of_container container) ≤ vec_capacity out.old }
+    requires fits { encoded_len (tree_of_container container) ≤ max_length }
+    ensures items { OnOk result (out.new.items ≡ tree_payload (tree_of_container container.entry)) }
+    ensures bytes { OnOk result (AreBytes out.new.items) }
+    ensures err { IfErr result IsOutOfMemory }
+{
+    let mut buffer = Buffer::new();
+    let mut waiting: Vec<Payload<'_>> = Vec::new(alloc);
+    let mut payload = Payload::start(out, container);
+    'payloads: loop {
+        let Some((key, value)) = payload.members.next() else {
+            payload.end(out);
+            let Some(outer) = waiting.pop() else {
+                return Ok(());
+            };
+            payload = outer;
+            continue 'payloads;
+        };
+        let key = text(key, &mut buffer);
+        match show(value) {
+            Shown::Leaf(leaf) => put_element(out, key, leaf),
+            Shown::Container(inner) => {
+                waiting.push(payload)?;
+                put_head(out, tag(inner), key);
+                payload = Payload::start(out, inner);
+            }
+        }
+    }
+}
+
+/// No bytes yet, with room for the tree of which this is measured; or why the tree isn't written.
+fn room_for(alloc: Global, measured: Option<usize>) -> Result<Vec<u8>>
+    ensures ok { (t : Tree) → Measures t measured → IfOk result (HasRoomFor t) }
+    ensures err { (t : Tree) → Measures t measured → IfErr result (IsRefused t) }
+{
+    let Some(len) = measured else {
+        return Err(Error::malformed(Reason::InteriorNul));
+    };
+    if total_len(0, len).is_none() {
+        return Err(Error::malformed(Reason::TooLong));
+    }
+    Ok(Vec::with_capacity(alloc, len)?)
+}
+
+/// The payload of a container; or why it isn't written.
+fn encoded(alloc: Global, container: Container<'_>) -> Result<Vec<u8>>
+    ensures ok { IfOk result (λ out. IsEncoded (tree_of_container container.entry) out.items) }
+    ensures bytes { IfOk result (λ out. AreBytes out.items) }
+    ensures err { IfErr result (IsRefused (tree_of_container container.entry)) }
+{
+    let mut out = room_for(alloc, measure(alloc, container))?;
+    write(alloc, &mut out, container)?;
+    Ok(out)
+}
+
+/// The bytes of a document. BSON 1.1, `document`. It fails, without a key, first if a key, a pattern or
+/// options at any depth hold a 0, then where the bytes would be over 2147483647, and then where memory runs
+/// out; it reserves the whole once. Of every document's tree without such a 0, whose options never descend
+/// and whose subtypes are those that their bytes give, what is written is canonical, and is read as
+/// that very tree; that the tree of a `Document` is well formed, `attest_document` says.
+/// ```
+/// let mut tree = Document::new(alloc);
+/// tree.put(String::from_str(alloc, "a")?, Bson::Int32(1))?;
+/// assert_eq!(rt; encode(alloc, &tree)?.as_slice(), b"\x0C\0\0\0\x10a\0\x01\0\0\0\0".as_slice());
+/// ```
+pub fn encode(alloc: Global, document: &Document) -> Result<Vec<u8>>
+    ensures ok { IfOk result (λ bytes. IsEncoded (tree_of_document document.now) bytes.items) }
+    ensures envelope { IfOk result (λ bytes. IsEnvelope bytes.items) }
+    ensures comes_back { DocumentsComeBack }
+    ensures err { IfErr result (IsRefused (tree_of_document document.now)) }
+{
+    encoded(alloc, Container::Document(document))
+}
+
+/// The bytes of a list, its keys the decimals from 0. BSON 1.1, `array`. It fails as `encode` does, in
+/// the same order. What is written of every list comes back likewise.
+pub fn encode_list(alloc: Global, values: &[Bson]) -> Result<Vec<u8>>
+    ensures ok { IfOk result (λ bytes. IsEncoded (tree_of_list values.now) bytes.items) }
+    ensures envelope { IfOk result (λ bytes. IsEnvelope bytes.items) }
+    ensures comes_back { ListsComeBack }
+    ensures err { IfErr result (IsRefused (tree_of_list values.now)) }
+{
+    encoded(alloc, Container::Array(values))
+}
