@@ -1,19 +1,20 @@
 //! A set of keys, which finds a repeated one in n log n steps whatever the keys are.
 #![tactic(auto)]
 
-ghost use Rattle.std.specs.Prelude.{◌≡◌, ◌↔◌, ◌++◌, ◌∷◌, [], IsTrue, IfOk, IfErr, IfSome, IfNone, OnOk, OnErr};
+ghost use Rattle.std.specs.Prelude.{◌≡◌, ◌↔◌, ◌++◌, ◌∷◌, [], IsTrue, IfOk, IfSome, IfNone, OnOk, OnErr};
 ghost use Rattle.std.specs.List.{Contains};
 ghost use Rattle.std.specs.Bool.{OnFalse};
 ghost use Rattle.raw_tree.specs.validator.KeySets.{Finds, HasSorted, InsertsKey, IsUnordered, PutsInOrder};
 ghost use Rattle.raw_tree.specs.validator.Marks.{AreMarked};
 ghost use Rattle.raw_tree.specs.validator.References.{texts};
-ghost use Rattle.raw_view.specs.Errors.{IsOutOfMemory};
 
 use crate::validator::marks::Marks;
-use raw_view::{Error, Result};
-use std::alloc::Global;
+use std::alloc::{AllocError, Global};
 use std::collections::BTreeSet;
 use std::marker::Model;
+
+/// Where there are so many keys, the list has room for all that can be marked, since it is dear to move.
+const MANY: usize = 16384;
 
 /// How a key is looked for among the keys of a set.
 #[derive(Drop)]
@@ -43,37 +44,34 @@ impl<'a> Model for KeySet<'a> {
     ghost invariant = { λ a. Finds a.finder (texts a.keys.items) };
 }
 
-/// Puts a key last in the list. The only error is out of memory.
+/// Puts a key last in the list.
 #[inline(always)]
-pub(crate) fn list<'a>(listed: &mut Vec<&'a str>, key: &'a str) -> Result<()>
+pub(crate) fn list<'a>(listed: &mut Vec<&'a str>, key: &'a str) -> Result<(), AllocError>
     ensures listed { OnOk result (listed.new.items ≡ listed.old.items ++ key.entry ∷ []) }
     ensures same { OnErr result (listed.new.items ≡ listed.old.items) }
-    ensures err { IfErr result IsOutOfMemory }
 {
     match listed.push(key) {
         Ok(()) => Ok(()),
-        Err(_) => Err(Error::out_of_memory()),
+        Err(_) => Err(AllocError),
     }
 }
 
-/// Puts a key in order, unless it is there; whether it wasn't. The only error is out of memory.
-fn put_in_order<'a>(sorted: &mut BTreeSet<&'a str>, key: &'a str) -> Result<bool>
+/// Puts a key in order, unless it is there; whether it wasn't.
+fn put_in_order<'a>(sorted: &mut BTreeSet<&'a str>, key: &'a str) -> Result<bool, AllocError>
     ensures added { IfOk result (IsUnordered sorted.old key.entry) }
     ensures puts { OnOk result (PutsInOrder sorted.old key.now sorted.new) }
     ensures kept { IfOk result (λ new. OnFalse new (sorted.new.keys ≡ sorted.old.keys)) }
     ensures same { OnErr result (sorted.new.keys ≡ sorted.old.keys) }
-    ensures err { IfErr result IsOutOfMemory }
 {
     match sorted.insert(key) {
         Ok(is_new) => Ok(is_new),
-        Err(_) => Err(Error::out_of_memory()),
+        Err(_) => Err(AllocError),
     }
 }
 
-/// The keys in order, each once. The only error is out of memory.
-fn sorted_keys<'a>(alloc: Global, keys: &[&'a str]) -> Result<BTreeSet<&'a str>>
+/// The keys in order, each once.
+fn sorted_keys<'a>(alloc: Global, keys: &[&'a str]) -> Result<BTreeSet<&'a str>, AllocError>
     ensures sorted { IfOk result (λ sorted. HasSorted sorted (texts keys.now)) }
-    ensures err { IfErr result IsOutOfMemory }
 {
     let mut sorted = BTreeSet::new(alloc);
     for key in keys {
@@ -82,21 +80,20 @@ fn sorted_keys<'a>(alloc: Global, keys: &[&'a str]) -> Result<BTreeSet<&'a str>>
     Ok(sorted)
 }
 
-/// Puts a key last and in order, unless it is there; whether it wasn't. The only error is out of memory.
+/// Puts a key last and in order, unless it is there; whether it wasn't.
 fn insert_sorted<'a>(
     keys: &mut Vec<&'a str>,
     sorted: &mut BTreeSet<&'a str>,
     key: &'a str,
-) -> Result<bool>
+) -> Result<bool, AllocError>
     requires { HasSorted sorted.old (texts keys.old.items) }
     ensures inserts { IfOk result
         (λ new. InsertsKey (texts keys.old.items) key.now new (texts keys.new.items)) }
     ensures sorted { HasSorted sorted.new (texts keys.new.items) }
     ensures same { OnErr result (keys.new.items ≡ keys.old.items) }
-    ensures err { IfErr result IsOutOfMemory }
 {
     if keys.reserve(1).is_err() {
-        return Err(Error::out_of_memory());
+        return Err(AllocError);
     }
     let is_new = put_in_order(sorted, key)?;
     if is_new {
@@ -112,14 +109,12 @@ fn is_one_of(keys: &[&str], key: &str) -> bool
     keys.contains(&key)
 }
 
-/// Puts a key last, unless it is one of these, which are looked through; whether it wasn't. The only error is out of
-/// memory.
+/// Puts a key last, unless it is one of these, which are looked through; whether it wasn't.
 #[inline(never)]
-fn insert_met<'a>(keys: &mut Vec<&'a str>, key: &'a str) -> Result<bool>
+fn insert_met<'a>(keys: &mut Vec<&'a str>, key: &'a str) -> Result<bool, AllocError>
     ensures inserts { IfOk result
         (λ new. InsertsKey (texts keys.old.items) key.now new (texts keys.new.items)) }
     ensures same { OnErr result (keys.new.items ≡ keys.old.items) }
-    ensures err { IfErr result IsOutOfMemory }
 {
     if is_one_of(keys, key) {
         return Ok(false);
@@ -129,12 +124,12 @@ fn insert_met<'a>(keys: &mut Vec<&'a str>, key: &'a str) -> Result<bool>
 }
 
 /// Inserts a key by its mark, unless it is there; whether it wasn't. `None`, and nothing is inserted, where there is no
-/// room or too many keys met their marks. The only error is out of memory.
+/// room or too many keys met their marks.
 fn insert_marked<'a>(
     keys: &mut Vec<&'a str>,
     marks: &mut Marks,
     key: &'a str,
-) -> Result<Option<bool>>
+) -> Result<Option<bool>, AllocError>
     requires { AreMarked marks.old (texts keys.old.items) }
     ensures inserts { IfOk result
         (λ inserted. IfSome inserted
@@ -142,7 +137,6 @@ fn insert_marked<'a>(
     ensures none { IfOk result (λ inserted. IfNone inserted (keys.new.items ≡ keys.old.items)) }
     ensures same { OnErr result (keys.new.items ≡ keys.old.items) }
     ensures marked { AreMarked marks.new (texts keys.new.items) }
-    ensures err { IfErr result IsOutOfMemory }
 {
     if marks.put(key) {
         list(keys, key)?;
@@ -155,22 +149,24 @@ fn insert_marked<'a>(
 }
 
 /// The marks of these keys, with this one inserted, unless it is there; whether it wasn't. `None`, and nothing is inserted,
-/// where there is no room for all. The only error is out of memory.
+/// where there is no room for all.
 fn insert_wider<'a>(
     alloc: Global,
     keys: &mut Vec<&'a str>,
     key: &'a str,
-) -> Result<Option<(Marks, bool)>>
+) -> Result<Option<(Marks, bool)>, AllocError>
     ensures inserts { IfOk result
         (λ wider. IfSome wider
         (λ w. InsertsKey (texts keys.old.items) key.now w.1 (texts keys.new.items) × AreMarked w.0 (texts keys.new.items))) }
     ensures none { IfOk result (λ wider. IfNone wider (keys.new.items ≡ keys.old.items)) }
     ensures same { OnErr result (keys.new.items ≡ keys.old.items) }
-    ensures err { IfErr result IsOutOfMemory }
 {
     let Some(mut marks) = Marks::of(alloc, keys)? else {
         return Ok(None);
     };
+    if keys.len() >= MANY {
+        keys.reserve(marks.room())?;
+    }
     let Some(is_new) = insert_marked(keys, &mut marks, key)? else {
         return Ok(None);
     };
@@ -185,12 +181,11 @@ fn insert_anew<'a>(
     keys: &mut Vec<&'a str>,
     finder: &mut Finder<'a>,
     key: &'a str,
-) -> Result<bool>
+) -> Result<bool, AllocError>
     requires { Finds finder.old (texts keys.old.items) }
     ensures inserts { IfOk result
         (λ new. InsertsKey (texts keys.old.items) key.now new (texts keys.new.items)) }
     ensures finds { Finds finder.new (texts keys.new.items) }
-    ensures err { IfErr result IsOutOfMemory }
 {
     let is_full = match finder {
         Finder::Marked(marks) => {
@@ -213,19 +208,18 @@ fn insert_anew<'a>(
     Ok(is_new)
 }
 
-/// Inserts a key, unless it is there; whether it wasn't. The only error is out of memory.
+/// Inserts a key, unless it is there; whether it wasn't.
 #[inline(always)]
 fn insert_key<'a>(
     alloc: Global,
     keys: &mut Vec<&'a str>,
     finder: &mut Finder<'a>,
     key: &'a str,
-) -> Result<bool>
+) -> Result<bool, AllocError>
     requires { Finds finder.old (texts keys.old.items) }
     ensures inserts { IfOk result
         (λ new. InsertsKey (texts keys.old.items) key.now new (texts keys.new.items)) }
     ensures finds { Finds finder.new (texts keys.new.items) }
-    ensures err { IfErr result IsOutOfMemory }
 {
     match finder {
         Finder::Marked(marks) => {
@@ -240,10 +234,9 @@ fn insert_key<'a>(
 }
 
 impl<'a> KeySet<'a> {
-    /// No keys, and room for more than so many. The only error is out of memory.
-    pub(crate) fn for_keys(alloc: Global, keys: usize) -> Result<KeySet<'a>>
+    /// No keys, and room for more than so many.
+    pub(crate) fn for_keys(alloc: Global, keys: usize) -> Result<KeySet<'a>, AllocError>
         ensures empty { IfOk result (λ set. set ≡ []) }
-        ensures err { IfErr result IsOutOfMemory }
     {
         Ok(KeySet {
             keys: Vec::new(alloc),
@@ -251,11 +244,10 @@ impl<'a> KeySet<'a> {
         })
     }
 
-    /// Inserts a key, unless it is there; whether it wasn't. The only error is out of memory.
+    /// Inserts a key, unless it is there; whether it wasn't.
     #[inline(always)]
-    pub(crate) fn insert(&mut self, alloc: Global, key: &'a str) -> Result<bool>
+    pub(crate) fn insert(&mut self, alloc: Global, key: &'a str) -> Result<bool, AllocError>
         ensures inserts { IfOk result (λ new. InsertsKey self.old key.now new self.new) }
-        ensures err { IfErr result IsOutOfMemory }
     {
         insert_key(alloc, &mut self.keys, &mut self.finder, key)
     }

@@ -1,19 +1,17 @@
 //! The keys of the levels that are being validated.
 #![tactic(auto)]
 
-ghost use Rattle.std.specs.Prelude.{◌≡◌, ◌↔◌, ◌++◌, ◌∷◌, [], decimal, IsTrue, IfOk, IfErr, OnOk};
+ghost use Rattle.std.specs.Prelude.{◌≡◌, ◌↔◌, ◌++◌, ◌∷◌, [], decimal, IsTrue, IfOk, OnOk};
 ghost use Rattle.std.specs.List.{IsDistinct};
 ghost use Rattle.std.specs.Str.{bytes_eq};
 ghost use Rattle.raw_tree.specs.validator.References.{texts};
 ghost use Rattle.raw_tree.specs.validator.Validating.{AddsKey, AddsListed, AreKeysSoFar, IsBehindLast, LeavesKeys};
-ghost use Rattle.raw_view.specs.Errors.{IsOutOfMemory};
 
 use crate::validator::breach::Cause;
 use crate::validator::key_set::{KeySet, list};
 use crate::validator::notes::{is_among, note_of, notes_of, with_note};
 use itoa::Buffer;
-use raw_view::{Error, Result};
-use std::alloc::Global;
+use std::alloc::{AllocError, Global};
 
 /// So many keys of a document are looked through one by one; more are in a set.
 const MOST_LISTED: usize = 24;
@@ -51,10 +49,13 @@ fn is_behind(keys: &[&str], key: &str) -> bool
 }
 
 /// A set of these keys and one more, no two of which are equal, with room for as many again.
-fn indexed<'a>(alloc: Global, keys: &[&'a str], last: &'a str) -> Result<Box<KeySet<'a>>>
+fn indexed<'a>(
+    alloc: Global,
+    keys: &[&'a str],
+    last: &'a str,
+) -> Result<Box<KeySet<'a>>, AllocError>
     requires { IsDistinct bytes_eq (texts keys.now ++ last.now ∷ []) }
     ensures keys { IfOk result (λ set. set.value ≡ texts keys.now ++ last.now ∷ []) }
-    ensures err { IfErr result IsOutOfMemory }
 {
     let mut set = KeySet::for_keys(alloc, keys.len())?;
     for key in keys {
@@ -63,24 +64,22 @@ fn indexed<'a>(alloc: Global, keys: &[&'a str], last: &'a str) -> Result<Box<Key
     set.insert(alloc, last)?;
     match Box::new(alloc, set) {
         Ok(set) => Ok(set),
-        Err(_) => Err(Error::out_of_memory()),
+        Err(_) => Err(AllocError),
     }
 }
 
 impl<'a> Keys<'a> {
     /// Adds the key of the next element, which has this number; or returns why the key breaches, and adds nothing.
-    /// The only error is out of memory.
     pub(crate) fn add(
         &mut self,
         alloc: Global,
         listed: &mut Vec<&'a str>,
         number: usize,
         key: &'a str,
-    ) -> Result<Option<Cause>>
+    ) -> Result<Option<Cause>, AllocError>
         requires { AreKeysSoFar self.old listed.old.items }
         ensures adds { IfOk result
             (AddsKey self.old listed.old.items number key.now self.new listed.new.items) }
-        ensures err { IfErr result IsOutOfMemory }
     {
         match self {
             Keys::Numbers => Ok(if is_decimal(key, number) {
@@ -110,7 +109,7 @@ impl<'a> Keys<'a> {
         }
     }
 
-    /// Adds a key to those from this place of the list on, which have these notes. The only error is out of memory.
+    /// Adds a key to those from this place of the list on, which have these notes.
     fn add_listed(
         &mut self,
         alloc: Global,
@@ -118,11 +117,10 @@ impl<'a> Keys<'a> {
         first: usize,
         notes: u64,
         key: &'a str,
-    ) -> Result<Option<Cause>>
+    ) -> Result<Option<Cause>, AllocError>
         requires { AreKeysSoFar (Keys.Listed first notes) listed.old.items }
         ensures adds { IfOk result
             (AddsListed first notes listed.old.items key.now self.new listed.new.items) }
-        ensures err { IfErr result IsOutOfMemory }
     {
         let note = note_of(key);
         let own = &listed[first..];

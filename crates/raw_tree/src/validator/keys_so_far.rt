@@ -52,7 +52,7 @@ impl<'a> KeysSoFar<'a> {
             (AddsOpenKey self.old listed.old.items number key.now self.new listed.new.items) }
         ensures err { IfErr result IsOutOfMemory }
     {
-        self.keys.add(alloc, listed, number, key)
+        Ok(self.keys.add(alloc, listed, number, key)?)
     }
 
     /// Takes the keys of this level from the list, of which it is the innermost.

@@ -1,31 +1,22 @@
 //! Marks of keys: parts of their hashes in a table, where most keys are told apart by one look.
 #![tactic(auto)]
 
-ghost use Rattle.std.specs.Prelude.{◌≡◌, ◌≢◌, ℕ, List, IsTrue, IfOk, IfErr, IfSome};
+ghost use Rattle.std.specs.Prelude.{◌≡◌, ◌≢◌, ℕ, List, IsTrue, IfOk, IfSome};
 ghost use Rattle.raw_tree.specs.validator.Marks.{hash_of, mark_of, AreMarked, IsFreeFrom, IsMarkAt, IsMarked};
 ghost use Rattle.raw_tree.specs.validator.References.{texts};
-ghost use Rattle.raw_view.specs.Errors.{IsOutOfMemory};
 
-use raw_view::{Error, Result};
-use std::alloc::Global;
+use std::alloc::{AllocError, Global};
 use std::hash::{FoldHasher, Hasher};
 
 /// How many slots are looked at for one key. Where at most half of them are taken, keys that nobody chose need fewer.
 const MOST_LOOKS: usize = 128;
 
-/// So many keys are many, and room for fewer than these isn't made.
-const MANY: usize = 131072;
-
-const FEWEST: usize = 64;
+/// For so many keys there is room, in one table after the other; from then on for twice as many each time.
+const ROOMS: [usize; 4] = [128, 1024, 16384, 131072];
 
 /// So many keys may meet their mark before there is room for twice as many keys. Each costs a look through all keys; of
 /// keys that nobody chose next to none does.
 const MOST_MEETINGS: usize = 8;
-
-/// How many slots there are for each key that room is made for, and where they are many.
-const SLOTS_FOR_A_KEY: usize = 8;
-
-const SLOTS_OF_MANY: usize = 2;
 
 /// The marks of keys. The mark of a key is at the place that its hash names or behind it, with no free slot between.
 #[derive(Drop)]
@@ -95,32 +86,36 @@ fn has_mark(slots: &[u32], start: usize, mark: u32) -> bool
     false
 }
 
-impl Marks {
-    /// No marks, and room for those of more than so many keys. The only error is out of memory.
-    pub(crate) fn for_keys(alloc: Global, keys: usize) -> Result<Marks>
-        ensures err { IfErr result IsOutOfMemory }
-    {
-        let slots_for_a_key = if keys < MANY {
-            SLOTS_FOR_A_KEY
-        } else {
-            SLOTS_OF_MANY
-        };
-        let starts = keys
-            .saturating_add(1)
-            .max(FEWEST)
-            .checked_next_power_of_two()
-            .unwrap_or(usize::MAX)
-            .saturating_mul(slots_for_a_key);
-        let mut slots = Vec::new(alloc);
-        match slots.resize(starts.saturating_add(MOST_LOOKS), 0) {
-            Ok(()) => Ok(Marks {
-                slots,
-                mask: starts.saturating_sub(1),
-                room: starts / 2,
-                meetings: MOST_MEETINGS,
-            }),
-            Err(_) => Err(Error::out_of_memory()),
+/// For how many keys there is room where it has to be more than so many.
+fn room_behind(keys: usize) -> usize {
+    for room in ROOMS {
+        if keys < room {
+            return room;
         }
+    }
+    keys.saturating_add(1)
+        .checked_next_power_of_two()
+        .unwrap_or(usize::MAX)
+}
+
+impl Marks {
+    /// No marks, and room for those of more than so many keys.
+    pub(crate) fn for_keys(alloc: Global, keys: usize) -> Result<Marks, AllocError> {
+        let room = room_behind(keys);
+        let starts = room.saturating_mul(2);
+        let mut slots = Vec::new(alloc);
+        slots.resize(starts.saturating_add(MOST_LOOKS), 0)?;
+        Ok(Marks {
+            slots,
+            mask: starts.saturating_sub(1),
+            room,
+            meetings: MOST_MEETINGS,
+        })
+    }
+
+    /// For how many more marks there is room.
+    pub(crate) fn room(&self) -> usize {
+        self.room
     }
 
     /// Whether there is no room for one more mark.
@@ -192,10 +187,9 @@ impl Marks {
         true
     }
 
-    /// The marks of these keys, and room for more; `None` where there is none for all. The only error is out of memory.
-    pub(crate) fn of(alloc: Global, keys: &[&str]) -> Result<Option<Marks>>
+    /// The marks of these keys, and room for more; `None` where there is none for all.
+    pub(crate) fn of(alloc: Global, keys: &[&str]) -> Result<Option<Marks>, AllocError>
         ensures marks { IfOk result (λ marks. IfSome marks (λ marks. AreMarked marks (texts keys.now))) }
-        ensures err { IfErr result IsOutOfMemory }
     {
         let mut marks = Marks::for_keys(alloc, keys.len())?;
         Ok(if marks.mark_all(keys) {

@@ -6,6 +6,8 @@ pub loop-key-preserved : goal.loop-key-preserved
 loop-key-preserved c = each_inserted c.args.keys.now c.loop-key.key-index _ c.args.last.now _ _ c.in_ok-insert.field-0 c.loop-key-test.true c.loop-key.invariant
     c.requires c.in_ok-insert.ensures.inserts
 
-pub returns-in-Ok-clause-keys : goal.returns-in-Ok-clause-keys
-returns-in-Ok-clause-keys c = c.in-Ok.ensures.ok ∙ all_inserted c.args.keys.now c.loop-key.key-index c.args.last.now _ _ c.in_ok-insert-2.field-0
-    (omega (arith, c.loop-key-test.false)) c.loop-key.invariant c.requires c.in_ok-insert-2.ensures.inserts
+pub returns-in-Ok : goal.returns-in-Ok
+returns-in-Ok c = record {
+  keys = c.in-Ok.ensures.ok ∙ all_inserted c.args.keys.now c.loop-key.key-index c.args.last.now _ _ c.in_ok-insert-2.field-0
+      (omega (arith, c.loop-key-test.false)) c.loop-key.invariant c.requires c.in_ok-insert-2.ensures.inserts;
+}

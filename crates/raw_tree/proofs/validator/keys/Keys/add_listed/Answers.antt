@@ -13,28 +13,32 @@ is_among-requires-clause-noted c key there =
     let has : HasKeys (keys.Listed c.args.first c.args.notes) refs r.0 r.1 r.2 = rw (c.deref.ensures.value) r.3 in
     has.3 key (subst (λ (xs : List (List ℕ)). Contains xs key) (own_texts refs r.1 r.2 c.args.first has.1 has.2) there)
 
-pub returns-then-is_among-clause-adds : goal.returns-then-is_among-clause-adds
-returns-then-is_among-clause-adds c sort below own h canonical =
-    let refs = c.deref.result.now in
-    let has : HasKeys (keys.Listed c.args.first c.args.notes) refs sort below own = rw (c.deref.ensures.value) h in
-    listed_repeats refs sort below own c.args.key c.args.first c.args.notes has
-    (subst (λ (xs : List (List ℕ)). Contains xs c.args.key.now) (own_texts refs below own c.args.first has.1 has.2)
-    (c.is_among.ensures.0 c.if-is_among.true))
+pub returns-then-is_among : goal.returns-then-is_among
+returns-then-is_among c = record {
+  adds = λ sort below own h canonical.
+      let refs = c.deref.result.now in
+      let has : HasKeys (keys.Listed c.args.first c.args.notes) refs sort below own = rw (c.deref.ensures.value) h in
+      listed_repeats refs sort below own c.args.key c.args.first c.args.notes has
+      (subst (λ (xs : List (List ℕ)). Contains xs c.args.key.now) (own_texts refs below own c.args.first has.1 has.2)
+      (c.is_among.ensures.0 c.if-is_among.true));
+}
 
-pub returns-then-own-lt-MOST_LISTED-clause-adds : goal.returns-then-own-lt-MOST_LISTED-clause-adds
-returns-then-own-lt-MOST_LISTED-clause-adds c sort below own h canonical =
-    let refs = c.deref.result.now in
-    let has : HasKeys (keys.Listed c.args.first c.args.notes) refs sort below own = rw (c.deref.ensures.value) h in
-    let own_are = own_texts refs below own c.args.first has.1 has.2 in
-    let distinct = listed_new refs sort below own c.args.key c.args.first c.args.notes has canonical
-    (λ there. true≢false (sym (c.is_among.ensures.1 (subst (λ (xs : List (List ℕ)). Contains xs c.args.key.now) (sym own_are) there))
-    ∙ c.if-is_among.false)) in
-    let more : refs ++ c.args.key ∷ [] ≡ c.list.new.listed.items = ap (λ (xs : List (Bor (List ℕ))). xs ++ c.args.key ∷ []) c.deref.ensures.value ∙ sym c.in_ok-list.ensures.listed in
-    let here = subst (HasNote c.with_note.result) c.note_of-note.ensures.note c.with_note.ensures.noted in (
-      subst (λ (xs : List (Bor (List ℕ))). HasKeys (keys.Listed c.args.first c.with_note.result) xs sort below (own ++ c.args.key.now ∷ [])) more
-          (listed_more refs sort below own c.args.key c.args.first c.args.notes has c.with_note.result c.with_note.ensures.kept here),
-      keys_canonical refs sort below own c.args.key c.args.first c.args.notes has distinct,
-    )
+pub returns-then-own-lt-MOST_LISTED : goal.returns-then-own-lt-MOST_LISTED
+returns-then-own-lt-MOST_LISTED c = record {
+  adds = λ sort below own h canonical.
+      let refs = c.deref.result.now in
+      let has : HasKeys (keys.Listed c.args.first c.args.notes) refs sort below own = rw (c.deref.ensures.value) h in
+      let own_are = own_texts refs below own c.args.first has.1 has.2 in
+      let distinct = listed_new refs sort below own c.args.key c.args.first c.args.notes has canonical
+      (λ there. true≢false (sym (c.is_among.ensures.1 (subst (λ (xs : List (List ℕ)). Contains xs c.args.key.now) (sym own_are) there))
+      ∙ c.if-is_among.false)) in
+      let more : refs ++ c.args.key ∷ [] ≡ c.list.new.listed.items = ap (λ (xs : List (Bor (List ℕ))). xs ++ c.args.key ∷ []) c.deref.ensures.value ∙ sym c.in_ok-list.ensures.listed in
+      let here = subst (HasNote c.with_note.result) c.note_of-note.ensures.note c.with_note.ensures.noted in (
+        subst (λ (xs : List (Bor (List ℕ))). HasKeys (keys.Listed c.args.first c.with_note.result) xs sort below (own ++ c.args.key.now ∷ [])) more
+            (listed_more refs sort below own c.args.key c.args.first c.args.notes has c.with_note.result c.with_note.ensures.kept here),
+        keys_canonical refs sort below own c.args.key c.args.first c.args.notes has distinct,
+      );
+}
 
 pub indexed-requires : goal.indexed-requires
 indexed-requires c =
@@ -46,16 +50,18 @@ indexed-requires c =
     (λ there. true≢false (sym (c.is_among.ensures.1 (subst (λ (xs : List (List ℕ)). Contains xs c.args.key.now) (sym own_are) there))
     ∙ c.if-is_among.false)))
 
-pub returns-clause-adds : goal.returns-clause-adds
-returns-clause-adds c sort below own h canonical =
-    let refs = c.deref.result.now in
-    let has : HasKeys (keys.Listed c.args.first c.args.notes) refs sort below own = rw (c.deref.ensures.value) h in
-    let own_are = own_texts refs below own c.args.first has.1 has.2 in
-    let distinct = listed_new refs sort below own c.args.key c.args.first c.args.notes has canonical
-    (λ there. true≢false (sym (c.is_among.ensures.1 (subst (λ (xs : List (List ℕ)). Contains xs c.args.key.now) (sym own_are) there))
-    ∙ c.if-is_among.false)) in
-    let there = listed_moved refs sort below own c.args.key c.args.first c.args.notes has c.in_ok-set.set c.in_ok-set.ensures.keys in
-    let left : take c.args.first refs ≡ c.truncate.new.self.items = ap (λ (xs : List (Bor (List ℕ))). take c.args.first xs) c.deref.ensures.value ∙ sym c.truncate.ensures.items in (
-      subst (λ (xs : List (Bor (List ℕ))). HasKeys (keys.Indexed c.in_ok-set.set) xs sort below (own ++ c.args.key.now ∷ [])) left there,
-      keys_canonical refs sort below own c.args.key c.args.first c.args.notes has distinct,
-    )
+pub returns : goal.returns
+returns c = record {
+  adds = λ sort below own h canonical.
+      let refs = c.deref.result.now in
+      let has : HasKeys (keys.Listed c.args.first c.args.notes) refs sort below own = rw (c.deref.ensures.value) h in
+      let own_are = own_texts refs below own c.args.first has.1 has.2 in
+      let distinct = listed_new refs sort below own c.args.key c.args.first c.args.notes has canonical
+      (λ there. true≢false (sym (c.is_among.ensures.1 (subst (λ (xs : List (List ℕ)). Contains xs c.args.key.now) (sym own_are) there))
+      ∙ c.if-is_among.false)) in
+      let there = listed_moved refs sort below own c.args.key c.args.first c.args.notes has c.in_ok-set.set c.in_ok-set.ensures.keys in
+      let left : take c.args.first refs ≡ c.truncate.new.self.items = ap (λ (xs : List (Bor (List ℕ))). take c.args.first xs) c.deref.ensures.value ∙ sym c.truncate.ensures.items in (
+        subst (λ (xs : List (Bor (List ℕ))). HasKeys (keys.Indexed c.in_ok-set.set) xs sort below (own ++ c.args.key.now ∷ [])) left there,
+        keys_canonical refs sort below own c.args.key c.args.first c.args.notes has distinct,
+      );
+}
