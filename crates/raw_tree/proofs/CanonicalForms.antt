@@ -1,12 +1,6 @@
 -- The canonical form theorem, from what is proved of every document.
 use Rattle.std.proofs.Common.{◌≡◌, ◌≤◌, List, ℕ, ap, sym, subst, ◌∙◌}
-use Rattle.bson_model.specs.Tree.{Tree}
-use Rattle.raw_view.specs.Frame.Envelope.{IsEnvelope}
-use Rattle.raw_view.specs.Frame.Number.{max_length}
-use Rattle.raw_tree.specs.Canonical.{IsCanonical}
-use Rattle.raw_tree.specs.CanonicalForm.{ComesBack, IsCanonicalForm, IsSpelling}
-use Rattle.raw_tree.specs.writer.Encoding.{encoding, encoded_len}
-use Rattle.raw_tree.specs.reader.Reading.{Reads, as_document}
+use Rattle.raw_tree.proofs.Common.{Tree, IsEnvelope, max_length, IsCanonical, ComesBack, IsCanonicalForm, IsSpelling, encoding, encoded_len, Reads, as_document}
 use Rattle.raw_tree.proofs.Forms.{bytes_spelled_one_way}
 use Rattle.raw_tree.proofs.reader.Loops.{document_read}
 use Rattle.raw_tree.proofs.reader.OneWay.{bytes_one_way}

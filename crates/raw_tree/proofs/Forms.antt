@@ -1,20 +1,10 @@
 -- The encoding of a tree that is read.
 use Rattle.std.proofs.Common.{◌≡◌, ◌≤◌, ◌∷◌, [], List, ℕ, zero, suc, Result, Ok, Err, IfOk, Vec, Global, map, length, arith, ap, refl, subst}
-use Rattle.bson_model.specs.Pairs.{keep}
-use Rattle.bson_model.specs.Proper.{IsProper}
-use Rattle.bson_model.specs.Tree.{Tree, Trees, Entries, leaf, array, document, code_with_scope, trees, entries}
-use Rattle.raw_view.specs.Frame.Envelope.{IsEnvelope}
-use Rattle.raw_view.specs.Frame.{Frame}
-use Rattle.raw_view.specs.Frame.Number.{max_length}
-use Rattle.raw_view.specs.declared.error.Error.{Error}
+use Rattle.raw_tree.proofs.Common.{keep, IsProper, Tree, Trees, Entries, leaf, array, document, code_with_scope, trees, entries, IsEnvelope, Frame, max_length, Error, RawValue, AreBytes}
+use Rattle.raw_tree.proofs.Common.{IsValueCanonical, AreFramesCanonical, IsCanonicalUpTo, IsCanonicalAs, IsSpelling, IsSpelledOneWay, IsEncoded, encoding, encoded_len, entries_bytes, items_bytes}
+use Rattle.raw_tree.proofs.Common.{Sort, as_document, as_array, tree_of_pairs, leaf_in_order, StandsFor, StandForEach, ReadsUpTo, ReadsAs}
 use Rattle.raw_view.proofs.Face.{framed_is_envelope}
-use Rattle.raw_view.specs.Meaning.{RawValue}
 use Rattle.raw_view.specs.Meaning as raw
-use Rattle.bson_model.specs.Bytes.{AreBytes}
-use Rattle.raw_tree.specs.Canonical.{IsValueCanonical, AreFramesCanonical, IsCanonicalUpTo, IsCanonicalAs}
-use Rattle.raw_tree.specs.CanonicalForm.{IsSpelling, IsSpelledOneWay}
-use Rattle.raw_tree.specs.writer.Encoding.{IsEncoded, encoding, encoded_len, entries_bytes, items_bytes}
-use Rattle.raw_tree.specs.reader.Reading.{Sort, as_document, as_array, tree_of_pairs, leaf_in_order, StandsFor, StandForEach, ReadsUpTo, ReadsAs}
 use Rattle.raw_tree.proofs.writer.Encodings.{length-entries_bytes, length-items_bytes, length-tree_payload}
 use Rattle.raw_tree.proofs.reader.ReadTrees.{read_is_proper}
 use Rattle.raw_tree.proofs.Returns.{Returns, document_returns, array_returns}

@@ -1,7 +1,5 @@
 -- What contracts say of all documents and of all arrays.
-use Rattle.raw_tree.specs.validator.Breaches.{AllAreJudgedOneWay}
-use Rattle.raw_tree.specs.CanonicalForm.{AllAreSpelledOneWay}
-use Rattle.raw_tree.specs.reader.Reading.{AllAreReadOneWay, as_document, as_array}
+use Rattle.raw_tree.proofs.Common.{AllAreJudgedOneWay, AllAreSpelledOneWay, AllAreReadOneWay, as_document, as_array}
 use Rattle.raw_tree.proofs.Forms.{bytes_spelled_one_way}
 use Rattle.raw_tree.proofs.validator.OneBreach.{judged_one_way}
 use Rattle.raw_tree.proofs.reader.OneWay.{bytes_one_way}

@@ -1,4 +1,5 @@
 pub mod CanonicalForms
+pub mod Common
 pub mod Face
 pub mod Forms
 pub mod Laws

@@ -1,27 +1,14 @@
 -- A proper tree of a size in range is read from its encoding as that very tree, and the encoding is canonical.
-use Rattle.std.proofs.Common.{◌≡◌, ◌≢◌, ◌≤◌, ◌<◌, ◌+◌, ◌%◌, ◌^◌, ◌++◌, ◌∷◌, [], ℕ, zero, suc, List, length, map, drop, decimal, arith, ap, sym, refl, subst, ◌∙◌, append_assoc, length-append}
-use Rattle.std.proofs.lemmas.Fmt.{decimal_by_steps, IsAscii-decimal}
-use Rattle.std.proofs.lemmas.List.Elements.{All-push}
-use Rattle.std.proofs.lemmas.Str.{IsUtf8-from_ascii}
-use Rattle.std.specs.List.{IsDistinct}
-use Rattle.std.specs.Str.{IsUtf8, bytes_eq}
-use Rattle.bson_model.specs.Bytes.{AreBytes, NulFree}
-use Rattle.bson_model.specs.Leaf.{Leaf, regular_expression}
-use Rattle.bson_model.specs.Pairs.{keys_of}
-use Rattle.bson_model.specs.Proper.{keys_in, InTrees, InEntries, Whatever, IsWellFormed, IsNulFree, DoOptionsAscend, AreSubtypesProper, IsLeafInRange, IsLeafNulFree, DoLeafOptionsAscend, IsLeafSubtypeProper, IsProper}
-use Rattle.bson_model.specs.Tree.{Tree, Trees, Entries, leaf, array, document, code_with_scope, no_tree, tree_then, no_entry, entry_then, trees, entries, pairs_in}
+use Rattle.std.proofs.Common.{◌≡◌, ◌≢◌, ◌≤◌, ◌<◌, ◌+◌, ◌%◌, ◌^◌, ◌++◌, ◌∷◌, [], ℕ, zero, suc, List, length, map, drop, decimal, arith, ap, sym, refl, subst, ◌∙◌, append_assoc, length-append, IsUtf8, bytes_eq}
+use Rattle.raw_tree.proofs.Common.{decimal_by_steps, IsAscii-decimal, All-push, IsUtf8-from_ascii, IsDistinct, AreBytes, NulFree, Leaf, regular_expression, keys_of, keys_in, InTrees, InEntries}
+use Rattle.raw_tree.proofs.Common.{Whatever, IsWellFormed, IsNulFree, DoOptionsAscend, AreSubtypesProper, IsLeafInRange, IsLeafNulFree, DoLeafOptionsAscend, IsLeafSubtypeProper, IsProper, Tree, Trees}
+use Rattle.raw_tree.proofs.Common.{Entries, leaf, array, document, code_with_scope, no_tree, tree_then, no_entry, entry_then, trees, entries, pairs_in, IsEnvelope, string_payload, leaf_payload}
+use Rattle.raw_tree.proofs.Common.{framed, element_of, HasShape, Frame, IsWalk, Done, tag_of, RawValue, MeansValue, max_length, AreDecimalsFrom, AreKeysCanonical, IsValueCanonical, AreFramesCanonical}
+use Rattle.raw_tree.proofs.Common.{IsCanonicalUpTo, IsCanonicalAs, kind_of_tree, tree_payload, items_bytes, entries_bytes, encoding, encoded_len, items_len, entries_len, Sort, as_document, as_array}
+use Rattle.raw_tree.proofs.Common.{tree_of_pairs, leaf_in_order, StandsFor, StandForEach, ReadsAs}
 use Rattle.bson_model.proofs.Face.{AreBytes-nil, AreBytes-append, NulFree-nil, NulFree-cons, keep-distinct, sorted_options-same}
-use Rattle.raw_view.specs.Frame.Envelope.{IsEnvelope}
-use Rattle.raw_view.specs.Frame.Format.{string_payload, leaf_payload, framed, element_of}
-use Rattle.raw_view.specs.Frame.{HasShape, Frame, IsWalk, Done}
-use Rattle.raw_view.specs.Frame.Kind.{tag_of}
-use Rattle.raw_view.specs.Meaning.{RawValue, MeansValue}
 use Rattle.raw_view.specs.Meaning as raw
-use Rattle.raw_view.specs.Frame.Number.{max_length}
 use Rattle.raw_view.proofs.Face.{length-framed, AreBytes-leaf, AreBytes-scoped, AreBytes-framed, AreBytes-element, leaf_shape, declared_shape, framed_is_envelope, leaf_means, scoped_means}
-use Rattle.raw_tree.specs.Canonical.{AreDecimalsFrom, AreKeysCanonical, IsValueCanonical, AreFramesCanonical, IsCanonicalUpTo, IsCanonicalAs}
-use Rattle.raw_tree.specs.writer.Encoding.{kind_of_tree, tree_payload, items_bytes, entries_bytes, encoding, encoded_len, items_len, entries_len}
-use Rattle.raw_tree.specs.reader.Reading.{Sort, as_document, as_array, tree_of_pairs, leaf_in_order, StandsFor, StandForEach, ReadsAs}
 use Rattle.raw_tree.proofs.reader.Loops.{reads_of}
 use Rattle.raw_tree.proofs.writer.Encodings.{length-entries_bytes, length-items_bytes}
 
@@ -29,10 +16,7 @@ use Rattle.raw_tree.proofs.writer.Encodings.{length-entries_bytes, length-items_
 
 -- where other bytes are canonical too, a value stays canonical
 value_canonical_on : (N M : Sort → List ℕ → Type 0) → ((sort : Sort) (b : List ℕ) → N sort b → M sort b) → (v : RawValue) → IsValueCanonical N v → IsValueCanonical M v
-value_canonical_on N M on (raw.single l) h = h
-value_canonical_on N M on (raw.document d) h = on as_document d h
-value_canonical_on N M on (raw.array d) h = on as_array d h
-value_canonical_on N M on (raw.scoped code d) h = on as_document d h
+value_canonical_on N M on v h = grind arith
 
 -- so do the values of frames
 pub frames_canonical_on : (N M : Sort → List ℕ → Type 0) → ((sort : Sort) (b : List ℕ) → N sort b → M sort b) → (fs : List Frame) → AreFramesCanonical N fs → AreFramesCanonical M fs
@@ -43,15 +27,11 @@ frames_canonical_on N M on (f ∷ fs) h = (h.0, h.1, value_canonical_on N M on h
 pub canonical_up_to : (n m : ℕ) → n ≤ m → (sort : Sort) (b : List ℕ) → IsCanonicalUpTo n sort b → IsCanonicalUpTo m sort b
 canonical_up_to zero m l sort b h = absurd h
 canonical_up_to (suc n) zero l sort b h = absurd (omega arith)
-canonical_up_to (suc n) (suc m) l sort b h =
-    (h.0, h.1, h.2, frames_canonical_on (IsCanonicalUpTo n) (IsCanonicalUpTo m) (canonical_up_to n m (omega arith)) h.0 h.3)
+canonical_up_to (suc n) (suc m) l sort b h = grind (arith, frames_canonical_on, canonical_up_to n m)
 
 -- a canonical value is so within some levels
 value_canonical_level : (v : RawValue) → IsValueCanonical IsCanonicalAs v → (n : ℕ) × IsValueCanonical (IsCanonicalUpTo n) v
-value_canonical_level (raw.single l) h = (0, h)
-value_canonical_level (raw.document d) h = h
-value_canonical_level (raw.array d) h = h
-value_canonical_level (raw.scoped code d) h = h
+value_canonical_level v h = grind arith
 
 -- canonical frames are so within some levels
 pub frames_canonical_level : (fs : List Frame) → AreFramesCanonical IsCanonicalAs fs → (n : ℕ) × AreFramesCanonical (IsCanonicalUpTo n) fs

@@ -1,27 +1,14 @@
 -- A canonical document that is read is the encoding of its tree, and so is a canonical array.
-use Rattle.std.proofs.Common.{◌≡◌, ◌≢◌, inl, inr, ◌+◌, ◌++◌, ◌∷◌, [], ℕ, zero, suc, List, map, drop, ap, refl, sym, ◌∙◌, subst, append_assoc}
-use Rattle.std.proofs.lemmas.List.{nil_from_length}
-use Rattle.bson_model.specs.Leaf.{Leaf, regular_expression}
-use Rattle.bson_model.specs.Pairs.{keys_of}
-use Rattle.bson_model.specs.Proper.{DoLeafOptionsAscend}
-use Rattle.bson_model.specs.Subtype.{subtype_of, subtype_byte}
-use Rattle.bson_model.specs.Tree.{Tree, leaf, document, trees, entries}
-use Rattle.bson_model.specs.declared.binaries.BinarySubtype.{BinarySubtype}
-use Rattle.bson_model.specs.declared.binaries.BinarySubtype.TheVariants.{BinaryOld}
+use Rattle.std.proofs.Common.{◌≡◌, ◌≢◌, ◌+◌, ◌++◌, ◌∷◌, [], ℕ, zero, suc, List, map, ap, refl, sym, ◌∙◌, subst, append_assoc, arith}
+use Rattle.raw_tree.proofs.Common.{nil_from_length, Leaf, regular_expression, keys_of, DoLeafOptionsAscend, subtype_of, subtype_byte, Tree, leaf, document, trees, entries, BinarySubtype, BinaryOld}
+use Rattle.raw_tree.proofs.Common.{IsEnvelope, plain_binary_payload, binary_payload, leaf_payload, scoped_payload, framed, element_of, Frame, IsFrame, HasShape, IsBinary, IsWalk, Done, kind_of_leaf}
+use Rattle.raw_tree.proofs.Common.{RawValue, kind_of_raw, IsBinaryValue, Means, MeansValue, value, ElementType, AreDecimalsFrom, AreKeysCanonical, IsValueCanonical, AreFramesCanonical}
+use Rattle.raw_tree.proofs.Common.{IsCanonicalUpTo, IsCanonicalAs, kind_of_tree, tree_payload, items_bytes, entries_bytes, encoding, payload_of, Sort, as_document, as_array, tree_of_pairs}
+use Rattle.raw_tree.proofs.Common.{leaf_in_order, StandsFor, StandForEach, ReadsUpTo, ReadsAs}
 use Rattle.bson_model.proofs.Face.{keep-distinct, sorted_options-same, subtype_byte-subtype_of}
-use Rattle.raw_view.specs.Frame.Envelope.{IsEnvelope}
-use Rattle.raw_view.specs.Frame.Format.{plain_binary_payload, binary_payload, leaf_payload, scoped_payload, framed, element_of}
-use Rattle.raw_view.specs.Frame.{Frame, IsFrame, HasShape, IsBinary, IsWalk, Done}
-use Rattle.raw_view.specs.Frame.Kind.{kind_of_leaf}
-use Rattle.raw_view.specs.Meaning.{RawValue, kind_of_raw, IsBinaryValue, Means, MeansValue, value}
 use Rattle.raw_view.specs.Meaning as raw
-use Rattle.raw_view.specs.declared.element_type.ElementType.{ElementType}
 use Rattle.raw_view.specs.declared.element_type.ElementType.TheVariants as kind
-use Rattle.raw_view.proofs.Face.{front_and_rest, counted_whole, one_walk}
-use Rattle.raw_tree.specs.Canonical.{AreDecimalsFrom, AreKeysCanonical, IsValueCanonical, AreFramesCanonical, IsCanonicalUpTo, IsCanonicalAs}
-use Rattle.raw_tree.specs.writer.Encoding.{kind_of_tree, tree_payload, items_bytes, entries_bytes, encoding}
-use Rattle.raw_tree.specs.put.Payload.{payload_of}
-use Rattle.raw_tree.specs.reader.Reading.{Sort, as_document, as_array, tree_of_pairs, leaf_in_order, StandsFor, StandForEach, ReadsUpTo, ReadsAs}
+use Rattle.raw_view.proofs.Face.{front_and_rest, one_walk}
 use Rattle.raw_tree.proofs.reader.Loops.{Valued, of_single, of_document, of_array, of_code, valued, nested_envelope}
 use Rattle.raw_tree.proofs.reader.OneTree.{one_value_of}
 
@@ -29,8 +16,7 @@ use Rattle.raw_tree.proofs.reader.OneTree.{one_value_of}
 
 -- the bytes of a binary that isn't old have no length before them
 not_old : (subtype : BinarySubtype) (bytes : List ℕ) → subtype ≢ BinaryOld → binary_payload subtype bytes ≡ plain_binary_payload (subtype_byte subtype) bytes
-not_old BinaryOld bytes n = absurd (n refl)
-not_old _ bytes n = refl
+not_old subtype bytes n = grind arith
 
 -- only the byte 2 is that of an old binary
 not_two : (byte : ℕ) → byte ≢ 2 → subtype_of byte ≢ BinaryOld
@@ -48,12 +34,7 @@ as_leaf k p l m e h = let same : m ≡ l = cc in subst (λ (x : Leaf). IsLeafSpe
 
 -- a binary
 binary_spelled : (p bytes : List ℕ) (subtype : ℕ) (l : Leaf) → IsBinary p subtype bytes → IsBinaryValue subtype bytes (raw.single l) → IsLeafSpelled kind.Binary p l
-binary_spelled p bytes subtype l b (inl plain) =
-    let bytes_are = not_old (subtype_of subtype) bytes (not_two subtype plain.0) ∙ ap (λ (n : ℕ). plain_binary_payload n bytes) (subtype_byte-subtype_of subtype) in
-    as_leaf kind.Binary p l _ plain.1 (bytes_are ∙ sym b.spelled, refl, λ a. refl)
-binary_spelled p bytes subtype l b (inr old) =
-    let two : IsBinary p 2 bytes = subst (λ (n : ℕ). IsBinary p n bytes) old.0 b in
-    as_leaf kind.Binary p l _ old.3 (ap (plain_binary_payload 2) (sym old.2.spelled) ∙ sym two.spelled, refl, λ a. refl)
+binary_spelled p bytes subtype l b h = grind (arith, as_leaf, not_old, not_two)
 
 -- a payload that means a leaf is the leaf's
 leaf_spelled : (k : ElementType) (p r : List ℕ) (l : Leaf) → HasShape k p r → MeansValue k p (raw.single l) → IsLeafSpelled k p l
@@ -87,10 +68,7 @@ abbrev IsValueSpelled : ElementType → List ℕ → RawValue → Type 0
 IsValueSpelled k p v = (payload_of v ≡ p) × (kind_of_raw v ≡ k)
 
 spelled : {k : ElementType} {p : List ℕ} {v : RawValue} (r : List ℕ) → Valued k p v → HasShape k p r → MeansValue k p v → IsValueSpelled k p v
-spelled {k = k} {p = p} r (of_single l) x m = let s = leaf_spelled k p r l x m in (s.0, s.1)
-spelled r (of_document env) x m = (refl, refl)
-spelled r (of_array env) x m = (refl, refl)
-spelled r (of_code code scope c u env) x m = (sym c.spelled, refl)
+spelled r v x m = grind (arith, leaf_spelled, of_array, of_code, of_document, of_single)
 
 -- a payload that means a value is the value's
 pub value_spelled : (k : ElementType) (p r : List ℕ) (v : RawValue) → HasShape k p r → MeansValue k p v → IsValueSpelled k p v
@@ -113,9 +91,7 @@ IsTreeSpelled f t = (tree_payload t ≡ f.payload) × (kind_of_tree t ≡ f.kind
 
 -- a tree with the payload and the kind of what a frame means has those of the frame
 through_value : (s : List ℕ) (f : Frame) (r : List ℕ) (v : RawValue) (t : Tree) → IsFrame s f r → Means f (value v) → tree_payload t ≡ payload_of v → kind_of_tree t ≡ kind_of_raw v → IsTreeSpelled f t
-through_value s f r v t at m e k =
-    let h = value_spelled f.kind f.payload r v at.payload_is m in
-    (e ∙ h.0, k ∙ h.1)
+through_value s f r v t at m e k = grind (arith, value_spelled)
 
 -- the tree of a frame's value, which is canonical
 tree_spelled : (N : Sort → List ℕ → Tree → Type 0) (C : Sort → List ℕ → Type 0) → AreSpelled N C
@@ -174,14 +150,7 @@ pairs_spelled as_array pairs h = (ap framed (items_are_entries 0 pairs h), refl)
 spelled_within : (n m : ℕ) → AreSpelled (ReadsUpTo n) (IsCanonicalUpTo m)
 spelled_within zero m sort b t env h c = absurd h
 spelled_within (suc n) zero sort b t env h c = absurd c
-spelled_within (suc n) (suc m) sort b t env h c =
-    let frames : c.0 ≡ h.1.0 = (one_walk (drop 4 b) c.0 h.1.0 Done Done c.1 h.1.1).0 in
-    let each : AreFramesCanonical (IsCanonicalUpTo m) h.1.0 = subst (λ (fs : List Frame). AreFramesCanonical (IsCanonicalUpTo m) fs) frames c.3 in
-    let keys : AreKeysCanonical sort (keys_of h.0) = subst (λ (ks : List (List ℕ)). AreKeysCanonical sort ks)
-    (ap (λ fs. map (λ (f : Frame). f.key) fs) frames ∙ keys_read (ReadsUpTo n) h.1.0 h.0 h.1.2) c.2 in
-    let inside = walk_spelled (ReadsUpTo n) (IsCanonicalUpTo m) (spelled_within n m) (drop 4 b) h.1.0 h.0 h.1.1 h.1.2 each in
-    let made = pairs_spelled sort h.0 keys in
-    (ap encoding h.2 ∙ made.0 ∙ sym (counted_whole b (entries_bytes (entries h.0) ++ 0 ∷ []) env.header (sym inside)), ap kind_of_tree h.2 ∙ made.1)
+spelled_within (suc n) (suc m) sort b t env h c = grind (arith, keys_read, one_walk, pairs_spelled, walk_spelled, spelled_within n m)
 
 -- canonical bytes that are read are the encoding of their tree
 pub canonical_is_spelled : (sort : Sort) (b : List ℕ) (t : Tree) → IsEnvelope b → ReadsAs sort b t → IsCanonicalAs sort b → encoding t ≡ b

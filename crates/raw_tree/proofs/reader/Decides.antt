@@ -1,15 +1,10 @@
 -- Bytes with an envelope are read as a tree and have a frame count, or have a first fault and frames until it.
 use Rattle.std.proofs.Common.{◌≡◌, ◌⊎◌, inl, inr, ◌≤◌, ◌+◌, ◌∷◌, [], ℕ, zero, suc, List, length, drop, arith, refl, subst, length-drop}
-use Rattle.bson_model.specs.Bytes.{AreBytes}
-use Rattle.bson_model.specs.Tree.{Tree, leaf, code_with_scope}
+use Rattle.raw_tree.proofs.Common.{AreBytes, Tree, leaf, code_with_scope, IsEnvelope, Frame, IsFrame, IsWalk, End, Done, Stopped, LeadsTo, RawValue, KeyedFault, Means, Meaning, value, faulty}
+use Rattle.raw_tree.proofs.Common.{CountsIn, HasFrameCount, HasFramesUntilFault, Sort, as_document, as_array, tree_of_pairs, leaf_in_order, StandsFor, ReadsAs, Holds, FirstFault, FirstFaultOfValue}
 use Rattle.bson_model.proofs.Face.{AreBytes-drop}
-use Rattle.raw_view.specs.Frame.Envelope.{IsEnvelope}
-use Rattle.raw_view.specs.Frame.{Frame, IsFrame, IsWalk, End, Done, Stopped, LeadsTo}
-use Rattle.raw_view.specs.Meaning.{RawValue, KeyedFault, Means, Meaning, value, faulty}
 use Rattle.raw_view.specs.Meaning as raw
 use Rattle.raw_view.proofs.Face.{LeadsTo-walk, IsFrame-shorter, has_meaning, AreBytes-rest, document_has_walk, one_frame, no_frame_at_stop, no_frame_at_final}
-use Rattle.raw_tree.specs.reader.FrameCount.{CountsIn, HasFrameCount, HasFramesUntilFault}
-use Rattle.raw_tree.specs.reader.Reading.{Sort, as_document, as_array, tree_of_pairs, leaf_in_order, StandsFor, ReadsAs, Holds, FirstFault, FirstFaultOfValue}
 use Rattle.raw_tree.proofs.reader.FrameCounts.{Passed, Fails, count_of_walk, passed_more, fails_at_stop, fails_at_frame, fails_inside}
 use Rattle.raw_tree.proofs.reader.Loops.{document_read, nested_envelope, nested_shorter, reads_of}
 use Rattle.raw_tree.proofs.reader.OneTree.{tree_or_fault}
@@ -38,8 +33,7 @@ scoped_counted code d n (inr to) = inr (d, to.0, refl, to.1)
 -- so is that of a document, or of an array, where its bytes are
 whole_counted : (sort : Sort) (d : List ℕ) (n : ℕ) → IsCounted sort d n
     → ((t : Tree) × ReadsAs sort d t × HasFrameCount d n) ⊎ ((e : List ℕ) × (fault : KeyedFault) × (e ≡ d) × Fails e fault n)
-whole_counted sort d n (inl all) = inl all
-whole_counted sort d n (inr to) = inr (d, to.0, refl, to.1)
+whole_counted sort d n h = grind arith
 
 -- a value is counted where its nested bytes are
 pub value_counted : (v : RawValue) → ((sort : Sort) (d : List ℕ) → Holds v d → (n : ℕ) × IsCounted sort d n) → (n : ℕ) × IsValueCounted v n
@@ -57,10 +51,7 @@ value_counted (raw.scoped code d) nested =
 -- a value stands for a tree, or has a first fault, where its nested bytes are counted
 pub value_decided : (v : RawValue) → ((sort : Sort) (d : List ℕ) → Holds v d → (n : ℕ) × IsCounted sort d n) → ((t : Tree) × StandsFor ReadsAs v t) ⊎ ((fault : KeyedFault) × FirstFaultOfValue v fault)
 value_decided v nested =
-    elim (value_counted v nested).1 [
-      | inl all ↦ inl (all.0, all.1)
-      | inr to ↦ inr (to.1, (to.0, to.2, to.3.0))
-    ]
+    grind (arith, (value_counted v nested).1)
 
 -- bytes with an envelope and at most this length are counted
 abbrev AreCountedWithin : ℕ → Type 0
@@ -68,8 +59,7 @@ AreCountedWithin n = (sort : Sort) (d : List ℕ) → length d ≤ n → IsEnvel
 
 -- the value of a frame is counted where shorter bytes are
 value_within : (n : ℕ) → AreCountedWithin n → (s : List ℕ) (f : Frame) (r : List ℕ) (v : RawValue) → length s ≤ n + 1 → IsFrame s f r → Means f (value v) → (k : ℕ) × IsValueCounted v k
-value_within n shorter s f r v l at m =
-    value_counted v (λ sort d h. shorter sort d (omega (arith, nested_shorter s f r v d at m h)) (nested_envelope s f r v d at m h))
+value_within n shorter s f r v l at m = grind (arith, nested_envelope, nested_shorter, value_counted)
 
 -- bytes are counted, and have at least so many frames
 abbrev pub IsCountedFrom : Sort → List ℕ → ℕ → Type 0
@@ -82,8 +72,7 @@ least_of (_ ∷ _) = 1
 
 -- a meaning is a value or a fault
 value_or_fault : (f : Frame) (m : Meaning) → Means f m → ((v : RawValue) × Means f (value v)) ⊎ ((fault : KeyedFault) × Means f (faulty fault))
-value_or_fault f (value v) m = inl (v, m)
-value_or_fault f (faulty fault) m = inr (fault, m)
+value_or_fault f m h = grind arith
 
 -- Along a walk, behind frames that are passed: at the end the bytes are read, and a stop, a fault of a frame or one of
 -- its value is the first fault.
@@ -127,10 +116,7 @@ counted sort b env = counted_within (length b) sort b (omega arith) env
 -- bytes with an envelope are read as a tree, or have a first fault
 pub decided : (sort : Sort) (b : List ℕ) → IsEnvelope b → ((t : Tree) × ReadsAs sort b t) ⊎ ((fault : KeyedFault) × FirstFault b fault)
 decided sort b env =
-    elim (counted sort b env).1 [
-      | inl all ↦ inl (all.0, all.1)
-      | inr to ↦ inr (to.0, to.1.0)
-    ]
+    grind (arith, (counted sort b env).1)
 
 -- what a loop knows
 
@@ -160,9 +146,7 @@ module _ (sort : Sort) {b s : List ℕ} {pairs : List (List ℕ × Tree)} {n : �
   counted_from = let on = counted_on in (on.3.0, omega (arith, on.3.1), on.3.2)
 
   with_frame : (f : Frame) (r : List ℕ) → IsFrame s f r → (frames : List Frame) (end : End) → IsWalk s frames end → IsCountedFrom sort b (n + least_of frames) → IsCountedFrom sort b (n + 1)
-  with_frame f r at [] Done w from = absurd (no_frame_at_final s w f r at)
-  with_frame f r at [] (Stopped fault key) w from = absurd (no_frame_at_stop s fault key w f r at)
-  with_frame f r at (g ∷ gs) end w from = from
+  with_frame f r at frames end w from = grind (arith, no_frame_at_final, no_frame_at_stop)
 
   -- and so is the frame behind them
   pub counted_from_frame : (f : Frame) (r : List ℕ) → IsFrame s f r → IsCountedFrom sort b (n + 1)

@@ -1,17 +1,10 @@
 -- Depths: of all bytes with an envelope there is one, and bytes are read within some levels exactly where they are
 -- read and are at most so deep.
 use Rattle.std.proofs.Common.{◌≡◌, ◌≤◌, ◌+◌, ◌∷◌, [], ℕ, max, zero, suc, List, length, drop, arith, refl, sym, ◌∙◌, subst, length-drop}
-use Rattle.std.proofs.Math.Nat.{le-max_left, le-max_right, max-le}
-use Rattle.bson_model.specs.Bytes.{AreBytes}
-use Rattle.bson_model.specs.Tree.{Tree, document}
+use Rattle.raw_tree.proofs.Common.{le-max_left, le-max_right, max-le, AreBytes, Tree, IsEnvelope, Frame, IsFrame, IsWalk, End, Done, RawValue, Meaning, Means, value, AllHaveOneDepth, IsSoDeep}
+use Rattle.raw_tree.proofs.Common.{IsGreatestDepth, HasDepthUpTo, HasDepth, Sort, StandsFor, StandForEach, ReadsUpTo, ReadsAs}
 use Rattle.bson_model.proofs.Face.{AreBytes-drop}
-use Rattle.raw_view.specs.Frame.Envelope.{IsEnvelope}
-use Rattle.raw_view.specs.Frame.{Frame, IsFrame, IsWalk, End, Done}
-use Rattle.raw_view.specs.Meaning.{RawValue, Meaning, Means, value, faulty}
-use Rattle.raw_view.specs.Meaning as raw
 use Rattle.raw_view.proofs.Face.{IsFrame-shorter, AreBytes-rest, document_has_walk, has_meaning, one_walk, one_meaning}
-use Rattle.raw_tree.specs.reader.WithinLimits.{AllHaveOneDepth, IsSoDeep, IsGreatestDepth, HasDepthUpTo, HasDepth}
-use Rattle.raw_tree.specs.reader.Reading.{Sort, as_document, as_array, StandsFor, StandForEach, ReadsUpTo, ReadsAs}
 use Rattle.raw_tree.proofs.reader.Loops.{nested_envelope, nested_shorter}
 
 -- what is read within some levels is at most so deep
@@ -21,10 +14,7 @@ abbrev AreShallow : ℕ → (Sort → List ℕ → Tree → Type 0) → Type 0
 AreShallow n N = (sort : Sort) (d : List ℕ) (t : Tree) → N sort d t → (k : ℕ) × HasDepthUpTo n d k × (k ≤ n)
 
 value_shallow : (n : ℕ) → AreShallow n (ReadsUpTo n) → (v : RawValue) (t : Tree) → StandsFor (ReadsUpTo n) v t → (k : ℕ) × IsSoDeep (HasDepthUpTo n) (value v) k × (k ≤ n)
-value_shallow n nested (raw.single l) t h = (0, refl, omega arith)
-value_shallow n nested (raw.document d) t h = nested as_document d t h
-value_shallow n nested (raw.array d) t h = nested as_array d t h
-value_shallow n nested (raw.scoped code d) t h = nested as_document d (document h.0) h.1
+value_shallow n nested v t h = grind arith
 
 each_shallow : (n : ℕ) → AreShallow n (ReadsUpTo n) → (fs : List Frame) (pairs : List (List ℕ × Tree)) → StandForEach (ReadsUpTo n) fs pairs → (k : ℕ) × IsGreatestDepth (HasDepthUpTo n) fs k × (k ≤ n)
 each_shallow n nested [] pairs h = (0, refl, omega arith)
@@ -49,10 +39,7 @@ abbrev AreReadTo : ℕ → ℕ → ℕ → Type 0
 AreReadTo levels m n = (sort : Sort) (d : List ℕ) (t : Tree) (k : ℕ) → ReadsUpTo levels sort d t → HasDepthUpTo m d k → k ≤ n → ReadsUpTo n sort d t
 
 value_to : (levels m n : ℕ) → AreReadTo levels m n → (v : RawValue) (t : Tree) (k : ℕ) → StandsFor (ReadsUpTo levels) v t → IsSoDeep (HasDepthUpTo m) (value v) k → k ≤ n → StandsFor (ReadsUpTo n) v t
-value_to levels m n nested (raw.single l) t k h deep few = h
-value_to levels m n nested (raw.document d) t k h deep few = nested as_document d t k h deep few
-value_to levels m n nested (raw.array d) t k h deep few = nested as_array d t k h deep few
-value_to levels m n nested (raw.scoped code d) t k h deep few = (h.0, nested as_document d (document h.0) k h.1 deep few, h.2)
+value_to levels m n nested v t k h deep few = grind arith
 
 each_to : (levels m n : ℕ) → AreReadTo levels m n → (fs : List Frame) (pairs : List (List ℕ × Tree)) (k : ℕ) → StandForEach (ReadsUpTo levels) fs pairs
     → IsGreatestDepth (HasDepthUpTo m) fs k → k ≤ n → StandForEach (ReadsUpTo n) fs pairs
@@ -83,29 +70,16 @@ abbrev AgreeOnDepth : (List ℕ → ℕ → Type 0) → (List ℕ → ℕ → Ty
 AgreeOnDepth N M = (d : List ℕ) (k j : ℕ) → N d k → M d j → k ≡ j
 
 so_deep_same : (N M : List ℕ → ℕ → Type 0) → AgreeOnDepth N M → (m : Meaning) (k j : ℕ) → IsSoDeep N m k → IsSoDeep M m j → k ≡ j
-so_deep_same N M same (value (raw.single l)) k j h i = h ∙ sym i
-so_deep_same N M same (value (raw.document d)) k j h i = same d k j h i
-so_deep_same N M same (value (raw.array d)) k j h i = same d k j h i
-so_deep_same N M same (value (raw.scoped code d)) k j h i = same d k j h i
-so_deep_same N M same (faulty x) k j h i = h ∙ sym i
+so_deep_same N M same m k j h i = grind arith
 
 greatest_same : (N M : List ℕ → ℕ → Type 0) → AgreeOnDepth N M → (fs : List Frame) (k j : ℕ) → IsGreatestDepth N fs k → IsGreatestDepth M fs j → k ≡ j
 greatest_same N M same [] k j h i = h ∙ sym i
-greatest_same N M same (f ∷ fs) k j h i =
-    let meant : i.0 ≡ h.0 = one_meaning f i.0 h.0 i.3 h.3 in
-    let there : IsSoDeep M h.0 i.1 = subst (λ (x : Meaning). IsSoDeep M x i.1) meant i.4 in
-    let first : h.1 ≡ i.1 = so_deep_same N M same h.0 h.1 i.1 h.4 there in
-    let others : h.2 ≡ i.2 = greatest_same N M same fs h.2 i.2 h.5 i.5 in
-    h.6 ∙ rw (first, others) (sym i.6)
+greatest_same N M same (f ∷ fs) k j h i = grind (arith, one_meaning, so_deep_same, greatest_same N M same fs)
 
 one_depth_within : (n m : ℕ) → AgreeOnDepth (HasDepthUpTo n) (HasDepthUpTo m)
 one_depth_within zero m b k j h i = absurd h
 one_depth_within (suc n) zero b k j h i = absurd i
-one_depth_within (suc n) (suc m) b k j h i =
-    let frames : i.0 ≡ h.0 = (one_walk (drop 4 b) i.0 h.0 i.1 h.1 i.3 h.3).0 in
-    let there : IsGreatestDepth (HasDepthUpTo m) h.0 i.2 = subst (λ (fs : List Frame). IsGreatestDepth (HasDepthUpTo m) fs i.2) frames i.4 in
-    let inside : h.2 ≡ i.2 = greatest_same (HasDepthUpTo n) (HasDepthUpTo m) (one_depth_within n m) h.0 h.2 i.2 h.4 there in
-    omega (arith, h.5, i.5, inside)
+one_depth_within (suc n) (suc m) b k j h i = grind (arith, greatest_same, one_walk, one_depth_within n m)
 
 -- and there is one
 
@@ -114,12 +88,7 @@ abbrev HaveDepthWithin : ℕ → Type 0
 HaveDepthWithin n = (d : List ℕ) → length d ≤ n → IsEnvelope d → (k : ℕ) × HasDepthUpTo n d k
 
 meaning_deep : (n : ℕ) → HaveDepthWithin n → (s : List ℕ) (f : Frame) (r : List ℕ) (m : Meaning) → length s ≤ n + 1 → IsFrame s f r → Means f m → (k : ℕ) × IsSoDeep (HasDepthUpTo n) m k
-meaning_deep n shorter s f r (value (raw.single l)) few at m = (0, refl)
-meaning_deep n shorter s f r (value (raw.document d)) few at m = shorter d (omega (arith, few, nested_shorter s f r (raw.document d) d at m refl)) (nested_envelope s f r (raw.document d) d at m refl)
-meaning_deep n shorter s f r (value (raw.array d)) few at m = shorter d (omega (arith, few, nested_shorter s f r (raw.array d) d at m refl)) (nested_envelope s f r (raw.array d) d at m refl)
-meaning_deep n shorter s f r (value (raw.scoped code d)) few at m =
-    shorter d (omega (arith, few, nested_shorter s f r (raw.scoped code d) d at m refl)) (nested_envelope s f r (raw.scoped code d) d at m refl)
-meaning_deep n shorter s f r (faulty x) few at m = (0, refl)
+meaning_deep n shorter s f r m few at h = grind (arith, nested_envelope, nested_shorter)
 
 walk_deep : (n : ℕ) → HaveDepthWithin n → (s : List ℕ) (frames : List Frame) (end : End) → AreBytes s → length s ≤ n + 1 → IsWalk s frames end → (k : ℕ) × IsGreatestDepth (HasDepthUpTo n) frames k
 walk_deep n shorter s [] end bytes few w = (0, refl)

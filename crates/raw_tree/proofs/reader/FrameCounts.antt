@@ -1,17 +1,12 @@
 -- How many frames are in bytes: some number of levels serves, one frame more, at most half of the bytes, and
 -- only one number.
 use Rattle.std.proofs.Common.{◌≡◌, inl, inr, ◌≤◌, ◌+◌, ◌*◌, ◌-◌, ◌++◌, ◌∷◌, [], ℕ, zero, suc, List, length, drop, arith, ap, refl, sym, ◌∙◌, subst, length-drop}
-use Rattle.bson_model.specs.Tree.{Tree}
-use Rattle.bson_model.specs.Bytes.{AreBytes}
+use Rattle.raw_tree.proofs.Common.{Tree, AreBytes, IsEnvelope, Frame, IsFrame, IsStop, IsWalk, End, LeadsTo, RawValue, KeyedFault, Meaning, Means, value, faulty, AllHaveOneFrameCount, CountsIn}
+use Rattle.raw_tree.proofs.Common.{CountsFrames, HasFrameCountUpTo, HasFrameCount, CountsToFaultInFrame, CountsToFaultAt, HasFramesToFaultUpTo, HasFramesToFault, HasFramesUntilFault, fault_of, Sort}
+use Rattle.raw_tree.proofs.Common.{StandsFor, StandForEach, ReadsUpTo, ReadsAs, Holds, FirstFault}
 use Rattle.bson_model.proofs.Face.{AreBytes-drop}
-use Rattle.raw_view.specs.Frame.Envelope.{IsEnvelope}
-use Rattle.raw_view.specs.Frame.{Frame, IsFrame, IsStop, IsWalk, End, LeadsTo}
-use Rattle.raw_view.specs.Meaning.{RawValue, KeyedFault, Meaning, Means, value, faulty}
 use Rattle.raw_view.specs.Meaning as raw
 use Rattle.raw_view.proofs.Face.{LeadsTo-more, IsFrame-shorter, AreBytes-rest, document_has_walk, has_meaning, one_frame, one_walk, one_meaning, no_frame_at_stop}
-use Rattle.raw_tree.specs.reader.FrameCount.{AllHaveOneFrameCount, CountsIn, CountsFrames, HasFrameCountUpTo, HasFrameCount, CountsToFaultInFrame, CountsToFaultAt, HasFramesToFaultUpTo, HasFramesToFault, HasFramesUntilFault}
-use Rattle.raw_tree.specs.reader.WithinLimits.{fault_of}
-use Rattle.raw_tree.specs.reader.Reading.{Sort, StandsFor, StandForEach, ReadsUpTo, ReadsAs, Holds, FirstFault}
 use Rattle.raw_tree.proofs.reader.Loops.{each_read, stand_more, nested_envelope, nested_shorter, nested_beside}
 use Rattle.raw_tree.proofs.reader.OneTree.{BarsAs, FailsAt, one_nested, one_value_of, passed_same, reads_apart, value_nor_fault}
 
@@ -19,11 +14,7 @@ use Rattle.raw_tree.proofs.reader.OneTree.{BarsAs, FailsAt, one_nested, one_valu
 
 -- where other bytes have the same counts, so many frames are in what a frame means
 counts_on : (N M : List ℕ → ℕ → Type 0) → ((b : List ℕ) (n : ℕ) → N b n → M b n) → (m : Meaning) (n : ℕ) → CountsIn N m n → CountsIn M m n
-counts_on N M on (value (raw.single l)) n h = h
-counts_on N M on (value (raw.document d)) n h = on d n h
-counts_on N M on (value (raw.array d)) n h = on d n h
-counts_on N M on (value (raw.scoped code d)) n h = on d n h
-counts_on N M on (faulty x) n h = h
+counts_on N M on m n h = grind arith
 
 -- so many are the frames
 counts_each_on : (N M : List ℕ → ℕ → Type 0) → ((b : List ℕ) (n : ℕ) → N b n → M b n) → (fs : List Frame) (n : ℕ) → CountsFrames N fs n → CountsFrames M fs n
@@ -34,16 +25,11 @@ counts_each_on N M on (f ∷ fs) n h = (h.0, h.1, h.2, h.3, counts_on N M on h.0
 count_up_to : (n m : ℕ) → n ≤ m → (b : List ℕ) (k : ℕ) → HasFrameCountUpTo n b k → HasFrameCountUpTo m b k
 count_up_to zero m l b k h = absurd h
 count_up_to (suc n) zero l b k h = absurd (omega arith)
-count_up_to (suc n) (suc m) l b k h =
-    (h.0, h.1, h.2, counts_each_on (HasFrameCountUpTo n) (HasFrameCountUpTo m) (count_up_to n m (omega arith)) h.0 k h.3)
+count_up_to (suc n) (suc m) l b k h = grind (arith, counts_each_on, count_up_to n m)
 
 -- what a frame means is counted within some levels
 counts_level : (m : Meaning) (n : ℕ) → CountsIn HasFrameCount m n → (levels : ℕ) × CountsIn (HasFrameCountUpTo levels) m n
-counts_level (value (raw.single l)) n h = (0, h)
-counts_level (value (raw.document d)) n h = h
-counts_level (value (raw.array d)) n h = h
-counts_level (value (raw.scoped code d)) n h = h
-counts_level (faulty x) n h = (0, h)
+counts_level m n h = grind arith
 
 -- and so are frames
 counts_each_level : (fs : List Frame) (n : ℕ) → CountsFrames HasFrameCount fs n → (levels : ℕ) × CountsFrames (HasFrameCountUpTo levels) fs n
@@ -101,11 +87,8 @@ module _ {b s : List ℕ} {pairs : List (List ℕ × Tree)} {n : ℕ} (is : Pass
   -- a fault behind the frames that are passed is the first
   pub fault_behind : (fault : KeyedFault) → FailsAt FirstFault s fault → FirstFault b fault
   fault_behind fault (inl stop) = (1, (is.frames, pairs, s, is.leads, is.each, inl stop))
-  fault_behind fault (inr bad) =
-      elim bad.3 [
-        | inl m ↦ (1, (is.frames, pairs, s, is.leads, is.each, inr (bad.0, bad.1, bad.2, inl m)))
-        | inr v ↦ (suc v.4.0, (is.frames, pairs, s, is.leads, is.each, inr (bad.0, bad.1, bad.2, inr (v.0, v.2, (v.1, v.3, v.4.1)))))
-      ]
+  fault_behind fault (inr (f, r, at, inl m)) = (1, (is.frames, pairs, s, is.leads, is.each, inr (f, r, at, inl m)))
+  fault_behind fault (inr (f, r, at, inr v)) = (suc v.4.0, (is.frames, pairs, s, is.leads, is.each, inr (f, r, at, inr (v.0, v.2, (v.1, v.3, v.4.1)))))
 
   -- the walk stops there
   pub fails_at_stop : (fault : KeyedFault) → IsStop s fault.fault fault.key → Fails b fault n
@@ -227,26 +210,16 @@ abbrev AgreeOn : (List ℕ → ℕ → Type 0) → (List ℕ → ℕ → Type 0)
 AgreeOn N M = (b : List ℕ) (j k : ℕ) → N b j → M b k → j ≡ k
 
 counts_same : (N M : List ℕ → ℕ → Type 0) → AgreeOn N M → (m : Meaning) (j k : ℕ) → CountsIn N m j → CountsIn M m k → j ≡ k
-counts_same N M same (value (raw.single l)) j k h i = h ∙ sym i
-counts_same N M same (value (raw.document d)) j k h i = same d j k h i
-counts_same N M same (value (raw.array d)) j k h i = same d j k h i
-counts_same N M same (value (raw.scoped code d)) j k h i = same d j k h i
-counts_same N M same (faulty x) j k h i = h ∙ sym i
+counts_same N M same m j k h i = grind arith
 
 counts_each_same : (N M : List ℕ → ℕ → Type 0) → AgreeOn N M → (fs : List Frame) (j k : ℕ) → CountsFrames N fs j → CountsFrames M fs k → j ≡ k
 counts_each_same N M same [] j k h i = h ∙ sym i
-counts_each_same N M same (f ∷ fs) j k h i =
-    let meanings : i.0 ≡ h.0 = one_meaning f i.0 h.0 i.3 h.3 in
-    let inside : h.1 ≡ i.1 = counts_same N M same h.0 h.1 i.1 h.4 (subst (λ (m : Meaning). CountsIn M m i.1) meanings i.4) in
-    let others : h.2 ≡ i.2 = counts_each_same N M same fs h.2 i.2 h.5 i.5 in
-    omega (arith, h.6, i.6, inside, others)
+counts_each_same N M same (f ∷ fs) j k h i = grind (arith, counts_same, one_meaning, counts_each_same N M same fs)
 
 one_count_within : (n m : ℕ) → AgreeOn (HasFrameCountUpTo n) (HasFrameCountUpTo m)
 one_count_within zero m b j k h i = absurd h
 one_count_within (suc n) zero b j k h i = absurd i
-one_count_within (suc n) (suc m) b j k h i =
-    let frames : i.0 ≡ h.0 = (one_walk (drop 4 b) i.0 h.0 i.1 h.1 i.2 h.2).0 in
-    counts_each_same (HasFrameCountUpTo n) (HasFrameCountUpTo m) (one_count_within n m) h.0 j k h.3 (subst (λ (fs : List Frame). CountsFrames (HasFrameCountUpTo m) fs k) frames i.3)
+one_count_within (suc n) (suc m) b j k h i = grind (arith, counts_each_same, one_walk, one_count_within n m)
 
 -- bytes have one frame count at most
 one_count : AgreeOn HasFrameCount HasFrameCount
@@ -259,13 +232,7 @@ one_frame_count b env =
     (k.0, k.1, omega (arith, count_small b k.0 k.1), λ other h. one_count b other k.0 h k.1)
 
 in_fault_same : (N M : List ℕ → ℕ → Type 0) → AgreeOn N M → (f : Frame) (j k : ℕ) → CountsToFaultInFrame N f j → CountsToFaultInFrame M f k → j ≡ k
-in_fault_same N M same f j k (inl a) (inl b) = a.2 ∙ sym b.2
-in_fault_same N M same f j k (inl a) (inr b) = absurd (value_nor_fault f b.0 a.0 b.3 a.1)
-in_fault_same N M same f j k (inr a) (inl b) = absurd (value_nor_fault f a.0 b.0 a.3 b.1)
-in_fault_same N M same f j k (inr a) (inr b) =
-    let values : b.0 ≡ a.0 = one_value_of f b.0 a.0 b.3 a.3 in
-    let nested : b.1 ≡ a.1 = one_nested a.0 b.1 a.1 (subst (λ (v : RawValue). Holds v b.1) values b.4) a.4 in
-    same a.1 j k a.6 (subst (λ (d : List ℕ). M d k) nested b.6)
+in_fault_same N M same f j k h h' = grind (arith, one_nested, one_value_of, value_nor_fault)
 
 at_fault_same : (N M : List ℕ → ℕ → Type 0) → AgreeOn N M → (r : List ℕ) (before j k : ℕ) → CountsToFaultAt N r before j → CountsToFaultAt M r before k → j ≡ k
 at_fault_same N M same r before j k (inl a) (inl b) = a.2 ∙ sym b.2
@@ -278,12 +245,7 @@ at_fault_same N M same r before j k (inr a) (inr b) =
 
 -- where a count ends, there is the fault
 at_fault_fails : (N : List ℕ → ℕ → Type 0) (r : List ℕ) (before n : ℕ) → CountsToFaultAt N r before n → (fault : KeyedFault) × FailsAt FirstFault r fault
-at_fault_fails N r before n (inl stop) = (stop.0, inl stop.1)
-at_fault_fails N r before n (inr at) =
-    elim at.4 [
-      | inl m ↦ (m.0, inr (at.0, at.1, at.3, inl m.1))
-      | inr v ↦ (v.2, inr (at.0, at.1, at.3, inr (v.0, v.1, v.3, v.4, v.5)))
-    ]
+at_fault_fails N r before n h = grind arith
 
 to_fault_same : (n m : ℕ) → AgreeOn (HasFramesToFaultUpTo n) (HasFramesToFaultUpTo m)
 to_fault_same zero m b j k h i = absurd h

@@ -1,35 +1,12 @@
 -- The steps of a loop over levels: an element is put, or its level waits for it; a level is read and goes to the
 -- one that waits; a fault, out of memory or the end is returned; and what is left shrinks.
-use Rattle.std.proofs.Common.{◌≡◌, inl, inr, ◌<◌, ◌≤◌, ◌+◌, ◌-◌, ◌*◌, take, length-take, ◌++◌, ◌∷◌, [], ℕ, suc, List, Option, None, Some, Result, Ok, Err, IfOk, IfErr, length, drop, arith, ap, refl, sym, ◌∙◌, subst, length-drop, length-append}
-use Rattle.std.specs.List.{sum_by}
-use Rattle.std.proofs.lemmas.List.Sums.{sum_by_push}
-use Rattle.std.proofs.lemmas.Option.{none-some}
-use Rattle.bson_model.specs.Tree.{Tree, tree_of}
-use Rattle.bson_model.specs.declared.bson.Bson.{Bson}
-use Rattle.raw_view.specs.Errors.Answers.{Says, TellsMeaning}
-use Rattle.raw_view.specs.Document.{bytes_of}
-use Rattle.raw_view.specs.Frame.ElementSteps.{StepsElement, frame_of}
-use Rattle.raw_view.specs.Errors.{IsOutOfMemory}
-use Rattle.raw_view.specs.Frame.{Frame, Done}
-use Rattle.raw_view.specs.Meaning.{RawValue, KeyedFault, Meaning, Means, value, faulty}
-use Rattle.raw_view.specs.Meaning as raw
-use Rattle.raw_view.specs.Frame.Number.{max_length}
-use Rattle.raw_view.specs.Meaning.Value.{value_of}
-use Rattle.raw_view.specs.declared.bson_ref.RawBsonRef.{RawBsonRef}
-use Rattle.raw_view.specs.declared.element.RawElement.{RawElement}
-use Rattle.raw_view.specs.declared.error.Error.{Error}
+use Rattle.std.proofs.Common.{◌≡◌, inl, inr, ◌<◌, ◌≤◌, ◌+◌, ◌-◌, ◌*◌, take, length-take, ◌++◌, ◌∷◌, [], ℕ, suc, List, Option, None, Some, Result, Ok, Err, IfOk, IfErr, length, drop, arith, ap, refl, sym, ◌∙◌, subst, length-drop, length-append, sum_by}
+use Rattle.raw_tree.proofs.Common.{sum_by_push, none-some, Tree, tree_of, Bson, Says, TellsMeaning, bytes_of, StepsElement, frame_of, IsOutOfMemory, Frame, Done, RawValue, KeyedFault, Meaning, Means}
+use Rattle.raw_tree.proofs.Common.{value, faulty, max_length, value_of, RawBsonRef, RawElement, Error, CountsIn, HasFrameCount, TellsFrames, sort_of, holding, tree_of_contents, AreDrafted, IsOneMore}
+use Rattle.raw_tree.proofs.Common.{IsUnread, HoldsNone, Opens, Finishes, Ends, TellsReading, counted, fault_of, too_deep, FirstFaultWithin, SaysBarrier, tree_of_pairs, StandsFor, ReadsUpTo, ReadsAs}
+use Rattle.raw_tree.proofs.Common.{FirstFault, Contents, Holder, Level, Nested, Opened, Waiting}
 use Rattle.raw_view.proofs.Face.{LeadsTo-walk, IsFrame-shorter}
-use Rattle.raw_tree.specs.reader.FrameCount.{CountsIn, HasFrameCount, TellsFrames}
-use Rattle.raw_tree.specs.reader.Levels.{sort_of, holding, tree_of_contents, AreDrafted, IsOneMore, IsUnread, HoldsNone, Opens, Finishes, Ends, TellsReading, counted}
-use Rattle.raw_tree.specs.reader.WithinLimits.{fault_of, too_deep, FirstFaultWithin, SaysBarrier}
-use Rattle.raw_tree.specs.reader.Reading.{tree_of_pairs, StandsFor, ReadsUpTo, ReadsAs, FirstFault}
-use Rattle.raw_tree.specs.declared.reader.levels.Contents.{Contents}
-use Rattle.raw_tree.specs.declared.reader.levels.Holder.{Holder}
-use Rattle.raw_tree.specs.declared.reader.levels.Level.{Level}
-use Rattle.raw_tree.specs.declared.reader.levels.Nested.{Nested}
-use Rattle.raw_tree.specs.declared.reader.levels.Opened.{Opened}
 use Rattle.raw_tree.specs.declared.reader.levels.Opened.TheVariants as opened
-use Rattle.raw_tree.specs.declared.reader.levels.Waiting.{Waiting}
 use Rattle.raw_tree.proofs.reader.Decides.{IsCountedFrom, counted_until, counted_from, counted_from_frame}
 use Rattle.raw_tree.proofs.reader.FrameCounts.{Fails, count_of_walk, passed_more, passed_read, fails_at_stop, fails_at_frame, until_small}
 use Rattle.raw_tree.proofs.reader.Stacks.{drafted_none, none_stands, held_value, held_within, held_counts, held_holds, IsReading, IsBehind, with_left, bars_at, AreWaiting, none_waits, one_more, inner_barrier, barrier_outward, fault_outward, counted_outward, levels_in, none_inside, waiting_less}
@@ -76,21 +53,11 @@ more_drafted old new key at t pairs k more h = rw (more.1, sym k) (more.2 pairs 
 -- a level behind an element whose value stands for a tree goes on with it
 level_put : {inside n : ℕ} {u : Nested} {level new : Level} {key : List ℕ} (v : RawValue) (t : Tree) (m : ℕ) → IsBehind inside u level key (value v) n
     → StandsFor (ReadsUpTo inside) v t → CountsIn HasFrameCount (value v) m → IsOneMore level key t new → IsReading inside u new (n + m)
-level_put {level = level} {new = new} {key = key} v t m is stands counts more = record {
-  pairs = is.reading.pairs ++ (is.frame.key, t) ∷ [];
-  rest = is.rest;
-  left = more.0 ∙ ap (λ (l : Level). l.elements) is.level_is;
-  passed = rw is.total (passed_more v t m is.reading.passed is.stands is.means stands counts);
-  drafted = more_drafted level new key is.frame.key t is.reading.pairs is.key_is more (rw is.level_is is.reading.drafted);
-  held = more.1 ∙ ap (λ (l : Level). l.holder) is.level_is ∙ is.reading.held;
-}
+level_put v t m is stands counts more = grind (arith, more_drafted, passed_more)
 
 -- no frame is in a value that holds no nested bytes
 none_counted : (v : RawValue) → HoldsNone v → CountsIn HasFrameCount (value v) 0
-none_counted (raw.single l) h = refl
-none_counted (raw.document d) h = absurd h
-none_counted (raw.array d) h = absurd h
-none_counted (raw.scoped code d) h = absurd h
+none_counted v h = grind arith
 
 -- the levels
 
@@ -250,9 +217,7 @@ module _ {depth n : ℕ} {u : Nested} {ws : List Waiting} {level : Level} {key :
 -- the value that is opened is that of nested bytes
 pub nested_inside : {depth n : ℕ} {u : Nested} {ws : List Waiting} {level : Level} {key : List ℕ} (v : RawValue) (o : Opened) (inner : Nested)
     → AreBehind depth u ws level key (value v) n → Opens v o → o ≡ opened.Nested inner → AreBehind depth u ws level key (value (held_value inner)) n
-nested_inside {depth = depth} {n = n} {u = u} {ws = ws} {level = level} {key = key} v o inner are opens is =
-    let same : v ≡ held_value inner = subst (λ (x : Opened). Opens v x) is opens in
-    subst (λ (x : RawValue). AreBehind depth u ws level key (value x) n) same are
+nested_inside v o inner are opens is = grind arith
 
 -- the value holds nested bytes, which are the next level, and the level waits for them
 pub went_in : {depth n : ℕ} {u : Nested} {ws : List Waiting} (w : Waiting) (v : Nested) → AreBehind depth u ws w.level w.key.now (value (held_value v)) n
@@ -278,13 +243,11 @@ tells_small b (Err e) n h = omega (arith, until_small b h.0 h.1, h.2)
 
 -- the value that a call returns
 pub told_value : (f : Frame) (v : RawBsonRef) → ((m : Meaning) × Means f m × TellsMeaning (Ok v) m) → Means f (value (value_of v))
-told_value f v (value w, m, t) = rw t m
-told_value f v (faulty x, m, t) = absurd t
+told_value f v h = grind arith
 
 -- or the fault
 pub told_failed : (f : Frame) (e : Error) → ((m : Meaning) × Means f m × TellsMeaning (Err e) m) → (fault : KeyedFault) × Means f (faulty fault) × Says e fault
-told_failed f e (value w, m, t) = absurd t
-told_failed f e (faulty x, m, t) = (x, m, t)
+told_failed f e h = grind arith
 
 -- where nothing is popped, nothing waits
 pub no_more : (n : ℕ) (old new : List Waiting) → length old ≡ n → old ≡ new ++ [] → new ≡ take (n - 1) old → old ≡ []

@@ -1,14 +1,7 @@
 -- Within limits bytes are read as one tree or have one first barrier, and never both.
 use Rattle.std.proofs.Common.{◌≡◌, ◌⊎◌, inl, inr, ◌≤◌, ◌∷◌, [], ℕ, zero, suc, List, length, drop, arith, refl, sym, ◌∙◌}
-use Rattle.std.proofs.lemmas.Bool.{cases_lt}
-use Rattle.bson_model.specs.Tree.{Tree, document}
-use Rattle.raw_view.specs.Frame.Envelope.{IsEnvelope}
-use Rattle.raw_view.specs.Frame.{Frame, IsFrame, Done, LeadsTo}
-use Rattle.raw_view.specs.Meaning.{RawValue, KeyedFault, Means, value}
-use Rattle.raw_view.specs.Meaning as raw
-use Rattle.raw_tree.specs.reader.WithinLimits.{Barrier, too_many_bytes, too_deep, fault_of, BarsRest, FirstFaultWithin, ReadsWithin, FirstBarrier, AllAreAnsweredOneWay}
-use Rattle.raw_tree.specs.reader.Reading.{Sort, as_document, as_array, StandsFor, StandForEach, ReadsUpTo, ReadsAs, Holds, FirstFaultUpTo}
-use Rattle.raw_tree.specs.declared.reader.limits.Limits.{Limits}
+use Rattle.raw_tree.proofs.Common.{cases_lt, Tree, IsEnvelope, Frame, IsFrame, Done, LeadsTo, RawValue, KeyedFault, Means, value, Barrier, too_many_bytes, too_deep, fault_of, BarsRest}
+use Rattle.raw_tree.proofs.Common.{FirstFaultWithin, ReadsWithin, FirstBarrier, AllAreAnsweredOneWay, Sort, as_document, StandsFor, StandForEach, ReadsUpTo, ReadsAs, Holds, FirstFaultUpTo, Limits}
 use Rattle.raw_tree.proofs.reader.Decides.{decided}
 use Rattle.raw_tree.proofs.reader.Depths.{shallow, read_to_depth}
 use Rattle.raw_tree.proofs.reader.FrameCounts.{leads_to_end}
@@ -25,22 +18,7 @@ abbrev HoldsDeep : ℕ → RawValue → Type 0
 HoldsDeep n v = (d : List ℕ) × Holds v d × FirstFaultWithin n d too_deep
 
 value_or_deep : (n : ℕ) (N : Sort → List ℕ → Tree → Type 0) → AreReadOrDeep n N → (v : RawValue) (t : Tree) → StandsFor N v t → StandsFor (ReadsUpTo n) v t ⊎ HoldsDeep n v
-value_or_deep n N nested (raw.single l) t h = inl h
-value_or_deep n N nested (raw.document d) t h =
-    elim (nested as_document d t h) [
-      | inl read ↦ inl read
-      | inr deep ↦ inr (d, refl, deep)
-    ]
-value_or_deep n N nested (raw.array d) t h =
-    elim (nested as_array d t h) [
-      | inl read ↦ inl read
-      | inr deep ↦ inr (d, refl, deep)
-    ]
-value_or_deep n N nested (raw.scoped code d) t h =
-    elim (nested as_document d (document h.0) h.1) [
-      | inl read ↦ inl (h.0, read, h.2)
-      | inr deep ↦ inr (d, refl, deep)
-    ]
+value_or_deep n N nested v t h = grind arith
 
 -- a barrier behind one frame more
 bars_behind : (n : ℕ) (s : List ℕ) (f : Frame) (r : List ℕ) (v : RawValue) (t : Tree) (x : Barrier) → IsFrame s f r → Means f (value v)
@@ -66,10 +44,7 @@ read_or_deep n zero sort b t h = absurd h
 read_or_deep zero (suc m) sort b t h = inr refl
 read_or_deep (suc n) (suc m) sort b t h =
     let lead = leads_to_end (drop 4 b) h.1.0 Done h.1.1 in
-    elim (frames_or_deep n (ReadsUpTo m) (read_or_deep n m) (drop 4 b) h.1.0 lead.0 h.0 lead.1 h.1.2) [
-      | inl each ↦ inl (h.0, (h.1.0, h.1.1, each), h.2)
-      | inr bars ↦ inr bars
-    ]
+    grind (arith, frames_or_deep n (ReadsUpTo m) (read_or_deep n m) (drop 4 b) h.1.0 lead.0 h.0 lead.1 h.1.2)
 
 -- bytes with a first fault have it within n levels, or a level before it is deeper
 fault_or_deep : (n m : ℕ) (b : List ℕ) (fault : KeyedFault) → FirstFaultUpTo m b fault → FirstFaultWithin n b (fault_of fault) ⊎ FirstFaultWithin n b too_deep
@@ -120,14 +95,8 @@ module _ (limits : Limits) (b : List ℕ) where
       elim (cases_lt limits.bytes (length b)) [
         | inl many ↦ inr (too_many_bytes, inl (many, refl))
         | inr few ↦ elim (decided as_document b env) [
-          | inl t ↦ elim (read_or_deep limits.depth t.1.0 as_document b t.0 t.1.1) [
-            | inl read ↦ inl (t.0, read_within limits b t.0 few read)
-            | inr deep ↦ inr (too_deep, inr (few, deep))
-          ]
-          | inr bad ↦ elim (fault_or_deep limits.depth bad.1.0 b bad.0 bad.1.1) [
-            | inl fault ↦ inr (fault_of bad.0, inr (few, fault))
-            | inr deep ↦ inr (too_deep, inr (few, deep))
-          ]
+          | inl t ↦ grind (arith, read_within, read_or_deep limits.depth t.1.0 as_document b t.0 t.1.1)
+          | inr bad ↦ grind (arith, fault_or_deep limits.depth bad.1.0 b bad.0 bad.1.1)
         ]
       ]
 
@@ -136,10 +105,7 @@ module _ (limits : Limits) (b : List ℕ) where
   tree_or_barrier t x h (inr bars) = apart_within limits.depth as_document b t x (to_depth t h) bars.1
 
   one_barrier : (x other : Barrier) → FirstBarrier limits b x → FirstBarrier limits b other → other ≡ x
-  one_barrier x other (inl a) (inl c) = c.1 ∙ sym a.1
-  one_barrier x other (inl a) (inr c) = absurd (omega (arith, a.0, c.0))
-  one_barrier x other (inr a) (inl c) = absurd (omega (arith, a.0, c.0))
-  one_barrier x other (inr a) (inr c) = one_barrier_within limits.depth b other x c.1 a.1
+  one_barrier x other h h' = grind (arith, one_barrier_within)
 
 pub answered_one_way : (limits : Limits) → AllAreAnsweredOneWay limits
 answered_one_way limits b env = record {

@@ -1,18 +1,10 @@
 -- What a loop over elements keeps: nested bytes are shorter, some number of levels serves, frames that stand for
 -- trees.
-use Rattle.std.proofs.Common.{◌≡◌, inl, inr, ◌≤◌, ◌+◌, ◌++◌, ◌∷◌, [], ℕ, zero, suc, List, length, drop, arith, ap, refl, length-append}
-use Rattle.std.specs.Str.{IsUtf8}
-use Rattle.bson_model.specs.Leaf.{Leaf}
-use Rattle.bson_model.specs.Pairs.{keep}
-use Rattle.bson_model.specs.Tree.{Tree, Entries, document, entries}
-use Rattle.raw_view.specs.Frame.Envelope.{IsEnvelope}
-use Rattle.raw_view.specs.Frame.Format.{string_payload}
-use Rattle.raw_view.specs.Frame.{Frame, IsFrame, HasShape, IsWalk, Done}
-use Rattle.raw_view.specs.Meaning.{RawValue, Means, MeansValue, IsCodeWithScope, value}
+use Rattle.std.proofs.Common.{◌≡◌, inl, inr, ◌≤◌, ◌+◌, ◌++◌, ◌∷◌, [], ℕ, zero, suc, List, length, drop, arith, ap, refl, length-append, IsUtf8}
+use Rattle.raw_tree.proofs.Common.{Leaf, Tree, Entries, document, IsEnvelope, Frame, IsFrame, HasShape, IsWalk, Done, RawValue, Means, MeansValue, IsCodeWithScope, value, ElementType, Sort}
+use Rattle.raw_tree.proofs.Common.{as_document, tree_of_pairs, StandsFor, StandForEach, ReadsUpTo, ReadsAs, Holds}
 use Rattle.raw_view.specs.Meaning as raw
-use Rattle.raw_view.specs.declared.element_type.ElementType.{ElementType}
 use Rattle.raw_view.specs.declared.element_type.ElementType.TheVariants as kind
-use Rattle.raw_tree.specs.reader.Reading.{Sort, as_document, as_array, tree_of_pairs, StandsFor, StandForEach, ReadsUpTo, ReadsAs, Holds}
 
 -- nested bytes
 
@@ -51,10 +43,7 @@ valued _ p r v x m = single_valued m
 
 -- nested bytes have an envelope and are no longer than the payload
 nested_in : {k : ElementType} {p : List ℕ} {v : RawValue} (d : List ℕ) → Valued k p v → Holds v d → IsEnvelope d × (length d ≤ length p)
-nested_in d (of_single l) h = absurd h
-nested_in d (of_document env) h = (rw h env, omega (arith, ap length h))
-nested_in d (of_array env) h = (rw h env, omega (arith, ap length h))
-nested_in d (of_code code scope c u env) h = (rw h env, omega (arith, ap length h, ap length c.spelled, length-append (string_payload code) scope))
+nested_in d v h = grind (arith, length-append)
 
 nested_in_frame : (s : List ℕ) (f : Frame) (r : List ℕ) (v : RawValue) (d : List ℕ) → IsFrame s f r → Means f (value v) → Holds v d → IsEnvelope d × (length d ≤ length f.payload)
 nested_in_frame s f r v d b m h = nested_in d (valued f.kind f.payload r v b.payload_is m) h
@@ -73,17 +62,13 @@ nested_shorter s f r v d b m h = omega (arith, (nested_in_frame s f r v d b m h)
 
 -- and they stand beside what is left behind the frame
 pub nested_beside : (s : List ℕ) (f : Frame) (r : List ℕ) (v : RawValue) (d : List ℕ) → IsFrame s f r → Means f (value v) → Holds v d → length d + length r + 2 ≤ length s
-nested_beside s f r v d b m h =
-    omega (arith, (nested_in_frame s f r v d b m h).1, ap length b.spelled, length-append f.key (0 ∷ (f.payload ++ r)), length-append f.payload r)
+nested_beside s f r v d b m h = grind (arith, length-append, nested_in_frame)
 
 -- levels
 
 -- where other bytes are read as the same trees, a value stands for the same tree
 stands_on : (N M : Sort → List ℕ → Tree → Type 0) → ((sort : Sort) (b : List ℕ) (t : Tree) → N sort b t → M sort b t) → (v : RawValue) (t : Tree) → StandsFor N v t → StandsFor M v t
-stands_on N M on (raw.single l) t h = h
-stands_on N M on (raw.document d) t h = on as_document d t h
-stands_on N M on (raw.array d) t h = on as_array d t h
-stands_on N M on (raw.scoped code d) t h = (h.0, on as_document d (document h.0) h.1, h.2)
+stands_on N M on v t h = grind arith
 
 -- so do the values of frames
 stand_each_on : (N M : Sort → List ℕ → Tree → Type 0) → ((sort : Sort) (b : List ℕ) (t : Tree) → N sort b t → M sort b t)
@@ -95,8 +80,7 @@ stand_each_on N M on (f ∷ fs) pairs h = (h.0, h.1, h.2, h.3, stands_on N M on 
 pub reads_up_to : (n m : ℕ) → n ≤ m → (sort : Sort) (b : List ℕ) (t : Tree) → ReadsUpTo n sort b t → ReadsUpTo m sort b t
 reads_up_to zero m l sort b t h = absurd h
 reads_up_to (suc n) zero l sort b t h = absurd (omega arith)
-reads_up_to (suc n) (suc m) l sort b t h =
-    (h.0, (h.1.0, h.1.1, stand_each_on (ReadsUpTo n) (ReadsUpTo m) (reads_up_to n m (omega arith)) h.1.0 h.0 h.1.2), h.2)
+reads_up_to (suc n) (suc m) l sort b t h = grind (arith, stand_each_on, reads_up_to n m)
 
 -- frames that are read within some levels are read
 pub each_read : (n : ℕ) (fs : List Frame) (pairs : List (List ℕ × Tree)) → StandForEach (ReadsUpTo n) fs pairs → StandForEach ReadsAs fs pairs
@@ -104,10 +88,7 @@ each_read n fs pairs h = stand_each_on (ReadsUpTo n) ReadsAs (λ sort b t read. 
 
 -- a value that stands for a tree does so within some levels
 stands_level : (v : RawValue) (t : Tree) → StandsFor ReadsAs v t → (n : ℕ) × StandsFor (ReadsUpTo n) v t
-stands_level (raw.single l) t h = (0, h)
-stands_level (raw.document d) t h = h
-stands_level (raw.array d) t h = h
-stands_level (raw.scoped code d) t h = (h.1.0, (h.0, h.1.1, h.2))
+stands_level v t h = grind arith
 
 -- frames that are read are read within some levels
 pub stand_each_level : (fs : List Frame) (pairs : List (List ℕ × Tree)) → StandForEach ReadsAs fs pairs → (n : ℕ) × StandForEach (ReadsUpTo n) fs pairs
@@ -129,8 +110,7 @@ reads_of sort b frames pairs w h =
 
 -- a tree as which bytes are read as a document is that of entries
 pub document_read : (b : List ℕ) (t : Tree) → ReadsAs as_document b t → (es : Entries) × (t ≡ document es)
-document_read b t (zero, h) = absurd h
-document_read b t (suc n, h) = (entries (keep h.0), h.2)
+document_read b t h = grind arith
 
 -- a caller's loop
 

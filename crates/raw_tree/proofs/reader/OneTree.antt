@@ -1,13 +1,9 @@
 -- Reading is determined: bytes are read as one tree at most, have one first fault at most, and never both; so it is of
 -- barriers, where nested bytes have one.
-use Rattle.std.proofs.Common.{◌≡◌, ◌⊎◌, inl, inr, ◌∷◌, [], ℕ, zero, suc, List, drop, ap, refl, sym, ◌∙◌, subst}
-use Rattle.bson_model.specs.Tree.{Tree, document, code_with_scope}
-use Rattle.raw_view.specs.Frame.{Frame, IsFrame, IsStop, IsWalk, Done, LeadsTo}
-use Rattle.raw_view.specs.Meaning.{RawValue, KeyedFault, Means, value, faulty}
-use Rattle.raw_view.specs.Meaning as raw
+use Rattle.std.proofs.Common.{◌≡◌, ◌⊎◌, inl, inr, ◌∷◌, [], ℕ, zero, suc, List, drop, ap, refl, sym, ◌∙◌, subst, arith}
+use Rattle.raw_tree.proofs.Common.{Tree, Frame, IsFrame, IsStop, IsWalk, Done, LeadsTo, RawValue, KeyedFault, Means, value, faulty, Barrier, too_many_bytes, too_deep, fault_of, IsFaultWith, BarsFrame}
+use Rattle.raw_tree.proofs.Common.{BarsFront, BarsRest, Sort, StandsFor, StandForEach, ReadsUpTo, ReadsAs, Holds, FailsInFrame, FirstFaultUpTo, FirstFault, FirstFaultOfValue}
 use Rattle.raw_view.proofs.Face.{one_frame, one_stop, one_walk, no_frame_at_stop, no_frame_at_final, no_stop_at_final, one_meaning}
-use Rattle.raw_tree.specs.reader.WithinLimits.{Barrier, too_many_bytes, too_deep, fault_of, IsFaultWith, BarsFrame, BarsFront, BarsRest}
-use Rattle.raw_tree.specs.reader.Reading.{Sort, as_document, as_array, tree_of_pairs, StandsFor, StandForEach, ReadsUpTo, ReadsAs, Holds, FailsInFrame, FirstFaultUpTo, FirstFault, FirstFaultOfValue}
 
 -- values
 
@@ -25,10 +21,7 @@ value_nor_fault f v x a b = let same : value v ≡ faulty x = one_meaning f (val
 
 -- a value holds the nested bytes of one list at most
 pub one_nested : (v : RawValue) (d e : List ℕ) → Holds v d → Holds v e → d ≡ e
-one_nested (raw.single l) d e a b = absurd a
-one_nested (raw.document x) d e a b = a ∙ sym b
-one_nested (raw.array x) d e a b = a ∙ sym b
-one_nested (raw.scoped code x) d e a b = a ∙ sym b
+one_nested v d e a b = grind arith
 
 -- trees
 
@@ -38,13 +31,7 @@ AgreeOn N M = (sort : Sort) (b : List ℕ) (t u : Tree) → N sort b t → M sor
 
 -- then a value stands for one tree
 stands_same : (N M : Sort → List ℕ → Tree → Type 0) → AgreeOn N M → (v : RawValue) (t u : Tree) → StandsFor N v t → StandsFor M v u → t ≡ u
-stands_same N M same (raw.single l) t u h k = h ∙ sym k
-stands_same N M same (raw.document d) t u h k = same as_document d t u h k
-stands_same N M same (raw.array d) t u h k = same as_array d t u h k
-stands_same N M same (raw.scoped code d) t u h k =
-    let scopes : document h.0 ≡ document k.0 = same as_document d (document h.0) (document k.0) h.1 k.1 in
-    let inside : h.0 ≡ k.0 = cc in
-    h.2 ∙ ap (λ es. code_with_scope code es) inside ∙ sym k.2
+stands_same N M same v t u h k = grind arith
 
 -- and frames for one list of pairs
 stand_each_same : (N M : Sort → List ℕ → Tree → Type 0) → AgreeOn N M → (fs : List Frame) (ps qs : List (List ℕ × Tree)) → StandForEach N fs ps → StandForEach M fs qs → ps ≡ qs
@@ -60,11 +47,7 @@ stand_each_same N M same (f ∷ fs) ps qs h k =
 one_tree_within : (n m : ℕ) → AgreeOn (ReadsUpTo n) (ReadsUpTo m)
 one_tree_within zero m sort b t u h k = absurd h
 one_tree_within (suc n) zero sort b t u h k = absurd k
-one_tree_within (suc n) (suc m) sort b t u h k =
-    let frames : h.1.0 ≡ k.1.0 = (one_walk (drop 4 b) h.1.0 k.1.0 Done Done h.1.1 k.1.1).0 in
-    let there : StandForEach (ReadsUpTo m) h.1.0 k.0 = subst (λ (x : List Frame). StandForEach (ReadsUpTo m) x k.0) (sym frames) k.1.2 in
-    let pairs : h.0 ≡ k.0 = stand_each_same (ReadsUpTo n) (ReadsUpTo m) (one_tree_within n m) h.1.0 h.0 k.0 h.1.2 there in
-    h.2 ∙ ap (tree_of_pairs sort) pairs ∙ sym k.2
+one_tree_within (suc n) (suc m) sort b t u h k = grind (arith, one_walk, stand_each_same, one_tree_within n m)
 
 -- bytes are read as one tree at most
 pub one_tree : (sort : Sort) (b : List ℕ) (t u : Tree) → ReadsAs sort b t → ReadsAs sort b u → t ≡ u
@@ -78,9 +61,7 @@ one_tree_of_value v t u h k = stands_same ReadsAs ReadsAs one_tree v t u h k
 
 -- a barrier that is a fault of which something holds
 some_fault : (P : KeyedFault → Type 0) (x : Barrier) → IsFaultWith P x → (fault : KeyedFault) × P fault
-some_fault P (fault_of fault) h = (fault, h)
-some_fault P too_many_bytes h = absurd h
-some_fault P too_deep h = absurd h
+some_fault P x h = grind arith
 
 -- no bytes are read as a tree and have a barrier
 abbrev pub AreApart : (Sort → List ℕ → Tree → Type 0) → (List ℕ → Barrier → Type 0) → Type 0
@@ -90,10 +71,7 @@ AreApart N Nested = (sort : Sort) (b : List ℕ) (t : Tree) (x : Barrier) → N 
 module _ (N : Sort → List ℕ → Tree → Type 0) (Nested : List ℕ → Barrier → Type 0) (apart : AreApart N Nested) where
   -- no value stands for a tree and holds nested bytes with a barrier
   value_apart : (v : RawValue) (t : Tree) (d : List ℕ) (x : Barrier) → StandsFor N v t → Holds v d → Nested d x → ⊥
-  value_apart (raw.single l) t d x h holds bars = holds
-  value_apart (raw.document e) t d x h holds bars = apart as_document e t x h (rw (← holds) bars)
-  value_apart (raw.array e) t d x h holds bars = apart as_array e t x h (rw (← holds) bars)
-  value_apart (raw.scoped code e) t d x h holds bars = apart as_document e (document h.0) x h.1 (rw (← holds) bars)
+  value_apart v t d x h holds bars = grind arith
 
   -- no frame at the front whose value stands for a tree has the barrier
   frame_apart : (s : List ℕ) (f : Frame) (r : List ℕ) (v : RawValue) (t : Tree) (x : Barrier) → IsFrame s f r → Means f (value v) → StandsFor N v t
@@ -103,19 +81,11 @@ module _ (N : Sort → List ℕ → Tree → Type 0) (Nested : List ℕ → Barr
       no_frame_at_stop s fault.0.fault fault.0.key fault.1 f r at
   frame_apart s f r v t x at m h (inr bars) =
       let frames : bars.0 ≡ f = (one_frame s bars.0 f bars.1 r bars.2 at).0 in
-      elim bars.3 [
-        | inl meant ↦ (
-            let fault = some_fault (λ y. Means bars.0 (faulty y)) x meant in
-            value_nor_fault f v fault.0 m (subst (λ (g : Frame). Means g (faulty fault.0)) frames fault.1))
-        | inr inside ↦ (
-            let values : inside.0 ≡ v = one_value_of f inside.0 v (subst (λ (g : Frame). Means g (value inside.0)) frames inside.2) m in
-            value_apart v t inside.1 x h (subst (λ (w : RawValue). Holds w inside.1) values inside.3) inside.4)
-      ]
+      grind (arith, frames, bars.3, one_value_of, some_fault, value_apart, value_nor_fault)
 
   -- nor does the final 0
   final_apart : (s : List ℕ) (x : Barrier) → s ≡ 0 ∷ [] → BarsFront N Nested s x → ⊥
-  final_apart s x e (inl stop) = let fault = some_fault (λ y. IsStop s y.fault y.key) x stop in no_stop_at_final s fault.0.fault fault.0.key e fault.1
-  final_apart s x e (inr bars) = no_frame_at_final s e bars.0 bars.1 bars.2
+  final_apart s x e h = grind (arith, no_frame_at_final, no_stop_at_final, some_fault)
 
   -- along a walk whose frames all stand for trees the barrier is nowhere
   pub walk_apart : (s : List ℕ) (frames passed : List Frame) (r : List ℕ) (pairs : List (List ℕ × Tree)) (x : Barrier) → IsWalk s frames Done
@@ -153,13 +123,7 @@ module _ (N : Sort → List ℕ → Tree → Type 0) (Nested Other : List ℕ �
   -- where nested bytes have one of them, so has what is left of a document or an array
   module _ (same : (b : List ℕ) (x y : Barrier) → Nested b x → Other b y → x ≡ y) where
     frame_same : (f : Frame) (x y : Barrier) → BarsFrame N Nested f x → BarsFrame N Other f y → x ≡ y
-    frame_same f x y (inl a) (inl c) = one_fault_with (λ z. Means f (faulty z)) (λ z. Means f (faulty z)) (one_fault_of f) x y a c
-    frame_same f x y (inl a) (inr c) = let fault = some_fault (λ z. Means f (faulty z)) x a in absurd (value_nor_fault f c.0 fault.0 c.2 fault.1)
-    frame_same f x y (inr a) (inl c) = let fault = some_fault (λ z. Means f (faulty z)) y c in absurd (value_nor_fault f a.0 fault.0 a.2 fault.1)
-    frame_same f x y (inr a) (inr c) =
-        let values : c.0 ≡ a.0 = one_value_of f c.0 a.0 c.2 a.2 in
-        let nested : c.1 ≡ a.1 = one_nested a.0 c.1 a.1 (subst (λ (v : RawValue). Holds v c.1) values c.3) a.3 in
-        same a.1 x y a.4 (subst (λ (d : List ℕ). Other d y) nested c.4)
+    frame_same f x y h h' = grind (arith, one_fault_of, one_fault_with, one_nested, one_value_of, some_fault, value_nor_fault)
 
     stop_same : (s : List ℕ) (a c : KeyedFault) → IsStop s a.fault a.key → IsStop s c.fault c.key → a ≡ c
     stop_same s a c h k = let stops = one_stop s a.fault c.fault a.key c.key h k in (λ i. record { fault = stops.0 i; key = stops.1 i })
@@ -190,12 +154,7 @@ FailsAt Inner s fault = BarsFront ReadsAs (BarsAs Inner) s (fault_of fault)
 -- so have those whose first fault it is
 fails_at : (Inner : List ℕ → KeyedFault → Type 0) (s : List ℕ) (fault : KeyedFault)
     → IsStop s fault.fault fault.key ⊎ ((f : Frame) × (r : List ℕ) × IsFrame s f r × FailsInFrame Inner f fault) → FailsAt Inner s fault
-fails_at Inner s fault (inl stop) = inl stop
-fails_at Inner s fault (inr bad) =
-    elim bad.3 [
-      | inl meant ↦ inr (bad.0, bad.1, bad.2, inl meant)
-      | inr inside ↦ inr (bad.0, bad.1, bad.2, inr (inside.0, inside.2.0, inside.1, inside.2.1, inside.2.2))
-    ]
+fails_at Inner s fault h = grind arith
 
 -- no bytes are read as a tree and have a fault, within any levels
 apart_within : (n m : ℕ) → AreApart (ReadsUpTo n) (BarsAs (FirstFaultUpTo m))

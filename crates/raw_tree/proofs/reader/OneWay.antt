@@ -1,16 +1,7 @@
 -- Bytes, values and frames are read in one way alone.
-use Rattle.std.proofs.Common.{◌≡◌, inl, inr, List, ℕ, Result, Ok, Err, sym, ◌∙◌, subst}
-use Rattle.bson_model.specs.Tree.{Tree}
-use Rattle.raw_view.specs.Errors.Answers.{TellsMeaning}
-use Rattle.raw_view.specs.Frame.Envelope.{IsEnvelope}
-use Rattle.raw_view.specs.Frame.{Frame}
-use Rattle.raw_view.specs.Meaning.{RawValue, KeyedFault, Means, Meaning, value, faulty}
-use Rattle.raw_view.specs.Meaning.Value.{value_of}
-use Rattle.raw_view.specs.declared.bson_ref.RawBsonRef.{RawBsonRef}
-use Rattle.raw_view.specs.declared.bson_ref.RawBsonRef.TheVariants as ref
-use Rattle.raw_view.specs.declared.error.Error.{Error}
-use Rattle.raw_tree.specs.reader.FrameCount.{AllAreCountedOneWay}
-use Rattle.raw_tree.specs.reader.Reading.{Sort, as_document, ReadsAs, StandsFor, Holds, FirstFaultOfValue, FirstFaultOfFrame, FrameStandsFor, AreReadOneWay, IsValueReadOneWay, IsFrameReadOneWay}
+use Rattle.std.proofs.Common.{inl, inr, List, ℕ, Result, Ok, Err, subst, arith}
+use Rattle.raw_tree.proofs.Common.{Tree, TellsMeaning, IsEnvelope, Frame, RawValue, KeyedFault, Means, Meaning, value, faulty, value_of, RawBsonRef, Error, AllAreCountedOneWay, Sort, as_document}
+use Rattle.raw_tree.proofs.Common.{ReadsAs, StandsFor, Holds, FirstFaultOfValue, FirstFaultOfFrame, FrameStandsFor, AreReadOneWay, IsValueReadOneWay, IsFrameReadOneWay}
 use Rattle.raw_tree.proofs.reader.Decides.{counted, counted_until, decided, value_decided}
 use Rattle.raw_tree.proofs.reader.FrameCounts.{one_until}
 use Rattle.raw_tree.proofs.reader.OneTree.{one_fault_of, one_value_of, value_nor_fault, one_tree, one_tree_of_value, one_first_fault, one_first_fault_of_value, tree_or_fault, tree_or_fault_of_value}
@@ -33,10 +24,7 @@ counted_one_way b env =
 
 -- the nested bytes of a borrowed value have an envelope
 viewed_envelope : (v : RawBsonRef) (d : List ℕ) → Holds (value_of v) d → IsEnvelope d
-viewed_envelope (ref.Document x) d h = rw h x.envelope
-viewed_envelope (ref.Array x) d h = rw h x.document.envelope
-viewed_envelope (ref.JavaScriptCodeWithScope x) d h = rw h x.scope.envelope
-viewed_envelope _ d h = absurd h
+viewed_envelope v d h = grind arith
 
 -- a value whose nested bytes have an envelope
 pub enveloped_one_way : (v : RawValue) → ((d : List ℕ) → Holds v d → IsEnvelope d) → IsValueReadOneWay v
@@ -68,20 +56,10 @@ module _ (f : Frame) where
       tree t r = subst (λ (w : RawValue). StandsFor ReadsAs w t) (one_value_of f r.0 v r.1 m) r.2
 
       fault_in : (fault : KeyedFault) → FirstFaultOfFrame f fault → FirstFaultOfValue v fault
-      fault_in fault (inl bad) = absurd (value_nor_fault f v fault m bad)
-      fault_in fault (inr inside) = subst (λ (w : RawValue). FirstFaultOfValue w fault) (one_value_of f inside.0 v inside.1 m) inside.2
+      fault_in fault h = grind (arith, one_value_of, value_nor_fault)
 
   of_fault : (fault : KeyedFault) → Means f (faulty fault) → IsFrameReadOneWay f
-  of_fault fault m = record {
-    either = inr (fault, inl m);
-    not_both = λ t x r s. value_nor_fault f r.0 fault r.1 m;
-    one_tree = λ t other r s. absurd (value_nor_fault f r.0 fault r.1 m);
-    one_fault = λ x other r s. only other s ∙ sym (only x r);
-  }
-    where
-      only : (x : KeyedFault) → FirstFaultOfFrame f x → x ≡ fault
-      only x (inl bad) = one_fault_of f x fault bad m
-      only x (inr inside) = absurd (value_nor_fault f inside.0 fault inside.1 m)
+  of_fault fault m = grind (arith, one_fault_of, value_nor_fault)
 
   pub element_one_way : (answer : Result RawBsonRef Error) → (m : Meaning) × Means f m × TellsMeaning answer m → IsFrameReadOneWay f
   element_one_way (Ok w) (value v, m, told) = of_value v m (subst IsValueReadOneWay told (value_one_way w))

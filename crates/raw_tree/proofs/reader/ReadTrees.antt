@@ -1,26 +1,13 @@
 -- A tree that bytes with an envelope are read as is proper.
-use Rattle.std.proofs.Common.{◌≡◌, ◌<◌, inl, inr, ◌++◌, ◌∷◌, [], ℕ, pos, zero, suc, true, false, cond, fold, List, length, map, drop, arith, ap, refl, sym, ◌∙◌, subst, append_assoc}
-use Rattle.std.specs.List.{IsDistinct}
-use Rattle.std.specs.Str.{IsUtf8, bytes_eq}
-use Rattle.bson_model.specs.Bytes.{AreBytes, NulFree}
-use Rattle.bson_model.specs.Leaf.{Leaf, binary, regular_expression, db_pointer}
-use Rattle.bson_model.specs.Pairs.{keep, with_pair}
-use Rattle.bson_model.specs.Proper.{Everywhere, InTrees, InEntries, Whatever, IsLeafInRange, IsLeafNulFree, DoLeafOptionsAscend, IsLeafSubtypeProper, IsProper}
-use Rattle.bson_model.specs.Subtype.{subtype_of, subtype_byte}
-use Rattle.bson_model.specs.Tree.{Tree, document, trees, entries}
-use Rattle.bson_model.specs.declared.binaries.BinarySubtype.TheVariants.{BinaryOld}
+use Rattle.std.proofs.Common.{◌≡◌, ◌<◌, inl, inr, ◌++◌, ◌∷◌, [], ℕ, pos, zero, suc, fold, List, length, map, drop, arith, ap, refl, sym, ◌∙◌, subst, append_assoc, IsUtf8, bytes_eq}
+use Rattle.raw_tree.proofs.Common.{IsDistinct, AreBytes, NulFree, Leaf, binary, regular_expression, db_pointer, keep, with_pair, Everywhere, InTrees, InEntries, Whatever, IsLeafInRange, IsLeafNulFree}
+use Rattle.raw_tree.proofs.Common.{DoLeafOptionsAscend, IsLeafSubtypeProper, IsProper, subtype_of, subtype_byte, Tree, document, trees, entries, BinaryOld, IsEnvelope, string_payload, Frame, IsFrame}
+use Rattle.raw_tree.proofs.Common.{HasShape, IsBinary, IsRegex, IsDbPointer, IsWalk, Done, tag_of, RawValue, HasInnerLength, IsBinaryValue, Means, MeansValue, value, le32, ElementType, Sort}
+use Rattle.raw_tree.proofs.Common.{as_document, as_array, tree_of_pairs, leaf_in_order, StandsFor, StandForEach, ReadsUpTo, ReadsAs}
 use Rattle.bson_model.proofs.Face.{fold-keep, HasDistinctKeys-keep, IsUtf8-sorted_options, OptionsAscend-sorted_options, NulFree-sorted_options, subtype_byte-subtype_of, IsProperSubtype-subtype_of, keys_in-entries, AreBytes-front, AreBytes-back, AreBytes-drop}
-use Rattle.raw_view.specs.Frame.Envelope.{IsEnvelope}
-use Rattle.raw_view.specs.Frame.Format.{string_payload}
-use Rattle.raw_view.specs.Frame.{Frame, IsFrame, HasShape, IsBinary, IsRegex, IsDbPointer, IsWalk, Done}
-use Rattle.raw_view.specs.Frame.Kind.{tag_of}
-use Rattle.raw_view.specs.Meaning.{RawValue, HasInnerLength, IsBinaryValue, Means, MeansValue, value}
 use Rattle.raw_view.specs.Meaning as raw
-use Rattle.raw_view.specs.Frame.Number.{le32}
-use Rattle.raw_view.specs.declared.element_type.ElementType.{ElementType}
 use Rattle.raw_view.specs.declared.element_type.ElementType.TheVariants as kind
 use Rattle.raw_view.proofs.Face.{AreBytes-rest}
-use Rattle.raw_tree.specs.reader.Reading.{Sort, as_document, as_array, tree_of_pairs, leaf_in_order, StandsFor, StandForEach, ReadsUpTo, ReadsAs}
 use Rattle.raw_tree.proofs.reader.Loops.{Valued, of_code, valued, nested_envelope}
 
 -- bytes
@@ -121,11 +108,7 @@ module _ (OfLeaf : Leaf → Type 0) (OfCode OfKey : List ℕ → Type 0) (OfKeys
   -- with one pair more
   InPairs-with_pair : (k : List ℕ) (t : Tree) (ps : List (List ℕ × Tree)) → OfKey k → IsMet t → InPairs ps → InPairs (with_pair k t ps)
   InPairs-with_pair k t [] a h b = (a, h, tt)
-  InPairs-with_pair k t (p ∷ ps) a h b =
-      elim (bytes_eq k p.0) as (λ c. InPairs (cond c ((p.0, t) ∷ ps) (p ∷ with_pair k t ps))) [
-        | true ↦ (b.0, h, b.2)
-        | false ↦ (b.0, b.1, InPairs-with_pair k t ps a h b.2)
-      ]
+  InPairs-with_pair k t (p ∷ ps) a h b = grind (arith, InPairs-with_pair k t ps a h)
 
   -- with more, put in one after the other
   InPairs-fold : (qs ps : List (List ℕ × Tree)) → InPairs qs → InPairs ps → InPairs (fold (λ rs p. with_pair p.0 p.1 rs) qs ps)

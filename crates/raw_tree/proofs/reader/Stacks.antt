@@ -1,29 +1,11 @@
 -- What a loop over levels knows of the bytes: each level has passed frames that stand for the pairs that it has
 -- drafted, and each but the innermost waits for the value of the frame behind them.
-use Rattle.std.proofs.Common.{◌≡◌, Option, None, Some, inl, inr, ◌+◌, ◌++◌, ◌∷◌, [], ℕ, suc, List, length, arith, ap, refl, sym, ◌∙◌, subst, map, length-append, Vec, Global}
-use Rattle.std.proofs.lemmas.List.{map-append}
-use denote.Ref.{Bor}
-use Rattle.std.specs.List.{zip}
-use Rattle.bson_model.specs.Pairs.{keep}
-use Rattle.bson_model.specs.Tree.{Tree, document, array, code_with_scope, trees, entries, tree_of, with_trees, pairs_of}
-use Rattle.bson_model.specs.declared.bson.Bson.{Bson}
-use Rattle.bson_model.specs.declared.bson.Document.{Document}
-use Rattle.raw_view.specs.Document.{bytes_of}
-use Rattle.raw_view.specs.Frame.{Frame, IsFrame}
-use Rattle.raw_view.specs.Meaning.{RawValue, KeyedFault, Meaning, Means, value}
-use Rattle.raw_view.specs.Meaning as raw
-use Rattle.raw_tree.specs.reader.FrameCount.{CountsIn, HasFrameCount, HasFramesToFault}
-use Rattle.raw_tree.specs.reader.Levels.{KeepsKeys, sort_of, holding, holder_of, tree_of_contents, texts_of, AreDrafted, IsPairMore, IsSameDraft, HoldsNone, Closes, Finishes, Ends}
-use Rattle.raw_tree.specs.reader.WithinLimits.{Barrier, BarsFront, FirstFaultWithin}
-use Rattle.raw_tree.specs.reader.Reading.{Sort, as_document, as_array, tree_of_pairs, StandsFor, ReadsUpTo, ReadsAs, Holds}
-use Rattle.raw_tree.specs.declared.reader.levels.Contents.{Contents}
+use Rattle.std.proofs.Common.{◌≡◌, Option, None, Some, inl, inr, ◌+◌, ◌++◌, ◌∷◌, [], ℕ, suc, List, length, arith, ap, refl, sym, ◌∙◌, subst, map, length-append, Vec, Global, Bor, zip}
+use Rattle.raw_tree.proofs.Common.{map-append, keep, Tree, document, code_with_scope, entries, tree_of, with_trees, pairs_of, Bson, Document, bytes_of, Frame, IsFrame, RawValue, KeyedFault, Meaning}
+use Rattle.raw_tree.proofs.Common.{Means, value, CountsIn, HasFrameCount, HasFramesToFault, KeepsKeys, sort_of, holding, texts_of, AreDrafted, IsPairMore, IsSameDraft, HoldsNone, Closes, Finishes}
+use Rattle.raw_tree.proofs.Common.{Ends, Barrier, BarsFront, FirstFaultWithin, Sort, as_document, tree_of_pairs, StandsFor, ReadsUpTo, ReadsAs, Holds, Contents, Draft, Holder, Level, Nested, Waiting}
 use Rattle.raw_tree.specs.declared.reader.levels.Contents.TheVariants as contents
-use Rattle.raw_tree.specs.declared.reader.levels.Draft.{Draft}
-use Rattle.raw_tree.specs.declared.reader.levels.Holder.{Holder}
 use Rattle.raw_tree.specs.declared.reader.levels.Holder.TheVariants as of
-use Rattle.raw_tree.specs.declared.reader.levels.Level.{Level}
-use Rattle.raw_tree.specs.declared.reader.levels.Nested.{Nested}
-use Rattle.raw_tree.specs.declared.reader.levels.Waiting.{Waiting}
 use Rattle.raw_tree.proofs.reader.Decides.{IsCountedFrom, counted_from}
 use Rattle.raw_tree.proofs.reader.FrameCounts.{Passed, Fails, passed_more, passed_read, fails_inside}
 use Rattle.raw_tree.proofs.reader.Loops.{document_read}
@@ -41,9 +23,7 @@ no_trees (p ∷ ps) h = absurd (omega (arith, ap length h))
 
 -- nor is it anew
 pub same_none : (old new : Draft) → old.values.items ≡ [] → new.keys.items ≡ [] → new.values.items ≡ [] → IsSameDraft old new
-same_none old new e k v h pairs are =
-    let none : pairs ≡ [] = no_trees pairs (sym (ap (λ vs. map tree_of vs) e) ∙ are.1) in
-    rw none (drafted_none h new k v)
+same_none old new e k v = grind (arith, drafted_none, no_trees)
 
 -- a column with a pair more
 column_more : {X : Type 0} (f : List ℕ × Tree → X) (xs new : List X) (pairs : List (List ℕ × Tree)) (p : List ℕ × Tree) → new ≡ xs ++ f p ∷ [] → xs ≡ map f pairs → new ≡ map f (pairs ++ p ∷ [])
@@ -55,8 +35,7 @@ module _ (h : Holder) (old mid new : Draft) (key : List ℕ) (t : Tree) (same : 
 
   -- a pair more, and of an array a value more
   pub pair_put : IsPairMore mid key t new → AreDrafted h new (pairs ++ (key, t) ∷ [])
-  pair_put more =
-      ((λ k. column_more (λ (p : List ℕ × Tree). p.0) (texts_of mid.keys.items) (texts_of new.keys.items) pairs (key, t) more.0 ((same h pairs are).0 k)), values_more more.1)
+  pair_put more = grind (arith, column_more, values_more)
 
   pub value_put : h ≡ of.Array → map tree_of new.values.items ≡ map tree_of mid.values.items ++ t ∷ [] → AreDrafted h new (pairs ++ (key, t) ∷ [])
   value_put e more = ((λ k. absurd (subst KeepsKeys e k)), values_more more)
@@ -74,9 +53,7 @@ zip_pairs (p ∷ ps) = ap (λ l. p ∷ l) (zip_pairs ps)
 module _ (d : Draft) (made : Document) (values : List Bson) (h : Holder) (all : values ≡ d.values.items)
     (trees_are : with_trees (pairs_of made) ≡ keep (zip (texts_of d.keys.items) (map tree_of values))) where
   pairs_finished : KeepsKeys h → (pairs : List (List ℕ × Tree)) → AreDrafted h d pairs → document (entries (with_trees (pairs_of made))) ≡ document (entries (keep pairs))
-  pairs_finished k pairs are =
-      let kept : keep (zip (texts_of d.keys.items) (map tree_of d.values.items)) ≡ keep pairs = rw (are.0 k, are.1) (ap keep (zip_pairs pairs)) in
-      ap (λ ps. document (entries ps)) (trees_are ∙ ap (λ vs. keep (zip (texts_of d.keys.items) (map tree_of vs))) all ∙ kept)
+  pairs_finished k pairs are = grind (arith, zip_pairs)
 
   pub document_finished : h ≡ of.Document → Finishes h d (contents.Document None made)
   document_finished e = (sym e, λ pairs are. pairs_finished (rw e tt) pairs are ∙ ap (λ (x : Holder). tree_of_pairs (sort_of x) pairs) (sym e))
@@ -86,15 +63,11 @@ module _ (d : Draft) (made : Document) (values : List Bson) (h : Holder) (all : 
 
 -- and of an array
 pub array_finished : (d : Draft) (made : Vec Bson Global) (h : Holder) → h ≡ of.Array → made.items ≡ d.values.items → Finishes h d (contents.Array made)
-array_finished d made h e all =
-    rw e (refl, λ pairs are. ap (λ ts. array (trees ts)) (ap (λ vs. map tree_of vs) all ∙ are.1))
+array_finished d made h e all = grind arith
 
 -- the value that holds what a level is read as
 pub ended : (h : Holder) (d : Draft) (c : Contents) (t : Bson) → Finishes h d c → Closes c t → Ends h d t
-ended h d c t fin closes pairs b are read =
-    let same : tree_of_contents c ≡ tree_of_pairs (sort_of h) pairs = fin.1 pairs are in
-    let whole : ReadsAs (sort_of (holder_of c)) b (tree_of_contents c) = rw (fin.0, same) read in
-    subst (λ (x : Holder). StandsFor ReadsAs (holding x b) (tree_of t)) fin.0 (closes b whole)
+ended h d c t fin closes = grind arith
 
 -- the value of a code and the contents of its scope
 pub closes_scope : (c : Contents) (held : Option (Bor (List ℕ))) (code : Bor (List ℕ)) (d : Document) (t : Bson) → c ≡ contents.Document held d
@@ -114,21 +87,14 @@ held_stands (of.Code code) d t read =
     (code_with_scope code.now scope.0, (scope.0, subst (ReadsAs as_document d) scope.1 read, refl))
 
 pub held_counts : (h : Holder) (d : List ℕ) (n : ℕ) → HasFrameCount d n → CountsIn HasFrameCount (value (holding h d)) n
-held_counts of.Document d n c = c
-held_counts of.Array d n c = c
-held_counts (of.Code code) d n c = c
+held_counts h d n c = grind arith
 
 pub held_holds : (h : Holder) (d : List ℕ) → Holds (holding h d) d
-held_holds of.Document d = refl
-held_holds of.Array d = refl
-held_holds (of.Code code) d = refl
+held_holds h d = grind arith
 
 -- a value that holds no nested bytes stands for the same tree to any depth
 pub none_stands : (inside : ℕ) (v : RawValue) (t : Tree) → HoldsNone v → StandsFor ReadsAs v t → StandsFor (ReadsUpTo inside) v t
-none_stands inside (raw.single l) t none h = h
-none_stands inside (raw.document d) t none h = absurd none
-none_stands inside (raw.array d) t none h = absurd none
-none_stands inside (raw.scoped code d) t none h = absurd none
+none_stands inside v t none h = grind arith
 
 -- bytes that are read within some levels are read as their one tree within these
 read_within : (levels : ℕ) (sort : Sort) (d : List ℕ) (t u : Tree) → ReadsUpTo levels sort d t → ReadsAs sort d u → ReadsUpTo levels sort d u
@@ -136,9 +102,7 @@ read_within levels sort d t u read other = subst (λ (x : Tree). ReadsUpTo level
 
 -- so what holds them stands for its one tree within them
 pub held_within : (levels : ℕ) (h : Holder) (d : List ℕ) (t u : Tree) → ReadsUpTo levels (sort_of h) d t → StandsFor ReadsAs (holding h d) u → StandsFor (ReadsUpTo levels) (holding h d) u
-held_within levels of.Document d t u read stands = read_within levels as_document d t u read stands
-held_within levels of.Array d t u read stands = read_within levels as_array d t u read stands
-held_within levels (of.Code code) d t u read stands = (stands.0, read_within levels as_document d t (document stands.0) read stands.1, stands.2)
+held_within levels h d t u read stands = grind (arith, read_within)
 
 -- a level
 
@@ -181,8 +145,7 @@ pub record IsWaiting (inside : ℕ) (u : Nested) (w : Waiting) (v : Nested) (n :
 -- the first barrier, the first fault and the count of the bytes v are those of the bytes u
 module _ {inside n : ℕ} {u : Nested} (v : Nested) {level : Level} {key : List ℕ} (is : IsBehind inside u level key (value (held_value v)) n) where
   pub inner_barrier : (x : Barrier) → FirstFaultWithin inside (bytes_of v.document) x → FirstFaultWithin (suc inside) (bytes_of u.document) x
-  inner_barrier x bars =
-      bars_at is.reading x (inr (is.frame, is.rest, is.stands, inr (held_value v, bytes_of v.document, is.means, held_holds v.holder (bytes_of v.document), bars)))
+  inner_barrier x bars = grind (arith, bars_at, held_holds)
 
   inner_fault : (fault : KeyedFault) (m : ℕ) → Fails (bytes_of v.document) fault m → Fails (bytes_of u.document) fault (n + m)
   inner_fault fault m bad =
@@ -242,17 +205,12 @@ lists_same : (ws vs : List Waiting) (w x : Waiting) → ws ++ w ∷ [] ≡ vs ++
 lists_same [] [] w x e = (refl, cc)
 lists_same [] (v ∷ vs) w x e = absurd (omega (arith, ap length e, length-append vs (x ∷ [])))
 lists_same (y ∷ ws) [] w x e = absurd (omega (arith, ap length e, length-append ws (w ∷ [])))
-lists_same (y ∷ ws) (v ∷ vs) w x e =
-    let head : y ≡ v = cc in
-    let rest : ws ++ w ∷ [] ≡ vs ++ x ∷ [] = cc in
-    let same = lists_same ws vs w x rest in
-    ((λ i. head i ∷ same.0 i), same.1)
+lists_same (y ∷ ws) (v ∷ vs) w x e = grind (arith, lists_same ws vs w x)
 
 pub waiting_less : {depth : ℕ} {u : Nested} {all : List Waiting} {inside : ℕ} {v : Nested} {n : ℕ} → AreWaiting depth u all inside v n → (ws : List Waiting) (w : Waiting)
     → all ≡ ws ++ w ∷ []
     → (outer : Nested) × (others : ℕ) × (here : ℕ) × AreWaiting depth u ws (suc inside) outer others × IsWaiting (suc inside) outer w v here × (n ≡ others + here)
 waiting_less (none_waits e) ws w f = absurd (omega (arith, ap length f, length-append ws (w ∷ [])))
-waiting_less {depth = depth} {u = u} {inside = inside} {v = v} (one_more {ws = vs} {w = x} {n = n} {here = here} {v = outer} h waits all total) ws w f =
+waiting_less (one_more {ws = vs} {w = x} {n = n} {here = here} {v = outer} h waits all total) ws w f =
     let same = lists_same vs ws x w (sym all ∙ f) in
-    let waiting = subst (λ (l : List Waiting). AreWaiting depth u l (suc inside) outer n) same.0 h in
-    (outer, n, here, waiting, subst (λ (y : Waiting). IsWaiting (suc inside) outer y v here) same.1 waits, total)
+    (outer, n, here, rw (← same.0) h, rw (← same.1) waits, total)

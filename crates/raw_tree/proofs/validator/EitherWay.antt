@@ -1,24 +1,13 @@
 -- Bytes with an envelope are canonical, or have a first breach.
-use Rattle.std.proofs.Common.{◌≡◌, ◌⊎◌, inl, inr, ◌≤◌, ◌+◌, ◌++◌, ◌∷◌, [], ℕ, zero, suc, Bool, true, false, List, length, decimal, drop, arith, refl, sym, subst, ◌∙◌, true≢false, length-drop}
-use Rattle.std.proofs.lemmas.List.{map-append}
-use Rattle.std.specs.Cmp.Lexicographic.{bytes_decides}
-use Rattle.std.specs.List.{IsDistinct, list_any}
-use Rattle.std.specs.Str.{bytes_eq}
-use Rattle.bson_model.specs.Bytes.{AreBytes}
-use Rattle.bson_model.specs.Leaf.{Leaf, regular_expression}
-use Rattle.bson_model.specs.Proper.{DoLeafOptionsAscend}
+use Rattle.std.proofs.Common.{◌≡◌, ◌⊎◌, inl, inr, ◌≤◌, ◌+◌, ◌++◌, ◌∷◌, [], ℕ, zero, suc, Bool, true, false, List, length, decimal, drop, arith, refl, sym, subst, ◌∙◌, true≢false, length-drop, bytes_eq}
+use Rattle.raw_tree.proofs.Common.{map-append, bytes_decides, IsDistinct, list_any, AreBytes, Leaf, regular_expression, DoLeafOptionsAscend, IsEnvelope, Frame, IsFrame, IsWalk, End, Done, Stopped}
+use Rattle.raw_tree.proofs.Common.{LeadsTo, RawValue, Means, Meaning, value, faulty, keys_of_frames, BreachesKeys, BreachesMeaning, BreachesFront, HasBreachUpTo, HasBreachAs, AreDecimalsFrom}
+use Rattle.raw_tree.proofs.Common.{AreKeysCanonical, IsValueCanonical, AreFramesCanonical, IsCanonicalAs, Sort, as_document, as_array, Holds, Cause}
 use Rattle.bson_model.proofs.Face.{AreBytes-drop, options_decided}
-use Rattle.raw_view.specs.Frame.Envelope.{IsEnvelope}
-use Rattle.raw_view.specs.Frame.{Frame, IsFrame, IsWalk, End, Done, Stopped, LeadsTo}
-use Rattle.raw_view.specs.Meaning.{RawValue, Means, Meaning, value, faulty}
 use Rattle.raw_view.specs.Meaning as raw
 use Rattle.raw_view.proofs.Face.{LeadsTo-walk, LeadsTo-more, IsFrame-shorter, has_meaning, AreBytes-rest, document_has_walk}
-use Rattle.raw_tree.specs.validator.Breaches.{keys_of_frames, BreachesKeys, BreachesMeaning, BreachesFront, HasBreachUpTo, HasBreachAs}
-use Rattle.raw_tree.specs.Canonical.{AreDecimalsFrom, AreKeysCanonical, IsValueCanonical, AreFramesCanonical, IsCanonicalAs}
-use Rattle.raw_tree.specs.reader.Reading.{Sort, as_document, as_array, Holds}
-use Rattle.raw_tree.specs.declared.validator.breach.Cause.{Cause}
 use Rattle.raw_tree.specs.declared.validator.breach.Cause.TheVariants as cause
-use Rattle.raw_tree.proofs.validator.Judgement.{frames_more}
+use Rattle.raw_tree.proofs.validator.Judgement.{frames_more, no_keys}
 use Rattle.raw_tree.proofs.validator.LevelKeys.{Contains-found, not_found, document_key, array_key}
 use Rattle.raw_tree.proofs.reader.Loops.{nested_envelope, nested_shorter}
 use Rattle.raw_tree.proofs.Returns.{canonical_of}
@@ -32,16 +21,14 @@ abbrev KeepsOrBreaches : Sort → List (List ℕ) → List ℕ → Type 0
 KeepsOrBreaches sort keys key = AreKeysCanonical sort (keys ++ key ∷ []) ⊎ ((why : Cause) × BreachesKeys sort keys key why)
 
 document_key_where : (keys : List (List ℕ)) (key : List ℕ) (there : Bool) → list_any (bytes_eq key) keys ≡ there → IsDistinct bytes_eq keys → KeepsOrBreaches as_document keys key
-document_key_where keys key true e h = inr (cause.RepeatedKey, (Contains-found keys key e, refl))
-document_key_where keys key false e h = inl (document_key keys key h (not_found keys key e))
+document_key_where keys key there e h = grind (arith, Contains-found, document_key, not_found)
 
 array_key_where : (keys : List (List ℕ)) (key : List ℕ) (same : Bool) → bytes_eq key (decimal (length keys)) ≡ same → AreDecimalsFrom 0 keys → KeepsOrBreaches as_array keys key
 array_key_where keys key true e h = inl (array_key keys key h ((bytes_decides key (decimal (length keys))).0 e))
 array_key_where keys key false e h = inr (cause.ArrayKey, ((λ same. true≢false (sym ((bytes_decides key (decimal (length keys))).1 same) ∙ e)), refl))
 
 key_decided : (sort : Sort) (keys : List (List ℕ)) (key : List ℕ) → AreKeysCanonical sort keys → KeepsOrBreaches sort keys key
-key_decided as_document keys key h = document_key_where keys key (list_any (bytes_eq key) keys) refl h
-key_decided as_array keys key h = array_key_where keys key (bytes_eq key (decimal (length keys))) refl h
+key_decided sort keys key h = grind (arith, array_key_where, document_key_where)
 
 leaf_decided : (l : Leaf) → DoLeafOptionsAscend l ⊎ ¬ DoLeafOptionsAscend l
 leaf_decided (regular_expression pattern options) = options_decided options
@@ -52,12 +39,10 @@ abbrev IsValueEither : RawValue → Type 0
 IsValueEither v = IsValueCanonical IsCanonicalAs v ⊎ ((path : List ℕ) × (why : Cause) × (n : ℕ) × BreachesMeaning (HasBreachUpTo n) (value v) path why)
 
 single_decided : (l : Leaf) → DoLeafOptionsAscend l ⊎ ¬ DoLeafOptionsAscend l → IsValueEither (raw.single l)
-single_decided l (inl ascend) = inl ascend
-single_decided l (inr descend) = inr ([], cause.Options, 0, (descend, refl, refl))
+single_decided l h = grind arith
 
 nested_decided : (sort : Sort) (d : List ℕ) → IsEither sort d → IsCanonicalAs sort d ⊎ ((path : List ℕ) × (why : Cause) × (n : ℕ) × HasBreachUpTo n sort d path why)
-nested_decided sort d (inl c) = inl c
-nested_decided sort d (inr bad) = inr (bad.0, bad.1, bad.2.0, bad.2.1)
+nested_decided sort d h = grind arith
 
 value_decided : (v : RawValue) → ((sort : Sort) (d : List ℕ) → Holds v d → IsEither sort d) → IsValueEither v
 value_decided (raw.single l) nested = single_decided l (leaf_decided l)
@@ -110,16 +95,11 @@ along n shorter sort b passed s (f ∷ frames) end lead keys each bytes l w =
     ]
 
 either_within : (n : ℕ) → AreEitherWithin n
-unfolding IsDistinct
 either_within zero sort b l env = absurd (omega (arith, env.enough))
 either_within (suc n) sort b l env =
     let w = document_has_walk b env in
     let size : length (drop 4 b) ≤ n + 1 = omega (arith, length-drop 4 b) in
     along n (either_within n) sort b [] (drop 4 b) w.0 w.1 refl (no_keys sort) tt (AreBytes-drop 4 b env.bytes) size w.2
-  where
-    no_keys : (sort : Sort) → AreKeysCanonical sort []
-    no_keys as_document = tt
-    no_keys as_array = tt
 
 pub either_way : (sort : Sort) (b : List ℕ) → IsEnvelope b → IsCanonicalAs sort b ⊎ ((path : List ℕ) × (why : Cause) × HasBreachAs sort b path why)
 either_way sort b env = either_within (length b) sort b (omega arith) env

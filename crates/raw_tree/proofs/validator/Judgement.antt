@@ -1,32 +1,13 @@
 -- The steps of the validator: a level passes a frame, waits at one, ends, or has the first breach; and its levels from
 -- the outermost inward.
-use Rattle.std.proofs.Common.{◌≡◌, ◌≢◌, inl, inr, ◌<◌, ◌+◌, ◌++◌, ◌∷◌, [], ℕ, suc, List, Option, None, Some, Ok, Err, length, drop, map, arith, ap, refl, sym, ◌∙◌, subst, length-append, length-drop}
-use Rattle.std.specs.List.{IsDistinct, sum_by}
-use Rattle.std.proofs.lemmas.List.{length-map, map-append}
-use Rattle.std.proofs.lemmas.List.Sums.{sum_by_push}
-use denote.Ref.{Bor}
-use Rattle.raw_view.specs.Frame.ElementSteps.{frame_of}
-use Rattle.raw_view.specs.Frame.{Frame, IsFrame, Fault, Malformed, Utf8, IsStop, Done, LeadsTo}
-use Rattle.raw_view.specs.Frame.Front.{StepsFront, StopsWith}
-use Rattle.raw_view.specs.Meaning.{RawValue, Meaning, Means, value, faulty}
-use Rattle.raw_view.specs.Meaning as raw
-use Rattle.raw_view.specs.Frame.Number.{max_length}
-use Rattle.raw_view.specs.declared.element.RawElement.{RawElement}
-use Rattle.raw_view.specs.declared.error.BorrowedError.{BorrowedError}
-use Rattle.raw_view.specs.declared.error.ErrorKind.{ErrorKind}
-use Rattle.raw_view.specs.declared.error.ErrorKind.TheVariants as kind
+use Rattle.std.proofs.Common.{◌≡◌, ◌≢◌, inl, inr, ◌<◌, ◌+◌, ◌++◌, ◌∷◌, [], ℕ, suc, List, Option, None, Some, Ok, Err, length, drop, map, arith, refl, sym, ◌∙◌, subst, length-append, length-drop, sum_by, Bor}
+use Rattle.std.specs.List.{IsDistinct}
+use Rattle.raw_tree.proofs.Common.{length-map, map-append, frame_of, Frame, IsFrame, Fault, IsStop, Done, LeadsTo, StepsFront, StopsWith, RawValue, Meaning, Means, value, max_length, RawElement}
+use Rattle.raw_tree.proofs.Common.{BorrowedError, ErrorKind, keys_of_frames, BreachesKeys, BreachesMeaning, HasBreachUpTo, HasBreachAs, AreKeysCanonical, IsValueCanonical, AreFramesCanonical}
+use Rattle.raw_tree.proofs.Common.{IsCanonicalAs, Sort, as_document, Holds, texts, HasKeys, HoldsAs, LeavesKeys, IsJudged, IsUnjudged, IsAwaiting, JudgesValue, TellsStep, Steps, Shrinks, left_of}
+use Rattle.raw_tree.proofs.Common.{Cause, Keys, Judged, Step}
 use Rattle.raw_view.proofs.Face.{LeadsTo-bound, LeadsTo-more, LeadsTo-walk, IsFrame-shorter}
-use Rattle.raw_tree.specs.validator.Breaches.{keys_of_frames, BreachesKeys, BreachesMeaning, HasBreachUpTo, HasBreachAs}
-use Rattle.raw_tree.specs.Canonical.{AreKeysCanonical, IsValueCanonical, AreFramesCanonical, IsCanonicalAs}
-use Rattle.raw_tree.specs.reader.Reading.{Sort, as_document, as_array, Holds}
-use Rattle.raw_tree.specs.validator.References.{texts}
-use Rattle.raw_tree.specs.validator.Validating.{HasKeys, HoldsAs, LeavesKeys, IsJudged, IsUnjudged, IsAwaiting, JudgesValue, TellsStep, Steps, Shrinks, left_of}
-use Rattle.raw_tree.specs.declared.validator.breach.Cause.{Cause}
 use Rattle.raw_tree.specs.declared.validator.breach.Cause.TheVariants as cause
-use Rattle.raw_tree.specs.declared.validator.keys.Keys.{Keys}
-use Rattle.raw_tree.specs.declared.validator.keys.Keys.TheVariants as keys
-use Rattle.raw_tree.specs.declared.validator.Judged.{Judged}
-use Rattle.raw_tree.specs.declared.validator.Step.{Step}
 use Rattle.raw_tree.specs.declared.validator.Step.TheVariants as step
 use Rattle.raw_tree.proofs.validator.LevelKeys.{keys_front}
 use Rattle.raw_tree.proofs.reader.Loops.{nested_beside}
@@ -43,30 +24,17 @@ keys_more : (fs : List Frame) (f : Frame) → keys_of_frames (fs ++ f ∷ []) �
 keys_more fs f = map-append (λ (g : Frame). g.key) fs (f ∷ [])
 
 held_canonical : (v : RawValue) (s : Sort) (d : List ℕ) → HoldsAs v s d → IsCanonicalAs s d → IsValueCanonical IsCanonicalAs v
-held_canonical (raw.single l) s d h c = absurd h
-held_canonical (raw.document e) s d h c = rw (← h.0, ← h.1) c
-held_canonical (raw.array e) s d h c = rw (← h.0, ← h.1) c
-held_canonical (raw.scoped code e) s d h c = rw (← h.0, ← h.1) c
+held_canonical v s d h c = grind arith
 
 held : (v : RawValue) (s : Sort) (d : List ℕ) → HoldsAs v s d → Holds v d
-held (raw.single l) s d h = h
-held (raw.document e) s d h = h.1
-held (raw.array e) s d h = h.1
-held (raw.scoped code e) s d h = h.1
+held v s d h = grind arith
 
 held_breach : (v : RawValue) (s : Sort) (d path : List ℕ) (why : Cause) → HoldsAs v s d → HasBreachAs s d path why → BreachesMeaning HasBreachAs (value v) path why
-held_breach (raw.single l) s d path why h b = absurd h
-held_breach (raw.document e) s d path why h b = rw (← h.0, ← h.1) b
-held_breach (raw.array e) s d path why h b = rw (← h.0, ← h.1) b
-held_breach (raw.scoped code e) s d path why h b = rw (← h.0, ← h.1) b
+held_breach v s d path why h b = grind arith
 
 -- a breach stands within some levels
 within_levels : (m : Meaning) (path : List ℕ) (why : Cause) → BreachesMeaning HasBreachAs m path why → (n : ℕ) × BreachesMeaning (HasBreachUpTo n) m path why
-within_levels (faulty fault) path why b = (0, b)
-within_levels (value (raw.single l)) path why b = (0, b)
-within_levels (value (raw.document d)) path why b = b
-within_levels (value (raw.array d)) path why b = b
-within_levels (value (raw.scoped code d)) path why b = b
+within_levels m path why b = grind arith
 
 -- breaches behind frames that are passed
 
@@ -87,16 +55,11 @@ module _ (sort : Sort) (d : List ℕ) (passed : List Frame) (s : List ℕ) (reac
 
 -- a stop is one of some fault
 some_stop : (k : ErrorKind) (key : Option (List ℕ)) (s : List ℕ) → StopsWith k key s → (fault : Fault) × IsStop s fault key
-some_stop (kind.MalformedValue r) key s h = (Malformed, h)
-some_stop (kind.Utf8EncodingError e) key s h = (Utf8, h)
-some_stop kind.OutOfMemory key s h = absurd h
+some_stop k key s h = grind arith
 
 -- the keys of a level depend on the texts alone
 pub keys_on : (k : Keys) (refs others : List (Bor (List ℕ))) (sort : Sort) (below own : List (List ℕ)) → HasKeys k refs sort below own → texts others ≡ texts refs → HasKeys k others sort below own
-keys_on keys.Numbers refs others sort below own h e = (h.0, e ∙ h.1)
-keys_on (keys.Ascending first) refs others sort below own h e = (h.0, h.1, e ∙ h.2, h.3)
-keys_on (keys.Listed first notes) refs others sort below own h e = (h.0, h.1, e ∙ h.2, h.3)
-keys_on (keys.Indexed set) refs others sort below own h e = (h.0, e ∙ h.1, h.2)
+keys_on k refs others sort below own h e = grind arith
 
 -- the steps of a level
 
@@ -148,23 +111,7 @@ module _ {sort : Sort} {d : List ℕ} {below : List (List ℕ)} {before : List (
       }
 
       pub level_waits : (s : Sort) (nested : List ℕ) → HoldsAs v s nested → IsAwaiting sort d below (record { elements = new; number = level.number; keys = ks }) s nested (texts after)
-      level_waits s nested h = record {
-        envelope = is.envelope;
-        passed = is.passed;
-        front = is.rest;
-        frame = frame_of e;
-        rest = next.0;
-        reaches = is.reaches;
-        stands = next.1;
-        left = next.2;
-        number = is.number;
-        keys = λ refs e. keys_on ks after refs sort below _ has e;
-        keys_canonical = more;
-        canonical = is.canonical;
-        held = v;
-        means = means;
-        holds = h;
-      }
+      level_waits s nested h = grind (arith, keys_on, next)
 
       pub level_judges : (answer : Step) → answer ≢ step.Whole → JudgesValue v after answer → TellsStep sort d below (record { elements = new; number = level.number; keys = ks }) after answer
       level_judges step.End other j = absurd j
@@ -183,16 +130,12 @@ module _ {sort : Sort} {d : List ℕ} {below : List (List ℕ)} {before : List (
 
     pub shrinks : (ks : Keys) (after : List (Bor (List ℕ))) (v : RawValue) (answer : Step) → Means (frame_of e) (value v) → answer ≢ step.Whole
         → JudgesValue v after answer → Shrinks level (record { elements = new; number = level.number; keys = ks }) answer
-    shrinks ks after v step.End means other j = tt
-    shrinks ks after v step.Whole means other j = absurd (other refl)
-    shrinks ks after v (step.Inside inner) means other j = less_inside v j.0 j.1 inner.elements means j.2 j.3.left
-    shrinks ks after v (step.Breach why) means other j = tt
+    shrinks ks after v answer means other j = grind (arith, less_inside)
 
 -- before any frame the keys are canonical
-no_keys : (sort : Sort) → AreKeysCanonical sort []
+pub no_keys : (sort : Sort) → AreKeysCanonical sort []
 unfolding IsDistinct
-no_keys as_document = tt
-no_keys as_array = tt
+no_keys sort = grind arith
 
 -- the levels that wait
 
@@ -248,8 +191,7 @@ level_resumes {s = s} {b = b} {d = d} refs at c e = record {
 
 -- so few elements are judged of a level that waits
 few_awaiting : {sort s : Sort} {b d : List ℕ} {under below : List (List ℕ)} {w : Judged} → IsAwaiting sort b under w s d below → w.number < max_length
-few_awaiting {b = b} at =
-    omega (arith, at.number, LeadsTo-bound (drop 4 b) at.passed at.front at.reaches, length-drop 4 b, at.envelope.header.fits, at.envelope.enough)
+few_awaiting at = grind (arith, LeadsTo-bound, length-drop)
 
 -- a level of which nothing is judged
 level_begins : (sort : Sort) (d : List ℕ) (refs : List (Bor (List ℕ))) (level : Judged) → IsUnjudged sort d refs level → IsJudged sort d (texts refs) refs level
@@ -269,9 +211,6 @@ level_begins sort d refs level is = record {
 abbrev pub left_in : List Judged → ℕ
 left_in ws = sum_by (λ w. left_of w.elements + 1) ws
 
-pub left_in_more : (ws : List Judged) (w : Judged) → left_in (ws ++ w ∷ []) ≡ left_in ws + (left_of w.elements + 1)
-left_in_more ws w = sum_by_push (λ (x : Judged). left_of x.elements + 1) ws w
-
 -- where nothing waits, the innermost bytes are the outermost
 whole_canonical : (b : List ℕ) (ws : List Judged) (s : Sort) (d : List ℕ) (below : List (List ℕ)) → length ws ≡ 0
     → AreAwaiting as_document b [] ws s d below → IsCanonicalAs s d → IsCanonicalAs as_document b
@@ -287,13 +226,7 @@ pub record AreJudged (b : List ℕ) (ws : List Judged) (refs : List (Bor (List �
   pub judged : IsJudged sort inner below refs level
 
 pub judging_begins : (b : List ℕ) (ws : List Judged) (refs : List (Bor (List ℕ))) (level : Judged) → ws ≡ [] → refs ≡ [] → IsUnjudged as_document b refs level → AreJudged b ws refs level
-judging_begins b ws refs level none listed is = record {
-  sort = as_document;
-  inner = b;
-  below = [];
-  waiting = rw none (refl, refl, refl);
-  judged = subst (λ (below : List (List ℕ)). IsJudged as_document b below refs level) (ap texts listed) (level_begins as_document b refs level is);
-}
+judging_begins b ws refs level none listed is = grind (arith, level_begins)
 
 -- a step of the innermost level
 module _ {b : List ℕ} {ws : List Judged} {refs : List (Bor (List ℕ))} {level : Judged} (are : AreJudged b ws refs level) (new : Judged) (after : List (Bor (List ℕ))) (answer : Step)

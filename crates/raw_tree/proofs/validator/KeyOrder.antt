@@ -8,7 +8,7 @@ use Rattle.std.specs.Cmp.Lexicographic.{slice_cmp}
 use Rattle.std.specs.List.{list_any}
 use Rattle.std.specs.Ordering.{is_eq, nat_cmp}
 use Rattle.std.specs.Str.{bytes_eq}
-use Rattle.raw_tree.specs.validator.KeySets.{has_text, HasSorted, InsertsKey, PutsInOrder}
+use Rattle.raw_tree.specs.validator.KeySets.{has_text, InsertsKey, PutsInOrder}
 use Rattle.raw_tree.proofs.validator.LevelKeys.{Contains-found, not_found}
 
 -- texts that compare equal are equal
@@ -40,6 +40,3 @@ pub inserts_where : (keys after : List (List ℕ)) (key : List ℕ) (there new b
 inserts_where keys after key there new b e n is a =
     let same : after ≡ cond new (keys ++ key ∷ []) keys = a ∙ ap (λ (x : Bool). cond x (keys ++ key ∷ []) keys) (sym is) in
     rw same (new_where keys key there new e n)
-
-pub sorted_same : (old new : BTreeSet (Bor (List ℕ))) (keys after : List (List ℕ)) → new.keys ≡ old.keys → after ≡ keys → HasSorted old keys → HasSorted new after
-sorted_same old new keys after e a h q = rw (e, a) (h q)

@@ -4,10 +4,10 @@ use Rattle.std.proofs.Math.ListN.{set, length-set}
 use Rattle.std.proofs.lemmas.Cmp.{by_ranked, ranked}
 use Rattle.std.proofs.lemmas.List.{get_or-set_same, map-append, take_more, take_all}
 use Rattle.std.proofs.lemmas.List.Elements.{Contains-push_cases}
-use Rattle.std.proofs.lemmas.Option.{slice_get-get_or, slice_get_within}
+use Rattle.std.proofs.lemmas.Option.{slice_get-get_or}
 use Rattle.std.specs.List.{slice_get}
 use Rattle.raw_tree.specs.validator.KeySets.{InsertsKey}
-use Rattle.raw_tree.specs.validator.Marks.{mark_of, AreMarked, AreTaken, IsFreeFrom, IsMarkAt, IsMarked}
+use Rattle.raw_tree.specs.validator.Marks.{mark_of, AreMarked, AreTaken, IsMarkAt, IsMarked}
 use Rattle.raw_tree.specs.validator.References.{texts}
 use Rattle.raw_tree.specs.declared.validator.marks.Marks.{Marks}
 
@@ -34,57 +34,6 @@ pub record ArePassed (slots : List ℕ) (start mark at : ℕ) : Type 0 where
   pub behind : start ≤ at
   pub taken : AreTaken slots start at
   pub apart : (i : ℕ) → start ≤ i → i < at → slice_get slots i ≢ Some mark
-
-pub passed_none : (slots : List ℕ) (start mark : ℕ) → ArePassed slots start mark start
-passed_none slots start mark = record {
-  behind = omega arith;
-  taken = λ i s l. absurd (omega (arith, s, l));
-  apart = λ i s l. absurd (omega (arith, s, l));
-}
-
--- up to the next place, if up to this one
-one_more : (slots : List ℕ) (start at other : ℕ) → ((i : ℕ) → start ≤ i → i < at → slice_get slots i ≢ Some other) → slice_get slots at ≢ Some other → (i : ℕ)
-    → start ≤ i → i < at + 1 → slice_get slots i ≢ Some other
-one_more slots start at other before here i s l e =
-    by_ranked (i < at) (i ≡ at) (at < i) (nat_cmp i at) (ranked i at (nat_cmp i at) refl)
-    (λ _ m. before i s m e)
-    (λ _ same. here (ap (λ (n : ℕ). slice_get slots n) (sym same) ∙ e))
-    (λ _ m. absurd (omega (arith, l, m)))
-
-not_slot : (slots : List ℕ) (at slot other : ℕ) → slice_get slots at ≡ Some slot → slot ≢ other → slice_get slots at ≢ Some other
-not_slot slots at slot other is apart e =
-    let both : Some slot ≡ Some other = sym is ∙ e in
-    apart (cc)
-
-pub passed_more : (slots : List ℕ) (start mark at slot : ℕ) → ArePassed slots start mark at → slice_get slots at ≡ Some slot → slot ≢ 0 → slot ≢ mark → ArePassed slots start mark (at + 1)
-passed_more slots start mark at slot p is some apart = record {
-  behind = omega (arith, p.behind);
-  taken = one_more slots start at 0 p.taken (not_slot slots at slot 0 is some);
-  apart = one_more slots start at mark p.apart (not_slot slots at slot mark is apart);
-}
-
-pub free_here : (slots : List ℕ) (start mark at slot : ℕ) → ArePassed slots start mark at → slice_get slots at ≡ Some slot → slot ≡ 0 → IsFreeFrom slots start mark at
-free_here slots start mark at slot p is none = record {
-  behind = p.behind;
-  within = slice_get_within slots at slot is;
-  free = is ∙ ap Some none;
-  taken = p.taken;
-  apart = p.apart;
-}
-
-pub mark_here : (slots : List ℕ) (start mark at slot : ℕ) → ArePassed slots start mark at → slice_get slots at ≡ Some slot → slot ≡ mark → IsMarkAt slots start mark
-mark_here slots start mark at slot p is same = (at, p.behind, is ∙ ap Some same, p.taken)
-
-pub none_marked : (slots : List ℕ) (start mark at : ℕ) → mark ≢ 0 → IsFreeFrom slots start mark at → ¬ IsMarkAt slots start mark
-none_marked slots start mark at some f h =
-    by_ranked (h.0 < at) (h.0 ≡ at) (at < h.0) (nat_cmp h.0 at) (ranked h.0 at (nat_cmp h.0 at) refl)
-    (λ _ l. f.apart h.0 h.1 l h.2)
-    (λ _ e. taken_apart slots at h.0 mark some h.2 f.free e)
-    (λ _ l. h.3 at f.behind l f.free)
-
-pub marked_now : (slots : List ℕ) (start mark at : ℕ) → IsFreeFrom slots start mark at → IsMarkAt (set slots at mark) start mark
-marked_now slots start mark at f =
-    (at, f.behind, get_set_same slots at mark f.within, λ i s l e. f.taken i s l (sym (get_set_other slots at i mark (λ same. absurd (omega (arith, l, same)))) ∙ e))
 
 -- a slot that was free and is marked is taken, and so is each that was
 still_taken : (slots : List ℕ) (at mark i : ℕ) → mark ≢ 0 → at < length slots → slice_get slots i ≢ Some 0 → slice_get (set slots at mark) i ≢ Some 0

@@ -1,15 +1,8 @@
 -- Bytes are canonical or have one first breach, and never both.
-use Rattle.std.proofs.Common.{◌≡◌, inl, inr, ◌++◌, ◌∷◌, [], ℕ, zero, suc, List, length, drop, ap, refl, sym, ◌∙◌, subst, append_assoc}
-use Rattle.std.proofs.lemmas.List.{append-nil}
-use Rattle.raw_view.specs.Frame.Envelope.{IsEnvelope}
-use Rattle.raw_view.specs.Frame.{Frame, IsFrame, IsWalk, Done, LeadsTo}
-use Rattle.raw_view.specs.Meaning.{RawValue, Meaning, Means, value, faulty}
-use Rattle.raw_view.specs.Meaning as raw
+use Rattle.std.proofs.Common.{◌≡◌, inl, inr, ◌++◌, ◌∷◌, [], ℕ, zero, suc, List, length, drop, ap, refl, sym, ◌∙◌, subst, append_assoc, arith, append-nil}
+use Rattle.raw_tree.proofs.Common.{IsEnvelope, Frame, IsFrame, IsWalk, Done, LeadsTo, RawValue, Meaning, Means, value, keys_of_frames, BreachesKeys, BreachesMeaning, BreachesFrame, BreachesFront}
+use Rattle.raw_tree.proofs.Common.{HasBreachUpTo, IsJudgedOneWay, AreKeysCanonical, IsValueCanonical, AreFramesCanonical, IsCanonicalUpTo, IsCanonicalAs, Sort, Cause}
 use Rattle.raw_view.proofs.Face.{one_frame, no_frame_at_stop, no_frame_at_final, no_stop_at_final, one_meaning}
-use Rattle.raw_tree.specs.validator.Breaches.{keys_of_frames, BreachesKeys, BreachesMeaning, BreachesFrame, BreachesFront, HasBreachUpTo, IsJudgedOneWay}
-use Rattle.raw_tree.specs.Canonical.{AreKeysCanonical, IsValueCanonical, AreFramesCanonical, IsCanonicalUpTo, IsCanonicalAs}
-use Rattle.raw_tree.specs.reader.Reading.{Sort, as_document, as_array}
-use Rattle.raw_tree.specs.declared.validator.breach.Cause.{Cause}
 use Rattle.raw_tree.proofs.validator.EitherWay.{either_way}
 use Rattle.raw_tree.proofs.validator.LevelKeys.{keys_front, key_nor_breach}
 use Rattle.raw_tree.proofs.Returns.{frames_canonical_on}
@@ -21,10 +14,7 @@ keys_shift ks key fs = sym (append_assoc ks (key ∷ []) (keys_of_frames fs))
 -- canonical bytes have no breach, where their nested bytes have none
 module _ (N : Sort → List ℕ → List ℕ → Cause → Type 0) (apart : (sort : Sort) (b path : List ℕ) (why : Cause) → N sort b path why → ¬ IsCanonicalAs sort b) where
   value_nor_breach : (v : RawValue) (path : List ℕ) (why : Cause) → IsValueCanonical IsCanonicalAs v → BreachesMeaning N (value v) path why → ⊥
-  value_nor_breach (raw.single l) path why c b = b.0 c
-  value_nor_breach (raw.document d) path why c b = apart as_document d path why b c
-  value_nor_breach (raw.array d) path why c b = apart as_array d path why b c
-  value_nor_breach (raw.scoped code d) path why c b = apart as_document d path why b c
+  value_nor_breach v path why c b = grind arith
 
   frame_nor_breach : (s : List ℕ) (f : Frame) (r : List ℕ) (sort : Sort) (keys : List (List ℕ)) (v : RawValue) (path : List ℕ) (why : Cause) → IsFrame s f r
       → Means f (value v) → IsValueCanonical IsCanonicalAs v → AreKeysCanonical sort (keys ++ f.key ∷ []) → BreachesFront N sort keys s path why → ⊥
@@ -44,10 +34,7 @@ module _ (N : Sort → List ℕ → List ℕ → Cause → Type 0) (apart : (sor
       → AreFramesCanonical IsCanonicalAs frames → AreKeysCanonical sort (ks ++ keys_of_frames frames) → LeadsTo s passed r
       → BreachesFront N sort (ks ++ keys_of_frames passed) r path why → ⊥
   rest_nor_breach [] [] sort ks s r path why w c k l b =
-      elim b [
-        | inl stop ↦ no_stop_at_final r stop.0 stop.1 (sym l ∙ w) stop.2
-        | inr at ↦ no_frame_at_final r (sym l ∙ w) at.0 at.1 at.2
-      ]
+      grind (arith, no_stop_at_final, no_frame_at_final)
   rest_nor_breach [] (g ∷ passed) sort ks s r path why w c k l b = no_frame_at_final s w g l.0 l.1
   rest_nor_breach (f ∷ frames) [] sort ks s r path why w c k l b =
       let here : BreachesFront N sort ks s path why = rw (← append-nil ks, l) b in
@@ -93,38 +80,20 @@ module _ (N M : Sort → List ℕ → List ℕ → Cause → Type 0) (n_apart : 
   -- and are the same there, where those of nested bytes are
   module _ (one : (sort : Sort) (b path other : List ℕ) (why cause : Cause) → N sort b path why → M sort b other cause → (other ≡ path) × (cause ≡ why)) where
     one_of_keys : (sort : Sort) (keys : List (List ℕ)) (key : List ℕ) (why cause : Cause) → BreachesKeys sort keys key why → BreachesKeys sort keys key cause → cause ≡ why
-    one_of_keys as_document keys key why cause b c = c.1 ∙ sym b.1
-    one_of_keys as_array keys key why cause b c = c.1 ∙ sym b.1
+    one_of_keys sort keys key why cause b c = grind arith
 
     one_of_meaning : (m : Meaning) (path other : List ℕ) (why cause : Cause) → BreachesMeaning N m path why → BreachesMeaning M m other cause → (other ≡ path) × (cause ≡ why)
-    one_of_meaning (faulty fault) path other why cause b c = (c.0 ∙ sym b.0, c.1 ∙ sym b.1)
-    one_of_meaning (value (raw.single l)) path other why cause b c = (c.1 ∙ sym b.1, c.2 ∙ sym b.2)
-    one_of_meaning (value (raw.document d)) path other why cause b c = one as_document d path other why cause b c
-    one_of_meaning (value (raw.array d)) path other why cause b c = one as_array d path other why cause b c
-    one_of_meaning (value (raw.scoped code d)) path other why cause b c = one as_document d path other why cause b c
+    one_of_meaning m path other why cause b c = grind arith
 
     one_of_frame : (sort : Sort) (keys : List (List ℕ)) (f : Frame) (path other : List ℕ) (why cause : Cause) → BreachesFrame N sort keys f path why
         → BreachesFrame M sort keys f other cause → (other ≡ path) × (cause ≡ why)
-    one_of_frame sort keys f path other why cause b c =
-        elim b [
-          | inl x ↦ elim c [
-            | inl y ↦ (y.1 ∙ sym x.1, one_of_keys sort keys f.key why cause x.0 y.0)
-            | inr y ↦ absurd (key_nor_breach sort keys f.key why y.0 x.0)
-          ]
-          | inr x ↦ elim c [
-            | inl y ↦ absurd (key_nor_breach sort keys f.key cause x.0 y.0)
-            | inr y ↦ one_of_meaning x.1 path other why cause x.3 (subst (λ (m : Meaning). BreachesMeaning M m other cause) (one_meaning f y.1 x.1 y.2 x.2) y.3)
-          ]
-        ]
+    one_of_frame sort keys f path other why cause b c = grind (arith, key_nor_breach, one_meaning, one_of_keys, one_of_meaning)
 
     one_of_front : (sort : Sort) (keys : List (List ℕ)) (r path other : List ℕ) (why cause : Cause) → BreachesFront N sort keys r path why
         → BreachesFront M sort keys r other cause → (other ≡ path) × (cause ≡ why)
     one_of_front sort keys r path other why cause b c =
         elim b [
-          | inl x ↦ elim c [
-            | inl y ↦ (y.3 ∙ sym x.3, y.4 ∙ sym x.4)
-            | inr y ↦ absurd (no_frame_at_stop r x.0 x.1 x.2 y.0 y.1 y.2)
-          ]
+          | inl x ↦ grind (arith, no_frame_at_stop)
           | inr x ↦ elim c [
             | inl y ↦ absurd (no_frame_at_stop r y.0 y.1 y.2 x.0 x.1 x.2)
             | inr y ↦ one_of_frame sort keys x.0 path other why cause x.3 (subst (λ (f : Frame). BreachesFrame M sort keys f other cause) (one_frame r y.0 x.0 y.1 x.1 y.2 x.2).0 y.3)

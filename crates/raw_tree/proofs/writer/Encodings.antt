@@ -1,15 +1,8 @@
 -- The lengths of encodings, and how their elements and lengths are put.
-use Rattle.std.proofs.Common.{◌≡◌, ℕ, ◌+◌, ◌-◌, List, [], ◌∷◌, ◌++◌, length, take, drop, decimal, pos, refl, ap, sym, ◌∙◌, append_assoc, length-append, arith}
-use Rattle.std.proofs.Math.Seq.{take-append_seam, drop-append-add}
-use Rattle.bson_model.specs.Tree.{Tree, Trees, Entries, leaf, array, document, code_with_scope, no_tree, tree_then, no_entry, entry_then}
-use Rattle.raw_view.specs.Frame.Format.{framed, element_of}
-use Rattle.raw_view.specs.Meaning.{RawValue, single, document as document_value, array as array_value, scoped}
-use Rattle.raw_view.specs.Frame.Number.{le32}
-use Rattle.raw_view.specs.declared.element_type.ElementType.{ElementType}
+use Rattle.std.proofs.Common.{◌≡◌, ℕ, ◌+◌, ◌-◌, List, [], ◌∷◌, ◌++◌, length, take, drop, decimal, pos, refl, ap, ◌∙◌, append_assoc, length-append, arith}
+use Rattle.raw_tree.proofs.Common.{take-append_seam, drop-append-add, Tree, Trees, Entries, leaf, array, document, code_with_scope, no_tree, tree_then, no_entry, entry_then, framed, element_of}
+use Rattle.raw_tree.proofs.Common.{RawValue, le32, ElementType, kind_of_tree, tree_payload, items_bytes, entries_bytes, encoded_len, items_len, entries_len, IsLeafOf, element_bytes}
 use Rattle.raw_view.proofs.Face.{length-framed, length-scoped_payload}
-use Rattle.raw_tree.specs.writer.Encoding.{kind_of_tree, tree_payload, items_bytes, entries_bytes, encoded_len, items_len, entries_len}
-use Rattle.raw_tree.specs.writer.Members.{IsLeafOf}
-use Rattle.raw_tree.specs.put.Payload.{element_bytes}
 
 -- the length of an element and of what is behind it
 pub length-element : (kind : ElementType) (key payload rest : List ℕ) → length (element_of kind key payload ++ rest) ≡ (2 + length key + length payload) + length rest
@@ -39,10 +32,7 @@ behind before key payload tag = simp append_assoc
 
 -- the element of a value that shows a tree
 pub shown_element : (t : Tree) (v : RawValue) (key : List ℕ) → IsLeafOf t v → element_bytes key v ≡ element_of (kind_of_tree t) key (tree_payload t)
-shown_element t (single l) key e = ap (λ (x : Tree). element_of (kind_of_tree x) key (tree_payload x)) (sym e)
-shown_element t (document_value d) key e = absurd e
-shown_element t (array_value d) key e = absurd e
-shown_element t (scoped code d) key e = absurd e
+shown_element t v key e = grind arith
 
 pub length-shown : (t : Tree) (v : RawValue) (key : List ℕ) → IsLeafOf t v → length (element_bytes key v) ≡ 2 + length key + encoded_len t
 length-shown t v key e = ap length (shown_element t v key e) ∙ omega (arith, length-append key (0 ∷ tree_payload t), length-tree_payload t)

@@ -1,16 +1,8 @@
 -- How a container is measured member by member: what is counted so far and what the members that are left take are the
 -- whole, and no 0 is in it where it may not be exactly where none is in those.
-use Rattle.std.proofs.Common.{◌≡◌, ◌<◌, ◌-◌, ◌^◌, ℕ, ◌+◌, List, [], ◌∷◌, ◌++◌, length, min, Option, None, Some, MatchOption, Vec, Global, vec_len, refl, ap, length-append, arith}
-use Rattle.std.proofs.lemmas.List.{nil_from_length}
-use Rattle.bson_model.specs.Leaf.{Leaf}
-use Rattle.bson_model.specs.Proper.{IsNulFree}
-use Rattle.bson_model.specs.Tree.{Tree, leaf}
-use Rattle.raw_view.specs.Meaning.{RawValue, single, document as document_value, array as array_value, scoped}
-use Rattle.raw_tree.specs.writer.Encoding.{encoded_len}
-use Rattle.raw_tree.specs.writer.Measuring.{Measures}
-use Rattle.raw_tree.specs.writer.Members.{MemberKey, key_bytes, members, members_len, opening_len, IsKeyFree, AreMembersFree, IsLeafOf, members_left, tree_of_container}
-use Rattle.raw_tree.specs.declared.writer.members.Container.{Container}
-use Rattle.raw_tree.specs.declared.writer.members.Members.{Members}
+use Rattle.std.proofs.Common.{◌≡◌, ◌<◌, ◌-◌, ◌^◌, ℕ, ◌+◌, List, [], ◌∷◌, ◌++◌, length, min, Option, Some, ap, length-append, arith}
+use Rattle.raw_tree.proofs.Common.{Leaf, IsNulFree, Tree, leaf, RawValue, single, encoded_len, Measures, MemberKey, key_bytes, members, members_len, opening_len, IsKeyFree, AreMembersFree, IsLeafOf}
+use Rattle.raw_tree.proofs.Common.{members_left, tree_of_container, Container, Members}
 use Rattle.raw_tree.proofs.writer.MemberSteps.{container_len, members_free}
 
 -- what is left of those that wait
@@ -84,41 +76,14 @@ module _ (t : Tree) (ws : List Members) (m : MemberKey × Tree) (old left : List
       } in
       rw (f, n) on
 
-  -- a 0 is in its key, or in it
-  pub measuring_bad_key : ¬ IsKeyFree m.0 → Measures t None
-  measuring_bad_key bad h = bad (is.inward h).1.0
-
-  pub measuring_bad_value : ¬ IsNulFree m.1 → Measures t None
-  measuring_bad_value bad h = bad (is.inward h).1.1
-
-  -- it is smaller than the tree
-  pub member_smaller : encoded_len m.1 < encoded_len t
-  member_smaller = omega (arith, is.whole)
-
 -- the members of the innermost are measured
 pub measuring_ends : (t : Tree) (ws less : List Members) (w : Members) (left : List (MemberKey × Tree)) (total : ℕ) → IsMeasuring t ws left total → left ≡ []
     → ws ≡ less ++ w ∷ [] → IsMeasuring t less (members_left w) total
-measuring_ends t ws less w left total is none f =
-    let before = is.total_is in
-    record {
-      counted = is.counted;
-      total_is = before;
-      whole = omega (arith, is.whole, ap members_len none, ap len_waiting f, len_waiting-last less w);
-      inward = λ h. waiting_free-less less w (rw f at (is.inward h).0);
-      outward = λ waiting free. is.outward (rw f (waiting_free-more less w waiting free)) (rw none tt);
-    }
-
-pub measuring_done : (t : Tree) (ws : List Members) (left : List (MemberKey × Tree)) (total : ℕ) → IsMeasuring t ws left total → left ≡ [] → ws ≡ [] → Measures t (Some total)
-measuring_done t ws left total is none f =
-    let before = is.total_is in
-    (is.outward (rw f tt) (rw none tt), omega (arith, is.whole, ap members_len none, ap len_waiting f))
+measuring_ends t ws less w left total is none f = grind (arith, len_waiting-last, waiting_free-less, waiting_free-more)
 
 -- a leaf is measured by its view
 pub leaf_measured : (t : Tree) (v : RawValue) (r : Option ℕ) → IsLeafOf t v → ((l : Leaf) → v ≡ single l → Measures (leaf l) r) → Measures t r
-leaf_measured t (single l) r e h = rw e (h l refl)
-leaf_measured t (document_value d) r e h = absurd e
-leaf_measured t (array_value d) r e h = absurd e
-leaf_measured t (scoped code d) r e h = absurd e
+leaf_measured t v r e h = grind arith
 
 -- less is left as a member is measured, as its own members are to be measured first, and as those that wait are measured on
 pub leaf_smaller : (ws same : List Members) (old new after : List (MemberKey × Tree)) (m : MemberKey × Tree) → same ≡ ws → old ≡ m ∷ new → after ≡ new
@@ -135,8 +100,3 @@ inward_smaller ws more w inner old after m c f step e l =
 pub outward_smaller : (n : ℕ) (ws less : List Members) (w : Members) → ws ≡ less ++ w ∷ [] → members_len (members_left w) + (len_waiting less + length less) < n + (len_waiting ws + length ws)
 outward_smaller n ws less w f =
     omega (arith, ap len_waiting f, len_waiting-last less w, ap (λ (l : List Members). length l) f, length-append less (w ∷ []))
-
--- none waits
-pub none_waits : (old new : Vec Members Global) (last : Option Members) → MatchOption last ((vec_len old ≡ 0) × (vec_len new ≡ 0)) (λ x. vec_len new + 1 ≡ vec_len old) → last ≡ None → old.items ≡ []
-none_waits old new None h e = nil_from_length old.items (omega (arith, h.0, old.ok.0))
-none_waits old new (Some x) h e = cc

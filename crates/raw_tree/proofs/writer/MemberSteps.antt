@@ -1,22 +1,11 @@
 -- The members of containers: that their trees are those of their members, and the steps of a call that goes through
 -- them.
-use Rattle.std.proofs.Common.{◌≡◌, ◌↔◌, ◌≤◌, ◌<◌, ℕ, zero, suc, ◌+◌, List, [], ◌∷◌, length, map, drop, None, Some, slice_get, get_or, refl, ap, sym, ◌∙◌, arith}
-use Rattle.std.proofs.Math.ListN.{drop_of_length-le}
-use Rattle.std.proofs.lemmas.Option.{slice_get-get_or}
-use Rattle.bson_model.specs.Bytes.{NulFree}
-use Rattle.bson_model.specs.Proper.{IsNulFree, IsLeafNulFree, InTrees, InEntries, Whatever}
-use Rattle.bson_model.specs.Tree.{Tree, Trees, Entries, no_tree, tree_then, no_entry, entry_then, trees, entries, tree_of, pairs_of, with_trees}
-use Rattle.bson_model.specs.declared.bson.Bson.{Bson}
-use Rattle.raw_tree.specs.writer.Encoding.{encoded_len, items_len, entries_len}
-use Rattle.raw_tree.specs.writer.Members.{MemberKey, text, number, numbered, keyed, members, members_len, opening_len, AreMembersFree, tree_of_container}
-use Rattle.raw_tree.specs.declared.writer.members.Container.{Container}
-use Rattle.raw_tree.specs.declared.writer.members.Container.TheVariants as container
+use Rattle.std.proofs.Common.{◌≡◌, ◌↔◌, ◌≤◌, ◌<◌, ℕ, zero, suc, ◌+◌, List, [], ◌∷◌, length, map, drop, None, Some, slice_get, get_or, refl, ap, sym, ◌∙◌, arith, drop_of_length-le}
+use Rattle.raw_tree.proofs.Common.{slice_get-get_or, NulFree, IsNulFree, IsLeafNulFree, InTrees, InEntries, Whatever, Tree, Trees, Entries, no_tree, tree_then, no_entry, entry_then, trees, entries}
+use Rattle.raw_tree.proofs.Common.{tree_of, with_trees, Bson, encoded_len, items_len, entries_len, MemberKey, text, number, numbered, keyed, members, members_len, opening_len, AreMembersFree}
+use Rattle.raw_tree.proofs.Common.{tree_of_container, Container}
 
 -- the members of pairs and of values
-
-pub length-keyed : (ps : List (List ℕ × Bson)) → length (keyed (entries (with_trees ps))) ≡ length ps
-length-keyed [] = refl
-length-keyed (p ∷ ps) = ap suc (length-keyed ps)
 
 pub length-numbered : (n : ℕ) (vs : List Bson) → length (numbered n (trees (map tree_of vs))) ≡ length vs
 length-numbered n [] = refl
@@ -24,20 +13,13 @@ length-numbered n (v ∷ vs) = ap suc (length-numbered (n + 1) vs)
 
 pub keyed_at : (ps : List (List ℕ × Bson)) (i : ℕ) (key : List ℕ) (v : Bson) → slice_get ps i ≡ Some (key, v) → slice_get (keyed (entries (with_trees ps))) i ≡ Some (text key, tree_of v)
 keyed_at [] i key v e = cc
-keyed_at (p ∷ ps) zero key v e =
-    let at : ◌≡◌ {A = List ℕ × Bson} p (key, v) = cc in
-    ap (λ (q : List ℕ × Bson). Some (text q.0, tree_of q.1)) at
+keyed_at (p ∷ ps) zero key v e = grind arith
 keyed_at (p ∷ ps) (suc i) key v e = keyed_at ps i key v e
 
 pub numbered_at : (n : ℕ) (vs : List Bson) (i : ℕ) (v : Bson) → slice_get vs i ≡ Some v → slice_get (numbered n (trees (map tree_of vs))) i ≡ Some (number (n + i), tree_of v)
 numbered_at n [] i v e = cc
-numbered_at n (u ∷ vs) zero v e =
-    let at : ◌≡◌ {A = Bson} u v = cc in
-    let first : n ≡ n + 0 = omega arith in
-    ap (λ (m : ℕ). Some (number m, tree_of u)) first ∙ ap (λ (w : Bson). Some (number (n + 0), tree_of w)) at
-numbered_at n (u ∷ vs) (suc i) v e =
-    let next : n + 1 + i ≡ n + suc i = omega arith in
-    rw next at (numbered_at (n + 1) vs i v e)
+numbered_at n (u ∷ vs) zero v e = grind arith
+numbered_at n (u ∷ vs) (suc i) v e = grind (arith, numbered_at (n + 1) vs i v)
 
 -- what is looked up of a document, and of a list
 
@@ -55,15 +37,11 @@ found_value vs i v within is =
 
 left_behind : (ms : List (MemberKey × Tree)) (i : ℕ) (m : MemberKey × Tree) → slice_get ms i ≡ Some m → drop i ms ≡ m ∷ drop (suc i) ms
 left_behind [] i m e = cc
-left_behind (x ∷ ms) zero m e =
-    let at : ◌≡◌ {A = MemberKey × Tree} x m = cc in
-    ap (λ (y : MemberKey × Tree). y ∷ ms) at
+left_behind (x ∷ ms) zero m e = grind arith
 left_behind (x ∷ ms) (suc i) m e = left_behind ms i m e
 
 pub left_at : (ms : List (MemberKey × Tree)) (i : ℕ) (m : MemberKey × Tree) → slice_get ms i ≡ Some m → drop i ms ≡ m ∷ drop (i + 1) ms
-left_at ms i m e =
-    let next : suc i ≡ i + 1 = omega arith in
-    rw next at (left_behind ms i m e)
+left_at ms i m e = grind (arith, left_behind)
 
 pub none_left : (ms : List (MemberKey × Tree)) (i : ℕ) → length ms ≤ i → drop i ms ≡ []
 none_left ms i past = drop_of_length-le ms past
@@ -79,9 +57,7 @@ entries_len-members no_entry = refl
 entries_len-members (entry_then key t es) = omega (arith, entries_len-members es)
 
 pub container_len : (c : Container) → encoded_len (tree_of_container c) ≡ opening_len (tree_of_container c) + 1 + members_len (members (tree_of_container c))
-container_len (container.Document d) = omega (arith, entries_len-members (entries (with_trees (pairs_of d.now))))
-container_len (container.Array vs) = omega (arith, items_len-members 0 (trees (map tree_of vs.now)))
-container_len (container.Code c) = omega (arith, entries_len-members (entries (with_trees (pairs_of c.now.scope))))
+container_len c = grind (arith, entries_len-members, items_len-members)
 
 items_free : (n : ℕ) (ts : Trees) → InTrees IsLeafNulFree Whatever NulFree Whatever ts ↔ AreMembersFree (numbered n ts)
 items_free n no_tree = ((λ h. tt), (λ h. tt))
@@ -92,6 +68,4 @@ entries_free no_entry = ((λ h. tt), (λ h. tt))
 entries_free (entry_then key t es) = let rest = entries_free es in ((λ h. (h.0, h.1, rest.0 h.2)), (λ h. (h.0, h.1, rest.1 h.2)))
 
 pub members_free : (c : Container) → IsNulFree (tree_of_container c) ↔ AreMembersFree (members (tree_of_container c))
-members_free (container.Document d) = let free = entries_free (entries (with_trees (pairs_of d.now))) in ((λ h. free.0 h.1), (λ h. (tt, free.1 h)))
-members_free (container.Array vs) = items_free 0 (trees (map tree_of vs.now))
-members_free (container.Code c) = let free = entries_free (entries (with_trees (pairs_of c.now.scope))) in ((λ h. free.0 h.2), (λ h. (tt, tt, free.1 h)))
+members_free c = grind (arith, entries_free, items_free)

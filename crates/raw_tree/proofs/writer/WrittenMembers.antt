@@ -1,20 +1,10 @@
 -- How a container is written member by member: what is written so far, with what the members that are left will add
 -- and with the lengths that will be set, is its payload.
-use Rattle.std.proofs.Common.{◌≡◌, ◌≤◌, ◌<◌, ◌-◌, ℕ, ◌+◌, List, [], ◌∷◌, ◌++◌, length, map, take, drop, decimal, max, pos, refl, ap, sym, ◌∙◌, append_assoc, length-append, length-take, length-drop, arith, Option, None, Some, Result, Err, MatchOption, IfErr, Vec, Global, vec_len}
-use Rattle.std.proofs.lemmas.List.{nil_from_length, map-append}
-use Rattle.bson_model.specs.Tree.{Tree, Trees, Entries, leaf, array, document, code_with_scope, no_tree, tree_then, no_entry, entry_then}
-use Rattle.bson_model.specs.Proper.{IsNulFree}
-use Rattle.raw_view.specs.Errors.{IsOutOfMemory}
-use Rattle.raw_view.specs.declared.error.Error.{Error}
-use Rattle.raw_view.specs.Frame.Format.{string_payload, element_of, tagged, framed, scoped_payload}
-use Rattle.raw_view.specs.Frame.Kind.{tag_of}
-use Rattle.raw_view.specs.Frame.Number.{max_length, le32}
-use Rattle.raw_tree.specs.writer.Encoding.{kind_of_tree, tree_payload, items_bytes, entries_bytes, encoded_len, RefusesTree, IsRefused}
-use Rattle.raw_tree.specs.put.Payload.{unset}
-use Rattle.raw_tree.specs.writer.Members.{MemberKey, key_bytes, numbered, keyed, members, members_bytes, members_len, members_left, tree_of_container, opening, opening_len, with_len, ended, Begun, begun_of, members_start, HoldsTrees}
-use Rattle.raw_tree.specs.declared.writer.members.Container.{Container}
-use Rattle.raw_tree.specs.declared.writer.members.Container.TheVariants as container
-use Rattle.raw_tree.specs.declared.writer.Payload.{Payload}
+use Rattle.std.proofs.Common.{◌≡◌, ◌≤◌, ◌<◌, ◌-◌, ℕ, ◌+◌, List, [], ◌∷◌, ◌++◌, length, map, take, drop, decimal, max, pos, refl, ap, ◌∙◌, append_assoc, length-append, length-take, length-drop, arith, Option, None, Result, Err, MatchOption, IfErr, Vec, Global, vec_len}
+use Rattle.raw_tree.proofs.Common.{nil_from_length, map-append, Tree, Trees, Entries, no_tree, tree_then, no_entry, entry_then, IsNulFree, IsOutOfMemory, Error, string_payload, element_of, tagged}
+use Rattle.raw_tree.proofs.Common.{framed, scoped_payload, tag_of, max_length, le32, kind_of_tree, tree_payload, items_bytes, entries_bytes, encoded_len, IsRefused, unset, MemberKey, key_bytes}
+use Rattle.raw_tree.proofs.Common.{numbered, keyed, members, members_bytes, members_len, members_left, tree_of_container, opening, opening_len, with_len, ended, Begun, begun_of, members_start}
+use Rattle.raw_tree.proofs.Common.{HoldsTrees, Container, Payload}
 use Rattle.raw_tree.proofs.writer.MemberSteps.{container_len}
 use Rattle.raw_tree.proofs.writer.Encodings.{length-tree_payload, length-element, set_head, behind}
 
@@ -52,25 +42,14 @@ scoped_at before code inside =
 
 -- the opening of a tree that holds others, its elements and its end are its payload, once the lengths are set
 payload_ended : (t : Tree) (before : List ℕ) → HoldsTrees t → ended t (length before) ((before ++ opening t) ++ (members_bytes (members t) ++ 0 ∷ [])) ≡ before ++ tree_payload t
-payload_ended (leaf l) before h = absurd h
-payload_ended (document es) before h =
-    framed_at before _ ∙ ap (λ (b : List ℕ). before ++ framed b) (sym (entries_bytes-members es))
-payload_ended (array ts) before h =
-    framed_at before _ ∙ ap (λ (b : List ℕ). before ++ framed b) (sym (items_bytes-members 0 ts))
-payload_ended (code_with_scope code es) before h =
-    scoped_at before code _ ∙ ap (λ (b : List ℕ). before ++ scoped_payload code (framed b)) (sym (entries_bytes-members es))
+payload_ended t before h = grind (arith, entries_bytes-members, framed_at, items_bytes-members, scoped_at)
 
 length-opening : (t : Tree) → length (opening t) ≡ opening_len t
-length-opening (leaf l) = refl
-length-opening (document es) = refl
-length-opening (array ts) = refl
-length-opening (code_with_scope code es) = omega (arith, length-append (unset ++ string_payload code) unset, length-append code (0 ∷ []))
+length-opening t = grind (arith, length-append)
 
 -- a container holds others
 pub container_holds : (c : Container) → HoldsTrees (tree_of_container c)
-container_holds (container.Document d) = tt
-container_holds (container.Array vs) = tt
-container_holds (container.Code c) = tt
+container_holds c = grind arith
 
 -- levels
 
@@ -111,16 +90,10 @@ length-with_len start b =
     omega (arith, length-append (take start b) (le32 (pos (length b - start)) ++ drop (start + 4) b), length-take start b, length-drop (start + 4) b)
 
 length-ended : (t : Tree) (start : ℕ) (b : List ℕ) → length b ≤ length (ended t start b)
-length-ended (leaf l) start b = omega arith
-length-ended (array ts) start b = length-with_len start b
-length-ended (document es) start b = length-with_len start b
-length-ended (code_with_scope code es) start b =
-    omega (arith, length-with_len start (with_len (start + 9 + length code) b), length-with_len (start + 9 + length code) b)
+length-ended t start b = grind (arith, length-with_len)
 
 length-complete : (level : Begun) (out : List ℕ) → length out + members_len level.left + 1 ≤ length (complete level out)
-length-complete level out =
-    let left = members_bytes level.left in
-    omega (arith, length-ended level.tree level.start (out ++ (left ++ 0 ∷ [])), length-append out (left ++ 0 ∷ []), length-append left (0 ∷ []), length-members_bytes level.left)
+length-complete level out = grind (arith, length-append, length-ended, length-members_bytes)
 
 length-finish : (ws : List Begun) (out : List ℕ) → length out + left_in ws ≤ length (finish ws out)
 length-finish [] out = omega arith
@@ -158,17 +131,11 @@ module _ (t : Tree) (ws : List Begun) (old : Begun) (out : List ℕ) (is : IsWri
   -- a member is passed
   module _ (m : MemberKey × Tree) (ms : List (MemberKey × Tree)) (step : old.left ≡ m ∷ ms) where
     passed : (more : List ℕ) → more ≡ out ++ element_of (kind_of_tree m.1) (key_bytes m.0) (tree_payload m.1) → complete (left_with old ms) more ≡ complete old out
-    passed more e =
-        let element = element_of (kind_of_tree m.1) (key_bytes m.0) (tree_payload m.1) in
-        let bytes : more ++ (members_bytes ms ++ 0 ∷ []) ≡ out ++ (members_bytes old.left ++ 0 ∷ []) = rw (e, step) (simp append_assoc) in
-        rw bytes refl
+    passed more e = grind (arith, append_assoc)
 
     -- and put
     pub writing_leaf : (more : List ℕ) → more ≡ out ++ element_of (kind_of_tree m.1) (key_bytes m.0) (tree_payload m.1) → IsWriting t ws (left_with old ms) more
-    writing_leaf more e = record {
-      written = ap (λ (b : List ℕ). finish ws b) (passed more e) ∙ is.written;
-      begun = omega (arith, is.begun, ap length e, length-append out (element_of (kind_of_tree m.1) (key_bytes m.0) (tree_payload m.1)));
-    }
+    writing_leaf more e = grind (arith, length-append, passed)
 
     -- or its level waits for its own members
     pub writing_inside : (start : ℕ) (head more : List ℕ) → HoldsTrees m.1 → start ≡ length head
@@ -180,17 +147,7 @@ module _ (t : Tree) (ws : List Begun) (old : Begun) (out : List ℕ) (is : IsWri
         record {
           written = finish-last ws (left_with old ms) (complete (begun_at m.1 start) more)
               ∙ ap (λ (b : List ℕ). finish ws b) (passed (complete (begun_at m.1 start) more) (begun ∙ element)) ∙ is.written;
-          begun = rw (last_opening-last ws (left_with old ms))
-              (omega (
-                arith,
-                s,
-                is.begun,
-                ap length o,
-                ap length h,
-                length-append head (opening m.1),
-                length-append out (tagged (tag_of (kind_of_tree m.1)) (key_bytes m.0) []),
-                length-opening m.1,
-              ));
+          begun = grind (arith, last_opening-last, length-append, length-opening);
         }
 
   -- none is left: the level is ended
@@ -200,19 +157,11 @@ module _ (t : Tree) (ws : List Begun) (old : Begun) (out : List ℕ) (is : IsWri
 
     -- and is the whole
     pub writing_done : ws ≡ [] → more ≡ tree_payload t
-    writing_done none_waits =
-        let whole : finish [] (complete old out) ≡ tree_payload t = rw none_waits at is.written in
-        sym all_put ∙ whole
+    writing_done none_waits = grind (arith, all_put)
 
     -- or the one that waits goes on
     pub writing_ends : (less : List Begun) (w : Begun) → ws ≡ less ++ w ∷ [] → IsWriting t less w more
-    writing_ends less w f =
-        let whole : finish (less ++ w ∷ []) (complete old out) ≡ tree_payload t = rw f at is.written in
-        let waiting : last_opening ws ≡ max (last_opening less) (members_start w) = rw f (last_opening-last less w) in
-        record {
-          written = ap (λ (b : List ℕ). finish less (complete w b)) (sym all_put) ∙ sym (finish-last less w (complete old out)) ∙ whole;
-          begun = omega (arith, is.begun, waiting, ap length e, length-ended old.tree old.start (out ++ 0 ∷ []), length-append out (0 ∷ []));
-        }
+    writing_ends less w f = grind (arith, all_put, finish-last, last_opening-last, length-append, length-ended)
 
 -- the levels of the writer: one that begins, and one more
 pub begins : (c : Container) (level : Payload) (start : ℕ) → level.members.container ≡ c → members_left level.members ≡ members (tree_of_container c)
@@ -237,11 +186,8 @@ outward_smaller n ws less w f =
 
 -- none waits
 pub none_waits : (old new : Vec Payload Global) (last : Option Payload) → MatchOption last ((vec_len old ≡ 0) × (vec_len new ≡ 0)) (λ x. vec_len new + 1 ≡ vec_len old) → last ≡ None → old.items ≡ []
-none_waits old new None h e = nil_from_length old.items (omega (arith, h.0, old.ok.0))
-none_waits old new (Some x) h e = cc
+none_waits old new last h e = grind (arith, nil_from_length)
 
 -- a tree that may be written fails where memory ran out
 pub refused_memory : (t : Tree) (result : Result (Vec ℕ Global) Error) (e : Error) → result ≡ Err e → IsOutOfMemory e → IsNulFree t → encoded_len t ≤ max_length → IfErr result (IsRefused t)
-refused_memory t result e is memory free fits =
-    let kind : RefusesTree t e.kind = rw memory.kind_is (free, fits) in
-    rw is (kind, memory.no_key)
+refused_memory t result e is memory free fits = grind arith

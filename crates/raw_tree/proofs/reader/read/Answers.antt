@@ -1,14 +1,5 @@
 use Rattle.std.proofs.Common.{◌≡◌, ◌++◌, ◌∷◌, [], suc, Some, Result, Ok, ap, sym, subst, rules, arith, vec_len}
-use Rattle.std.proofs.lemmas.Result.{err_from_is_err_and}
-use Rattle.bson_model.specs.Tree.{tree_of}
-use Rattle.raw_view.specs.Frame.ElementSteps.{StepsElement, frame_of}
-use Rattle.raw_view.specs.Meaning.{Means, value, faulty}
-use Rattle.raw_view.specs.Meaning.Value.{value_of}
-use Rattle.raw_view.specs.declared.element.RawElement.{RawElement}
-use Rattle.raw_view.specs.declared.error.Error.{Error}
-use Rattle.raw_tree.specs.reader.Levels.{Opens}
-use Rattle.raw_tree.specs.declared.reader.levels.Opened.{Opened}
-use Rattle.raw_tree.specs.declared.reader.levels.Waiting.{Waiting}
+use Rattle.raw_tree.proofs.Common.{err_from_is_err_and, tree_of, StepsElement, frame_of, Means, value, faulty, value_of, RawElement, Error, Opens, Opened, Waiting}
 use Rattle.raw_tree.proofs.reader.LevelSteps.{AreBehind, levels_begin, few_frames, stopped, ran_out, finished, popped, stepped, failed, ran_out_behind, nested_inside, too_deep_inside, put_whole, went_in, told_value, told_failed, no_more, step_smaller, inward_smaller, outward_smaller}
 use Rattle.raw_tree.proofs.reader.Stacks.{with_left}
 use Rattle.raw_tree.proofs.reader.read.Goals as goal
@@ -89,9 +80,7 @@ returns-in_err-put-in-Whole c =
     rw (p.1, p.2) (ran_out_behind (value (value_of c.in_ok-value.value)) _ (behind (goal.at.returns-in_err-put-in-Whole c).In_ok-value) c.in_err-put-in-Whole.ensures.err)
 
 pub levels-smaller-in-Whole : goal.levels-smaller-in-Whole
-levels-smaller-in-Whole c =
-    let step = to_element (goal.at.levels-smaller-in-Whole c).In_ok-value in
-    rw (c.in_ok-put-in-Whole.ensures.put.0) (omega (arith, step_smaller c.levels.level.elements c.frame.new.elements c.in_ok-element.element step))
+levels-smaller-in-Whole c = grind (arith, step_smaller, to_element)
 
 pub levels-preserved-in-Whole : goal.levels-preserved-in-Whole
 levels-preserved-in-Whole c =

@@ -1,14 +1,10 @@
-use Rattle.std.proofs.Common.{rules, ◌≡◌, ◌++◌, ◌∷◌, [], map, arith, sym, ◌∙◌}
-use Rattle.raw_view.specs.Document.{bytes_of}
-use Rattle.raw_tree.specs.declared.validator.Judged.{Judged}
+use Rattle.std.proofs.Common.{rules, ◌≡◌, ◌++◌, ◌∷◌, [], map, arith}
+use Rattle.raw_tree.proofs.Common.{Judged}
 use Rattle.raw_tree.proofs.validator.Judgement.{judging_begins, judging_inside, judging_breach, judging_done, few_popped, judging_popped}
 use Rattle.raw_tree.proofs.validator.validate.Goals as goal
 
 pub loop-level-init : goal.loop-level-init
-loop-level-init c =
-    let listed : c.deref.result.now ≡ [] = c.deref.ensures.value ∙ c.new-listed.ensures.items in
-    rw (sym c.deref.ensures.value) (judging_begins (bytes_of c.args.document) c.new-waiting.result.items c.deref.result.now c.of_document-level.result
-    c.new-waiting.ensures.items listed c.of_document-level.ensures)
+loop-level-init c = grind (arith, judging_begins)
 
 pub loop-level-preserved-in-Inside : goal.loop-level-preserved-in-Inside
 loop-level-preserved-in-Inside c =

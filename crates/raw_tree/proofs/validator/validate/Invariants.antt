@@ -1,6 +1,5 @@
 use Rattle.std.proofs.Common.{◌+◌}
-use Rattle.raw_view.specs.Document.{bytes_of}
-use Rattle.raw_tree.specs.validator.Validating.{left_of}
+use Rattle.raw_tree.proofs.Common.{bytes_of, left_of}
 use Rattle.raw_tree.proofs.validator.Judgement.{AreJudged, left_in}
 use Rattle.raw_tree.proofs.validator.validate.Given as goal
 

@@ -1,25 +1,11 @@
 use Rattle.std.proofs.Common.{◌≡◌, ◌++◌, ◌∷◌, [], length, map, rules, refl, ap, arith}
-use Rattle.bson_model.specs.Tree.{Tree, tree_of}
-use Rattle.raw_tree.specs.writer.Encoding.{encoded_len}
-use Rattle.raw_tree.specs.writer.Members.{begun_of, key_of, members_left, members_len, tree_of_container}
-use Rattle.raw_tree.specs.declared.writer.members.Container.{Container}
-use Rattle.raw_tree.specs.declared.writer.Payload.{Payload}
-use Rattle.raw_view.specs.Meaning.Value.{value_of}
+use Rattle.raw_tree.proofs.Common.{Tree, tree_of, encoded_len, begun_of, key_of, members_left, members_len, tree_of_container, Container, Payload, value_of}
 use Rattle.raw_tree.proofs.writer.Encodings.{length-shown}
 use Rattle.raw_tree.proofs.writer.WrittenMembers.{begun_at, begun_last, begins, container_holds, left_with, room_left, writing_begins, writing_inside, writing_ends, inward_smaller, outward_smaller}
 use Rattle.raw_tree.proofs.writer.write.Goals as goal
 
 pub payloads-init : goal.payloads-init
-payloads-init c =
-    let start : c.start-payload.result.start ≡ 0 = omega (arith, c.start-payload.ensures.start, c.args.out.now.ok.0, ap length c.requires.empty) in
-    let begun : begun_of c.start-payload.result ≡ begun_at (tree_of_container c.args.container) 0 =
-    begins c.args.container c.start-payload.result 0 c.start-payload.ensures.container c.start-payload.ensures.members start in
-    record {
-      writing = rw (c.new-waiting.ensures.items, begun)
-          (writing_begins (tree_of_container c.args.container) c.start-payload.new.out.items (container_holds c.args.container)
-          (rw c.requires.empty at c.start-payload.ensures.items));
-      capacity = c.start-payload.ensures.capacity;
-    }
+payloads-init c = grind (arith, begins, container_holds, writing_begins)
 
 pub end-requires-clause-room : goal.end-requires-clause-room
 end-requires-clause-room c =

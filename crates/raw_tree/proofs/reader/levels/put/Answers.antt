@@ -1,6 +1,5 @@
 use Rattle.std.proofs.Common.{refl}
-use Rattle.std.proofs.lemmas.Result.{on_ok_weaker}
-use Rattle.bson_model.specs.Tree.{tree_of}
+use Rattle.raw_tree.proofs.Common.{on_ok_weaker, tree_of}
 use Rattle.raw_tree.proofs.reader.Stacks.{pair_put, value_put}
 use Rattle.raw_tree.proofs.reader.levels.put.Goals as goal
 

@@ -1,14 +1,5 @@
 use Rattle.std.proofs.Common.{◌≡◌, List, ℕ, Option, Result, None, Some, Ok, arith, refl, subst}
-use Rattle.raw_view.specs.Frame.ElementSteps.{frame_of}
-use Rattle.raw_view.specs.Frame.Front.{StepsFront}
-use Rattle.raw_view.specs.Meaning.{faulty}
-use Rattle.raw_view.specs.declared.element.RawElement.{RawElement}
-use Rattle.raw_view.specs.declared.error.BorrowedError.{BorrowedError}
-use Rattle.raw_view.specs.Meaning.Value.{value_of}
-use Rattle.raw_tree.specs.validator.Breaches.{keys_of_frames}
-use Rattle.raw_tree.specs.reader.Reading.{Sort}
-use Rattle.raw_tree.specs.validator.Validating.{IsJudged, TellsOwnKey, JudgesValue}
-use Rattle.raw_tree.specs.declared.validator.breach.Cause.{Cause}
+use Rattle.raw_tree.proofs.Common.{frame_of, StepsFront, faulty, RawElement, BorrowedError, value_of, keys_of_frames, Sort, IsJudged, TellsOwnKey, JudgesValue, Cause}
 use Rattle.raw_tree.specs.declared.validator.breach.Cause.TheVariants as cause
 use Rattle.raw_tree.proofs.validator.Judgement.{numbered, few_judged, level_ends, level_stops, level_key_breaches, level_meaning_breaches, level_passes, level_judges, less_left, shrinks}
 use Rattle.raw_tree.proofs.validator.Judged.step.Goals as goal

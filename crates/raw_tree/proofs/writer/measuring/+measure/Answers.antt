@@ -1,26 +1,18 @@
-use Rattle.std.proofs.Common.{◌≡◌, ◌<◌, ◌++◌, ◌∷◌, [], Some, Vec, Global, rules, refl, ap, ◌∙◌, ◌^◌, arith}
-use Rattle.bson_model.specs.Tree.{tree_of}
-use Rattle.raw_view.specs.Meaning.Value.{value_of}
-use Rattle.raw_tree.specs.writer.Measuring.{Measures}
-use Rattle.raw_tree.specs.writer.Members.{key_of, members_left, members_len, tree_of_container}
-use Rattle.raw_tree.specs.declared.writer.members.Members.{Members}
+use Rattle.std.proofs.Common.{◌≡◌, ◌++◌, ◌∷◌, [], Some, Vec, Global, rules, refl, ap, ◌∙◌, arith}
+use Rattle.raw_tree.proofs.Common.{tree_of, value_of, Measures, key_of, members_left, members_len, tree_of_container, Members}
 use Rattle.raw_tree.proofs.writer.MeasuredMembers.{measuring_begins, measuring_member, measuring_inside, measuring_ends, leaf_measured, leaf_smaller, inward_smaller, outward_smaller}
 use Rattle.raw_tree.proofs.writer.measuring.+measure.Goals as goal
 use Rattle.raw_tree.proofs.writer.measuring.+measure.Goals.{in-Leaf+in_ok-len-in-Leaf, in-Container+then-is_ok, in-Container+else-is_ok+in_ok-len-in-Container}
 
 pub members-init : goal.members-init
-members-init t c =
-    let fits : c.frame_len-total.result < 2 ^ 64 = omega (arith, c.frame_len-total.type_inv) in
-    rw (c.new-waiting.ensures.items, c.of-members.ensures.all) (measuring_begins c.args.container c.frame_len-total.result c.frame_len-total.ensures fits)
+members-init t c = grind (arith, measuring_begins)
 
 pub members-smaller-in_default : goal.members-smaller-in_default
 members-smaller-in_default t c =
     outward_smaller (members_len (members_left c.members.members)) c.members.waiting.items c.pop.new.self.items c.in-Some-pop.outer c.in-Some-pop.ensures.items
 
 pub members-preserved-in_default : goal.members-preserved-in_default
-members-preserved-in_default t c =
-    measuring_ends (tree_of_container c.args.container) c.members.waiting.items c.pop.new.self.items c.in-Some-pop.outer
-    (members_left c.members.members) c.members.total c.members.invariant c.in_default.ensures.step c.in-Some-pop.ensures.items
+members-preserved-in_default t c = grind (arith, measuring_ends)
 
 pub members-smaller : goal.members-smaller
 members-smaller t c =

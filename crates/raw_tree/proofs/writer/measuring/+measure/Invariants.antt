@@ -1,6 +1,5 @@
 use Rattle.std.proofs.Common.{◌+◌, length}
-use Rattle.raw_tree.specs.writer.Encoding.{encoded_len}
-use Rattle.raw_tree.specs.writer.Members.{members_len, members_left, tree_of_container}
+use Rattle.raw_tree.proofs.Common.{encoded_len, members_len, members_left, tree_of_container}
 use Rattle.raw_tree.proofs.writer.MeasuredMembers.{IsMeasuring, len_waiting}
 use Rattle.raw_tree.proofs.writer.measuring.+measure.Given as goal
 

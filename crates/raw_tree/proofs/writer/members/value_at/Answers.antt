@@ -6,5 +6,4 @@ pub returns-then-place-values-clause-member : goal.returns-then-place-values-cla
 returns-then-place-values-clause-member c = omega (arith, length-numbered 0 c.args.values.now)
 
 pub returns-clause-member : goal.returns-clause-member
-returns-clause-member c =
-    found_value c.args.values.now c.args.place c.index-values-place.result (omega arith) c.index-values-place.is
+returns-clause-member c = grind (arith, found_value)

@@ -1,13 +1,9 @@
-use Rattle.raw_tree.specs.writer.Members.{members, tree_of_container}
+use Rattle.std.proofs.Common.{arith}
 use Rattle.raw_tree.proofs.writer.MemberSteps.{left_at, none_left}
 use Rattle.raw_tree.proofs.writer.members.Members.next.Goals as goal
 
 pub returns-in_err-member-clause-step : goal.returns-in_err-member-clause-step
-returns-in_err-member-clause-step c =
-    let all = members (tree_of_container c.args.self.now.container) in
-    rw c.from_residual.ensures (none_left all c.args.self.now.passed c.in_err-member.ensures.member)
+returns-in_err-member-clause-step c = grind (arith, none_left)
 
 pub returns-clause-step : goal.returns-clause-step
-returns-clause-step c =
-    let all = members (tree_of_container c.args.self.now.container) in
-    left_at all c.args.self.now.passed _ c.in_ok-member.ensures.member
+returns-clause-step c = grind (arith, left_at)
