@@ -10,10 +10,10 @@ use Rattle.raw_view.specs.declared.error.Error.{Error}
 use Rattle.raw_view.specs.declared.error.ErrorKind.{ErrorKind}
 use Rattle.raw_view.specs.declared.error.ErrorKind.TheVariants as kind
 use Rattle.raw_view.specs.declared.error.Reason.TheVariants as reason
+use Rattle.raw_tree.specs.Payload.{IsRawInRange}
 use Rattle.raw_tree.specs.Encoding.{IsEncoded, IsRefused, RefusesTree, items_len}
 use Rattle.raw_tree.specs.Reading.{Holds, Reads, TellsFirstFault, TellsFirstFaultOfValue}
 use Rattle.raw_tree.proofs.Face.{length-tree_payload, enveloped_one_way}
-use Rattle.raw_bson.specs.Append.{IsRawInRange}
 use Rattle.raw_bson.specs.Conversion.{BecomesOneTree, RefusesForm}
 
 -- each member of a list takes two bytes and more

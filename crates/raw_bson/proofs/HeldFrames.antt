@@ -6,9 +6,9 @@ use Rattle.raw_view.specs.Frame.{Frame, IsFrame, IsShortScope}
 use Rattle.raw_view.specs.Meaning.{RawValue, single, document, array, scoped, Means, value}
 use Rattle.raw_view.specs.Frame.Number.{max_length}
 use Rattle.raw_view.proofs.Face.{leaf_means, scoped_means}
-use Rattle.raw_tree.specs.Payload.{payload_of, IsValueNulFree}
+use Rattle.raw_tree.specs.Payload.{payload_of, IsRawInRange, IsValueNulFree}
 use Rattle.raw_tree.proofs.Face.{value_spelled}
-use Rattle.raw_bson.specs.Append.{value_frame, EndsInShortScope, KeepsWalk, HaveNoShortScope, HoldsFrames, IsRawInRange, IsValueSubtypeProper, AddsValue}
+use Rattle.raw_bson.specs.Append.{value_frame, EndsInShortScope, KeepsWalk, HaveNoShortScope, HoldsFrames, IsValueSubtypeProper, AddsValue}
 use Rattle.raw_bson.specs.Fills.{empty_document, frames_of_pairs, frames_from}
 use Rattle.raw_bson.specs.Owned.{owned_value}
 use Rattle.raw_bson.specs.declared.bson.RawBson.{RawBson}

@@ -13,8 +13,8 @@ use Rattle.raw_view.specs.Frame.Number.{max_length, IsLe32, le32}
 use Rattle.raw_view.specs.declared.element_type.ElementType.{ElementType}
 use Rattle.raw_view.specs.declared.element_type.ElementType.TheVariants as kind
 use Rattle.raw_view.proofs.Face.{document_framed, the_walk, length-framed, leaf_shape, declared_shape, framed_is_envelope}
-use Rattle.raw_tree.specs.Payload.{payload_of, IsValueNulFree}
-use Rattle.raw_bson.specs.Append.{frame_bytes, appended_bytes, IsNulFreeElement, HasRoom, value_frame, EndsInShortScope, KeepsWalk, IsRawInRange}
+use Rattle.raw_tree.specs.Payload.{payload_of, IsRawInRange, IsValueNulFree}
+use Rattle.raw_bson.specs.Append.{frame_bytes, appended_bytes, IsNulFreeElement, HasRoom, value_frame, EndsInShortScope, KeepsWalk}
 
 -- lengths
 

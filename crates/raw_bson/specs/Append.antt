@@ -1,13 +1,11 @@
 -- What an append to a document gives, and what it leaves.
 use Rattle.std.specs.Prelude.{◌≡◌, ◌≤◌, ℕ, List, [], ◌∷◌, ◌++◌, length, drop, None, Result, Ok, Err}
-use Rattle.std.specs.Str.{IsUtf8}
 use Rattle.bson_model.specs.Bytes.{NulFree}
-use Rattle.bson_model.specs.Proper.{IsLeafInRange, IsLeafSubtypeProper}
-use Rattle.raw_view.specs.Frame.Envelope.{IsEnvelope}
+use Rattle.bson_model.specs.Proper.{IsLeafSubtypeProper}
 use Rattle.raw_view.specs.Errors.{key_of}
 use Rattle.raw_view.specs.Frame.Format.{framed, inside_of, element_of}
 use Rattle.raw_view.specs.Frame.{Frame, IsWalk, Done, IsShortScope}
-use Rattle.raw_view.specs.Meaning.{RawValue, single, document, array, scoped, kind_of_raw, Means, value}
+use Rattle.raw_view.specs.Meaning.{RawValue, single, document, kind_of_raw, Means, value}
 use Rattle.raw_view.specs.Frame.Number.{max_length}
 use Rattle.raw_view.specs.OneReading.{IsTheWalk}
 use Rattle.raw_view.specs.declared.error.Error.{Error}
@@ -89,11 +87,3 @@ IsValueSubtypeProper _ = Unit {0}
 pub record AddsValue (b key : List ℕ) (v : RawValue) (left : List ℕ) : Type 0 where
   pub holds : (frames : List Frame) → HoldsFrames b frames → HoldsFrames left (frames ++ value_frame key v ∷ [])
   pub means : IsValueSubtypeProper v → Means (value_frame key v) (value v)
-
--- what holds of every value that is handed to an append: numbers and bytes in range, texts UTF-8, nested
--- documents, arrays and scopes with their envelopes
-abbrev pub IsRawInRange : RawValue → Type 0
-IsRawInRange (single leaf) = IsLeafInRange leaf
-IsRawInRange (document bytes) = IsEnvelope bytes
-IsRawInRange (array bytes) = IsEnvelope bytes
-IsRawInRange (scoped code scope) = IsUtf8 code × IsEnvelope scope

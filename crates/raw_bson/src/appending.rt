@@ -2,6 +2,7 @@
 
 ghost use Rattle.std.specs.Prelude.{◌≡◌, ◌≤◌, ◌<◌, ◌+◌, ◌-◌, ◌++◌, ◌∷◌, [], None, length, take, vec_len, vec_capacity, OnOk, IfErr};
 ghost use Rattle.raw_bson.specs.Append.{AddsValue, Appends, AppendsFrame, KeepsWalk, RefusesLength, frame_bytes, value_frame};
+ghost use Rattle.raw_tree.specs.Payload.{IsRawInRange};
 ghost use Rattle.raw_view.specs.Frame.ElementSteps.{frame_of};
 ghost use Rattle.raw_view.specs.Frame.Envelope.{IsEnvelope};
 ghost use Rattle.raw_view.specs.Errors.{key_of};
@@ -9,7 +10,6 @@ ghost use Rattle.raw_view.specs.Frame.{IsShortScope};
 ghost use Rattle.raw_view.specs.Frame.Number.{max_length};
 ghost use Rattle.raw_view.specs.Meaning.Value.{value_of};
 
-use crate::laws::attest_view;
 use raw_tree::{
     is_nul_free, is_value_nul_free, payload_len, put_element, put_raw_element, set_len, total_len,
 };
@@ -44,6 +44,7 @@ fn put_at_end(bytes: &mut Vec<u8>, key: &str, value: RawBsonRef<'_>)
         ≤ vec_capacity bytes.old }
     ensures items { bytes.new.items ≡ take (length bytes.old.items - 1) bytes.old.items
         ++ (frame_bytes (value_frame key.now (value_of value.entry)) ++ 0 ∷ []) }
+    ensures in_range { IsRawInRange (value_of value.entry) }
 {
     bytes.pop();
     put_element(bytes, key, value);
@@ -63,8 +64,8 @@ fn put_raw_at_end(bytes: &mut Vec<u8>, element: RawElement<'_>)
     bytes.push_reserved(0);
 }
 
-/// Makes room for so many bytes more in a document, which stay as they are. It judges the new length, and then
-/// reserves the whole growth.
+/// Makes room for so many bytes more in a document, which stay as they are. It measures, and then reserves the
+/// whole growth.
 #[inline(always)]
 fn make_room(bytes: &mut Vec<u8>, added: usize) -> Result<()>
     ensures fits { OnOk result (length bytes.old.items + added ≤ max_length) }
@@ -80,7 +81,7 @@ fn make_room(bytes: &mut Vec<u8>, added: usize) -> Result<()>
     Ok(())
 }
 
-/// Appends a value to a document's bytes, with the old content unexamined. It judges the 0s, then the new length,
+/// Appends a value to a document's bytes, with the old content unexamined. It looks for a 0, then measures,
 /// then reserves the whole growth, and only then writes.
 #[inline(always)]
 pub(crate) fn append_value(bytes: &mut Vec<u8>, key: &str, value: RawBsonRef<'_>) -> Result<()>
@@ -95,7 +96,6 @@ pub(crate) fn append_value(bytes: &mut Vec<u8>, key: &str, value: RawBsonRef<'_>
         return Err(interior_nul());
     }
     make_room(bytes, payload_len(value).saturating_add(key.len() + 2))?;
-    attest_view(value);
     put_at_end(bytes, key, value);
     set_len(bytes, 0);
     Ok(())

@@ -3,7 +3,7 @@
 
 ghost use Rattle.std.specs.Prelude.{◌≡◌, ◌↔◌, IsTrue};
 ghost use Rattle.std.specs.String.{string_bytes};
-ghost use Rattle.raw_bson.specs.Append.{IsRawInRange};
+ghost use Rattle.raw_tree.specs.Payload.{IsRawInRange};
 ghost use Rattle.raw_bson.specs.Conversion.{BecomesOneTree};
 ghost use Rattle.raw_bson.specs.Owned.{IsSameOwned, owned_value};
 ghost use Rattle.raw_view.specs.Meaning.Value.{value_of};

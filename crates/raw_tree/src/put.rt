@@ -2,10 +2,13 @@
 //! here, and no tree is known.
 
 ghost use Rattle.std.specs.Prelude.{◌≡◌, ◌≤◌, ◌+◌, ◌-◌, ◌++◌, ◌∷◌, [], pos, length, take, drop, vec_len, vec_capacity};
-ghost use Rattle.raw_tree.specs.put.Payload.{payload_of, element_bytes, unset};
+ghost use Rattle.bson_model.specs.Leaf as leaf;
+ghost use Rattle.bson_model.specs.Proper.{IsLeafInRange};
+ghost use Rattle.raw_tree.specs.put.Payload.{payload_of, element_bytes, unset, IsRawInRange};
 ghost use Rattle.raw_view.specs.Document.{bytes_of};
 ghost use Rattle.raw_view.specs.Frame.ElementSteps.{frame_of};
 ghost use Rattle.raw_view.specs.Frame.Format.{c_string, string_payload, binary_payload, pointer_payload, regex_payload, scoped_payload, tagged, element_of};
+ghost use Rattle.raw_view.specs.Meaning as value;
 ghost use Rattle.raw_view.specs.Frame.Number.{max_length, le32};
 ghost use Rattle.raw_view.specs.Meaning.Value.{value_of, namespace_of, id_of};
 
@@ -101,14 +104,16 @@ fn put_binary(out: &mut Vec<u8>, binary: RawBinaryRef<'_>)
     ensures len { vec_len out.new
         ≡ vec_len out.old + length (binary_payload binary.entry.subtype binary.entry.bytes.now) }
     ensures capacity { vec_capacity out.old ≤ vec_capacity out.new }
+    ensures in_range { IsLeafInRange (leaf.binary binary.entry.subtype binary.entry.bytes.now) }
 {
     let len = binary.bytes.len();
+    let subtype = binary.subtype.to_u8();
     match binary.subtype {
         BinarySubtype::BinaryOld => {
-            put_plain_binary(out, 2, len + 4);
+            put_plain_binary(out, subtype, len + 4);
             put_len(out, len);
         }
-        subtype => put_plain_binary(out, subtype.to_u8(), len),
+        _ => put_plain_binary(out, subtype, len),
     }
     put(out, binary.bytes);
 }
@@ -122,6 +127,7 @@ fn put_db_pointer(out: &mut Vec<u8>, pointer: RawDbPointerRef<'_>)
     ensures len { vec_len out.new
         ≡ vec_len out.old + (length (string_payload (namespace_of pointer.entry)) + 12) }
     ensures capacity { vec_capacity out.old ≤ vec_capacity out.new }
+    ensures in_range { IsLeafInRange (leaf.db_pointer (namespace_of pointer.entry) (id_of pointer.entry)) }
 {
     put_string(out, pointer.namespace());
     put(out, &pointer.id().bytes()[..]);
@@ -137,6 +143,7 @@ fn put_code_with_scope(out: &mut Vec<u8>, code: RawJavaScriptCodeWithScopeRef<'_
         ≡ vec_len out.old
         + length (scoped_payload code.entry.code.now (bytes_of code.entry.scope)) }
     ensures capacity { vec_capacity out.old ≤ vec_capacity out.new }
+    ensures in_range { IsRawInRange (value.scoped code.entry.code.now (bytes_of code.entry.scope)) }
 {
     let scope = code.scope.as_bytes();
     put_len(out, 4 + string_len(code.code) + scope.len());
@@ -152,6 +159,7 @@ fn put_regex(out: &mut Vec<u8>, regex: RawRegexRef<'_>)
     ensures len { vec_len out.new
         ≡ vec_len out.old + (length regex.entry.pattern.now + length regex.entry.options.now + 2) }
     ensures capacity { vec_capacity out.old ≤ vec_capacity out.new }
+    ensures in_range { IsLeafInRange (leaf.regular_expression regex.entry.pattern.now regex.entry.options.now) }
 {
     put_c_string(out, regex.pattern);
     put_c_string(out, regex.options);
@@ -165,6 +173,7 @@ pub(crate) fn put_payload(out: &mut Vec<u8>, value: RawBsonRef<'_>)
     ensures items { out.new.items ≡ out.old.items ++ payload_of (value_of value.entry) }
     ensures len { vec_len out.new ≡ vec_len out.old + length (payload_of (value_of value.entry)) }
     ensures capacity { vec_capacity out.old ≤ vec_capacity out.new }
+    ensures in_range { IsRawInRange (value_of value.entry) }
 {
     match value {
         RawBsonRef::Undefined | RawBsonRef::Null | RawBsonRef::MaxKey | RawBsonRef::MinKey => {}
@@ -212,6 +221,7 @@ pub fn put_element(out: &mut Vec<u8>, key: &str, value: RawBsonRef<'_>)
     ensures len { vec_len out.new
         ≡ vec_len out.old + length (element_bytes key.now (value_of value.entry)) }
     ensures capacity { vec_capacity out.old ≤ vec_capacity out.new }
+    ensures in_range { IsRawInRange (value_of value.entry) }
 {
     put_head(out, value.element_type().to_tag(), key);
     put_payload(out, value);

@@ -1,6 +1,8 @@
 -- The bytes that values are written as.
 use Rattle.std.specs.Prelude.{ℕ, List, [], ◌∷◌}
-use Rattle.bson_model.specs.Proper.{IsLeafNulFree}
+use Rattle.std.specs.Str.{IsUtf8}
+use Rattle.bson_model.specs.Proper.{IsLeafInRange, IsLeafNulFree}
+use Rattle.raw_view.specs.Frame.Envelope.{IsEnvelope}
 use Rattle.raw_view.specs.Frame.Format.{leaf_payload, scoped_payload, element_of}
 use Rattle.raw_view.specs.Meaning.{RawValue, single, document, array, scoped, kind_of_raw}
 
@@ -19,6 +21,14 @@ element_bytes key v = element_of (kind_of_raw v) key (payload_of v)
 abbrev pub IsValueNulFree : RawValue → Type 0
 IsValueNulFree (single leaf) = IsLeafNulFree leaf
 IsValueNulFree _ = Unit {0}
+
+-- what holds of every value that is handed to a call: numbers and bytes in range, texts UTF-8, nested documents,
+-- arrays and scopes with their envelopes
+abbrev pub IsRawInRange : RawValue → Type 0
+IsRawInRange (single leaf) = IsLeafInRange leaf
+IsRawInRange (document bytes) = IsEnvelope bytes
+IsRawInRange (array bytes) = IsEnvelope bytes
+IsRawInRange (scoped code scope) = IsUtf8 code × IsEnvelope scope
 
 -- four bytes of a length that isn't set
 abbrev pub unset : List ℕ

@@ -35,13 +35,13 @@ payload_fits c = omega (arith, has_room c, length-appended_bytes c.args.bytes.no
 
 pub returns-clause-walk : goal.returns-clause-walk
 returns-clause-walk c =
-    let stands = value_stands c.args.key.now (value_of c.args.value) c.utf8.key (search rules) c.attest_view.ensures (payload_fits c) in
+    let stands = value_stands c.args.key.now (value_of c.args.value) c.utf8.key (search rules) c.put_at_end.ensures.in_range (payload_fits c) in
     rw (written c) (keeps_walk c.args.bytes.now.items (value_frame c.args.key.now (value_of c.args.value)) c.requires stands)
 
 pub returns-clause-adds : goal.returns-clause-adds
 returns-clause-adds c =
     let nul_free : IsNulFreeElement c.args.key.now (value_of c.args.value) = search rules in
-    adds_value c.args.bytes.now.items c.args.key.now (value_of c.args.value) c.set_len.new.out.items c.attest_view.ensures nul_free.1 (payload_fits c) (returns-clause-walk c)
+    adds_value c.args.bytes.now.items c.args.key.now (value_of c.args.value) c.set_len.new.out.items c.put_at_end.ensures.in_range nul_free.1 (payload_fits c) (returns-clause-walk c)
 
 pub returns-clause-envelope : goal.returns-clause-envelope
 returns-clause-envelope c =
