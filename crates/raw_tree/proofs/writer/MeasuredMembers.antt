@@ -48,33 +48,31 @@ module _ (t : Tree) (ws : List Members) (m : MemberKey × Tree) (old left : List
   is = rw step at was
 
   -- a member is measured
-  pub measuring_member : (same : List Members) (new : List (MemberKey × Tree)) (len after : ℕ) → same ≡ ws → new ≡ left → IsKeyFree m.0 → Measures m.1 (Some len)
-      → after ≡ min (min (min (total + 2) (2 ^ 64 - 1) + length (key_bytes m.0)) (2 ^ 64 - 1) + len) (2 ^ 64 - 1) → IsMeasuring t same new after
-  measuring_member same new len after f l key measured a =
+  pub measuring_member : (len after : ℕ) → IsKeyFree m.0 → Measures m.1 (Some len)
+      → after ≡ min (min (min (total + 2) (2 ^ 64 - 1) + length (key_bytes m.0)) (2 ^ 64 - 1) + len) (2 ^ 64 - 1) → IsMeasuring t ws left after
+  measuring_member len after key measured a =
       let before = is.total_is in
-      let on : IsMeasuring t ws left after = record {
+      record {
         counted = is.counted + (2 + length (key_bytes m.0) + encoded_len m.1);
         total_is = omega (arith, before, measured.1);
         whole = omega (arith, is.whole);
         inward = λ h. let all = is.inward h in (all.0, all.1.2);
         outward = λ waiting free. is.outward waiting (key, measured.0, free);
-      } in
-      rw (f, l) on
+      }
 
   -- its own members are measured first
-  pub measuring_inside : (w : Members) (more : List Members) (new : List (MemberKey × Tree)) (c : Container) (len after : ℕ) → more ≡ ws ++ w ∷ []
-      → new ≡ members (tree_of_container c) → members_left w ≡ left → m.1 ≡ tree_of_container c → IsKeyFree m.0 → len ≡ opening_len (tree_of_container c) + 1
-      → after ≡ min (min (min (total + 2) (2 ^ 64 - 1) + length (key_bytes m.0)) (2 ^ 64 - 1) + len) (2 ^ 64 - 1) → IsMeasuring t more new after
-  measuring_inside w more new c len after f n l e key frame a =
+  pub measuring_inside : (w : Members) (c : Container) (len after : ℕ) → members_left w ≡ left → m.1 ≡ tree_of_container c → IsKeyFree m.0 → len ≡ opening_len (tree_of_container c) + 1
+      → after ≡ min (min (min (total + 2) (2 ^ 64 - 1) + length (key_bytes m.0)) (2 ^ 64 - 1) + len) (2 ^ 64 - 1)
+      → IsMeasuring t (ws ++ w ∷ []) (members (tree_of_container c)) after
+  measuring_inside w c len after l e key frame a =
       let before = is.total_is in
-      let on : IsMeasuring t (ws ++ w ∷ []) (members (tree_of_container c)) after = record {
+      record {
         counted = is.counted + (2 + length (key_bytes m.0) + len);
         total_is = omega (arith, before);
         whole = omega (arith, is.whole, container_len c, len_waiting-last ws w, ap encoded_len e, ap members_len l);
         inward = λ h. let all = is.inward h in (waiting_free-more ws w all.0 (rw l all.1.2), (members_free c).0 (rw e at all.1.1));
         outward = λ waiting free. let less = waiting_free-less ws w waiting in is.outward less.0 (key, rw e ((members_free c).1 free), rw l at less.1);
-      } in
-      rw (f, n) on
+      }
 
 -- the members of the innermost are measured
 pub measuring_ends : (t : Tree) (ws less : List Members) (w : Members) (left : List (MemberKey × Tree)) (total : ℕ) → IsMeasuring t ws left total → left ≡ []
@@ -86,16 +84,14 @@ pub leaf_measured : (t : Tree) (v : RawValue) (r : Option ℕ) → IsLeafOf t v 
 leaf_measured t v r e h = grind arith
 
 -- less is left as a member is measured, as its own members are to be measured first, and as those that wait are measured on
-pub leaf_smaller : (ws same : List Members) (old new after : List (MemberKey × Tree)) (m : MemberKey × Tree) → same ≡ ws → old ≡ m ∷ new → after ≡ new
-    → members_len after + (len_waiting same + length same) < members_len old + (len_waiting ws + length ws)
-leaf_smaller ws same old new after m f step e =
-    omega (arith, ap members_len step, ap members_len e, ap len_waiting f, ap (λ (l : List Members). length l) f)
+pub leaf_smaller : (ws : List Members) (old new : List (MemberKey × Tree)) (m : MemberKey × Tree) → old ≡ m ∷ new
+    → members_len new + (len_waiting ws + length ws) < members_len old + (len_waiting ws + length ws)
+leaf_smaller ws old new m step = omega (arith, ap members_len step)
 
-pub inward_smaller : (ws more : List Members) (w inner : Members) (old after : List (MemberKey × Tree)) (m : MemberKey × Tree) (c : Container)
-    → more ≡ ws ++ w ∷ [] → old ≡ m ∷ members_left w → m.1 ≡ tree_of_container c → after ≡ members (tree_of_container c)
-    → members_len after + (len_waiting more + length more) < members_len old + (len_waiting ws + length ws)
-inward_smaller ws more w inner old after m c f step e l =
-    omega (arith, ap len_waiting f, len_waiting-last ws w, ap (λ (l : List Members). length l) f, length-append ws (w ∷ []), ap members_len step, ap encoded_len e, ap members_len l, container_len c)
+pub inward_smaller : (ws : List Members) (w : Members) (old : List (MemberKey × Tree)) (m : MemberKey × Tree) (c : Container) → old ≡ m ∷ members_left w → m.1 ≡ tree_of_container c
+    → members_len (members (tree_of_container c)) + (len_waiting (ws ++ w ∷ []) + length (ws ++ w ∷ [])) < members_len old + (len_waiting ws + length ws)
+inward_smaller ws w old m c step e =
+    omega (arith, len_waiting-last ws w, length-append ws (w ∷ []), ap members_len step, ap encoded_len e, container_len c)
 
 pub outward_smaller : (n : ℕ) (ws less : List Members) (w : Members) → ws ≡ less ++ w ∷ [] → members_len (members_left w) + (len_waiting less + length less) < n + (len_waiting ws + length ws)
 outward_smaller n ws less w f =

@@ -1,5 +1,5 @@
 use Rattle.std.proofs.Common.{◌≡◌, ◌++◌, ◌∷◌, [], length, map, rules, refl, ap, arith}
-use Rattle.raw_tree.proofs.Common.{Tree, tree_of, encoded_len, begun_of, key_of, members_left, members_len, tree_of_container, Container, Payload, value_of}
+use Rattle.raw_tree.proofs.Common.{Tree, tree_of, encoded_len, begun_of, key_of, members_left, members_len, tree_of_container, Container, Payload}
 use Rattle.raw_tree.proofs.writer.Encodings.{length-shown}
 use Rattle.raw_tree.proofs.writer.WrittenMembers.{begun_at, begun_last, begins, container_holds, left_with, room_left, writing_begins, writing_inside, writing_ends, inward_smaller, outward_smaller}
 use Rattle.raw_tree.proofs.writer.write.Goals as goal
@@ -8,52 +8,26 @@ pub payloads-init : goal.payloads-init
 payloads-init c = grind (arith, begins, container_holds, writing_begins)
 
 pub end-requires-clause-room : goal.end-requires-clause-room
-end-requires-clause-room c =
-    let room = room_left _ _ _ _ c.payloads.invariant.writing in
-    omega (arith, room, c.payloads.out.ok.0, c.requires.room, c.payloads.invariant.capacity)
+end-requires-clause-room c = omega (arith, room_left _ _ _ _ c.payloads.invariant.writing)
 
 pub end-requires-clause-fits : goal.end-requires-clause-fits
-end-requires-clause-fits c =
-    let room = room_left _ _ _ _ c.payloads.invariant.writing in
-    omega (arith, room, c.payloads.out.ok.0, c.requires.fits)
+end-requires-clause-fits c = omega (arith, room_left _ _ _ _ c.payloads.invariant.writing)
 
 pub put_element-requires-clause-room : goal.put_element-requires-clause-room
-put_element-requires-clause-room c =
-    let room = room_left _ _ _ _ c.payloads.invariant.writing in
-    let here = length-shown (tree_of c.in-Some.value.now) (value_of c.in-Leaf.leaf) c.text-key.result.now c.in-Leaf.ensures in
-    omega (arith, room, here, ap members_len c.in-Some.ensures.step, ap length c.text-key.ensures, c.payloads.out.ok.0, c.requires.room, c.payloads.invariant.capacity)
+put_element-requires-clause-room c = grind (arith, room_left _ _ _ _ c.payloads.invariant.writing, length-shown)
 
 pub put_element-requires-clause-fits : goal.put_element-requires-clause-fits
-put_element-requires-clause-fits c =
-    let room = room_left _ _ _ _ c.payloads.invariant.writing in
-    let here = length-shown (tree_of c.in-Some.value.now) (value_of c.in-Leaf.leaf) c.text-key.result.now c.in-Leaf.ensures in
-    omega (arith, room, here, ap members_len c.in-Some.ensures.step, ap length c.text-key.ensures, c.requires.fits)
+put_element-requires-clause-fits c = grind (arith, room_left _ _ _ _ c.payloads.invariant.writing, length-shown)
 
 pub put_head-requires : goal.put_head-requires
-put_head-requires c =
-    let room = room_left _ _ _ _ c.payloads.invariant.writing in
-    omega (arith, room, ap members_len c.in-Some.ensures.step, ap length c.text-key.ensures, c.payloads.out.ok.0, c.requires.room, c.payloads.invariant.capacity)
+put_head-requires c = omega (arith, room_left _ _ _ _ c.payloads.invariant.writing, ap members_len c.in-Some.ensures.step, ap length c.text-key.ensures)
 
 pub start-payload-requires-in-Container-clause-room : goal.start-payload-requires-in-Container-clause-room
 start-payload-requires-in-Container-clause-room c =
-    let room = room_left _ _ _ _ c.payloads.invariant.writing in
-    omega (
-      arith,
-      room,
-      ap members_len c.in-Some.ensures.step,
-      ap length c.text-key.ensures,
-      ap encoded_len c.in-Container.ensures,
-      c.put_head.ensures.len,
-      c.put_head.ensures.capacity,
-      c.payloads.out.ok.0,
-      c.requires.room,
-      c.payloads.invariant.capacity,
-    )
+    omega (arith, room_left _ _ _ _ c.payloads.invariant.writing, ap members_len c.in-Some.ensures.step, ap length c.text-key.ensures, ap encoded_len c.in-Container.ensures)
 
 pub start-payload-requires-in-Container-clause-fits : goal.start-payload-requires-in-Container-clause-fits
-start-payload-requires-in-Container-clause-fits c =
-    let room = room_left _ _ _ _ c.payloads.invariant.writing in
-    omega (arith, room, ap members_len c.in-Some.ensures.step, ap encoded_len c.in-Container.ensures, c.requires.fits)
+start-payload-requires-in-Container-clause-fits c = omega (arith, room_left _ _ _ _ c.payloads.invariant.writing, ap members_len c.in-Some.ensures.step, ap encoded_len c.in-Container.ensures)
 
 pub payloads-smaller : goal.payloads-smaller
 payloads-smaller c =

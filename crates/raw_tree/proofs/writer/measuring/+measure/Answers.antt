@@ -1,5 +1,5 @@
-use Rattle.std.proofs.Common.{◌≡◌, ◌++◌, ◌∷◌, [], Some, Vec, Global, rules, refl, ap, ◌∙◌, arith}
-use Rattle.raw_tree.proofs.Common.{tree_of, value_of, Measures, key_of, members_left, members_len, tree_of_container, Members}
+use Rattle.std.proofs.Common.{◌≡◌, ◌++◌, ◌∷◌, [], Some, rules, refl, arith}
+use Rattle.raw_tree.proofs.Common.{MemberKey, Tree, tree_of, value_of, Measures, key_of, members_left, members_len, tree_of_container}
 use Rattle.raw_tree.proofs.writer.MeasuredMembers.{measuring_begins, measuring_member, measuring_inside, measuring_ends, leaf_measured, leaf_smaller, inward_smaller, outward_smaller}
 use Rattle.raw_tree.proofs.writer.measuring.+measure.Goals as goal
 use Rattle.raw_tree.proofs.writer.measuring.+measure.Goals.{in-Leaf+in_ok-len-in-Leaf, in-Container+then-is_ok, in-Container+else-is_ok+in_ok-len-in-Container}
@@ -17,56 +17,39 @@ members-preserved-in_default t c = grind (arith, measuring_ends)
 pub members-smaller : goal.members-smaller
 members-smaller t c =
     let ws = c.members.waiting.items in
-    let old = members_left c.members.members in
+    let m : MemberKey × Tree = (key_of c.in-Some.key, tree_of c.in-Some.value.now) in
+    let leaf = leaf_smaller ws (members_left c.members.members) (members_left c.next.new.self) m c.in-Some.ensures.step in
     elim c.match-show.branch [
-      | in-Leaf+in_ok-len-in-Leaf w ↦ (
-          let same : c.match-show.waiting.items ≡ ws = ap (λ (v : Vec Members Global). v.items) w.waiting-is in
-          leaf_smaller ws c.match-show.waiting.items old (members_left c.next.new.self) (members_left c.match-show.members)
-          (key_of c.in-Some.key, tree_of c.in-Some.value.now) same c.in-Some.ensures.step (ap members_left w.members-is))
+      | in-Leaf+in_ok-len-in-Leaf w ↦ rw (w.waiting-is, w.members-is) leaf
       | in-Container+then-is_ok w ↦ (
           let grown : w.push.new.self.items ≡ ws ++ c.next.new.self ∷ [] = search rules in
-          let more : c.match-show.waiting.items ≡ w.push.new.self.items = ap (λ (v : Vec Members Global). v.items) w.waiting-is in
-          inward_smaller ws c.match-show.waiting.items c.next.new.self c.match-show.members old (members_left c.match-show.members)
-          (key_of c.in-Some.key, tree_of c.in-Some.value.now) w.in-Container.inner (more ∙ grown) c.in-Some.ensures.step w.in-Container.ensures
-          (ap members_left w.members-is ∙ w.of-members-then-is_ok.ensures.all))
+          rw (w.waiting-is, w.members-is, grown, w.of-members-then-is_ok.ensures.all)
+          (inward_smaller ws c.next.new.self (members_left c.members.members) m w.in-Container.inner c.in-Some.ensures.step w.in-Container.ensures))
       | in-Container+else-is_ok+in_ok-len-in-Container w ↦ (
           let kept : w.push.new.self.items ≡ ws = search rules in
-          let same : c.match-show.waiting.items ≡ w.push.new.self.items = ap (λ (v : Vec Members Global). v.items) w.waiting-is in
-          leaf_smaller ws c.match-show.waiting.items old (members_left c.next.new.self) (members_left c.match-show.members)
-          (key_of c.in-Some.key, tree_of c.in-Some.value.now) (same ∙ kept) c.in-Some.ensures.step (ap members_left w.members-is))
+          rw (w.waiting-is, w.members-is, kept) leaf)
     ]
 
 pub members-preserved : goal.members-preserved
 members-preserved t c =
-    let tree = tree_of_container c.args.container in
     let ws = c.members.waiting.items in
-    let old = members_left c.members.members in
+    let m : MemberKey × Tree = (key_of c.in-Some.key, tree_of c.in-Some.value.now) in
     let a = c.saturating_add.ensures in let b = c.saturating_add-in-members.ensures in let d = c.saturating_add-total.ensures in
     let key = c.in_ok-key_len.ensures.some in
+    let member = measuring_member (tree_of_container c.args.container) ws m (members_left c.members.members) (members_left c.next.new.self) c.members.total c.members.invariant c.in-Some.ensures.step in
     elim c.match-show.branch [
       | in-Leaf+in_ok-len-in-Leaf w ↦ (
-          let same : c.match-show.waiting.items ≡ ws = ap (λ (v : Vec Members Global). v.items) w.waiting-is in
-          let measured : Measures (tree_of c.in-Some.value.now) (Some w.in_ok-len-in-Leaf.len) =
-          leaf_measured (tree_of c.in-Some.value.now) (value_of w.in-Leaf.leaf)
-          (Some w.in_ok-len-in-Leaf.len) w.in-Leaf.ensures w.in_ok-len-in-Leaf.ensures in
-          measuring_member tree ws (key_of c.in-Some.key, tree_of c.in-Some.value.now) old
-          (members_left c.next.new.self) c.members.total c.members.invariant c.in-Some.ensures.step c.match-show.waiting.items
-          (members_left c.match-show.members) w.in_ok-len-in-Leaf.len c.saturating_add-total.result same (ap members_left w.members-is) key.0 measured
-          (omega (arith, a, b, d, key.1, w.len-is)))
+          let measured = leaf_measured (tree_of c.in-Some.value.now) (value_of w.in-Leaf.leaf) (Some w.in_ok-len-in-Leaf.len) w.in-Leaf.ensures w.in_ok-len-in-Leaf.ensures in
+          rw (w.waiting-is, w.members-is) (member w.in_ok-len-in-Leaf.len c.saturating_add-total.result key.0 measured (omega (arith, a, b, d, key.1, w.len-is))))
       | in-Container+then-is_ok w ↦ (
           let grown : w.push.new.self.items ≡ ws ++ c.next.new.self ∷ [] = search rules in
-          let more : c.match-show.waiting.items ≡ w.push.new.self.items = ap (λ (v : Vec Members Global). v.items) w.waiting-is in
-          measuring_inside tree ws (key_of c.in-Some.key, tree_of c.in-Some.value.now) old
-          (members_left c.next.new.self) c.members.total c.members.invariant c.in-Some.ensures.step c.next.new.self c.match-show.waiting.items
-          (members_left c.match-show.members) w.in-Container.inner w.frame_len.result c.saturating_add-total.result (more ∙ grown)
-          (ap members_left w.members-is ∙ w.of-members-then-is_ok.ensures.all) refl w.in-Container.ensures key.0 w.frame_len.ensures
-          (omega (arith, a, b, d, key.1, w.len-is)))
+          rw (w.waiting-is, w.members-is, grown, w.of-members-then-is_ok.ensures.all)
+          (measuring_inside (tree_of_container c.args.container) ws m (members_left c.members.members) (members_left c.next.new.self) c.members.total c.members.invariant
+          c.in-Some.ensures.step c.next.new.self w.in-Container.inner w.frame_len.result c.saturating_add-total.result refl w.in-Container.ensures key.0 w.frame_len.ensures
+          (omega (arith, a, b, d, key.1, w.len-is))))
       | in-Container+else-is_ok+in_ok-len-in-Container w ↦ (
           let kept : w.push.new.self.items ≡ ws = search rules in
-          let same : c.match-show.waiting.items ≡ w.push.new.self.items = ap (λ (v : Vec Members Global). v.items) w.waiting-is in
           let measured : Measures (tree_of c.in-Some.value.now) (Some w.in_ok-len-in-Container.len) = rw w.in-Container.ensures w.in_ok-len-in-Container.ensures in
-          measuring_member tree ws (key_of c.in-Some.key, tree_of c.in-Some.value.now) old
-          (members_left c.next.new.self) c.members.total c.members.invariant c.in-Some.ensures.step c.match-show.waiting.items
-          (members_left c.match-show.members) w.in_ok-len-in-Container.len c.saturating_add-total.result (same ∙ kept) (ap members_left w.members-is) key.0 measured
-          (omega (arith, a, b, d, key.1, w.len-is)))
+          rw (w.waiting-is, w.members-is, kept)
+          (member w.in_ok-len-in-Container.len c.saturating_add-total.result key.0 measured (omega (arith, a, b, d, key.1, w.len-is))))
     ]
