@@ -36,7 +36,8 @@ members-preserved t c =
     let m : MemberKey × Tree = (key_of c.in-Some.key, tree_of c.in-Some.value.now) in
     let a = c.saturating_add.ensures in let b = c.saturating_add-in-members.ensures in let d = c.saturating_add-total.ensures in
     let key = c.in_ok-key_len.ensures.some in
-    let member = measuring_member (tree_of_container c.args.container) ws m (members_left c.members.members) (members_left c.next.new.self) c.members.total c.members.invariant c.in-Some.ensures.step in
+    let member = measuring_member (tree_of_container c.args.container) ws m (members_left c.members.members) (members_left c.next.new.self)
+    c.members.total c.members.invariant c.in-Some.ensures.step in
     elim c.match-show.branch [
       | in-Leaf+in_ok-len-in-Leaf w ↦ (
           let measured = leaf_measured (tree_of c.in-Some.value.now) (value_of w.in-Leaf.leaf) (Some w.in_ok-len-in-Leaf.len) w.in-Leaf.ensures w.in_ok-len-in-Leaf.ensures in
