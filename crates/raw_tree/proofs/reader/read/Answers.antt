@@ -23,14 +23,10 @@ returns-in_default-pop c =
     rw c.in_default-frame.ensures.counted (finished c.levels.invariant c.frame.new.elements c.in_default-frame.ensures.steps c.finish.result none c.finish.ensures.finished c.finish.ensures.err)
 
 pub returns-in_err-ended : goal.returns-in_err-ended
-returns-in_err-ended c =
-    let p = err_from_is_err_and c.from_residual.result c.from_residual.ensures.1 in
-    rw (p.1, p.2, c.in_default-frame.ensures.counted) (ran_out c.levels.invariant _ c.in_err-ended.ensures.err)
+returns-in_err-ended c = grind (arith, err_from_is_err_and c.from_residual.result c.from_residual.ensures.1, ran_out c.levels.invariant)
 
 pub returns-in_err-put : goal.returns-in_err-put
-returns-in_err-put c =
-    let p = err_from_is_err_and c.from_residual-in_err-put.result c.from_residual-in_err-put.ensures.1 in
-    rw (p.1, p.2, c.in_default-frame.ensures.counted) (ran_out c.levels.invariant _ c.in_err-put.ensures.err)
+returns-in_err-put c = grind (arith, err_from_is_err_and c.from_residual-in_err-put.result c.from_residual-in_err-put.ensures.1, ran_out c.levels.invariant)
 
 pub levels-smaller-in_default-frame : goal.levels-smaller-in_default-frame
 levels-smaller-in_default-frame c =
@@ -84,16 +80,14 @@ levels-smaller-in-Whole c = grind (arith, step_smaller, to_element)
 
 pub levels-preserved-in-Whole : goal.levels-preserved-in-Whole
 levels-preserved-in-Whole c =
-    let whole = subst (λ (o : Opened). Opens (value_of c.in_ok-value.value) o) c.in-Whole.is c.in_ok-opened.ensures.opened in
-    let put = rw c.key.ensures at c.in_ok-put-in-Whole.ensures.put in
-    put_whole (value_of c.in_ok-value.value) (tree_of c.in-Whole.whole) c.put-in-Whole.new.level (behind (goal.at.levels-preserved-in-Whole c).In_ok-value) whole put
+    let behind = behind (goal.at.levels-preserved-in-Whole c).In_ok-value in
+    grind (arith, put_whole (value_of c.in_ok-value.value) (tree_of c.in-Whole.whole) c.put-in-Whole.new.level behind)
 
 pub returns-then-len-most_waiting : goal.returns-then-len-most_waiting
 returns-then-len-most_waiting c =
     let inside = nested_inside (value_of c.in_ok-value.value) c.in_ok-opened.opened c.in-Nested.nested (behind (goal.at.returns-then-len-most_waiting c).In_ok-value)
     c.in_ok-opened.ensures.opened c.in-Nested.is in
-    let said = c.malformed-then-len-most_waiting.ensures in
-    too_deep_inside c.in-Nested.nested _ inside (omega (arith, c.len.ensures, c.levels.waiting.ok.0)) (said.kind, said.no_key)
+    grind (arith, too_deep_inside c.in-Nested.nested c.malformed-then-len-most_waiting.result inside)
 
 pub returns-in_err-push : goal.returns-in_err-push
 returns-in_err-push c =
