@@ -88,43 +88,43 @@ pub(crate) fn open<'a>(alloc: Global, value: RawBsonRef<'a>) -> Result<Opened<'a
     ensures err { IfErr result IsOutOfMemory }
 {
     match value {
-        RawBsonRef::Double(x) => Ok(Opened::Whole(Bson::Double(x))),
-        RawBsonRef::String(x) => Ok(Opened::Whole(Bson::String(String::from_str(alloc, x)?))),
-        RawBsonRef::Array(x) => Ok(Opened::Nested(Nested {
-            document: x.as_doc(),
+        RawBsonRef::Double(bits) => Ok(Opened::Whole(Bson::Double(bits))),
+        RawBsonRef::String(text) => Ok(Opened::Whole(Bson::String(String::from_str(alloc, text)?))),
+        RawBsonRef::Array(array) => Ok(Opened::Nested(Nested {
+            document: array.as_doc(),
             holder: Holder::Array,
         })),
-        RawBsonRef::Document(x) => Ok(Opened::Nested(Nested {
-            document: x,
+        RawBsonRef::Document(document) => Ok(Opened::Nested(Nested {
+            document,
             holder: Holder::Document,
         })),
-        RawBsonRef::Boolean(x) => Ok(Opened::Whole(Bson::Boolean(x))),
+        RawBsonRef::Boolean(value) => Ok(Opened::Whole(Bson::Boolean(value))),
         RawBsonRef::Null => Ok(Opened::Whole(Bson::Null)),
-        RawBsonRef::RegularExpression(x) => {
-            let regex = Regex::new(alloc, x.pattern, x.options)?;
+        RawBsonRef::RegularExpression(regex) => {
+            let regex = Regex::new(alloc, regex.pattern, regex.options)?;
             Ok(Opened::Whole(Bson::RegularExpression(regex)))
         }
-        RawBsonRef::JavaScriptCode(x) => {
-            let code = String::from_str(alloc, x)?;
+        RawBsonRef::JavaScriptCode(text) => {
+            let code = String::from_str(alloc, text)?;
             Ok(Opened::Whole(Bson::JavaScriptCode(code)))
         }
-        RawBsonRef::JavaScriptCodeWithScope(x) => Ok(Opened::Nested(Nested {
-            document: x.scope,
-            holder: Holder::Code(x.code),
+        RawBsonRef::JavaScriptCodeWithScope(code) => Ok(Opened::Nested(Nested {
+            document: code.scope,
+            holder: Holder::Code(code.code),
         })),
-        RawBsonRef::Int32(x) => Ok(Opened::Whole(Bson::Int32(x))),
-        RawBsonRef::Int64(x) => Ok(Opened::Whole(Bson::Int64(x))),
-        RawBsonRef::Timestamp(x) => Ok(Opened::Whole(Bson::Timestamp(x))),
-        RawBsonRef::Binary(x) => Ok(Opened::Whole(Bson::Binary(x.to_binary(alloc)?))),
-        RawBsonRef::ObjectId(x) => Ok(Opened::Whole(Bson::ObjectId(x))),
-        RawBsonRef::DateTime(x) => Ok(Opened::Whole(Bson::DateTime(x))),
-        RawBsonRef::Symbol(x) => Ok(Opened::Whole(Bson::Symbol(String::from_str(alloc, x)?))),
-        RawBsonRef::Decimal128(x) => Ok(Opened::Whole(Bson::Decimal128(x))),
+        RawBsonRef::Int32(number) => Ok(Opened::Whole(Bson::Int32(number))),
+        RawBsonRef::Int64(number) => Ok(Opened::Whole(Bson::Int64(number))),
+        RawBsonRef::Timestamp(time) => Ok(Opened::Whole(Bson::Timestamp(time))),
+        RawBsonRef::Binary(binary) => Ok(Opened::Whole(Bson::Binary(binary.to_binary(alloc)?))),
+        RawBsonRef::ObjectId(id) => Ok(Opened::Whole(Bson::ObjectId(id))),
+        RawBsonRef::DateTime(time) => Ok(Opened::Whole(Bson::DateTime(time))),
+        RawBsonRef::Symbol(text) => Ok(Opened::Whole(Bson::Symbol(String::from_str(alloc, text)?))),
+        RawBsonRef::Decimal128(number) => Ok(Opened::Whole(Bson::Decimal128(number))),
         RawBsonRef::Undefined => Ok(Opened::Whole(Bson::Undefined)),
         RawBsonRef::MaxKey => Ok(Opened::Whole(Bson::MaxKey)),
         RawBsonRef::MinKey => Ok(Opened::Whole(Bson::MinKey)),
-        RawBsonRef::DbPointer(x) => {
-            Ok(Opened::Whole(Bson::DbPointer(copied_pointer(alloc, x)?)))
+        RawBsonRef::DbPointer(pointer) => {
+            Ok(Opened::Whole(Bson::DbPointer(copied_pointer(alloc, pointer)?)))
         }
     }
 }
