@@ -4,7 +4,7 @@ use Rattle.std.proofs.Common.{◌≡◌, inl, inr, ◌<◌, ◌≤◌, ◌+◌, 
 use Rattle.raw_tree.proofs.Common.{sum_by_push, none-some, Tree, tree_of, Bson, Says, TellsMeaning, bytes_of, StepsElement, frame_of, IsOutOfMemory, Frame, Done, RawValue, KeyedFault, Meaning, Means}
 use Rattle.raw_tree.proofs.Common.{value, faulty, max_length, value_of, RawBsonRef, RawElement, Error, CountsIn, HasFrameCount, TellsFrames, sort_of, holding, tree_of_contents, AreDrafted, IsOneMore}
 use Rattle.raw_tree.proofs.Common.{IsUnread, HoldsNone, Opens, Finishes, Ends, TellsReading, counted, fault_of, too_deep, FirstFaultWithin, SaysBarrier, tree_of_pairs, StandsFor, ReadsUpTo, ReadsAs}
-use Rattle.raw_tree.proofs.Common.{FirstFault, Contents, Holder, Level, Nested, Opened, Waiting}
+use Rattle.raw_tree.proofs.Common.{FirstFault, Contents, Holder, Level, Nested, Opened, Waiting, left_of}
 use Rattle.raw_view.proofs.Face.{LeadsTo-walk, IsFrame-shorter}
 use Rattle.raw_tree.specs.declared.reader.levels.Opened.TheVariants as opened
 use Rattle.raw_tree.proofs.reader.Decides.{IsCountedFrom, counted_until, counted_from, counted_from_frame}
@@ -255,11 +255,6 @@ no_more n [] new l e f = refl
 no_more n (w ∷ ws) new l e f = absurd (omega (arith, l, ap length e, ap length f, length-append new [], length-take (n - 1) (w ∷ ws)))
 
 -- what is left
-
--- how many bytes are left of a level
-abbrev pub left_of : Option (List ℕ) → ℕ
-left_of None = 0
-left_of (Some s) = length s
 
 -- of the levels that wait, and how many they are
 abbrev pub left_in : List Waiting → ℕ

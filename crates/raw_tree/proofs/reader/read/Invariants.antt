@@ -1,5 +1,6 @@
 use Rattle.std.proofs.Common.{◌+◌}
-use Rattle.raw_tree.proofs.reader.LevelSteps.{AreReading, left_of, left_in}
+use Rattle.raw_tree.proofs.Common.{left_of}
+use Rattle.raw_tree.proofs.reader.LevelSteps.{AreReading, left_in}
 use Rattle.raw_tree.proofs.reader.read.Given as goal
 
 -- the innermost level reads on, the others wait for it, and what they have passed is counted
