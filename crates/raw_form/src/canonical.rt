@@ -15,7 +15,7 @@ use crate::barrier::{Barrier, BarrierKind};
 use crate::faults::{FIRST, Start, first_behind};
 use crate::rewriting::rewrite;
 use crate::verdict::judge_to_depth;
-use raw_tree::Limits;
+use raw_tree::{Cause, Limits};
 use raw_view::{Error, RawDocument, Reason, Result};
 use std::alloc::Global;
 
@@ -46,6 +46,7 @@ fn start_of(alloc: Global, document: RawDocument<'_>, depth: usize) -> Result<Op
     Ok(Some(Start {
         number: path[0].number,
         offset: found.place.offset,
+        repeats: matches!(found.cause, Some(Cause::RepeatedKey)),
     }))
 }
 
@@ -65,7 +66,7 @@ fn form_within(alloc: Global, document: RawDocument<'_>, limits: Limits) -> Resu
     if let Some(barrier) = first_behind(alloc, document, start, limits.depth)? {
         return Err(error_of(alloc, barrier));
     }
-    rewrite(alloc, document)
+    rewrite(alloc, document, start.repeats)
 }
 
 /// The canonical form of a document within limits: the bytes that its tree is written as. Documents with equal trees, and

@@ -23,12 +23,15 @@ pub(crate) struct Start {
     pub(crate) number: usize,
     /// where it is, counted from the document's first byte
     pub(crate) offset: usize,
+    /// whether its key is known to be repeated
+    pub(crate) repeats: bool,
 }
 
 /// The first element.
 pub(crate) const FIRST: Start = Start {
     number: 0,
     offset: 4,
+    repeats: false,
 };
 
 /// The first barrier within a depth, depth first in byte order, where none is before this start. A level that is too deep

@@ -43,6 +43,7 @@ pub(crate) fn level_in(value: RawBsonRef<'_>) -> Option<Held<'_>>
 }
 
 /// Makes room for so many bytes more, where that is no more than a document may have.
+#[inline(always)]
 fn make_room(out: &mut Vec<u8>, added: usize) -> Result<()>
     ensures items { out.new.items ≡ out.old.items }
     ensures len { vec_len out.new ≡ vec_len out.old }

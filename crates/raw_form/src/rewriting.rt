@@ -14,8 +14,9 @@ use raw_view::{Error, RawDocument, Result};
 use std::alloc::Global;
 use std::mem;
 
-/// The encoding of the tree of a document that has one. The error is out of memory, or that the encoding is too long.
-pub(crate) fn rewrite(alloc: Global, document: RawDocument<'_>) -> Result<Vec<u8>>
+/// The encoding of the tree of a document that has one, in which a key is known to be repeated or isn't. The error is out of
+/// memory, or that the encoding is too long.
+pub(crate) fn rewrite(alloc: Global, document: RawDocument<'_>, repeats: bool) -> Result<Vec<u8>>
     requires { (t : Tree) × Reads (bytes_of document) t }
     ensures form { IfOk result (λ form. IsFormOf (bytes_of document.entry) form.items) }
     ensures err { IfErr result (RefusesFormOf (bytes_of document.entry)) }
@@ -25,7 +26,7 @@ pub(crate) fn rewrite(alloc: Global, document: RawDocument<'_>) -> Result<Vec<u8
     whole.put_opening(&mut out)?;
     let mut listed = Vec::new(alloc);
     let mut waiting: Vec<Rewritten<'_>> = Vec::new(alloc);
-    let mut level = Rewritten::new(alloc, whole, 0, &mut listed)?;
+    let mut level = Rewritten::new(alloc, whole, 0, &mut listed, repeats)?;
     'levels: loop {
         let Some(member) = level.next() else {
             put_end(&mut out, level.start, &level.code_len)?;
@@ -51,7 +52,7 @@ pub(crate) fn rewrite(alloc: Global, document: RawDocument<'_>) -> Result<Vec<u8
         inner.put_head(&mut out, key)?;
         let start = out.len() as u32;
         inner.put_opening(&mut out)?;
-        let inner = Rewritten::new(alloc, inner, start, &mut listed)?;
+        let inner = Rewritten::new(alloc, inner, start, &mut listed, false)?;
         let outer = mem::replace(&mut level, inner);
         if waiting.push(outer).is_err() {
             return Err(Error::out_of_memory());

@@ -65,18 +65,20 @@ impl<'a> Member<'a> {
     }
 }
 
-/// Which elements of a document stay that can be read as a tree. The only error is out of memory.
+/// Which elements of a document stay that can be read as a tree, and in which a key is known to be repeated or isn't. The
+/// only error is out of memory.
 fn keys_of<'a>(
     alloc: Global,
     document: RawDocument<'a>,
     listed: &mut Vec<&'a str>,
+    repeats: bool,
 ) -> Result<Keys<'a>>
     ensures left { (t : Tree)
         → ReadsAs as_document (bytes_of document.entry) t
         → IfOk result (λ keys. IsLeft keys (Some (drop 4 (bytes_of document.entry))) (members t)) }
     ensures err { IfErr result IsOutOfMemory }
 {
-    let Some(places) = places_of(alloc, document, listed)? else {
+    let Some(places) = places_of(alloc, document, listed, repeats)? else {
         return Ok(Keys::Distinct);
     };
     let last = LastPlaces {
@@ -109,12 +111,13 @@ fn level<'a>(
 
 impl<'a> Rewritten<'a> {
     /// The level that a value holds, which can be read as a tree, where its payload starts there. Its opening fits into a
-    /// document. The only error is out of memory. The list is used to see which keys are repeated.
+    /// document. The only error is out of memory. The list is used to see which keys are repeated, unless one is known to be.
     pub(crate) fn new(
         alloc: Global,
         held: Held<'a>,
         start: u32,
         listed: &mut Vec<&'a str>,
+        repeats: bool,
     ) -> Result<Rewritten<'a>>
         requires { length (held_opening held) ≤ max_length }
         ensures left { (t : Tree)
@@ -126,12 +129,12 @@ impl<'a> Rewritten<'a> {
     {
         match held {
             Held::Document(document) => {
-                let keys = keys_of(alloc, document, listed)?;
+                let keys = keys_of(alloc, document, listed, repeats)?;
                 Ok(level(document, keys, start, CodeLen::none()))
             }
             Held::Array(document) => Ok(level(document, Keys::Numbers(0), start, CodeLen::none())),
             Held::Code(code, document) => {
-                let keys = keys_of(alloc, document, listed)?;
+                let keys = keys_of(alloc, document, listed, repeats)?;
                 let code_len = CodeLen::of(code.len() as u32);
                 Ok(level(document, keys, start, code_len))
             }
