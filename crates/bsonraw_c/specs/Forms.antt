@@ -15,15 +15,15 @@ use Rattle.bsonraw_c.specs.declared.codes.Status.TheVariants as status
 use Rattle.bsonraw_c.specs.declared.report.Report.{Report}
 
 -- the room has these items in front, and behind them what stood there; where they don't fit, it is as it was
-abbrev pub Fills : {X : Type 0} → List X → List X → List X → Type 0
-Fills items before after =
+abbrev pub FillsRoom : {X : Type 0} → List X → List X → List X → Type 0
+FillsRoom items before after =
     ((length items ≤ length before) × (after ≡ items ++ drop (length items) before))
     ⊎ ((length before < length items) × (after ≡ before))
 
 -- The form of a document of so many bytes is in the room; or the room is too small for it, and as it was. How many bytes the
 -- form has is counted.
 pub record PutsForm (end : ℕ) (form before after : List ℕ) (report : Report) (s : Status) : Type 0 where
-  pub filled : Fills form before after
+  pub filled : FillsRoom form before after
   pub report_is : report ≡ record (no_report end) { count = length form }
   pub status_is : Fits (length form) (length before) s
 

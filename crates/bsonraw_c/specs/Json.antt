@@ -11,7 +11,7 @@ use Rattle.raw_bson.specs.Envelope.{IsEnvelope}
 use Rattle.raw_bson.specs.Limits.{Limits}
 use Rattle.raw_bson.specs.Tree.{Tree}
 use Rattle.raw_bson.specs.WithinLimits.{ReadsWithin}
-use Rattle.bsonraw_c.specs.Forms.{Fills}
+use Rattle.bsonraw_c.specs.Forms.{FillsRoom}
 use Rattle.bsonraw_c.specs.Iters.{Returns}
 use Rattle.bsonraw_c.specs.Reports.{Fits, ReportsBarrier, ReportsRefusal, RunsOut, no_report}
 use Rattle.bsonraw_c.specs.declared.codes.Status.{Status}
@@ -32,7 +32,7 @@ style_of canonical indented = record { format = format_of canonical; layout = la
 -- The text with a 0 behind it is in the room; or the room is too small for both, and as it was. How many bytes the text has
 -- without the 0 is counted.
 pub record PutsJson (end : ℕ) (text before after : List ℕ) (report : Report) (s : Status) : Type 0 where
-  pub filled : Fills (text ++ (0 ∷ [])) before after
+  pub filled : FillsRoom (text ++ (0 ∷ [])) before after
   pub report_is : report ≡ record (no_report end) { count = length text }
   pub status_is : Fits (suc (length text)) (length before) s
 

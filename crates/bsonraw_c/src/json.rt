@@ -1,5 +1,5 @@
 ghost use Rattle.std.specs.Prelude.{◌≡◌, length};
-ghost use Rattle.bsonraw_c.specs.Forms.{Fills};
+ghost use Rattle.bsonraw_c.specs.Forms.{FillsRoom};
 ghost use Rattle.bsonraw_c.specs.Json.{JsonBytes, JsonIn, style_of};
 ghost use Rattle.bsonraw_c.specs.Reports.{Fits, no_report};
 ghost use Rattle.raw_bson.specs.Document.{bytes_of};
@@ -93,7 +93,7 @@ fn json_in(
 
 /// Puts a text of so many bytes and the 0 behind it into the room, of a document of so many bytes.
 fn put_text(end: usize, count: usize, ended: &[u8], room: &mut [u8], report: &mut Report) -> Status
-    ensures filled { Fills ended.now room.old room.new }
+    ensures filled { FillsRoom ended.now room.old room.new }
     ensures report { report.new ≡ record (no_report end) { count = count } }
     ensures status { Fits (length ended.now) (length room.old) result }
 {

@@ -1,12 +1,12 @@
 ghost use Rattle.std.specs.Prelude.{IsTrue, ◌↔◌, ◌≤◌, ◌<◌, ◌+◌, length, IfSome, IfNone};
-ghost use Rattle.bsonraw_c.specs.Forms.{Fills};
+ghost use Rattle.bsonraw_c.specs.Forms.{FillsRoom};
 ghost use Rattle.bsonraw_c.specs.Places.{StandsAt};
 
 /// Puts these items at the front of the caller's room and leaves what is behind them; where they don't fit, it leaves
 /// all of it. Whether they fit.
 pub fn put<T: Copy>(room: &mut [T], items: &[T]) -> bool
     ensures fits { IsTrue result ↔ (length items.now ≤ length room.old) }
-    ensures filled { Fills items.now room.old room.new }
+    ensures filled { FillsRoom items.now room.old room.new }
 {
     if room.len() < items.len() {
         return false;

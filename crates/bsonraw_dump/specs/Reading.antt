@@ -14,7 +14,7 @@ ReadsSome old new = (s : List ℕ) × Consumes old new s
 
 -- With the known bytes of a reader before and after, and the buffer's: it was filled from the end of the front on to here,
 -- and is full enough, or the input is at its end. Whoever had read the front has read as far as here.
-pub record Fills (old new : Option (List ℕ)) (front enough : ℕ) (buffer filled : List ℕ) (at : ℕ) : Type 0 where
+pub record FillsBuffer (old new : Option (List ℕ)) (front enough : ℕ) (buffer filled : List ℕ) (at : ℕ) : Type 0 where
   pub len : length filled ≡ length buffer
   pub behind : front ≤ at
   pub within : at ≤ length filled

@@ -4,7 +4,7 @@
 ghost use Rattle.std.specs.Prelude.{◌≡◌, ◌+◌, ◌≤◌, ◌<◌, ◌^◌, ◌⊎◌, ℕ, List, MatchBool, Option, [], true, drop, length, take, IfErr, IfOk, OnOk};
 ghost use Rattle.std.specs.Io.KnownBytes.{IsAtEnd};
 ghost use Rattle.bsonraw_dump.specs.Cut.{most, said_len, IsSoundLength};
-ghost use Rattle.bsonraw_dump.specs.Reading.{Fills, FillsSome, IsNext, IsWindow, LooksSome, SeesAhead, TellsNext, ahead_of};
+ghost use Rattle.bsonraw_dump.specs.Reading.{FillsBuffer, FillsSome, IsNext, IsWindow, LooksSome, SeesAhead, TellsNext, ahead_of};
 ghost use Rattle.bsonraw_dump.specs.Run.{IsReading};
 
 use crate::ending::Ending;
@@ -137,7 +137,7 @@ fn fill<R: Read>(
     enough: usize,
 ) -> io::Result<usize>
     requires { (front ≤ length buffer.old) × (enough ≤ length buffer.old) }
-    ensures read { IfOk result (Fills (R.remaining reader.old) (R.remaining reader.new) front enough buffer.old buffer.new) }
+    ensures read { IfOk result (FillsBuffer (R.remaining reader.old) (R.remaining reader.new) front enough buffer.old buffer.new) }
     ensures some { IfErr result (λ _. FillsSome (R.remaining reader.old) (R.remaining reader.new) front buffer.old) }
 {
     let mut at = front;
