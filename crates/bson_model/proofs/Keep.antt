@@ -15,7 +15,7 @@ same_key k l h = (bytes_eq-Decides k l).0 h
 itself : (k : Key) → bytes_eq k k ≡ true
 itself k = (bytes_eq-Decides k k).1 refl
 
-flipped : (k l : Key) → bytes_eq k l ≡ false → bytes_eq l k ≡ false
+pub flipped : (k l : Key) → bytes_eq k l ≡ false → bytes_eq l k ≡ false
 flipped k l h =
     elim (bytes_eq l k) as (λ b. bytes_eq l k ≡ b → b ≡ false) [
       | true ↦ λ e. let at : k ≡ l = sym (same_key l k e) in let yes : bytes_eq k l ≡ true = (bytes_eq-Decides k l).1 at in cc
@@ -103,26 +103,28 @@ value_at-with_pair {T} q k v (p ∷ ps) =
           ∙ kept (bytes_eq q p.0) (bytes_eq q k) (Some v) (Some p.1) (value_at q ps) (λ h. ap (λ m. bytes_eq m k) (same_key q p.0 h) ∙ flipped k p.0 e)
     ] refl
 
-none_before : (l k : Key) (ms : List Key) → AllByRecursion (λ y. bytes_eq l y ≡ false) ms → bytes_eq l k ≡ false → AllByRecursion (λ y. bytes_eq l y ≡ false) (ms ++ k ∷ [])
-none_before l k [] h e = (e, tt)
-none_before l k (m ∷ ms) h e = (h.0, none_before l k ms h.1 e)
+none_before : {K : Type 0} (f : K → Key) (l k : K) (ms : List K) → AllByRecursion (λ y. bytes_eq (f l) (f y) ≡ false) ms → bytes_eq (f l) (f k) ≡ false
+    → AllByRecursion (λ y. bytes_eq (f l) (f y) ≡ false) (ms ++ k ∷ [])
+none_before f l k [] h e = (e, tt)
+none_before f l k (m ∷ ms) h e = (h.0, none_before f l k ms h.1 e)
 
 both_false : (a b : Bool) → (a || b) ≡ false → (a ≡ false) × (b ≡ false)
 both_false true b e = cc
 both_false false b e = (refl, e)
 
-distinct_last : (k : Key) (ms : List Key) → IsDistinct bytes_eq ms → list_any (bytes_eq k) ms ≡ false → IsDistinct bytes_eq (ms ++ k ∷ [])
+pub distinct_last : {K : Type 0} (f : K → Key) (k : K) (ms : List K) → IsDistinct (λ k l. bytes_eq (f k) (f l)) ms → list_any (λ m. bytes_eq (f k) (f m)) ms ≡ false
+    → IsDistinct (λ k l. bytes_eq (f k) (f l)) (ms ++ k ∷ [])
 unfolding IsDistinct
-distinct_last k [] h e = (tt, tt)
-distinct_last k (m ∷ ms) h e =
-    let parts = both_false (bytes_eq k m) (list_any (bytes_eq k) ms) e in
-    (none_before m k ms h.0 (flipped k m parts.0), distinct_last k ms h.1 parts.1)
+distinct_last f k [] h e = (tt, tt)
+distinct_last f k (m ∷ ms) h e =
+    let parts = both_false (bytes_eq (f k) (f m)) (list_any (λ m. bytes_eq (f k) (f m)) ms) e in
+    (none_before f m k ms h.0 (flipped (f k) (f m) parts.0), distinct_last f k ms h.1 parts.1)
 
 distinct_add_key : (k : Key) (ks : List Key) → IsDistinct bytes_eq ks → IsDistinct bytes_eq (add_key k ks)
 distinct_add_key k ks h =
     elim (list_any (bytes_eq k) ks) as (λ b. list_any (bytes_eq k) ks ≡ b → IsDistinct bytes_eq (cond b ks (ks ++ k ∷ []))) [
       | true ↦ λ e. h
-      | false ↦ λ e. distinct_last k ks h e
+      | false ↦ λ e. distinct_last (λ l. l) k ks h e
     ] refl
 
 -- keys stay distinct

@@ -10,6 +10,7 @@ pub mod SubtypeEquality
 pub mod Subtypes
 pub mod Trees
 pub mod Measures
+pub mod Places
 pub mod Variants
 pub mod WellFormed
 pub mod Zips

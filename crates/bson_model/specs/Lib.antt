@@ -1,6 +1,7 @@
 pub mod Bytes
 pub mod LeftTrees
 pub mod Leaf
+pub mod Keys
 pub mod Options
 pub mod Pairs
 pub mod Proper

@@ -5,6 +5,7 @@ mod binaries;
 mod bson;
 mod drops;
 mod errors;
+mod keys;
 pub mod laws;
 mod numbers;
 mod object_id;

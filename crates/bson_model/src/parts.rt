@@ -7,10 +7,10 @@ ghost use Rattle.bson_model.specs.Pairs.{keep, keys_of, value_at, with_pair, Has
 ghost use Rattle.std.specs.List.{zip};
 ghost use Rattle.std.specs.Str.{IsUtf8};
 ghost use Rattle.std.specs.Vec.{vec_capacity, vec_len};
-ghost use Rattle.indexmap.specs.IndexSet.{contains_text};
+ghost use Rattle.bson_model.specs.Keys.{is_among};
 
 use crate::errors::NoMemory;
-use indexmap::IndexSet;
+use crate::keys::Keys;
 use std::alloc::Global;
 use std::marker::Model;
 use std::{fmt, mem};
@@ -18,7 +18,7 @@ use std::{fmt, mem};
 /// The keys in the order in which they came, no key twice, and beside them the values.
 #[derive(Drop)]
 pub struct Parts<T> {
-    keys: IndexSet<String>,
+    keys: Keys,
     values: Vec<T>,
 }
 
@@ -29,9 +29,9 @@ impl<T> Model for Parts<T> {
 
     ghost Value = { List (List ℕ × T) };
 
-    ghost view = { λ a. zip (map string_bytes a.keys.keys) a.values.items };
+    ghost view = { λ a. zip (map string_bytes a.keys) a.values.items };
 
-    ghost invariant = { λ a. length a.values.items ≡ length a.keys.keys };
+    ghost invariant = { λ a. length a.values.items ≡ length a.keys };
 }
 
 impl<T> Parts<T> {
@@ -40,13 +40,13 @@ impl<T> Parts<T> {
         ensures { result ≡ [] }
     {
         Parts {
-            keys: IndexSet::new(alloc),
+            keys: Keys::new(alloc),
             values: Vec::new(alloc),
         }
     }
 
-    /// The pairs of these keys and values. Where no key is there twice, the set has its exact size, and the values
-    /// keep the room that they are in.
+    /// The pairs of these keys and values. Where no key is there twice, the keys have room for themselves alone, and
+    /// the values keep the room that they are in.
     pub fn from_columns(alloc: Global, keys: &[&str], values: Vec<T>) -> Result<Parts<T>, NoMemory>
     where
         T: Drop,
@@ -55,14 +55,17 @@ impl<T> Parts<T> {
         if keys.len() != values.len() {
             return Parts::from_repeated(alloc, keys, values);
         }
-        let mut set = IndexSet::with_capacity(alloc, keys.len())?;
+        let mut distinct = Keys::with_capacity(alloc, keys.len())?;
         for key in keys {
-            let is_new = set.insert(String::from_str(alloc, key)?)?;
+            let (_, is_new) = distinct.insert(String::from_str(alloc, key)?)?;
             if !is_new {
                 return Parts::from_repeated(alloc, keys, values);
             }
         }
-        Ok(Parts { keys: set, values })
+        Ok(Parts {
+            keys: distinct,
+            values,
+        })
     }
 
     /// The same, pair by pair.
@@ -89,14 +92,14 @@ impl<T> Parts<T> {
         ensures distinct { HasDistinctKeys self.now }
         ensures texts { All IsUtf8 (keys_of self.now) }
     {
-        self.keys.len()
+        self.keys.as_slice().len()
     }
 
     /// The value of a key.
     pub fn get(&self, key: &str) -> Option<&T>
         ensures { option_copied result ≡ value_at key.now self.now }
     {
-        let index = self.keys.get_index_of(key)?;
+        let index = self.keys.index_of(key)?;
         self.values.get(index)
     }
 
@@ -109,7 +112,7 @@ impl<T> Parts<T> {
         if index >= self.values.len() {
             return None;
         }
-        let Some(key) = self.keys.get_index(index) else {
+        let Some(key) = self.keys.as_slice().get(index) else {
             unreachable!()
         };
         Some((key.as_str(), &self.values[index]))
@@ -127,7 +130,7 @@ impl<T> Parts<T> {
         ensures err { OnErr result (self.new ≡ self.old) }
     {
         make_room(&self.keys, &mut self.values, key.as_str())?;
-        let (index, is_new) = self.keys.insert_full(key)?;
+        let (index, is_new) = self.keys.insert(key)?;
         if is_new {
             self.values.push_reserved(value);
             return Ok(None);
@@ -160,11 +163,11 @@ impl<T> Parts<T> {
 
 /// Makes room for one more value, unless there is room or the key is there. The key is looked up only
 /// where there is no room.
-fn make_room<T>(keys: &IndexSet<String>, values: &mut Vec<T>, key: &str) -> Result<(), NoMemory>
+fn make_room<T>(keys: &Keys, values: &mut Vec<T>, key: &str) -> Result<(), NoMemory>
     ensures items { values.new.items ≡ values.old.items }
-    ensures room { OnOk result (contains_text keys.now key.now ≡ false
+    ensures room { OnOk result (is_among key.now keys.now ≡ false
         → vec_len values.new < vec_capacity values.new) }
-    ensures err { OnErr result (contains_text keys.now key.now ≡ false) }
+    ensures err { OnErr result (is_among key.now keys.now ≡ false) }
 {
     let is_full = values.len() == values.capacity();
     if is_full && !keys.contains(key) {
@@ -176,7 +179,7 @@ fn make_room<T>(keys: &IndexSet<String>, values: &mut Vec<T>, key: &str) -> Resu
 impl<T: fmt::Debug> fmt::Debug for Parts<T> {
     fn fmt<W: fmt::Write>(&self, f: &mut fmt::Formatter<W>) -> fmt::Result {
         let mut map = f.debug_map();
-        for (key, value) in self.keys.iter().zip(self.values.iter()) {
+        for (key, value) in self.keys.as_slice().iter().zip(self.values.iter()) {
             map.entry(key, value);
         }
         map.finish()
@@ -185,8 +188,8 @@ impl<T: fmt::Debug> fmt::Debug for Parts<T> {
 
 /// Whether the keys are the same in the same order. It is kept apart, so that a comparison takes less stack for a level.
 #[inline(never)]
-fn have_same_keys(left: &IndexSet<String>, right: &IndexSet<String>) -> bool
-    ensures { result ≡ pointwise (pointwise nat_eq) (map string_bytes left.now.keys) (map string_bytes right.now.keys) }
+fn have_same_keys(left: &Keys, right: &Keys) -> bool
+    ensures { result ≡ pointwise (pointwise nat_eq) (map string_bytes left.now) (map string_bytes right.now) }
 {
     left.as_slice() == right.as_slice()
 }

@@ -5,6 +5,8 @@
 #[cfg(test)]
 mod depth;
 #[cfg(test)]
+mod keys;
+#[cfg(test)]
 mod leaves;
 #[cfg(test)]
 mod memory;

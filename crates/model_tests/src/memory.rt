@@ -4,7 +4,7 @@ use bson_model::{Bson, Document, NoMemory, Regex};
 use std::alloc::Global;
 use std::process::Abort;
 
-/// So many pairs that the keys and the values ask for memory more than once.
+/// So many pairs that the keys and the values ask for memory more than once, and that the keys are put into a set.
 const PAIRS: &[(&str, i32)] = &[
     ("a", 1),
     ("b", 2),
@@ -15,7 +15,19 @@ const PAIRS: &[(&str, i32)] = &[
     ("g", 7),
     ("h", 8),
     ("i", 9),
+    ("j", 10),
+    ("k", 11),
+    ("l", 12),
+    ("m", 13),
+    ("n", 14),
+    ("o", 15),
+    ("p", 16),
+    ("q", 17),
+    ("r", 18),
 ];
+
+/// So many that one more key is put into a set with those before it.
+const FEW: usize = 16;
 
 /// Whether this pair is at this place, and is what is found by its key.
 fn is_pair(document: &Document, index: usize, key: &str, value: &Bson) -> bool {
@@ -48,9 +60,9 @@ fn is_inserted(alloc: Global, document: &mut Document, key: &str, number: i32) -
     }
 }
 
-/// Inserts the pairs. A refused insert leaves the document as it was, and goes well when it is made again.
-fn insert_pairs(rt: &impl Abort, alloc: Global, document: &mut Document) {
-    for (before, (key, number)) in PAIRS.iter().enumerate() {
+/// Inserts the first so many pairs. A refused insert leaves the document as it was, and goes well when it is made again.
+fn insert_pairs(rt: &impl Abort, alloc: Global, document: &mut Document, count: usize) {
+    for (before, (key, number)) in PAIRS.iter().take(count).enumerate() {
         if !is_inserted(alloc, document, key, *number) {
             assert!(rt; has_pairs(document, before), "{key}");
             assert!(rt; is_inserted(alloc, document, key, *number), "{key}");
@@ -62,7 +74,7 @@ fn insert_pairs(rt: &impl Abort, alloc: Global, document: &mut Document) {
 #[test]
 fn insert_of_a_new_key_or_want_of_memory(rt: HostRuntime) {
     let mut document = Document::new(rt.alloc());
-    insert_pairs(&rt, rt.alloc(), &mut document);
+    insert_pairs(&rt, rt.alloc(), &mut document, PAIRS.len());
 }
 
 /// Whether a null takes the place of the number under this key.
@@ -73,18 +85,24 @@ fn is_replaced(document: &mut Document, key: String, number: i32) -> bool {
     }
 }
 
-/// The insert itself takes no memory, so that none can be refused to it.
-#[test]
-fn insert_of_a_key_that_is_there_or_want_of_memory(rt: HostRuntime) {
-    let mut document = Document::new(rt.alloc());
-    insert_pairs(&rt, rt.alloc(), &mut document);
-    for (index, (key, number)) in PAIRS.iter().enumerate() {
-        if let Ok(text) = String::from_str(rt.alloc(), key) {
+/// Inserts the first so many pairs, and then each key a second time. These inserts take no memory, so that none can be
+/// refused to them.
+fn insert_again(rt: &impl Abort, alloc: Global, count: usize) {
+    let mut document = Document::new(alloc);
+    insert_pairs(rt, alloc, &mut document, count);
+    for (index, (key, number)) in PAIRS.iter().take(count).enumerate() {
+        if let Ok(text) = String::from_str(alloc, key) {
             assert!(rt; is_replaced(&mut document, text, *number), "{key}");
             assert!(rt; is_pair(&document, index, key, &Bson::Null), "{key}");
         }
     }
-    assert_eq!(rt; document.len(), PAIRS.len());
+    assert_eq!(rt; document.len(), count);
+}
+
+#[test]
+fn insert_of_a_key_that_is_there_or_want_of_memory(rt: HostRuntime) {
+    insert_again(&rt, rt.alloc(), FEW);
+    insert_again(&rt, rt.alloc(), PAIRS.len());
 }
 
 fn is_regex(answer: Result<Regex, NoMemory>, pattern: &str, options: &str) -> bool {

@@ -5,4 +5,4 @@ use Rattle.std.specs.String.{string_bytes}
 use Rattle.bson_model.proofs.parts.have_same_keys.Goals as goal
 
 pub returns : goal.returns
-returns c = rw (← c.as_slice.ensures.keys, ← c.as_slice-2.ensures.keys) c.eq.ensures ∙ sym (pointwise-map string_bytes (pointwise nat_eq) c.args.left.now.keys c.args.right.now.keys)
+returns c = rw (← c.as_slice.ensures.texts, ← c.as_slice-2.ensures.texts) c.eq.ensures ∙ sym (pointwise-map string_bytes (pointwise nat_eq) c.args.left.now c.args.right.now)

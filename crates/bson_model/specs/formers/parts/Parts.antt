@@ -26,16 +26,13 @@ use Rattle.std.specs.formers.vec.Vec as vec
 use Rattle.std.specs.declared.alloc.Global.{Global}
 use Rattle.std.specs.contracts.alloc.Global as heap
 use Rattle.std.specs.contracts.impls.GlobalAllocator.TheImpl.{ghosts}
-use Rattle.std.specs.declared.hash.FoldHasher.{FoldHasher}
-use Rattle.std.specs.declared.hash.BuildHasherDefault.{BuildHasherDefault}
-use Rattle.indexmap.specs.IndexSet.{IndexSet}
 use Rattle.bson_model.specs.declared.parts.Parts.TheInside.{Inside}
 use Rattle.bson_model.specs.declared.parts.Parts.TheView.{view, invariant}
 use Rattle.bson_model.specs.contracts.parts.Parts as C
 use Rattle.bson_model.specs.contracts.parts.Parts.TheInside as I
 
 abbrev Keys : Type 0
-Keys = IndexSet (String Global) (BuildHasherDefault FoldHasher)
+Keys = List (String Global)
 
 abbrev entry : Former {0} → Former {0}
 entry g = pair (const (List ℕ)) g
@@ -90,10 +87,10 @@ zip-held X (k ∷ ks) (v ∷ vs) e = λ i. (one_more (zip-held X ks vs (omega ar
 module _ (R S : RattleType) (h : R.Denot → S.Denot) where
   pub the_places : Alike R S h → Alike (C.the_row R) (C.the_row S) ((the_former this).map R.Denot S.Denot h)
   the_places a = view_places_where fields (the_former this) view
-      (λ X Y k u. zip-map k (map string_bytes u.keys.keys) u.values.items)
-      (λ X u. length u.values.items ≡ length u.keys.keys)
+      (λ X Y k u. zip-map k (map string_bytes u.keys) u.values.items)
+      (λ X u. length u.values.items ≡ length u.keys)
       (λ X Y k u e. sym (length-map u.values.items k) ∙ e)
-      (λ X u e. zip-held X (map string_bytes u.keys.keys) u.values.items (length-map u.keys.keys string_bytes ∙ sym e))
+      (λ X u e. zip-held X (map string_bytes u.keys) u.values.items (length-map u.keys string_bytes ∙ sym e))
       R.Denot S.Denot h (C.the_row R).coded (C.the_row S).coded
       (invariant R.Denot) (invariant S.Denot) (λ u. ℕ_set _ _) (λ u. ℕ_set _ _)
       (λ u e. length-map u.values.items h ∙ e) (λ u e. sym (length-map u.values.items h) ∙ e) (λ u e. e)

@@ -1,5 +1,4 @@
-use Rattle.std.proofs.Common.{◌≡◌, false, is_nan, Bool, T, not, sym, subst}
-use Rattle.std.specs.Float.{binary64, Float}
+use Rattle.std.specs.Float.{binary64}
 use lib.Ieee.Bits.{to_bits-of_bits}
 use Rattle.std.proofs.lemmas.Float.{T_from_false}
 use Rattle.bson_model.proofs.numbers.DoubleBits.to_f64.Goals as goal

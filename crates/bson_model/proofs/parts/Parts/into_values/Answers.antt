@@ -7,4 +7,4 @@ use Rattle.bson_model.proofs.parts.Parts.into_values.Goals as goal
 pub returns : goal.returns
 returns g c =
     let a = c.self.inside in
-    rw (← c.self.view_is) (sym (zip_values (map string_bytes a.keys.keys) a.values.items (c.self.invariant ∙ sym (length-map a.keys.keys string_bytes))))
+    rw (← c.self.view_is) (sym (zip_values (map string_bytes a.keys) a.values.items (c.self.invariant ∙ sym (length-map a.keys string_bytes))))

@@ -1,4 +1,4 @@
-use Rattle.std.proofs.Common.{ℕ, zero, suc, ◌<◌, List, [], ◌∷◌, String, Global, length, map, slice_index_or, arith}
+use Rattle.std.proofs.Common.{ℕ, zero, suc, ◌<◌, List, [], ◌∷◌, String, Global, length, map, slice_index_or, ap, arith}
 use Rattle.std.specs.Str.{IsUtf8}
 use Rattle.std.proofs.lemmas.Str.{IsUtf8-string_bytes}
 use Rattle.std.proofs.lemmas.List.{length-map}
@@ -15,14 +15,14 @@ texts (s ∷ ks) (suc k) d h = texts ks k d (omega arith)
 pub returns-clause-len : goal.returns-clause-len
 returns-clause-len g c =
     let i = c.self.invariant in
-    rw (← c.self.view_is, length-zip, length-map) (omega arith)
+    rw (← c.self.view_is, length-zip, length-map) (omega (arith, i, ap length c.as_slice.ensures.texts))
 
 pub returns-clause-distinct : goal.returns-clause-distinct
 returns-clause-distinct g c =
     let a = c.self.inside in
-    rw (← c.self.view_is, keys_of-pairs string_bytes a.keys.keys a.values.items c.self.invariant) (distinct_map string_bytes a.keys.keys c.len.ensures.unique)
+    rw (← c.self.view_is, keys_of-pairs string_bytes a.keys a.values.items c.self.invariant) (distinct_map string_bytes a.keys c.as_slice.ensures.distinct)
 
 pub returns-clause-texts : goal.returns-clause-texts
 returns-clause-texts g c =
     let a = c.self.inside in
-    rw (← c.self.view_is, keys_of-pairs string_bytes a.keys.keys a.values.items c.self.invariant) (λ k d h. texts a.keys.keys k d (rw length-map at h))
+    rw (← c.self.view_is, keys_of-pairs string_bytes a.keys a.values.items c.self.invariant) (λ k d h. texts a.keys k d (rw length-map at h))
