@@ -1,4 +1,3 @@
-use bson_fixtures::{check_display_text, check_equal, holds};
 use raw_bson::{AnyError, NoMemory, RawDocument, Reason, ValueAccessErrorKind};
 use std::alloc::Global;
 use std::test::Fail;
@@ -15,29 +14,42 @@ fn listed(alloc: Global, bytes: &[u8]) -> Result<Vec<i32>, AnyError> {
 #[test]
 fn a_view_a_getter_and_a_push(rt: HostRuntime) -> Result<(), Fail> {
     let list = listed(rt.alloc(), REPEATED_KEY)?;
-    check_equal(&list.as_slice(), &[1].as_slice(), "a list of one")
+    holds(list.len() == 1 && list.first() == Some(&1), "a list of one")
 }
 
-/// The texts of the error and of its copy are this, and the key is this.
-fn check_says(alloc: Global, error: &AnyError, text: &str, key: Option<&str>) -> Result<(), Fail> {
-    check_display_text(alloc, error, text)?;
-    holds(error.key() == key, "the key")?;
-    holds(error.clone()? == *error, "a copy")
+/// Whether the error is printed so.
+fn is_printed(alloc: Global, error: &AnyError, text: &str) -> bool {
+    match format!(in alloc; "{error}") {
+        Ok(printed) => printed.as_str() == text,
+        Err(_) => false,
+    }
 }
 
-/// The error is that of reading a document that is too short, and says so.
-fn check_too_short(alloc: Global, error: &AnyError) -> Result<(), Fail> {
+/// Whether the error has a copy that is equal.
+fn is_copied(error: &AnyError) -> bool {
+    match error.clone() {
+        Ok(copy) => copy == *error,
+        Err(_) => false,
+    }
+}
+
+/// Whether the error's text is this, its key is this, and a copy is equal.
+fn says(alloc: Global, error: &AnyError, text: &str, key: Option<&str>) -> bool {
+    is_printed(alloc, error, text) && error.key() == key && is_copied(error)
+}
+
+/// Whether the error is that of reading a document that is too short, and says so.
+fn is_too_short(alloc: Global, error: &AnyError) -> bool {
     let text = "malformed value: \"document too short\"";
-    check_says(alloc, error, text, None)?;
-    let wanted = AnyError::Raw(raw_bson::Error::malformed(Reason::TooShort));
-    holds(*error == wanted, "document too short")
+    says(alloc, error, text, None)
+        && *error == AnyError::Raw(raw_bson::Error::malformed(Reason::TooShort))
 }
 
 #[test]
 fn an_error_of_reading_stays_itself(rt: HostRuntime) -> Result<(), Fail> {
     match listed(rt.alloc(), b"\x04\0\0\0") {
         Ok(_) => Err(Fail::new("no error")),
-        Err(error) => check_too_short(rt.alloc(), &error),
+        Err(error) => holds(is_too_short(rt.alloc(), &error), "document too short"),
     }
 }
 
@@ -49,28 +61,27 @@ fn is_not_present(error: &AnyError) -> bool {
     }
 }
 
-/// The error is that of an access to what isn't there, and says so.
-fn check_not_present(alloc: Global, error: &AnyError) -> Result<(), Fail> {
-    let text = "error at key: \"a\": value not present";
-    check_says(alloc, error, text, Some("a"))?;
-    holds(is_not_present(error), "not present")
-}
-
 #[test]
 fn an_access_error_stays_itself(rt: HostRuntime) -> Result<(), Fail> {
     match listed(rt.alloc(), GREETING) {
         Ok(_) => Err(Fail::new("no error")),
-        Err(error) => check_not_present(rt.alloc(), &error),
+        Err(error) => {
+            let text = "error at key: \"a\": value not present";
+            let is_said = says(rt.alloc(), &error, text, Some("a"));
+            holds(is_said && is_not_present(&error), "not present")
+        }
     }
-}
-
-/// The error is printed as out of memory, and has no key.
-fn check_no_memory(alloc: Global, error: AnyError) -> Result<(), Fail> {
-    check_says(alloc, &error, "out of memory", None)
 }
 
 #[test]
 fn want_of_memory_is_an_error_of_any_sort(rt: HostRuntime) -> Result<(), Fail> {
-    check_no_memory(rt.alloc(), AnyError::from(NoMemory))?;
-    check_no_memory(rt.alloc(), AnyError::from(std::alloc::AllocError))
+    let alloc = rt.alloc();
+    let are_said = says(alloc, &AnyError::from(NoMemory), "out of memory", None)
+        && says(
+            alloc,
+            &AnyError::from(std::alloc::AllocError),
+            "out of memory",
+            None,
+        );
+    holds(are_said, "out of memory")
 }

@@ -1,10 +1,7 @@
-use crate::checks::{check_one_pair, check_pair};
-use bson_fixtures::{
-    check_bytes, check_display_text, check_equal, check_fault, check_refused, document_of, holds,
-};
+use crate::checks::{is_item_refused, is_one_pair, is_pair};
 use raw_bson::{
     Binary, BinarySubtype, ElementType, RawBson, RawBsonRef, RawDocument, RawDocumentBuf,
-    RawRegexRef, Reason, Regex, total_len,
+    RawElement, RawRegexRef, Reason, Regex, total_len,
 };
 use std::alloc::Global;
 use std::test::Fail;
@@ -13,32 +10,32 @@ use test_fixtures::*;
 #[test]
 fn declared_length_three(rt: HostRuntime) -> Result<(), Fail> {
     let document = document_of(rt.alloc(), DECLARED_LENGTH_THREE)?;
-    check_declared_length_three(rt.alloc(), &document)
+    holds(
+        is_declared_length_three(rt.alloc(), &document),
+        "the one element",
+    )
 }
 
-/// The one element is a code with scope of three bytes under the key `a`, and its value is malformed at that key.
-fn check_declared_length_three(alloc: Global, document: &RawDocumentBuf) -> Result<(), Fail> {
+/// Whether the element is a code with scope of three bytes under the key `a`, and its value is malformed at that key.
+fn is_code_too_small(alloc: Global, element: RawElement<'_>) -> bool {
+    let found = (element.element_type(), element.key(), element.len());
+    found == (ElementType::JavaScriptCodeWithScope, "a", 3)
+        && is_refused(&element.value(alloc), Reason::CodeTooSmall, Some("a"))
+}
+
+/// Whether that is the one element.
+fn is_declared_length_three(alloc: Global, document: &RawDocumentBuf) -> bool {
     let mut elements = document.iter_elements();
     match elements.next() {
-        Some(Ok(element)) => {
-            let found = (element.element_type(), element.key(), element.len());
-            let is_wanted = found == (ElementType::JavaScriptCodeWithScope, "a", 3);
-            holds(is_wanted, "kind, key and length")?;
-            check_fault(element.value(alloc), Reason::CodeTooSmall, "a")?;
-        }
-        _ => return Err(Fail::new("no element")),
+        Some(Ok(element)) => is_code_too_small(alloc, element) && elements.next().is_none(),
+        _ => false,
     }
-    holds(elements.next().is_none(), "the end")
 }
 
-/// The one item is the fault at which the elements stop, malformed at this key.
-fn check_stops(document: &RawDocumentBuf, reason: Reason, key: &str) -> Result<(), Fail> {
+/// Whether the one item is the fault at which the elements stop, malformed at this key.
+fn stops(document: &RawDocumentBuf, reason: Reason, key: &str) -> bool {
     let mut iter = document.iter();
-    match iter.next() {
-        Some(answer) => check_fault(answer, reason, key)?,
-        None => return Err(Fail::new("no item")),
-    }
-    holds(iter.next().is_none(), "the end")
+    is_item_refused(&iter.next(), reason, Some(key)) && iter.next().is_none()
 }
 
 /// The look-up's error has this text.
@@ -56,12 +53,11 @@ fn check_look_up_text(
 
 /// The appended element is in the bytes, and the one before it stops what is read.
 fn check_behind(alloc: Global, document: &RawDocumentBuf) -> Result<(), Fail> {
-    check_bytes(
-        document.as_bytes(),
-        DECLARED_LENGTH_THREE_APPENDED,
+    let is_appended = document.as_bytes() == DECLARED_LENGTH_THREE_APPENDED;
+    holds(
+        is_appended && stops(document, Reason::PastEnd(134217731, 8), "a"),
         "appended",
     )?;
-    check_stops(document, Reason::PastEnd(134217731, 8), "a")?;
     let text =
         "error at key \"a\": malformed value: \"length exceeds remaining length of buffer: 134217731 vs 8\"";
     check_look_up_text(alloc, document, "b", text)
@@ -114,23 +110,30 @@ fn a_subtype_of_a_user_has_no_inner_length(rt: HostRuntime) -> Result<(), Fail> 
     check_appended_ref(rt.alloc(), "b", RawBsonRef::from(&binary), bytes)
 }
 
-/// The document stays empty where a key holds a 0, and takes a text that does.
-fn check_interior_nul(document: &mut RawDocumentBuf) -> Result<(), Fail> {
-    check_refused(document.append("a\0b", RawBson::Null), Reason::InteriorNul)?;
-    check_bytes(document.as_bytes(), EMPTY, "an owned value")?;
-    let answer = document.append_ref("\0", RawBsonRef::Null);
-    check_refused(answer, Reason::InteriorNul)?;
-    check_bytes(document.as_bytes(), EMPTY, "a borrowed value")?;
-    // a text may hold a 0
-    document.append_ref("a", RawBsonRef::String("\0"))?;
-    let bytes = b"\x0E\0\0\0\x02a\0\x02\0\0\0\0\0\0";
-    check_bytes(document.as_bytes(), bytes, "a text")
+/// Whether an append was refused for a 0, and the document is still empty.
+fn is_append_refused(answer: &raw_bson::Result<()>, document: &RawDocumentBuf) -> bool {
+    is_refused(answer, Reason::InteriorNul, None) && document.as_bytes() == EMPTY
+}
+
+/// Whether the document refuses a key that holds a 0, be the value owned or borrowed.
+fn refuses_a_nul(document: &mut RawDocumentBuf) -> bool {
+    let owned = document.append("a\0b", RawBson::Null);
+    let is_owned_refused = is_append_refused(&owned, document);
+    let borrowed = document.append_ref("\0", RawBsonRef::Null);
+    is_owned_refused && is_append_refused(&borrowed, document)
+}
+
+/// Whether it takes a text that holds one.
+fn takes_a_nul(document: &mut RawDocumentBuf) -> bool {
+    document.append_ref("a", RawBsonRef::String("\0")).is_ok()
+        && document.as_bytes() == b"\x0E\0\0\0\x02a\0\x02\0\0\0\0\0\0".as_slice()
 }
 
 #[test]
 fn interior_nul(rt: HostRuntime) -> Result<(), Fail> {
     let mut document = RawDocumentBuf::new(rt.alloc())?;
-    check_interior_nul(&mut document)
+    let is_right = refuses_a_nul(&mut document) && takes_a_nul(&mut document);
+    holds(is_right, "a 0 in a key and in a text")
 }
 
 /// A regular expression of these texts.
@@ -142,8 +145,8 @@ fn regex(alloc: Global, pattern: &str, options: &str) -> Result<RawBson, Fail> {
 fn pattern_that_holds_a_nul(rt: HostRuntime) -> Result<(), Fail> {
     let regex = regex(rt.alloc(), "a\0", "")?;
     let mut document = RawDocumentBuf::new(rt.alloc())?;
-    check_refused(document.append("regex", regex), Reason::InteriorNul)?;
-    check_bytes(document.as_bytes(), EMPTY, "a pattern")
+    let answer = document.append("regex", regex);
+    holds(is_append_refused(&answer, &document), "a pattern")
 }
 
 #[test]
@@ -153,15 +156,18 @@ fn options_that_hold_a_nul(rt: HostRuntime) -> Result<(), Fail> {
         options: "i\0",
     });
     let mut document = RawDocumentBuf::new(rt.alloc())?;
-    check_refused(document.append_ref("regex", regex), Reason::InteriorNul)?;
-    check_bytes(document.as_bytes(), EMPTY, "options")
+    let answer = document.append_ref("regex", regex);
+    holds(is_append_refused(&answer, &document), "options")
 }
 
 #[test]
 fn length_limit(rt: HostRuntime) -> Result<(), Fail> {
     let _ = rt.alloc();
-    check_equal(&total_len(2147483646, 1), &Some(2147483647), "the greatest")?;
-    check_equal(&total_len(2147483646, 2), &None, "one more")
+    let is_greatest = total_len(2147483646, 1) == Some(2147483647);
+    holds(
+        is_greatest && total_len(2147483646, 2).is_none(),
+        "the greatest length",
+    )
 }
 
 #[test]
@@ -170,19 +176,18 @@ fn appended_timestamps(rt: HostRuntime) -> Result<(), Fail> {
     check_appended_ref(rt.alloc(), "ts", RawBsonRef::from(MOMENT), TIMESTAMP)
 }
 
-/// Appends three numbers.
-fn append_three(document: &mut RawDocumentBuf) -> Result<(), Fail> {
-    document.append("a", RawBson::from(-1_i32))?;
-    document.append("b", RawBson::from(123_i32))?;
-    document.append("c", RawBson::from(0_i32))?;
-    Ok(())
+/// Whether three numbers are appended.
+fn are_three_appended(document: &mut RawDocumentBuf) -> bool {
+    document.append("a", RawBson::from(-1_i32)).is_ok()
+        && document.append("b", RawBson::from(123_i32)).is_ok()
+        && document.append("c", RawBson::from(0_i32)).is_ok()
+        && document.as_bytes() == THREE_INT32
 }
 
 #[test]
 fn three_int32_appended(rt: HostRuntime) -> Result<(), Fail> {
     let mut document = RawDocumentBuf::new(rt.alloc())?;
-    append_three(&mut document)?;
-    check_bytes(document.as_bytes(), THREE_INT32, "three numbers")
+    holds(are_three_appended(&mut document), "three numbers")
 }
 
 #[test]
@@ -196,15 +201,14 @@ fn three_int32_from_an_iterator(rt: HostRuntime) -> Result<(), Fail> {
     check_bytes(document.as_bytes(), THREE_INT32, "three numbers")
 }
 
-/// The document has just this regular expression.
-fn check_whitespace_class(alloc: Global, document: &RawDocumentBuf) -> Result<(), Fail> {
+/// Whether the document has just this regular expression.
+fn is_whitespace_class(alloc: Global, document: &RawDocumentBuf) -> bool {
     let bytes = b"\x16\0\0\0\x0Bregex\0end\\s*$\0i\0\0";
-    check_bytes(document.as_bytes(), bytes, "a class of whitespace")?;
     let regex = RawBsonRef::RegularExpression(RawRegexRef {
         pattern: "end\\s*$",
         options: "i",
     });
-    check_one_pair(alloc, document.as_ref(), "regex", regex)
+    document.as_bytes() == bytes.as_slice() && is_one_pair(alloc, document.as_ref(), "regex", regex)
 }
 
 #[test]
@@ -212,30 +216,36 @@ fn regex_with_whitespace_class(rt: HostRuntime) -> Result<(), Fail> {
     let regex = regex(rt.alloc(), "end\\s*$", "i")?;
     let mut document = RawDocumentBuf::new(rt.alloc())?;
     document.append("regex", regex)?;
-    check_whitespace_class(rt.alloc(), &document)
+    holds(
+        is_whitespace_class(rt.alloc(), &document),
+        "a class of whitespace",
+    )
 }
 
-/// Iteration over the document yields the two values under one key, and then the end.
-fn check_iterated(document: &RawDocumentBuf) -> Result<(), Fail> {
+/// Whether iteration over the document yields the two values under one key, and then the end.
+fn are_iterated(document: &RawDocumentBuf) -> bool {
     let mut iter = document.iter();
-    check_pair(iter.next(), "a", RawBsonRef::Int32(1))?;
-    check_pair(iter.next(), "a", RawBsonRef::Int32(2))?;
-    holds(iter.next().is_none(), "the end")
+    is_pair(&iter.next(), "a", RawBsonRef::Int32(1))
+        && is_pair(&iter.next(), "a", RawBsonRef::Int32(2))
+        && iter.next().is_none()
 }
 
-/// The document has both values, and the getter has the first one.
-fn check_same_key(document: &mut RawDocumentBuf) -> Result<(), Fail> {
-    document.append("a", RawBson::from(1_i32))?;
-    document.append("a", RawBson::from(2_i32))?;
-    check_bytes(document.as_bytes(), REPEATED_KEY, "the same key twice")?;
-    check_equal(&document.get_i32("a")?, &1, "the first one")?;
-    check_iterated(document)
+/// Whether both values are appended.
+fn are_two_appended(document: &mut RawDocumentBuf) -> bool {
+    document.append("a", RawBson::from(1_i32)).is_ok()
+        && document.append("a", RawBson::from(2_i32)).is_ok()
+        && document.as_bytes() == REPEATED_KEY
 }
 
 #[test]
 fn the_same_key_twice(rt: HostRuntime) -> Result<(), Fail> {
     let mut document = RawDocumentBuf::new(rt.alloc())?;
-    check_same_key(&mut document)
+    holds(are_two_appended(&mut document), "the same key twice")?;
+    let is_first = matches!(document.get_i32("a"), Ok(1));
+    holds(
+        is_first && are_iterated(&document),
+        "the first one, and both",
+    )
 }
 
 #[test]

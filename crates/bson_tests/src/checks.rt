@@ -1,13 +1,14 @@
 //! What is said of pairs, and of values that own their bytes.
 
-use bson_fixtures::{check_debug_text, check_equal};
-use raw_bson::{ElementType, RawArrayBuf, RawBson, RawBsonRef, RawDocument, Result};
+use raw_bson::{
+    ElementType, RawArray, RawArrayBuf, RawBson, RawBsonRef, RawDocument, Reason, Result,
+};
 use std::alloc::Global;
 use std::test::Fail;
-use test_fixtures::{Checks, Want};
+use test_fixtures::{check_debug_text, is_refused};
 
 /// Whether the item is this key and value.
-fn is_pair(
+pub(crate) fn is_pair(
     item: &Option<Result<(&str, RawBsonRef<'_>)>>,
     key: &str,
     value: RawBsonRef<'_>,
@@ -18,34 +19,44 @@ fn is_pair(
     }
 }
 
-/// The item is this key and value.
-pub(crate) fn check_pair(
-    item: Option<Result<(&str, RawBsonRef<'_>)>>,
-    key: &str,
-    value: RawBsonRef<'_>,
-) -> std::result::Result<(), Fail> {
-    if is_pair(&item, key, value) {
-        Ok(())
-    } else {
-        Err(Fail::new(format_args!("{key:?} and {value:?} are wanted")))
+/// Whether the item is refused for this reason, with this key.
+pub(crate) fn is_item_refused<T>(
+    item: &Option<Result<T>>,
+    reason: Reason,
+    key: Option<&str>,
+) -> bool {
+    match item {
+        Some(answer) => is_refused(answer, reason, key),
+        None => false,
     }
 }
 
-/// The document is this one value under this key, and then the end.
-pub(crate) fn check_one_pair(
+/// Whether the item is this value.
+pub(crate) fn is_item(item: &Option<Result<RawBsonRef<'_>>>, wanted: RawBsonRef<'_>) -> bool {
+    match item {
+        Some(Ok(found)) => *found == wanted,
+        _ => false,
+    }
+}
+
+/// Whether the array is this one value.
+fn is_one_item(alloc: Global, array: RawArray<'_>, value: RawBsonRef<'_>) -> bool {
+    let mut items = array.iter(alloc);
+    is_item(&items.next(), value) && items.next().is_none() && items.next().is_none()
+}
+
+/// Whether the document is this one value under this key, also as an array.
+pub(crate) fn is_one_pair(
     alloc: Global,
     document: RawDocument<'_>,
     key: &str,
     value: RawBsonRef<'_>,
-) -> std::result::Result<(), Fail> {
-    let items = [(key, Want::Value(value))];
-    Checks::ample(alloc).items(document, items.as_slice())?;
-    Ok(())
-}
-
-/// The owned value is the wanted one.
-pub(crate) fn check_same(value: RawBson, wanted: RawBson) -> std::result::Result<(), Fail> {
-    check_equal(&value, &wanted, "a value")
+) -> bool {
+    let mut pairs = document.iter(alloc);
+    is_pair(&pairs.next(), key, value)
+        && pairs.next().is_none()
+        && pairs.next().is_none()
+        && is_one_item(alloc, RawArray::from_doc(document), value)
 }
 
 /// The array has this Debug text, which shows its bytes and its count.
@@ -66,24 +77,18 @@ pub(crate) fn holds_of(is_so: bool, kind: ElementType) -> std::result::Result<()
     }
 }
 
-/// This holds of these two kinds.
-pub(crate) fn holds_of_both(
-    is_so: bool,
-    one: ElementType,
-    other: ElementType,
-) -> std::result::Result<(), Fail> {
-    if is_so {
-        Ok(())
-    } else {
-        Err(Fail::new(format_args!("{one:?} and {other:?}")))
+/// There is no kind of which something doesn't hold.
+pub(crate) fn check_no_kind(first: Option<ElementType>) -> std::result::Result<(), Fail> {
+    match first {
+        Some(kind) => Err(Fail::new(format_args!("{kind:?}"))),
+        None => Ok(()),
     }
 }
 
-/// Both ways of comparing give this.
-pub(crate) fn check_both(
-    found: (bool, bool),
-    wanted: bool,
-    place: &str,
-) -> std::result::Result<(), Fail> {
-    check_equal(&found, &(wanted, wanted), place)
+/// Whether both were made, and are equal.
+pub(crate) fn is_same(value: &Result<RawBson>, wanted: &Result<RawBson>) -> bool {
+    match (value, wanted) {
+        (Ok(value), Ok(wanted)) => value == wanted,
+        _ => false,
+    }
 }

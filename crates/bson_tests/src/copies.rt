@@ -1,7 +1,4 @@
-use crate::checks::{check_array_text, check_same};
-use bson_fixtures::{
-    array_of, check_answer, check_bytes, check_equal, check_fault, document_of, holds, owned,
-};
+use crate::checks::{check_array_text, holds_of, is_same};
 use raw_bson::{
     Binary, BinarySubtype, CowRawArray, CowRawDocument, ElementType, RawBinaryRef, RawBson,
     RawBsonRef, RawDocument, RawElement, RawRegexRef, Reason, Regex, ToRawArrayBuf, ToRawBson,
@@ -23,67 +20,65 @@ fn check_array_copied(alloc: Global, bytes: &[u8], text: &str) -> Result<(), Fai
     check_array_text(alloc, &copy, text)
 }
 
+/// Arrays, and the texts of their copies.
+const COUNTED: &[(&[u8], &str)] = &[
+    (EMPTY, "RawArrayBuf { data: \"0500000000\", len: 0 }"),
+    (
+        NULL_ARRAY,
+        "RawArrayBuf { data: \"080000000a300000\", len: 1 }",
+    ),
+    // a fault is counted, and so is the stop
+    (
+        BOOLEAN_TWO,
+        "RawArrayBuf { data: \"090000000861000200\", len: 1 }",
+    ),
+    (
+        SWALLOWED_TERMINATOR,
+        "RawArrayBuf { data: \"060000000a00\", len: 2 }",
+    ),
+    // keys aren't looked at
+    (
+        REPEATED_KEY,
+        "RawArrayBuf { data: \"13000000106100010000001061000200000000\", len: 2 }",
+    ),
+];
+
 #[test]
 fn a_view_of_an_array_is_copied_and_counted(rt: HostRuntime) -> Result<(), Fail> {
-    for (bytes, text) in [
-        (EMPTY, "RawArrayBuf { data: \"0500000000\", len: 0 }"),
-        (
-            NULL_ARRAY,
-            "RawArrayBuf { data: \"080000000a300000\", len: 1 }",
-        ),
-        // a fault is counted, and so is the stop
-        (
-            BOOLEAN_TWO,
-            "RawArrayBuf { data: \"090000000861000200\", len: 1 }",
-        ),
-        (
-            SWALLOWED_TERMINATOR,
-            "RawArrayBuf { data: \"060000000a00\", len: 2 }",
-        ),
-        // keys aren't looked at
-        (
-            REPEATED_KEY,
-            "RawArrayBuf { data: \"13000000106100010000001061000200000000\", len: 2 }",
-        ),
-    ] {
+    for (bytes, text) in COUNTED {
         check_array_copied(rt.alloc(), bytes, text)?;
     }
     Ok(())
 }
 
-/// The copy is the owned value of this kind.
-fn check_copied(
-    alloc: Global,
-    copy: raw_bson::Result<RawBson>,
-    kind: ElementType,
-) -> Result<(), Fail> {
-    let wanted = owned(alloc, kind)?;
-    check_answer(copy, &wanted, "a copy")
-}
-
 #[test]
 fn a_borrowed_value_of_each_kind_is_copied(rt: HostRuntime) -> Result<(), Fail> {
     for &(_, kind) in KINDS.iter() {
-        check_copied(rt.alloc(), borrowed(kind)?.to_raw_bson(rt.alloc()), kind)?;
+        let copy = borrowed(kind)?.to_raw_bson(rt.alloc());
+        holds_of(is_same(&copy, &owned(rt.alloc(), kind)), kind)?;
     }
     Ok(())
 }
 
-/// The copies of the values of the elements are those of all kinds.
-fn check_elements(alloc: Global, document: RawDocument<'_>) -> Result<(), Fail> {
+/// Whether the copies of the values of the elements are those of all kinds.
+fn are_elements_copied(alloc: Global, document: RawDocument<'_>) -> bool {
     let mut elements = document.iter_elements(alloc);
-    for &(key, kind) in KINDS.iter() {
-        match elements.next() {
-            Some(Ok(element)) => check_copied(alloc, element.to_raw_bson(alloc), kind)?,
-            _ => return Err(Fail::new(key)),
+    for &(_, kind) in KINDS.iter() {
+        let is_next = match elements.next() {
+            Some(Ok(element)) => is_same(&element.to_raw_bson(alloc), &owned(alloc, kind)),
+            _ => false,
+        };
+        if !is_next {
+            return false;
         }
     }
-    Ok(())
+    true
 }
 
 #[test]
 fn the_value_of_an_element_is_copied(rt: HostRuntime) -> Result<(), Fail> {
-    check_elements(rt.alloc(), RawDocument::from_bytes(ALL_KINDS)?)
+    let document = RawDocument::from_bytes(ALL_KINDS)?;
+    holds(are_elements_copied(rt.alloc(), document), "copies")
 }
 
 /// The copy of the element's value is this text.
@@ -116,7 +111,7 @@ fn the_fault_of_an_element_is_answered(rt: HostRuntime) -> Result<(), Fail> {
 }
 
 /// The pattern `a` with the options in order.
-fn regex_in_order(alloc: Global) -> Result<RawBson, Fail> {
+fn regex_in_order(alloc: Global) -> raw_bson::Result<RawBson> {
     Ok(RawBson::RegularExpression(Regex {
         pattern: String::from_str(alloc, "a")?,
         options: String::from_str(alloc, "im")?,
@@ -129,8 +124,11 @@ fn options_put_in_order(rt: HostRuntime) -> Result<(), Fail> {
         pattern: "a",
         options: "mi",
     };
-    let copy = RawBsonRef::RegularExpression(regex).to_raw_bson(rt.alloc())?;
-    check_same(copy, regex_in_order(rt.alloc())?)
+    let copy = RawBsonRef::RegularExpression(regex).to_raw_bson(rt.alloc());
+    holds(
+        is_same(&copy, &regex_in_order(rt.alloc())),
+        "options in order",
+    )
 }
 
 /// One byte.
@@ -175,34 +173,32 @@ fn a_borrowed_buffer_is_appended(rt: HostRuntime) -> Result<(), Fail> {
     check_bytes(holder.as_bytes(), bytes, "a buffer appended")
 }
 
-/// The document is borrowed or owned, as is wanted, and has the greeting's bytes.
-fn check_cow_document(cow: CowRawDocument<'_>, is_owned: bool, place: &str) -> Result<(), Fail> {
-    let found = matches!(&cow, CowRawDocument::Owned(_));
-    check_equal(&found, &is_owned, place)?;
-    check_bytes(cow.as_ref().as_bytes(), GREETING, place)
+/// Whether the document is borrowed or owned, as is wanted, and has the greeting's bytes.
+fn is_greeting(cow: CowRawDocument<'_>, is_owned: bool) -> bool {
+    matches!(&cow, CowRawDocument::Owned(_)) == is_owned && cow.as_ref().as_bytes() == GREETING
 }
 
 #[test]
 fn documents_are_borrowed_and_owned(rt: HostRuntime) -> Result<(), Fail> {
     let of_view = CowRawDocument::from(RawDocument::from_bytes(GREETING)?);
-    check_cow_document(of_view, false, "a view")?;
+    holds(is_greeting(of_view, false), "a view")?;
     let buffer = document_of(rt.alloc(), GREETING)?;
-    check_cow_document(CowRawDocument::from(&buffer), false, "a borrowed one")?;
-    check_cow_document(CowRawDocument::from(buffer), true, "an owned one")
+    let is_borrowed = is_greeting(CowRawDocument::from(&buffer), false);
+    let is_owned = is_greeting(CowRawDocument::from(buffer), true);
+    holds(is_borrowed && is_owned, "a borrowed one and an owned one")
 }
 
-/// The array is borrowed or owned, as is wanted, and has the bytes of one null.
-fn check_cow_array(cow: CowRawArray<'_>, is_owned: bool, place: &str) -> Result<(), Fail> {
-    let found = matches!(&cow, CowRawArray::Owned(_));
-    check_equal(&found, &is_owned, place)?;
-    check_bytes(cow.as_ref().as_bytes(), NULL_ARRAY, place)
+/// Whether the array is borrowed or owned, as is wanted, and has the bytes of one null.
+fn is_one_null(cow: CowRawArray<'_>, is_owned: bool) -> bool {
+    matches!(&cow, CowRawArray::Owned(_)) == is_owned && cow.as_ref().as_bytes() == NULL_ARRAY
 }
 
 #[test]
 fn arrays_are_borrowed_and_owned(rt: HostRuntime) -> Result<(), Fail> {
     let of_view = CowRawArray::from(array_view(NULL_ARRAY)?);
-    check_cow_array(of_view, false, "a view")?;
+    holds(is_one_null(of_view, false), "a view")?;
     let buffer = array_of(rt.alloc(), NULL_ARRAY)?;
-    check_cow_array(CowRawArray::from(&buffer), false, "a borrowed one")?;
-    check_cow_array(CowRawArray::from(buffer), true, "an owned one")
+    let is_borrowed = is_one_null(CowRawArray::from(&buffer), false);
+    let is_owned = is_one_null(CowRawArray::from(buffer), true);
+    holds(is_borrowed && is_owned, "a borrowed one and an owned one")
 }

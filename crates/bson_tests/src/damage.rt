@@ -1,16 +1,12 @@
 //! Appends and pushes onto damaged documents: what is there isn't looked at, and a refused one leaves it.
 
-use crate::checks::check_array_text;
-use bson_fixtures::{
-    array_of, check_answer, check_bytes, check_debug_text, check_equal, check_refused, document_of,
-};
 use raw_bson::{RawArrayBuf, RawBson, RawBsonRef, RawDocumentBuf, Reason, Regex};
 use std::alloc::Global;
 use std::test::Fail;
 use test_fixtures::*;
 
 /// A regular expression that can't be written: its options hold a 0.
-fn refused_regex(alloc: Global) -> Result<RawBson, Fail> {
+fn refused_regex(alloc: Global) -> raw_bson::Result<RawBson> {
     Ok(RawBson::from(Regex::new(alloc, "a", "i\0")?))
 }
 
@@ -24,25 +20,27 @@ const APPENDS: &[(&[u8], &[u8])] = &[
     ),
 ];
 
-/// The document is as it was after a refused append, and has these bytes after the next one.
-fn check_appended(
-    alloc: Global,
-    document: &mut RawDocumentBuf,
-    before: &[u8],
-    after: &[u8],
-) -> Result<(), Fail> {
-    let answer = document.append("r", refused_regex(alloc)?);
-    check_refused(answer, Reason::InteriorNul)?;
-    check_bytes(document.as_bytes(), before, "after a refused append")?;
-    document.append("b", RawBson::from(true))?;
-    check_bytes(document.as_bytes(), after, "after an append")
+/// Whether the document is as it was after a refused append, and has these bytes after the next one.
+fn is_appended(document: &mut RawDocumentBuf, regex: RawBson, before: &[u8], after: &[u8]) -> bool {
+    is_refused(&document.append("r", regex), Reason::InteriorNul, None)
+        && document.as_bytes() == before
+        && document.append("b", RawBson::from(true)).is_ok()
+        && document.as_bytes() == after
+}
+
+/// The same of a buffer of its bytes.
+fn is_damage_appended_to(alloc: Global, before: &[u8], after: &[u8]) -> bool {
+    match (document_of(alloc, before), refused_regex(alloc)) {
+        (Ok(mut document), Ok(regex)) => is_appended(&mut document, regex, before, after),
+        _ => false,
+    }
 }
 
 #[test]
 fn appends_onto_damage(rt: HostRuntime) -> Result<(), Fail> {
     for (before, after) in APPENDS {
-        let mut document = document_of(rt.alloc(), before)?;
-        check_appended(rt.alloc(), &mut document, before, after)?;
+        let is_so = is_damage_appended_to(rt.alloc(), before, after);
+        holds(is_so, "an append")?;
     }
     Ok(())
 }
@@ -61,26 +59,35 @@ const PUSHES: &[(&[u8], &str, &str)] = &[
     ),
 ];
 
-/// The array has its text, also after a refused push, and the other one after the next push.
-fn check_pushed(
+/// Whether the array has its text, also after a refused push, and the other one after the next push.
+fn is_pushed(
     alloc: Global,
     array: &mut RawArrayBuf,
-    before: &str,
-    after: &str,
-) -> Result<(), Fail> {
-    check_array_text(alloc, array, before)?;
-    let answer = array.push(refused_regex(alloc)?);
-    check_refused(answer, Reason::InteriorNul)?;
-    check_array_text(alloc, array, before)?;
-    array.push(RawBson::Null)?;
-    check_array_text(alloc, array, after)
+    regex: RawBson,
+    (before, after): (&str, &str),
+) -> bool {
+    has_debug_text(alloc, array, before)
+        && is_refused(&array.push(regex), Reason::InteriorNul, None)
+        && has_debug_text(alloc, array, before)
+        && array.push(RawBson::Null).is_ok()
+        && has_debug_text(alloc, array, after)
+}
+
+/// The same of an array of these bytes.
+fn is_damage_pushed_onto(alloc: Global, bytes: &[u8], texts: (&str, &str)) -> bool {
+    match (array_of(alloc, bytes), refused_regex(alloc)) {
+        (Ok(mut array), Ok(regex)) => is_pushed(alloc, &mut array, regex, texts),
+        _ => false,
+    }
 }
 
 #[test]
 fn pushes_onto_damage(rt: HostRuntime) -> Result<(), Fail> {
     for (bytes, before, after) in PUSHES {
-        let mut array = array_of(rt.alloc(), bytes)?;
-        check_pushed(rt.alloc(), &mut array, before, after)?;
+        holds(
+            is_damage_pushed_onto(rt.alloc(), bytes, (before, after)),
+            before,
+        )?;
     }
     Ok(())
 }
@@ -92,71 +99,71 @@ fn pushed_onto_text_not_utf8(alloc: Global) -> Result<RawArrayBuf, Fail> {
     Ok(array)
 }
 
+/// What iteration over it yields.
+const PUSHED_ITEMS: &[(&str, Want<'static>)] = &[
+    ("", Want::Fault(&NOT_UTF8)),
+    ("1", Want::Int32(7)),
+    ("2", Want::Null),
+];
+
 #[test]
 fn a_push_leaves_the_fault_before_it(rt: HostRuntime) -> Result<(), Fail> {
     let array = pushed_onto_text_not_utf8(rt.alloc())?;
-    let items = [
-        ("", Want::Fault(NOT_UTF8)),
-        ("1", Want::Value(RawBsonRef::Int32(7))),
-        ("2", Want::Value(RawBsonRef::Null)),
-    ];
-    Checks::ample(rt.alloc()).items(array.as_ref().as_doc(), items.as_slice())?;
-    Ok(())
+    let document = array.as_ref().as_doc();
+    holds(
+        Checks::ample(rt.alloc()).are_items(document, PUSHED_ITEMS),
+        "items",
+    )
 }
 
-/// The array of the swallowed terminator in a value, with one more null pushed where it is.
-fn pushed_in_a_value(alloc: Global) -> Result<RawBson, Fail> {
-    let mut value = RawBson::from(array_of(alloc, SWALLOWED_TERMINATOR)?);
-    let array = value.as_array_mut().ok_or("an array isn't lent")?;
-    array.push(RawBson::Null)?;
-    Ok(value)
+/// Whether a null is pushed onto an array where it is in a value.
+fn is_pushed_in_a_value(value: &mut RawBson) -> bool {
+    match value.as_array_mut() {
+        Some(array) => array.push(RawBson::Null).is_ok(),
+        None => false,
+    }
 }
 
 #[test]
 fn push_onto_a_swallowed_terminator_in_a_value(rt: HostRuntime) -> Result<(), Fail> {
-    let value = pushed_in_a_value(rt.alloc())?;
+    let mut value = RawBson::from(array_of(rt.alloc(), SWALLOWED_TERMINATOR)?);
     let text = "Array(RawArrayBuf { data: \"090000000a0a320000\", len: 3 })";
-    check_debug_text(rt.alloc(), &value, text)
+    let is_pushed = is_pushed_in_a_value(&mut value) && has_debug_text(rt.alloc(), &value, text);
+    holds(is_pushed, text)
 }
 
-/// The array has this count, a null as its first item, and no second one.
-fn check_one_null(array: &RawArrayBuf, count: usize) -> Result<(), Fail> {
-    check_equal(&array.count(), &count, "the count")?;
-    check_answer(array.get(0), &Some(RawBsonRef::Null), "the first")?;
-    check_answer(array.get(1), &None, "the second")
+/// Whether the array has this count, a null as its first item, and no second one.
+fn is_one_null(array: &RawArrayBuf, count: usize) -> bool {
+    array.count() == count
+        && matches!(array.get(0), Ok(Some(RawBsonRef::Null)))
+        && matches!(array.get(1), Ok(None))
 }
 
-/// The array counts the stop, and a push ends it.
-fn check_counted(array: &mut RawArrayBuf) -> Result<(), Fail> {
-    check_equal(&array.count(), &2, "a null and a stop")?;
-    array.push(RawBson::Null)?;
-    check_one_null(array, 3)
+/// Whether the array counts the stop, and a push ends it.
+fn is_counted(array: &mut RawArrayBuf) -> bool {
+    array.count() == 2 && array.push(RawBson::Null).is_ok() && is_one_null(array, 3)
 }
 
 /// Onto damage a count isn't the number of items: the push ends the stop that was counted.
 #[test]
 fn a_count_is_told(rt: HostRuntime) -> Result<(), Fail> {
-    check_equal(&RawArrayBuf::new(rt.alloc())?.count(), &0, "nothing")?;
+    let is_nothing = RawArrayBuf::new(rt.alloc())?.count() == 0;
     let mut array = array_of(rt.alloc(), SWALLOWED_TERMINATOR)?;
-    check_counted(&mut array)
+    holds(is_nothing && is_counted(&mut array), "counts")
 }
 
-/// The buffer of these bytes says as wanted whether it has the key.
-fn check_key(
-    alloc: Global,
-    bytes: &[u8],
-    key: &str,
-    want: Result<bool, Fault<'_>>,
-) -> Result<(), Fail> {
-    let document = document_of(alloc, bytes)?;
-    Checks::ample(alloc).has_key(document.contains_key(key), want, bytes)?;
-    Ok(())
+/// Whether the buffer of these bytes says as wanted whether it has the key.
+fn has_key(alloc: Global, bytes: &[u8], key: &str, want: Result<bool, &Fault<'_>>) -> bool {
+    match document_of(alloc, bytes) {
+        Ok(document) => Checks::ample(alloc).is_key(&document.contains_key(key), want),
+        Err(_) => false,
+    }
 }
 
 #[test]
 fn a_key_stands_in_a_buffer_as_in_its_view(rt: HostRuntime) -> Result<(), Fail> {
-    for (bytes, key, want) in KEY_ANSWERS.iter() {
-        check_key(rt.alloc(), bytes, key, *want)?;
+    for (bytes, key, want) in KEY_ANSWERS {
+        holds(has_key(rt.alloc(), bytes, key, *want), key)?;
     }
     Ok(())
 }

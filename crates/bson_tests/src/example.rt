@@ -1,7 +1,7 @@
-use bson_fixtures::{check_equal, holds};
 use raw_bson::{RawArrayBuf, RawBson, RawDocumentBuf, Result, canonical_bytes};
 use std::alloc::Global;
 use std::test::Fail;
+use test_fixtures::{check_equal, holds};
 
 /// Writes the document of an author, and reads the year of birth back.
 fn year_of_birth(alloc: Global) -> Result<Option<i32>> {

@@ -1,8 +1,10 @@
-use bson_fixtures::{array_of, check_debug_text, check_display_text, code_of, document_of};
 use raw_bson::{Error, ErrorKind, RawArrayBuf, RawBson, RawDocumentBuf, Reason};
 use std::alloc::Global;
 use std::test::Fail;
-use test_fixtures::{EMPTY, GREETING, NULL_ARRAY};
+use test_fixtures::{
+    EMPTY, GREETING, NULL_ARRAY, array_of, check_debug_text, check_display_text, code_of,
+    document_of, has_debug_text, holds,
+};
 
 #[test]
 fn documents_have_debug_texts(rt: HostRuntime) -> Result<(), Fail> {
@@ -37,21 +39,28 @@ fn code_with_scope_has_a_debug_text(rt: HostRuntime) -> Result<(), Fail> {
     check_debug_text(rt.alloc(), &code, text)
 }
 
-/// The owned value has this Debug text.
-fn check_value_text(alloc: Global, value: RawBson, text: &str) -> Result<(), Fail> {
-    check_debug_text(alloc, &value, text)
+/// Whether the value was made, and has this Debug text.
+fn is_printed(alloc: Global, value: &raw_bson::Result<RawBson>, text: &str) -> bool {
+    match value {
+        Ok(value) => has_debug_text(alloc, value, text),
+        Err(_) => false,
+    }
+}
+
+/// The value of an empty array.
+fn empty_array(alloc: Global) -> raw_bson::Result<RawBson> {
+    Ok(RawBson::from(array_of(alloc, EMPTY)?))
 }
 
 #[test]
 fn owned_values_have_debug_texts(rt: HostRuntime) -> Result<(), Fail> {
     let alloc = rt.alloc();
-    check_value_text(alloc, RawBson::from(-7_i32), "Int32(-7)")?;
-    check_value_text(alloc, RawBson::Null, "Null")?;
-    let hi = RawBson::from_str(alloc, "hi")?;
-    check_value_text(alloc, hi, "String(\"hi\")")?;
-    let array = RawBson::from(array_of(alloc, EMPTY)?);
+    let is_number = has_debug_text(alloc, &RawBson::from(-7_i32), "Int32(-7)");
+    let is_null = has_debug_text(alloc, &RawBson::Null, "Null");
+    let is_text = is_printed(alloc, &RawBson::from_str(alloc, "hi"), "String(\"hi\")");
     let text = "Array(RawArrayBuf { data: \"0500000000\", len: 0 })";
-    check_value_text(alloc, array, text)
+    let is_array = is_printed(alloc, &empty_array(alloc), text);
+    holds(is_number && is_null && is_text && is_array, "owned values")
 }
 
 /// The error of this reason has this text.
@@ -60,18 +69,21 @@ fn check_reason(alloc: Global, reason: Reason, text: &str) -> Result<(), Fail> {
     check_display_text(alloc, &error, text)
 }
 
+/// Reasons of writing and of limits, and the texts of their errors.
+const REFUSALS: &[(Reason, &str)] = &[
+    (Reason::InteriorNul, "malformed value: \"interior NUL\""),
+    (Reason::TooLong, "malformed value: \"document too long\""),
+    (
+        Reason::TooManyBytes,
+        "malformed value: \"more bytes than allowed\"",
+    ),
+    (Reason::TooDeep, "malformed value: \"deeper than allowed\""),
+];
+
 #[test]
 fn refusals_of_writing_and_of_limits_are_printed(rt: HostRuntime) -> Result<(), Fail> {
-    for (reason, text) in [
-        (Reason::InteriorNul, "malformed value: \"interior NUL\""),
-        (Reason::TooLong, "malformed value: \"document too long\""),
-        (
-            Reason::TooManyBytes,
-            "malformed value: \"more bytes than allowed\"",
-        ),
-        (Reason::TooDeep, "malformed value: \"deeper than allowed\""),
-    ] {
-        check_reason(rt.alloc(), reason, text)?;
+    for (reason, text) in REFUSALS {
+        check_reason(rt.alloc(), *reason, text)?;
     }
     Ok(())
 }

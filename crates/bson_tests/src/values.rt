@@ -1,10 +1,7 @@
-use crate::checks::{check_both, check_one_pair, check_same, holds_of, holds_of_both};
-use bson_fixtures::{
-    all_owned, array_of, check_bytes, check_equal, check_text, code_of, document_of, owned,
-};
+use crate::checks::{check_no_kind, holds_of, is_one_pair, is_same};
 use raw_bson::laws::{is_same_code, is_same_value};
 use raw_bson::{
-    Binary, BinarySubtype, DateTime, DoubleBits, ElementType, RawBson, RawBsonRef,
+    Binary, BinarySubtype, DateTime, DoubleBits, ElementType, RawBson, RawBsonRef, RawDocumentBuf,
     RawJavaScriptCodeWithScope, Regex,
 };
 use std::alloc::Global;
@@ -13,53 +10,50 @@ use test_fixtures::*;
 
 /// What the accessor for this kind returns; `None` for a kind without an accessor.
 fn accessed<'a>(value: &'a RawBson, kind: ElementType) -> Option<RawBsonRef<'a>> {
-    Some(match kind {
-        ElementType::Double => RawBsonRef::Double(value.as_f64()?),
-        ElementType::String => RawBsonRef::String(value.as_str()?),
-        ElementType::EmbeddedDocument => RawBsonRef::Document(value.as_document()?),
-        ElementType::Array => RawBsonRef::Array(value.as_array()?),
-        ElementType::Binary => RawBsonRef::Binary(value.as_binary()?),
-        ElementType::ObjectId => RawBsonRef::ObjectId(value.as_object_id()?),
-        ElementType::Boolean => RawBsonRef::Boolean(value.as_bool()?),
-        ElementType::DateTime => RawBsonRef::DateTime(value.as_datetime()?),
-        _ => accessed_rarer(value, kind)?,
-    })
-}
-
-/// The same for the rarer kinds.
-fn accessed_rarer<'a>(value: &'a RawBson, kind: ElementType) -> Option<RawBsonRef<'a>> {
-    Some(match kind {
-        ElementType::RegularExpression => RawBsonRef::RegularExpression(value.as_regex()?),
-        ElementType::DbPointer => RawBsonRef::DbPointer(value.as_db_pointer()?),
-        ElementType::JavaScriptCode => RawBsonRef::JavaScriptCode(value.as_javascript()?),
-        ElementType::Symbol => RawBsonRef::Symbol(value.as_symbol()?),
-        ElementType::JavaScriptCodeWithScope => RawBsonRef::JavaScriptCodeWithScope(
-            value.as_javascript_with_scope()?,
-        ),
-        ElementType::Int32 => RawBsonRef::Int32(value.as_i32()?),
-        ElementType::Timestamp => RawBsonRef::Timestamp(value.as_timestamp()?),
-        ElementType::Int64 => RawBsonRef::Int64(value.as_i64()?),
-        ElementType::Null => {
-            value.as_null()?;
-            RawBsonRef::Null
-        }
-        _ => return None,
-    })
-}
-
-/// Each value is of its kind, and its view is the borrowed value of that kind.
-fn check_viewed(values: &[(ElementType, RawBson)]) -> Result<(), Fail> {
-    for (kind, value) in values {
-        check_equal(&value.element_type(), kind, "a kind")?;
-        check_equal(&value.as_raw_bson_ref(), &borrowed(*kind)?, "a view")?;
+    match kind {
+        ElementType::Double => shown(value.as_f64()),
+        ElementType::String => shown(value.as_str()),
+        ElementType::EmbeddedDocument => shown(value.as_document()),
+        ElementType::Array => shown(value.as_array()),
+        ElementType::Binary => shown(value.as_binary()),
+        ElementType::ObjectId => shown(value.as_object_id()),
+        ElementType::Boolean => shown(value.as_bool()),
+        ElementType::DateTime => shown(value.as_datetime()),
+        ElementType::RegularExpression => shown(value.as_regex()),
+        ElementType::DbPointer => shown_pointer(value.as_db_pointer()),
+        ElementType::JavaScriptCode => shown_code(value.as_javascript()),
+        ElementType::Symbol => shown_symbol(value.as_symbol()),
+        ElementType::JavaScriptCodeWithScope => shown(value.as_javascript_with_scope()),
+        ElementType::Int32 => shown(value.as_i32()),
+        ElementType::Timestamp => shown(value.as_timestamp()),
+        ElementType::Int64 => shown(value.as_i64()),
+        ElementType::Null => shown_null(value.as_null()),
+        _ => None,
     }
-    Ok(())
+}
+
+/// Whether the value is of this kind, and its view is the borrowed value of that kind.
+fn is_viewed(value: &RawBson, kind: ElementType) -> bool {
+    match borrowed(kind) {
+        Ok(wanted) => value.element_type() == kind && value.as_raw_bson_ref() == wanted,
+        Err(_) => false,
+    }
+}
+
+/// The first kind, if there is one, whose value isn't viewed so.
+fn first_unviewed(values: &[(ElementType, RawBson)]) -> Option<ElementType> {
+    for (kind, value) in values {
+        if !is_viewed(value, *kind) {
+            return Some(*kind);
+        }
+    }
+    None
 }
 
 #[test]
 fn a_value_of_each_kind_has_its_kind_and_its_view(rt: HostRuntime) -> Result<(), Fail> {
     let values = all_owned(rt.alloc())?;
-    check_viewed(&values)
+    check_no_kind(first_unviewed(&values))
 }
 
 /// Whether a part of this kind is converted to a value.
@@ -111,126 +105,169 @@ fn is_converted(value: &RawBson, kind: ElementType) -> bool {
     }
 }
 
-fn check_converted(values: &[(ElementType, RawBson)]) -> Result<(), Fail> {
+/// The first kind, if there is one, whose value isn't made so.
+fn first_unconverted(values: &[(ElementType, RawBson)]) -> Option<ElementType> {
     for (kind, value) in values {
-        holds_of(is_converted(value, *kind), *kind)?;
+        if !is_converted(value, *kind) {
+            return Some(*kind);
+        }
     }
-    Ok(())
+    None
 }
 
 /// A conversion makes the variant that its part names.
 #[test]
 fn conversions_make_values_of_their_kinds(rt: HostRuntime) -> Result<(), Fail> {
     let values = all_owned(rt.alloc())?;
-    check_converted(&values)
+    check_no_kind(first_unconverted(&values))
 }
 
-/// Each accessor returns what it should of a value of this kind.
-fn check_accessed(value: &RawBson, kind: ElementType) -> Result<(), Fail> {
+/// Whether the accessor asked for returns the value where it is that of its kind, and nothing elsewhere.
+fn is_accessed(value: &RawBson, kind: ElementType, asked: ElementType) -> bool {
+    match accessed(value, asked) {
+        Some(found) => asked == kind && has_accessor(kind) && found == value.as_raw_bson_ref(),
+        None => asked != kind || !has_accessor(kind),
+    }
+}
+
+/// Whether each accessor returns what it should of a value of this kind, which has its view.
+fn are_accessed(value: &RawBson, kind: ElementType) -> bool {
     for &(_, asked) in KINDS.iter() {
-        let wanted = if asked == kind && has_accessor(kind) {
-            Some(borrowed(kind)?)
-        } else {
-            None
-        };
-        holds_of_both(accessed(value, asked) == wanted, asked, kind)?;
+        if !is_accessed(value, kind, asked) {
+            return false;
+        }
     }
-    Ok(())
+    is_viewed(value, kind)
 }
 
-/// Each accessor returns its own kind alone.
-fn check_accessors(values: &[(ElementType, RawBson)]) -> Result<(), Fail> {
+/// The first kind, if there is one, of whose value an accessor doesn't return what it should.
+fn first_unaccessed(values: &[(ElementType, RawBson)]) -> Option<ElementType> {
     for (kind, value) in values {
-        check_accessed(value, *kind)?;
+        if !are_accessed(value, *kind) {
+            return Some(*kind);
+        }
     }
-    Ok(())
+    None
 }
 
 #[test]
 fn an_accessor_answers_its_own_kind_alone(rt: HostRuntime) -> Result<(), Fail> {
     let values = all_owned(rt.alloc())?;
-    check_accessors(&values)
+    check_no_kind(first_unaccessed(&values))
 }
 
-/// An array of one null, onto which `true` is pushed where it is in a value.
-fn pushed_in_its_place(alloc: Global) -> Result<RawBson, Fail> {
-    let mut value = RawBson::from(array_of(alloc, NULL_ARRAY)?);
-    let array = value.as_array_mut().ok_or("an array isn't lent")?;
-    array.push(RawBson::from(true))?;
-    Ok(value)
+/// A value of an array of these bytes.
+fn array_value(alloc: Global, bytes: &[u8]) -> raw_bson::Result<RawBson> {
+    Ok(RawBson::from(array_of(alloc, bytes)?))
+}
+
+/// Whether `true` is pushed onto an array where it is in a value.
+fn is_pushed_in_its_place(value: &mut raw_bson::Result<RawBson>) -> bool {
+    match value {
+        Ok(value) => match value.as_array_mut() {
+            Some(array) => array.push(RawBson::from(true)).is_ok(),
+            None => false,
+        },
+        Err(_) => false,
+    }
 }
 
 #[test]
 fn an_array_is_changed_in_its_place(rt: HostRuntime) -> Result<(), Fail> {
     let changed = b"\x0C\0\0\0\x0A0\0\x081\0\x01\0".as_slice();
-    let wanted = RawBson::from(array_of(rt.alloc(), changed)?);
-    check_same(pushed_in_its_place(rt.alloc())?, wanted)
+    let mut value = array_value(rt.alloc(), NULL_ARRAY);
+    let is_pushed = is_pushed_in_its_place(&mut value);
+    let is_changed = is_same(&value, &array_value(rt.alloc(), changed));
+    holds(is_pushed && is_changed, "changed")
 }
 
-fn lends_an_array(mut value: RawBson) -> bool {
-    value.as_array_mut().is_some()
+/// Whether an array is lent of a value of this kind just where the value is one.
+fn is_array_lent(mut value: RawBson, kind: ElementType) -> bool {
+    value.as_array_mut().is_some() == (kind == ElementType::Array)
 }
 
 #[test]
 fn only_an_array_is_lent_as_one(rt: HostRuntime) -> Result<(), Fail> {
     for &(_, kind) in KINDS.iter() {
-        let is_lent = lends_an_array(owned(rt.alloc(), kind)?);
-        holds_of(is_lent == (kind == ElementType::Array), kind)?;
+        holds_of(is_array_lent(owned(rt.alloc(), kind)?, kind), kind)?;
     }
     Ok(())
 }
 
-/// An empty document, to which the number -1 is appended where it is in a value.
-fn appended_in_its_place(alloc: Global) -> Result<RawBson, Fail> {
-    let mut value = RawBson::from(document_of(alloc, EMPTY)?);
-    let document = value.as_document_mut().ok_or("a document isn't lent")?;
-    document.append("a", RawBson::from(-1_i32))?;
-    Ok(value)
+/// A value of a document of these bytes.
+fn document_value(alloc: Global, bytes: &[u8]) -> raw_bson::Result<RawBson> {
+    Ok(RawBson::from(document_of(alloc, bytes)?))
+}
+
+/// Whether the number -1 is appended to a document where it is in a value.
+fn is_appended_in_its_place(value: &mut raw_bson::Result<RawBson>) -> bool {
+    match value {
+        Ok(value) => match value.as_document_mut() {
+            Some(document) => document.append("a", RawBson::from(-1_i32)).is_ok(),
+            None => false,
+        },
+        Err(_) => false,
+    }
 }
 
 #[test]
 fn a_document_is_changed_in_its_place(rt: HostRuntime) -> Result<(), Fail> {
-    let wanted = RawBson::from(document_of(rt.alloc(), ONE_INT32)?);
-    check_same(appended_in_its_place(rt.alloc())?, wanted)
+    let mut value = document_value(rt.alloc(), EMPTY);
+    let is_appended = is_appended_in_its_place(&mut value);
+    let is_changed = is_same(&value, &document_value(rt.alloc(), ONE_INT32));
+    holds(is_appended && is_changed, "changed")
 }
 
-fn lends_a_document(mut value: RawBson) -> bool {
-    value.as_document_mut().is_some()
+/// Whether a document is lent of a value of this kind just where the value is one.
+fn is_document_lent(mut value: RawBson, kind: ElementType) -> bool {
+    value.as_document_mut().is_some() == (kind == ElementType::EmbeddedDocument)
 }
 
 #[test]
 fn only_a_document_is_lent_as_one(rt: HostRuntime) -> Result<(), Fail> {
     for &(_, kind) in KINDS.iter() {
-        let is_lent = lends_a_document(owned(rt.alloc(), kind)?);
-        holds_of(is_lent == (kind == ElementType::EmbeddedDocument), kind)?;
+        holds_of(is_document_lent(owned(rt.alloc(), kind)?, kind), kind)?;
     }
     Ok(())
 }
 
-/// Whether the two are equal, by `==` and by the law.
-fn are_equal(value: &RawBson, other: &RawBson) -> (bool, bool) {
-    (value == other, is_same_value(value, other))
+/// Whether `==` and the law both say so of the two.
+fn are_found_equal(value: &RawBson, other: &RawBson, equal: bool) -> bool {
+    (value == other) == equal && is_same_value(value, other) == equal
 }
 
-/// Each value is equal to the other of its kind, and to no other.
-fn check_equal_by_kind(
-    values: &[(ElementType, RawBson)],
+/// Whether the value is equal to the other of its kind, and to no other.
+fn is_equal_to_its_like(
+    value: &RawBson,
+    kind: ElementType,
     others: &[(ElementType, RawBson)],
-) -> Result<(), Fail> {
-    for (kind, value) in values {
-        for (other_kind, other) in others {
-            let same = kind == other_kind;
-            holds_of_both(are_equal(value, other) == (same, same), *kind, *other_kind)?;
+) -> bool {
+    for (other_kind, other) in others {
+        if !are_found_equal(value, other, kind == *other_kind) {
+            return false;
         }
     }
-    Ok(())
+    true
+}
+
+/// The first kind, if there is one, whose value isn't equal to just the other of its kind.
+fn first_unlike(
+    values: &[(ElementType, RawBson)],
+    others: &[(ElementType, RawBson)],
+) -> Option<ElementType> {
+    for (kind, value) in values {
+        if !is_equal_to_its_like(value, *kind, others) {
+            return Some(*kind);
+        }
+    }
+    None
 }
 
 #[test]
 fn values_are_equal_only_to_their_like(rt: HostRuntime) -> Result<(), Fail> {
     let values = all_owned(rt.alloc())?;
     let others = all_owned(rt.alloc())?;
-    check_equal_by_kind(&values, &others)
+    check_no_kind(first_unlike(&values, &others))
 }
 
 fn copied(alloc: Global, kind: ElementType) -> Result<RawBson, Fail> {
@@ -249,18 +286,18 @@ fn all_copied(alloc: Global) -> Result<Vec<(ElementType, RawBson)>, Fail> {
 #[test]
 fn a_copy_of_each_kind_has_its_kind_and_its_view(rt: HostRuntime) -> Result<(), Fail> {
     let copies = all_copied(rt.alloc())?;
-    check_viewed(&copies)
+    check_no_kind(first_unviewed(&copies))
 }
 
 #[test]
 fn copies_are_equal_only_to_their_like(rt: HostRuntime) -> Result<(), Fail> {
     let copies = all_copied(rt.alloc())?;
     let others = all_owned(rt.alloc())?;
-    check_equal_by_kind(&copies, &others)
+    check_no_kind(first_unlike(&copies, &others))
 }
 
 /// Another value of this kind; null for a kind that isn't asked for.
-fn other(alloc: Global, kind: ElementType) -> Result<RawBson, Fail> {
+fn other(alloc: Global, kind: ElementType) -> raw_bson::Result<RawBson> {
     Ok(match kind {
         ElementType::Double => RawBson::from(DoubleBits(0)),
         ElementType::String => RawBson::from_str(alloc, "t")?,
@@ -279,36 +316,42 @@ fn other(alloc: Global, kind: ElementType) -> Result<RawBson, Fail> {
     })
 }
 
-/// The other value is of this kind, too, and the two differ.
-fn check_differ(value: &RawBson, other: &RawBson, kind: ElementType) -> Result<(), Fail> {
-    check_equal(&other.element_type(), &kind, "a kind")?;
-    holds_of(are_equal(value, other) == (false, false), kind)
+/// Whether the other value is of this kind, too, and the two differ.
+fn differ(value: &RawBson, other: &RawBson, kind: ElementType) -> bool {
+    other.element_type() == kind && are_found_equal(value, other, false)
 }
 
-/// The same of the two values of this kind.
-fn check_kind_differs(alloc: Global, kind: ElementType) -> Result<(), Fail> {
-    let value = owned(alloc, kind)?;
-    let other = other(alloc, kind)?;
-    check_differ(&value, &other, kind)
+/// Whether both were made, are of this kind, and differ.
+fn differ_within(
+    value: &raw_bson::Result<RawBson>,
+    other: &raw_bson::Result<RawBson>,
+    kind: ElementType,
+) -> bool {
+    match (value, other) {
+        (Ok(value), Ok(other)) => differ(value, other, kind),
+        _ => false,
+    }
 }
+
+/// The kinds of which there is another value.
+const WITH_OTHERS: &[ElementType] = &[
+    ElementType::Double,
+    ElementType::String,
+    ElementType::EmbeddedDocument,
+    ElementType::Array,
+    ElementType::Binary,
+    ElementType::Boolean,
+    ElementType::RegularExpression,
+    ElementType::JavaScriptCodeWithScope,
+    ElementType::Int32,
+    ElementType::Int64,
+];
 
 #[test]
 fn values_of_one_kind_differ_by_their_parts(rt: HostRuntime) -> Result<(), Fail> {
-    for &kind in [
-        ElementType::Double,
-        ElementType::String,
-        ElementType::EmbeddedDocument,
-        ElementType::Array,
-        ElementType::Binary,
-        ElementType::Boolean,
-        ElementType::RegularExpression,
-        ElementType::JavaScriptCodeWithScope,
-        ElementType::Int32,
-        ElementType::Int64,
-    ]
-    .iter()
-    {
-        check_kind_differs(rt.alloc(), kind)?;
+    for &kind in WITH_OTHERS {
+        let is_so = differ_within(&owned(rt.alloc(), kind), &other(rt.alloc(), kind), kind);
+        holds_of(is_so, kind)?;
     }
     Ok(())
 }
@@ -318,76 +361,104 @@ fn a_negative_zero_is_another_double_than_the_zero(rt: HostRuntime) -> Result<()
     let _ = rt.alloc();
     let zero = RawBson::from(DoubleBits(0));
     let negative = RawBson::from(DoubleBits(0x8000_0000_0000_0000));
-    check_differ(&zero, &negative, ElementType::Double)
+    let is_so = differ(&zero, &negative, ElementType::Double);
+    holds(is_so, "a negative zero")
 }
 
-/// Whether the two are equal, by `==` and by the law.
-fn are_equal_codes(
+/// Whether `==` and the law both say so of the two.
+fn are_found_equal_codes(
     code: &RawJavaScriptCodeWithScope,
     other: &RawJavaScriptCodeWithScope,
-) -> (bool, bool) {
-    (code == other, is_same_code(code, other))
+    equal: bool,
+) -> bool {
+    (code == other) == equal && is_same_code(code, other) == equal
 }
 
-/// The copy is equal to the code, and has its parts.
-fn check_copied(
-    copy: &RawJavaScriptCodeWithScope,
-    code: &RawJavaScriptCodeWithScope,
-) -> Result<(), Fail> {
-    check_both(are_equal_codes(copy, code), true, "a copy")?;
-    check_text(copy.code.as_str(), "g")?;
-    check_bytes(copy.scope.as_bytes(), EMPTY, "a scope")
+/// Whether the copy is equal to the code, and has its parts.
+fn is_copy(copy: &RawJavaScriptCodeWithScope, code: &RawJavaScriptCodeWithScope) -> bool {
+    are_found_equal_codes(copy, code, true)
+        && copy.code.as_str() == "g"
+        && copy.scope.as_bytes() == EMPTY
 }
 
 #[test]
 fn code_with_scope_is_copied(rt: HostRuntime) -> Result<(), Fail> {
     let code = code_of(rt.alloc(), "g", EMPTY)?;
-    check_copied(&code.clone()?, &code)
+    holds(is_copy(&code.clone()?, &code), "a copy")
 }
 
-/// The code of these parts differs from this one.
-fn check_other_code(
-    alloc: Global,
-    code: &RawJavaScriptCodeWithScope,
-    text: &str,
-    scope: &[u8],
-) -> Result<(), Fail> {
-    let other = code_of(alloc, text, scope)?;
-    check_both(are_equal_codes(&other, code), false, text)
+/// Whether the code of these parts differs from that of another text and from that of another scope.
+fn differ_by_parts(alloc: Global, code: &RawJavaScriptCodeWithScope) -> bool {
+    match (
+        code_of(alloc, "h", EMPTY),
+        code_of(alloc, "g", NULL_DOCUMENT),
+    ) {
+        (Ok(text), Ok(scope)) => {
+            are_found_equal_codes(&text, code, false) && are_found_equal_codes(&scope, code, false)
+        }
+        _ => false,
+    }
 }
 
 #[test]
 fn code_with_scope_is_equal_by_both_parts(rt: HostRuntime) -> Result<(), Fail> {
     let code = code_of(rt.alloc(), "g", EMPTY)?;
-    check_other_code(rt.alloc(), &code, "h", EMPTY)?;
-    check_other_code(rt.alloc(), &code, "g", NULL_DOCUMENT)
+    holds(differ_by_parts(rt.alloc(), &code), "both parts")
+}
+
+/// A text of its own as a value.
+fn text_as_written(alloc: Global) -> raw_bson::Result<RawBson> {
+    Ok(RawBson::String(String::from_str(alloc, "a")?))
 }
 
 #[test]
 fn a_text_is_copied(rt: HostRuntime) -> Result<(), Fail> {
-    let wanted = RawBson::String(String::from_str(rt.alloc(), "a")?);
-    check_same(RawBson::from_str(rt.alloc(), "a")?, wanted)
+    let copy = RawBson::from_str(rt.alloc(), "a");
+    holds(is_same(&copy, &text_as_written(rt.alloc())), "a text")
 }
 
 /// A regular expression as a literal makes it, which leaves the order of its options.
-fn regex_as_written(alloc: Global) -> Result<RawBson, Fail> {
+fn regex_as_written(alloc: Global) -> raw_bson::Result<RawBson> {
     Ok(RawBson::RegularExpression(Regex {
         pattern: String::from_str(alloc, "^a")?,
         options: String::from_str(alloc, "mi")?,
     }))
 }
 
-/// The document of this value alone, under the empty key, is these bytes, and the value is read back.
-fn check_written(alloc: Global, value: RawBsonRef<'_>, bytes: &[u8]) -> Result<(), Fail> {
-    let mut document = document_of(alloc, EMPTY)?;
-    document.append_ref("", value)?;
-    check_bytes(document.as_bytes(), bytes, "written")?;
-    check_one_pair(alloc, document.as_ref(), "", value)
+/// Whether the document of this value alone, under the empty key, is these bytes, and the value is read back.
+fn is_written(
+    alloc: Global,
+    document: &mut RawDocumentBuf,
+    value: RawBsonRef<'_>,
+    bytes: &[u8],
+) -> bool {
+    document.append_ref("", value).is_ok()
+        && document.as_bytes() == bytes
+        && is_one_pair(alloc, document.as_ref(), "", value)
+}
+
+/// The same of a value and a document that were made.
+fn is_kept(
+    alloc: Global,
+    document: &mut raw_bson::Result<RawDocumentBuf>,
+    value: &raw_bson::Result<RawBson>,
+    bytes: &[u8],
+) -> bool {
+    match (document, value) {
+        (Ok(document), Ok(value)) => is_written(alloc, document, value.as_raw_bson_ref(), bytes),
+        _ => false,
+    }
 }
 
 #[test]
 fn options_are_kept_as_they_stand_in_an_owned_value(rt: HostRuntime) -> Result<(), Fail> {
-    let value = regex_as_written(rt.alloc())?;
     let bytes = b"\x0D\0\0\0\x0B\0^a\0mi\0\0";
-    check_written(rt.alloc(), value.as_raw_bson_ref(), bytes)
+    let value = regex_as_written(rt.alloc());
+    let is_kept = is_kept(
+        rt.alloc(),
+        &mut document_of(rt.alloc(), EMPTY),
+        &value,
+        bytes,
+    );
+    holds(is_kept, "options as they are")
 }

@@ -187,7 +187,7 @@ fn text_len(alloc: Global, levels: usize) -> Result<usize, Fail> {
 
 #[test]
 fn five_hundred_levels_are_printed(rt: HostRuntime) -> Result<(), Fail> {
-    assert_eq!(rt; text_len(rt.alloc(), 500)?, 2 + 500 * 6);
-    assert_eq!(rt; text_len(rt.alloc(), 501)?, 0);
+    assert!(rt; text_len(rt.alloc(), 500)? == 2 + 500 * 6);
+    assert!(rt; text_len(rt.alloc(), 501)? == 0);
     Ok(())
 }

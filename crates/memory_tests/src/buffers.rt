@@ -1,7 +1,8 @@
 use crate::asserts::{is_array, is_document, is_want_of_memory};
 use raw_bson::{
     BinarySubtype, Error, ErrorKind, RawArrayBuf, RawBinaryRef, RawBson, RawBsonRef, RawDocument,
-    RawDocumentBuf, RawElement, Reason, Result, ToRawArrayBuf, ToRawBson, ToRawDocumentBuf,
+    RawDocumentBuf, RawElement, Reason, Result, Timestamp, ToRawArrayBuf, ToRawBson,
+    ToRawDocumentBuf,
 };
 use std::alloc::Global;
 use std::process::Abort;
@@ -14,29 +15,47 @@ use test_fixtures::*;
 /// The numbers -1 and 123 under the keys `a` and `b`.
 const TWO_INT32: &[u8] = b"\x13\0\0\0\x10a\0\xFF\xFF\xFF\xFF\x10b\0\x7B\0\0\0\0";
 
-/// What is appended: the bytes before, the key, the value, the bytes after.
-type Append = (
-    &'static [u8],
-    &'static str,
-    RawBsonRef<'static>,
-    &'static [u8],
-);
+/// A value that is appended.
+#[derive(Clone, Copy)]
+enum Value {
+    /// an old binary of these bytes, which has an inner length
+    OldBinary(&'static [u8]),
+    Timestamp(Timestamp),
+    Int32(i32),
+}
 
-/// An old binary, which has an inner length, and a timestamp; then numbers behind one another.
-const APPENDS: [Append; 5] = [
+impl Value {
+    fn borrowed(self) -> RawBsonRef<'static> {
+        match self {
+            Value::OldBinary(bytes) => RawBsonRef::Binary(RawBinaryRef {
+                subtype: BinarySubtype::BinaryOld,
+                bytes,
+            }),
+            Value::Timestamp(timestamp) => RawBsonRef::Timestamp(timestamp),
+            Value::Int32(number) => RawBsonRef::Int32(number),
+        }
+    }
+}
+
+/// What is appended: the bytes before, the key, the value, the bytes after.
+type Append = (&'static [u8], &'static str, Value, &'static [u8]);
+
+/// Appends to the empty document.
+const FIRST_APPENDS: &[Append] = &[
     (
         EMPTY,
         "b",
-        RawBsonRef::Binary(RawBinaryRef {
-            subtype: BinarySubtype::BinaryOld,
-            bytes: b"\x01\x02\x03\x04",
-        }),
+        Value::OldBinary(b"\x01\x02\x03\x04"),
         OLD_BINARY,
     ),
-    (EMPTY, "ts", RawBsonRef::Timestamp(MOMENT), TIMESTAMP),
-    (EMPTY, "a", RawBsonRef::Int32(-1), ONE_INT32),
-    (ONE_INT32, "b", RawBsonRef::Int32(123), TWO_INT32),
-    (TWO_INT32, "c", RawBsonRef::Int32(0), THREE_INT32),
+    (EMPTY, "ts", Value::Timestamp(MOMENT), TIMESTAMP),
+];
+
+/// Appends of numbers behind one another.
+const MORE_APPENDS: &[Append] = &[
+    (EMPTY, "a", Value::Int32(-1), ONE_INT32),
+    (ONE_INT32, "b", Value::Int32(123), TWO_INT32),
+    (TWO_INT32, "c", Value::Int32(0), THREE_INT32),
 ];
 
 #[test]
@@ -62,7 +81,8 @@ fn goes_well_at_last(
     if !is_appended(answer, document.as_bytes(), before, after) {
         return false;
     }
-    answer.is_ok() || (document.append_ref(key, value).is_ok() && document.as_bytes() == after)
+    answer.is_ok()
+        || (document.append_ref(key, value.borrowed()).is_ok() && document.as_bytes() == after)
 }
 
 /// Whether an owned copy of the value is appended in the end, or memory ran out for the copy.
@@ -81,7 +101,11 @@ fn goes_well(alloc: Global, buffer: Result<RawDocumentBuf>, append: Append) -> b
     match buffer {
         Ok(mut document) => {
             document.as_bytes() == append.0
-                && is_copy_appended(&mut document, append.2.to_raw_bson(alloc), append)
+                && is_copy_appended(
+                    &mut document,
+                    append.2.borrowed().to_raw_bson(alloc),
+                    append,
+                )
         }
         Err(error) => is_want_of_memory(&error),
     }
@@ -89,10 +113,10 @@ fn goes_well(alloc: Global, buffer: Result<RawDocumentBuf>, append: Append) -> b
 
 #[test]
 fn append_or_want_of_memory(rt: HostRuntime) -> std::result::Result<(), Fail> {
-    for append in APPENDS.iter() {
+    for append in FIRST_APPENDS.iter().chain(MORE_APPENDS) {
         let view = RawDocument::from_bytes(append.0)?;
         let buffer = view.to_raw_document_buf(rt.alloc());
-        assert!(rt; goes_well(rt.alloc(), buffer, *append), "{append:?}");
+        assert!(rt; goes_well(rt.alloc(), buffer, *append), "{}", append.1);
     }
     Ok(())
 }
@@ -102,7 +126,7 @@ fn goes_well_by_reference(buffer: Result<RawDocumentBuf>, append: Append) -> boo
     match buffer {
         Ok(mut document) => {
             let is_before = document.as_bytes() == append.0;
-            let answer = document.append_ref(append.1, append.2);
+            let answer = document.append_ref(append.1, append.2.borrowed());
             is_before && goes_well_at_last(&answer, &mut document, append)
         }
         Err(error) => is_want_of_memory(&error),
@@ -111,10 +135,10 @@ fn goes_well_by_reference(buffer: Result<RawDocumentBuf>, append: Append) -> boo
 
 #[test]
 fn append_ref_or_want_of_memory(rt: HostRuntime) -> std::result::Result<(), Fail> {
-    for append in APPENDS.iter() {
+    for append in FIRST_APPENDS.iter().chain(MORE_APPENDS) {
         let view = RawDocument::from_bytes(append.0)?;
         let buffer = view.to_raw_document_buf(rt.alloc());
-        assert!(rt; goes_well_by_reference(buffer, *append), "{append:?}");
+        assert!(rt; goes_well_by_reference(buffer, *append), "{}", append.1);
     }
     Ok(())
 }
@@ -258,9 +282,9 @@ fn is_pair(alloc: Global, copy: Result<RawBson>, append: Append) -> bool {
 fn from_iter_or_want_of_memory(rt: HostRuntime) {
     assert!(rt; is_document(three_numbers(rt.alloc()), THREE_INT32));
     assert!(rt; is_no_document(one_pair(rt.alloc(), "a\0b", RawBson::Null)));
-    for append in APPENDS.iter().take(2) {
-        let copy = append.2.to_raw_bson(rt.alloc());
-        assert!(rt; is_pair(rt.alloc(), copy, *append), "{append:?}");
+    for append in FIRST_APPENDS {
+        let copy = append.2.borrowed().to_raw_bson(rt.alloc());
+        assert!(rt; is_pair(rt.alloc(), copy, *append), "{}", append.1);
     }
 }
 

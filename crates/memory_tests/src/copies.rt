@@ -218,7 +218,7 @@ fn first_element(alloc: Global, bytes: &[u8]) -> Option<RawElement<'_>> {
 fn is_fault(checks: Checks, answer: raw_bson::Result<RawBson>) -> bool {
     match answer {
         Ok(_) => false,
-        Err(error) => is_want_of_memory(&error) || checks.fault(&error, TWO_AT_A).is_ok(),
+        Err(error) => is_want_of_memory(&error) || checks.is_fault(&error, &TWO_AT_A),
     }
 }
 

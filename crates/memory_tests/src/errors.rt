@@ -31,18 +31,21 @@ fn has_a_copy(answer: raw_bson::Result<Option<RawBsonRef<'_>>>) -> bool {
     }
 }
 
+/// Documents, each with a key whose look-up has an error.
+const FAULTS: &[(&[u8], &str)] = &[
+    (BOOLEAN_TWO, "a"),
+    (TAG_ZERO, ""),
+    (PATTERN_NOT_UTF8, "a"),
+    (KEY_NOT_UTF8, "a"),
+    (SWALLOWED_TERMINATOR, "a"),
+];
+
 #[test]
 fn error_copies_or_want_of_memory(rt: HostRuntime) -> Result<(), Fail> {
     assert!(rt; is_kind_copied(&ErrorKind::OutOfMemory));
     let reason = Reason::BadBoolean(2);
     assert!(rt; is_kind_copied(&ErrorKind::MalformedValue { reason }));
-    for (bytes, key) in [
-        (BOOLEAN_TWO, "a"),
-        (TAG_ZERO, ""),
-        (PATTERN_NOT_UTF8, "a"),
-        (KEY_NOT_UTF8, "a"),
-        (SWALLOWED_TERMINATOR, "a"),
-    ] {
+    for (bytes, key) in FAULTS {
         let view = RawDocument::from_bytes(bytes)?;
         assert!(rt; has_a_copy(view.get(rt.alloc(), key)), "{bytes:?}");
     }
@@ -73,6 +76,14 @@ fn has_access_copies(answer: ValueAccessResult<DoubleBits>) -> bool {
     }
 }
 
+/// Documents, each with a key under which no double is found.
+const NO_DOUBLES: &[(&[u8], &str)] = &[
+    (GREETING, "hi"),
+    (GREETING, "x"),
+    (BOOLEAN_TWO, "a"),
+    (KEY_NOT_UTF8, "a"),
+];
+
 #[test]
 fn access_error_copies_or_want_of_memory(rt: HostRuntime) -> Result<(), Fail> {
     let unexpected = ValueAccessErrorKind::UnexpectedType {
@@ -80,12 +91,7 @@ fn access_error_copies_or_want_of_memory(rt: HostRuntime) -> Result<(), Fail> {
         actual: ElementType::Null,
     };
     assert!(rt; is_access_kind_copied(&unexpected));
-    for (bytes, key) in [
-        (GREETING, "hi"),
-        (GREETING, "x"),
-        (BOOLEAN_TWO, "a"),
-        (KEY_NOT_UTF8, "a"),
-    ] {
+    for (bytes, key) in NO_DOUBLES {
         let view = RawDocument::from_bytes(bytes)?;
         assert!(rt;
             has_access_copies(view.get_f64(rt.alloc(), key)),

@@ -41,12 +41,12 @@ fn has_part(tree: &Document, index: usize, wanted: &str) -> bool {
 
 /// Whether the tree has these parts in this order.
 fn has_parts(tree: &Document) -> bool {
-    for (index, wanted) in ["d", "l", "t", "r", "c"].iter().enumerate() {
-        if !has_part(tree, index, wanted) {
-            return false;
-        }
-    }
-    tree.len() == 5
+    has_part(tree, 0, "d")
+        && has_part(tree, 1, "l")
+        && has_part(tree, 2, "t")
+        && has_part(tree, 3, "r")
+        && has_part(tree, 4, "c")
+        && tree.len() == 5
 }
 
 /// Whether the result is a tree of these parts, or out of memory.
@@ -207,17 +207,6 @@ fn owned_values_or_want_of_memory(rt: HostRuntime) -> Result<(), Fail> {
     }
     Ok(())
 }
-
-/// Documents, and their canonical forms.
-const FORMS: &[(&[u8], &[u8])] = &[
-    (REPEATED_KEY, b"\x0C\0\0\0\x10a\0\x02\0\0\0\0"),
-    (
-        ARRAY_WITH_AN_EMPTY_KEY,
-        b"\x10\0\0\0\x04a\0\x08\0\0\0\x0A0\0\0\0",
-    ),
-    (LEAST_CODE_WITH_SCOPE, LEAST_CODE_WITH_SCOPE),
-    (OPTIONS_OUT_OF_ORDER, b"\x0D\0\0\0\x0Br\0a\0im\0\0"),
-];
 
 /// Whether just this form was written.
 fn is_written_as(written: raw_bson::Result<Vec<u8>>, form: &[u8]) -> bool {

@@ -1,5 +1,7 @@
 use crate::asserts::is_want_of_memory;
 use raw_bson::{Breach, Cause, RawDocument, validate};
+use std::alloc::Global;
+use std::process::Abort;
 use std::test::Fail;
 use test_fixtures::*;
 
@@ -23,17 +25,29 @@ fn is_canonical(answer: raw_bson::Result<Option<Breach>>) -> bool {
     }
 }
 
-#[test]
-fn a_repeated_key_or_want_of_memory(rt: HostRuntime) -> Result<(), Fail> {
-    let view = RawDocument::from_bytes(REPEATED_KEY)?;
-    assert!(rt; is_breach(validate(rt.alloc(), view), &[1], Cause::RepeatedKey));
-    Ok(())
+/// Whether the first breach of the document is this one, or memory runs out.
+fn is_row(alloc: Global, (bytes, path, cause): BreachRow) -> bool {
+    match RawDocument::from_bytes(bytes) {
+        Ok(view) => is_breach(validate(alloc, view), path, cause),
+        Err(_) => false,
+    }
 }
 
 #[test]
-fn an_array_with_an_empty_key_or_want_of_memory(rt: HostRuntime) -> Result<(), Fail> {
-    let view = RawDocument::from_bytes(ARRAY_WITH_AN_EMPTY_KEY)?;
-    assert!(rt; is_breach(validate(rt.alloc(), view), &[0, 0], Cause::ArrayKey));
+fn breaches_or_out_of_memory(rt: HostRuntime) {
+    for rows in BREACHES {
+        for row in rows.iter() {
+            assert!(rt; is_row(rt.alloc(), *row), "{row:?}");
+        }
+    }
+}
+
+#[test]
+fn canonical_or_out_of_memory(rt: HostRuntime) -> Result<(), Fail> {
+    for bytes in CANONICAL {
+        let view = RawDocument::from_bytes(bytes)?;
+        assert!(rt; is_canonical(validate(rt.alloc(), view)), "{bytes:?}");
+    }
     Ok(())
 }
 

@@ -43,7 +43,7 @@ fn a_deep_branch_among_others_is_let_go(rt: HostRuntime) -> Result<(), Fail> {
 }
 
 /// What a level holds the next one in, under the key `0` where it has keys.
-#[derive(Clone, Copy, Debug)]
+#[derive(Clone, Copy)]
 enum Holder {
     Document,
     Array,
@@ -100,20 +100,14 @@ fn are_equal(alloc: Global, holder: Holder, levels: usize) -> Result<bool, NoMem
     Ok(tree == tree_of_levels(alloc, holder, levels)?)
 }
 
-/// Two trees of so many levels are equal.
-fn check_compared(alloc: Global, holder: Holder, levels: usize) -> Result<(), Fail> {
-    if are_equal(alloc, holder, levels)? {
-        Ok(())
-    } else {
-        Err(Fail::new(format_args!("{holder:?}")))
-    }
-}
-
 #[test]
 fn levels_are_compared(rt: HostRuntime) -> Result<(), Fail> {
     // as many as the page of `Bson` says
     for &holder in HOLDERS {
-        check_compared(rt.alloc(), holder, 40_000)?;
+        holds(
+            are_equal(rt.alloc(), holder, 40_000)?,
+            "levels that are held so",
+        )?;
     }
     Ok(())
 }

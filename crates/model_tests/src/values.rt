@@ -38,14 +38,19 @@ fn has_hex(alloc: Global, id: ObjectId, digits: &str) -> bool {
     has_digits(alloc, id, digits) && is_text(id.to_string(alloc), digits)
 }
 
+/// Whether an object id keeps its bytes, differs from another, and both have their digits.
+fn are_ids(alloc: Global, bytes: [u8; 12], high: ObjectId) -> bool {
+    let id = ObjectId::from_bytes(bytes);
+    has_hex(alloc, id, "0102030405060708090a0b0c")
+        && id.bytes() == bytes
+        && has_hex(alloc, high, "ffab0000000000000000000f")
+        && id != high
+}
+
 #[test]
 fn an_object_id_is_its_twelve_bytes(rt: HostRuntime) {
-    let id = ObjectId::from_bytes([1, 2, 3, 4, 5, 6, 7, 8, 9, 10, 11, 12]);
-    assert!(rt; has_hex(rt.alloc(), id, "0102030405060708090a0b0c"));
-    assert_eq!(rt; id.bytes(), [1, 2, 3, 4, 5, 6, 7, 8, 9, 10, 11, 12]);
     let high = ObjectId::from_bytes([0xff, 0xab, 0, 0, 0, 0, 0, 0, 0, 0, 0, 0x0f]);
-    assert!(rt; has_hex(rt.alloc(), high, "ffab0000000000000000000f"));
-    assert_ne!(rt; id, high);
+    assert!(rt; are_ids(rt.alloc(), [1, 2, 3, 4, 5, 6, 7, 8, 9, 10, 11, 12], high));
 }
 
 const NEGATIVE_ZERO: DoubleBits = DoubleBits(0x8000_0000_0000_0000);
@@ -55,17 +60,25 @@ const ONE_AND_TWO: Timestamp = Timestamp {
     increment: 2,
 };
 
+/// Whether small values are what they are made of.
+fn are_kept(bytes: [u8; 16]) -> bool {
+    DateTime::from_millis(-1).timestamp_millis() == -1
+        && Decimal128::from_bytes(bytes).bytes() == bytes
+        && NEGATIVE_ZERO != DoubleBits(0)
+}
+
+/// Whether small values have their `Debug` texts.
+fn are_small_printed(alloc: Global) -> bool {
+    has_debug(alloc, &NEGATIVE_ZERO, "DoubleBits(9223372036854775808)")
+        && has_debug(alloc, &ONE_AND_TWO, "Timestamp { time: 1, increment: 2 }")
+        && has_debug(alloc, &DateTime::from_millis(7), "DateTime { millis: 7 }")
+}
+
 #[test]
 fn small_values_keep_what_they_are_given(rt: HostRuntime) {
-    let alloc = rt.alloc();
-    assert_eq!(rt; DateTime::from_millis(-1).timestamp_millis(), -1);
     let bytes = [0, 1, 2, 3, 4, 5, 6, 7, 8, 9, 10, 11, 12, 13, 14, 15];
-    assert_eq!(rt; Decimal128::from_bytes(bytes).bytes(), bytes);
-    assert_ne!(rt; NEGATIVE_ZERO, DoubleBits(0));
-    assert!(rt; has_debug(alloc, &NEGATIVE_ZERO, "DoubleBits(9223372036854775808)"));
-    assert!(rt; has_debug(alloc, &ONE_AND_TWO, "Timestamp { time: 1, increment: 2 }"));
-    let seven = DateTime::from_millis(7);
-    assert!(rt; has_debug(alloc, &seven, "DateTime { millis: 7 }"));
+    assert!(rt; are_kept(bytes));
+    assert!(rt; are_small_printed(rt.alloc()));
 }
 
 #[test]
@@ -83,19 +96,24 @@ const NUMBERS: &[(u64, f64)] = &[
     (0x7FEF_FFFF_FFFF_FFFF, 1.7976931348623157e308),
 ];
 
+/// Whether the bits are of this number, and are made of it.
+fn are_of_number(bits: u64, number: f64) -> bool {
+    DoubleBits(bits).to_f64() == number && DoubleBits::from_f64(number) == DoubleBits(bits)
+}
+
+/// Whether bits of no number become no number, whose bits are those of the quiet one.
+fn are_of_no_number(bits: u64) -> bool {
+    let number = DoubleBits(bits).to_f64();
+    number.is_nan() && DoubleBits::from_f64(number) == DoubleBits(0x7FF8_0000_0000_0000)
+}
+
 #[test]
 fn bits_are_numbers(rt: HostRuntime) {
     for (bits, number) in NUMBERS {
-        assert!(rt; DoubleBits(*bits).to_f64() == *number);
-        assert_eq!(rt; DoubleBits::from_f64(*number), DoubleBits(*bits));
+        assert!(rt; are_of_number(*bits, *number), "{bits}");
     }
-    assert_eq!(rt; DoubleBits::from_f64(-0.0), NEGATIVE_ZERO);
-    let payload = DoubleBits(0xFFF0_0000_0000_0001).to_f64();
-    assert!(rt; payload.is_nan());
-    assert_eq!(rt;
-        DoubleBits::from_f64(payload),
-        DoubleBits(0x7FF8_0000_0000_0000)
-    );
+    assert!(rt; DoubleBits::from_f64(-0.0) == NEGATIVE_ZERO);
+    assert!(rt; are_of_no_number(0xFFF0_0000_0000_0001));
 }
 
 /// Bytes, each with its subtype.
@@ -116,13 +134,17 @@ const SUBTYPES: &[(u8, BinarySubtype)] = &[
     (255, BinarySubtype::UserDefined(255)),
 ];
 
+/// Whether the byte is that of the subtype, both ways.
+fn is_byte_of(byte: u8, subtype: BinarySubtype) -> bool {
+    BinarySubtype::from_u8(byte) == subtype && subtype.to_u8() == byte
+}
+
 #[test]
 fn subtypes_have_their_bytes(rt: HostRuntime) {
     for (byte, subtype) in SUBTYPES {
-        assert_eq!(rt; BinarySubtype::from_u8(*byte), *subtype);
-        assert_eq!(rt; subtype.to_u8(), *byte);
+        assert!(rt; is_byte_of(*byte, *subtype), "{byte}");
     }
-    assert_eq!(rt; BinarySubtype::UserDefined(2).to_u8(), 2);
+    assert!(rt; BinarySubtype::UserDefined(2).to_u8() == 2);
 }
 
 /// The bytes 1 and 2.

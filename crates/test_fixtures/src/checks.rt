@@ -1,56 +1,70 @@
 use crate::faults::Fault;
-use raw_view::{
-    ElementType, Error, ErrorKind, RawBsonRef, ValueAccessError, ValueAccessErrorKind,
+use raw_bson::{
+    ElementType, Error, ErrorKind, RawBsonRef, RawRegexRef, ValueAccessError, ValueAccessErrorKind,
     ValueAccessResult,
 };
 use std::alloc::Global;
-use std::fmt;
-use std::fmt::Debug;
 
 /// A result that is wanted of a look-up.
-#[derive(Clone, Copy, Debug)]
+#[derive(Clone, Copy)]
 pub enum Want<'a> {
-    /// this value
-    Value(RawBsonRef<'a>),
+    Null,
+    Boolean(bool),
+    Int32(i32),
+    String(&'a str),
+    /// a pattern and options
+    RegularExpression(&'a str, &'a str),
     /// no value
     Nothing,
     /// this error
-    Fault(Fault<'a>),
+    Fault(&'a Fault<'a>),
+}
+
+impl Want<'_> {
+    /// Whether this is the wanted value.
+    fn is_value(self, value: RawBsonRef<'_>) -> bool {
+        match self {
+            Want::Null => value.as_null().is_some(),
+            Want::Boolean(want) => value.as_bool() == Some(want),
+            Want::Int32(want) => value.as_i32() == Some(want),
+            Want::String(want) => value.as_str() == Some(want),
+            Want::RegularExpression(pattern, options) => {
+                value.as_regex() == Some(RawRegexRef { pattern, options })
+            }
+            Want::Nothing | Want::Fault(_) => false,
+        }
+    }
+
+    /// Whether no value is wanted, and no error.
+    pub(crate) fn is_nothing(self) -> bool {
+        matches!(self, Want::Nothing)
+    }
 }
 
 /// Why a typed getter is wanted to have no value.
-#[derive(Clone, Copy, Debug)]
+#[derive(Clone, Copy)]
 pub enum NoValue<'a> {
     /// nothing is there
     NotPresent,
     /// the kind that was asked for, and the kind that is there
     Unexpected(ElementType, ElementType),
     /// a fault
-    Invalid(Fault<'a>),
+    Invalid(&'a Fault<'a>),
 }
 
-/// What was found isn't what was wanted. Its `Debug` text says both, and where.
-#[derive(Drop)]
-pub struct Mismatch(String);
-
-impl fmt::Debug for Mismatch {
-    fn fmt<W: fmt::Write>(&self, f: &mut fmt::Formatter<W>) -> fmt::Result {
-        f.write_str(self.0.as_str())
-    }
-}
-
-/// Whether a request for memory may be refused while a result is made.
-#[derive(Clone, Copy, PartialEq, Eq)]
-enum Memory {
-    Ample,
-    Refusable,
+/// The table, and the row in it, counted from 0, whose result isn't the wanted one.
+#[derive(Clone, Copy, Debug)]
+pub struct Mismatch {
+    pub table: &'static str,
+    pub row: usize,
 }
 
 /// Checks of results.
 #[derive(Clone, Copy)]
 pub struct Checks {
     pub(crate) alloc: Global,
-    memory: Memory,
+    /// whether a request for memory may be refused while a result is made
+    is_refusable: bool,
 }
 
 impl Checks {
@@ -58,7 +72,7 @@ impl Checks {
     pub fn ample(alloc: Global) -> Checks {
         Checks {
             alloc,
-            memory: Memory::Ample,
+            is_refusable: false,
         }
     }
 
@@ -67,120 +81,138 @@ impl Checks {
     pub fn refusable(alloc: Global) -> Checks {
         Checks {
             alloc,
-            memory: Memory::Refusable,
+            is_refusable: true,
         }
     }
 
-    /// Passes where the result is the wanted one.
-    pub(crate) fn holds<F: Debug, W: Debug, P: Debug>(
-        self,
-        is_wanted: bool,
-        found: &F,
-        wanted: &W,
-        place: &P,
-    ) -> Result<(), Mismatch> {
-        if is_wanted {
-            return Ok(());
-        }
-        let text = format!(in self.alloc; "{found:?} where {wanted:?} is wanted, at {place:?}");
-        match text {
-            Ok(text) => Err(Mismatch(text)),
-            Err(_) => Err(Mismatch(String::new(self.alloc))),
-        }
-    }
-
-    /// Whether the error has this kind and this key, and this text where it is looked at.
-    fn is_fault(self, error: &Error, want: Fault<'_>) -> bool {
-        let is_reason = match &error.kind {
-            ErrorKind::MalformedValue { reason } => want.reason == Some(*reason),
-            ErrorKind::Utf8EncodingError(_) => want.reason == None,
-            ErrorKind::OutOfMemory => false,
-        };
-        is_reason && error.key() == want.key && self.is_text(error, want.text)
-    }
-
+    /// Whether the error has this text, where texts are looked at.
     fn is_text(self, error: &Error, want: &str) -> bool {
-        self.memory == Memory::Refusable
+        self.is_refusable
             || match format!(in self.alloc; "{error}") {
                 Ok(text) => text.as_str() == want,
                 Err(_) => false,
             }
     }
 
-    /// Whether the error says that memory ran out for the key of this fault.
-    fn is_want_of_memory(self, error: &Error, want: Fault<'_>) -> bool {
-        self.memory == Memory::Refusable
-            && want.key.is_some()
-            && *error == Error::new(ErrorKind::OutOfMemory)
+    /// Whether the error has this kind and this key, and this text where it is looked at.
+    pub fn is_fault(self, error: &Error, want: &Fault<'_>) -> bool {
+        let is_reason = match &error.kind {
+            ErrorKind::MalformedValue { reason } => want.reason == Some(*reason),
+            ErrorKind::Utf8EncodingError(_) => want.reason.is_none(),
+            ErrorKind::OutOfMemory => false,
+        };
+        is_reason && error.key() == want.key && self.is_text(error, want.text)
     }
 
-    /// The error is this fault.
-    pub fn fault(self, error: &Error, want: Fault<'_>) -> Result<(), Mismatch> {
-        self.holds(self.is_fault(error, want), error, &want, &want.text)
+    /// Whether the error is this fault, or says that memory ran out for its key.
+    fn is_fault_or_want(self, error: &Error, want: &Fault<'_>) -> bool {
+        match &error.kind {
+            ErrorKind::OutOfMemory => {
+                self.is_refusable && want.key.is_some() && error.key().is_none()
+            }
+            _ => self.is_fault(error, want),
+        }
     }
 
-    /// The result of a look-up in these bytes is the wanted one, or out of memory for the key of its fault.
-    pub fn answer(
+    /// Whether the error is the wanted one, or says that memory ran out for its key.
+    pub(crate) fn is_error(self, error: &Error, want: Want<'_>) -> bool {
+        match want {
+            Want::Fault(fault) => self.is_fault_or_want(error, fault),
+            _ => false,
+        }
+    }
+
+    /// Whether the result of a look-up is the wanted one, or out of memory for the key of its fault.
+    pub fn is_answer(
         self,
-        answer: raw_view::Result<Option<RawBsonRef<'_>>>,
+        answer: &raw_bson::Result<Option<RawBsonRef<'_>>>,
         want: Want<'_>,
-        bytes: &[u8],
-    ) -> Result<(), Mismatch> {
-        let is_wanted = match (&answer, want) {
-            (Ok(Some(value)), Want::Value(want)) => *value == want,
-            (Ok(None), Want::Nothing) => true,
-            (Err(error), Want::Fault(want)) => {
-                self.is_fault(error, want) || self.is_want_of_memory(error, want)
-            }
-            _ => false,
-        };
-        self.holds(is_wanted, &answer, &want, &bytes)
+    ) -> bool {
+        match answer {
+            Ok(Some(value)) => want.is_value(*value),
+            Ok(None) => want.is_nothing(),
+            Err(error) => self.is_error(error, want),
+        }
     }
 
-    /// The document of these bytes says as wanted whether it has the key; or it is out of memory for the key of the stop.
-    pub fn has_key(
+    /// The same of a value that was read.
+    pub(crate) fn is_read(self, answer: &raw_bson::Result<RawBsonRef<'_>>, want: Want<'_>) -> bool {
+        match answer {
+            Ok(value) => want.is_value(*value),
+            Err(error) => self.is_error(error, want),
+        }
+    }
+
+    /// The same of an item; nothing is wanted at the end.
+    pub(crate) fn is_item(
         self,
-        answer: raw_view::Result<bool>,
-        want: Result<bool, Fault<'_>>,
-        bytes: &[u8],
-    ) -> Result<(), Mismatch> {
-        let is_wanted = match (&answer, want) {
+        item: &Option<raw_bson::Result<RawBsonRef<'_>>>,
+        want: Want<'_>,
+    ) -> bool {
+        match item {
+            Some(answer) => self.is_read(answer, want),
+            None => want.is_nothing(),
+        }
+    }
+
+    /// The same of an item with a key.
+    pub(crate) fn is_pair(
+        self,
+        item: &Option<raw_bson::Result<(&str, RawBsonRef<'_>)>>,
+        key: &str,
+        want: Want<'_>,
+    ) -> bool {
+        match item {
+            Some(Ok((found, value))) => *found == key && want.is_value(*value),
+            Some(Err(error)) => self.is_error(error, want),
+            None => want.is_nothing(),
+        }
+    }
+
+    /// Whether a document says as wanted whether it has a key; or it is out of memory for the key of the stop.
+    pub fn is_key(
+        self,
+        answer: &raw_bson::Result<bool>,
+        want: std::result::Result<bool, &Fault<'_>>,
+    ) -> bool {
+        match (answer, want) {
             (Ok(found), Ok(want)) => *found == want,
-            (Err(error), Err(want)) => {
-                self.is_fault(error, want) || self.is_want_of_memory(error, want)
-            }
+            (Err(error), Err(want)) => self.is_fault_or_want(error, want),
             _ => false,
-        };
-        self.holds(is_wanted, &answer, &want, &bytes)
+        }
     }
 
-    /// A typed getter has no value, for this cause and with this key; or memory ran out, and has the empty key.
-    pub fn no_value<T: Debug + Drop>(
+    /// Whether a typed getter has no value, for this cause and with this key; or memory ran out, and has the empty key.
+    pub fn is_no_value<T>(
         self,
-        answer: ValueAccessResult<T>,
+        answer: &ValueAccessResult<T>,
         want: NoValue<'_>,
         key: &str,
-    ) -> Result<(), Mismatch> {
-        let is_wanted = match &answer {
+    ) -> bool {
+        match answer {
             Ok(_) => false,
             Err(error) => self.is_access_error(error, want, key),
-        };
-        self.holds(is_wanted, &answer, &want, &key)
+        }
     }
 
-    /// The getter of a kind has this value where it is of that kind, and else says that it is of its own.
-    pub fn typed(
+    /// Whether the getter of a kind has this value where it is of that kind, and else says that it is of its own.
+    pub fn is_typed(
         self,
-        answer: ValueAccessResult<RawBsonRef<'_>>,
+        answer: &ValueAccessResult<RawBsonRef<'_>>,
         asked: ElementType,
         value: RawBsonRef<'_>,
         key: &str,
-    ) -> Result<(), Mismatch> {
-        let kind = value.element_type();
-        if asked == kind {
-            self.holds(answer == Ok(value), &answer, &value, &key)
-        } else {
-            self.no_value(answer, NoValue::Unexpected(asked, kind), key)
+    ) -> bool {
+        match answer {
+            Ok(found) => asked == value.element_type() && *found == value,
+            Err(error) => {
+                asked != value.element_type()
+                    && self.is_access_error(
+                        error,
+                        NoValue::Unexpected(asked, value.element_type()),
+                        key,
+                    )
+            }
         }
     }
 
@@ -194,9 +226,7 @@ impl Checks {
             (ValueAccessErrorKind::InvalidBson(inner), NoValue::Invalid(fault)) => {
                 self.is_fault(inner, fault) && error.key() == key
             }
-            (ValueAccessErrorKind::OutOfMemory, _) => {
-                self.memory == Memory::Refusable && error.key() == ""
-            }
+            (ValueAccessErrorKind::OutOfMemory, _) => self.is_refusable && error.key() == "",
             _ => false,
         }
     }

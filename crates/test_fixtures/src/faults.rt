@@ -1,6 +1,6 @@
 //! The faults of the shared documents.
 
-use raw_view::Reason;
+use raw_bson::Reason;
 
 /// An error that is wanted.
 #[derive(Clone, Copy, Debug)]

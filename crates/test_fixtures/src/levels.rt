@@ -1,6 +1,6 @@
 //! Documents of many levels.
 
-use bson_model::{Bson, Document};
+use raw_bson::{Bson, Document};
 use std::alloc::{AllocError, Global};
 
 /// What a level holds the next one in.

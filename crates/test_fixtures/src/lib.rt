@@ -1,18 +1,27 @@
-//! What `view_tests`, `bson_tests`, `tree_tests` and `memory_tests` share: bytes and the faults that are in them, a
-//! value of each kind, the getters by kind, and checks of results. A check returns a `Mismatch`, which `?` makes the
-//! failure of a test.
+//! What `view_tests`, `bson_tests`, `tree_tests` and `memory_tests` share: bytes and the faults that are in them, tables of
+//! what is returned of them, a value of each kind, borrowed and owned, the getters by kind, and checks of results. A check
+//! returns a `Mismatch` or a `Fail`, which `?` makes the failure of a test.
 #![tactic(auto)]
 
+mod as_values;
+mod breaches;
 mod checks;
 mod documents;
 mod faults;
+mod forms;
 mod getters;
 mod keys;
 mod levels;
+mod owned_values;
+mod refusals;
+mod results;
 mod rows;
+mod tables;
 mod values;
 mod walks;
 
+pub use as_values::{got, shown, shown_code, shown_null, shown_pointer, shown_symbol};
+pub use breaches::{BREACHES, BreachRow, CANONICAL};
 pub use checks::{Checks, Mismatch, NoValue, Want};
 pub use documents::{
     ALL_KINDS, ARRAY_WITH_AN_EMPTY_KEY, ARRAY_WITH_TEXT_NOT_UTF8, BOOL_AND_INT32, BOOLEAN_TWO,
@@ -27,9 +36,17 @@ pub use faults::{
     ADD_OVERFLOW, CODE_TOO_SMALL_AT_A, Fault, NEGATIVE_AT_A, NOT_UTF8, NOT_UTF8_AT_A, OVERFLOWED,
     PAST_END_AT_A, SCOPE_LENGTH, STRING_PAST_END_AT_A, TWO_AT_0, TWO_AT_A, ZERO_IS_NO_TAG,
 };
+pub use forms::{A_THEN_B, B_THEN_A, FORMS};
 pub use getters::{get_of_array, get_of_document, has_getter};
 pub use keys::KEY_ANSWERS;
 pub use levels::{Holder, has_levels, levels_inside, nested, nested_in_turn};
+pub use owned_values::{all_owned, array_of, code_of, document_of, owned};
+pub use refusals::{is_malformed, is_refused};
+pub use results::{
+    check_answer, check_bytes, check_debug_text, check_display_text, check_equal, check_fault,
+    check_malformed, check_refused, check_text, has_debug_text, holds, is_answer,
+};
+pub use tables::PLACES;
 pub use values::{
     HALF_MORE_THAN_ONE, KINDS, MOMENT, array_view, borrowed, decimal, has_accessor, id, pointed,
 };

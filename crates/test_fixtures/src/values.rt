@@ -1,14 +1,14 @@
 //! A value of each kind, borrowed: those of the document of all kinds.
 
 use crate::documents::{EMPTY, NULL_ARRAY, NULL_DOCUMENT};
-use bson_model::{BinarySubtype, DateTime, Decimal128, DoubleBits, ObjectId, Timestamp};
-use raw_view::{
-    ElementType, RawArray, RawBinaryRef, RawBsonRef, RawDbPointerRef, RawDocument,
-    RawJavaScriptCodeWithScopeRef, RawRegexRef, Result,
+use raw_bson::{
+    BinarySubtype, DateTime, Decimal128, DoubleBits, ElementType, ObjectId, RawArray, RawBinaryRef,
+    RawBsonRef, RawDbPointerRef, RawDocument, RawJavaScriptCodeWithScopeRef, RawRegexRef, Result,
+    Timestamp,
 };
 
 /// The kinds in the order of their tags, each with its key in the document of all kinds.
-pub const KINDS: [(&str, ElementType); 21] = [
+pub const KINDS: &[(&str, ElementType)] = &[
     ("a", ElementType::Double),
     ("b", ElementType::String),
     ("c", ElementType::EmbeddedDocument),
@@ -72,18 +72,18 @@ pub fn array_view(bytes: &[u8]) -> Result<RawArray<'_>> {
 /// The value of this kind in the document of all kinds.
 pub fn borrowed(kind: ElementType) -> Result<RawBsonRef<'static>> {
     match kind {
-        ElementType::EmbeddedDocument => document_of(NULL_DOCUMENT),
-        ElementType::Array => array_of(NULL_ARRAY),
+        ElementType::EmbeddedDocument => document_value(NULL_DOCUMENT),
+        ElementType::Array => array_value(NULL_ARRAY),
         ElementType::JavaScriptCodeWithScope => code_with_scope("g", EMPTY),
         _ => Ok(small(kind)),
     }
 }
 
-fn document_of(bytes: &[u8]) -> Result<RawBsonRef<'_>> {
+fn document_value(bytes: &[u8]) -> Result<RawBsonRef<'_>> {
     Ok(RawBsonRef::Document(RawDocument::from_bytes(bytes)?))
 }
 
-fn array_of(bytes: &[u8]) -> Result<RawBsonRef<'_>> {
+fn array_value(bytes: &[u8]) -> Result<RawBsonRef<'_>> {
     Ok(RawBsonRef::Array(array_view(bytes)?))
 }
 

@@ -1,13 +1,13 @@
 //! Forms, first barriers and verdicts are those that come by way of the tree.
 
 use crate::made::made;
-use bson_fixtures::holds;
 use raw_bson::{
-    Error, ErrorKind, Limits, RawDocument, Reason, canonical_bytes, document_from_raw_within,
-    validate,
+    Breach, Document, Error, ErrorKind, Limits, RawDocument, Reason, canonical_bytes,
+    document_from_raw_within, validate,
 };
 use raw_form::{
-    Barrier, BarrierKind, PlacedBreach, canonical_within, first_fault_within, validate_within,
+    Barrier, BarrierKind, PlacedBreach, ValidateError, canonical_within, first_fault_within,
+    validate_within,
 };
 use std::alloc::Global;
 use std::test::Fail;
@@ -91,35 +91,50 @@ fn error_of(alloc: Global, barrier: Barrier<'_>) -> Error {
     Error::new(ErrorKind::MalformedValue { reason })
 }
 
+/// There is no tree, for this error.
+fn is_why(error: &Error, tree: &raw_bson::Result<Document>) -> Result<bool, Fail> {
+    match tree {
+        Err(wanted) if error == wanted => Ok(true),
+        _ => Err(Fail::new("another barrier")),
+    }
+}
+
+/// Whether a barrier was found; it is why there is no tree.
+fn is_barred(
+    alloc: Global,
+    found: raw_bson::Result<Option<Barrier<'_>>>,
+    tree: &raw_bson::Result<Document>,
+) -> Result<bool, Fail> {
+    match found {
+        Ok(Some(barrier)) => is_why(&error_of(alloc, barrier), tree),
+        Ok(None) if tree.is_ok() => Ok(false),
+        _ => Err(Fail::new("a barrier or a tree alone")),
+    }
+}
+
 /// Whether there is a barrier within limits; it is why there is no tree.
 fn has_barrier(alloc: Global, document: RawDocument<'_>, limits: Limits) -> Result<bool, Fail> {
-    match (
-        first_fault_within(alloc, document, limits)?,
-        document_from_raw_within(alloc, document, limits),
-    ) {
-        (None, Ok(_)) => Ok(false),
-        (Some(barrier), Err(wanted)) => {
-            holds(error_of(alloc, barrier) == wanted, "another barrier")?;
-            Ok(true)
-        }
-        _ => Err(Fail::new("a barrier or a tree alone")),
+    let tree = document_from_raw_within(alloc, document, limits);
+    is_barred(alloc, first_fault_within(alloc, document, limits), &tree)
+}
+
+/// Whether a breach was found; it is the wanted one.
+fn is_breached(
+    found: &Result<Option<PlacedBreach<'_>>, ValidateError<'_>>,
+    wanted: &raw_bson::Result<Option<Breach>>,
+) -> Result<bool, Fail> {
+    match (found, wanted) {
+        (Ok(None), Ok(None)) => Ok(false),
+        (Ok(Some(breach)), Ok(Some(wanted)))
+            if breach.cause == wanted.cause && leads(breach, wanted.path.as_slice()) => { Ok(true) }
+        _ => Err(Fail::new("another breach, or a breach alone")),
     }
 }
 
 /// Whether there is a breach; it is the one that `validate` finds.
 fn has_breach(alloc: Global, document: RawDocument<'_>) -> Result<bool, Fail> {
-    match (
-        validate_within(alloc, document, AMPLE),
-        validate(alloc, document)?,
-    ) {
-        (Ok(None), None) => Ok(false),
-        (Ok(Some(breach)), Some(wanted)) => {
-            holds(breach.cause == wanted.cause, "another cause")?;
-            holds(leads(&breach, wanted.path.as_slice()), "another path")?;
-            Ok(true)
-        }
-        _ => Err(Fail::new("a breach alone")),
-    }
+    let found = validate_within(alloc, document, AMPLE);
+    is_breached(&found, &validate(alloc, document))
 }
 
 /// Whether the path to the breach has these numbers.

@@ -1,9 +1,17 @@
 //! What is said of the calls that read and write trees.
 
-use bson_fixtures::{check_answer, check_bytes};
 use raw_bson::{Bson, RawBson, RawDocumentBuf};
 use std::alloc::Global;
 use std::test::Fail;
+use test_fixtures::{check_bytes, is_answer};
+
+/// Whether the result is these bytes.
+pub(crate) fn is_written(answer: raw_bson::Result<Vec<u8>>, bytes: &[u8]) -> bool {
+    match answer {
+        Ok(written) => written.as_slice() == bytes,
+        Err(_) => false,
+    }
+}
 
 /// The result is these bytes.
 pub(crate) fn check_written(answer: raw_bson::Result<Vec<u8>>, bytes: &[u8]) -> Result<(), Fail> {
@@ -13,23 +21,20 @@ pub(crate) fn check_written(answer: raw_bson::Result<Vec<u8>>, bytes: &[u8]) -> 
     }
 }
 
-/// The result is a buffer of these bytes.
-pub(crate) fn check_buffer(
-    answer: raw_bson::Result<RawDocumentBuf>,
-    bytes: &[u8],
-) -> Result<(), Fail> {
+/// Whether the result is a buffer of these bytes.
+pub(crate) fn is_buffer(answer: raw_bson::Result<RawDocumentBuf>, bytes: &[u8]) -> bool {
     match answer {
-        Ok(buffer) => check_bytes(buffer.as_bytes(), bytes, "a buffer"),
-        Err(error) => Err(Fail::new(error)),
+        Ok(buffer) => buffer.as_bytes() == bytes,
+        Err(_) => false,
     }
 }
 
-/// The value becomes this owned one.
-pub(crate) fn check_owned(alloc: Global, value: Bson, wanted: &RawBson) -> Result<(), Fail> {
-    check_answer(RawBson::try_from_bson(alloc, value), wanted, "owned")
+/// Whether the value becomes this owned one.
+pub(crate) fn becomes_owned(alloc: Global, value: Bson, wanted: &RawBson) -> bool {
+    is_answer(RawBson::try_from_bson(alloc, value), wanted)
 }
 
-/// The owned value becomes this one.
-pub(crate) fn check_read(alloc: Global, owned: RawBson, wanted: &Bson) -> Result<(), Fail> {
-    check_answer(owned.into_bson(alloc), wanted, "read")
+/// Whether the owned value becomes this one.
+pub(crate) fn becomes_tree(alloc: Global, owned: RawBson, wanted: &Bson) -> bool {
+    is_answer(owned.into_bson(alloc), wanted)
 }

@@ -1,8 +1,5 @@
-use crate::checks::check_written;
-use crate::trees_fixtures::{empty_code, levels_by_hand, one_null, one_pair, text};
-use bson_fixtures::{
-    check_answer, check_bytes, check_equal, check_malformed, check_refused, holds,
-};
+use crate::checks::is_written;
+use crate::trees_fixtures::{empty_code, levels_by_hand, one_null, one_pair, text, tree_of};
 use raw_bson::{
     Bson, Document, RawDocument, Reason, canonical_bytes, document_from_raw,
     document_from_raw_counted,
@@ -11,32 +8,40 @@ use std::alloc::Global;
 use std::test::Fail;
 use test_fixtures::*;
 
-/// So many elements are framed, and the result is this tree, as it is where nothing is counted.
-fn check_count(alloc: Global, bytes: &[u8], count: usize, wanted: &Document) -> Result<(), Fail> {
-    let view = RawDocument::from_bytes(bytes)?;
-    let (answer, steps) = document_from_raw_counted(alloc, view);
-    check_answer(answer, wanted, "counted")?;
-    check_equal(&steps.count(), &count, "elements framed")?;
-    check_answer(document_from_raw(alloc, view), wanted, "not counted")
+/// Whether so many elements are framed, and the result is this tree, as it is where nothing is counted.
+fn is_counted(alloc: Global, bytes: &[u8], count: usize, wanted: &Document) -> bool {
+    match RawDocument::from_bytes(bytes) {
+        Ok(view) => {
+            let (answer, steps) = document_from_raw_counted(alloc, view);
+            let is_counted = is_answer(answer, wanted);
+            let is_read = is_answer(document_from_raw(alloc, view), wanted);
+            is_counted && is_read && steps.count() == count
+        }
+        Err(_) => false,
+    }
 }
 
 /// The same of a tree of its own.
-fn check_count_of(alloc: Global, bytes: &[u8], count: usize, wanted: Document) -> Result<(), Fail> {
-    check_count(alloc, bytes, count, &wanted)
+fn check_count(alloc: Global, bytes: &[u8], count: usize, wanted: Document) -> Result<(), Fail> {
+    if is_counted(alloc, bytes, count, &wanted) {
+        Ok(())
+    } else {
+        Err(Fail::new(format_args!("{bytes:?}: {count} elements of {wanted:?} are wanted")))
+    }
 }
 
 #[test]
 fn elements_are_counted(rt: HostRuntime) -> Result<(), Fail> {
     let alloc = rt.alloc();
-    check_count_of(alloc, EMPTY, 0, Document::new(alloc))?;
+    check_count(alloc, EMPTY, 0, Document::new(alloc))?;
     let greeting = one_pair(alloc, "hi", text(alloc, "y'all")?)?;
-    check_count_of(alloc, GREETING, 1, greeting)?;
+    check_count(alloc, GREETING, 1, greeting)?;
     let once = one_pair(alloc, "a", Bson::Int32(2))?;
-    check_count_of(alloc, REPEATED_KEY, 2, once)?;
+    check_count(alloc, REPEATED_KEY, 2, once)?;
     let list = one_pair(alloc, "a", one_null(alloc)?)?;
-    check_count_of(alloc, ARRAY_WITH_AN_EMPTY_KEY, 2, list)?;
+    check_count(alloc, ARRAY_WITH_AN_EMPTY_KEY, 2, list)?;
     let code = one_pair(alloc, "c", empty_code(alloc))?;
-    check_count_of(alloc, LEAST_CODE_WITH_SCOPE, 1, code)
+    check_count(alloc, LEAST_CODE_WITH_SCOPE, 1, code)
 }
 
 /// Bytes with a fault, how many elements are framed until it is found, why it is one, and its key.
@@ -54,25 +59,28 @@ const FAULTS: &[(&[u8], usize, Reason, Option<&str>)] = &[
     (NESTED_STOP, 2, Reason::Overflowed, None),
 ];
 
-/// So many elements are framed, and the result is this fault, as it is where nothing is counted.
-fn check_count_of_fault(
+/// Whether so many elements are framed, and the result is this fault, as it is where nothing is counted.
+fn is_fault_counted(
     alloc: Global,
-    bytes: &[u8],
+    view: RawDocument<'_>,
     count: usize,
     reason: Reason,
     key: Option<&str>,
-) -> Result<(), Fail> {
-    let view = RawDocument::from_bytes(bytes)?;
+) -> bool {
     let (answer, steps) = document_from_raw_counted(alloc, view);
-    check_malformed(answer, reason, key)?;
-    check_equal(&steps.count(), &count, "elements framed")?;
-    check_malformed(document_from_raw(alloc, view), reason, key)
+    let is_counted = is_refused(&answer, reason, key);
+    let is_read = is_refused(&document_from_raw(alloc, view), reason, key);
+    is_counted && is_read && steps.count() == count
 }
 
 #[test]
 fn elements_are_counted_until_a_fault(rt: HostRuntime) -> Result<(), Fail> {
     for (bytes, count, reason, key) in FAULTS.iter() {
-        check_count_of_fault(rt.alloc(), bytes, *count, *reason, *key)?;
+        let view = RawDocument::from_bytes(bytes)?;
+        holds(
+            is_fault_counted(rt.alloc(), view, *count, *reason, *key),
+            "a fault",
+        )?;
     }
     Ok(())
 }
@@ -84,41 +92,51 @@ const LEVELS: &[(Holder, usize, &[u8])] = &[
     (Holder::CodeWithScope, 7989, b"\x35\x1F\0\0"),
 ];
 
-/// The bytes are so many and begin so, so many elements are framed, and the canonical form is these bytes.
-fn check_levels(
-    alloc: Global,
-    bytes: &[u8],
-    len: usize,
-    header: &[u8],
-    wanted: &Document,
-) -> Result<(), Fail> {
-    check_equal(&bytes.len(), &len, "length")?;
-    check_bytes(bytes.get(..4).ok_or("too few bytes")?, header, "header")?;
-    check_count(alloc, bytes, 499, wanted)?;
-    check_written(canonical_bytes(alloc, bytes), bytes)
+/// Whether the bytes are so many and begin so, 499 elements are framed, and the canonical form is these bytes.
+fn are_levels(alloc: Global, bytes: &[u8], len: usize, header: &[u8], wanted: &Document) -> bool {
+    bytes.len() == len
+        && bytes.starts_with(header)
+        && is_counted(alloc, bytes, 499, wanted)
+        && is_written(canonical_bytes(alloc, bytes), bytes)
+}
+
+/// The same of as many levels of this holder.
+fn come_back(alloc: Global, holder: Holder, len: usize, header: &[u8]) -> bool {
+    match (
+        nested(alloc, holder, 499, EMPTY),
+        levels_by_hand(alloc, holder, 499),
+    ) {
+        (Ok(bytes), Ok(wanted)) => are_levels(alloc, &bytes, len, header, &wanted),
+        _ => false,
+    }
 }
 
 #[test]
 fn five_hundred_levels_come_back(rt: HostRuntime) -> Result<(), Fail> {
     for (holder, len, header) in LEVELS.iter() {
-        let bytes = nested(rt.alloc(), *holder, 499, EMPTY)?;
-        let wanted = levels_by_hand(rt.alloc(), *holder, 499)?;
-        check_levels(rt.alloc(), &bytes, *len, header, &wanted)?;
+        holds(come_back(rt.alloc(), *holder, *len, header), "levels")?;
     }
     Ok(())
+}
+
+/// Whether the document has so many levels.
+fn are_levels_read(alloc: Global, bytes: &[u8], levels: usize) -> bool {
+    match tree_of(alloc, bytes) {
+        Ok(tree) => has_levels(&tree, levels),
+        Err(_) => false,
+    }
 }
 
 #[test]
 fn five_hundred_levels_are_read(rt: HostRuntime) -> Result<(), Fail> {
     let bytes = nested(rt.alloc(), Holder::Document, 499, EMPTY)?;
-    let tree = document_from_raw(rt.alloc(), RawDocument::from_bytes(&bytes)?)?;
-    holds(has_levels(&tree, 499), "499 levels")
+    holds(are_levels_read(rt.alloc(), &bytes, 499), "499 levels")
 }
 
 #[test]
 fn a_million_levels_have_a_fault(rt: HostRuntime) -> Result<(), Fail> {
     let bytes = nested(rt.alloc(), Holder::Document, 999_999, SWALLOWED_TERMINATOR)?;
-    let (answer, steps) = document_from_raw_counted(rt.alloc(), RawDocument::from_bytes(&bytes)?);
-    check_refused(answer, Reason::Overflowed)?;
-    check_equal(&steps.count(), &1_000_000, "elements framed")
+    let view = RawDocument::from_bytes(&bytes)?;
+    let is_fault = is_fault_counted(rt.alloc(), view, 1_000_000, Reason::Overflowed, None);
+    holds(is_fault, "elements framed")
 }

@@ -2,7 +2,6 @@
 
 use crate::checks::check_written;
 use crate::trees_fixtures::{one_pair, put};
-use bson_fixtures::check_refused;
 use raw_bson::{Bson, Document, RawDocument, Reason, encode, encode_list, list_from_raw};
 use std::alloc::Global;
 use std::test::Fail;

@@ -1,6 +1,5 @@
-use crate::checks::check_written;
+use crate::checks::{check_written, is_written};
 use crate::trees_fixtures::tree_of;
-use bson_fixtures::{check_equal, document_of, holds};
 use raw_bson::{Bson, Document, RawArrayBuf, RawBson, encode, encode_list, list_from_raw};
 use std::alloc::Global;
 use std::mem;
@@ -16,17 +15,16 @@ const MILLION: usize = 1_000_000;
 /// All holders.
 const IN_TURN: &[Holder] = &[Holder::Document, Holder::Array, Holder::CodeWithScope];
 
-/// The tree has a million levels, and is written as these bytes.
-fn check_million(alloc: Global, tree: &Document, bytes: &[u8]) -> Result<(), Fail> {
-    check_equal(&levels_inside(tree, MILLION + 1), &MILLION, "levels")?;
-    check_written(encode(alloc, tree), bytes)
+/// Whether the tree has a million levels, and is written as these bytes.
+fn is_million(alloc: Global, tree: &Document, bytes: &[u8]) -> bool {
+    levels_inside(tree, MILLION + 1) == MILLION && is_written(encode(alloc, tree), bytes)
 }
 
 /// The tree of a million levels, which is written as the bytes that were read.
 fn million_levels(alloc: Global, holders: &[Holder]) -> Result<Document, Fail> {
     let bytes = nested_in_turn(alloc, holders, MILLION, EMPTY)?;
     let tree = tree_of(alloc, &bytes)?;
-    check_million(alloc, &tree, &bytes)?;
+    holds(is_million(alloc, &tree, &bytes), "a million levels")?;
     Ok(tree)
 }
 
@@ -79,17 +77,12 @@ fn thousand_deep(alloc: Global) -> Result<RawArrayBuf, Fail> {
     Ok(array)
 }
 
-/// The list has a thousand values, and is written as these bytes.
-fn check_thousand(alloc: Global, list: &[Bson], bytes: &[u8]) -> Result<(), Fail> {
-    check_equal(&list.len(), &1000, "values")?;
-    check_written(encode_list(alloc, list), bytes)
-}
-
 #[test]
 fn a_list_of_deep_documents_comes_back(rt: HostRuntime) -> Result<(), Fail> {
     let array = thousand_deep(rt.alloc())?;
     let list = list_from_raw(rt.alloc(), array.as_ref())?;
-    check_thousand(rt.alloc(), &list, array.as_bytes())
+    holds(list.len() == 1000, "values")?;
+    check_written(encode_list(rt.alloc(), &list), array.as_bytes())
 }
 
 /// Whether these are the digits of the bytes, two for each.

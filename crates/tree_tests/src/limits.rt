@@ -1,8 +1,4 @@
 use crate::trees_fixtures::{binary, empty_code, levels_by_hand, one_null, one_pair};
-use bson_fixtures::{
-    check_answer, check_debug_text, check_equal, check_fault, check_refused, document_of, holds,
-    is_refused,
-};
 use raw_bson::{
     BinarySubtype, Document, Limits, RawDocument, Reason, document_from_raw,
     document_from_raw_within,
@@ -21,41 +17,43 @@ fn limits(bytes: usize, depth: usize) -> Limits {
     Limits { bytes, depth }
 }
 
-/// Within these limits the call, and that of a buffer of the same bytes, returns this tree, as the call without limits.
-fn check_read_within(
-    alloc: Global,
-    bytes: &[u8],
-    limits: Limits,
-    wanted: &Document,
-) -> Result<(), Fail> {
-    let view = RawDocument::from_bytes(bytes)?;
-    check_answer(document_from_raw(alloc, view), wanted, "no limits")?;
-    let answer = document_from_raw_within(alloc, view, limits);
-    check_answer(answer, wanted, "a view within limits")?;
-    let answer = document_of(alloc, bytes)?.to_document_within(limits);
-    check_answer(answer, wanted, "a buffer within limits")
+/// Whether the buffer's call within these limits returns this tree.
+fn is_buffer_read(alloc: Global, bytes: &[u8], limits: Limits, wanted: &Document) -> bool {
+    match document_of(alloc, bytes) {
+        Ok(buffer) => is_answer(buffer.to_document_within(limits), wanted),
+        Err(_) => false,
+    }
 }
 
-/// The same of a tree of its own.
-fn check_read_within_as(
-    alloc: Global,
-    bytes: &[u8],
-    limits: Limits,
-    wanted: Document,
-) -> Result<(), Fail> {
-    check_read_within(alloc, bytes, limits, &wanted)
+/// Whether within these limits the call, and that of a buffer of the same bytes, returns this tree, as the call without
+/// limits.
+fn is_read_within(alloc: Global, bytes: &[u8], limits: Limits, wanted: &Document) -> bool {
+    match RawDocument::from_bytes(bytes) {
+        Ok(view) => {
+            is_answer(document_from_raw(alloc, view), wanted)
+                && is_answer(document_from_raw_within(alloc, view, limits), wanted)
+                && is_buffer_read(alloc, bytes, limits, wanted)
+        }
+        Err(_) => false,
+    }
 }
 
-/// The result within these limits is a refusal for this reason, without a key.
-fn check_refusal(
-    answer: raw_bson::Result<Document>,
-    limits: Limits,
-    reason: Reason,
-) -> Result<(), Fail> {
-    if is_refused(&answer, reason, None) {
-        Ok(())
-    } else {
-        Err(Fail::new(format_args!("{reason:?} is wanted within {limits:?}")))
+/// Whether the buffer's call within these limits refuses for this reason, without a key.
+fn is_buffer_refused(alloc: Global, bytes: &[u8], limits: Limits, reason: Reason) -> bool {
+    match document_of(alloc, bytes) {
+        Ok(buffer) => is_refused(&buffer.to_document_within(limits), reason, None),
+        Err(_) => false,
+    }
+}
+
+/// Whether within these limits both refuse for this reason, without a key.
+fn is_refused_within(alloc: Global, bytes: &[u8], limits: Limits, reason: Reason) -> bool {
+    match RawDocument::from_bytes(bytes) {
+        Ok(view) => {
+            is_refused(&document_from_raw_within(alloc, view, limits), reason, None)
+                && is_buffer_refused(alloc, bytes, limits, reason)
+        }
+        Err(_) => false,
     }
 }
 
@@ -66,14 +64,11 @@ fn check_refused_within(
     limits: Limits,
     reason: Reason,
 ) -> Result<(), Fail> {
-    let view = RawDocument::from_bytes(bytes)?;
-    check_refusal(
-        document_from_raw_within(alloc, view, limits),
-        limits,
-        reason,
-    )?;
-    let answer = document_of(alloc, bytes)?.to_document_within(limits);
-    check_refusal(answer, limits, reason)
+    if is_refused_within(alloc, bytes, limits, reason) {
+        Ok(())
+    } else {
+        Err(Fail::new(format_args!("{reason:?} is wanted within {limits:?}")))
+    }
 }
 
 #[test]
@@ -81,10 +76,12 @@ fn documents_are_read_within_limits(rt: HostRuntime) -> Result<(), Fail> {
     let alloc = rt.alloc();
     // array with an empty key
     let list = one_pair(alloc, "a", one_null(alloc)?)?;
-    check_read_within_as(alloc, ARRAY_WITH_AN_EMPTY_KEY, limits(15, 2), list)?;
+    let is_read = is_read_within(alloc, ARRAY_WITH_AN_EMPTY_KEY, limits(15, 2), &list);
+    holds(is_read, "an array with an empty key")?;
     // least code with scope
     let code = one_pair(alloc, "c", empty_code(alloc))?;
-    check_read_within_as(alloc, LEAST_CODE_WITH_SCOPE, limits(22, 2), code)
+    let is_read = is_read_within(alloc, LEAST_CODE_WITH_SCOPE, limits(22, 2), &code);
+    holds(is_read, "the least code with scope")
 }
 
 /// Documents, most bytes and levels, and why they are refused within these.
@@ -120,9 +117,10 @@ fn a_level_comes_before_a_fault_behind_it(rt: HostRuntime) -> Result<(), Fail> {
     // fault behind a level that is too deep
     let view = RawDocument::from_bytes(FAULT_BEHIND_A_LEVEL)?;
     let too_deep = document_from_raw_within(alloc, view, limits(17, 1));
-    check_refused(too_deep, Reason::TooDeep)?;
     let answer = document_from_raw_within(alloc, view, limits(17, 2));
-    check_fault(answer, Reason::BadBoolean(2), "a")
+    let is_in_order = is_refused(&too_deep, Reason::TooDeep, None)
+        && is_refused(&answer, Reason::BadBoolean(2), Some("a"));
+    holds(is_in_order, "a level, then a fault")
 }
 
 /// One binary of so many bytes, all 0, under the empty key.
@@ -138,7 +136,7 @@ fn one_binary(alloc: Global, len: usize) -> Result<Vec<u8>, Fail> {
 /// The tree of one such binary, whose bytes are all of the document's but the first ten, the subtype and the final 0.
 fn binary_of(alloc: Global, bytes: &[u8]) -> Result<Document, Fail> {
     let zeros = bytes.get(11..16_777_215).ok_or("too few bytes")?;
-    one_pair(alloc, "", binary(alloc, BinarySubtype::Generic, zeros)?)
+    Ok(one_pair(alloc, "", binary(alloc, BinarySubtype::Generic, zeros)?)?)
 }
 
 #[test]
@@ -147,7 +145,8 @@ fn one_binary_fills_the_limit(rt: HostRuntime) -> Result<(), Fail> {
     let full = one_binary(rt.alloc(), 16_777_204)?;
     holds(full.starts_with(b"\0\0\0\x01"), "header")?;
     let wanted = binary_of(rt.alloc(), &full)?;
-    check_read_within(rt.alloc(), &full, limits(16_777_216, 1), &wanted)
+    let is_read = is_read_within(rt.alloc(), &full, limits(16_777_216, 1), &wanted);
+    holds(is_read, "a full one")
 }
 
 #[test]
@@ -162,27 +161,26 @@ fn one_binary_is_a_byte_over_the_limit(rt: HostRuntime) -> Result<(), Fail> {
     )
 }
 
-/// The bytes of five hundred and one documents, one in the other.
-fn check_five_hundred_and_one(alloc: Global, bytes: &[u8]) -> Result<(), Fail> {
-    check_equal(&bytes.len(), &3505, "length")?;
-    holds(bytes.starts_with(b"\xB1\x0D\0\0"), "header")?;
-    check_refused_within(alloc, bytes, limits(3505, 500), Reason::TooDeep)?;
-    let wanted = levels_by_hand(alloc, Holder::Document, 500)?;
-    check_read_within(alloc, bytes, limits(3505, 501), &wanted)
+/// Whether five hundred and one documents, one in the other, are read within so many levels, and not within fewer.
+fn are_read_within(alloc: Global, bytes: &[u8], wanted: &Document) -> bool {
+    bytes.len() == 3505
+        && bytes.starts_with(b"\xB1\x0D\0\0")
+        && is_refused_within(alloc, bytes, limits(3505, 500), Reason::TooDeep)
+        && is_read_within(alloc, bytes, limits(3505, 501), wanted)
 }
 
 #[test]
 fn five_hundred_and_one_levels_are_too_deep_for_five_hundred(rt: HostRuntime) -> Result<(), Fail> {
     let bytes = nested(rt.alloc(), Holder::Document, 500, EMPTY)?;
-    check_five_hundred_and_one(rt.alloc(), &bytes)
+    let wanted = levels_by_hand(rt.alloc(), Holder::Document, 500)?;
+    holds(are_read_within(rt.alloc(), &bytes, &wanted), "501 levels")
 }
 
 #[test]
 fn limits_are_compared_and_printed(rt: HostRuntime) -> Result<(), Fail> {
     let few = limits(15, 2);
     let same = few;
-    holds(few == same, "the same")?;
-    holds(few != limits(15, 1), "another depth")?;
-    holds(few != limits(14, 2), "other bytes")?;
+    let are_compared = few == same && few != limits(15, 1) && few != limits(14, 2);
+    holds(are_compared, "limits")?;
     check_debug_text(rt.alloc(), &few, "Limits { bytes: 15, depth: 2 }")
 }

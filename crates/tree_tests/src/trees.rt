@@ -1,9 +1,5 @@
-use crate::checks::{check_owned, check_read, check_written};
+use crate::checks::{becomes_owned, becomes_tree, check_written};
 use crate::trees_fixtures::{empty_code, one_and_two, one_pair, put, regex, text, tree_of};
-use bson_fixtures::{
-    check_answer, check_bytes, check_debug_text, check_equal, check_fault, check_refused, code_of,
-    document_of, holds,
-};
 use raw_bson::{
     Bson, Document, RawBson, RawBsonRef, RawDocument, RawDocumentBuf, RawRegexRef, Reason,
     bson_from_raw, canonical_bytes, document_from_raw,
@@ -15,26 +11,20 @@ use test_fixtures::*;
 /// The number 1 under the key `i`.
 const ONE: &[u8] = b"\x0C\0\0\0\x10i\0\x01\0\0\0\0";
 
-/// The numbers 1 and 2 under the keys `a` and `b`, and the same pairs in the other order.
-const A_THEN_B: &[u8] = b"\x13\0\0\0\x10a\0\x01\0\0\0\x10b\0\x02\0\0\0\0";
-
-const B_THEN_A: &[u8] = b"\x13\0\0\0\x10b\0\x02\0\0\0\x10a\0\x01\0\0\0\0";
-
-/// The document of one number is read as this tree, and a buffer of it by each of its calls.
-fn check_one_int32(alloc: Global, wanted: &Document) -> Result<(), Fail> {
-    let buffer = document_of(alloc, ONE)?;
-    let answer = document_from_raw(alloc, buffer.as_ref());
-    check_answer(answer, wanted, "a view")?;
-    check_answer(buffer.to_document(), wanted, "a buffer")?;
-    check_bytes(buffer.as_bytes(), ONE, "a buffer that was read")?;
-    check_answer(buffer.into_document(), wanted, "a buffer's own")
+/// Whether the document of one number is read as this tree, and a buffer of it by each of its calls.
+fn is_one_int32(alloc: Global, buffer: RawDocumentBuf, wanted: &Document) -> bool {
+    is_answer(document_from_raw(alloc, buffer.as_ref()), wanted)
+        && is_answer(buffer.to_document(), wanted)
+        && buffer.as_bytes() == ONE
+        && is_answer(buffer.into_document(), wanted)
 }
 
 #[test]
 fn one_int32_is_read(rt: HostRuntime) -> Result<(), Fail> {
     // one int32
     let wanted = one_pair(rt.alloc(), "i", Bson::Int32(1))?;
-    check_one_int32(rt.alloc(), &wanted)
+    let buffer = document_of(rt.alloc(), ONE)?;
+    holds(is_one_int32(rt.alloc(), buffer, &wanted), "one number")
 }
 
 /// Appends a text, a number and this document.
@@ -67,12 +57,15 @@ fn three_appended(alloc: Global) -> Result<RawDocumentBuf, Fail> {
 fn three_pairs_are_appended(rt: HostRuntime) -> Result<(), Fail> {
     // three pairs of three kinds
     let buffer = three_appended(rt.alloc())?;
-    check_equal(&buffer.as_bytes().len(), &72, "length")?;
-    holds(buffer.as_bytes().starts_with(b"\x48\0\0\0"), "header")
+    let bytes = buffer.as_bytes();
+    holds(
+        bytes.len() == 72 && bytes.starts_with(b"\x48\0\0\0"),
+        "length and header",
+    )
 }
 
 /// Puts the same pairs.
-fn put_three(alloc: Global, tree: &mut Document) -> Result<(), Fail> {
+fn put_three(alloc: Global, tree: &mut Document) -> raw_bson::Result<()> {
     put(alloc, tree, "a string", text(alloc, "some string")?)?;
     put(alloc, tree, "an integer", Bson::Int32(12))?;
     let nested = one_pair(alloc, "a key", Bson::Boolean(true))?;
@@ -80,20 +73,19 @@ fn put_three(alloc: Global, tree: &mut Document) -> Result<(), Fail> {
 }
 
 /// The tree of the same pairs.
-fn three_put(alloc: Global) -> Result<Document, Fail> {
+fn three_put(alloc: Global) -> raw_bson::Result<Document> {
     let mut tree = Document::new(alloc);
     put_three(alloc, &mut tree)?;
     Ok(tree)
 }
 
-/// The tree is the wanted one, and has its three keys in this order.
-fn check_three_pairs(tree: &Document, wanted: &Document) -> Result<(), Fail> {
-    check_equal(tree, wanted, "three pairs")?;
-    check_equal(&tree.len(), &3, "pairs")?;
-    for (index, key) in ["a string", "an integer", "a document"].iter().enumerate() {
-        holds(has_key_at(tree, index, key), key)?;
-    }
-    Ok(())
+/// Whether the tree is the wanted one, and has its three keys in this order.
+fn are_three_pairs(tree: &Document, wanted: &Document) -> bool {
+    tree == wanted
+        && tree.len() == 3
+        && has_key_at(tree, 0, "a string")
+        && has_key_at(tree, 1, "an integer")
+        && has_key_at(tree, 2, "a document")
 }
 
 /// Whether the pair at this place has this key.
@@ -109,11 +101,11 @@ fn three_pairs_are_read_in_order(rt: HostRuntime) -> Result<(), Fail> {
     // three pairs of three kinds
     let wanted = three_put(rt.alloc())?;
     let tree = three_appended(rt.alloc())?.to_document()?;
-    check_three_pairs(&tree, &wanted)
+    holds(are_three_pairs(&tree, &wanted), "three pairs")
 }
 
 /// The pattern `p` with these options, as a value of a tree.
-fn regex_value(alloc: Global, options: &str) -> Result<Bson, Fail> {
+fn regex_value(alloc: Global, options: &str) -> raw_bson::Result<Bson> {
     Ok(Bson::RegularExpression(regex(alloc, options)?))
 }
 
@@ -122,7 +114,10 @@ fn owned_options_are_kept(rt: HostRuntime) -> Result<(), Fail> {
     // owned regex kept
     let kept = regex_value(rt.alloc(), "mi")?;
     let owned = RawBson::from(regex(rt.alloc(), "mi")?);
-    check_read(rt.alloc(), owned, &kept)
+    holds(
+        becomes_tree(rt.alloc(), owned, &kept),
+        "options as they are",
+    )
 }
 
 #[test]
@@ -133,8 +128,8 @@ fn options_are_put_in_order_where_they_are_read(rt: HostRuntime) -> Result<(), F
         pattern: "p",
         options: "mi",
     });
-    let answer = bson_from_raw(rt.alloc(), borrowed);
-    check_answer(answer, &ordered, "options")
+    let is_ordered = is_answer(bson_from_raw(rt.alloc(), borrowed), &ordered);
+    holds(is_ordered, "options in order")
 }
 
 #[test]
@@ -143,7 +138,8 @@ fn options_are_put_in_order_in_a_nested_document(rt: HostRuntime) -> Result<(), 
     let ordered = one_pair(rt.alloc(), "r", regex_value(rt.alloc(), "im")?)?;
     let wanted = Bson::Document(ordered);
     let nested = document_of(rt.alloc(), b"\x0D\0\0\0\x0Br\0p\0mi\0\0")?;
-    check_read(rt.alloc(), RawBson::from(nested), &wanted)
+    let is_ordered = becomes_tree(rt.alloc(), RawBson::from(nested), &wanted);
+    holds(is_ordered, "options in order")
 }
 
 #[test]
@@ -151,8 +147,9 @@ fn a_nested_stop_has_no_key(rt: HostRuntime) -> Result<(), Fail> {
     // nested stop's own key
     let stop = document_of(rt.alloc(), b"\x0E\0\0\0\x03a\0\x06\0\0\0\x0A\0\0")?;
     let answer = document_from_raw(rt.alloc(), stop.as_ref());
-    check_refused(answer, Reason::Overflowed)?;
-    check_refused(stop.into_document(), Reason::Overflowed)
+    let are_stops = is_refused(&answer, Reason::Overflowed, None)
+        && is_refused(&stop.into_document(), Reason::Overflowed, None);
+    holds(are_stops, "a stop without a key")
 }
 
 #[test]
@@ -170,7 +167,10 @@ fn a_tree_has_a_key_once(rt: HostRuntime) -> Result<(), Fail> {
     // repeated key
     let view = RawDocument::from_bytes(REPEATED_KEY)?;
     let wanted = one_pair(rt.alloc(), "a", Bson::Int32(2))?;
-    check_answer(document_from_raw(rt.alloc(), view), &wanted, "a key once")
+    holds(
+        is_answer(document_from_raw(rt.alloc(), view), &wanted),
+        "a key once",
+    )
 }
 
 #[test]
@@ -183,15 +183,7 @@ fn a_tree_keeps_the_order(rt: HostRuntime) -> Result<(), Fail> {
 
 #[test]
 fn a_canonical_form_is_its_own(rt: HostRuntime) -> Result<(), Fail> {
-    let once = b"\x0C\0\0\0\x10a\0\x02\0\0\0\0".as_slice();
-    for (bytes, form) in [
-        // repeated key
-        (REPEATED_KEY, once),
-        (once, once),
-        // two orders of two keys
-        (A_THEN_B, A_THEN_B),
-        (B_THEN_A, B_THEN_A),
-    ] {
+    for (bytes, form) in FORMS {
         check_written(canonical_bytes(rt.alloc(), bytes), form)?;
     }
     Ok(())
@@ -205,25 +197,26 @@ fn two_written(alloc: Global) -> Result<RawBson, Fail> {
 #[test]
 fn a_list_of_two_is_written(rt: HostRuntime) -> Result<(), Fail> {
     // try_from_bson of an array of two
-    check_debug_text(
-        rt.alloc(),
-        &two_written(rt.alloc())?,
-        "Array(RawArrayBuf { data: \"13000000103000010000001031000200000000\", len: 2 })",
-    )
+    let text = "Array(RawArrayBuf { data: \"13000000103000010000001031000200000000\", len: 2 })";
+    check_debug_text(rt.alloc(), &two_written(rt.alloc())?, text)
 }
 
 #[test]
 fn a_list_of_two_is_read_back(rt: HostRuntime) -> Result<(), Fail> {
     // try_from_bson of an array of two
     let list = one_and_two(rt.alloc())?;
-    check_read(rt.alloc(), two_written(rt.alloc())?, &list)
+    holds(
+        becomes_tree(rt.alloc(), two_written(rt.alloc())?, &list),
+        "read back",
+    )
 }
 
 #[test]
 fn a_number_is_written_and_read_back(rt: HostRuntime) -> Result<(), Fail> {
     // try_from_bson of a number
-    check_owned(rt.alloc(), Bson::Int32(1), &RawBson::Int32(1))?;
-    check_read(rt.alloc(), RawBson::Int32(1), &Bson::Int32(1))
+    let is_so = becomes_owned(rt.alloc(), Bson::Int32(1), &RawBson::Int32(1))
+        && becomes_tree(rt.alloc(), RawBson::Int32(1), &Bson::Int32(1));
+    holds(is_so, "written and read back")
 }
 
 /// The empty code with the empty scope, owned.
@@ -235,6 +228,7 @@ fn code_owned(alloc: Global) -> Result<RawBson, Fail> {
 fn a_code_is_written_and_read_back(rt: HostRuntime) -> Result<(), Fail> {
     // try_from_bson of a code with scope
     let owned = code_owned(rt.alloc())?;
-    check_owned(rt.alloc(), empty_code(rt.alloc()), &owned)?;
-    check_read(rt.alloc(), owned, &empty_code(rt.alloc()))
+    let is_so = becomes_owned(rt.alloc(), empty_code(rt.alloc()), &owned)
+        && becomes_tree(rt.alloc(), owned, &empty_code(rt.alloc()));
+    holds(is_so, "written and read back")
 }

@@ -5,29 +5,33 @@ use raw_bson::{
     document_from_raw,
 };
 use std::alloc::Global;
-use std::test::Fail;
 use test_fixtures::Holder;
 
 /// Puts a pair last.
-pub(crate) fn put(alloc: Global, tree: &mut Document, key: &str, value: Bson) -> Result<(), Fail> {
+pub(crate) fn put(
+    alloc: Global,
+    tree: &mut Document,
+    key: &str,
+    value: Bson,
+) -> raw_bson::Result<()> {
     let _ = tree.insert(String::from_str(alloc, key)?, value)?;
     Ok(())
 }
 
 /// The tree of one pair.
-pub(crate) fn one_pair(alloc: Global, key: &str, value: Bson) -> Result<Document, Fail> {
+pub(crate) fn one_pair(alloc: Global, key: &str, value: Bson) -> raw_bson::Result<Document> {
     let mut tree = Document::new(alloc);
     put(alloc, &mut tree, key, value)?;
     Ok(tree)
 }
 
 /// A text of its own.
-pub(crate) fn text(alloc: Global, text: &str) -> Result<Bson, Fail> {
+pub(crate) fn text(alloc: Global, text: &str) -> raw_bson::Result<Bson> {
     Ok(Bson::String(String::from_str(alloc, text)?))
 }
 
 /// The pattern `p` with these options as they are.
-pub(crate) fn regex(alloc: Global, options: &str) -> Result<Regex, Fail> {
+pub(crate) fn regex(alloc: Global, options: &str) -> raw_bson::Result<Regex> {
     Ok(Regex {
         pattern: String::from_str(alloc, "p")?,
         options: String::from_str(alloc, options)?,
@@ -35,7 +39,11 @@ pub(crate) fn regex(alloc: Global, options: &str) -> Result<Regex, Fail> {
 }
 
 /// A binary of these bytes.
-pub(crate) fn binary(alloc: Global, subtype: BinarySubtype, bytes: &[u8]) -> Result<Bson, Fail> {
+pub(crate) fn binary(
+    alloc: Global,
+    subtype: BinarySubtype,
+    bytes: &[u8],
+) -> raw_bson::Result<Bson> {
     Ok(Bson::Binary(Binary {
         subtype,
         bytes: Vec::from_slice(alloc, bytes)?,
@@ -56,18 +64,18 @@ pub(crate) fn empty_code(alloc: Global) -> Bson {
 }
 
 /// The list of the numbers 1 and 2.
-pub(crate) fn one_and_two(alloc: Global) -> Result<Bson, Fail> {
+pub(crate) fn one_and_two(alloc: Global) -> raw_bson::Result<Bson> {
     Ok(Bson::Array(vec![in alloc; Bson::Int32(1), Bson::Int32(2)]?))
 }
 
 /// The list of one null.
-pub(crate) fn one_null(alloc: Global) -> Result<Bson, Fail> {
+pub(crate) fn one_null(alloc: Global) -> raw_bson::Result<Bson> {
     Ok(Bson::Array(vec![in alloc; Bson::Null]?))
 }
 
 /// The tree of these bytes.
-pub(crate) fn tree_of(alloc: Global, bytes: &[u8]) -> Result<Document, Fail> {
-    Ok(document_from_raw(alloc, RawDocument::from_bytes(bytes)?)?)
+pub(crate) fn tree_of(alloc: Global, bytes: &[u8]) -> raw_bson::Result<Document> {
+    document_from_raw(alloc, RawDocument::from_bytes(bytes)?)
 }
 
 /// The innermost of levels that are held so.
@@ -80,7 +88,7 @@ fn empty_level(alloc: Global, holder: Holder) -> Bson {
 }
 
 /// A level that holds this one.
-fn level_around(alloc: Global, holder: Holder, inner: Bson) -> Result<Bson, Fail> {
+fn level_around(alloc: Global, holder: Holder, inner: Bson) -> raw_bson::Result<Bson> {
     match holder {
         Holder::Document => Ok(Bson::Document(one_pair(alloc, "", inner)?)),
         Holder::Array => Ok(Bson::Array(vec![in alloc; inner]?)),
@@ -93,7 +101,7 @@ pub(crate) fn levels_by_hand(
     alloc: Global,
     holder: Holder,
     levels: usize,
-) -> Result<Document, Fail> {
+) -> raw_bson::Result<Document> {
     let mut level = empty_level(alloc, holder);
     for _ in 1..levels {
         level = level_around(alloc, holder, level)?;

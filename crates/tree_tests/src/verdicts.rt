@@ -172,13 +172,8 @@ fn is_row(alloc: Global, row: &Row<'_>) -> bool {
 
 #[test]
 fn a_verdict_is_told_with_its_place(rt: HostRuntime) {
-    for row in ROWS.iter() {
-        assert!(rt;
-            is_row(rt.alloc(), row),
-            "{:?} at {}",
-            row.cause,
-            row.offset
-        );
+    for row in ROWS {
+        assert!(rt; is_row(rt.alloc(), row), "at {}", row.offset);
     }
 }
 

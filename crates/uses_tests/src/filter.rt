@@ -45,12 +45,27 @@ fn said(
     matches(alloc, document.as_ref(), filter.as_ref())
 }
 
+/// Whether the filter finds a user of this name and age.
+fn finds(alloc: Global, filter: &RawDocumentBuf, name: &str, age: i32) -> bool {
+    match user(alloc, name, age) {
+        Ok(user) => said(alloc, &user, filter) == Ok(()),
+        Err(_) => false,
+    }
+}
+
+/// Whether the filter says that a user of this name and age differs.
+fn leaves_out(alloc: Global, filter: &RawDocumentBuf, name: &str, age: i32) -> bool {
+    match user(alloc, name, age) {
+        Ok(user) => said(alloc, &user, filter) == Err(Unmet::Differs),
+        Err(_) => false,
+    }
+}
+
 #[test]
 fn an_age_is_over_another(rt: HostRuntime) -> std::result::Result<(), Fail> {
     let alloc = rt.alloc();
     let filter = under(alloc, "age", "$gt", RawBsonRef::Int32(21))?;
-    assert!(rt; said(alloc, &user(alloc, "Ada", 36)?, &filter) == Ok(()));
-    assert!(rt; said(alloc, &user(alloc, "Bob", 21)?, &filter) == Err(Unmet::Differs));
+    assert!(rt; finds(alloc, &filter, "Ada", 36) && leaves_out(alloc, &filter, "Bob", 21));
     Ok(())
 }
 
@@ -58,53 +73,69 @@ fn an_age_is_over_another(rt: HostRuntime) -> std::result::Result<(), Fail> {
 fn a_name_is_one_of_two(rt: HostRuntime) -> std::result::Result<(), Fail> {
     let alloc = rt.alloc();
     let filter = under(alloc, "name", "$in", RawBsonRef::from(&names(alloc)?))?;
-    assert!(rt; said(alloc, &user(alloc, "Bob", 18)?, &filter) == Ok(()));
-    assert!(rt; said(alloc, &user(alloc, "Eve", 22)?, &filter) == Err(Unmet::Differs));
+    assert!(rt; finds(alloc, &filter, "Bob", 18) && leaves_out(alloc, &filter, "Eve", 22));
     Ok(())
+}
+
+/// Whether a user is found by a filter of the same pairs and by an empty one, and not by others, nor an empty document
+/// by the user's.
+fn are_compared(
+    alloc: Global,
+    ada: &RawDocumentBuf,
+    other: &RawDocumentBuf,
+    empty: &RawDocumentBuf,
+) -> bool {
+    said(alloc, ada, ada) == Ok(())
+        && said(alloc, ada, other) == Err(Unmet::Differs)
+        && said(alloc, ada, empty) == Ok(())
+        && said(alloc, empty, ada) == Err(Unmet::Differs)
 }
 
 #[test]
 fn values_are_equal_under_their_keys(rt: HostRuntime) -> std::result::Result<(), Fail> {
     let alloc = rt.alloc();
     let ada = user(alloc, "Ada", 36)?;
-    assert!(rt; said(alloc, &ada, &ada) == Ok(()));
-    assert!(rt; said(alloc, &ada, &user(alloc, "Ada", 37)?) == Err(Unmet::Differs));
-    assert!(rt; said(alloc, &ada, &RawDocumentBuf::new(alloc)?) == Ok(()));
-    assert!(rt; said(alloc, &RawDocumentBuf::new(alloc)?, &ada) == Err(Unmet::Differs));
+    let other = user(alloc, "Ada", 37)?;
+    let empty = RawDocumentBuf::new(alloc)?;
+    assert!(rt; are_compared(alloc, &ada, &other, &empty));
     Ok(())
+}
+
+/// Whether this operator with the operand 21 is none.
+fn is_bad_operator(alloc: Global, ada: &RawDocumentBuf, operator: &str) -> bool {
+    match under(alloc, "age", operator, RawBsonRef::Int32(21)) {
+        Ok(filter) => said(alloc, ada, &filter) == Err(Unmet::BadOperator),
+        Err(_) => false,
+    }
 }
 
 #[test]
 fn operators_have_names_and_operands(rt: HostRuntime) -> std::result::Result<(), Fail> {
     let alloc = rt.alloc();
     let ada = user(alloc, "Ada", 36)?;
-    let unknown = under(alloc, "age", "$lt", RawBsonRef::Int32(21))?;
-    assert!(rt; said(alloc, &ada, &unknown) == Err(Unmet::BadOperator));
-    let no_array = under(alloc, "age", "$in", RawBsonRef::Int32(21))?;
-    assert!(rt; said(alloc, &ada, &no_array) == Err(Unmet::BadOperator));
+    // one that isn't known, and a number in the place of an array
+    assert!(rt; is_bad_operator(alloc, &ada, "$lt") && is_bad_operator(alloc, &ada, "$in"));
     Ok(())
 }
 
 /// The boolean 2 under `age`, which means no value.
 const DAMAGED: &[u8] = b"\x0B\0\0\0\x08age\0\x02\0";
 
+/// Whether there is a fault under `age`.
+fn is_damaged(answer: &std::result::Result<(), Unmet>) -> bool {
+    match answer {
+        Err(Unmet::Damaged(error)) => error.key() == Some("age"),
+        _ => false,
+    }
+}
+
 #[test]
 fn damage_is_told_with_its_key(rt: HostRuntime) -> std::result::Result<(), Fail> {
     let alloc = rt.alloc();
     let damaged = RawDocument::from_bytes(DAMAGED)?;
     let ada = user(alloc, "Ada", 36)?;
-    for answer in [
-        matches(alloc, ada.as_ref(), damaged),
-        matches(
-            alloc,
-            damaged,
-            under(alloc, "age", "$gt", RawBsonRef::Int32(21))?.as_ref(),
-        ),
-    ] {
-        match answer {
-            Err(Unmet::Damaged(error)) => assert!(rt; error.key() == Some("age")),
-            _ => assert!(rt; false),
-        }
-    }
+    let over = under(alloc, "age", "$gt", RawBsonRef::Int32(21))?;
+    assert!(rt; is_damaged(&matches(alloc, ada.as_ref(), damaged)));
+    assert!(rt; is_damaged(&matches(alloc, damaged, over.as_ref())));
     Ok(())
 }

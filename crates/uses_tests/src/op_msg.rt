@@ -2,6 +2,7 @@
 
 use bson_uses::{Message, MessageError, Section, message_of, read_message};
 use raw_bson::{NoDocument, RawDocument};
+use std::alloc::Global;
 use std::process::Abort;
 use std::test::Fail;
 
@@ -25,20 +26,32 @@ fn body<'a>(message: &Message<'a>) -> Option<RawDocument<'a>> {
     }
 }
 
+/// Whether the document is the command, and the same message is made of it.
+fn is_ping(alloc: Global, document: RawDocument<'_>) -> bool {
+    document.get_i32(alloc, "ping") == Ok(1)
+        && document.get_str(alloc, "$db") == Ok("admin")
+        && match message_of(alloc, 7, document) {
+            Ok(again) => again.as_slice() == PING,
+            Err(_) => false,
+        }
+}
+
+/// Whether the message is that of the command.
+fn is_command(alloc: Global, message: &Message<'_>) -> bool {
+    message.request_id == 7
+        && message.response_to == 0
+        && message.flags == 0
+        && message.checksum.is_empty()
+        && match body(message) {
+            Some(document) => is_ping(alloc, document),
+            None => false,
+        }
+}
+
 #[test]
 fn a_command_is_read(rt: HostRuntime) -> std::result::Result<(), Fail> {
     let message = read_message(rt.alloc(), PING)?;
-    assert!(rt; message.request_id == 7 && message.response_to == 0);
-    assert!(rt; message.flags == 0 && message.checksum.is_empty());
-    match body(&message) {
-        Some(document) => {
-            assert!(rt; document.get_i32(rt.alloc(), "ping") == Ok(1));
-            assert!(rt; document.get_str(rt.alloc(), "$db") == Ok("admin"));
-            let again = message_of(rt.alloc(), 7, document)?;
-            assert!(rt; again.as_slice() == PING);
-        }
-        None => assert!(rt; false),
-    }
+    assert!(rt; is_command(rt.alloc(), &message));
     Ok(())
 }
 
@@ -62,23 +75,35 @@ fn are_two(sections: &[Section<'_>]) -> bool {
     }
 }
 
+/// Whether the message is that of the sequence.
+fn is_sequence(message: &Message<'_>) -> bool {
+    message.response_to == 1
+        && are_two(&message.sections)
+        && message.checksum == b"\x01\x02\x03\x04".as_slice()
+}
+
 #[test]
 fn a_sequence_and_a_checksum_are_read(rt: HostRuntime) -> std::result::Result<(), Fail> {
     let message = read_message(rt.alloc(), SEQUENCE)?;
-    assert!(rt; message.response_to == 1);
-    assert!(rt; are_two(&message.sections));
-    assert!(rt; message.checksum == b"\x01\x02\x03\x04".as_slice());
+    assert!(rt; is_sequence(&message));
     Ok(())
 }
 
 /// An empty body under flags that a reader may not know, and those that it does but for the checksum's.
 const FLAGGED: &[u8] = b"\x1A\0\0\0\x01\0\0\0\0\0\0\0\xDD\x07\0\0\x02\0\xFF\xFF\0\x05\0\0\0\0";
 
+/// Whether the message is an empty document under its flags.
+fn is_flagged(message: &Message<'_>) -> bool {
+    match body(message) {
+        Some(document) => message.flags == 0xFFFF_0002 && document.is_empty(),
+        None => false,
+    }
+}
+
 #[test]
 fn flags_above_the_lower_half_may_be_unknown(rt: HostRuntime) -> std::result::Result<(), Fail> {
     let message = read_message(rt.alloc(), FLAGGED)?;
-    assert!(rt; message.flags == 0xFFFF_0002);
-    assert!(rt; body(&message).is_some_and(|document| document.is_empty()));
+    assert!(rt; is_flagged(&message));
     Ok(())
 }
 
@@ -158,12 +183,17 @@ const DAMAGED: &[(&[u8], MessageError)] = &[
     ),
 ];
 
+/// Whether these bytes are no message, for this.
+fn is_no_message(alloc: Global, bytes: &[u8], wanted: &MessageError) -> bool {
+    match read_message(alloc, bytes) {
+        Ok(_) => false,
+        Err(error) => error == *wanted,
+    }
+}
+
 #[test]
 fn damage_is_told_by_its_cause(rt: HostRuntime) {
     for (bytes, wanted) in DAMAGED {
-        match read_message(rt.alloc(), bytes) {
-            Ok(_) => assert!(rt; false, "{bytes:?}"),
-            Err(error) => assert!(rt; error == *wanted, "{bytes:?}: {error}"),
-        }
+        assert!(rt; is_no_message(rt.alloc(), bytes, wanted), "{bytes:?}");
     }
 }

@@ -60,41 +60,42 @@ fn is_form_put_once(alloc: Global, shelf: &mut Shelf, form: Result<Vec<u8>>) -> 
     }
 }
 
-/// Puts documents, of which two are refused.
-fn put_all(rt: &impl Abort, alloc: Global, shelf: &mut Shelf) {
-    assert!(rt; shelf.is_empty());
-    assert!(rt; is_put(alloc, shelf, GREETING, true));
-    assert!(rt; is_put(alloc, shelf, GREETING, false));
-    assert!(rt; is_breach(alloc, shelf, REPEATED_KEY, &[1], Cause::RepeatedKey));
-    assert!(rt;
-        is_breach(
+/// Whether documents are put, of which two are refused.
+fn are_put(alloc: Global, shelf: &mut Shelf) -> bool {
+    shelf.is_empty()
+        && is_put(alloc, shelf, GREETING, true)
+        && is_put(alloc, shelf, GREETING, false)
+        && is_breach(alloc, shelf, REPEATED_KEY, &[1], Cause::RepeatedKey)
+        && is_breach(
             alloc,
             shelf,
             ARRAY_WITH_AN_EMPTY_KEY,
             &[0, 0],
-            Cause::ArrayKey
+            Cause::ArrayKey,
         )
-    );
-    let form = canonical_bytes(alloc, ARRAY_WITH_AN_EMPTY_KEY);
-    assert!(rt; is_form_put_once(alloc, shelf, form));
-    assert!(rt; is_put(alloc, shelf, EMPTY_DOCUMENT, true));
+        && is_form_put_once(
+            alloc,
+            shelf,
+            canonical_bytes(alloc, ARRAY_WITH_AN_EMPTY_KEY),
+        )
+        && is_put(alloc, shelf, EMPTY_DOCUMENT, true)
 }
 
-/// The documents that are there then.
-fn assert_in_order(rt: &impl Abort, shelf: &Shelf) {
-    assert!(rt; shelf.len() == 3);
-    assert!(rt; !shelf.is_empty());
-    assert!(rt; is_at(shelf, 0, Some(GREETING)));
-    assert!(rt; is_at(shelf, 1, Some(ITS_CANONICAL_FORM)));
-    assert!(rt; is_at(shelf, 2, Some(EMPTY_DOCUMENT)));
-    assert!(rt; is_at(shelf, 3, None));
+/// Whether the documents are there then.
+fn are_in_order(shelf: &Shelf) -> bool {
+    shelf.len() == 3
+        && !shelf.is_empty()
+        && is_at(shelf, 0, Some(GREETING))
+        && is_at(shelf, 1, Some(ITS_CANONICAL_FORM))
+        && is_at(shelf, 2, Some(EMPTY_DOCUMENT))
+        && is_at(shelf, 3, None)
 }
 
 #[test]
 fn documents_come_in_order(rt: HostRuntime) {
     let mut shelf = Shelf::new(rt.alloc());
-    put_all(&rt, rt.alloc(), &mut shelf);
-    assert_in_order(&rt, &shelf);
+    assert!(rt; are_put(rt.alloc(), &mut shelf));
+    assert!(rt; are_in_order(&shelf));
 }
 
 /// The document of this number under `n`.
@@ -131,11 +132,10 @@ const LAST_NUMBER: &[u8] = b"\x0C\0\0\0\x10n\0\x0F\x27\0\0\0";
 #[test]
 fn ten_thousand_documents_twice(rt: HostRuntime) {
     let mut shelf = Shelf::new(rt.alloc());
-    assert_eq!(rt; first_wrong(rt.alloc(), &mut shelf, true), None);
+    assert!(rt; first_wrong(rt.alloc(), &mut shelf, true).is_none());
     assert!(rt; shelf.len() == 10_000);
-    assert_eq!(rt; first_wrong(rt.alloc(), &mut shelf, false), None);
-    assert!(rt; shelf.len() == 10_000);
-    assert!(rt; is_at(&shelf, 9_999, Some(LAST_NUMBER)));
+    assert!(rt; first_wrong(rt.alloc(), &mut shelf, false).is_none());
+    assert!(rt; shelf.len() == 10_000 && is_at(&shelf, 9_999, Some(LAST_NUMBER)));
 }
 
 /// Whether this is printed so.
@@ -180,6 +180,12 @@ fn is_refusal_printed(alloc: Global, path: &[usize], text: &str, debug_text: &st
     }
 }
 
+/// Whether out of memory has its texts.
+fn is_out_of_memory_printed(alloc: Global) -> bool {
+    is_printed(alloc, &PutError::OutOfMemory, "out of memory")
+        && is_debugged(alloc, &PutError::OutOfMemory, "OutOfMemory")
+}
+
 #[test]
 fn refusals_in_words(rt: HostRuntime) {
     let alloc = rt.alloc();
@@ -188,6 +194,5 @@ fn refusals_in_words(rt: HostRuntime) {
     let text = "not canonical: repeated-key at 4.0.12";
     let debug_text = "Breach(Breach { path: [4, 0, 12], cause: RepeatedKey })";
     assert!(rt; is_refusal_printed(alloc, path, text, debug_text));
-    assert!(rt; is_printed(alloc, &PutError::OutOfMemory, "out of memory"));
-    assert!(rt; is_debugged(alloc, &PutError::OutOfMemory, "OutOfMemory"));
+    assert!(rt; is_out_of_memory_printed(alloc));
 }

@@ -8,64 +8,35 @@ use std::test::Fail;
 use test_fixtures::*;
 
 /// The tags of the kinds, in the order of the kinds.
-const TAGS: [u8; 21] = [
+const TAGS: &[u8] = &[
     0x01, 0x02, 0x03, 0x04, 0x05, 0x06, 0x07, 0x08, 0x09, 0x0A, 0x0B, 0x0C, 0x0D, 0x0E, 0x0F, 0x10,
     0x11, 0x12, 0x13, 0x7F, 0xFF,
 ];
 
 /// The kind of this tag.
 fn kind_of(tag: u8) -> Option<ElementType> {
-    for (of, (_, kind)) in TAGS.into_iter().zip(KINDS) {
-        if of == tag {
-            return Some(kind);
+    for (of, (_, kind)) in TAGS.iter().zip(KINDS) {
+        if *of == tag {
+            return Some(*kind);
         }
     }
     None
 }
 
+/// Whether the byte is taken for the kind of this tag, if there is one, and the kind has that tag.
+fn goes_with_its_kind(tag: u8) -> bool {
+    let found = ElementType::from(tag);
+    found == kind_of(tag)
+        && match found {
+            Some(kind) => kind.to_tag() == tag,
+            None => true,
+        }
+}
+
 #[test]
 fn bytes_and_kinds_go_with_each_other(rt: HostRuntime) {
     for tag in 0..=255_u8 {
-        assert_eq!(rt; ElementType::from(tag), kind_of(tag), "{tag}");
-        if let Some(kind) = kind_of(tag) {
-            assert_eq!(rt; kind.to_tag(), tag);
-        }
-    }
-}
-
-/// What an accessor returns, as a value of its kind.
-fn shown<'a, T: Into<RawBsonRef<'a>>>(answer: Option<T>) -> Option<RawBsonRef<'a>> {
-    match answer {
-        Some(value) => Some(value.into()),
-        None => None,
-    }
-}
-
-fn pointer(answer: Option<RawDbPointerRef<'_>>) -> Option<RawBsonRef<'_>> {
-    match answer {
-        Some(pointer) => Some(RawBsonRef::DbPointer(pointer)),
-        None => None,
-    }
-}
-
-fn javascript(answer: Option<&str>) -> Option<RawBsonRef<'_>> {
-    match answer {
-        Some(code) => Some(RawBsonRef::JavaScriptCode(code)),
-        None => None,
-    }
-}
-
-fn symbol(answer: Option<&str>) -> Option<RawBsonRef<'_>> {
-    match answer {
-        Some(symbol) => Some(RawBsonRef::Symbol(symbol)),
-        None => None,
-    }
-}
-
-fn null<'a>(answer: Option<()>) -> Option<RawBsonRef<'a>> {
-    match answer {
-        Some(()) => Some(RawBsonRef::Null),
-        None => None,
+        assert!(rt; goes_with_its_kind(tag), "{tag}");
     }
 }
 
@@ -81,14 +52,14 @@ fn accessed<'a>(value: RawBsonRef<'a>, kind: ElementType) -> Option<RawBsonRef<'
         ElementType::Boolean => shown(value.as_bool()),
         ElementType::DateTime => shown(value.as_datetime()),
         ElementType::RegularExpression => shown(value.as_regex()),
-        ElementType::DbPointer => pointer(value.as_db_pointer()),
-        ElementType::JavaScriptCode => javascript(value.as_javascript()),
-        ElementType::Symbol => symbol(value.as_symbol()),
+        ElementType::DbPointer => shown_pointer(value.as_db_pointer()),
+        ElementType::JavaScriptCode => shown_code(value.as_javascript()),
+        ElementType::Symbol => shown_symbol(value.as_symbol()),
         ElementType::JavaScriptCodeWithScope => shown(value.as_javascript_with_scope()),
         ElementType::Int32 => shown(value.as_i32()),
         ElementType::Timestamp => shown(value.as_timestamp()),
         ElementType::Int64 => shown(value.as_i64()),
-        ElementType::Null => null(value.as_null()),
+        ElementType::Null => shown_null(value.as_null()),
         _ => None,
     }
 }
@@ -109,35 +80,33 @@ fn is_value(value: RawBsonRef<'_>, kind: ElementType) -> bool {
     }
 }
 
-/// The value is that of this kind; the accessor for its kind returns it, and no other does.
-fn assert_kind(rt: &impl Abort, value: RawBsonRef<'_>, kind: ElementType) {
-    assert!(rt; is_value(value, kind), "{kind:?}");
-    for (_, asked) in KINDS.iter() {
-        assert!(rt; is_accessed(value, kind, *asked), "{asked:?} of {kind:?}");
+/// Whether the value is that of this kind, the accessor for its kind returns it, and no other does.
+fn is_kind(value: RawBsonRef<'_>, kind: ElementType) -> bool {
+    for (_, asked) in KINDS {
+        if !is_accessed(value, kind, *asked) {
+            return false;
+        }
     }
+    is_value(value, kind)
 }
 
-/// The item has this key, and a value of this kind.
-fn assert_item(
-    rt: &impl Abort,
-    item: Option<raw_view::Result<(&str, RawBsonRef<'_>)>>,
+/// Whether the item has this key, and a value of this kind.
+fn is_item(
+    item: &Option<raw_view::Result<(&str, RawBsonRef<'_>)>>,
     key: &str,
     kind: ElementType,
-) {
+) -> bool {
     match item {
-        Some(Ok((found, value))) => {
-            assert_eq!(rt; found, key);
-            assert_kind(rt, value, kind);
-        }
-        _ => assert!(rt; false, "{key}"),
+        Some(Ok((found, value))) => *found == key && is_kind(*value, kind),
+        _ => false,
     }
 }
 
 #[test]
 fn each_kind_has_its_value_and_its_accessor(rt: HostRuntime) -> Result<(), Fail> {
     let mut iter = RawDocument::from_bytes(ALL_KINDS)?.iter(rt.alloc());
-    for (key, kind) in KINDS.iter() {
-        assert_item(&rt, iter.next(), key, *kind);
+    for (key, kind) in KINDS {
+        assert!(rt; is_item(&iter.next(), key, *kind), "{key}");
     }
     assert!(rt; iter.next().is_none());
     Ok(())
@@ -153,34 +122,34 @@ const REGEX: RawRegexRef<'static> = RawRegexRef {
     options: "i",
 };
 
+/// Whether the conversions of what holds no document make values of their kinds.
+fn are_small_converted() -> bool {
+    is_value(RawBsonRef::from(HALF_MORE_THAN_ONE), ElementType::Double)
+        && is_value(RawBsonRef::from("s"), ElementType::String)
+        && is_value(RawBsonRef::from(BINARY), ElementType::Binary)
+        && is_value(RawBsonRef::from(id()), ElementType::ObjectId)
+        && is_value(RawBsonRef::from(true), ElementType::Boolean)
+        && is_value(
+            RawBsonRef::from(DateTime::from_millis(-1)),
+            ElementType::DateTime,
+        )
+        && is_value(RawBsonRef::from(REGEX), ElementType::RegularExpression)
+        && is_value(RawBsonRef::from(7_i32), ElementType::Int32)
+        && is_value(RawBsonRef::from(MOMENT), ElementType::Timestamp)
+        && is_value(RawBsonRef::from(-2_i64), ElementType::Int64)
+        && is_value(RawBsonRef::from(decimal()), ElementType::Decimal128)
+}
+
 #[test]
 fn conversions_make_values_of_their_kinds(rt: HostRuntime) -> Result<(), Fail> {
     let document = RawDocument::from_bytes(NULL_DOCUMENT)?;
     let scope = RawDocument::from_bytes(EMPTY)?;
     let array = array_view(NULL_ARRAY)?;
     let code = RawJavaScriptCodeWithScopeRef { code: "g", scope };
-    let rows = [
-        (RawBsonRef::from(HALF_MORE_THAN_ONE), ElementType::Double),
-        (RawBsonRef::from("s"), ElementType::String),
-        (RawBsonRef::from(document), ElementType::EmbeddedDocument),
-        (RawBsonRef::from(array), ElementType::Array),
-        (RawBsonRef::from(BINARY), ElementType::Binary),
-        (RawBsonRef::from(id()), ElementType::ObjectId),
-        (RawBsonRef::from(true), ElementType::Boolean),
-        (
-            RawBsonRef::from(DateTime::from_millis(-1)),
-            ElementType::DateTime,
-        ),
-        (RawBsonRef::from(REGEX), ElementType::RegularExpression),
-        (RawBsonRef::from(code), ElementType::JavaScriptCodeWithScope),
-        (RawBsonRef::from(7_i32), ElementType::Int32),
-        (RawBsonRef::from(MOMENT), ElementType::Timestamp),
-        (RawBsonRef::from(-2_i64), ElementType::Int64),
-        (RawBsonRef::from(decimal()), ElementType::Decimal128),
-    ];
-    for (value, kind) in rows.iter() {
-        assert!(rt; is_value(*value, *kind), "{kind:?}");
-    }
+    assert!(rt; is_value(RawBsonRef::from(document), ElementType::EmbeddedDocument));
+    assert!(rt; is_value(RawBsonRef::from(array), ElementType::Array));
+    assert!(rt; is_value(RawBsonRef::from(code), ElementType::JavaScriptCodeWithScope));
+    assert!(rt; are_small_converted());
     Ok(())
 }
 
@@ -198,50 +167,59 @@ fn a_reference_to_an_owned_binary_is_converted(rt: HostRuntime) {
     assert!(rt; is_converted(BINARY.to_binary(rt.alloc()), BINARY));
 }
 
+/// Whether the greeting and the empty document have their bytes, and say which is empty, as arrays, too.
+fn have_their_bytes(greeting: RawDocument<'_>, empty: RawDocument<'_>) -> bool {
+    let array = RawArray::from_doc(greeting);
+    greeting.as_bytes() == GREETING
+        && !greeting.is_empty()
+        && empty.is_empty()
+        && array.as_doc() == greeting
+        && array.as_bytes() == GREETING
+        && !array.is_empty()
+        && RawArray::from_doc(empty).is_empty()
+}
+
+/// Whether the greeting is equal to the same bytes at another place, and not to the empty document; as arrays, too.
+fn are_views_compared(
+    greeting: RawDocument<'_>,
+    same: RawDocument<'_>,
+    empty: RawDocument<'_>,
+) -> bool {
+    let array = RawArray::from_doc(greeting);
+    greeting == same
+        && greeting != empty
+        && array == RawArray::from_doc(same)
+        && array != RawArray::from_doc(empty)
+        && RawBsonRef::Document(greeting) == RawBsonRef::Document(same)
+        && RawBsonRef::Document(greeting) != RawBsonRef::Array(array)
+}
+
+/// Whether values of two kinds, and two of one kind, differ.
+fn are_values_compared() -> bool {
+    RawBsonRef::String("a") != RawBsonRef::Symbol("a")
+        && RawBsonRef::Int32(1) != RawBsonRef::Int64(1)
+        && RawBsonRef::Int32(1) != RawBsonRef::Int32(2)
+}
+
+/// Whether a pointer has its parts, and is compared by them.
+fn is_pointer_compared() -> bool {
+    let pointer = RawDbPointerRef::new("db.c", id());
+    pointer.namespace() == "db.c"
+        && pointer.id() == id()
+        && pointer == RawDbPointerRef::new("db.c", id())
+        && pointer != RawDbPointerRef::new("db.d", id())
+        && pointer != RawDbPointerRef::new("db.c", ObjectId::from_bytes([0; 12]))
+}
+
 #[test]
 fn views_keep_their_bytes(rt: HostRuntime) -> Result<(), Fail> {
     let greeting = RawDocument::from_bytes(GREETING)?;
     let empty = RawDocument::from_bytes(EMPTY)?;
-    let array = RawArray::from_doc(greeting);
-    let empty_array = RawArray::from_doc(empty);
-    // equal bytes at another place
     let same = RawDocument::from_bytes(b"\x13\0\0\0\x02hi\0\x06\0\0\0y'all\0\0")?;
-    let same_array = RawArray::from_doc(same);
-    let id = id();
-    let other_id = ObjectId::from_bytes([0; 12]);
-    let pointer = RawDbPointerRef::new("db.c", id);
-    let rows = [
-        (greeting.as_bytes() == GREETING, true),
-        (greeting.is_empty(), false),
-        (empty.is_empty(), true),
-        (array.as_doc() == greeting, true),
-        (array.as_bytes() == GREETING, true),
-        (array.is_empty(), false),
-        (empty_array.is_empty(), true),
-        (greeting == same, true),
-        (greeting == empty, false),
-        (array == same_array, true),
-        (array == empty_array, false),
-        (
-            RawBsonRef::Document(greeting) == RawBsonRef::Document(same),
-            true,
-        ),
-        (
-            RawBsonRef::Document(greeting) == RawBsonRef::Array(array),
-            false,
-        ),
-        (RawBsonRef::String("a") == RawBsonRef::Symbol("a"), false),
-        (RawBsonRef::Int32(1) == RawBsonRef::Int64(1), false),
-        (RawBsonRef::Int32(1) == RawBsonRef::Int32(2), false),
-        (pointer.namespace() == "db.c", true),
-        (pointer.id() == id, true),
-        (pointer == RawDbPointerRef::new("db.c", id), true),
-        (pointer == RawDbPointerRef::new("db.d", id), false),
-        (pointer == RawDbPointerRef::new("db.c", other_id), false),
-    ];
-    for (number, (found, wanted)) in rows.iter().enumerate() {
-        assert_eq!(rt; found, wanted, "at {number}");
-    }
+    assert!(rt; have_their_bytes(greeting, empty));
+    assert!(rt; are_views_compared(greeting, same, empty));
+    assert!(rt; are_values_compared());
+    assert!(rt; is_pointer_compared());
     Ok(())
 }
 
@@ -261,23 +239,25 @@ fn key_from<'a>(document: RawDocument<'a>, offset: usize) -> Option<Option<&'a s
     }
 }
 
+/// Offsets, each with the key of the first element from it on.
+const OFFSETS: &[(usize, Option<Option<&str>>)] = &[
+    (3, None),
+    (4, Some(Some("a"))),
+    (11, Some(Some("b"))),
+    (18, Some(Some("c"))),
+    // inside an element, at the final 0, and behind it
+    (5, Some(None)),
+    (25, Some(None)),
+    (26, Some(None)),
+    (27, None),
+    (usize::MAX, None),
+];
+
 #[test]
 fn a_walk_begins_at_any_offset_behind_the_header(rt: HostRuntime) -> Result<(), Fail> {
     let document = RawDocument::from_bytes(THREE_INT32)?;
-    let rows = [
-        (3, None),
-        (4, Some(Some("a"))),
-        (11, Some(Some("b"))),
-        (18, Some(Some("c"))),
-        // inside an element, at the final 0, and behind it
-        (5, Some(None)),
-        (25, Some(None)),
-        (26, Some(None)),
-        (27, None),
-        (usize::MAX, None),
-    ];
-    for (offset, key) in rows.iter() {
-        assert_eq!(rt; key_from(document, *offset), *key, "{offset}");
+    for (offset, key) in OFFSETS {
+        assert!(rt; key_from(document, *offset) == *key, "{offset}");
     }
     Ok(())
 }

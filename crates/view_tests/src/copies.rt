@@ -142,11 +142,7 @@ fn has_access_copy(answer: ValueAccessResult<i32>, key: &str) -> bool {
 #[test]
 fn access_errors_have_equal_copies(rt: HostRuntime) -> Result<(), Fail> {
     let document = RawDocument::from_bytes(BOOLEAN_TWO)?;
-    for key in ["a", "b"] {
-        assert!(rt;
-            has_access_copy(document.get_i32(rt.alloc(), key), key),
-            "{key}"
-        );
-    }
+    assert!(rt; has_access_copy(document.get_i32(rt.alloc(), "a"), "a"));
+    assert!(rt; has_access_copy(document.get_i32(rt.alloc(), "b"), "b"));
     Ok(())
 }

@@ -1,15 +1,16 @@
 use raw_view::{ElementType, RawBsonRef, Reason};
+use std::process::Abort;
 use std::test::Fail;
-use test_fixtures::{Checks, Fault, KEY_ANSWERS, Want};
+use test_fixtures::{Checks, Fault, Want};
 
 /// The greeting, whose text declares one byte more.
 const SEVEN_BYTES: &[u8] = b"\x13\0\0\0\x02hi\0\x07\0\0\0y'all\0\0";
 
 #[test]
-fn a_text_takes_the_final_0(rt: HostRuntime) -> Result<(), Fail> {
+fn a_text_takes_the_final_0(rt: HostRuntime) {
+    let checks = Checks::ample(rt.alloc());
     let text = RawBsonRef::String("y'all\0");
-    Checks::ample(rt.alloc()).typed_under(SEVEN_BYTES, ElementType::String, "hi", text)?;
-    Ok(())
+    assert!(rt; checks.is_typed_under(SEVEN_BYTES, ElementType::String, "hi", text));
 }
 
 /// Documents of one element, and why it has no frame.
@@ -43,19 +44,18 @@ const NO_TERMINATOR: Fault<'static> = Fault {
 };
 
 #[test]
-fn damage_is_told_with_its_key(rt: HostRuntime) -> Result<(), Fail> {
+fn damage_is_told_with_its_key(rt: HostRuntime) {
     let checks = Checks::ample(rt.alloc());
     for (bytes, fault) in STOPS {
-        checks.look_up(bytes, "x", Want::Fault(*fault))?;
+        assert!(rt;
+            checks.is_look_up(bytes, "x", Want::Fault(fault)),
+            "{bytes:?}"
+        );
     }
-    Ok(())
 }
 
 #[test]
 fn a_key_stands_there_whatever_its_value(rt: HostRuntime) -> Result<(), Fail> {
-    let checks = Checks::ample(rt.alloc());
-    for (bytes, key, want) in KEY_ANSWERS.iter() {
-        checks.key(bytes, key, *want)?;
-    }
+    Checks::ample(rt.alloc()).keys()?;
     Ok(())
 }

@@ -21,49 +21,38 @@ const REGEX: RawRegexRef<'static> = RawRegexRef {
     options: "i",
 };
 
-/// Values, each with its `Debug` text.
-const VALUES: [(RawBsonRef<'static>, &str); 5] = [
-    (RawBsonRef::Int32(-7), "Int32(-7)"),
-    (RawBsonRef::String("hi"), "String(\"hi\")"),
-    (RawBsonRef::MinKey, "MinKey"),
-    (
-        RawBsonRef::Binary(BINARY),
-        "Binary(RawBinaryRef { subtype: Generic, bytes: [1, 255] })",
-    ),
-    (
-        RawBsonRef::RegularExpression(REGEX),
-        "RegularExpression(RawRegexRef { pattern: \"a\", options: \"i\" })",
-    ),
-];
+/// Whether values without documents in them have their `Debug` texts.
+fn are_small_printed(alloc: Global) -> bool {
+    let binary = "Binary(RawBinaryRef { subtype: Generic, bytes: [1, 255] })";
+    let regex = "RegularExpression(RawRegexRef { pattern: \"a\", options: \"i\" })";
+    has_debug(alloc, &RawBsonRef::Int32(-7), "Int32(-7)")
+        && has_debug(alloc, &RawBsonRef::String("hi"), "String(\"hi\")")
+        && has_debug(alloc, &RawBsonRef::MinKey, "MinKey")
+        && has_debug(alloc, &RawBsonRef::Binary(BINARY), binary)
+        && has_debug(alloc, &RawBsonRef::RegularExpression(REGEX), regex)
+}
+
+/// Whether the empty document, and the values that hold it, have their `Debug` texts.
+fn is_empty_printed(alloc: Global, empty: RawDocument<'_>) -> bool {
+    let scoped = RawBsonRef::JavaScriptCodeWithScope(RawJavaScriptCodeWithScopeRef {
+        code: "f",
+        scope: empty,
+    });
+    let text =
+        "JavaScriptCodeWithScope(RawJavaScriptCodeWithScopeRef { code: \"f\", scope: RawDocument { data: \"0500000000\" } })";
+    let document = "Document(RawDocument { data: \"0500000000\" })";
+    has_debug(alloc, &empty, "RawDocument { data: \"0500000000\" }")
+        && has_debug(alloc, &RawBsonRef::Document(empty), document)
+        && has_debug(alloc, &scoped, text)
+}
 
 #[test]
 fn views_and_values_have_a_debug_text(rt: HostRuntime) -> Result<(), Fail> {
-    let empty = RawDocument::from_bytes(EMPTY)?;
-    let text = "RawDocument { data: \"0500000000\" }";
-    assert!(rt; has_debug(rt.alloc(), &empty, text));
+    assert!(rt; is_empty_printed(rt.alloc(), RawDocument::from_bytes(EMPTY)?));
     let two = array_view(b"\x0C\0\0\0\x03a\0\xFF\xFE\xAB\xCD\0")?;
     let text = "RawArray { data: \"0c000000036100fffeabcd00\" }";
     assert!(rt; has_debug(rt.alloc(), &two, text));
-    for (value, text) in VALUES.iter() {
-        assert!(rt; has_debug(rt.alloc(), value, text), "{text}");
-    }
-    let code = RawJavaScriptCodeWithScopeRef {
-        code: "f",
-        scope: empty,
-    };
-    let holders = [
-        (
-            RawBsonRef::Document(empty),
-            "Document(RawDocument { data: \"0500000000\" })",
-        ),
-        (
-            RawBsonRef::JavaScriptCodeWithScope(code),
-            "JavaScriptCodeWithScope(RawJavaScriptCodeWithScopeRef { code: \"f\", scope: RawDocument { data: \"0500000000\" } })",
-        ),
-    ];
-    for (value, text) in holders.iter() {
-        assert!(rt; has_debug(rt.alloc(), value, text), "{text}");
-    }
+    assert!(rt; are_small_printed(rt.alloc()));
     Ok(())
 }
 

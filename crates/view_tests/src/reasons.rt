@@ -1,5 +1,5 @@
 use raw_view::Reason;
-use std::test::Fail;
+use std::process::Abort;
 use test_fixtures::{Checks, Fault, SWALLOWED_TERMINATOR, Want};
 
 /// Bytes without an envelope: why, and the text of the error.
@@ -37,7 +37,7 @@ const REFUSALS: &[(&[u8], Reason, &str)] = &[
 ];
 
 #[test]
-fn bytes_without_an_envelope_are_refused(rt: HostRuntime) -> Result<(), Fail> {
+fn bytes_without_an_envelope_are_refused(rt: HostRuntime) {
     let checks = Checks::ample(rt.alloc());
     for (bytes, reason, text) in REFUSALS {
         let want = Fault {
@@ -45,9 +45,8 @@ fn bytes_without_an_envelope_are_refused(rt: HostRuntime) -> Result<(), Fail> {
             key: None,
             text,
         };
-        checks.refusal(bytes, want)?;
+        assert!(rt; checks.is_refusal(bytes, &want), "{bytes:?}");
     }
-    Ok(())
 }
 
 /// Documents whose first element has the key `k` and no frame: why, and the text of the error.
@@ -197,18 +196,20 @@ const NO_BYTE_LEFT: Fault<'static> = Fault {
 };
 
 #[test]
-fn a_stop_says_why_no_element_stands_there(rt: HostRuntime) -> Result<(), Fail> {
+fn a_stop_says_why_no_element_stands_there(rt: HostRuntime) {
     let checks = Checks::ample(rt.alloc());
     for (bytes, reason, text) in STOPS {
-        let want = Want::Fault(Fault {
+        let want = Fault {
             reason: Some(*reason),
             key: Some("k"),
             text,
-        });
-        checks.look_up(bytes, "x", want)?;
+        };
+        assert!(rt;
+            checks.is_look_up(bytes, "x", Want::Fault(&want)),
+            "{bytes:?}"
+        );
     }
-    checks.look_up(SWALLOWED_TERMINATOR, "k", Want::Fault(NO_BYTE_LEFT))?;
-    Ok(())
+    assert!(rt; checks.is_look_up(SWALLOWED_TERMINATOR, "k", Want::Fault(&NO_BYTE_LEFT)));
 }
 
 /// Documents whose first element has the key `k` and no value: why, the key of the error, and its text.
@@ -311,15 +312,17 @@ const FAULTS: &[(&[u8], Option<Reason>, Option<&str>, &str)] = &[
 ];
 
 #[test]
-fn a_value_says_why_it_is_none(rt: HostRuntime) -> Result<(), Fail> {
+fn a_value_says_why_it_is_none(rt: HostRuntime) {
     let checks = Checks::ample(rt.alloc());
     for (bytes, reason, key, text) in FAULTS {
-        let want = Want::Fault(Fault {
+        let want = Fault {
             reason: *reason,
             key: *key,
             text,
-        });
-        checks.look_up(bytes, "k", want)?;
+        };
+        assert!(rt;
+            checks.is_look_up(bytes, "k", Want::Fault(&want)),
+            "{bytes:?}"
+        );
     }
-    Ok(())
 }

@@ -1,29 +1,25 @@
 //! A value of each kind, owned: those of the document of all kinds.
 
+use crate::documents::{EMPTY, NULL_ARRAY, NULL_DOCUMENT};
+use crate::values::{HALF_MORE_THAN_ONE, KINDS, MOMENT, array_view, decimal, id, pointed};
 use raw_bson::{
     Binary, BinarySubtype, DateTime, DbPointer, ElementType, RawArrayBuf, RawBson, RawDocumentBuf,
-    RawJavaScriptCodeWithScope, Regex, ToRawArrayBuf,
+    RawJavaScriptCodeWithScope, Regex, Result, ToRawArrayBuf,
 };
 use std::alloc::Global;
-use std::test::Fail;
-use test_fixtures::*;
 
 /// A buffer of these bytes.
-pub fn document_of(alloc: Global, bytes: &[u8]) -> Result<RawDocumentBuf, Fail> {
-    Ok(RawDocumentBuf::from_bytes(Vec::from_slice(alloc, bytes)?)?)
+pub fn document_of(alloc: Global, bytes: &[u8]) -> Result<RawDocumentBuf> {
+    RawDocumentBuf::from_bytes(Vec::from_slice(alloc, bytes)?)
 }
 
 /// A buffer of these bytes as an array.
-pub fn array_of(alloc: Global, bytes: &[u8]) -> Result<RawArrayBuf, Fail> {
-    Ok(array_view(bytes)?.to_raw_array_buf(alloc)?)
+pub fn array_of(alloc: Global, bytes: &[u8]) -> Result<RawArrayBuf> {
+    array_view(bytes)?.to_raw_array_buf(alloc)
 }
 
 /// Code with a scope.
-pub fn code_of(
-    alloc: Global,
-    code: &str,
-    scope: &[u8],
-) -> Result<RawJavaScriptCodeWithScope, Fail> {
+pub fn code_of(alloc: Global, code: &str, scope: &[u8]) -> Result<RawJavaScriptCodeWithScope> {
     Ok(RawJavaScriptCodeWithScope {
         code: String::from_str(alloc, code)?,
         scope: document_of(alloc, scope)?,
@@ -31,7 +27,7 @@ pub fn code_of(
 }
 
 /// The value of this kind, converted from its part where that can be.
-pub fn owned(alloc: Global, kind: ElementType) -> Result<RawBson, Fail> {
+pub fn owned(alloc: Global, kind: ElementType) -> Result<RawBson> {
     Ok(match kind {
         ElementType::Double => RawBson::from(HALF_MORE_THAN_ONE),
         ElementType::String => RawBson::from(String::from_str(alloc, "s")?),
@@ -47,12 +43,12 @@ pub fn owned(alloc: Global, kind: ElementType) -> Result<RawBson, Fail> {
         ElementType::DateTime => RawBson::from(DateTime::from_millis(-1)),
         ElementType::Null => RawBson::Null,
         ElementType::RegularExpression => RawBson::from(Regex::new(alloc, "a", "i")?),
-        _ => rarer_owned(alloc, kind)?,
+        _ => return rarer_owned(alloc, kind),
     })
 }
 
 /// The values of all kinds, each with its kind.
-pub fn all_owned(alloc: Global) -> Result<Vec<(ElementType, RawBson)>, Fail> {
+pub fn all_owned(alloc: Global) -> Result<Vec<(ElementType, RawBson)>> {
     let mut values = Vec::new(alloc);
     for &(_, kind) in KINDS.iter() {
         values.push((kind, owned(alloc, kind)?))?;
@@ -60,7 +56,7 @@ pub fn all_owned(alloc: Global) -> Result<Vec<(ElementType, RawBson)>, Fail> {
     Ok(values)
 }
 
-fn rarer_owned(alloc: Global, kind: ElementType) -> Result<RawBson, Fail> {
+fn rarer_owned(alloc: Global, kind: ElementType) -> Result<RawBson> {
     Ok(match kind {
         ElementType::DbPointer => RawBson::from(DbPointer {
             namespace: String::from_str(alloc, "db.c")?,

@@ -38,6 +38,14 @@ pub fn check_text(found: &str, wanted: &str) -> Result<(), Fail> {
     }
 }
 
+/// Whether the value has this Debug text.
+pub fn has_debug_text<T: Debug>(alloc: Global, value: &T, text: &str) -> bool {
+    match format!(in alloc; "{value:?}") {
+        Ok(printed) => printed.as_str() == text,
+        Err(_) => false,
+    }
+}
+
 /// The value has this Debug text.
 pub fn check_debug_text<T: Debug>(alloc: Global, value: &T, text: &str) -> Result<(), Fail> {
     let printed = format!(in alloc; "{value:?}")?;
@@ -48,6 +56,14 @@ pub fn check_debug_text<T: Debug>(alloc: Global, value: &T, text: &str) -> Resul
 pub fn check_display_text<T: Display>(alloc: Global, value: &T, text: &str) -> Result<(), Fail> {
     let printed = format!(in alloc; "{value}")?;
     check_text(printed.as_str(), text)
+}
+
+/// Whether the result is this one.
+pub fn is_answer<T: PartialEq + Drop>(answer: raw_bson::Result<T>, wanted: &T) -> bool {
+    match answer {
+        Ok(found) => found == *wanted,
+        Err(_) => false,
+    }
 }
 
 /// The result is this one.
