@@ -179,12 +179,20 @@ class Decoded(unittest.TestCase):
             self.assertEqual((error.offset, error.path, error.keys), (24 + 8, (1,), ("b",)))
 
 
+def mixed(found: int, eight: int) -> int:
+    found = (found ^ eight) * 0x9E3779B97F4A7C15 % (1 << 64)
+    return found ^ found >> 32
+
+
 def hash_of(form: bytes) -> int:
-    """The hash of a form, plainly: eight bytes at a time, what is left of them last."""
-    found = len(form)
-    for at in range(0, len(form) // 8 * 8 + 1, 8):
-        found = (found ^ int.from_bytes(form[at : at + 8], "little")) * 0x9E3779B97F4A7C15 % (1 << 64)
-        found ^= found >> 32
+    """The hash of a form, plainly: of each 32 bytes eight go into each of four lanes, whose results come first; then eight bytes at
+    a time, what is left of them last."""
+    found, lanes, whole = len(form), [1, 2, 3, 4], len(form) // 32 * 32
+    for at in range(0, whole, 8):
+        lanes[at // 8 % 4] = mixed(lanes[at // 8 % 4], int.from_bytes(form[at : at + 8], "little"))
+    rest = [int.from_bytes(form[at : at + 8], "little") for at in range(whole, len(form) // 8 * 8 + 1, 8)]
+    for eight in lanes + rest:
+        found = mixed(found, eight)
     return found
 
 
