@@ -69,7 +69,7 @@ except ImportError as error:
 
 PARTITION = 32 << 20
 BLOCK = 1 << 20  # what is read and brought to its forms at a time, so that it stays in a processor's cache
-AT_ONCE = 256 << 10
+AT_ONCE = 256 << 10  # what is written at a time
 BUCKETS = 16
 bytes(4 * BLOCK)  # glibc keeps freed memory of the size that it has seen: else that of each block is mapped and cleared anew
 
