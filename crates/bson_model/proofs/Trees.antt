@@ -5,7 +5,7 @@ use Rattle.std.specs.String.{string_bytes}
 use Rattle.bson_model.specs.Leaf.{double, string, binary, undefined, object_id, boolean, date_time, null, regular_expression, db_pointer, javascript_code, symbol, int32, timestamp, int64, decimal128, max_key, min_key}
 use Rattle.bson_model.specs.Pairs.{value_at, with_pair}
 use Rattle.bson_model.specs.Scalars.{bytes_of_object_id, millis_of_date_time, bytes_of_decimal128}
-use Rattle.bson_model.specs.Tree.{leaf, array, document, code_with_scope, tree_then, entry_then, trees, entries, entries_beside, tree_of, trees_of, pairs_of, with_trees}
+use Rattle.bson_model.specs.Tree.{leaf, array, document, code_with_scope, tree_then, entry_then, trees, entries, entries_beside, tree_of, trees_of, pairs_of, with_trees, TreeEquations}
 use Rattle.bson_model.specs.declared.binaries.Binary.{Binary}
 use Rattle.bson_model.specs.declared.bson.Bson as b
 use Rattle.bson_model.specs.declared.bson.Bson.{Bson, Row_of-Bson, end_of-Bson, more_of-Bson, items-the_row-Bson, items_hidden-the_row-Bson-0, items_hidden-the_row-Bson-1}
@@ -117,6 +117,9 @@ tree_of-Document d = ap document (entries_beside-pairs d.pairs)
 pub tree_of-JavaScriptCodeWithScope : (c : JavaScriptCodeWithScope) → tree_of (b.JavaScriptCodeWithScope c) ≡ code_with_scope (string_bytes c.code) (entries (with_trees (pairs_of c.scope)))
 unfolding tree_of
 tree_of-JavaScriptCodeWithScope c = ap (λ es. code_with_scope (string_bytes c.code) es) (entries_beside-pairs c.scope.pairs)
+
+pub tree_equations : TreeEquations
+tree_equations = record { of_array = tree_of-Array; of_document = tree_of-Document; of_code_with_scope = tree_of-JavaScriptCodeWithScope }
 
 -- the tree of a value of each variant
 pub ruleset tree_laws = (

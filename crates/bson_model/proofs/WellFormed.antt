@@ -1,20 +1,19 @@
 -- How the well-formed trees of a list and of a document are made of those of their members.
 use Rattle.std.proofs.Common.{◌≡◌, ℕ, zero, suc, ◌+◌, ◌<◌, List, [], ◌∷◌, map, length, take, Some, None, slice_get, All, refl, ap, add-one, arith}
-use Rattle.std.specs.List.{IsDistinct}
-use Rattle.std.specs.Str.{IsUtf8, bytes_eq}
+use Rattle.std.specs.Str.{IsUtf8}
 use Rattle.bson_model.specs.Pairs.{keys_of, HasDistinctKeys}
-use Rattle.bson_model.specs.Proper.{keys_in, InTrees, InEntries, IsLeafInRange, IsWellFormed}
+use Rattle.bson_model.specs.Proper.{keys_in, InTrees, InEntries, well_formed_parts, IsWellFormed}
 use Rattle.bson_model.specs.Tree.{Tree, trees, entries, tree_of, pairs_of, with_trees, tree_of_document}
 use Rattle.bson_model.specs.declared.bson.Bson.{Bson}
 use Rattle.bson_model.specs.declared.bson.Document.{Document}
 
 -- the trees of a list are well formed
 abbrev pub AreWellFormed : List Bson → Type 0
-AreWellFormed vs = InTrees IsLeafInRange IsUtf8 IsUtf8 (IsDistinct bytes_eq) (trees (map tree_of vs))
+AreWellFormed vs = InTrees well_formed_parts (trees (map tree_of vs))
 
 -- the keys of pairs are texts, and their trees well formed
 abbrev pub ArePairsWellFormed : List (List ℕ × Bson) → Type 0
-ArePairsWellFormed ps = InEntries IsLeafInRange IsUtf8 IsUtf8 (IsDistinct bytes_eq) (entries (with_trees ps))
+ArePairsWellFormed ps = InEntries well_formed_parts (entries (with_trees ps))
 
 pub keys_in-entries : (es : List (List ℕ × Tree)) → keys_in (entries es) ≡ keys_of es
 keys_in-entries [] = refl

@@ -14,15 +14,25 @@ abbrev pub keys_in : Entries → List (List ℕ)
 keys_in no_entry = []
 keys_in (entry_then key t es) = key ∷ keys_in es
 
--- each leaf meets the first fact, each text of a code the second, each key the third, and the keys of
--- each document and scope the fourth
-module _ (OfLeaf : Leaf → Type 0) (OfCode OfKey : List ℕ → Type 0) (OfKeys : List (List ℕ) → Type 0) where
+-- what holds of the parts of a tree
+pub record OfParts : Type 1 where
+  -- of each leaf
+  pub of_leaf : Leaf → Type 0
+  -- of the text of each code with scope
+  pub of_code : List ℕ → Type 0
+  -- of each key
+  pub of_key : List ℕ → Type 0
+  -- of the keys of each document and each scope, in order
+  pub of_keys : List (List ℕ) → Type 0
+
+-- it holds of each part
+module _ (holds : OfParts) where
   abbrev mutual
     pub Everywhere : Tree → Type 0
-    Everywhere (leaf l) = OfLeaf l
+    Everywhere (leaf l) = holds.of_leaf l
     Everywhere (array ts) = InTrees ts
-    Everywhere (document es) = OfKeys (keys_in es) × InEntries es
-    Everywhere (code_with_scope code es) = OfCode code × OfKeys (keys_in es) × InEntries es
+    Everywhere (document es) = holds.of_keys (keys_in es) × InEntries es
+    Everywhere (code_with_scope code es) = holds.of_code code × holds.of_keys (keys_in es) × InEntries es
 
     pub InTrees : Trees → Type 0
     InTrees no_tree = Unit {0}
@@ -30,7 +40,7 @@ module _ (OfLeaf : Leaf → Type 0) (OfCode OfKey : List ℕ → Type 0) (OfKeys
 
     pub InEntries : Entries → Type 0
     InEntries no_entry = Unit {0}
-    InEntries (entry_then key t es) = OfKey key × Everywhere t × InEntries es
+    InEntries (entry_then key t es) = holds.of_key key × Everywhere t × InEntries es
 
 -- what holds of every text or list of keys
 abbrev pub Whatever : {X : Type 0} → X → Type 0
@@ -59,8 +69,11 @@ IsLeafInRange min_key = Unit {0}
 
 -- each leaf is in range, each code and key is UTF-8, and no key is there twice in a document or a scope:
 -- so is the tree of every value, document and list
+abbrev pub well_formed_parts : OfParts
+well_formed_parts = record { of_leaf = IsLeafInRange; of_code = IsUtf8; of_key = IsUtf8; of_keys = IsDistinct bytes_eq }
+
 abbrev pub IsWellFormed : Tree → Type 0
-IsWellFormed = Everywhere IsLeafInRange IsUtf8 IsUtf8 (IsDistinct bytes_eq)
+IsWellFormed = Everywhere well_formed_parts
 
 -- no 0 is in the pattern and the options of a regular expression
 abbrev pub IsLeafNulFree : Leaf → Type 0
@@ -68,8 +81,11 @@ IsLeafNulFree (regular_expression pattern options) = NulFree pattern × NulFree 
 IsLeafNulFree _ = Unit {0}
 
 -- no key, pattern or options holds a 0
+abbrev pub nul_free_parts : OfParts
+nul_free_parts = record { of_leaf = IsLeafNulFree; of_code = Whatever; of_key = NulFree; of_keys = Whatever }
+
 abbrev pub IsNulFree : Tree → Type 0
-IsNulFree = Everywhere IsLeafNulFree Whatever NulFree Whatever
+IsNulFree = Everywhere nul_free_parts
 
 -- the options of a regular expression never descend
 abbrev pub DoLeafOptionsAscend : Leaf → Type 0
@@ -77,8 +93,11 @@ DoLeafOptionsAscend (regular_expression pattern options) = OptionsAscend options
 DoLeafOptionsAscend _ = Unit {0}
 
 -- no options descend
+abbrev pub ascending_parts : OfParts
+ascending_parts = record { of_leaf = DoLeafOptionsAscend; of_code = Whatever; of_key = Whatever; of_keys = Whatever }
+
 abbrev pub DoOptionsAscend : Tree → Type 0
-DoOptionsAscend = Everywhere DoLeafOptionsAscend Whatever Whatever Whatever
+DoOptionsAscend = Everywhere ascending_parts
 
 -- the subtype of a binary value is the one that its byte gives
 abbrev pub IsLeafSubtypeProper : Leaf → Type 0
@@ -86,8 +105,11 @@ IsLeafSubtypeProper (binary subtype bytes) = IsProperSubtype subtype
 IsLeafSubtypeProper _ = Unit {0}
 
 -- each subtype is the one that its byte gives
+abbrev pub proper_subtype_parts : OfParts
+proper_subtype_parts = record { of_leaf = IsLeafSubtypeProper; of_code = Whatever; of_key = Whatever; of_keys = Whatever }
+
 abbrev pub AreSubtypesProper : Tree → Type 0
-AreSubtypesProper = Everywhere IsLeafSubtypeProper Whatever Whatever Whatever
+AreSubtypesProper = Everywhere proper_subtype_parts
 
 -- a tree that comes back as it is after it is written and read
 pub record IsProper (t : Tree) : Type 0 where

@@ -1,9 +1,12 @@
 -- Trees of values, apart from how they are kept.
-use Rattle.std.specs.Prelude.{ℕ, List, [], ◌∷◌, map}
+use Rattle.std.specs.Prelude.{◌≡◌, ℕ, List, [], ◌∷◌, map}
 use Rattle.std.specs.String.{string_bytes}
+use Rattle.std.specs.declared.alloc.Global.{Global}
+use Rattle.std.specs.declared.vec.Vec.{Vec}
 use Rattle.bson_model.specs.Leaf.{Leaf, double, string, binary, undefined, object_id, boolean, date_time, null, regular_expression, db_pointer, javascript_code, symbol, int32, timestamp, int64, decimal128, max_key, min_key}
 use Rattle.bson_model.specs.Scalars.{bytes_of_object_id, millis_of_date_time, bytes_of_decimal128}
 use Rattle.bson_model.specs.declared.bson.Document.{Document}
+use Rattle.bson_model.specs.declared.bson.JavaScriptCodeWithScope.{JavaScriptCodeWithScope}
 use Rattle.bson_model.specs.declared.bson.Bson as b
 use Rattle.bson_model.specs.declared.bson.Bson.{Bson, Row_of-Bson, end_of-Bson, more_of-Bson}
 
@@ -95,3 +98,11 @@ tree_of_document d = document (entries (with_trees (pairs_of d)))
 -- the tree that a list stands for
 abbrev pub tree_of_list : List Bson → Tree
 tree_of_list vs = array (trees (map tree_of vs))
+
+-- What `tree_of` is at the variants that hold other values, whose lines above go by how the values are kept. Each is
+-- proved (`tree_equations`).
+pub record TreeEquations : Type 0 where
+  pub of_array : (values : Vec Bson Global) → tree_of (b.Array values) ≡ tree_of_list values.items
+  pub of_document : (d : Document) → tree_of (b.Document d) ≡ tree_of_document d
+  pub of_code_with_scope : (c : JavaScriptCodeWithScope)
+      → tree_of (b.JavaScriptCodeWithScope c) ≡ code_with_scope (string_bytes c.code) (entries (with_trees (pairs_of c.scope)))

@@ -15,7 +15,7 @@ pub use Rattle.bson_model.specs.Bytes.{AreBytes, NulFree}
 pub use Rattle.bson_model.specs.Leaf.{Leaf, binary, db_pointer, regular_expression}
 pub use Rattle.bson_model.specs.Pairs.{keep, keys_of, with_pair}
 pub use Rattle.bson_model.specs.Proper.{AreSubtypesProper, DoLeafOptionsAscend, DoOptionsAscend, Everywhere, InEntries, InTrees, IsLeafInRange, IsLeafNulFree, IsLeafSubtypeProper, IsNulFree, IsProper}
-pub use Rattle.bson_model.specs.Proper.{IsWellFormed, Whatever, keys_in}
+pub use Rattle.bson_model.specs.Proper.{IsWellFormed, OfParts, ascending_parts, keys_in, nul_free_parts, proper_subtype_parts, well_formed_parts}
 pub use Rattle.bson_model.specs.Subtype.{subtype_byte, subtype_of}
 pub use Rattle.bson_model.specs.Tree.{Entries, Tree, Trees, array, code_with_scope, document, entries, entry_then, leaf, no_entry, no_tree, pairs_in, pairs_of, tree_of, tree_then, trees, with_trees}
 pub use Rattle.bson_model.specs.declared.binaries.BinarySubtype.{BinarySubtype}
@@ -58,13 +58,13 @@ pub use Rattle.raw_tree.specs.declared.writer.Payload.{Payload}
 pub use Rattle.raw_tree.specs.declared.writer.members.Container.{Container}
 pub use Rattle.raw_tree.specs.declared.writer.members.Members.{Members}
 pub use Rattle.raw_tree.specs.put.Payload.{element_bytes, payload_of, unset}
-pub use Rattle.raw_tree.specs.reader.FrameCount.{AllAreCountedOneWay, AllHaveOneFrameCount, CountsFrames, CountsIn, CountsToFaultAt, CountsToFaultInFrame, HasFrameCount, HasFrameCountUpTo}
+pub use Rattle.raw_tree.specs.reader.FrameCount.{AllAreCountedOneWay, AllHaveOneFrameCount, CountsFrames, CountsIn, CountsToFaultAt, HasFrameCount, HasFrameCountUpTo}
 pub use Rattle.raw_tree.specs.reader.FrameCount.{HasFramesToFault, HasFramesToFaultUpTo, HasFramesUntilFault, TellsFrames}
 pub use Rattle.raw_tree.specs.reader.Levels.{AreDrafted, AreRead, Closes, Ends, Finishes, HoldsNone, IsOneMore, IsPairMore, IsSameDraft, IsUnread, KeepsKeys, Opens, TellsFramesWithin, TellsReading}
 pub use Rattle.raw_tree.specs.reader.Levels.{counted, holding, sort_of, texts_of, tree_of_contents}
 pub use Rattle.raw_tree.specs.reader.Reading.{AllAreReadOneWay, AreReadOneWay, FailsInFrame, FirstFault, FirstFaultOfFrame, FirstFaultOfValue, FirstFaultUpTo, FrameStandsFor, Holds, IsFrameReadOneWay}
 pub use Rattle.raw_tree.specs.reader.Reading.{IsValueReadOneWay, Reads, ReadsAs, ReadsUpTo, Sort, StandForEach, StandsFor, TellsFirstFault, as_array, as_document, leaf_in_order, tree_of_pairs}
-pub use Rattle.raw_tree.specs.reader.WithinLimits.{AllAreAnsweredOneWay, AllHaveOneDepth, Barrier, BarsFrame, BarsFront, BarsRest, FirstBarrier, FirstFaultWithin, HasDepth, HasDepthUpTo, IsFaultWith}
+pub use Rattle.raw_tree.specs.reader.WithinLimits.{AllAreAnsweredOneWay, AllHaveOneDepth, Barrier, BarsFrame, BarsFront, FirstBarrier, FirstFaultWithin, HasDepth, HasDepthUpTo, IsFaultWith}
 pub use Rattle.raw_tree.specs.reader.WithinLimits.{IsGreatestDepth, IsSoDeep, ReadsWithin, SaysBarrier, TellsFirstBarrier, TellsFirstFaultWithin, fault_of, too_deep, too_many_bytes}
 pub use Rattle.raw_tree.specs.validator.Breaches.{AllAreJudgedOneWay, BreachesFrame, BreachesFront, BreachesKeys, BreachesMeaning, HasBreachAs, HasBreachUpTo, IsJudgedOneWay, keys_of_frames}
 pub use Rattle.raw_tree.specs.validator.References.{texts}

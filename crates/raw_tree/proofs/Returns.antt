@@ -1,7 +1,7 @@
 -- A proper tree of a size in range is read from its encoding as that very tree, and the encoding is canonical.
 use Rattle.std.proofs.Common.{◌≡◌, ◌≢◌, ◌≤◌, ◌<◌, ◌+◌, ◌%◌, ◌^◌, ◌++◌, ◌∷◌, [], ℕ, zero, suc, List, length, map, drop, decimal, arith, ap, sym, refl, subst, ◌∙◌, append_assoc, length-append, IsUtf8, bytes_eq}
 use Rattle.raw_tree.proofs.Common.{decimal_by_steps, IsAscii-decimal, All-push, IsUtf8-from_ascii, IsDistinct, AreBytes, NulFree, Leaf, regular_expression, keys_of, keys_in, InTrees, InEntries}
-use Rattle.raw_tree.proofs.Common.{Whatever, IsWellFormed, IsNulFree, DoOptionsAscend, AreSubtypesProper, IsLeafInRange, IsLeafNulFree, DoLeafOptionsAscend, IsLeafSubtypeProper, IsProper, Tree, Trees}
+use Rattle.raw_tree.proofs.Common.{well_formed_parts, nul_free_parts, ascending_parts, proper_subtype_parts, IsWellFormed, IsNulFree, DoOptionsAscend, AreSubtypesProper, IsLeafInRange, IsLeafNulFree, DoLeafOptionsAscend, IsLeafSubtypeProper, IsProper, Tree, Trees}
 use Rattle.raw_tree.proofs.Common.{Entries, leaf, array, document, code_with_scope, no_tree, tree_then, no_entry, entry_then, trees, entries, pairs_in, IsEnvelope, string_payload, leaf_payload}
 use Rattle.raw_tree.proofs.Common.{framed, element_of, HasShape, Frame, IsWalk, Done, tag_of, RawValue, MeansValue, max_length, AreDecimalsFrom, AreKeysCanonical, IsValueCanonical, AreFramesCanonical}
 use Rattle.raw_tree.proofs.Common.{IsCanonicalUpTo, IsCanonicalAs, kind_of_tree, tree_payload, items_bytes, entries_bytes, encoding, encoded_len, items_len, entries_len, Sort, as_document, as_array}
@@ -224,13 +224,13 @@ IsTreeProper t = IsWellFormed t × IsNulFree t × DoOptionsAscend t × AreSubtyp
 
 -- each member is proper
 abbrev AreItemsProper : Trees → Type 0
-AreItemsProper ts = InTrees IsLeafInRange IsUtf8 IsUtf8 (IsDistinct bytes_eq) ts × InTrees IsLeafNulFree Whatever NulFree Whatever ts
-    × InTrees DoLeafOptionsAscend Whatever Whatever Whatever ts × InTrees IsLeafSubtypeProper Whatever Whatever Whatever ts
+AreItemsProper ts = InTrees well_formed_parts ts × InTrees nul_free_parts ts
+    × InTrees ascending_parts ts × InTrees proper_subtype_parts ts
 
 -- each key and tree is proper
 abbrev AreEntriesProper : Entries → Type 0
-AreEntriesProper es = InEntries IsLeafInRange IsUtf8 IsUtf8 (IsDistinct bytes_eq) es × InEntries IsLeafNulFree Whatever NulFree Whatever es
-    × InEntries DoLeafOptionsAscend Whatever Whatever Whatever es × InEntries IsLeafSubtypeProper Whatever Whatever Whatever es
+AreEntriesProper es = InEntries well_formed_parts es × InEntries nul_free_parts es
+    × InEntries ascending_parts es × InEntries proper_subtype_parts es
 
 mutual
   -- a proper tree of a size in range returns

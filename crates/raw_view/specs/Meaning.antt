@@ -106,26 +106,30 @@ SpellsNoText p = (text : List ℕ) × IsString p text × ¬ IsUtf8 text
 abbrev pub Overflows : ℤ → Type 0
 Overflows inner = (negsuc 3 ≤ℤ inner) × (inner ≤ℤ negsuc 0)
 
--- The fault of an old binary's bytes: they are under four; the inner length is from -4 to -1; any other
--- inner length which plus 4 isn't theirs.
-abbrev pub OldBinaryFault : List ℕ → List ℕ → KeyedFault → Type 0
-OldBinaryFault key outer fault =
-    ((length outer < 4) × (fault ≡ malformed_at key))
-    ⊎ ((inner : ℤ) × (4 ≤ length outer) × IsLe32 (take 4 outer) inner × Overflows inner × (fault ≡ malformed))
-    ⊎ ((inner : ℤ) × (4 ≤ length outer) × IsLe32 (take 4 outer) inner × (¬ Overflows inner) × ((inner +ℤ pos 4) ≢ pos (length outer)) × (fault ≡ malformed_at key))
+-- the fault of an old binary's bytes, outer
+pub data OldBinaryFault (key outer : List ℕ) (fault : KeyedFault) : Type 0 where
+  -- they are under four
+  no_inner_length : length outer < 4 → fault ≡ malformed_at key → OldBinaryFault key outer fault
+  -- the inner length is from -4 to -1
+  overflow : (inner : ℤ) → 4 ≤ length outer → IsLe32 (take 4 outer) inner → Overflows inner → fault ≡ malformed → OldBinaryFault key outer fault
+  -- it is any other which plus 4 isn't theirs
+  wrong_inner_length : (inner : ℤ) → 4 ≤ length outer → IsLe32 (take 4 outer) inner → (¬ Overflows inner) → (inner +ℤ pos 4) ≢ pos (length outer)
+      → fault ≡ malformed_at key → OldBinaryFault key outer fault
 
 -- what is behind the four length bytes of a code with scope doesn't begin with a string
 abbrev pub HasNoCode : List ℕ → Type 0
 HasNoCode p = (string scope : List ℕ) → drop 4 p ≡ string ++ scope → ¬ HasText string
 
--- The fault of a code with scope: it has under 14 bytes; no string is behind its length; the string's
--- text isn't UTF-8; exactly the rest has no envelope.
-abbrev pub ScopeFault : List ℕ → List ℕ → KeyedFault → Type 0
-ScopeFault key p fault =
-    ((length p < 14) × (fault ≡ malformed_at key))
-    ⊎ ((14 ≤ length p) × HasNoCode p × (fault ≡ malformed))
-    ⊎ ((14 ≤ length p) × (code scope : List ℕ) × IsCodeWithScope p code scope × (¬ IsUtf8 code) × (fault ≡ not_text))
-    ⊎ ((14 ≤ length p) × (code scope : List ℕ) × IsCodeWithScope p code scope × IsUtf8 code × (¬ IsEnvelope scope) × (fault ≡ malformed))
+-- the fault of a code with scope
+pub data ScopeFault (key p : List ℕ) (fault : KeyedFault) : Type 0 where
+  -- it has under 14 bytes
+  too_small : length p < 14 → fault ≡ malformed_at key → ScopeFault key p fault
+  -- no string is behind its length
+  no_code : 14 ≤ length p → HasNoCode p → fault ≡ malformed → ScopeFault key p fault
+  -- the string's text isn't UTF-8
+  code_no_text : (code scope : List ℕ) → 14 ≤ length p → IsCodeWithScope p code scope → (¬ IsUtf8 code) → fault ≡ not_text → ScopeFault key p fault
+  -- exactly the rest has no envelope
+  no_scope : (code scope : List ℕ) → 14 ≤ length p → IsCodeWithScope p code scope → IsUtf8 code → (¬ IsEnvelope scope) → fault ≡ malformed → ScopeFault key p fault
 
 -- the payload p of this kind, under this key, means this fault; the kinds that are not here mean none
 abbrev pub MeansFault : ElementType → List ℕ → List ℕ → KeyedFault → Type 0

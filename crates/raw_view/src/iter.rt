@@ -51,7 +51,7 @@ impl<'a> Iterator for RawIter<'a> {
         match self.elements.next() {
             None => None,
             Some(Ok(element)) => Some(Ok(element)),
-            Some(Err(error)) => Some(Err(error.into_error(self.alloc))),
+            Some(Err(stop)) => Some(Err(stop.into_error(self.alloc))),
         }
     }
 }
@@ -101,7 +101,7 @@ impl<'a> Iterator for Iter<'a> {
         match self.elements.next() {
             None => None,
             Some(Ok(element)) => Some(element.keyed_value(self.alloc)),
-            Some(Err(error)) => Some(Err(error)),
+            Some(Err(stop)) => Some(Err(stop)),
         }
     }
 }
@@ -150,7 +150,7 @@ impl<'a> Iterator for RawArrayIter<'a> {
         match self.elements.next() {
             None => None,
             Some(Ok(element)) => Some(element.value(self.alloc)),
-            Some(Err(error)) => Some(Err(error)),
+            Some(Err(stop)) => Some(Err(stop)),
         }
     }
 }

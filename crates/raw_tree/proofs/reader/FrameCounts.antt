@@ -2,8 +2,9 @@
 -- only one number.
 use Rattle.std.proofs.Common.{◌≡◌, inl, inr, ◌≤◌, ◌+◌, ◌*◌, ◌-◌, ◌++◌, ◌∷◌, [], ℕ, zero, suc, List, length, drop, arith, ap, refl, sym, ◌∙◌, subst, length-drop}
 use Rattle.raw_tree.proofs.Common.{Tree, AreBytes, IsEnvelope, Frame, IsFrame, IsStop, IsWalk, End, LeadsTo, RawValue, KeyedFault, Meaning, Means, value, faulty, AllHaveOneFrameCount, CountsIn}
-use Rattle.raw_tree.proofs.Common.{CountsFrames, HasFrameCountUpTo, HasFrameCount, CountsToFaultInFrame, CountsToFaultAt, HasFramesToFaultUpTo, HasFramesToFault, HasFramesUntilFault, fault_of, Sort}
+use Rattle.raw_tree.proofs.Common.{CountsFrames, HasFrameCountUpTo, HasFrameCount, CountsToFaultAt, HasFramesToFaultUpTo, HasFramesToFault, HasFramesUntilFault, fault_of, Sort}
 use Rattle.raw_tree.proofs.Common.{StandsFor, StandForEach, ReadsUpTo, ReadsAs, Holds, FirstFault}
+use Rattle.raw_tree.specs.reader.FrameCount.{stop, own_fault, nested_fault}
 use Rattle.bson_model.proofs.Face.{AreBytes-drop}
 use Rattle.raw_view.specs.Meaning as raw
 use Rattle.raw_view.proofs.Face.{LeadsTo-more, IsFrame-shorter, AreBytes-rest, document_has_walk, has_meaning, one_frame, one_walk, one_meaning, no_frame_at_stop}
@@ -86,19 +87,19 @@ Fails b fault n = FirstFault b fault × HasFramesToFault b n
 module _ {b s : List ℕ} {pairs : List (List ℕ × Tree)} {n : ℕ} (is : Passed ReadsAs b s pairs n) where
   -- a fault behind the frames that are passed is the first
   pub fault_behind : (fault : KeyedFault) → FailsAt FirstFault s fault → FirstFault b fault
-  fault_behind fault (inl stop) = (1, (is.frames, pairs, s, is.leads, is.each, inl stop))
+  fault_behind fault (inl stops) = (1, (is.frames, pairs, s, is.leads, is.each, inl stops))
   fault_behind fault (inr (f, r, at, inl m)) = (1, (is.frames, pairs, s, is.leads, is.each, inr (f, r, at, inl m)))
   fault_behind fault (inr (f, r, at, inr v)) = (suc v.4.0, (is.frames, pairs, s, is.leads, is.each, inr (f, r, at, inr (v.0, v.2, (v.1, v.3, v.4.1)))))
 
   -- the walk stops there
   pub fails_at_stop : (fault : KeyedFault) → IsStop s fault.fault fault.key → Fails b fault n
-  fails_at_stop fault stop = (fault_behind fault (inl stop), (1, (is.frames, pairs, s, n, is.leads, is.each, is.counts, inl (fault, stop, refl))))
+  fails_at_stop fault stops = (fault_behind fault (inl stops), (1, (is.frames, pairs, s, n, is.leads, is.each, is.counts, stop fault stops refl)))
 
   -- or a frame means a fault
   pub fails_at_frame : (f : Frame) (r : List ℕ) (fault : KeyedFault) → IsFrame s f r → Means f (faulty fault) → Fails b fault (n + 1)
   fails_at_frame f r fault at m = (
     fault_behind fault (inr (f, r, at, inl m)),
-    (1, (is.frames, pairs, s, n, is.leads, is.each, is.counts, inr (f, r, 0, at, inl (fault, m, refl), omega arith))),
+    (1, (is.frames, pairs, s, n, is.leads, is.each, is.counts, own_fault f r fault at m refl)),
   )
 
   -- or nested bytes of a frame have one
@@ -106,7 +107,7 @@ module _ {b s : List ℕ} {pairs : List (List ℕ × Tree)} {n : ℕ} (is : Pass
       → Fails d fault inside → Fails b fault (n + 1 + inside)
   fails_inside f r v d fault inside at m holds bad = (
     fault_behind fault (inr (f, r, at, inr (v, d, m, holds, bad.0))),
-    (suc bad.1.0, (is.frames, pairs, s, n, is.leads, is.each, is.counts, inr (f, r, inside, at, inr (v, d, fault, m, holds, bad.0, bad.1.1), refl))),
+    (suc bad.1.0, (is.frames, pairs, s, n, is.leads, is.each, is.counts, nested_fault f r v d fault inside at m holds bad.0 bad.1.1 refl)),
   )
 
 -- at most half of the bytes
@@ -152,18 +153,11 @@ to_fault_small_within zero b n h = absurd h
 to_fault_small_within (suc levels) b n h =
     let before = passed_small HasFrameCount count_small (drop 4 b) h.0 h.2 h.3 h.4 h.6 in
     elim h.7 [
-      | inl stop ↦ omega (arith, length-drop 4 b, before, stop.2)
-      | inr at ↦ elim at.4 [
-        | inl m ↦ omega (arith, length-drop 4 b, before, at.5, m.2, IsFrame-shorter h.2 at.0 at.1 at.3)
-        | inr in_value ↦ omega (
-          arith,
-          length-drop 4 b,
-          before,
-          at.5,
-          value_small (HasFramesToFaultUpTo levels) (to_fault_small_within levels) h.2 at.0 at.1 in_value.0 in_value.1 at.2 at.3 in_value.3 in_value.4
-              in_value.6,
-        )
-      ]
+      | stop fault stops is ↦ omega (arith, length-drop 4 b, before, is)
+      | own_fault f q fault at m is ↦ omega (arith, length-drop 4 b, before, is, IsFrame-shorter h.2 f q at)
+      | nested_fault f q v d fault inside at m holds first k is ↦
+          let small = value_small (HasFramesToFaultUpTo levels) (to_fault_small_within levels) h.2 f q v d inside at m holds k in
+          omega (arith, length-drop 4 b, before, is, small)
     ]
 
 pub until_small : (b : List ℕ) (n : ℕ) → HasFramesUntilFault b n → 2 * n ≤ length b - 4
@@ -231,21 +225,32 @@ one_frame_count b env =
     let k = has_count_within (length b) b (omega arith) env in
     (k.0, k.1, omega (arith, count_small b k.0 k.1), λ other h. one_count b other k.0 h k.1)
 
-in_fault_same : (N M : List ℕ → ℕ → Type 0) → AgreeOn N M → (f : Frame) (j k : ℕ) → CountsToFaultInFrame N f j → CountsToFaultInFrame M f k → j ≡ k
-in_fault_same N M same f j k h h' = grind (arith, one_nested, one_value_of, value_nor_fault)
+-- a frame that means a fault isn't one whose value has nested bytes
+own_nor_nested : (r : List ℕ) (f g : Frame) (q p : List ℕ) (fault : KeyedFault) (v : RawValue) → IsFrame r f q → IsFrame r g p → Means f (faulty fault) → Means g (value v) → ⊥
+own_nor_nested r f g q p fault v at there m is =
+    value_nor_fault g v fault is (subst (λ (x : Frame). Means x (faulty fault)) (one_frame r f g q p at there).0 m)
 
 at_fault_same : (N M : List ℕ → ℕ → Type 0) → AgreeOn N M → (r : List ℕ) (before j k : ℕ) → CountsToFaultAt N r before j → CountsToFaultAt M r before k → j ≡ k
-at_fault_same N M same r before j k (inl a) (inl b) = a.2 ∙ sym b.2
-at_fault_same N M same r before j k (inl a) (inr b) = absurd (no_frame_at_stop r a.0.fault a.0.key a.1 b.0 b.1 b.3)
-at_fault_same N M same r before j k (inr a) (inl b) = absurd (no_frame_at_stop r b.0.fault b.0.key b.1 a.0 a.1 a.3)
-at_fault_same N M same r before j k (inr a) (inr b) =
-    let frames : b.0 ≡ a.0 = (one_frame r b.0 a.0 b.1 a.1 b.3 a.3).0 in
-    let inside : a.2 ≡ b.2 = in_fault_same N M same a.0 a.2 b.2 a.4 (subst (λ (f : Frame). CountsToFaultInFrame M f b.2) frames b.4) in
-    omega (arith, a.5, b.5, inside)
+at_fault_same N M same r before j k (stop x stops a) (stop y others b) = a ∙ sym b
+at_fault_same N M same r before j k (stop x stops a) (own_fault g p y there is b) = absurd (no_frame_at_stop r x.fault x.key stops g p there)
+at_fault_same N M same r before j k (stop x stops a) (nested_fault g p w e y inner there is holding behind l b) = absurd (no_frame_at_stop r x.fault x.key stops g p there)
+at_fault_same N M same r before j k (own_fault f q x at m a) (stop y stops b) = absurd (no_frame_at_stop r y.fault y.key stops f q at)
+at_fault_same N M same r before j k (own_fault f q x at m a) (own_fault g p y there is b) = a ∙ sym b
+at_fault_same N M same r before j k (own_fault f q x at m a) (nested_fault g p w e y inner there is holding behind l b) = absurd (own_nor_nested r f g q p x w at there m is)
+at_fault_same N M same r before j k (nested_fault f q v d x inside at m holds first h a) (stop y stops b) = absurd (no_frame_at_stop r y.fault y.key stops f q at)
+at_fault_same N M same r before j k (nested_fault f q v d x inside at m holds first h a) (own_fault g p y there is b) = absurd (own_nor_nested r g f p q y v there at is m)
+at_fault_same N M same r before j k (nested_fault f q v d x inside at m holds first h a) (nested_fault g p w e y inner there is holding behind l b) =
+    let frames : g ≡ f = (one_frame r g f p q there at).0 in
+    let values : w ≡ v = one_value_of f w v (subst (λ (z : Frame). Means z (value w)) frames is) m in
+    let nested : e ≡ d = one_nested v e d (subst (λ (z : RawValue). Holds z e) values holding) holds in
+    let counts : inside ≡ inner = same d inside inner h (subst (λ (z : List ℕ). M z inner) nested l) in
+    omega (arith, a, b, counts)
 
 -- where a count ends, there is the fault
 at_fault_fails : (N : List ℕ → ℕ → Type 0) (r : List ℕ) (before n : ℕ) → CountsToFaultAt N r before n → (fault : KeyedFault) × FailsAt FirstFault r fault
-at_fault_fails N r before n h = grind arith
+at_fault_fails N r before n (stop fault stops is) = (fault, inl stops)
+at_fault_fails N r before n (own_fault f q fault at m is) = (fault, inr (f, q, at, inl m))
+at_fault_fails N r before n (nested_fault f q v d fault inside at m holds first h is) = (fault, inr (f, q, at, inr (v, d, m, holds, first)))
 
 to_fault_same : (n m : ℕ) → AgreeOn (HasFramesToFaultUpTo n) (HasFramesToFaultUpTo m)
 to_fault_same zero m b j k h i = absurd h

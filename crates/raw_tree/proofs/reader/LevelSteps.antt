@@ -243,11 +243,13 @@ tells_small b (Err e) n h = omega (arith, until_small b h.0 h.1, h.2)
 
 -- the value that a call returns
 pub told_value : (f : Frame) (v : RawBsonRef) → ((m : Meaning) × Means f m × TellsMeaning (Ok v) m) → Means f (value (value_of v))
-told_value f v h = grind arith
+told_value f v (value w, m, t) = rw t m
+told_value f v (faulty x, m, t) = absurd t
 
 -- or the fault
 pub told_failed : (f : Frame) (e : Error) → ((m : Meaning) × Means f m × TellsMeaning (Err e) m) → (fault : KeyedFault) × Means f (faulty fault) × Says e fault
-told_failed f e h = grind arith
+told_failed f e (value w, m, t) = absurd t
+told_failed f e (faulty x, m, t) = (x, m, t)
 
 -- where nothing is popped, nothing waits
 pub no_more : (n : ℕ) (old new : List Waiting) → length old ≡ n → old ≡ new ++ [] → new ≡ take (n - 1) old → old ≡ []

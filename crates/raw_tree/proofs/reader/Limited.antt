@@ -1,11 +1,11 @@
 -- Within limits bytes are read as one tree or have one first barrier, and never both.
 use Rattle.std.proofs.Common.{◌≡◌, ◌⊎◌, inl, inr, ◌≤◌, ◌∷◌, [], ℕ, zero, suc, List, length, drop, arith, refl, sym, ◌∙◌}
-use Rattle.raw_tree.proofs.Common.{cases_lt, Tree, IsEnvelope, Frame, IsFrame, Done, LeadsTo, RawValue, KeyedFault, Means, value, Barrier, too_many_bytes, too_deep, fault_of, BarsRest}
+use Rattle.raw_tree.proofs.Common.{cases_lt, Tree, IsEnvelope, Frame, IsFrame, Done, LeadsTo, RawValue, KeyedFault, Means, value, Barrier, too_many_bytes, too_deep, fault_of}
 use Rattle.raw_tree.proofs.Common.{FirstFaultWithin, ReadsWithin, FirstBarrier, AllAreAnsweredOneWay, Sort, as_document, StandsFor, StandForEach, ReadsUpTo, ReadsAs, Holds, FirstFaultUpTo, Limits}
 use Rattle.raw_tree.proofs.reader.Decides.{decided}
 use Rattle.raw_tree.proofs.reader.Depths.{shallow, read_to_depth}
 use Rattle.raw_tree.proofs.reader.FrameCounts.{leads_to_end}
-use Rattle.raw_tree.proofs.reader.OneTree.{AreApart, walk_apart, rest_same, one_tree}
+use Rattle.raw_tree.proofs.reader.OneTree.{AreApart, BarsRest, walk_apart, rest_same, one_tree}
 
 -- a level is too deep, or not
 

@@ -2,7 +2,7 @@
 -- barriers, where nested bytes have one.
 use Rattle.std.proofs.Common.{◌≡◌, ◌⊎◌, inl, inr, ◌∷◌, [], ℕ, zero, suc, List, drop, ap, refl, sym, ◌∙◌, subst, arith}
 use Rattle.raw_tree.proofs.Common.{Tree, Frame, IsFrame, IsStop, IsWalk, Done, LeadsTo, RawValue, KeyedFault, Means, value, faulty, Barrier, too_many_bytes, too_deep, fault_of, IsFaultWith, BarsFrame}
-use Rattle.raw_tree.proofs.Common.{BarsFront, BarsRest, Sort, StandsFor, StandForEach, ReadsUpTo, ReadsAs, Holds, FailsInFrame, FirstFaultUpTo, FirstFault, FirstFaultOfValue}
+use Rattle.raw_tree.proofs.Common.{BarsFront, Sort, StandsFor, StandForEach, ReadsUpTo, ReadsAs, Holds, FailsInFrame, FirstFaultUpTo, FirstFault, FirstFaultOfValue}
 use Rattle.raw_view.proofs.Face.{one_frame, one_stop, one_walk, no_frame_at_stop, no_frame_at_final, no_stop_at_final, one_meaning}
 
 -- values
@@ -75,7 +75,7 @@ module _ (N : Sort → List ℕ → Tree → Type 0) (Nested : List ℕ → Barr
 
   -- no frame at the front whose value stands for a tree has the barrier
   frame_apart : (s : List ℕ) (f : Frame) (r : List ℕ) (v : RawValue) (t : Tree) (x : Barrier) → IsFrame s f r → Means f (value v) → StandsFor N v t
-      → BarsFront N Nested s x → ⊥
+      → BarsFront Nested s x → ⊥
   frame_apart s f r v t x at m h (inl stop) =
       let fault = some_fault (λ y. IsStop s y.fault y.key) x stop in
       no_frame_at_stop s fault.0.fault fault.0.key fault.1 f r at
@@ -84,18 +84,22 @@ module _ (N : Sort → List ℕ → Tree → Type 0) (Nested : List ℕ → Barr
       grind (arith, frames, bars.3, one_value_of, some_fault, value_apart, value_nor_fault)
 
   -- nor does the final 0
-  final_apart : (s : List ℕ) (x : Barrier) → s ≡ 0 ∷ [] → BarsFront N Nested s x → ⊥
+  final_apart : (s : List ℕ) (x : Barrier) → s ≡ 0 ∷ [] → BarsFront Nested s x → ⊥
   final_apart s x e h = grind (arith, no_frame_at_final, no_stop_at_final, some_fault)
 
   -- along a walk whose frames all stand for trees the barrier is nowhere
   pub walk_apart : (s : List ℕ) (frames passed : List Frame) (r : List ℕ) (pairs : List (List ℕ × Tree)) (x : Barrier) → IsWalk s frames Done
-      → StandForEach N frames pairs → LeadsTo s passed r → BarsFront N Nested r x → ⊥
+      → StandForEach N frames pairs → LeadsTo s passed r → BarsFront Nested r x → ⊥
   walk_apart s [] [] r pairs x w h l bars = final_apart s x w (rw l bars)
   walk_apart s [] (g ∷ passed) r pairs x w h l bars = no_frame_at_final s w g l.0 l.1
   walk_apart s (f ∷ frames) [] r pairs x w h l bars = frame_apart s f w.0 h.0 h.1 x w.1 h.3 h.4 (rw l bars)
   walk_apart s (f ∷ frames) (g ∷ passed) r pairs x w h l bars =
       let same : l.0 ≡ w.0 = (one_frame s g f l.0 w.0 l.1 w.1).1 in
       walk_apart w.0 frames passed r h.2 x w.2 h.6 (subst (λ (y : List ℕ). LeadsTo y passed r) same l.2) bars
+
+-- what is left of a document or an array, s, has the barrier behind frames that stand for trees
+abbrev pub BarsRest : (Sort → List ℕ → Tree → Type 0) → (List ℕ → Barrier → Type 0) → List ℕ → Barrier → Type 0
+BarsRest N Nested s x = (passed : List Frame) × (pairs : List (List ℕ × Tree)) × (r : List ℕ) × LeadsTo s passed r × StandForEach N passed pairs × BarsFront Nested r x
 
 -- one barrier at most
 
@@ -111,7 +115,7 @@ one_fault_with P Q same too_deep y h k = absurd h
 module _ (N : Sort → List ℕ → Tree → Type 0) (Nested Other : List ℕ → Barrier → Type 0) (apart : AreApart N Nested) (away : AreApart N Other) where
   -- frames that stand for trees lead to one place with a barrier alone
   pub passed_same : (s : List ℕ) (fs gs : List Frame) (r q : List ℕ) (ps qs : List (List ℕ × Tree)) (x y : Barrier)
-      → LeadsTo s fs r → StandForEach N fs ps → BarsFront N Nested r x → LeadsTo s gs q → StandForEach N gs qs → BarsFront N Other q y → (fs ≡ gs) × (r ≡ q)
+      → LeadsTo s fs r → StandForEach N fs ps → BarsFront Nested r x → LeadsTo s gs q → StandForEach N gs qs → BarsFront Other q y → (fs ≡ gs) × (r ≡ q)
   passed_same s [] [] r q ps qs x y l h a m k c = (refl, sym l ∙ m)
   passed_same s [] (g ∷ gs) r q ps qs x y l h a m k c = absurd (frame_apart N Nested apart s g m.0 k.0 k.1 x m.1 k.3 k.4 (rw l a))
   passed_same s (f ∷ fs) [] r q ps qs x y l h a m k c = absurd (frame_apart N Other away s f l.0 h.0 h.1 y l.1 h.3 h.4 (rw m c))
@@ -122,13 +126,13 @@ module _ (N : Sort → List ℕ → Tree → Type 0) (Nested Other : List ℕ �
 
   -- where nested bytes have one of them, so has what is left of a document or an array
   module _ (same : (b : List ℕ) (x y : Barrier) → Nested b x → Other b y → x ≡ y) where
-    frame_same : (f : Frame) (x y : Barrier) → BarsFrame N Nested f x → BarsFrame N Other f y → x ≡ y
+    frame_same : (f : Frame) (x y : Barrier) → BarsFrame Nested f x → BarsFrame Other f y → x ≡ y
     frame_same f x y h h' = grind (arith, one_fault_of, one_fault_with, one_nested, one_value_of, some_fault, value_nor_fault)
 
     stop_same : (s : List ℕ) (a c : KeyedFault) → IsStop s a.fault a.key → IsStop s c.fault c.key → a ≡ c
     stop_same s a c h k = let stops = one_stop s a.fault c.fault a.key c.key h k in (λ i. record { fault = stops.0 i; key = stops.1 i })
 
-    front_same : (s : List ℕ) (x y : Barrier) → BarsFront N Nested s x → BarsFront N Other s y → x ≡ y
+    front_same : (s : List ℕ) (x y : Barrier) → BarsFront Nested s x → BarsFront Other s y → x ≡ y
     front_same s x y (inl a) (inl c) = one_fault_with (λ z. IsStop s z.fault z.key) (λ z. IsStop s z.fault z.key) (stop_same s) x y a c
     front_same s x y (inl a) (inr c) = let fault = some_fault (λ z. IsStop s z.fault z.key) x a in absurd (no_frame_at_stop s fault.0.fault fault.0.key fault.1 c.0 c.1 c.2)
     front_same s x y (inr a) (inl c) = let fault = some_fault (λ z. IsStop s z.fault z.key) y c in absurd (no_frame_at_stop s fault.0.fault fault.0.key fault.1 a.0 a.1 a.2)
@@ -139,7 +143,7 @@ module _ (N : Sort → List ℕ → Tree → Type 0) (Nested Other : List ℕ �
     pub rest_same : (s : List ℕ) (x y : Barrier) → BarsRest N Nested s x → BarsRest N Other s y → x ≡ y
     rest_same s x y h k =
         let to = passed_same s h.0 k.0 h.2 k.2 h.1 k.1 x y h.3 h.4 h.5 k.3 k.4 k.5 in
-        front_same h.2 x y h.5 (subst (λ (r : List ℕ). BarsFront N Other r y) (sym to.1) k.5)
+        front_same h.2 x y h.5 (subst (λ (r : List ℕ). BarsFront Other r y) (sym to.1) k.5)
 
 -- faults
 
@@ -149,7 +153,7 @@ BarsAs Inner b x = IsFaultWith (Inner b) x
 
 -- the bytes have the fault at their front, where Inner says which nested bytes have it
 abbrev pub FailsAt : (List ℕ → KeyedFault → Type 0) → List ℕ → KeyedFault → Type 0
-FailsAt Inner s fault = BarsFront ReadsAs (BarsAs Inner) s (fault_of fault)
+FailsAt Inner s fault = BarsFront (BarsAs Inner) s (fault_of fault)
 
 -- so have those whose first fault it is
 fails_at : (Inner : List ℕ → KeyedFault → Type 0) (s : List ℕ) (fault : KeyedFault)

@@ -1,6 +1,6 @@
 -- A tree that bytes with an envelope are read as is proper.
 use Rattle.std.proofs.Common.{◌≡◌, ◌<◌, inl, inr, ◌++◌, ◌∷◌, [], ℕ, pos, zero, suc, fold, List, length, map, drop, arith, ap, refl, sym, ◌∙◌, subst, append_assoc, IsUtf8, bytes_eq}
-use Rattle.raw_tree.proofs.Common.{IsDistinct, AreBytes, NulFree, Leaf, binary, regular_expression, db_pointer, keep, with_pair, Everywhere, InTrees, InEntries, Whatever, IsLeafInRange, IsLeafNulFree}
+use Rattle.raw_tree.proofs.Common.{IsDistinct, AreBytes, NulFree, Leaf, binary, regular_expression, db_pointer, keep, with_pair, OfParts, well_formed_parts, nul_free_parts, ascending_parts, proper_subtype_parts, Everywhere, InTrees, InEntries, IsLeafInRange, IsLeafNulFree}
 use Rattle.raw_tree.proofs.Common.{DoLeafOptionsAscend, IsLeafSubtypeProper, IsProper, subtype_of, subtype_byte, Tree, document, trees, entries, BinaryOld, IsEnvelope, string_payload, Frame, IsFrame}
 use Rattle.raw_tree.proofs.Common.{HasShape, IsBinary, IsRegex, IsDbPointer, IsWalk, Done, tag_of, RawValue, HasInnerLength, IsBinaryValue, Means, MeansValue, value, le32, ElementType, Sort}
 use Rattle.raw_tree.proofs.Common.{as_document, as_array, tree_of_pairs, leaf_in_order, StandsFor, StandForEach, ReadsUpTo, ReadsAs}
@@ -93,20 +93,20 @@ code_text (of_code code scope c u env) = u
 
 -- trees
 
--- four facts, where those of leaves, codes, keys and kept keys follow from what is framed
-module _ (OfLeaf : Leaf → Type 0) (OfCode OfKey : List ℕ → Type 0) (OfKeys : List (List ℕ) → Type 0)
-    (leaves : (l : Leaf) → IsLeafProper l → OfLeaf l) (codes : (code : List ℕ) → IsUtf8 code → OfCode code)
-    (keys : (key : List ℕ) → IsUtf8 key → NulFree key → OfKey key) (kept : (ks : List (List ℕ)) → IsDistinct bytes_eq ks → OfKeys ks) where
-  -- the four facts hold in a tree
+-- what holds of the parts, where each follows from what is framed
+module _ (holds : OfParts)
+    (leaves : (l : Leaf) → IsLeafProper l → holds.of_leaf l) (codes : (code : List ℕ) → IsUtf8 code → holds.of_code code)
+    (keys : (key : List ℕ) → IsUtf8 key → NulFree key → holds.of_key key) (kept : (ks : List (List ℕ)) → IsDistinct bytes_eq ks → holds.of_keys ks) where
+  -- it holds in a tree
   abbrev IsMet : Tree → Type 0
-  IsMet t = Everywhere OfLeaf OfCode OfKey OfKeys t
+  IsMet t = Everywhere holds t
 
-  -- they hold in the tree of each pair, and the third of its key
+  -- in the tree of each pair, and of its key
   abbrev InPairs : List (List ℕ × Tree) → Type 0
-  InPairs ps = InEntries OfLeaf OfCode OfKey OfKeys (entries ps)
+  InPairs ps = InEntries holds (entries ps)
 
   -- with one pair more
-  InPairs-with_pair : (k : List ℕ) (t : Tree) (ps : List (List ℕ × Tree)) → OfKey k → IsMet t → InPairs ps → InPairs (with_pair k t ps)
+  InPairs-with_pair : (k : List ℕ) (t : Tree) (ps : List (List ℕ × Tree)) → holds.of_key k → IsMet t → InPairs ps → InPairs (with_pair k t ps)
   InPairs-with_pair k t [] a h b = (a, h, tt)
   InPairs-with_pair k t (p ∷ ps) a h b = grind (arith, InPairs-with_pair k t ps a h)
 
@@ -115,12 +115,12 @@ module _ (OfLeaf : Leaf → Type 0) (OfCode OfKey : List ℕ → Type 0) (OfKeys
   InPairs-fold qs [] a h = a
   InPairs-fold qs (p ∷ ps) a h = InPairs-fold (with_pair p.0 p.1 qs) ps (InPairs-with_pair p.0 p.1 qs h.0 h.1 a) h.2
 
-  -- so they hold in the pairs that are kept
+  -- so it holds in the pairs that are kept
   InPairs-keep : (ps : List (List ℕ × Tree)) → InPairs ps → InPairs (keep ps)
   InPairs-keep ps h = subst InPairs (fold-keep ps) (InPairs-fold [] ps tt h)
 
   -- and without the keys
-  InPairs-trees : (ps : List (List ℕ × Tree)) → InPairs ps → InTrees OfLeaf OfCode OfKey OfKeys (trees (map (λ p. p.1) ps))
+  InPairs-trees : (ps : List (List ℕ × Tree)) → InPairs ps → InTrees holds (trees (map (λ p. p.1) ps))
   InPairs-trees [] h = tt
   InPairs-trees (p ∷ ps) h = (h.1, InPairs-trees ps h.2)
 
@@ -129,7 +129,7 @@ module _ (OfLeaf : Leaf → Type 0) (OfCode OfKey : List ℕ → Type 0) (OfKeys
   of_pairs as_document ps h = (kept _ (subst (IsDistinct bytes_eq) (sym (keys_in-entries (keep ps))) (HasDistinctKeys-keep ps)), InPairs-keep ps h)
   of_pairs as_array ps h = InPairs-trees ps h
 
-  -- they hold in each tree that bytes with an envelope are read as
+  -- it holds in each tree that bytes with an envelope are read as
   abbrev HoldRead : (Sort → List ℕ → Tree → Type 0) → Type 0
   HoldRead N = (sort : Sort) (b : List ℕ) (t : Tree) → IsEnvelope b → N sort b t → IsMet t
 
@@ -167,8 +167,8 @@ module _ (OfLeaf : Leaf → Type 0) (OfCode OfKey : List ℕ → Type 0) (OfKeys
 -- a tree that bytes with an envelope are read as is proper
 pub read_is_proper : (sort : Sort) (b : List ℕ) (t : Tree) → IsEnvelope b → ReadsAs sort b t → IsProper t
 read_is_proper sort b t env h = record {
-  well_formed = read_everywhere IsLeafInRange IsUtf8 IsUtf8 (IsDistinct bytes_eq) (λ l p. p.0) (λ c u. u) (λ k u n. u) (λ ks d. d) sort b t env h;
-  nul_free = read_everywhere IsLeafNulFree Whatever NulFree Whatever (λ l p. p.1) (λ c u. tt) (λ k u n. n) (λ ks d. tt) sort b t env h;
-  options_ascend = read_everywhere DoLeafOptionsAscend Whatever Whatever Whatever (λ l p. p.2) (λ c u. tt) (λ k u n. tt) (λ ks d. tt) sort b t env h;
-  subtypes_proper = read_everywhere IsLeafSubtypeProper Whatever Whatever Whatever (λ l p. p.3) (λ c u. tt) (λ k u n. tt) (λ ks d. tt) sort b t env h;
+  well_formed = read_everywhere well_formed_parts (λ l p. p.0) (λ c u. u) (λ k u n. u) (λ ks d. d) sort b t env h;
+  nul_free = read_everywhere nul_free_parts (λ l p. p.1) (λ c u. tt) (λ k u n. n) (λ ks d. tt) sort b t env h;
+  options_ascend = read_everywhere ascending_parts (λ l p. p.2) (λ c u. tt) (λ k u n. tt) (λ ks d. tt) sort b t env h;
+  subtypes_proper = read_everywhere proper_subtype_parts (λ l p. p.3) (λ c u. tt) (λ k u n. tt) (λ ks d. tt) sort b t env h;
 }

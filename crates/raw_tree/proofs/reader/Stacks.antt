@@ -118,7 +118,7 @@ pub record IsReading (inside : ℕ) (u : Nested) (level : Level) (n : ℕ) : Typ
 
 -- a barrier at the front of what is left is that of the bytes
 pub bars_at : {inside n : ℕ} {u : Nested} {level : Level} (is : IsReading inside u level n) (x : Barrier)
-    → BarsFront (ReadsUpTo inside) (FirstFaultWithin inside) is.rest x → FirstFaultWithin (suc inside) (bytes_of u.document) x
+    → BarsFront (FirstFaultWithin inside) is.rest x → FirstFaultWithin (suc inside) (bytes_of u.document) x
 bars_at is x front = (is.passed.frames, is.pairs, is.rest, is.passed.leads, is.passed.each, front)
 
 -- the level with these elements left

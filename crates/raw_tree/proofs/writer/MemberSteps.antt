@@ -1,7 +1,7 @@
 -- The members of containers: that their trees are those of their members, and the steps of a call that goes through
 -- them.
 use Rattle.std.proofs.Common.{◌≡◌, ◌↔◌, ◌≤◌, ◌<◌, ℕ, zero, suc, ◌+◌, List, [], ◌∷◌, length, map, drop, None, Some, slice_get, get_or, refl, ap, sym, ◌∙◌, arith, drop_of_length-le}
-use Rattle.raw_tree.proofs.Common.{slice_get-get_or, NulFree, IsNulFree, IsLeafNulFree, InTrees, InEntries, Whatever, Tree, Trees, Entries, no_tree, tree_then, no_entry, entry_then, trees, entries}
+use Rattle.raw_tree.proofs.Common.{slice_get-get_or, NulFree, IsNulFree, nul_free_parts, InTrees, InEntries, Tree, Trees, Entries, no_tree, tree_then, no_entry, entry_then, trees, entries}
 use Rattle.raw_tree.proofs.Common.{tree_of, with_trees, Bson, encoded_len, items_len, entries_len, MemberKey, text, number, numbered, keyed, members, members_len, opening_len, AreMembersFree}
 use Rattle.raw_tree.proofs.Common.{tree_of_container, Container}
 
@@ -59,11 +59,11 @@ entries_len-members (entry_then key t es) = omega (arith, entries_len-members es
 pub container_len : (c : Container) → encoded_len (tree_of_container c) ≡ opening_len (tree_of_container c) + 1 + members_len (members (tree_of_container c))
 container_len c = grind (arith, entries_len-members, items_len-members)
 
-items_free : (n : ℕ) (ts : Trees) → InTrees IsLeafNulFree Whatever NulFree Whatever ts ↔ AreMembersFree (numbered n ts)
+items_free : (n : ℕ) (ts : Trees) → InTrees nul_free_parts ts ↔ AreMembersFree (numbered n ts)
 items_free n no_tree = ((λ h. tt), (λ h. tt))
 items_free n (tree_then t ts) = let rest = items_free (n + 1) ts in ((λ h. (tt, h.0, rest.0 h.1)), (λ h. (h.1, rest.1 h.2)))
 
-entries_free : (es : Entries) → InEntries IsLeafNulFree Whatever NulFree Whatever es ↔ AreMembersFree (keyed es)
+entries_free : (es : Entries) → InEntries nul_free_parts es ↔ AreMembersFree (keyed es)
 entries_free no_entry = ((λ h. tt), (λ h. tt))
 entries_free (entry_then key t es) = let rest = entries_free es in ((λ h. (h.0, h.1, rest.0 h.2)), (λ h. (h.0, h.1, rest.1 h.2)))
 

@@ -37,19 +37,15 @@ HasFrameCount b n = (levels : ℕ) × HasFrameCountUpTo levels b n
 
 -- frames until a fault, where Nested says that of nested bytes
 module _ (Nested : List ℕ → ℕ → Type 0) where
-  -- so many frames are in the frame until its first fault: none where the frame itself means it, and else
-  -- those that are until then in the nested bytes that have it
-  abbrev pub CountsToFaultInFrame : Frame → ℕ → Type 0
-  CountsToFaultInFrame f n =
-      ((fault : KeyedFault) × Means f (faulty fault) × (n ≡ 0))
-      ⊎ ((v : RawValue) × (d : List ℕ) × (fault : KeyedFault) × Means f (value v) × Holds v d × FirstFault d fault × Nested d n)
-
-  -- before is the number of frames ahead of r; so many are these and those until the fault there: the walk stops,
-  -- which is no frame; or the next frame has the fault, and is counted with those that are in it until then
-  abbrev pub CountsToFaultAt : List ℕ → ℕ → ℕ → Type 0
-  CountsToFaultAt r before n =
-      ((fault : KeyedFault) × IsStop r fault.fault fault.key × (n ≡ before))
-      ⊎ ((f : Frame) × (q : List ℕ) × (inside : ℕ) × IsFrame r f q × CountsToFaultInFrame f inside × (n ≡ before + 1 + inside))
+  -- n frames are in bytes until their first fault, which is at r, behind so many frames
+  pub data CountsToFaultAt (r : List ℕ) (before n : ℕ) : Type 0 where
+    -- the walk stops there, which is no frame
+    stop : (fault : KeyedFault) → IsStop r fault.fault fault.key → n ≡ before → CountsToFaultAt r before n
+    -- the next frame means the fault, and is counted
+    own_fault : (f : Frame) (q : List ℕ) (fault : KeyedFault) → IsFrame r f q → Means f (faulty fault) → n ≡ before + 1 → CountsToFaultAt r before n
+    -- the nested bytes in the next frame's value have the fault, and it is counted with those that are in it until then
+    nested_fault : (f : Frame) (q : List ℕ) (v : RawValue) (d : List ℕ) (fault : KeyedFault) (inside : ℕ) → IsFrame r f q → Means f (value v) → Holds v d
+        → FirstFault d fault → Nested d inside → n ≡ before + 1 + inside → CountsToFaultAt r before n
 
   -- so many frames are in what is left of a document or an array, s, until its first fault: frames that stand
   -- for trees, with all that are in them, and those until the fault behind them

@@ -55,8 +55,8 @@ IsFaultWith P (fault_of fault) = P fault
 IsFaultWith P too_many_bytes = ⊥
 IsFaultWith P too_deep = ⊥
 
--- first barriers, where Passes says which trees nested bytes are read as, and Nested which first barrier they have
-module _ (Passes : Sort → List ℕ → Tree → Type 0) (Nested : List ℕ → Barrier → Type 0) where
+-- first barriers, where Nested says which one nested bytes have
+module _ (Nested : List ℕ → Barrier → Type 0) where
   -- the first barrier of a frame is the fault that it means, or that of the nested bytes in the value that it means
   abbrev pub BarsFrame : Frame → Barrier → Type 0
   BarsFrame f x = IsFaultWith (λ fault. Means f (faulty fault)) x ⊎ ((v : RawValue) × (d : List ℕ) × Means f (value v) × Holds v d × Nested d x)
@@ -65,15 +65,13 @@ module _ (Passes : Sort → List ℕ → Tree → Type 0) (Nested : List ℕ →
   abbrev pub BarsFront : List ℕ → Barrier → Type 0
   BarsFront r x = IsFaultWith (λ fault. IsStop r fault.fault fault.key) x ⊎ ((f : Frame) × (q : List ℕ) × IsFrame r f q × BarsFrame f x)
 
-  -- the first barrier of what is left of a document or an array, s: frames that stand for trees are passed
-  abbrev pub BarsRest : List ℕ → Barrier → Type 0
-  BarsRest s x = (passed : List Frame) × (pairs : List (List ℕ × Tree)) × (r : List ℕ) × LeadsTo s passed r × StandForEach Passes passed pairs × BarsFront r x
-
 -- the first of a fault and the entry into a level deeper than so many, these bytes being the first level; depth
--- first in byte order
+-- first in byte order: frames that stand for trees are passed, and what is behind them has it
 abbrev pub FirstFaultWithin : ℕ → List ℕ → Barrier → Type 0
 FirstFaultWithin zero b x = x ≡ too_deep
-FirstFaultWithin (suc n) b x = BarsRest (ReadsUpTo n) (FirstFaultWithin n) (drop 4 b) x
+FirstFaultWithin (suc n) b x =
+    (passed : List Frame) × (pairs : List (List ℕ × Tree)) × (r : List ℕ) × LeadsTo (drop 4 b) passed r × StandForEach (ReadsUpTo n) passed pairs
+    × BarsFront (FirstFaultWithin n) r x
 
 -- the document b has at most so many bytes, is at most so deep, and is read as this tree
 pub record ReadsWithin (limits : Limits) (b : List ℕ) (t : Tree) : Type 0 where

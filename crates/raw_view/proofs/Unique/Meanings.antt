@@ -10,7 +10,8 @@ use Rattle.raw_view.specs.Frame.Format.{string_payload, boolean_payload}
 use Rattle.raw_view.specs.declared.element_type.ElementType.{ElementType}
 use Rattle.raw_view.specs.declared.element_type.ElementType.TheVariants as kind
 use Rattle.raw_view.specs.Frame.{Frame}
-use Rattle.raw_view.specs.Meaning.{RawValue, single, Meaning, value, faulty, Means, MeansValue, MeansFault, SpellsText, SpellsNoText, HasInnerLength, IsBinaryValue, Overflows, OldBinaryFault, IsCodeWithScope, HasNoCode, ScopeFault, KeyedFault}
+use Rattle.raw_view.specs.Meaning.{RawValue, single, Meaning, value, faulty, Means, MeansValue, MeansFault, SpellsText, SpellsNoText, HasInnerLength, IsBinaryValue, Overflows, IsCodeWithScope, HasNoCode, KeyedFault}
+use Rattle.raw_view.specs.Meaning.{OldBinaryFault, no_inner_length, overflow, wrong_inner_length, ScopeFault, too_small, no_code, code_no_text, no_scope}
 use Rattle.raw_view.specs.OneReading.{IsTheMeaning}
 use Rattle.raw_view.proofs.Bytes.Numbers.{le32_of, IsLe32-same, IsLe64-same, IsUnsigned64-same}
 use Rattle.raw_view.proofs.Frames.Payloads.{string_is, code_fits}
@@ -63,15 +64,15 @@ one_value kind.MinKey p v w a b = a ∙ sym b
 
 -- of the inner length of an old binary
 one_old_fault : (key outer : List ℕ) (f g : KeyedFault) → OldBinaryFault key outer f → OldBinaryFault key outer g → f ≡ g
-one_old_fault key outer f g (inl a) (inl b) = a.1 ∙ sym b.1
-one_old_fault key outer f g (inl a) (inr (inl b)) = absurd (omega (arith, a.0, b.1))
-one_old_fault key outer f g (inl a) (inr (inr b)) = a.1 ∙ sym b.5
-one_old_fault key outer f g (inr (inl a)) (inl b) = absurd (omega (arith, a.1, b.0))
-one_old_fault key outer f g (inr (inl a)) (inr (inl b)) = a.4 ∙ sym b.4
-one_old_fault key outer f g (inr (inl a)) (inr (inr b)) = absurd (b.3 (subst Overflows (IsLe32-same _ a.0 b.0 a.2 b.2) a.3))
-one_old_fault key outer f g (inr (inr a)) (inl b) = a.5 ∙ sym b.1
-one_old_fault key outer f g (inr (inr a)) (inr (inl b)) = absurd (a.3 (subst Overflows (IsLe32-same _ b.0 a.0 b.2 a.2) b.3))
-one_old_fault key outer f g (inr (inr a)) (inr (inr b)) = a.5 ∙ sym b.5
+one_old_fault key outer f g (no_inner_length l e) (no_inner_length m d) = e ∙ sym d
+one_old_fault key outer f g (no_inner_length l e) (overflow v m h o d) = absurd (omega (arith, l, m))
+one_old_fault key outer f g (no_inner_length l e) (wrong_inner_length v m h o n d) = e ∙ sym d
+one_old_fault key outer f g (overflow v m h o d) (no_inner_length l e) = absurd (omega (arith, l, m))
+one_old_fault key outer f g (overflow v l h o e) (overflow w m k u d) = e ∙ sym d
+one_old_fault key outer f g (overflow v l h o e) (wrong_inner_length w m k u n d) = absurd (u (subst Overflows (IsLe32-same _ v w h k) o))
+one_old_fault key outer f g (wrong_inner_length v l h o n e) (no_inner_length m d) = e ∙ sym d
+one_old_fault key outer f g (wrong_inner_length v l h o n e) (overflow w m k u d) = absurd (o (subst Overflows (IsLe32-same _ w v k h) u))
+one_old_fault key outer f g (wrong_inner_length v l h o n e) (wrong_inner_length w m k u d q) = e ∙ sym q
 
 -- a code with scope has a code
 has_code : (p code scope : List ℕ) → IsCodeWithScope p code scope → ¬ HasNoCode p
@@ -83,22 +84,22 @@ same_code p x y v w a b u = subst IsUtf8 (one_code p x y v w a b).0 u
 
 -- of a code with scope
 one_scope_fault : (key p : List ℕ) (f g : KeyedFault) → ScopeFault key p f → ScopeFault key p g → f ≡ g
-one_scope_fault key p f g (inl a) (inl b) = a.1 ∙ sym b.1
-one_scope_fault key p f g (inl a) (inr (inl b)) = absurd (omega (arith, a.0, b.0))
-one_scope_fault key p f g (inl a) (inr (inr (inl b))) = absurd (omega (arith, a.0, b.0))
-one_scope_fault key p f g (inl a) (inr (inr (inr b))) = absurd (omega (arith, a.0, b.0))
-one_scope_fault key p f g (inr (inl a)) (inl b) = absurd (omega (arith, a.0, b.0))
-one_scope_fault key p f g (inr (inl a)) (inr (inl b)) = a.2 ∙ sym b.2
-one_scope_fault key p f g (inr (inl a)) (inr (inr (inl b))) = absurd (has_code p b.1 b.2 b.3 a.1)
-one_scope_fault key p f g (inr (inl a)) (inr (inr (inr b))) = a.2 ∙ sym b.6
-one_scope_fault key p f g (inr (inr (inl a))) (inl b) = absurd (omega (arith, a.0, b.0))
-one_scope_fault key p f g (inr (inr (inl a))) (inr (inl b)) = absurd (has_code p a.1 a.2 a.3 b.1)
-one_scope_fault key p f g (inr (inr (inl a))) (inr (inr (inl b))) = a.5 ∙ sym b.5
-one_scope_fault key p f g (inr (inr (inl a))) (inr (inr (inr b))) = absurd (a.4 (same_code p b.1 a.1 b.2 a.2 b.3 a.3 b.4))
-one_scope_fault key p f g (inr (inr (inr a))) (inl b) = absurd (omega (arith, a.0, b.0))
-one_scope_fault key p f g (inr (inr (inr a))) (inr (inl b)) = a.6 ∙ sym b.2
-one_scope_fault key p f g (inr (inr (inr a))) (inr (inr (inl b))) = absurd (b.4 (same_code p a.1 b.1 a.2 b.2 a.3 b.3 a.4))
-one_scope_fault key p f g (inr (inr (inr a))) (inr (inr (inr b))) = a.6 ∙ sym b.6
+one_scope_fault key p f g (too_small l e) (too_small m d) = e ∙ sym d
+one_scope_fault key p f g (too_small l e) (no_code m n d) = absurd (omega (arith, l, m))
+one_scope_fault key p f g (too_small l e) (code_no_text x v m c n d) = absurd (omega (arith, l, m))
+one_scope_fault key p f g (too_small l e) (no_scope x v m c u n d) = absurd (omega (arith, l, m))
+one_scope_fault key p f g (no_code m n d) (too_small l e) = absurd (omega (arith, l, m))
+one_scope_fault key p f g (no_code l n e) (no_code m o d) = e ∙ sym d
+one_scope_fault key p f g (no_code l n e) (code_no_text x v m c o d) = absurd (has_code p x v c n)
+one_scope_fault key p f g (no_code l n e) (no_scope x v m c u o d) = e ∙ sym d
+one_scope_fault key p f g (code_no_text x v m c n d) (too_small l e) = absurd (omega (arith, l, m))
+one_scope_fault key p f g (code_no_text x v m c o d) (no_code l n e) = absurd (has_code p x v c n)
+one_scope_fault key p f g (code_no_text x v l c n e) (code_no_text y w m k o d) = e ∙ sym d
+one_scope_fault key p f g (code_no_text x v l c n e) (no_scope y w m k u o d) = absurd (n (same_code p y x w v k c u))
+one_scope_fault key p f g (no_scope x v m c u n d) (too_small l e) = absurd (omega (arith, l, m))
+one_scope_fault key p f g (no_scope x v m c u o d) (no_code l n e) = d ∙ sym e
+one_scope_fault key p f g (no_scope y w m k u o d) (code_no_text x v l c n e) = absurd (n (same_code p y x w v k c u))
+one_scope_fault key p f g (no_scope x v l c u n e) (no_scope y w m k t o d) = e ∙ sym d
 
 -- a payload of a kind means one fault at most
 one_fault : (k : ElementType) (key p : List ℕ) (f g : KeyedFault) → MeansFault k key p f → MeansFault k key p g → f ≡ g
@@ -125,15 +126,13 @@ no_old_fault key outer inner fault a b =
     let size : length outer ≡ length inner + 4 = omega (arith, ap length a.spelled) in
     let header : IsLe32 (take 4 outer) (pos (length inner)) = subst (λ (x : List ℕ). IsLe32 x (pos (length inner))) (sym (ap (take 4) a.spelled)) (le32_of (length inner) a.fits) in
     elim b [
-      | inl l ↦ omega (arith, l.0)
-      | inr more ↦ elim more [
-        | inl o ↦ (
-            let same : o.0 ≡ pos (length inner) = IsLe32-same (take 4 outer) _ _ o.2 header in
-            omega (arith, ints, same, o.3.1))
-        | inr d ↦ (
-            let same : d.0 ≡ pos (length inner) = IsLe32-same (take 4 outer) _ _ d.2 header in
-            d.4 (omega (arith, ints, same, size)))
-      ]
+      | no_inner_length l e ↦ omega (arith, l)
+      | overflow v l h o e ↦ (
+          let same : v ≡ pos (length inner) = IsLe32-same (take 4 outer) _ _ h header in
+          omega (arith, ints, same, o.1))
+      | wrong_inner_length v l h o n e ↦ (
+          let same : v ≡ pos (length inner) = IsLe32-same (take 4 outer) _ _ h header in
+          n (omega (arith, ints, same, size)))
     ]
 
 -- a code with a scope that has an envelope is no fault
@@ -141,14 +140,10 @@ no_scope_fault : (key p code scope : List ℕ) (fault : KeyedFault) → IsCodeWi
 no_scope_fault key p code scope fault c u d b =
     let size : 14 ≤ length p = omega (arith, ap length c.spelled, length-append (string_payload code) scope, length-append code (0 ∷ []), d.enough) in
     elim b [
-      | inl l ↦ omega (arith, l.0)
-      | inr more ↦ elim more [
-        | inl n ↦ has_code p code scope c n.1
-        | inr rest ↦ elim rest [
-          | inl t ↦ t.4 (same_code p code t.1 scope t.2 c t.3 u)
-          | inr e ↦ e.5 (subst IsEnvelope (one_code p code e.1 scope e.2 c e.3).1 d)
-        ]
-      ]
+      | too_small l e ↦ omega (arith, l)
+      | no_code l n e ↦ has_code p code scope c n
+      | code_no_text x v l k n e ↦ n (same_code p code x scope v c k u)
+      | no_scope x v l k t n e ↦ n (subst IsEnvelope (one_code p code x scope v c k).1 d)
     ]
 
 -- a binary's value, and the fault of an old one

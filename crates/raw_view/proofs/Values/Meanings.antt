@@ -14,7 +14,8 @@ use Rattle.raw_view.specs.Frame.Kind.{tag_of}
 use Rattle.raw_view.specs.declared.element_type.ElementType.{ElementType}
 use Rattle.raw_view.specs.declared.element_type.ElementType.TheVariants as kind
 use Rattle.raw_view.specs.Frame.{Frame, IsFrame, HasShape, HasText, IsBinary, IsDbPointer, HasDeclaredLength, IsWalk, End, Done, Stopped}
-use Rattle.raw_view.specs.Meaning.{single, document, array, scoped, Meaning, value, faulty, Means, MeansValue, MeansFault, SpellsText, SpellsNoText, HasInnerLength, OldBinaryFault, IsCodeWithScope, KeyedFault, malformed, malformed_at, not_text}
+use Rattle.raw_view.specs.Meaning.{single, document, array, scoped, Meaning, value, faulty, Means, MeansValue, MeansFault, SpellsText, SpellsNoText, HasInnerLength, IsCodeWithScope, KeyedFault, malformed, malformed_at, not_text}
+use Rattle.raw_view.specs.Meaning.{OldBinaryFault, no_inner_length, overflow, wrong_inner_length, too_small, no_code, code_no_text, no_scope}
 use Rattle.raw_view.specs.Meaning.Item.{Item, entry, stopped, ItemsOf, AreItems}
 use Rattle.raw_view.proofs.Bytes.Numbers.{read_front, unsigned32, unsigned64, signed32, signed64, length_fits, IsLe32-same}
 use Rattle.raw_view.proofs.Frames.Payloads.{timestamp_found}
@@ -69,19 +70,19 @@ inner_length key outer (pos n) l h =
           let size : length (drop 4 outer) ≡ n = omega (arith, length-drop 4 outer) in
           let head : take 4 outer ≡ le32 (pos (length (drop 4 outer))) = rw size h.bytes_are in
           inl (drop 4 outer, record { fits = omega (arith, size, length_fits (take 4 outer) n h); spelled = sym (take-append-drop 4 outer) ∙ ap (λ x. x ++ drop 4 outer) head }))
-      | inr d ↦ inr (malformed_at key, inr (inr (pos n, l, h, (λ o. omega (arith, ints, o.0, o.1)), (λ e. d (omega (arith, ints, e))), refl)))
+      | inr d ↦ inr (malformed_at key, wrong_inner_length (pos n) l h (λ o. omega (arith, ints, o.0, o.1)) (λ e. d (omega (arith, ints, e))) refl)
     ]
 inner_length key outer (negsuc n) l h =
     elim (cases_lt n 4) [
-      | inl s ↦ inr (malformed, inr (inl (negsuc n, l, h, (omega (arith, ints), omega (arith, ints)), refl)))
-      | inr g ↦ inr (malformed_at key, inr (inr (negsuc n, l, h, (λ o. omega (arith, ints, o.0, o.1)), (λ e. omega (arith, ints, e)), refl)))
+      | inl s ↦ inr (malformed, overflow (negsuc n) l h (omega (arith, ints), omega (arith, ints)) refl)
+      | inr g ↦ inr (malformed_at key, wrong_inner_length (negsuc n) l h (λ o. omega (arith, ints, o.0, o.1)) (λ e. omega (arith, ints, e)) refl)
     ]
 
 -- a binary of subtype 2
 old_binary_means : (key p outer : List ℕ) → AreBytes outer → IsBinary p 2 outer → HasMeaning kind.Binary key p
 old_binary_means key p outer bytes b =
     elim (cases_lt (length outer) 4) [
-      | inl l ↦ (faulty (malformed_at key), (outer, b, inl (l, refl)))
+      | inl l ↦ (faulty (malformed_at key), (outer, b, no_inner_length l refl))
       | inr l ↦ elim (inner_length key outer _ l (read_front outer _ bytes l refl)) [
         | inl i ↦ (value (single (binary BinaryOld i.0)), (2, outer, b, inr (refl, i.0, i.1, refl)))
         | inr f ↦ (faulty f.0, (outer, b, f.1))
@@ -112,16 +113,16 @@ code_means key p code scope l bytes c =
     elim (utf8_or_not code) [
       | inl u ↦ elim (envelope_or_not scope bytes) [
         | inl d ↦ (value (scoped code scope), (code, scope, c, u, d, refl))
-        | inr n ↦ (faulty malformed, inr (inr (inr (l, code, scope, c, u, n, refl))))
+        | inr n ↦ (faulty malformed, no_scope code scope l c u n refl)
       ]
-      | inr n ↦ (faulty not_text, inr (inr (inl (l, code, scope, c, n, refl))))
+      | inr n ↦ (faulty not_text, code_no_text code scope l c n refl)
     ]
 
 -- any code with scope
 scoped_means : (key p r : List ℕ) → AreBytes p → HasDeclaredLength p r → HasMeaning kind.JavaScriptCodeWithScope key p
 scoped_means key p r bytes d =
     elim (cases_lt (length p) 14) [
-      | inl l ↦ (faulty (malformed_at key), inl (l, refl))
+      | inl l ↦ (faulty (malformed_at key), too_small l refl)
       | inr l ↦ (
           let behind : AreBytes (drop 4 p) = AreBytes-drop 4 p bytes in
           let four : take 4 (p ++ r) ≡ take 4 p = take-append-le 4 p r (omega arith) in
@@ -130,7 +131,7 @@ scoped_means key p r bytes d =
             | inl s ↦ (
                 let cut : drop 4 p ≡ take s.0 (drop 4 p) ++ drop s.0 (drop 4 p) = sym (take-append-drop s.0 (drop 4 p)) in
                 code_means key p s.2.0 (drop s.0 (drop 4 p)) l (AreBytes-drop s.0 (drop 4 p) behind) (scope_parts p (take s.0 (drop 4 p)) (drop s.0 (drop 4 p)) s.2.0 header cut s.2.1))
-            | inr none ↦ (faulty malformed, inr (inl (l, none, refl)))
+            | inr none ↦ (faulty malformed, no_code l none refl)
           ])
     ]
 

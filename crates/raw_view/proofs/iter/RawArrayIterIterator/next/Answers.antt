@@ -11,6 +11,6 @@ returns-clause-steps c =
       | in-None w ↦ rw w.result-is (subst (λ (x : Option (List ℕ)). StepsItems TellsValue x None c.next.new.self) old (item_none TellsValue _ _ w.in-None.ensures.steps))
       | in-Some-Ok w ↦ rw w.result-is (subst (λ (x : Option (List ℕ)). StepsItems TellsValue x (Some w.value.result) c.next.new.self) old
           (item_ok TellsValue _ _ _ _ (rw w.in-Some-Ok.field-0-is at w.in-Some-Ok.ensures.steps) w.value.ensures.meaning))
-      | in-Some-Err w ↦ rw w.result-is (subst (λ (x : Option (List ℕ)). StepsItems TellsValue x (Some (Err w.in-Some-Err.error)) c.next.new.self) old
+      | in-Some-Err w ↦ rw w.result-is (subst (λ (x : Option (List ℕ)). StepsItems TellsValue x (Some (Err w.in-Some-Err.stop)) c.next.new.self) old
           (item_stop TellsValue (λ e fault says. says) _ _ _ (rw w.in-Some-Err.field-0-is at w.in-Some-Err.ensures.steps)))
     ]
