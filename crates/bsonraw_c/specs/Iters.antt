@@ -4,7 +4,7 @@ use Rattle.raw_bson.specs.Envelope.{IsEnvelope, Refuses}
 use Rattle.raw_bson.specs.ErrorKind.TheVariants as kind
 use Rattle.raw_bson.specs.Frame.{Frame, IsFrame, Fault, IsStop, LeadsTo}
 use Rattle.raw_bson.specs.Kind.{tag_of}
-use Rattle.raw_bson.specs.LookUp.{HasNoKey, HasThisKey, IsAny}
+use Rattle.raw_bson.specs.LookUp.{HasNoKey, HasThisKey}
 use Rattle.raw_bson.specs.Reason.{Reason}
 use Rattle.bsonraw_c.specs.Codes.{IsNoFault, SaysKind, TellsFaultCode, status_code}
 use Rattle.bsonraw_c.specs.Places.{StandsAt}
@@ -56,6 +56,10 @@ pub record GoesThrough (b : List ℕ) (it : Iter) (d s : List ℕ) : Type 0 wher
 -- the iterator goes through no document, or is nowhere in it
 abbrev pub IsAstray : List ℕ → Iter → Type 0
 IsAstray b it = (d s : List ℕ) → ¬ GoesThrough b it d s
+
+-- any frame
+abbrev pub IsAny : Frame → Type 0
+IsAny f = Unit {0}
 
 -- the iterator is at this frame, whose tag is at this offset, if it is wanted
 abbrev pub StopsAtFrame : (Frame → Type 0) → List ℕ → List ℕ → ℕ → Iter → Type 0

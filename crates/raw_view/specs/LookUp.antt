@@ -1,30 +1,8 @@
 -- Look-up, by key and by position.
 pub mod ElementLookUp
-use Rattle.std.specs.Prelude.{◌≡◌, ◌≢◌, ◌⊎◌, ◌<◌, ℕ, List, [], ◌∷◌, length, drop, Option, Some, None}
-use Rattle.raw_view.specs.Frame.{Frame, IsFrame, End, Done, Stopped, EndsIn, IsWalk, LeadsTo}
+use Rattle.std.specs.Prelude.{◌≡◌, ◌≢◌, ◌<◌, ◌≤◌, ℕ, List, [], ◌∷◌, length, drop, Option, Some, None}
+use Rattle.raw_view.specs.Frame.{Frame, IsFrame, End, Done, Stopped, IsWalk, LeadsTo}
 use Rattle.raw_view.specs.Meaning.{Meaning, faulty, Means}
-
--- a frame that is looked for is at the front of s, and this is what it means
-abbrev pub FindsFrame : (Frame → Type 0) → List ℕ → Option Meaning → Type 0
-FindsFrame IsWanted s found = (f : Frame) × (r : List ℕ) × (m : Meaning) × IsFrame s f r × IsWanted f × Means f m × (found ≡ Some m)
-
--- where the walk ends, a look-up finds the stop, or nothing
-abbrev pub found_at_end : End → Option Meaning
-found_at_end Done = None
-found_at_end (Stopped fault key) = Some (faulty (record { fault = fault; key = key }))
-
--- the walk ends at s, where this is found
-abbrev pub FindsEnd : List ℕ → Option Meaning → Type 0
-FindsEnd s found = (end : End) × EndsIn s end × (found ≡ found_at_end end)
-
--- what a look-up finds at s, where it goes no further: what a frame means that it looks for; or, where the walk
--- ends, the stop or nothing
-abbrev pub Finds : (Frame → Type 0) → List ℕ → Option Meaning → Type 0
-Finds IsWanted s found = FindsFrame IsWanted s found ⊎ FindsEnd s found
-
--- the walk ends at s, behind which nothing is found
-abbrev pub FindsNothing : List ℕ → Option Meaning → Type 0
-FindsNothing s found = (end : End) × EndsIn s end × (found ≡ None)
 
 -- this frame has the key
 abbrev pub HasThisKey : List ℕ → Frame → Type 0
@@ -35,10 +13,47 @@ abbrev pub HasNoKey : List ℕ → List Frame → Type 0
 HasNoKey key [] = Unit {0}
 HasNoKey key (f ∷ fs) = (f.key ≢ key) × HasNoKey key fs
 
--- What a look-up by key finds in the document b: what the first frame with the key means; else the stop;
--- else nothing. The frames passed on the way have other keys.
-abbrev pub LooksUp : List ℕ → List ℕ → Option Meaning → Type 0
-LooksUp b key found = (passed : List Frame) × (s : List ℕ) × LeadsTo (drop 4 b) passed s × HasNoKey key passed × Finds (HasThisKey key) s found
+-- what is found where an element is looked for: it; or there is none, and the walk ends so
+pub data FoundElement : Type 0 where
+  found : Frame → FoundElement
+  missing : End → FoundElement
+
+-- what is found in the document b that has this key: the first frame of the walk that has it; or no frame has. Keys are
+-- compared byte by byte, and what is behind the frame that is found is not looked at.
+abbrev pub FindsElement : List ℕ → List ℕ → FoundElement → Type 0
+FindsElement b key (found f) = (passed : List Frame) × (s : List ℕ) × (r : List ℕ) × LeadsTo (drop 4 b) passed s × HasNoKey key passed × IsFrame s f r × HasThisKey key f
+FindsElement b key (missing end) = (frames : List Frame) × IsWalk (drop 4 b) frames end × HasNoKey key frames
+
+-- what is found in the document b that has this number, counted from 0; or the walk has no more frames than that
+abbrev pub FindsElementAt : List ℕ → ℕ → FoundElement → Type 0
+FindsElementAt b number (found f) = (passed : List Frame) × (s : List ℕ) × (r : List ℕ) × LeadsTo (drop 4 b) passed s × (length passed ≡ number) × IsFrame s f r
+FindsElementAt b number (missing end) = (frames : List Frame) × IsWalk (drop 4 b) frames end × (length frames ≤ number)
+
+-- where the walk ends, a look-up finds the stop, or nothing
+abbrev pub found_at_end : End → Option Meaning
+found_at_end Done = None
+found_at_end (Stopped fault key) = Some (faulty (record { fault = fault; key = key }))
+
+-- the answer is what the frame means
+abbrev pub IsMeant : Frame → Option Meaning → Type 0
+IsMeant f answer = (m : Meaning) × Means f m × (answer ≡ Some m)
+
+-- What a look-up by key finds in the document b.
+pub data LooksUp (b key : List ℕ) (answer : Option Meaning) : Type 0 where
+  -- what the first frame with the key means
+  of_key : (f : Frame) → FindsElement b key (found f) → IsMeant f answer → LooksUp b key answer
+  -- where no frame of the walk has the key, the stop, or nothing
+  of_no_key : (end : End) → FindsElement b key (missing end) → answer ≡ found_at_end end → LooksUp b key answer
+
+-- What a look-up by position finds in the document b: the item of that number, counted from 0, faults and the stop
+-- counted too; past the last item nothing.
+pub data IsAt (b : List ℕ) (index : ℕ) (answer : Option Meaning) : Type 0 where
+  -- what the frame of this number means
+  of_number : (f : Frame) → FindsElementAt b index (found f) → IsMeant f answer → IsAt b index answer
+  -- where the walk has so many frames, the stop, or nothing
+  of_end : (frames : List Frame) (end : End) → IsWalk (drop 4 b) frames end → length frames ≡ index → answer ≡ found_at_end end → IsAt b index answer
+  -- where it has fewer, nothing
+  past_end : (frames : List Frame) (end : End) → IsWalk (drop 4 b) frames end → length frames < index → answer ≡ None → IsAt b index answer
 
 -- whether a key is in a document: a frame has it; or none has, and the walk ends so
 pub data KeyAnswer : Type 0 where
@@ -50,12 +65,3 @@ pub data KeyAnswer : Type 0 where
 abbrev pub FindsKey : List ℕ → List ℕ → KeyAnswer → Type 0
 FindsKey b key present = (passed : List Frame) × (s : List ℕ) × (f : Frame) × (r : List ℕ) × LeadsTo (drop 4 b) passed s × IsFrame s f r × HasThisKey key f
 FindsKey b key (absent end) = (frames : List Frame) × IsWalk (drop 4 b) frames end × HasNoKey key frames
-
--- any frame
-abbrev pub IsAny : Frame → Type 0
-IsAny f = Unit {0}
-
--- What a look-up by position finds in the document b: the item of that number, counted from 0, faults and
--- the stop counted too; past the last item nothing.
-abbrev pub IsAt : List ℕ → ℕ → Option Meaning → Type 0
-IsAt b index found = (passed : List Frame) × (s : List ℕ) × LeadsTo (drop 4 b) passed s × (((length passed ≡ index) × Finds IsAny s found) ⊎ ((length passed < index) × FindsNothing s found))

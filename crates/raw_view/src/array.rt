@@ -112,7 +112,7 @@ impl<'a> RawArray<'a> {
     {
         match Elements::new(self.document).nth(index) {
             None => Ok(None),
-            Some(Err(error)) => Err(error.into_error(alloc)),
+            Some(Err(stop)) => Err(stop.into_error(alloc)),
             Some(Ok(element)) => match element.value(alloc) {
                 Ok(value) => Ok(Some(value)),
                 Err(error) => Err(error),

@@ -164,8 +164,8 @@ impl<'a> RawDocument<'a> {
         ensures one_answer { (found : Option Meaning)
             × IsTheAnswer (bytes_of self.entry) key.now found }
     {
-        for element in Elements::new(self) {
-            let element = match element {
+        for step in Elements::new(self) {
+            let element = match step {
                 Ok(element) => element,
                 Err(error) => return Err(error.into_error(alloc)),
             };

@@ -3,10 +3,10 @@ use Rattle.std.proofs.Common.{◌≡◌, ◌≢◌, ℕ, List, [], ◌∷◌, �
 use Rattle.raw_view.specs.declared.element.RawElement.{RawElement}
 use Rattle.raw_view.specs.declared.bson_ref.RawBsonRef.{RawBsonRef}
 use Rattle.raw_view.specs.declared.error.Error.{Error}
-use Rattle.raw_view.specs.Frame.{Frame, Done, Stopped, LeadsTo}
+use Rattle.raw_view.specs.Frame.{Frame, Done, Stopped}
 use Rattle.raw_view.specs.Meaning.{Meaning, value, faulty, Means}
 use Rattle.raw_view.specs.Frame.ElementSteps.{StepsElement, HasRead, frame_of}
-use Rattle.raw_view.specs.LookUp.{HasNoKey, HasThisKey, Finds, KeyAnswer, present, absent, FindsKey}
+use Rattle.raw_view.specs.LookUp.{HasNoKey, LooksUp, of_key, of_no_key, KeyAnswer, present, absent, FindsKey}
 use Rattle.raw_view.specs.Errors.Answers.{TellsMeaning, TellsFound, TellsKey}
 use Rattle.raw_view.proofs.Frames.Loops.{HasRead-end, HasRead-stop}
 
@@ -14,26 +14,22 @@ pub HasNoKey-more : (key : List ℕ) (fs : List Frame) (f : Frame) → HasNoKey 
 HasNoKey-more key [] f h n = (n, tt)
 HasNoKey-more key (g ∷ fs) f h n = (h.0, HasNoKey-more key fs f h.1 n)
 
--- along a walk from s, past frames with other keys
-abbrev pub Looks : List ℕ → List ℕ → Option Meaning → Type 0
-Looks start key found = (passed : List Frame) × (s : List ℕ) × LeadsTo start passed s × HasNoKey key passed × Finds (HasThisKey key) s found
+-- at the frame with the key
+pub found_frame : (b key : List ℕ) (passed : List Frame) (old new : Option (List ℕ)) (e : RawElement) → HasRead (drop 4 b) passed old → HasNoKey key passed
+    → StepsElement old (Some (Ok e)) new → (frame_of e).key ≡ key → (m : Meaning) → Means (frame_of e) m → LooksUp b key (Some m)
+found_frame b key passed None new e read none st k m means = absurd read
+found_frame b key passed (Some s) new e read none st k m means = of_key (frame_of e) (passed, s, st.0, read, none, st.1, k) (m, means, refl)
 
--- the frame that is found
-pub found_frame : (start key : List ℕ) (passed : List Frame) (old new : Option (List ℕ)) (e : RawElement) → HasRead start passed old → HasNoKey key passed
-    → StepsElement old (Some (Ok e)) new → (frame_of e).key ≡ key → (m : Meaning) → Means (frame_of e) m → Looks start key (Some m)
-found_frame start key passed None new e read none st k m means = absurd read
-found_frame start key passed (Some s) new e read none st k m means = (passed, s, read, none, inl (frame_of e, st.0, m, st.1, k, means, refl))
+-- at the stop
+pub found_stop : (b key : List ℕ) (passed : List Frame) (old new : Option (List ℕ)) (e : Error) → HasRead (drop 4 b) passed old → HasNoKey key passed
+    → StepsElement old (Some (Err e)) new → (answer : Option Meaning) × LooksUp b key answer × TellsFound (Err e) answer
+found_stop b key passed old new e read none st =
+    let w = HasRead-stop (drop 4 b) passed old new e read st in
+    (Some (faulty (record { fault = w.0; key = w.1 })), of_no_key (Stopped w.0 w.1) (passed, w.2, none) refl, w.3)
 
--- the stop
-pub found_stop : (start key : List ℕ) (passed : List Frame) (old new : Option (List ℕ)) (e : Error) → HasRead start passed old → HasNoKey key passed
-    → StepsElement old (Some (Err e)) new → (found : Option Meaning) × Looks start key found × TellsFound (Err e) found
-found_stop start key passed None new e read none st = absurd read
-found_stop start key passed (Some s) new e read none st = (Some (faulty (record { fault = st.0; key = st.1 })), (passed, s, read, none, inr (Stopped st.0 st.1, st.2, refl)), st.3)
-
--- nothing
-pub found_none : (start key : List ℕ) (passed : List Frame) (old new : Option (List ℕ)) → HasRead start passed old → HasNoKey key passed → StepsElement old None new → Looks start key None
-found_none start key passed None new read none st = absurd read
-found_none start key passed (Some s) new read none st = (passed, s, read, none, inr (Done, st.0, refl))
+-- at the final 0
+pub found_none : (b key : List ℕ) (passed : List Frame) (old new : Option (List ℕ)) → HasRead (drop 4 b) passed old → HasNoKey key passed → StepsElement old None new → LooksUp b key None
+found_none b key passed old new read none st = of_no_key Done (passed, HasRead-end (drop 4 b) passed old new read st, none) refl
 
 -- a value or a fault that is meant is what is found
 pub found_value : (v : RawBsonRef) (m : Meaning) → TellsMeaning (Ok v) m → TellsFound (Ok (Some v)) (Some m)

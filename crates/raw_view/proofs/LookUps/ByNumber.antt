@@ -1,23 +1,24 @@
 -- A look-up by position along a walk.
-use Rattle.std.proofs.Common.{◌≡◌, ◌≤◌, ◌<◌, ◌+◌, ℕ, suc, List, [], ◌∷◌, length, subst, refl, Option, Some, None, Result, Ok, Err, inl, inr, ◌⊎◌, sym, ap, ◌∙◌, arith}
+use Rattle.std.proofs.Common.{◌≡◌, ◌≤◌, ◌<◌, ◌+◌, ℕ, suc, List, [], ◌∷◌, length, subst, refl, Option, Some, None, Result, Ok, Err, inl, inr, ◌⊎◌, sym, ap, ◌∙◌, arith, drop}
 use Rattle.std.specs.Iterator.{Yields, SkipsThenYields}
 use Rattle.std.specs.Option.{option_copied}
 use Rattle.raw_view.specs.declared.element.RawElement.{RawElement}
 use Rattle.raw_view.specs.declared.error.ErrorKind.{ErrorKind}
 use Rattle.raw_view.specs.declared.error.ErrorKind.TheVariants as what
 use Rattle.raw_view.specs.declared.error.BorrowedError.{BorrowedError}
-use Rattle.raw_view.specs.Frame.{Frame, IsFrame, LeadsTo, Fault, IsStop, EndsIn, End, Done, Stopped, Malformed, Utf8}
+use Rattle.raw_view.specs.Frame.{Frame, IsFrame, LeadsTo, IsWalk, Fault, IsStop, End, Done, Stopped, Malformed, Utf8}
 use Rattle.raw_view.specs.Meaning.{Meaning, Means, faulty, KeyedFault}
 use Rattle.raw_view.specs.Frame.ElementSteps.{frame_of}
 use Rattle.raw_view.specs.Frame.Front.{StepsFront, StopsWith, SaysFault, TellsBorrowed}
-use Rattle.raw_view.specs.LookUp.{IsAny, Finds, FindsNothing}
+use Rattle.raw_view.specs.LookUp.{IsAt, of_number, of_end, past_end}
+use Rattle.raw_view.proofs.Frames.Loops.{LeadsTo-walk}
 
 abbrev Step : Type 0
 Step = Result RawElement BorrowedError
 
 -- what was passed: frames that lead to what is left; or all of the walk, and the stop
 abbrev Passed : List ℕ → List Step → Option (List ℕ) → Type 0
-Passed s xs None = (fs : List Frame) × (q : List ℕ) × (end : End) × LeadsTo s fs q × EndsIn q end × (length xs ≡ length fs + 1)
+Passed s xs None = (fs : List Frame) × (end : End) × IsWalk s fs end × (length xs ≡ length fs + 1)
 Passed s xs (Some q) = (fs : List Frame) × LeadsTo s fs q × (length xs ≡ length fs)
 
 -- a stop with the key that the error borrows
@@ -31,7 +32,7 @@ none_after [] t y = (refl, sym y)
 none_after (x ∷ xs) t y = let bad : Some x ≡ None = y.1.0 in cc
 
 one_more : (s : List ℕ) (f : Frame) (r : List ℕ) (xs : List Step) (x : Step) (t : Option (List ℕ)) → IsFrame s f r → Passed r xs t → Passed s (x ∷ xs) t
-one_more s f r xs x None b p = (f ∷ p.0, p.1, p.2, (r, b, p.3), p.4, ap suc p.5 ∙ omega arith)
+one_more s f r xs x None b p = (f ∷ p.0, p.1, (r, b, p.2), ap suc p.3 ∙ omega arith)
 one_more s f r xs x (Some q) b p = (f ∷ p.0, (r, b, p.1), ap suc p.2)
 
 passed_of : (s : List ℕ) (xs : List Step) (t : Option (List ℕ)) → Yields StepsFront (Some s) xs t → Passed s xs t
@@ -44,48 +45,47 @@ passed_of s (Err b ∷ xs) t y =
     let none = none_after xs t (subst (λ (x : Option (List ℕ)). Yields StepsFront x xs t) st.1 y.2) in
     let said = stop_said b.kind (option_copied b.key) s st.0 in
     let len : length (Err b ∷ xs) ≡ 1 = ap (λ (zs : List Step). suc (length zs)) none.0 in
-    subst (Passed s (Err b ∷ xs)) (sym none.1) ([], s, Stopped said.0 (option_copied b.key), refl, said.2, len)
-
--- where a look-up from s by position arrives
-abbrev pub Arrives : List ℕ → ℕ → Option Meaning → Type 0
-Arrives start index found = (passed : List Frame) × (s : List ℕ) × LeadsTo start passed s × (((length passed ≡ index) × Finds IsAny s found) ⊎ ((length passed < index) × FindsNothing s found))
+    subst (Passed s (Err b ∷ xs)) (sym none.1) ([], Stopped said.0 (option_copied b.key), said.2, len)
 
 le_cases : (m n : ℕ) → m ≤ n → (m ≡ n) ⊎ (m < n)
 le_cases m n h = grind arith
 
 -- at the final 0
-at_none : (s q : List ℕ) (index : ℕ) (fs : List Frame) → LeadsTo s fs q → q ≡ 0 ∷ [] → length fs ≤ index → Arrives s index None
-at_none s q index fs l e h =
+at_none : (b q : List ℕ) (index : ℕ) (fs : List Frame) → LeadsTo (drop 4 b) fs q → q ≡ 0 ∷ [] → length fs ≤ index → IsAt b index None
+at_none b q index fs l e h =
+    let walk = LeadsTo-walk (drop 4 b) fs q Done l e in
     elim (le_cases (length fs) index h) [
-      | inl here ↦ (fs, q, l, inl (here, inr (Done, e, refl)))
-      | inr past ↦ (fs, q, l, inr (past, (Done, e, refl)))
+      | inl here ↦ of_end fs Done walk here refl
+      | inr past ↦ past_end fs Done walk past refl
     ]
 
-none_from : (s : List ℕ) (xs : List Step) (t : Option (List ℕ)) (index : ℕ) (u : Option (List ℕ)) → Passed s xs t → StepsFront t None u → length xs ≤ index → Arrives s index None
-none_from s xs None index u p st l = (p.0, p.1, p.3, inr (omega (arith, p.5), (p.2, p.4, refl)))
-none_from s xs (Some q) index u p st l = at_none s q index p.0 p.1 st.0 (omega (arith, p.2))
+none_from : (b : List ℕ) (xs : List Step) (t : Option (List ℕ)) (index : ℕ) (u : Option (List ℕ)) → Passed (drop 4 b) xs t → StepsFront t None u → length xs ≤ index → IsAt b index None
+none_from b xs None index u p st l = past_end p.0 p.1 p.2 (omega (arith, p.3)) refl
+none_from b xs (Some q) index u p st l = at_none b q index p.0 p.1 st.0 (omega (arith, p.2))
 
-pub nth_none : (s : List ℕ) (index : ℕ) (u : Option (List ℕ)) → SkipsThenYields StepsFront (Some s) index None u → Arrives s index None
-nth_none s index u h = none_from s h.0 h.1.0 index u (passed_of s h.0 h.1.0 h.1.1) h.1.2 h.2
+pub nth_none : (b : List ℕ) (index : ℕ) (u : Option (List ℕ)) → SkipsThenYields StepsFront (Some (drop 4 b)) index None u → IsAt b index None
+nth_none b index u h = none_from b h.0 h.1.0 index u (passed_of (drop 4 b) h.0 h.1.0 h.1.1) h.1.2 h.2
 
-element_from : (s : List ℕ) (xs : List Step) (t : Option (List ℕ)) (index : ℕ) (e : RawElement) (u : Option (List ℕ)) → Passed s xs t
-    → StepsFront t (Some (Ok e)) u → length xs ≡ index → (m : Meaning) → Means (frame_of e) m → Arrives s index (Some m)
-element_from s xs None index e u p st l m means = let bad : ◌≡◌ {A = Option Step} (Some (Ok e)) None = st.0 in cc
-element_from s xs (Some q) index e u p st l m means = (p.0, q, p.1, inl (sym p.2 ∙ l, inl (frame_of e, st.0, m, st.1, tt, means, refl)))
+element_from : (b : List ℕ) (xs : List Step) (t : Option (List ℕ)) (index : ℕ) (e : RawElement) (u : Option (List ℕ)) → Passed (drop 4 b) xs t
+    → StepsFront t (Some (Ok e)) u → length xs ≡ index → (m : Meaning) → Means (frame_of e) m → IsAt b index (Some m)
+element_from b xs None index e u p st l m means = let bad : ◌≡◌ {A = Option Step} (Some (Ok e)) None = st.0 in cc
+element_from b xs (Some q) index e u p st l m means = of_number (frame_of e) (p.0, q, st.0, p.1, sym p.2 ∙ l, st.1) (m, means, refl)
 
 -- the element of that number
-pub nth_element : (s : List ℕ) (index : ℕ) (e : RawElement) (u : Option (List ℕ)) → SkipsThenYields StepsFront (Some s) index (Some (Ok e)) u → (m : Meaning)
-    → Means (frame_of e) m → Arrives s index (Some m)
-nth_element s index e u h m means = element_from s h.0 h.1.0 index e u (passed_of s h.0 h.1.0 h.1.1) h.1.2 h.2 m means
+pub nth_element : (b : List ℕ) (index : ℕ) (e : RawElement) (u : Option (List ℕ)) → SkipsThenYields StepsFront (Some (drop 4 b)) index (Some (Ok e)) u → (m : Meaning)
+    → Means (frame_of e) m → IsAt b index (Some m)
+nth_element b index e u h m means = element_from b h.0 h.1.0 index e u (passed_of (drop 4 b) h.0 h.1.0 h.1.1) h.1.2 h.2 m means
 
-stop_from : (s : List ℕ) (xs : List Step) (t : Option (List ℕ)) (index : ℕ) (b : BorrowedError) (u : Option (List ℕ)) → Passed s xs t
-    → StepsFront t (Some (Err b)) u → length xs ≡ index → (fault : KeyedFault) × TellsBorrowed b fault × Arrives s index (Some (faulty fault))
-stop_from s xs None index b u p st l = let bad : ◌≡◌ {A = Option Step} (Some (Err b)) None = st.0 in cc
-stop_from s xs (Some q) index b u p st l =
-    let said = stop_said b.kind (option_copied b.key) q st.0 in
-    (record { fault = said.0; key = option_copied b.key }, record { says = said.1; key_is = refl }, (p.0, q, p.1, inl (sym p.2 ∙ l, inr (Stopped said.0 (option_copied b.key), said.2, refl))))
+stop_from : (b : List ℕ) (xs : List Step) (t : Option (List ℕ)) (index : ℕ) (e : BorrowedError) (u : Option (List ℕ)) → Passed (drop 4 b) xs t
+    → StepsFront t (Some (Err e)) u → length xs ≡ index → (fault : KeyedFault) × TellsBorrowed e fault × IsAt b index (Some (faulty fault))
+stop_from b xs None index e u p st l = let bad : ◌≡◌ {A = Option Step} (Some (Err e)) None = st.0 in cc
+stop_from b xs (Some q) index e u p st l =
+    let said = stop_said e.kind (option_copied e.key) q st.0 in
+    let end : End = Stopped said.0 (option_copied e.key) in
+    let walk = LeadsTo-walk (drop 4 b) p.0 q end p.1 said.2 in
+    (record { fault = said.0; key = option_copied e.key }, record { says = said.1; key_is = refl }, of_end p.0 end walk (sym p.2 ∙ l) refl)
 
 -- the stop, if it has that number
-pub nth_stop : (s : List ℕ) (index : ℕ) (b : BorrowedError) (u : Option (List ℕ)) → SkipsThenYields StepsFront (Some s) index (Some (Err b)) u
-    → (fault : KeyedFault) × TellsBorrowed b fault × Arrives s index (Some (faulty fault))
-nth_stop s index b u h = stop_from s h.0 h.1.0 index b u (passed_of s h.0 h.1.0 h.1.1) h.1.2 h.2
+pub nth_stop : (b : List ℕ) (index : ℕ) (e : BorrowedError) (u : Option (List ℕ)) → SkipsThenYields StepsFront (Some (drop 4 b)) index (Some (Err e)) u
+    → (fault : KeyedFault) × TellsBorrowed e fault × IsAt b index (Some (faulty fault))
+nth_stop b index e u h = stop_from b h.0 h.1.0 index e u (passed_of (drop 4 b) h.0 h.1.0 h.1.1) h.1.2 h.2

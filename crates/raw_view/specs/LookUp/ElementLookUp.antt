@@ -1,27 +1,12 @@
 -- Look-up of an element, by key and by number, and how many elements there are. Nothing that an element means is looked
 -- into.
-use Rattle.std.specs.Prelude.{◌≡◌, ◌≤◌, ℕ, List, length, drop, Option, Some, None, Result, Ok, Err}
-use Rattle.raw_view.specs.Frame.{Frame, IsFrame, End, Done, Stopped, IsWalk, LeadsTo}
-use Rattle.raw_view.specs.LookUp.{HasThisKey, HasNoKey}
+use Rattle.std.specs.Prelude.{◌≡◌, ℕ, List, length, drop, Option, Some, None, Result, Ok, Err}
+use Rattle.raw_view.specs.Frame.{Frame, End, Done, Stopped, IsWalk}
+use Rattle.raw_view.specs.LookUp.{FoundElement, found, missing, FindsElement, FindsElementAt}
 use Rattle.raw_view.specs.Frame.ElementSteps.{frame_of}
 use Rattle.raw_view.specs.Frame.Front.{TellsBorrowed}
 use Rattle.raw_view.specs.declared.element.RawElement.{RawElement}
 use Rattle.raw_view.specs.declared.error.BorrowedError.{BorrowedError}
-
--- what is found where an element is looked for: it; or there is none, and the walk ends so
-pub data FoundElement : Type 0 where
-  found : Frame → FoundElement
-  missing : End → FoundElement
-
--- what is found in the document b that has this key: the first frame of the walk that has it; or no frame has
-abbrev pub FindsElement : List ℕ → List ℕ → FoundElement → Type 0
-FindsElement b key (found f) = (passed : List Frame) × (s : List ℕ) × (r : List ℕ) × LeadsTo (drop 4 b) passed s × HasNoKey key passed × IsFrame s f r × HasThisKey key f
-FindsElement b key (missing end) = (frames : List Frame) × IsWalk (drop 4 b) frames end × HasNoKey key frames
-
--- what is found in the document b that has this number, counted from 0; or the walk has no more frames than that
-abbrev pub FindsElementAt : List ℕ → ℕ → FoundElement → Type 0
-FindsElementAt b number (found f) = (passed : List Frame) × (s : List ℕ) × (r : List ℕ) × LeadsTo (drop 4 b) passed s × (length passed ≡ number) × IsFrame s f r
-FindsElementAt b number (missing end) = (frames : List Frame) × IsWalk (drop 4 b) frames end × (length frames ≤ number)
 
 -- where the walk ends without the element: nothing at the final 0, and else the stop
 abbrev pub TellsEnd : Option BorrowedError → End → Type 0

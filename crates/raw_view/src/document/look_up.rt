@@ -4,7 +4,8 @@
 
 ghost use Rattle.std.specs.Prelude.{◌≤◌, ◌-◌, ◌/◌, length, IfOk};
 ghost use Rattle.raw_view.specs.Document.{bytes_of};
-ghost use Rattle.raw_view.specs.LookUp.ElementLookUp.{FindsElement, FindsElementAt, FoundElement, IsTheElement, IsTheElementAt, TellsCount, TellsElement};
+ghost use Rattle.raw_view.specs.LookUp.{FindsElement, FindsElementAt, FoundElement};
+ghost use Rattle.raw_view.specs.LookUp.ElementLookUp.{IsTheElement, IsTheElementAt, TellsCount, TellsElement};
 
 use crate::document::{RawDocument, has_key};
 use crate::element::RawElement;

@@ -6,7 +6,7 @@ use Rattle.raw_view.specs.LookUp.{present, absent}
 use Rattle.raw_view.proofs.Frames.Iteration.{step_none, step_ok, step_stop}
 use Rattle.raw_view.proofs.Frames.Loops.{HasRead-more}
 use Rattle.raw_view.proofs.LookUps.ByKey.{HasNoKey-more, key_present, key_stop, key_absent}
-use Rattle.raw_view.proofs.Unique.Items.{the_key_answer}
+use Rattle.raw_view.proofs.Unique.LookUps.{the_key_answer}
 use Rattle.raw_view.proofs.document.RawDocument.contains_key.Goals as goal
 
 pub returns-in-Err-clause-found : goal.returns-in-Err-clause-found

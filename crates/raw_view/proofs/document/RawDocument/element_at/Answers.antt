@@ -2,10 +2,11 @@ use Rattle.std.proofs.Common.{◌++◌, ◌∷◌, [], refl, arith, length-appen
 use Rattle.raw_view.specs.Frame.ElementSteps.{frame_of}
 use Rattle.raw_view.specs.Document.{bytes_of}
 use Rattle.raw_view.specs.Frame.{Done}
-use Rattle.raw_view.specs.LookUp.ElementLookUp.{found, missing}
+use Rattle.raw_view.specs.LookUp.{found, missing}
 use Rattle.raw_view.proofs.Frames.Iteration.{step_none, step_ok}
 use Rattle.raw_view.proofs.Frames.Loops.{HasRead-more, HasRead-end}
-use Rattle.raw_view.proofs.LookUps.Elements.{element_behind, stopped_walk, the_element_at}
+use Rattle.raw_view.proofs.LookUps.Elements.{element_behind, stopped_walk}
+use Rattle.raw_view.proofs.Unique.LookUps.{the_element_at}
 use Rattle.raw_view.proofs.document.RawDocument.element_at.Goals as goal
 
 pub returns-in-Err-clause-found : goal.returns-in-Err-clause-found

@@ -4,45 +4,46 @@ use Rattle.raw_view.specs.Document.{bytes_of}
 use Rattle.raw_view.proofs.Frames.Iteration.{step_none, step_ok, step_stop}
 use Rattle.raw_view.proofs.Frames.Loops.{HasRead-more}
 use Rattle.raw_view.proofs.LookUps.ByKey.{HasNoKey-more, found_frame, found_stop, found_none, found_value, found_fault}
-use Rattle.raw_view.proofs.Unique.Items.{the_answer}
+use Rattle.raw_view.proofs.Unique.LookUps.{the_answer}
 use Rattle.raw_view.proofs.document.RawDocument.get.Goals as goal
 
 pub returns-in-Err-clause-found : goal.returns-in-Err-clause-found
 returns-in-Err-clause-found c =
-    let inv = c.loop-element.invariant in
+    let inv = c.loop-step.invariant in
     let front = rw c.in-Err.is at c.in-Some.ensures.steps in
-    found_stop _ c.args.key.now inv.0 c.loop-element.element-iterator c.next.new.self c.into_error.result inv.1 inv.2 (step_stop _ _ c.in-Err.error c.into_error.result front c.into_error.ensures)
+    found_stop (bytes_of c.args.self) c.args.key.now inv.0 c.loop-step.step-iterator c.next.new.self c.into_error.result inv.1 inv.2
+    (step_stop _ _ c.in-Err.error c.into_error.result front c.into_error.ensures)
 
 pub returns-in-Ok-value-clause-found : goal.returns-in-Ok-value-clause-found
 returns-in-Ok-value-clause-found c =
-    let inv = c.loop-element.invariant in
+    let inv = c.loop-step.invariant in
     let e = c.in-Ok.element in
     let step = step_ok _ _ e (rw c.in-Ok.is at c.in-Some.ensures.steps) in
     let same : (frame_of e).key ≡ c.args.key.now = c.has_key.ensures.0 c.if-has_key.true in
     let m = c.in-Ok-value.ensures.meaning in
-    (Some m.0, found_frame _ c.args.key.now inv.0 c.loop-element.element-iterator c.next.new.self e inv.1 inv.2 step same m.0 m.1, found_value c.in-Ok-value.value m.0 m.2)
+    (Some m.0, found_frame (bytes_of c.args.self) c.args.key.now inv.0 c.loop-step.step-iterator c.next.new.self e inv.1 inv.2 step same m.0 m.1, found_value c.in-Ok-value.value m.0 m.2)
 
 pub returns-in-Err-value-clause-found : goal.returns-in-Err-value-clause-found
 returns-in-Err-value-clause-found c =
-    let inv = c.loop-element.invariant in
+    let inv = c.loop-step.invariant in
     let e = c.in-Ok.element in
     let step = step_ok _ _ e (rw c.in-Ok.is at c.in-Some.ensures.steps) in
     let same : (frame_of e).key ≡ c.args.key.now = c.has_key.ensures.0 c.if-has_key.true in
     let m = c.in-Err-value.ensures.meaning in
-    (Some m.0, found_frame _ c.args.key.now inv.0 c.loop-element.element-iterator c.next.new.self e inv.1 inv.2 step same m.0 m.1, found_fault c.in-Err-value.error m.0 m.2)
+    (Some m.0, found_frame (bytes_of c.args.self) c.args.key.now inv.0 c.loop-step.step-iterator c.next.new.self e inv.1 inv.2 step same m.0 m.1, found_fault c.in-Err-value.error m.0 m.2)
 
-pub loop-element-preserved : goal.loop-element-preserved
-loop-element-preserved c =
-    let inv = c.loop-element.invariant in
+pub loop-step-preserved : goal.loop-step-preserved
+loop-step-preserved c =
+    let inv = c.loop-step.invariant in
     let e = c.in-Ok.element in
     let step = step_ok _ _ e (rw c.in-Ok.is at c.in-Some.ensures.steps) in
     let other : (frame_of e).key ≢ c.args.key.now = λ k. let yes = c.has_key.ensures.1 k in let no = c.if-has_key.false in cc in
-    (inv.0 ++ frame_of e ∷ [], HasRead-more _ inv.0 c.loop-element.element-iterator c.next.new.self e inv.1 step, HasNoKey-more _ inv.0 (frame_of e) inv.2 other)
+    (inv.0 ++ frame_of e ∷ [], HasRead-more _ inv.0 c.loop-step.step-iterator c.next.new.self e inv.1 step, HasNoKey-more _ inv.0 (frame_of e) inv.2 other)
 
 pub returns-clause-found : goal.returns-clause-found
 returns-clause-found c =
-    let inv = c.loop-element.invariant in
-    (None, found_none _ c.args.key.now inv.0 c.loop-element.element-iterator c.next.new.self inv.1 inv.2 (step_none _ _ c.in-None.ensures.steps), refl)
+    let inv = c.loop-step.invariant in
+    (None, found_none (bytes_of c.args.self) c.args.key.now inv.0 c.loop-step.step-iterator c.next.new.self inv.1 inv.2 (step_none _ _ c.in-None.ensures.steps), refl)
 
 pub returns-in-Err-clause-one_answer : goal.returns-in-Err-clause-one_answer
 returns-in-Err-clause-one_answer c = let t = returns-in-Err-clause-found c in (t.0, the_answer (bytes_of c.args.self) c.args.key.now t.0 t.1)

@@ -5,5 +5,5 @@ use Rattle.raw_view.specs.LookUp.{HasNoKey}
 use Rattle.raw_view.specs.Document.{bytes_of}
 use Rattle.raw_view.proofs.document.RawDocument.get.Given as goal
 
-abbrev pub invariant-loop-element : goal.invariant-loop-element
-invariant-loop-element l = (passed : List Frame) × HasRead (drop 4 (bytes_of l.fn.self)) passed l.element-iterator × HasNoKey l.key passed
+abbrev pub invariant-loop-step : goal.invariant-loop-step
+invariant-loop-step l = (passed : List Frame) × HasRead (drop 4 (bytes_of l.fn.self)) passed l.step-iterator × HasNoKey l.key passed

@@ -2,11 +2,12 @@ use Rattle.std.proofs.Common.{◌≡◌, ◌≢◌, ◌++◌, ◌∷◌, [], ref
 use Rattle.raw_view.specs.Frame.ElementSteps.{frame_of}
 use Rattle.raw_view.specs.Document.{bytes_of}
 use Rattle.raw_view.specs.Frame.{Done}
-use Rattle.raw_view.specs.LookUp.ElementLookUp.{found, missing}
+use Rattle.raw_view.specs.LookUp.{found, missing}
 use Rattle.raw_view.proofs.Frames.Iteration.{step_none, step_ok}
 use Rattle.raw_view.proofs.Frames.Loops.{HasRead-more, HasRead-end}
 use Rattle.raw_view.proofs.LookUps.ByKey.{HasNoKey-more}
-use Rattle.raw_view.proofs.LookUps.Elements.{element_with_key, stopped_walk, the_element}
+use Rattle.raw_view.proofs.LookUps.Elements.{element_with_key, stopped_walk}
+use Rattle.raw_view.proofs.Unique.LookUps.{the_element}
 use Rattle.raw_view.proofs.document.RawDocument.get_element.Goals as goal
 
 pub returns-in-Err-clause-found : goal.returns-in-Err-clause-found
