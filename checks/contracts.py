@@ -129,7 +129,10 @@ class Crates:
         for crate in CRATES:
             for path in sorted((self.crates / crate / "src").rglob("*.rt")):
                 name = str(path.relative_to(self.crates))
-                self.items[name] = list(items_of(path, name))
+                items = list(items_of(path, name))
+                for alias, target in re.findall(r"^pub type (\w+)[^=]*= (\w+)", path.read_text(encoding="utf-8"), re.M):
+                    items += [item._replace(owner=alias) for item in items if item.kind == "impl" and item.owner == target]
+                self.items[name] = items
         self.lists: Dict[str, List[str]] = {}
         for crate in USED:
             root = self.crates / crate / "src"

@@ -157,9 +157,8 @@ impl<'a> RawElement<'a> {
 }
 
 impl<'a> RawElement<'a> {
-    ghost use Rattle.raw_view.specs.Errors.Answers.{TellsItem, TellsMeaning};
+    ghost use Rattle.raw_view.specs.Errors.Answers.{TellsMeaning};
     ghost use Rattle.raw_view.specs.Frame.ElementSteps.{frame_of};
-    ghost use Rattle.raw_view.specs.Meaning.Item.{entry};
     ghost use Rattle.raw_view.specs.Meaning.{Meaning, Means};
     ghost use Rattle.raw_view.specs.OneReading.{IsTheMeaning};
 
@@ -183,17 +182,5 @@ impl<'a> RawElement<'a> {
         ensures one_meaning { (m : Meaning) × IsTheMeaning (frame_of self.entry) m }
     {
         self.value(alloc)
-    }
-
-    /// The key with the value, or the value's fault.
-    #[inline(always)]
-    pub(crate) fn keyed_value(self, alloc: Global) -> Result<(&'a str, RawBsonRef<'a>)>
-        ensures { (m : Meaning) × Means (frame_of self.entry) m
-            × TellsItem result (entry (frame_of self.entry).key m) }
-    {
-        match self.value(alloc) {
-            Ok(value) => Ok((self.key(), value)),
-            Err(error) => Err(error),
-        }
     }
 }

@@ -12,23 +12,19 @@ use Rattle.raw_view.specs.Meaning.Item.{Item, entry, stopped, ItemsOf, AreItems}
 use Rattle.raw_view.specs.Frame.ElementSteps.{StepsElement, frame_of}
 use Rattle.raw_view.specs.Errors.Answers.{Says, StepsItems, TellsEach}
 
--- for what one result says of an item, where an error that says the stop is such a result
+-- for what one result says of an item
 module _ {X : Type 0} (Tells : Result X Error → Item → Type 0) where
-  pub item_none : (old new : Option (List ℕ)) → StepsElement old None new → StepsItems Tells old None new
-  item_none None new st = (refl, st.1)
-  item_none (Some s) new st = st
-
   pub item_ok : (old new : Option (List ℕ)) (e : RawElement) (out : Result X Error) → StepsElement old (Some (Ok e)) new
       → (m : Meaning) × Means (frame_of e) m × Tells out (entry (frame_of e).key m) → StepsItems Tells old (Some out) new
   item_ok None new e out st h = let bad : ◌≡◌ {A = Option (Result RawElement Error)} (Some (Ok e)) None = st.0 in cc
   item_ok (Some s) new e out st h = inl (record { frame = frame_of e; rest = st.0; meaning = h.0; in_front = st.1; means = h.1; told = h.2; left = st.2 })
 
-  pub item_stop : ((e : Error) (fault : KeyedFault) → Says e fault → Tells (Err e) (stopped fault)) → (old new : Option (List ℕ)) (e : Error)
-      → StepsElement old (Some (Err e)) new → StepsItems Tells old (Some (Err e)) new
-  item_stop says None new e st = let bad : ◌≡◌ {A = Option (Result RawElement Error)} (Some (Err e)) None = st.0 in cc
-  item_stop says (Some s) new e st =
+  pub item_stop : (old new : Option (List ℕ)) (e : Error) (out : Result X Error) → StepsElement old (Some (Err e)) new
+      → ((fault : KeyedFault) → Says e fault → Tells out (stopped fault)) → StepsItems Tells old (Some out) new
+  item_stop None new e out st says = let bad : ◌≡◌ {A = Option (Result RawElement Error)} (Some (Err e)) None = st.0 in cc
+  item_stop (Some s) new e out st says =
       let fault : KeyedFault = record { fault = st.0; key = st.1 } in
-      inr (record { fault = fault; stops = st.2; told = says e fault st.3; left = st.4 })
+      inr (record { fault = fault; stops = st.2; told = says fault st.3; left = st.4 })
 
   -- nothing comes after a stop
   none_after : (xs : List (Result X Error)) (t : Option (List ℕ)) → Yields (StepsItems Tells) None xs t → xs ≡ []
