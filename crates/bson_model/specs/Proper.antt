@@ -67,11 +67,11 @@ IsLeafInRange (decimal128 bytes) = AreBytesOf 16 bytes
 IsLeafInRange max_key = Unit {0}
 IsLeafInRange min_key = Unit {0}
 
--- each leaf is in range, each code and key is UTF-8, and no key is there twice in a document or a scope:
--- so is the tree of every value, document and list
 abbrev pub well_formed_parts : OfParts
 well_formed_parts = record { of_leaf = IsLeafInRange; of_code = IsUtf8; of_key = IsUtf8; of_keys = IsDistinct bytes_eq }
 
+-- each leaf is in range, each code and key is UTF-8, and no key is there twice in a document or a scope:
+-- so is the tree of every value, document and list
 abbrev pub IsWellFormed : Tree → Type 0
 IsWellFormed = Everywhere well_formed_parts
 
@@ -80,10 +80,10 @@ abbrev pub IsLeafNulFree : Leaf → Type 0
 IsLeafNulFree (regular_expression pattern options) = NulFree pattern × NulFree options
 IsLeafNulFree _ = Unit {0}
 
--- no key, pattern or options holds a 0
 abbrev pub nul_free_parts : OfParts
 nul_free_parts = record { of_leaf = IsLeafNulFree; of_code = Whatever; of_key = NulFree; of_keys = Whatever }
 
+-- no key, pattern or options holds a 0
 abbrev pub IsNulFree : Tree → Type 0
 IsNulFree = Everywhere nul_free_parts
 
@@ -92,10 +92,10 @@ abbrev pub DoLeafOptionsAscend : Leaf → Type 0
 DoLeafOptionsAscend (regular_expression pattern options) = OptionsAscend options
 DoLeafOptionsAscend _ = Unit {0}
 
--- no options descend
 abbrev pub ascending_parts : OfParts
 ascending_parts = record { of_leaf = DoLeafOptionsAscend; of_code = Whatever; of_key = Whatever; of_keys = Whatever }
 
+-- no options descend
 abbrev pub DoOptionsAscend : Tree → Type 0
 DoOptionsAscend = Everywhere ascending_parts
 
@@ -104,10 +104,10 @@ abbrev pub IsLeafSubtypeProper : Leaf → Type 0
 IsLeafSubtypeProper (binary subtype bytes) = IsProperSubtype subtype
 IsLeafSubtypeProper _ = Unit {0}
 
--- each subtype is the one that its byte gives
 abbrev pub proper_subtype_parts : OfParts
 proper_subtype_parts = record { of_leaf = IsLeafSubtypeProper; of_code = Whatever; of_key = Whatever; of_keys = Whatever }
 
+-- each subtype is the one that its byte gives
 abbrev pub AreSubtypesProper : Tree → Type 0
 AreSubtypesProper = Everywhere proper_subtype_parts
 
