@@ -5,3 +5,4 @@ pub mod LevelKeys
 pub mod Marking
 pub mod Noting
 pub mod OneBreach
+pub mod References

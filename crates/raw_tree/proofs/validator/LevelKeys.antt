@@ -1,9 +1,8 @@
 -- The keys of a level and one more behind them, as lists and as the references that the code holds.
-use Rattle.std.proofs.Common.{zero, inl, inr, is_eq, is_le, is_lt, Ordering, Less, Equal, Greater, nat_cmp, Box, Global, None, ◌-◌, length-drop, true≢false, subst, suc, ◌<◌, ◌≤◌, ◌≡◌, ◌≢◌, ◌+◌, ◌++◌, ◌∷◌, [], ℕ, List, Bool, true, false, length, decimal, drop, take, arith, ap, refl, sym, ◌∙◌, append_assoc}
-use Rattle.std.proofs.Math.Seq.{drop-append_seam, drop-cons, take-append_seam}
+use Rattle.std.proofs.Common.{zero, inl, inr, is_eq, is_le, is_lt, Ordering, Less, Equal, Greater, nat_cmp, Box, Global, None, Some, ◌-◌, length-drop, true≢false, subst, suc, ◌<◌, ◌≡◌, ◌≢◌, ◌+◌, ◌++◌, ◌∷◌, [], ℕ, List, Bool, true, false, length, decimal, drop, take, arith, ap, refl, sym, ◌∙◌, append_assoc}
 use Rattle.std.proofs.lemmas.Cmp.{nat_list_cmp_total, nat_list_eq_equiv}
 use Rattle.std.proofs.Math.ListN.{get_or}
-use Rattle.std.proofs.lemmas.List.{drop-map, map-append, take-append-drop, take_all, take-map, take_more}
+use Rattle.std.proofs.lemmas.List.{map-append, take-append-drop, take_all}
 use Rattle.std.proofs.lemmas.Map.Keys.{IsDistinct-push}
 use Rattle.std.proofs.lemmas.Map.Views.{Contains-from_any, list_any-from_Contains}
 use Rattle.std.specs.Ordering.{ordering_reverse}
@@ -14,14 +13,19 @@ use denote.Ref.{Bor}
 use Rattle.raw_tree.specs.validator.Breaches.{BreachesKeys}
 use Rattle.raw_tree.specs.Canonical.{AreDecimalsFrom, AreKeysCanonical}
 use Rattle.raw_tree.specs.reader.Reading.{Sort, as_document, as_array}
-use Rattle.raw_tree.proofs.validator.Noting.{noted_more}
 use Rattle.raw_tree.specs.validator.KeySets.{InsertsKey}
 use Rattle.raw_tree.specs.validator.Notes.{note_of, AreNoted, HasNote}
 use Rattle.raw_tree.specs.validator.References.{texts}
-use Rattle.raw_tree.specs.validator.Validating.{AreAscending, HasKeys, IsBehind, IsBehindLast, TellsOwnKey}
+use Rattle.raw_tree.specs.validator.Validating.{AddsKey, AddsListed, AreAscending, AreKeysSoFar, HasKeys, IsBehind, IsBehindLast}
 use Rattle.raw_tree.specs.declared.validator.breach.Cause.{Cause}
 use Rattle.raw_tree.specs.declared.validator.breach.Cause.TheVariants as cause
+use Rattle.raw_tree.specs.declared.validator.keys.Keys.{Keys}
 use Rattle.raw_tree.specs.declared.validator.keys.Keys.TheVariants as keys
+use Rattle.raw_tree.proofs.validator.References.{texts_behind, texts_front, texts_push, texts_more, each_more}
+
+-- a test that fails
+pub differs : {P : Type 0} {test : Bool} → (P → test ≡ true) → test ≡ false → ¬ P
+differs e f holds = true≢false (sym (e holds) ∙ f)
 
 -- a test for a key finds it alone
 same_key : (x y : List ℕ) → bytes_eq x y ≡ true → x ≡ y
@@ -88,96 +92,6 @@ document_key keys key h new = IsDistinct-push nat_list_eq_equiv keys key h (none
 pub array_key : (keys : List (List ℕ)) (key : List ℕ) → AreDecimalsFrom 0 keys → key ≡ decimal (length keys) → AreDecimalsFrom 0 (keys ++ key ∷ [])
 array_key keys key h e = decimals_more 0 keys key h (e ∙ ap decimal (omega arith))
 
--- the texts of references
-pub texts_found : (refs : List (Bor (List ℕ))) (key : List ℕ) → list_any (λ k. bytes_eq k.now key) refs ≡ list_any (bytes_eq key) (texts refs)
-texts_found [] key = refl
-texts_found (k ∷ refs) key = rw (nat_list_eq_equiv.symm key k.now, texts_found refs key) refl
-
-pub texts_behind : (refs : List (Bor (List ℕ))) (below own : List (List ℕ)) (first : ℕ) → first ≡ length below → texts refs ≡ below ++ own → texts (drop first refs) ≡ own
-texts_behind refs below own first f e =
-    sym (drop-map (λ (k : Bor (List ℕ)). k.now) first refs) ∙ ap (λ (xs : List (List ℕ)). drop first xs) e ∙ ap (λ (n : ℕ). drop n (below ++ own)) f ∙ drop-append_seam below own
-
-pub texts_front : (refs : List (Bor (List ℕ))) (below own : List (List ℕ)) (first : ℕ) → first ≡ length below → texts refs ≡ below ++ own → texts (take first refs) ≡ below
-texts_front refs below own first f e =
-    sym (take-map (λ (k : Bor (List ℕ)). k.now) first refs) ∙ ap (λ (xs : List (List ℕ)). take first xs) e ∙ ap (λ (n : ℕ). take n (below ++ own)) f ∙ take-append_seam below own
-
--- where keys are distinct, one of them that is inserted behind those before it is new
-pub inserted_last : (before after rest : List (List ℕ)) (key : List ℕ) (new : Bool) → IsDistinct bytes_eq (before ++ key ∷ rest) → InsertsKey before key new after → after ≡ before ++ key ∷ []
-inserted_last before after rest key true h i = i.1
-inserted_last before after rest key false h i =
-    let front : IsDistinct bytes_eq (before ++ key ∷ []) = distinct_front (before ++ key ∷ []) rest (rw append_assoc h) in
-    absurd (not_found before key (distinct_apart before key front) i.0)
-
--- so each of distinct references is put last in turn
-pub each_inserted : (refs : List (Bor (List ℕ))) (i : ℕ) (d : Bor (List ℕ)) (last : List ℕ) (before after : List (List ℕ)) (new : Bool) → i < length refs
-    → before ≡ texts (take i refs) → IsDistinct bytes_eq (texts refs ++ last ∷ []) → InsertsKey before (get_or refs i d).now new after
-    → after ≡ texts (take (i + 1) refs)
-each_inserted refs i d last before after new l e distinct put =
-    let k : Bor (List ℕ) = get_or refs i d in
-    let whole : refs ≡ take i refs ++ k ∷ drop (suc i) refs = sym (take-append-drop i refs) ∙ ap (λ (xs : List (Bor (List ℕ))). take i refs ++ xs) (drop-cons refs i d l) in
-    let behind : List (List ℕ) = texts (drop (suc i) refs) ++ last ∷ [] in
-    let cut : texts refs ++ last ∷ [] ≡ before ++ k.now ∷ behind =
-    ap (λ (xs : List (Bor (List ℕ))). texts xs ++ last ∷ []) whole
-    ∙ ap (λ (xs : List (List ℕ)). xs ++ last ∷ []) (map-append (λ (x : Bor (List ℕ)). x.now) (take i refs) (k ∷ drop (suc i) refs))
-    ∙ append_assoc (texts (take i refs)) (k.now ∷ texts (drop (suc i) refs)) (last ∷ []) ∙ ap (λ (xs : List (List ℕ)). xs ++ k.now ∷ behind) (sym e) in
-    inserted_last before after behind k.now new (subst (IsDistinct bytes_eq) cut distinct) put ∙ ap (λ (xs : List (List ℕ)). xs ++ k.now ∷ []) e
-    ∙ sym (map-append (λ (x : Bor (List ℕ)). x.now) (take i refs) (k ∷ [])) ∙ sym (ap texts (take_more refs i d l))
-
-pub all_inserted : (refs : List (Bor (List ℕ))) (i : ℕ) (last : List ℕ) (before after : List (List ℕ)) (new : Bool) → length refs ≤ i
-    → before ≡ texts (take i refs) → IsDistinct bytes_eq (texts refs ++ last ∷ []) → InsertsKey before last new after → after ≡ texts refs ++ last ∷ []
-all_inserted refs i last before after new l e distinct put =
-    let whole : before ≡ texts refs = e ∙ ap texts (take_all i refs l) in
-    inserted_last before after [] last new (rw whole distinct) put ∙ ap (λ (xs : List (List ℕ)). xs ++ last ∷ []) whole
-
--- the keys of a level in the list, and one more
-pub own_texts : (refs : List (Bor (List ℕ))) (below own : List (List ℕ)) (first : ℕ) → first ≡ length below → texts refs ≡ below ++ own → texts (take (length refs - first) (drop first refs)) ≡ own
-own_texts refs below own first f e = ap texts (take_all (length refs - first) (drop first refs) (omega (arith, length-drop first refs))) ∙ texts_behind refs below own first f e
-
-module _ (refs : List (Bor (List ℕ))) (sort : Sort) (below own : List (List ℕ)) (key : Bor (List ℕ)) (first notes : ℕ) (has : HasKeys (keys.Listed first notes) refs sort below own) where
-  pub listed_repeats : Contains own key.now → BreachesKeys sort own key.now cause.RepeatedKey
-  listed_repeats c = subst (λ (s : Sort). BreachesKeys s own key.now cause.RepeatedKey) (sym has.0) (c, refl)
-
-  pub listed_new : AreKeysCanonical sort own → ¬ Contains own key.now → IsDistinct bytes_eq (own ++ key.now ∷ [])
-  listed_new canonical new = document_key own key.now (subst (λ (s : Sort). AreKeysCanonical s own) has.0 canonical) new
-
-  pub keys_canonical : IsDistinct bytes_eq (own ++ key.now ∷ []) → AreKeysCanonical sort (own ++ key.now ∷ [])
-  keys_canonical distinct = subst (λ (s : Sort). AreKeysCanonical s (own ++ key.now ∷ [])) (sym has.0) distinct
-
-  pub listed_texts : texts (refs ++ key ∷ []) ≡ below ++ (own ++ key.now ∷ [])
-  listed_texts = map-append (λ (k : Bor (List ℕ)). k.now) refs (key ∷ []) ∙ ap (λ (xs : List (List ℕ)). xs ++ key.now ∷ []) has.2 ∙ append_assoc below own (key.now ∷ [])
-
-  pub listed_more : (after : ℕ) → ((n : ℕ) → HasNote notes n → HasNote after n) → HasNote after (note_of key.now)
-      → HasKeys (keys.Listed first after) (refs ++ key ∷ []) sort below (own ++ key.now ∷ [])
-  listed_more after kept here = (has.0, has.1, listed_texts, noted_more notes after own key.now has.3 kept here)
-
-  pub listed_moved : (set : Box (List (List ℕ)) Global) → set.value ≡ texts (take (length refs - first) (drop first refs)) ++ key.now ∷ []
-      → HasKeys (keys.Indexed set) (take first refs) sort below (own ++ key.now ∷ [])
-  listed_moved set e = (has.0, texts_front refs below own first has.1 has.2, e ∙ ap (λ (xs : List (List ℕ)). xs ++ key.now ∷ []) (own_texts refs below own first has.1 has.2))
-
--- the keys of an array, and one more
-pub numbers_more : (refs : List (Bor (List ℕ))) (sort : Sort) (below own : List (List ℕ)) (key : List ℕ) (number : ℕ) → HasKeys keys.Numbers refs sort below own
-    → AreKeysCanonical sort own → number ≡ length own → key ≡ decimal number → TellsOwnKey sort below own key keys.Numbers refs None
-numbers_more refs sort below own key number has canonical n e =
-    (has, subst (λ (s : Sort). AreKeysCanonical s (own ++ key ∷ [])) (sym has.0) (array_key own key (subst (λ (s : Sort). AreKeysCanonical s own) has.0 canonical) (e ∙ ap decimal n)))
-
-pub numbers_breach : (refs : List (Bor (List ℕ))) (sort : Sort) (below own : List (List ℕ)) (key : List ℕ) (number : ℕ)
-    → HasKeys keys.Numbers refs sort below own → number ≡ length own → key ≢ decimal number → BreachesKeys sort own key cause.ArrayKey
-numbers_breach refs sort below own key number has n e =
-    subst (λ (s : Sort). BreachesKeys s own key cause.ArrayKey) (sym has.0) (λ same. e (same ∙ ap decimal (sym n)), refl)
-
--- the keys of a level in a set, and one more
-pub indexed_more : (old new : Box (List (List ℕ)) Global) (refs : List (Bor (List ℕ))) (sort : Sort) (below own : List (List ℕ)) (key : List ℕ)
-    → HasKeys (keys.Indexed old) refs sort below own → AreKeysCanonical sort own → InsertsKey old.value key true new.value
-    → TellsOwnKey sort below own key (keys.Indexed new) refs None
-indexed_more old new refs sort below own key has canonical put =
-    let distinct = document_key own key (subst (λ (s : Sort). AreKeysCanonical s own) has.0 canonical) (subst (λ (xs : List (List ℕ)). ¬ Contains xs key) has.2 put.0) in
-    ((has.0, has.1, put.1 ∙ ap (λ (xs : List (List ℕ)). xs ++ key ∷ []) has.2), subst (λ (s : Sort). AreKeysCanonical s (own ++ key ∷ [])) (sym has.0) distinct)
-
-pub indexed_breach : (old new : Box (List (List ℕ)) Global) (refs : List (Bor (List ℕ))) (sort : Sort) (below own : List (List ℕ)) (key : List ℕ)
-    → HasKeys (keys.Indexed old) refs sort below own → InsertsKey old.value key false new.value → BreachesKeys sort own key cause.RepeatedKey
-indexed_breach old new refs sort below own key has put =
-    subst (λ (s : Sort). BreachesKeys s own key cause.RepeatedKey) (sym has.0) (subst (λ (xs : List (List ℕ)). Contains xs key) has.2 put.0, refl)
-
 -- keys that ascend
 
 behind_more : (a b c : List ℕ) → IsBehind a b → IsBehind b c → IsBehind a c
@@ -243,22 +157,99 @@ pub last_behind : (refs : List (Bor (List ℕ))) (last : Bor (List ℕ)) (key : 
     → IsBehind last.now key → IsBehindLast (texts refs) key
 last_behind refs last key some e b = last_behind_at refs (length refs - 1) last key (omega (arith, some)) e b
 
--- keys that ascend in the list, and one more behind them
-pub listed_of : (refs : List (Bor (List ℕ))) (sort : Sort) (below own : List (List ℕ)) (first notes : ℕ) → HasKeys (keys.Ascending first) refs sort below own
-    → AreNoted notes own → HasKeys (keys.Listed first notes) refs sort below own
-listed_of refs sort below own first notes has noted = (has.0, has.1, has.2, noted)
-
-pub ascending_kept : (refs : List (Bor (List ℕ))) (sort : Sort) (below own : List (List ℕ)) (key : Bor (List ℕ)) (first : ℕ)
-    → HasKeys (keys.Ascending first) refs sort below own → AreKeysCanonical sort own → IsBehindLast own key.now
-    → TellsOwnKey sort below own key.now (keys.Ascending first) (refs ++ key ∷ []) None
-ascending_kept refs sort below own key first has canonical behind =
-    let listed : texts (refs ++ key ∷ []) ≡ below ++ (own ++ key.now ∷ []) =
-    map-append (λ (k : Bor (List ℕ)). k.now) refs (key ∷ []) ∙ ap (λ (xs : List (List ℕ)). xs ++ key.now ∷ []) has.2
-    ∙ append_assoc below own (key.now ∷ []) in
-    let distinct = document_key own key.now (subst (λ (s : Sort). AreKeysCanonical s own) has.0 canonical) (not_found own key.now (ascending_test own key.now has.3 behind)) in
-    ((has.0, has.1, listed, ascending_more own key.now has.3 behind), subst (λ (s : Sort). AreKeysCanonical s (own ++ key.now ∷ [])) (sym has.0) distinct)
-
 pub less_from_test : (o : Ordering) → is_lt o ≡ true → o ≡ Less
 less_from_test Less e = refl
 less_from_test Equal e = absurd (true≢false (sym e))
 less_from_test Greater e = absurd (true≢false (sym e))
+
+-- where keys are distinct, the last of them that is inserted behind the others is new
+pub inserted_last : (before after : List (List ℕ)) (key : List ℕ) (new : Bool) → IsDistinct bytes_eq (before ++ key ∷ []) → InsertsKey before key new after → after ≡ before ++ key ∷ []
+inserted_last before after key true h i = i.1
+inserted_last before after key false h i = absurd (not_found before key (distinct_apart before key h) i.0)
+
+-- so each of distinct references is put last in turn
+pub each_inserted : (refs : List (Bor (List ℕ))) (i : ℕ) (d : Bor (List ℕ)) (last : List ℕ) (after : List (List ℕ)) (new : Bool) → i < length refs
+    → IsDistinct bytes_eq (texts refs ++ last ∷ []) → InsertsKey (texts (take i refs)) (get_or refs i d).now new after → after ≡ texts (take (i + 1) refs)
+each_inserted refs i d last after new l distinct put =
+    let behind : List (List ℕ) = texts (drop (i + 1) refs) in
+    let cut : texts refs ++ last ∷ [] ≡ texts (take (i + 1) refs) ++ (behind ++ last ∷ []) =
+    ap (λ (xs : List (Bor (List ℕ))). texts xs ++ last ∷ []) (sym (take-append-drop (i + 1) refs))
+    ∙ ap (λ (xs : List (List ℕ)). xs ++ last ∷ []) (map-append (λ (k : Bor (List ℕ)). k.now) (take (i + 1) refs) (drop (i + 1) refs))
+    ∙ append_assoc (texts (take (i + 1) refs)) behind (last ∷ []) in
+    let front = distinct_front (texts (take (i + 1) refs)) (behind ++ last ∷ []) (subst (IsDistinct bytes_eq) cut distinct) in
+    inserted_last (texts (take i refs)) after (get_or refs i d).now new (subst (IsDistinct bytes_eq) (texts_more refs i d l) front) put ∙ sym (texts_more refs i d l)
+
+-- one key more behind the keys of a level
+
+-- a new key keeps those of a document canonical
+document_more : {sort : Sort} (own : List (List ℕ)) (key : List ℕ) → sort ≡ as_document → AreKeysCanonical sort own → ¬ Contains own key → AreKeysCanonical sort (own ++ key ∷ [])
+document_more own key is canonical new = rw is (document_key own key (rw is at canonical) new)
+
+-- in the list, those of a level are from this place on
+abbrev pub own_in : ℕ → List (Bor (List ℕ)) → List (List ℕ)
+own_in first refs = texts (take (length refs - first) (drop first refs))
+
+own_texts : (refs : List (Bor (List ℕ))) (below own : List (List ℕ)) (first : ℕ) → first ≡ length below → texts refs ≡ below ++ own → own_in first refs ≡ own
+own_texts refs below own first f e = ap texts (take_all (length refs - first) (drop first refs) (omega (arith, length-drop first refs))) ∙ texts_behind refs below own first f e
+
+listed_texts : (refs : List (Bor (List ℕ))) (below own : List (List ℕ)) (key : Bor (List ℕ)) → texts refs ≡ below ++ own → texts (refs ++ key ∷ []) ≡ below ++ (own ++ key.now ∷ [])
+listed_texts refs below own key e = texts_push refs key refl ∙ ap (λ (xs : List (List ℕ)). xs ++ key.now ∷ []) e ∙ append_assoc below own (key.now ∷ [])
+
+module _ (first : ℕ) (refs : List (Bor (List ℕ))) where
+  pub noted_in : (notes : ℕ) (sort : Sort) (below own : List (List ℕ)) → HasKeys (keys.Listed first notes) refs sort below own → AreNoted notes (own_in first refs)
+  noted_in notes sort below own has = rw (own_texts refs below own first has.1 has.2) has.3
+
+  -- keys that ascend have these notes
+  pub listed_of : (notes : ℕ) → AreNoted notes (own_in first refs) → (sort : Sort) (below own : List (List ℕ)) → HasKeys (keys.Ascending first) refs sort below own
+      → HasKeys (keys.Listed first notes) refs sort below own
+  listed_of notes noted sort below own has = (has.0, has.1, has.2, rw (own_texts refs below own first has.1 has.2) at noted)
+
+  -- they ascend with the key
+  pub ascending_kept : (number : ℕ) (key : Bor (List ℕ)) → IsBehindLast (own_in first refs) key.now
+      → AddsKey (keys.Ascending first) refs number key.now (keys.Ascending first) (refs ++ key ∷ []) None
+  ascending_kept number key behind sort below own has canonical n =
+      let last : IsBehindLast own key.now = rw (own_texts refs below own first has.1 has.2) at behind in
+      let new = not_found own key.now (ascending_test own key.now has.3 last) in
+      ((has.0, has.1, listed_texts refs below own key has.2, ascending_more own key.now has.3 last), document_more own key.now has.0 canonical new)
+
+  -- the key is one of them
+  pub listed_repeats : (notes : ℕ) (key : List ℕ) (new : Keys) (after : List (Bor (List ℕ))) → Contains (own_in first refs) key
+      → AddsListed first notes refs key new after (Some cause.RepeatedKey)
+  listed_repeats notes key new after there sort below own has canonical = rw has.0 (rw (own_texts refs below own first has.1 has.2) at there, refl)
+
+  -- it is none of them: it is put behind them, or they move to a set
+  module _ (notes : ℕ) (key : Bor (List ℕ)) (new : ¬ Contains (own_in first refs) key.now) where
+    is_new : (sort : Sort) (below own : List (List ℕ)) → HasKeys (keys.Listed first notes) refs sort below own → ¬ Contains own key.now
+    is_new sort below own has = rw (own_texts refs below own first has.1 has.2) at new
+
+    pub listed_distinct : AreKeysSoFar (keys.Listed first notes) refs → IsDistinct bytes_eq (own_in first refs ++ key.now ∷ [])
+    listed_distinct (sort, below, own, has, canonical) =
+        rw (own_texts refs below own first has.1 has.2) (document_key own key.now (rw has.0 at canonical) (is_new sort below own has))
+
+    pub listed_more : (after : ℕ) → ((n : ℕ) → HasNote notes n → HasNote after n) → HasNote after (note_of key.now)
+        → AddsListed first notes refs key.now (keys.Listed first after) (refs ++ key ∷ []) None
+    listed_more after kept here sort below own has canonical =
+        ((has.0, has.1, listed_texts refs below own key has.2, each_more (λ k. HasNote notes (note_of k)) (λ k. HasNote after (note_of k)) own key.now has.3 (λ k. kept (note_of k)) here),
+        document_more own key.now has.0 canonical (is_new sort below own has))
+
+    pub listed_moved : (set : Box (List (List ℕ)) Global) → set.value ≡ own_in first refs ++ key.now ∷ []
+        → AddsListed first notes refs key.now (keys.Indexed set) (take first refs) None
+    listed_moved set e sort below own has canonical =
+        ((has.0, texts_front refs below own first has.1 has.2, e ∙ ap (λ (xs : List (List ℕ)). xs ++ key.now ∷ []) (own_texts refs below own first has.1 has.2)),
+        document_more own key.now has.0 canonical (is_new sort below own has))
+
+-- in an array, where the key is the decimal of its number, and where it isn't
+pub numbers_more : (refs : List (Bor (List ℕ))) (number : ℕ) (key : List ℕ) → key ≡ decimal number → AddsKey keys.Numbers refs number key keys.Numbers refs None
+numbers_more refs number key e sort below own has canonical n = (has, rw has.0 (array_key own key (rw has.0 at canonical) (e ∙ ap decimal n)))
+
+pub numbers_breach : (refs : List (Bor (List ℕ))) (number : ℕ) (key : List ℕ) → key ≢ decimal number → AddsKey keys.Numbers refs number key keys.Numbers refs (Some cause.ArrayKey)
+numbers_breach refs number key e sort below own has canonical n = rw has.0 ((λ same. e (same ∙ ap decimal (sym n))), refl)
+
+-- in a set, where the key is inserted, and where it was there
+module _ (old new : Box (List (List ℕ)) Global) (refs : List (Bor (List ℕ))) (number : ℕ) (key : List ℕ) where
+  pub indexed_more : InsertsKey old.value key true new.value → AddsKey (keys.Indexed old) refs number key (keys.Indexed new) refs None
+  indexed_more put sort below own has canonical n =
+      ((has.0, has.1, put.1 ∙ ap (λ (xs : List (List ℕ)). xs ++ key ∷ []) has.2), document_more own key has.0 canonical (rw has.2 at put.0))
+
+  pub indexed_breach : InsertsKey old.value key false new.value → AddsKey (keys.Indexed old) refs number key (keys.Indexed new) refs (Some cause.RepeatedKey)
+  indexed_breach put sort below own has canonical n = rw has.0 (rw has.2 at put.0, refl)

@@ -1,14 +1,13 @@
 -- Marks of keys in a table: what a free slot says, and that marks stay.
-use Rattle.std.proofs.Common.{zero, suc, inl, inr, nat_cmp, ◌≡◌, ◌≢◌, ◌<◌, ◌≤◌, ◌+◌, ◌++◌, ◌∷◌, [], ℕ, List, Bor, Some, length, take, get_or, arith, ap, refl, sym, subst, ◌∙◌, Bool, true, false}
+use Rattle.std.proofs.Common.{zero, suc, nat_cmp, ◌≡◌, ◌≢◌, ◌<◌, ◌≤◌, ◌++◌, ◌∷◌, [], ℕ, List, Some, length, arith, ap, refl, sym, ◌∙◌, Bool, true, false}
 use Rattle.std.proofs.Math.ListN.{set, length-set}
 use Rattle.std.proofs.lemmas.Cmp.{by_ranked, ranked}
-use Rattle.std.proofs.lemmas.List.{get_or-set_same, map-append, take_more, take_all}
-use Rattle.std.proofs.lemmas.List.Elements.{Contains-push_cases}
+use Rattle.std.proofs.lemmas.List.{get_or-set_same}
 use Rattle.std.proofs.lemmas.Option.{slice_get-get_or}
 use Rattle.std.specs.List.{slice_get}
 use Rattle.raw_tree.specs.validator.KeySets.{InsertsKey}
 use Rattle.raw_tree.specs.validator.Marks.{mark_of, AreMarked, AreTaken, IsMarkAt, IsMarked}
-use Rattle.raw_tree.specs.validator.References.{texts}
+use Rattle.raw_tree.proofs.validator.References.{each_more}
 use Rattle.raw_tree.specs.declared.validator.marks.Marks.{Marks}
 
 get_set_other : {X : Type 0} (xs : List X) (i j : ℕ) (y : X) → j ≢ i → slice_get (set xs i y) j ≡ slice_get xs j
@@ -50,35 +49,11 @@ marks_kept slots at mark start m some other within free h =
 pub mark_some : (hash : ℕ) → mark_of hash ≢ 0
 mark_some hash = omega arith
 
--- one key more
-pub marked_more : (old new : Marks) (keys : List (List ℕ)) (key : List ℕ) → AreMarked old keys → ((k : List ℕ) → IsMarked old k → IsMarked new k) → IsMarked new key → AreMarked new (keys ++ key ∷ [])
-marked_more old new keys key h kept here k c =
-    elim (Contains-push_cases keys key k c) [
-      | inl d ↦ kept k (h k d)
-      | inr e ↦ subst (IsMarked new) e here
-    ]
+-- keys that were marked stay so, with one more or not
+module _ (old new : Marks) (keys after : List (List ℕ)) (kept : (k : List ℕ) → IsMarked old k → IsMarked new k) (were : AreMarked old keys) where
+  pub marked_more : (key : List ℕ) → after ≡ keys ++ key ∷ [] → IsMarked new key → AreMarked new after
+  marked_more key more here = rw more (each_more (IsMarked old) (IsMarked new) keys key were kept here)
 
-pub texts_push : (refs : List (Bor (List ℕ))) (key : Bor (List ℕ)) → texts (refs ++ key ∷ []) ≡ texts refs ++ key.now ∷ []
-texts_push refs key = map-append (λ (k : Bor (List ℕ)). k.now) refs (key ∷ [])
-
-pub texts_more : (refs : List (Bor (List ℕ))) (i : ℕ) (d : Bor (List ℕ)) → i < length refs → texts (take (i + 1) refs) ≡ texts (take i refs) ++ (get_or refs i d).now ∷ []
-texts_more refs i d l = ap texts (take_more refs i d l) ∙ texts_push (take i refs) (get_or refs i d)
-
-pub texts_all : (refs : List (Bor (List ℕ))) (i : ℕ) → length refs ≤ i → texts (take i refs) ≡ texts refs
-texts_all refs i l = ap texts (take_all i refs l)
-
-pub marked_each : (refs : List (Bor (List ℕ))) (i : ℕ) (d : Bor (List ℕ)) (old new : Marks) → i < length refs → AreMarked old (texts (take i refs))
-    → ((k : List ℕ) → IsMarked old k → IsMarked new k) → IsMarked new (get_or refs i d).now → AreMarked new (texts (take (i + 1) refs))
-marked_each refs i d old new l h kept here = subst (AreMarked new) (sym (texts_more refs i d l)) (marked_more old new (texts (take i refs)) (get_or refs i d).now h kept here)
-
-pub marked_push : (refs after : List (Bor (List ℕ))) (key : Bor (List ℕ)) (marks : Marks) → after ≡ refs ++ key ∷ [] → AreMarked marks (texts refs ++ key.now ∷ []) → AreMarked marks (texts after)
-marked_push refs after key marks e h = subst (AreMarked marks) (sym (ap texts e ∙ texts_push refs key)) h
-
-pub marked_kept : (old new : Marks) (keys after : List (List ℕ)) → ((k : List ℕ) → IsMarked old k → IsMarked new k) → after ≡ keys → AreMarked old keys → AreMarked new after
-marked_kept old new keys after kept same h = subst (AreMarked new) (sym same) (λ k c. kept k (h k c))
-
--- a key that was there or was put last
-pub marked_inserted : (old new : Marks) (before after : List (List ℕ)) (key : List ℕ) (b : Bool) → AreMarked old before
-    → ((k : List ℕ) → IsMarked old k → IsMarked new k) → IsMarked new key → InsertsKey before key b after → AreMarked new after
-marked_inserted old new before after key true h kept here inserts = subst (AreMarked new) (sym inserts.1) (marked_more old new before key h kept here)
-marked_inserted old new before after key false h kept here inserts = subst (AreMarked new) (sym inserts.1) (λ k c. kept k (h k c))
+  pub marked_inserted : (key : List ℕ) (b : Bool) → InsertsKey keys key b after → IsMarked new key → AreMarked new after
+  marked_inserted key true inserts here = marked_more key inserts.1 here
+  marked_inserted key false inserts here = rw inserts.1 (λ k c. kept k (were k c))

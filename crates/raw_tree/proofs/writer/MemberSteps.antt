@@ -1,7 +1,7 @@
 -- The members of containers: that their trees are those of their members, and the steps of a call that goes through
 -- them.
 use Rattle.std.proofs.Common.{◌≡◌, ◌↔◌, ◌≤◌, ◌<◌, ℕ, zero, suc, ◌+◌, List, [], ◌∷◌, length, map, drop, None, Some, slice_get, get_or, refl, ap, sym, ◌∙◌, arith, drop_of_length-le}
-use Rattle.raw_tree.proofs.Common.{slice_get-get_or, NulFree, IsNulFree, nul_free_parts, InTrees, InEntries, Tree, Trees, Entries, no_tree, tree_then, no_entry, entry_then, trees, entries}
+use Rattle.raw_tree.proofs.Common.{slice_get-get_or, IsNulFree, nul_free_parts, InTrees, InEntries, Tree, Trees, Entries, no_tree, tree_then, no_entry, entry_then, trees, entries}
 use Rattle.raw_tree.proofs.Common.{tree_of, with_trees, Bson, encoded_len, items_len, entries_len, MemberKey, text, number, numbered, keyed, members, members_len, opening_len, AreMembersFree}
 use Rattle.raw_tree.proofs.Common.{tree_of_container, Container}
 

@@ -11,7 +11,7 @@ use Rattle.raw_view.specs.Meaning as raw
 use Rattle.raw_view.specs.declared.error.Error.{Error}
 use Rattle.raw_view.specs.declared.error.ErrorKind.TheVariants as kind
 use Rattle.raw_view.specs.declared.error.Reason.TheVariants as reason
-use Rattle.raw_tree.specs.reader.Reading.{Sort, StandForEach, ReadsUpTo, Reads, Holds}
+use Rattle.raw_tree.specs.reader.Reading.{StandForEach, ReadsUpTo, Reads, Holds}
 use Rattle.raw_tree.specs.declared.reader.limits.Limits.{Limits}
 
 -- depths, where Nested says that of nested bytes

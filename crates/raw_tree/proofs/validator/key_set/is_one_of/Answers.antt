@@ -2,7 +2,8 @@ use Rattle.std.proofs.Common.{sym, ◌∙◌}
 use Rattle.std.proofs.lemmas.Cmp.{nat_list_eq_equiv}
 use Rattle.std.proofs.lemmas.Map.Views.{list_any-from_Contains}
 use Rattle.raw_tree.specs.validator.References.{texts}
-use Rattle.raw_tree.proofs.validator.LevelKeys.{Contains-found, texts_found}
+use Rattle.raw_tree.proofs.validator.LevelKeys.{Contains-found}
+use Rattle.raw_tree.proofs.validator.References.{texts_found}
 use Rattle.raw_tree.proofs.validator.key_set.is_one_of.Goals as goal
 
 pub returns : goal.returns

@@ -1,7 +1,7 @@
 use Rattle.std.proofs.Common.{take, sym, subst}
 use Rattle.raw_tree.specs.validator.KeySets.{HasSorted}
 use Rattle.raw_tree.specs.validator.References.{texts}
-use Rattle.raw_tree.proofs.validator.Marking.{texts_more}
+use Rattle.raw_tree.proofs.validator.References.{texts_more}
 use Rattle.raw_tree.proofs.validator.key_set.sorted_keys.Goals as goal
 
 pub loop-key-preserved : goal.loop-key-preserved

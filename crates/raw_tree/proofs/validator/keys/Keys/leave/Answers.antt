@@ -2,7 +2,7 @@ use Rattle.std.proofs.Common.{inl, inr, ap, subst, ◌∙◌}
 use Rattle.raw_tree.specs.validator.References.{texts}
 use Rattle.raw_tree.specs.validator.Validating.{HasKeys}
 use Rattle.raw_tree.specs.declared.validator.keys.Keys.{Keys}
-use Rattle.raw_tree.proofs.validator.LevelKeys.{texts_front}
+use Rattle.raw_tree.proofs.validator.References.{texts_front}
 use Rattle.raw_tree.proofs.validator.keys.Keys.leave.Goals as goal
 
 pub returns-in-Ascending : goal.returns-in-Ascending

@@ -1,0 +1,43 @@
+-- The texts of references, and what holds of each key.
+use Rattle.std.proofs.Common.{inl, inr, ◌<◌, ◌≤◌, ◌≡◌, ◌+◌, ◌++◌, ◌∷◌, [], ℕ, List, Bor, length, drop, take, get_or, ap, refl, sym, subst, ◌∙◌, bytes_eq}
+use Rattle.std.proofs.Math.Seq.{drop-append_seam, take-append_seam}
+use Rattle.std.proofs.lemmas.Cmp.{nat_list_eq_equiv}
+use Rattle.std.proofs.lemmas.List.{drop-map, map-append, take-map, take_more, take_all}
+use Rattle.std.proofs.lemmas.List.Elements.{Contains-push_cases}
+use Rattle.std.specs.List.{Contains, list_any}
+use Rattle.raw_tree.specs.validator.References.{texts}
+
+pub texts_found : (refs : List (Bor (List ℕ))) (key : List ℕ) → list_any (λ k. bytes_eq k.now key) refs ≡ list_any (bytes_eq key) (texts refs)
+texts_found [] key = refl
+texts_found (k ∷ refs) key = rw (nat_list_eq_equiv.symm key k.now, texts_found refs key) refl
+
+pub texts_behind : (refs : List (Bor (List ℕ))) (below own : List (List ℕ)) (first : ℕ) → first ≡ length below → texts refs ≡ below ++ own → texts (drop first refs) ≡ own
+texts_behind refs below own first f e =
+    sym (drop-map (λ (k : Bor (List ℕ)). k.now) first refs) ∙ ap (λ (xs : List (List ℕ)). drop first xs) e ∙ ap (λ (n : ℕ). drop n (below ++ own)) f ∙ drop-append_seam below own
+
+pub texts_front : (refs : List (Bor (List ℕ))) (below own : List (List ℕ)) (first : ℕ) → first ≡ length below → texts refs ≡ below ++ own → texts (take first refs) ≡ below
+texts_front refs below own first f e =
+    sym (take-map (λ (k : Bor (List ℕ)). k.now) first refs) ∙ ap (λ (xs : List (List ℕ)). take first xs) e ∙ ap (λ (n : ℕ). take n (below ++ own)) f ∙ take-append_seam below own
+
+pub texts_push : (refs : List (Bor (List ℕ))) (key : Bor (List ℕ)) {after : List (Bor (List ℕ))} → after ≡ refs ++ key ∷ [] → texts after ≡ texts refs ++ key.now ∷ []
+texts_push refs key e = ap texts e ∙ map-append (λ (k : Bor (List ℕ)). k.now) refs (key ∷ [])
+
+pub texts_more : (refs : List (Bor (List ℕ))) (i : ℕ) (d : Bor (List ℕ)) → i < length refs → texts (take (i + 1) refs) ≡ texts (take i refs) ++ (get_or refs i d).now ∷ []
+texts_more refs i d l = texts_push (take i refs) (get_or refs i d) (take_more refs i d l)
+
+pub texts_all : (refs : List (Bor (List ℕ))) (i : ℕ) → length refs ≤ i → texts (take i refs) ≡ texts refs
+texts_all refs i l = ap texts (take_all i refs l)
+
+-- what holds of each key, with one more
+pub each_more : (P Q : List ℕ → Type 0) (keys : List (List ℕ)) (key : List ℕ) → ((k : List ℕ) → Contains keys k → P k) → ((k : List ℕ) → P k → Q k) → Q key
+    → (k : List ℕ) → Contains (keys ++ key ∷ []) k → Q k
+each_more P Q keys key h kept here k c =
+    elim (Contains-push_cases keys key k c) [
+      | inl d ↦ kept k (h k d)
+      | inr e ↦ subst Q e here
+    ]
+
+-- and with the next of references
+pub each_next : (P Q : List ℕ → Type 0) (refs : List (Bor (List ℕ))) (i : ℕ) (d : Bor (List ℕ)) → i < length refs → ((k : List ℕ) → Contains (texts (take i refs)) k → P k)
+    → ((k : List ℕ) → P k → Q k) → Q (get_or refs i d).now → (k : List ℕ) → Contains (texts (take (i + 1) refs)) k → Q k
+each_next P Q refs i d l h kept here k c = each_more P Q (texts (take i refs)) (get_or refs i d).now h kept here k (rw (texts_more refs i d l) at c)
