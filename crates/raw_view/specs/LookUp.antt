@@ -38,22 +38,41 @@ found_at_end (Stopped fault key) = Some (faulty (record { fault = fault; key = k
 abbrev pub IsMeant : Frame → Option Meaning → Type 0
 IsMeant f answer = (m : Meaning) × Means f m × (answer ≡ Some m)
 
--- What a look-up by key finds in the document b.
-pub data LooksUp (b key : List ℕ) (answer : Option Meaning) : Type 0 where
-  -- what the first frame with the key means
-  of_key : (f : Frame) → FindsElement b key (found f) → IsMeant f answer → LooksUp b key answer
-  -- where no frame of the walk has the key, the stop, or nothing
-  of_no_key : (end : End) → FindsElement b key (missing end) → answer ≡ found_at_end end → LooksUp b key answer
+-- the answer is what the element means that is found; where there is none, the stop, or nothing
+abbrev pub MeansFound : FoundElement → Option Meaning → Type 0
+MeansFound (found f) answer = IsMeant f answer
+MeansFound (missing end) answer = answer ≡ found_at_end end
+
+-- What a look-up by key finds in the document b: what the first frame with the key means; else the stop; else nothing.
+pub record LooksUp (b key : List ℕ) (answer : Option Meaning) : Type 0 where
+  pub element : FoundElement
+  pub finds : FindsElement b key element
+  pub means : MeansFound element answer
+
+-- what is at a position of a walk: a frame; behind the last one, the end; past that, nothing
+pub data FoundItem : Type 0 where
+  at_frame : Frame → FoundItem
+  at_end : End → FoundItem
+  past_end : FoundItem
+
+-- what is at this position of the document b, counted from 0
+abbrev pub FindsItem : List ℕ → ℕ → FoundItem → Type 0
+FindsItem b index (at_frame f) = FindsElementAt b index (found f)
+FindsItem b index (at_end end) = (frames : List Frame) × IsWalk (drop 4 b) frames end × (length frames ≡ index)
+FindsItem b index past_end = (frames : List Frame) × (end : End) × IsWalk (drop 4 b) frames end × (length frames < index)
+
+-- the answer is what the frame means; at the end, the stop, or nothing; past it, nothing
+abbrev pub MeansItem : FoundItem → Option Meaning → Type 0
+MeansItem (at_frame f) answer = IsMeant f answer
+MeansItem (at_end end) answer = answer ≡ found_at_end end
+MeansItem past_end answer = answer ≡ None
 
 -- What a look-up by position finds in the document b: the item of that number, counted from 0, faults and the stop
 -- counted too; past the last item nothing.
-pub data IsAt (b : List ℕ) (index : ℕ) (answer : Option Meaning) : Type 0 where
-  -- what the frame of this number means
-  of_number : (f : Frame) → FindsElementAt b index (found f) → IsMeant f answer → IsAt b index answer
-  -- where the walk has so many frames, the stop, or nothing
-  of_end : (frames : List Frame) (end : End) → IsWalk (drop 4 b) frames end → length frames ≡ index → answer ≡ found_at_end end → IsAt b index answer
-  -- where it has fewer, nothing
-  past_end : (frames : List Frame) (end : End) → IsWalk (drop 4 b) frames end → length frames < index → answer ≡ None → IsAt b index answer
+pub record IsAt (b : List ℕ) (index : ℕ) (answer : Option Meaning) : Type 0 where
+  pub item : FoundItem
+  pub finds : FindsItem b index item
+  pub means : MeansItem item answer
 
 -- whether a key is in a document: a frame has it; or none has, and the walk ends so
 pub data KeyAnswer : Type 0 where

@@ -6,7 +6,7 @@ use Rattle.raw_view.specs.declared.error.Error.{Error}
 use Rattle.raw_view.specs.Frame.{Frame, Done, Stopped}
 use Rattle.raw_view.specs.Meaning.{Meaning, value, faulty, Means}
 use Rattle.raw_view.specs.Frame.ElementSteps.{StepsElement, HasRead, frame_of}
-use Rattle.raw_view.specs.LookUp.{HasNoKey, LooksUp, of_key, of_no_key, KeyAnswer, present, absent, FindsKey}
+use Rattle.raw_view.specs.LookUp.{HasNoKey, LooksUp, found, missing, KeyAnswer, present, absent, FindsKey}
 use Rattle.raw_view.specs.Errors.Answers.{TellsMeaning, TellsFound, TellsKey}
 use Rattle.raw_view.proofs.Frames.Loops.{HasRead-end, HasRead-stop}
 
@@ -18,18 +18,18 @@ HasNoKey-more key (g ∷ fs) f h n = (h.0, HasNoKey-more key fs f h.1 n)
 pub found_frame : (b key : List ℕ) (passed : List Frame) (old new : Option (List ℕ)) (e : RawElement) → HasRead (drop 4 b) passed old → HasNoKey key passed
     → StepsElement old (Some (Ok e)) new → (frame_of e).key ≡ key → (m : Meaning) → Means (frame_of e) m → LooksUp b key (Some m)
 found_frame b key passed None new e read none st k m means = absurd read
-found_frame b key passed (Some s) new e read none st k m means = of_key (frame_of e) (passed, s, st.0, read, none, st.1, k) (m, means, refl)
+found_frame b key passed (Some s) new e read none st k m means = record { element = found (frame_of e); finds = (passed, s, st.0, read, none, st.1, k); means = (m, means, refl) }
 
 -- at the stop
 pub found_stop : (b key : List ℕ) (passed : List Frame) (old new : Option (List ℕ)) (e : Error) → HasRead (drop 4 b) passed old → HasNoKey key passed
     → StepsElement old (Some (Err e)) new → (answer : Option Meaning) × LooksUp b key answer × TellsFound (Err e) answer
 found_stop b key passed old new e read none st =
     let w = HasRead-stop (drop 4 b) passed old new e read st in
-    (Some (faulty (record { fault = w.0; key = w.1 })), of_no_key (Stopped w.0 w.1) (passed, w.2, none) refl, w.3)
+    (Some (faulty (record { fault = w.0; key = w.1 })), record { element = missing (Stopped w.0 w.1); finds = (passed, w.2, none); means = refl }, w.3)
 
 -- at the final 0
 pub found_none : (b key : List ℕ) (passed : List Frame) (old new : Option (List ℕ)) → HasRead (drop 4 b) passed old → HasNoKey key passed → StepsElement old None new → LooksUp b key None
-found_none b key passed old new read none st = of_no_key Done (passed, HasRead-end (drop 4 b) passed old new read st, none) refl
+found_none b key passed old new read none st = record { element = missing Done; finds = (passed, HasRead-end (drop 4 b) passed old new read st, none); means = refl }
 
 -- a value or a fault that is meant is what is found
 pub found_value : (v : RawBsonRef) (m : Meaning) → TellsMeaning (Ok v) m → TellsFound (Ok (Some v)) (Some m)

@@ -10,7 +10,7 @@ use Rattle.raw_view.specs.Frame.{Frame, IsFrame, LeadsTo, IsWalk, Fault, IsStop,
 use Rattle.raw_view.specs.Meaning.{Meaning, Means, faulty, KeyedFault}
 use Rattle.raw_view.specs.Frame.ElementSteps.{frame_of}
 use Rattle.raw_view.specs.Frame.Front.{StepsFront, StopsWith, SaysFault, TellsBorrowed}
-use Rattle.raw_view.specs.LookUp.{IsAt, of_number, of_end, past_end}
+use Rattle.raw_view.specs.LookUp.{IsAt, at_frame, at_end, past_end}
 use Rattle.raw_view.proofs.Frames.Loops.{LeadsTo-walk}
 
 abbrev Step : Type 0
@@ -55,12 +55,12 @@ at_none : (b q : List ℕ) (index : ℕ) (fs : List Frame) → LeadsTo (drop 4 b
 at_none b q index fs l e h =
     let walk = LeadsTo-walk (drop 4 b) fs q Done l e in
     elim (le_cases (length fs) index h) [
-      | inl here ↦ of_end fs Done walk here refl
-      | inr past ↦ past_end fs Done walk past refl
+      | inl here ↦ record { item = at_end Done; finds = (fs, walk, here); means = refl }
+      | inr past ↦ record { item = past_end; finds = (fs, Done, walk, past); means = refl }
     ]
 
 none_from : (b : List ℕ) (xs : List Step) (t : Option (List ℕ)) (index : ℕ) (u : Option (List ℕ)) → Passed (drop 4 b) xs t → StepsFront t None u → length xs ≤ index → IsAt b index None
-none_from b xs None index u p st l = past_end p.0 p.1 p.2 (omega (arith, p.3)) refl
+none_from b xs None index u p st l = record { item = past_end; finds = (p.0, p.1, p.2, omega (arith, p.3)); means = refl }
 none_from b xs (Some q) index u p st l = at_none b q index p.0 p.1 st.0 (omega (arith, p.2))
 
 pub nth_none : (b : List ℕ) (index : ℕ) (u : Option (List ℕ)) → SkipsThenYields StepsFront (Some (drop 4 b)) index None u → IsAt b index None
@@ -69,7 +69,7 @@ nth_none b index u h = none_from b h.0 h.1.0 index u (passed_of (drop 4 b) h.0 h
 element_from : (b : List ℕ) (xs : List Step) (t : Option (List ℕ)) (index : ℕ) (e : RawElement) (u : Option (List ℕ)) → Passed (drop 4 b) xs t
     → StepsFront t (Some (Ok e)) u → length xs ≡ index → (m : Meaning) → Means (frame_of e) m → IsAt b index (Some m)
 element_from b xs None index e u p st l m means = let bad : ◌≡◌ {A = Option Step} (Some (Ok e)) None = st.0 in cc
-element_from b xs (Some q) index e u p st l m means = of_number (frame_of e) (p.0, q, st.0, p.1, sym p.2 ∙ l, st.1) (m, means, refl)
+element_from b xs (Some q) index e u p st l m means = record { item = at_frame (frame_of e); finds = (p.0, q, st.0, p.1, sym p.2 ∙ l, st.1); means = (m, means, refl) }
 
 -- the element of that number
 pub nth_element : (b : List ℕ) (index : ℕ) (e : RawElement) (u : Option (List ℕ)) → SkipsThenYields StepsFront (Some (drop 4 b)) index (Some (Ok e)) u → (m : Meaning)
@@ -83,7 +83,7 @@ stop_from b xs (Some q) index e u p st l =
     let said = stop_said e.kind (option_copied e.key) q st.0 in
     let end : End = Stopped said.0 (option_copied e.key) in
     let walk = LeadsTo-walk (drop 4 b) p.0 q end p.1 said.2 in
-    (record { fault = said.0; key = option_copied e.key }, record { says = said.1; key_is = refl }, of_end p.0 end walk (sym p.2 ∙ l) refl)
+    (record { fault = said.0; key = option_copied e.key }, record { says = said.1; key_is = refl }, record { item = at_end end; finds = (p.0, walk, sym p.2 ∙ l); means = refl })
 
 -- the stop, if it has that number
 pub nth_stop : (b : List ℕ) (index : ℕ) (e : BorrowedError) (u : Option (List ℕ)) → SkipsThenYields StepsFront (Some (drop 4 b)) index (Some (Err e)) u

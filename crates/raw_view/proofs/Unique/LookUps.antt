@@ -2,7 +2,7 @@
 use Rattle.std.proofs.Common.{refl, ◌≡◌, ◌≢◌, inl, inr, ℕ, List, [], ◌∷◌, ◌<◌, ◌≤◌, length, drop, ap, sym, ◌∙◌, subst, arith, Option, Some}
 use Rattle.raw_view.specs.Frame.{Frame, IsFrame, End, IsWalk, LeadsTo}
 use Rattle.raw_view.specs.Meaning.{Meaning, Means}
-use Rattle.raw_view.specs.LookUp.{found_at_end, HasNoKey, FoundElement, found, missing, FindsElement, FindsElementAt, IsMeant, LooksUp, of_key, of_no_key, IsAt, of_number, of_end, past_end, KeyAnswer, present, absent, FindsKey}
+use Rattle.raw_view.specs.LookUp.{found_at_end, HasNoKey, FoundElement, found, missing, FindsElement, FindsElementAt, IsMeant, MeansFound, LooksUp, FoundItem, at_frame, at_end, past_end, FindsItem, MeansItem, IsAt, KeyAnswer, present, absent, FindsKey}
 use Rattle.raw_view.specs.LookUp.ElementLookUp.{IsTheElement, IsTheElementAt}
 use Rattle.raw_view.specs.OneReading.{IsTheAnswer, IsTheKeyAnswer, IsTheAnswerAt}
 use Rattle.raw_view.proofs.Unique.Walks.{one_frame, one_walk, no_frame_at_end}
@@ -78,32 +78,41 @@ the_element_at b number x a = (a, λ other o. one_element_at b number other x o 
 
 -- what they mean
 
-meant_once : (f g : Frame) (a c : Option Meaning) → f ≡ g → IsMeant f a → IsMeant g c → a ≡ c
-meant_once f g a c same x y = x.2 ∙ ap Some (one_meaning f x.0 y.0 x.1 (subst (λ (h : Frame). Means h y.0) (sym same) y.1)) ∙ sym y.2
+meant_once : (f : Frame) (a c : Option Meaning) → IsMeant f a → IsMeant f c → a ≡ c
+meant_once f a c x y = x.2 ∙ ap Some (one_meaning f x.0 y.0 x.1 y.1) ∙ sym y.2
 
 -- by key
+means_once : (x : FoundElement) (a c : Option Meaning) → MeansFound x a → MeansFound x c → a ≡ c
+means_once (found f) a c m n = meant_once f a c m n
+means_once (missing end) a c m n = m ∙ sym n
+
 one_look_up : (b key : List ℕ) (a c : Option Meaning) → LooksUp b key a → LooksUp b key c → a ≡ c
-one_look_up b key a c (of_key f x m) (of_key g y n) = meant_once f g a c (one_with_key b key f g x y) m n
-one_look_up b key a c (of_key f x m) (of_no_key end y n) = absurd (no_such_frame (drop 4 b) key y.0 x.0 end x.1 x.2 f y.1 y.2 x.3 x.5 x.6)
-one_look_up b key a c (of_no_key end x m) (of_key g y n) = absurd (no_such_frame (drop 4 b) key x.0 y.0 end y.1 y.2 g x.1 x.2 y.3 y.5 y.6)
-one_look_up b key a c (of_no_key end x m) (of_no_key last y n) = m ∙ ap found_at_end (one_walk (drop 4 b) x.0 y.0 end last x.1 y.1).1 ∙ sym n
+one_look_up b key a c x y =
+    means_once x.element a c x.means (subst (λ (e : FoundElement). MeansFound e c) (sym (one_element b key x.element y.element x.finds y.finds)) y.means)
 
 pub the_answer : (b key : List ℕ) (answer : Option Meaning) → LooksUp b key answer → IsTheAnswer b key answer
 the_answer b key answer a = (a, λ other o. one_look_up b key other answer o a)
 
 -- by position
+one_item : (b : List ℕ) (index : ℕ) (x y : FoundItem) → FindsItem b index x → FindsItem b index y → x ≡ y
+one_item b index (at_frame f) (at_frame g) x y = ap at_frame (one_with_number b index f g x y)
+one_item b index (at_frame f) (at_end end) x y = absurd (omega (arith, fewer_before (drop 4 b) y.0 x.0 end x.1 x.2 f y.1 x.3 x.5, x.4, y.2))
+one_item b index (at_frame f) past_end x y = absurd (omega (arith, fewer_before (drop 4 b) y.0 x.0 y.1 x.1 x.2 f y.2 x.3 x.5, x.4, y.3))
+one_item b index (at_end end) (at_frame g) x y = absurd (omega (arith, fewer_before (drop 4 b) x.0 y.0 end y.1 y.2 g x.1 y.3 y.5, y.4, x.2))
+one_item b index (at_end end) (at_end last) x y = ap at_end (one_walk (drop 4 b) x.0 y.0 end last x.1 y.1).1
+one_item b index (at_end end) past_end x y = let same = ap length (one_walk (drop 4 b) x.0 y.0 end y.1 x.1 y.2).0 in absurd (omega (arith, same, x.2, y.3))
+one_item b index past_end (at_frame g) x y = absurd (omega (arith, fewer_before (drop 4 b) x.0 y.0 x.1 y.1 y.2 g x.2 y.3 y.5, y.4, x.3))
+one_item b index past_end (at_end end) x y = let same = ap length (one_walk (drop 4 b) x.0 y.0 x.1 end x.2 y.1).0 in absurd (omega (arith, same, x.3, y.2))
+one_item b index past_end past_end x y = refl
+
+item_means_once : (x : FoundItem) (a c : Option Meaning) → MeansItem x a → MeansItem x c → a ≡ c
+item_means_once (at_frame f) a c m n = meant_once f a c m n
+item_means_once (at_end end) a c m n = m ∙ sym n
+item_means_once past_end a c m n = m ∙ sym n
+
 one_at : (b : List ℕ) (index : ℕ) (a c : Option Meaning) → IsAt b index a → IsAt b index c → a ≡ c
-one_at b index a c (of_number f x m) (of_number g y n) = meant_once f g a c (one_with_number b index f g x y) m n
-one_at b index a c (of_number f x m) (of_end gs last w l n) = absurd (omega (arith, fewer_before (drop 4 b) gs x.0 last x.1 x.2 f w x.3 x.5, x.4, l))
-one_at b index a c (of_number f x m) (past_end gs last w l n) = absurd (omega (arith, fewer_before (drop 4 b) gs x.0 last x.1 x.2 f w x.3 x.5, x.4, l))
-one_at b index a c (of_end fs end w l m) (of_number g y n) = absurd (omega (arith, fewer_before (drop 4 b) fs y.0 end y.1 y.2 g w y.3 y.5, y.4, l))
-one_at b index a c (of_end fs end w l m) (of_end gs last v k n) = m ∙ ap found_at_end (one_walk (drop 4 b) fs gs end last w v).1 ∙ sym n
-one_at b index a c (of_end fs end w l m) (past_end gs last v k n) =
-    let same = ap length (one_walk (drop 4 b) fs gs end last w v).0 in absurd (omega (arith, same, l, k))
-one_at b index a c (past_end fs end w l m) (of_number g y n) = absurd (omega (arith, fewer_before (drop 4 b) fs y.0 end y.1 y.2 g w y.3 y.5, y.4, l))
-one_at b index a c (past_end fs end w l m) (of_end gs last v k n) =
-    let same = ap length (one_walk (drop 4 b) fs gs end last w v).0 in absurd (omega (arith, same, l, k))
-one_at b index a c (past_end fs end w l m) (past_end gs last v k n) = m ∙ sym n
+one_at b index a c x y =
+    item_means_once x.item a c x.means (subst (λ (i : FoundItem). MeansItem i c) (sym (one_item b index x.item y.item x.finds y.finds)) y.means)
 
 pub the_answer_at : (b : List ℕ) (index : ℕ) (answer : Option Meaning) → IsAt b index answer → IsTheAnswerAt b index answer
 the_answer_at b index answer a = (a, λ other o. one_at b index other answer o a)
