@@ -7,11 +7,11 @@ use Rattle.raw_form.specs.Looking.{HoldsBytes}
 use Rattle.raw_view.specs.Document.{bytes_of}
 use Rattle.raw_view.specs.Frame.ElementSteps.{frame_of, HasRead}
 use Rattle.raw_view.specs.Frame.Envelope.{IsEnvelope, Refuses}
-use Rattle.raw_view.specs.Errors.{IsMalformed, TellsRefusal}
+use Rattle.raw_view.specs.Errors.{IsMalformed, SaysFault, TellsRefusal}
 use Rattle.raw_view.specs.declared.error.Error.{Error}
 use Rattle.raw_view.specs.declared.error.Reason.{Reason}
 use Rattle.raw_view.specs.Frame.{Frame, IsStop, Fault, Malformed, Utf8, Done, Stopped}
-use Rattle.raw_view.specs.Frame.Front.{StepsFront, StopsWith, SaysFault}
+use Rattle.raw_view.specs.Frame.Front.{StepsFront, StopsWith}
 use Rattle.raw_view.specs.Meaning.{RawValue}
 use Rattle.raw_view.specs.Meaning as raw
 use Rattle.raw_view.specs.declared.document.RawDocument.{RawDocument}

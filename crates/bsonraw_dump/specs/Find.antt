@@ -3,8 +3,7 @@ use Rattle.std.specs.Prelude.{◌≡◌, ◌⊎◌, ℕ, List, [], Option, None,
 use Rattle.std.specs.Option.{option_copied, option_map}
 use Rattle.bson_model.specs.Tree.{Tree}
 use Rattle.raw_view.specs.Frame.Envelope.{IsEnvelope, Refuses}
-use Rattle.raw_view.specs.Errors.{IsReadingKind}
-use Rattle.raw_view.specs.Frame.Front.{SaysFault}
+use Rattle.raw_view.specs.Errors.{IsReadingKind, SaysFault}
 use Rattle.raw_view.specs.declared.error.ErrorKind.{ErrorKind}
 use Rattle.raw_view.specs.declared.error.ErrorKind.TheVariants as kind
 use Rattle.raw_view.specs.declared.error.Reason.{Reason}

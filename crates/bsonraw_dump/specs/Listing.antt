@@ -6,9 +6,8 @@ use Rattle.std.specs.Option.{option_copied}
 use Rattle.json.specs.Print.{quoted}
 use Rattle.raw_form.specs.Looking.{HoldsBytes}
 use Rattle.raw_view.specs.Frame.Envelope.{IsEnvelope, Refuses}
-use Rattle.raw_view.specs.Errors.{IsReadingKind}
+use Rattle.raw_view.specs.Errors.{IsReadingKind, SaysFault}
 use Rattle.raw_view.specs.Frame.{Frame, IsWalk, Fault, End, Done, Stopped}
-use Rattle.raw_view.specs.Frame.Front.{SaysFault}
 use Rattle.raw_view.specs.Frame.Kind.{kind_text}
 use Rattle.raw_view.specs.Meaning.{RawValue, KeyedFault, Means, value, faulty}
 use Rattle.raw_view.specs.Meaning as raw

@@ -3,7 +3,8 @@ use Rattle.std.proofs.Common.{◌≡◌, List, ℕ, Option, None, Some, Ok, Err,
 use Rattle.std.specs.Option.{option_copied}
 use Rattle.raw_view.specs.Frame.ElementSteps.{frame_of}
 use Rattle.raw_view.specs.Frame.{Malformed, Utf8, IsStop}
-use Rattle.raw_view.specs.Frame.Front.{StepsFront, StopsWith, SaysFault}
+use Rattle.raw_view.specs.Errors.{SaysFault}
+use Rattle.raw_view.specs.Frame.Front.{StepsFront, StopsWith}
 use Rattle.raw_view.specs.Meaning.{RawValue, KeyedFault, Means, value, faulty}
 use Rattle.raw_view.specs.Meaning as raw
 use Rattle.raw_view.specs.declared.document.RawDocument.{RawDocument}

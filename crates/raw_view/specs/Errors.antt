@@ -54,24 +54,27 @@ IsReadingReason r = (r ≢ reason.InteriorNul) × (r ≢ reason.TooLong) × (r �
 abbrev pub IsReadingKind : ErrorKind → Type 0
 IsReadingKind k = (r : Reason) → k ≡ kind.MalformedValue r → IsReadingReason r
 
--- an error of this kind that carries this key says the fault with its key. For a fault that has a key,
--- it may say instead, without a key, that memory ran out. No reading fault has a reason of writing or of limits.
-abbrev pub Tells : ErrorKind → Option (List ℕ) → Fault → Option (List ℕ) → Type 0
-Tells (kind.MalformedValue r) carried fault key = (fault ≡ Malformed) × (carried ≡ key) × IsReadingReason r
-Tells (kind.Utf8EncodingError _) carried fault key = (fault ≡ Utf8) × (carried ≡ key)
-Tells kind.OutOfMemory carried fault None = ⊥
-Tells kind.OutOfMemory carried fault (Some _) = carried ≡ None
-
--- so does this error
-abbrev pub TellsFault : Error → Fault → Option (List ℕ) → Type 0
-TellsFault e fault key = Tells e.kind (key_of e) fault key
+-- the fault that an error of this kind says
+abbrev pub SaysFault : ErrorKind → Fault → Type 0
+SaysFault (kind.MalformedValue _) fault = fault ≡ Malformed
+SaysFault (kind.Utf8EncodingError _) fault = fault ≡ Utf8
+SaysFault kind.OutOfMemory fault = ⊥
 
 -- no memory was left; the error has no key
 pub record IsOutOfMemory (e : Error) : Type 0 where
   pub kind_is : e.kind ≡ kind.OutOfMemory
   pub no_key : key_of e ≡ None
 
--- the error has this kind and a copy of this key; or memory ran out for the copy
+-- The error has a kind of which P holds, and a copy of the key. Where there is a key, memory may have run out
+-- for the copy: then the error is out of memory, and has no key.
+abbrev pub CarriesKey : (ErrorKind → Type 0) → Option (List ℕ) → Error → Type 0
+CarriesKey P None e = P e.kind × (key_of e ≡ None)
+CarriesKey P (Some key) e = (P e.kind × (key_of e ≡ Some key)) ⊎ IsOutOfMemory e
+
+-- so of this one kind
 abbrev pub HasKeyCopy : ErrorKind → Option (List ℕ) → Error → Type 0
-HasKeyCopy what None e = (e.kind ≡ what) × (key_of e ≡ None)
-HasKeyCopy what (Some key) e = ((e.kind ≡ what) × (key_of e ≡ Some key)) ⊎ IsOutOfMemory e
+HasKeyCopy what key e = CarriesKey (λ k. k ≡ what) key e
+
+-- so of a kind that says the fault; no reading fault has a reason of writing or of limits
+abbrev pub TellsFault : Error → Fault → Option (List ℕ) → Type 0
+TellsFault e fault key = CarriesKey (λ k. SaysFault k fault × IsReadingKind k) key e

@@ -58,8 +58,7 @@ impl ValueAccessError {
 
     /// With a copy of the key; where it finds no memory, the error says that and has the empty key.
     pub(crate) fn new(alloc: Global, kind: ValueAccessErrorKind, key: &str) -> ValueAccessError
-        ensures kind { (result.kind ≡ kind) ⊎ (result.kind ≡ access.OutOfMemory) }
-        ensures key { HasKeyAsked result.kind key.now (key_asked result) }
+        ensures { HasKeyAsked kind key.now result }
     {
         if matches!(kind, ValueAccessErrorKind::OutOfMemory) {
             return ValueAccessError::out_of_memory(alloc);
@@ -76,8 +75,7 @@ impl ValueAccessError {
         kind: ValueAccessErrorKind,
         index: usize,
     ) -> ValueAccessError
-        ensures kind { (result.kind ≡ kind) ⊎ (result.kind ≡ access.OutOfMemory) }
-        ensures key { HasKeyAsked result.kind (decimal index) (key_asked result) }
+        ensures { HasKeyAsked kind (decimal index) result }
     {
         if matches!(kind, ValueAccessErrorKind::OutOfMemory) {
             return ValueAccessError::out_of_memory(alloc);

@@ -10,29 +10,27 @@ use Rattle.std.specs.Option.{option_copied}
 use Rattle.raw_view.specs.declared.error.BorrowedError.{BorrowedError}
 use Rattle.raw_view.specs.Meaning.{KeyedFault}
 use Rattle.raw_view.specs.Errors.Answers.{Says}
-use Rattle.raw_view.specs.Frame.Front.{StopsWith, StepsFront, SaysFault, TellsBorrowed}
-use Rattle.raw_view.specs.Errors.{HasKeyCopy, IsReadingKind, Tells, TellsFault, key_of}
+use Rattle.raw_view.specs.Frame.Front.{StopsWith, StepsFront, TellsBorrowed}
+use Rattle.raw_view.specs.Errors.{SaysFault, CarriesKey, HasKeyCopy, IsReadingKind, TellsFault}
 use Rattle.raw_view.specs.Frame.ElementSteps.{StepsElement, frame_of, ListsWalk}
 use Rattle.raw_view.specs.Frame.Kind.{tag_of}
 
 pub front_and_rest : (s : List ℕ) (f : Frame) (r : List ℕ) → IsFrame s f r → s ≡ (tag_of f.kind ∷ (f.key ++ 0 ∷ f.payload)) ++ r
 front_and_rest s f r b = b.spelled ∙ ap (λ x. tag_of f.kind ∷ x) (sym (append_assoc f.key (0 ∷ f.payload) r))
 
+-- what carries the key with a kind of which P holds does so with Q
+pub carries : (P Q : ErrorKind → Type 0) (key : Option (List ℕ)) (e : Error) → (P e.kind → Q e.kind) → CarriesKey P key e → CarriesKey Q key e
+carries P Q None e f h = (f h.0, h.1)
+carries P Q (Some key) e f h = elim h as (λ _. CarriesKey Q (Some key) e) [
+  | inl a ↦ inl (f a.0, a.1)
+  | inr a ↦ inr a
+]
+
 -- an error with a copy of its key says the fault
 pub told_kind : (k : ErrorKind) (key : Option (List ℕ)) (fault : Fault) (e : Error) → IsReadingKind k → SaysFault k fault → HasKeyCopy k key e → TellsFault e fault key
-told_kind (what.MalformedValue r) None fault e reading h is = subst (λ (x : ErrorKind). Tells x (key_of e) fault None) (sym is.0) (h, is.1, reading r refl)
-told_kind (what.MalformedValue r) (Some key) fault e reading h is =
-    elim is as (λ _. TellsFault e fault (Some key)) [
-      | inl a ↦ subst (λ (x : ErrorKind). Tells x (key_of e) fault (Some key)) (sym a.0) (h, a.1, reading r refl)
-      | inr a ↦ subst (λ (x : ErrorKind). Tells x (key_of e) fault (Some key)) (sym a.kind_is) a.no_key
-    ]
-told_kind (what.Utf8EncodingError u) None fault e reading h is = subst (λ (x : ErrorKind). Tells x (key_of e) fault None) (sym is.0) (h, is.1)
-told_kind (what.Utf8EncodingError u) (Some key) fault e reading h is =
-    elim is as (λ _. TellsFault e fault (Some key)) [
-      | inl a ↦ subst (λ (x : ErrorKind). Tells x (key_of e) fault (Some key)) (sym a.0) (h, a.1)
-      | inr a ↦ subst (λ (x : ErrorKind). Tells x (key_of e) fault (Some key)) (sym a.kind_is) a.no_key
-    ]
-told_kind what.OutOfMemory key fault e reading h is = absurd h
+told_kind k key fault e reading h is =
+    let says : ErrorKind → Type 0 = λ x. SaysFault x fault × IsReadingKind x in
+    carries (λ x. x ≡ k) says key e (λ same. subst says (sym same) (h, reading)) is
 
 pub told_fault : (b : BorrowedError) (fault : KeyedFault) (e : Error) → TellsBorrowed b fault → HasKeyCopy b.kind (option_copied b.key) e → Says e fault
 told_fault b fault e h is = told_kind b.kind fault.key fault.fault e b.reading h.says (subst (λ (x : Option (List ℕ)). HasKeyCopy b.kind x e) h.key_is is)

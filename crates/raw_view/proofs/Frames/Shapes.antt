@@ -18,9 +18,9 @@ use Rattle.bson_model.specs.Bytes.{NulFree}
 use Rattle.raw_view.specs.Frame.{HasText, IsString, IsBinary, IsDbPointer, HasPayload, Malformed}
 use Rattle.raw_view.specs.declared.error.ErrorKind.TheVariants as what
 use Rattle.raw_view.specs.declared.error.Reason.{Reason}
-use Rattle.raw_view.specs.Errors.{IsMalformed}
+use Rattle.raw_view.specs.Errors.{IsMalformed, SaysFault}
 use Rattle.raw_view.specs.Meaning.{SpellsNoText, IsCodeWithScope}
-use Rattle.raw_view.specs.Frame.Front.{IsTextFault, SaysFault}
+use Rattle.raw_view.specs.Frame.Front.{IsTextFault}
 use Rattle.raw_view.proofs.Frames.Payloads.{counted_whole, string_is, string_found, string_front, string_length, binary_found, pointer_found}
 use Rattle.raw_view.proofs.Bytes.Numbers.{le32_of, length_fits}
 use Rattle.raw_view.proofs.Bytes.Cuts.{cut}

@@ -9,7 +9,8 @@ use Rattle.raw_view.specs.declared.error.BorrowedError.{BorrowedError}
 use Rattle.raw_view.specs.Frame.{Frame, IsFrame, LeadsTo, IsWalk, Fault, IsStop, End, Done, Stopped, Malformed, Utf8}
 use Rattle.raw_view.specs.Meaning.{Meaning, Means, faulty, KeyedFault}
 use Rattle.raw_view.specs.Frame.ElementSteps.{frame_of}
-use Rattle.raw_view.specs.Frame.Front.{StepsFront, StopsWith, SaysFault, TellsBorrowed}
+use Rattle.raw_view.specs.Errors.{SaysFault}
+use Rattle.raw_view.specs.Frame.Front.{StepsFront, StopsWith, TellsBorrowed}
 use Rattle.raw_view.specs.LookUp.{IsAt, at_frame, at_end, past_end}
 use Rattle.raw_view.proofs.Frames.Loops.{LeadsTo-walk}
 

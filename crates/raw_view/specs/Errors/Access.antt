@@ -33,24 +33,28 @@ IsNoValueOf kind None = Unit {0}
 IsNoValueOf kind (Some (value v)) = kind_of_raw v ≢ kind
 IsNoValueOf kind (Some (faulty fault)) = Unit {0}
 
--- Why a getter for this kind has no value for what was found: nothing was; another kind was; a fault was.
+-- Why a getter for this kind has no value for what was found: nothing was; another kind was; a fault was. Memory is left out.
 abbrev pub IsAccessFault : ElementType → Option Meaning → ValueAccessErrorKind → Type 0
 IsAccessFault expected found access.NotPresent = found ≡ None
-IsAccessFault expected found (access.UnexpectedType wanted actual) = (v : RawValue) × (found ≡ Some (value v)) × (wanted ≡ expected) × (actual ≡ kind_of_raw v) × (actual ≢ expected)
+IsAccessFault expected found (access.UnexpectedType wanted actual) = (v : RawValue) × (found ≡ Some (value v)) × (wanted ≡ expected) × (actual ≡ kind_of_raw v)
 IsAccessFault expected found (access.InvalidBson inner) = (fault : KeyedFault) × (found ≡ Some (faulty fault)) × SaysInner inner fault
-IsAccessFault expected found access.OutOfMemory = IsNoValueOf expected found
+IsAccessFault expected found access.OutOfMemory = ⊥
 
--- the error has this kind, and the key asked for; where memory ran out, the empty key
-abbrev pub HasKeyAsked : ValueAccessErrorKind → List ℕ → List ℕ → Type 0
-HasKeyAsked access.OutOfMemory key carried = carried ≡ []
-HasKeyAsked _ key carried = carried ≡ key
+-- The error has a kind of which P holds, and a copy of the key asked for. Memory may have run out: then the error
+-- is out of memory, and has the empty key.
+abbrev pub CarriesKeyAsked : (ValueAccessErrorKind → Type 0) → List ℕ → ValueAccessError → Type 0
+CarriesKeyAsked P key e = (P e.kind × (key_asked e ≡ key)) ⊎ ((e.kind ≡ access.OutOfMemory) × (key_asked e ≡ []))
+
+-- so of this one kind, where it isn't out of memory
+abbrev pub HasKeyAsked : ValueAccessErrorKind → List ℕ → ValueAccessError → Type 0
+HasKeyAsked kind key e = CarriesKeyAsked (λ k. (k ≡ kind) × (k ≢ access.OutOfMemory)) key e
 
 -- What a getter returns that was asked for a key: the value if one of its kind was found, else why not.
 -- T is the getter's type, and value_as the value that one of it views.
 module _ {T : Type 0} where
   abbrev pub Gets : (T → RawValue) → ElementType → List ℕ → Option Meaning → Result T ValueAccessError → Type 0
   Gets value_as expected key found (Ok x) = found ≡ Some (value (value_as x))
-  Gets value_as expected key found (Err e) = IsAccessFault expected found e.kind × HasKeyAsked e.kind key (key_asked e)
+  Gets value_as expected key found (Err e) = IsNoValueOf expected found × CarriesKeyAsked (IsAccessFault expected found) key e
 
   -- what a getter returns that looks up a key in the document b
   abbrev pub GetsByKey : (T → RawValue) → ElementType → List ℕ → List ℕ → Result T ValueAccessError → Type 0
@@ -77,8 +81,7 @@ module _ {T : Type 0} where
   -- the same with the key, or out of memory for it
   abbrev pub Accesses : (T → RawValue) → ElementType → List ℕ → Result (Option RawBsonRef) Error → Result T ValueAccessError → Type 0
   Accesses value_as expected key answer (Ok x) = (v : RawBsonRef) × (answer ≡ Ok (Some v)) × (value_of v ≡ value_as x)
-  Accesses value_as expected key answer (Err e) = (kind : ValueAccessErrorKind) × IsTypedFault expected answer kind
-      × ((e.kind ≡ kind) ⊎ (e.kind ≡ access.OutOfMemory)) × HasKeyAsked e.kind key (key_asked e)
+  Accesses value_as expected key answer (Err e) = (kind : ValueAccessErrorKind) × IsTypedFault expected answer kind × HasKeyAsked kind key e
 
   -- What an accessor for this kind shows of the value v: v itself where it is of the kind, else nothing.
   abbrev pub Shows : (T → RawValue) → ElementType → RawValue → Option T → Type 0

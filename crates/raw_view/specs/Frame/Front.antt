@@ -6,9 +6,10 @@ use Rattle.std.specs.Option.{option_copied}
 use Rattle.raw_view.specs.declared.error.ErrorKind.{ErrorKind}
 use Rattle.raw_view.specs.declared.error.ErrorKind.TheVariants as kind
 use Rattle.bson_model.specs.Bytes.{NulFree}
-use Rattle.raw_view.specs.Frame.{IsFrame, Fault, Malformed, Utf8, IsStop, BeginsWithBadText, HasBadText}
+use Rattle.raw_view.specs.Frame.{IsFrame, Malformed, Utf8, IsStop, BeginsWithBadText, HasBadText}
 use Rattle.raw_view.specs.Frame.ElementSteps.{frame_of}
 use Rattle.raw_view.specs.Meaning.{KeyedFault}
+use Rattle.raw_view.specs.Errors.{SaysFault}
 
 -- where bytes are left, the last is 0
 abbrev pub EndsWithNul : List ℕ → Type 0
@@ -39,12 +40,6 @@ abbrev pub IsTextFault : List ℕ → ErrorKind → Type 0
 IsTextFault z (kind.MalformedValue _) = NulFree z
 IsTextFault z (kind.Utf8EncodingError _) = BeginsWithBadText z
 IsTextFault z kind.OutOfMemory = ⊥
-
--- the fault that an error of this kind says
-abbrev pub SaysFault : ErrorKind → Fault → Type 0
-SaysFault (kind.MalformedValue _) fault = fault ≡ Malformed
-SaysFault (kind.Utf8EncodingError _) fault = fault ≡ Utf8
-SaysFault kind.OutOfMemory fault = ⊥
 
 -- the error says the fault with its key
 pub record TellsBorrowed (e : BorrowedError) (fault : KeyedFault) : Type 0 where
