@@ -5,4 +5,5 @@ pub mod LevelKeys
 pub mod Marking
 pub mod Noting
 pub mod OneBreach
+pub mod Passed
 pub mod References

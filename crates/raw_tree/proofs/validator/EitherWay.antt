@@ -1,16 +1,15 @@
 -- Bytes with an envelope are canonical, or have a first breach.
-use Rattle.std.proofs.Common.{◌≡◌, ◌⊎◌, inl, inr, ◌≤◌, ◌+◌, ◌++◌, ◌∷◌, [], ℕ, zero, suc, Bool, true, false, List, length, decimal, drop, arith, refl, sym, subst, ◌∙◌, true≢false, length-drop, bytes_eq}
-use Rattle.raw_tree.proofs.Common.{map-append, bytes_decides, IsDistinct, list_any, AreBytes, Leaf, regular_expression, DoLeafOptionsAscend, IsEnvelope, Frame, IsFrame, IsWalk, End, Done, Stopped}
-use Rattle.raw_tree.proofs.Common.{LeadsTo, RawValue, Means, Meaning, value, faulty, keys_of_frames, BreachesKeys, BreachesMeaning, BreachesFront, HasBreachUpTo, HasBreachAs, AreDecimalsFrom}
-use Rattle.raw_tree.proofs.Common.{AreKeysCanonical, IsValueCanonical, AreFramesCanonical, IsCanonicalAs, Sort, as_document, as_array, Holds, Cause}
+use Rattle.std.proofs.Common.{◌≡◌, ◌⊎◌, inl, inr, ◌≤◌, ◌+◌, ◌++◌, ◌∷◌, [], ℕ, zero, suc, Bool, true, false, List, length, decimal, drop, arith, refl, sym, ◌∙◌, true≢false, length-drop, bytes_eq}
+use Rattle.raw_tree.proofs.Common.{bytes_decides, IsDistinct, list_any, AreBytes, Leaf, regular_expression, DoLeafOptionsAscend, IsEnvelope, Frame, IsFrame, IsWalk, End, Done, Stopped}
+use Rattle.raw_tree.proofs.Common.{HasPassed, RawValue, Means, Meaning, value, faulty, keys_of_frames, BreachesKeys, BreachesMeaning, BreachesFront, HasBreachUpTo, HasBreachAs, AreDecimalsFrom}
+use Rattle.raw_tree.proofs.Common.{AreKeysCanonical, IsValueCanonical, IsCanonicalAs, Sort, as_document, as_array, Holds, Cause}
 use Rattle.bson_model.proofs.Face.{AreBytes-drop, options_decided}
 use Rattle.raw_view.specs.Meaning as raw
-use Rattle.raw_view.proofs.Face.{LeadsTo-walk, LeadsTo-more, IsFrame-shorter, has_meaning, AreBytes-rest, document_has_walk}
+use Rattle.raw_view.proofs.Face.{IsFrame-shorter, has_meaning, AreBytes-rest, document_has_walk}
 use Rattle.raw_tree.specs.declared.validator.breach.Cause.TheVariants as cause
-use Rattle.raw_tree.proofs.validator.Judgement.{frames_more, no_keys}
+use Rattle.raw_tree.proofs.validator.Passed.{none_passed, one_passed, all_passed, breach_behind}
 use Rattle.raw_tree.proofs.validator.LevelKeys.{Contains-found, not_found, document_key, array_key}
 use Rattle.raw_tree.proofs.reader.Loops.{nested_envelope, nested_shorter}
-use Rattle.raw_tree.proofs.Returns.{canonical_of}
 
 -- bytes are canonical, or have a first breach
 abbrev IsEither : Sort → List ℕ → Type 0
@@ -54,13 +53,13 @@ value_decided (raw.scoped code d) nested = nested_decided as_document d (nested 
 abbrev AreEitherWithin : ℕ → Type 0
 AreEitherWithin n = (sort : Sort) (d : List ℕ) → length d ≤ n → IsEnvelope d → IsEither sort d
 
--- behind canonical frames a breach at the front is the first
-module _ (sort : Sort) (b : List ℕ) (passed : List Frame) (s : List ℕ) (lead : LeadsTo (drop 4 b) passed s)
-    (keys : AreKeysCanonical sort (keys_of_frames passed)) (each : AreFramesCanonical IsCanonicalAs passed) where
+-- behind canonical frames
+module _ {sort : Sort} {b : List ℕ} {passed : List Frame} {s : List ℕ} (has : HasPassed sort b passed s) where
+  -- a breach is the first
   breach_at : (n : ℕ) (inside : List ℕ) (why : Cause) → BreachesFront (HasBreachUpTo n) sort (keys_of_frames passed) s inside why → IsEither sort b
-  breach_at n inside why front = inr (length passed ∷ inside, why, (suc n, (passed, s, inside, lead, keys, each, front, refl)))
+  breach_at n inside why front = inr (length passed ∷ inside, why, breach_behind has n inside why front)
 
-  -- a frame there whose key is canonical has that breach, or its value is canonical, too
+  -- a frame whose key is canonical has that breach, or its value is canonical, too
   frame_decided : (n : ℕ) → AreEitherWithin n → length s ≤ n + 1 → (f : Frame) (r : List ℕ) → IsFrame s f r
       → AreKeysCanonical sort (keys_of_frames passed ++ f.key ∷ []) → (m : Meaning) → Means f m
       → IsEither sort b ⊎ ((v : RawValue) × Means f (value v) × IsValueCanonical IsCanonicalAs v)
@@ -72,25 +71,19 @@ module _ (sort : Sort) (b : List ℕ) (passed : List Frame) (s : List ℕ) (lead
       ]
 
 -- along a walk, behind frames that are canonical
-along : (n : ℕ) → AreEitherWithin n → (sort : Sort) (b : List ℕ) (passed : List Frame) (s : List ℕ) (frames : List Frame) (end : End)
-    → LeadsTo (drop 4 b) passed s → AreKeysCanonical sort (keys_of_frames passed) → AreFramesCanonical IsCanonicalAs passed
-    → AreBytes s → length s ≤ n + 1 → IsWalk s frames end → IsEither sort b
-along n shorter sort b passed s [] Done lead keys each bytes l w =
-    inl (canonical_of sort b passed (LeadsTo-walk (drop 4 b) passed s Done lead w) keys each)
-along n shorter sort b passed s [] (Stopped fault key) lead keys each bytes l w =
-    breach_at sort b passed s lead keys each 0 [] cause.Stop (inl (fault, key, w, refl, refl))
-along n shorter sort b passed s (f ∷ frames) end lead keys each bytes l w =
-    elim (key_decided sort (keys_of_frames passed) f.key keys) [
-      | inr bad ↦ breach_at sort b passed s lead keys each 0 [] bad.0 (inr (f, w.0, w.1, inl (bad.1, refl)))
+along : (n : ℕ) → AreEitherWithin n → {sort : Sort} {b : List ℕ} (passed : List Frame) (s : List ℕ) (frames : List Frame) (end : End)
+    → HasPassed sort b passed s → AreBytes s → length s ≤ n + 1 → IsWalk s frames end → IsEither sort b
+along n shorter passed s [] Done has bytes l w = inl (all_passed has w)
+along n shorter passed s [] (Stopped fault key) has bytes l w = breach_at has 0 [] cause.Stop (inl (fault, key, w, refl, refl))
+along n shorter {sort = sort} passed s (f ∷ frames) end has bytes l w =
+    elim (key_decided sort (keys_of_frames passed) f.key has.keys) [
+      | inr bad ↦ breach_at has 0 [] bad.0 (inr (f, w.0, w.1, inl (bad.1, refl)))
       | inl more ↦ (
           let m = has_meaning f w.0 s bytes w.1 in
-          elim (frame_decided sort b passed s lead keys each n shorter l f w.0 w.1 more m.0 m.1) [
+          elim (frame_decided has n shorter l f w.0 w.1 more m.0 m.1) [
             | inl done ↦ done
-            | inr v ↦ (
-                let on : LeadsTo (drop 4 b) (passed ++ f ∷ []) w.0 = LeadsTo-more (drop 4 b) passed s f w.0 lead w.1 in
-                let kept : AreKeysCanonical sort (keys_of_frames (passed ++ f ∷ [])) = subst (AreKeysCanonical sort) (sym (map-append (λ (x : Frame). x.key) passed (f ∷ []))) more in
-                along n shorter sort b (passed ++ f ∷ []) w.0 frames end on kept (frames_more passed f v.0 each v.1 v.2) (AreBytes-rest s f w.0 w.1 bytes)
-                (omega (arith, IsFrame-shorter s f w.0 w.1)) w.2)
+            | inr v ↦ along n shorter (passed ++ f ∷ []) w.0 frames end (one_passed has w.1 more v.0 v.1 v.2) (AreBytes-rest s f w.0 w.1 bytes)
+                (omega (arith, IsFrame-shorter s f w.0 w.1)) w.2
           ])
     ]
 
@@ -99,7 +92,7 @@ either_within zero sort b l env = absurd (omega (arith, env.enough))
 either_within (suc n) sort b l env =
     let w = document_has_walk b env in
     let size : length (drop 4 b) ≤ n + 1 = omega (arith, length-drop 4 b) in
-    along n (either_within n) sort b [] (drop 4 b) w.0 w.1 refl (no_keys sort) tt (AreBytes-drop 4 b env.bytes) size w.2
+    along n (either_within n) [] (drop 4 b) w.0 w.1 (none_passed sort b) (AreBytes-drop 4 b env.bytes) size w.2
 
 pub either_way : (sort : Sort) (b : List ℕ) → IsEnvelope b → IsCanonicalAs sort b ⊎ ((path : List ℕ) × (why : Cause) × HasBreachAs sort b path why)
 either_way sort b env = either_within (length b) sort b (omega arith) env

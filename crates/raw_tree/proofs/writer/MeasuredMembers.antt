@@ -1,22 +1,20 @@
 -- How a container is measured member by member: what is counted so far and what the members that are left take are the
 -- whole, and no 0 is in it where it may not be exactly where none is in those.
-use Rattle.std.proofs.Common.{◌≡◌, ◌<◌, ◌-◌, ◌^◌, ℕ, ◌+◌, List, [], ◌∷◌, ◌++◌, length, min, Option, Some, ap, length-append, arith}
-use Rattle.raw_tree.proofs.Common.{Leaf, IsNulFree, Tree, leaf, RawValue, single, encoded_len, Measures, MemberKey, key_bytes, members, members_len, opening_len, IsKeyFree, AreMembersFree, IsLeafOf}
+use Rattle.std.proofs.Common.{◌≡◌, ◌<◌, ◌-◌, ◌^◌, ℕ, ◌+◌, List, [], ◌∷◌, ◌++◌, length, min, sum_by, Option, Some, ap, length-append, arith}
+use Rattle.raw_tree.proofs.Common.{sum_by_push, Leaf, IsNulFree, Tree, leaf, RawValue, single, encoded_len, Measures, MemberKey, key_bytes, members, members_len, opening_len, IsKeyFree, AreMembersFree, IsLeafOf}
 use Rattle.raw_tree.proofs.Common.{members_left, tree_of_container, Container, Members}
 use Rattle.raw_tree.proofs.writer.MemberSteps.{container_len, members_free}
 
 -- what is left of those that wait
 abbrev pub len_waiting : List Members → ℕ
-len_waiting [] = 0
-len_waiting (w ∷ ws) = members_len (members_left w) + len_waiting ws
+len_waiting ws = sum_by (λ w. members_len (members_left w)) ws
 
 abbrev pub AreWaitingFree : List Members → Type 0
 AreWaitingFree [] = Unit {0}
 AreWaitingFree (w ∷ ws) = AreMembersFree (members_left w) × AreWaitingFree ws
 
-pub len_waiting-last : (ws : List Members) (w : Members) → len_waiting (ws ++ w ∷ []) ≡ len_waiting ws + members_len (members_left w)
-len_waiting-last [] w = omega arith
-len_waiting-last (x ∷ ws) w = omega (arith, len_waiting-last ws w)
+len_waiting-last : (ws : List Members) (w : Members) → len_waiting (ws ++ w ∷ []) ≡ len_waiting ws + members_len (members_left w)
+len_waiting-last ws w = sum_by_push (λ (x : Members). members_len (members_left x)) ws w
 
 waiting_free-more : (ws : List Members) (w : Members) → AreWaitingFree ws → AreMembersFree (members_left w) → AreWaitingFree (ws ++ w ∷ [])
 waiting_free-more [] w h free = (free, tt)
@@ -43,14 +41,14 @@ measuring_begins c total e fits = record {
   outward = λ waiting h. (members_free c).1 h;
 }
 
-module _ (t : Tree) (ws : List Members) (m : MemberKey × Tree) (old left : List (MemberKey × Tree)) (total : ℕ) (was : IsMeasuring t ws old total) (step : old ≡ m ∷ left) where
-  is : IsMeasuring t ws (m ∷ left) total
-  is = rw step at was
+-- as the code adds up what is counted, a key and a payload of this length
+abbrev pub added_up : ℕ → MemberKey → ℕ → ℕ
+added_up total key len = min (min (min (total + 2) (2 ^ 64 - 1) + length (key_bytes key)) (2 ^ 64 - 1) + len) (2 ^ 64 - 1)
 
+module _ {t : Tree} {ws : List Members} {m : MemberKey × Tree} {left : List (MemberKey × Tree)} {total : ℕ} (is : IsMeasuring t ws (m ∷ left) total) (key : IsKeyFree m.0) where
   -- a member is measured
-  pub measuring_member : (len after : ℕ) → IsKeyFree m.0 → Measures m.1 (Some len)
-      → after ≡ min (min (min (total + 2) (2 ^ 64 - 1) + length (key_bytes m.0)) (2 ^ 64 - 1) + len) (2 ^ 64 - 1) → IsMeasuring t ws left after
-  measuring_member len after key measured a =
+  pub measuring_member : (len after : ℕ) → Measures m.1 (Some len) → after ≡ added_up total m.0 len → IsMeasuring t ws left after
+  measuring_member len after measured a =
       let before = is.total_is in
       record {
         counted = is.counted + (2 + length (key_bytes m.0) + encoded_len m.1);
@@ -61,10 +59,9 @@ module _ (t : Tree) (ws : List Members) (m : MemberKey × Tree) (old left : List
       }
 
   -- its own members are measured first
-  pub measuring_inside : (w : Members) (c : Container) (len after : ℕ) → members_left w ≡ left → m.1 ≡ tree_of_container c → IsKeyFree m.0 → len ≡ opening_len (tree_of_container c) + 1
-      → after ≡ min (min (min (total + 2) (2 ^ 64 - 1) + length (key_bytes m.0)) (2 ^ 64 - 1) + len) (2 ^ 64 - 1)
-      → IsMeasuring t (ws ++ w ∷ []) (members (tree_of_container c)) after
-  measuring_inside w c len after l e key frame a =
+  pub measuring_inside : (w : Members) (c : Container) (len after : ℕ) → members_left w ≡ left → m.1 ≡ tree_of_container c → len ≡ opening_len (tree_of_container c) + 1
+      → after ≡ added_up total m.0 len → IsMeasuring t (ws ++ w ∷ []) (members (tree_of_container c)) after
+  measuring_inside w c len after l e frame a =
       let before = is.total_is in
       record {
         counted = is.counted + (2 + length (key_bytes m.0) + len);

@@ -73,21 +73,31 @@ LeavesKeys k before after = (sort : Sort) (below own : List (List ℕ)) → HasK
 
 -- levels
 
--- the bytes d of a level, as a document or as an array: it has passed frames whose keys and values are canonical
-pub record IsJudged (sort : Sort) (d : List ℕ) (below : List (List ℕ)) (listed : List (Bor (List ℕ))) (level : Judged) : Type 0 where
-  pub envelope : IsEnvelope d
+-- the bytes of a level, as a document or as an array, and the keys of the levels outside, which are below its own
+pub record LevelBytes : Type 0 where
+  pub sort : Sort
+  pub bytes : List ℕ
+  pub below : List (List ℕ)
+
+-- the bytes b lead past these frames, whose keys and values are canonical
+pub record HasPassed (sort : Sort) (b : List ℕ) (passed : List Frame) (rest : List ℕ) : Type 0 where
+  pub reaches : LeadsTo (drop 4 b) passed rest
+  pub keys : AreKeysCanonical sort (keys_of_frames passed)
+  pub values : AreFramesCanonical IsCanonicalAs passed
+
+-- the level has passed canonical frames of these bytes
+pub record IsJudged (d : LevelBytes) (listed : List (Bor (List ℕ))) (level : Judged) : Type 0 where
+  pub envelope : IsEnvelope d.bytes
   pub passed : List Frame
   pub rest : List ℕ
-  pub reaches : LeadsTo (drop 4 d) passed rest
+  pub has_passed : HasPassed d.sort d.bytes passed rest
   pub left : level.elements ≡ Some rest
   pub number : level.number ≡ length passed
-  pub keys : HasKeys level.keys listed sort below (keys_of_frames passed)
-  pub keys_canonical : AreKeysCanonical sort (keys_of_frames passed)
-  pub canonical : AreFramesCanonical IsCanonicalAs passed
+  pub keys : HasKeys level.keys listed d.sort d.below (keys_of_frames passed)
 
 -- some bytes are those of the level
 abbrev pub IsLevel : List (Bor (List ℕ)) → Judged → Type 0
-IsLevel listed level = (sort : Sort) × (d : List ℕ) × (below : List (List ℕ)) × IsJudged sort d below listed level
+IsLevel listed level = (d : LevelBytes) × IsJudged d listed level
 
 -- the value holds these bytes as a document, or as an array
 abbrev pub HoldsAs : RawValue → Sort → List ℕ → Type 0
@@ -97,22 +107,21 @@ HoldsAs (raw.array e) sort d = (sort ≡ as_array) × (d ≡ e)
 HoldsAs (raw.scoped code e) sort d = (sort ≡ as_document) × (d ≡ e)
 
 -- and it waits at the next frame, whose key is canonical, for the nested bytes of its value
-pub record IsAwaiting (sort : Sort) (d : List ℕ) (below : List (List ℕ)) (level : Judged) (inner : Sort) (nested : List ℕ) (listed : List (List ℕ)) : Type 0 where
-  pub envelope : IsEnvelope d
+pub record IsAwaiting (d : LevelBytes) (level : Judged) (inner : LevelBytes) : Type 0 where
+  pub envelope : IsEnvelope d.bytes
   pub passed : List Frame
   pub front : List ℕ
   pub frame : Frame
   pub rest : List ℕ
-  pub reaches : LeadsTo (drop 4 d) passed front
+  pub has_passed : HasPassed d.sort d.bytes passed front
   pub stands : IsFrame front frame rest
   pub left : level.elements ≡ Some rest
   pub number : level.number ≡ length passed
-  pub keys : (refs : List (Bor (List ℕ))) → texts refs ≡ listed → HasKeys level.keys refs sort below (keys_of_frames passed ++ frame.key ∷ [])
-  pub keys_canonical : AreKeysCanonical sort (keys_of_frames passed ++ frame.key ∷ [])
-  pub canonical : AreFramesCanonical IsCanonicalAs passed
+  pub keys : (refs : List (Bor (List ℕ))) → texts refs ≡ inner.below → HasKeys level.keys refs d.sort d.below (keys_of_frames passed ++ frame.key ∷ [])
+  pub keys_canonical : AreKeysCanonical d.sort (keys_of_frames passed ++ frame.key ∷ [])
   pub held : RawValue
   pub means : Means frame (value held)
-  pub holds : HoldsAs held inner nested
+  pub holds : HoldsAs held inner.sort inner.bytes
 
 -- nothing is judged of these bytes
 pub record IsUnjudged (sort : Sort) (d : List ℕ) (listed : List (Bor (List ℕ))) (level : Judged) : Type 0 where
@@ -130,17 +139,16 @@ JudgesValue v listed (step.Breach why) = BreachesMeaning HasBreachAs (value v) [
 
 -- what is next in a level: the bytes end, and are canonical; a frame is passed; a frame waits for its nested bytes;
 -- or there is the first breach
-abbrev pub TellsStep : Sort → List ℕ → List (List ℕ) → Judged → List (Bor (List ℕ)) → Step → Type 0
-TellsStep sort d below level listed step.End = IsCanonicalAs sort d × (own : List (List ℕ)) × HasKeys level.keys listed sort below own
-TellsStep sort d below level listed step.Whole = IsJudged sort d below listed level
-TellsStep sort d below level listed (step.Inside inner) =
-    (s : Sort) × (nested : List ℕ) × IsAwaiting sort d below level s nested (texts listed) × IsUnjudged s nested listed inner
-TellsStep sort d below level listed (step.Breach why) = HasBreachAs sort d (level.number ∷ []) why
+abbrev pub TellsStep : LevelBytes → Judged → List (Bor (List ℕ)) → Step → Type 0
+TellsStep d level listed step.End = IsCanonicalAs d.sort d.bytes × (own : List (List ℕ)) × HasKeys level.keys listed d.sort d.below own
+TellsStep d level listed step.Whole = IsJudged d listed level
+TellsStep d level listed (step.Inside inner) =
+    (nested : LevelBytes) × IsAwaiting d level nested × (nested.below ≡ texts listed) × IsUnjudged nested.sort nested.bytes listed inner
+TellsStep d level listed (step.Breach why) = HasBreachAs d.sort d.bytes (level.number ∷ []) why
 
 -- so it is for the bytes of the level, whichever they are
 abbrev pub Steps : Judged → List (Bor (List ℕ)) → Judged → List (Bor (List ℕ)) → Step → Type 0
-Steps old before new after answer =
-    (sort : Sort) (d : List ℕ) (below : List (List ℕ)) → IsJudged sort d below before old → TellsStep sort d below new after answer
+Steps old before new after answer = (d : LevelBytes) → IsJudged d before old → TellsStep d new after answer
 
 -- how many bytes are left
 abbrev pub left_of : Option (List ℕ) → ℕ
