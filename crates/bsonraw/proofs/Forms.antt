@@ -6,7 +6,7 @@ use Rattle.raw_bson.specs.Envelope.{IsEnvelope}
 use Rattle.raw_bson.specs.Error.{Error}
 use Rattle.raw_bson.specs.ErrorKind.{ErrorKind}
 use Rattle.raw_bson.specs.ErrorKind.TheVariants as kind
-use Rattle.raw_bson.specs.Errors.{Tells, TellsFault, IsReadingReason}
+use Rattle.raw_bson.specs.Errors.{TellsFault, IsReadingKind, IsReadingReason}
 use Rattle.raw_bson.specs.Frame.{Fault, Stopped}
 use Rattle.raw_bson.specs.Limits.{Limits}
 use Rattle.raw_bson.specs.Proper.{IsProper}
@@ -41,16 +41,24 @@ reading_text reason.TooManyBytes h = absurd (h.2 refl)
 reading_text reason.TooDeep h = absurd (h.3 refl)
 reading_text _ h = refl
 
-fault_text_of : (k : ErrorKind) (carried : Option (List ℕ)) (fault : Fault) (key : Option (List ℕ)) → Tells k carried fault key → limit_text k ≡ None
-fault_text_of (kind.MalformedValue r) carried fault key h = reading_text r h.2
-fault_text_of (kind.Utf8EncodingError x) carried fault key h = refl
-fault_text_of kind.OutOfMemory carried fault key h = refl
+reading_kind_text : (k : ErrorKind) → IsReadingKind k → limit_text k ≡ None
+reading_kind_text (kind.MalformedValue r) h = reading_text r (h r refl)
+reading_kind_text (kind.Utf8EncodingError x) h = refl
+reading_kind_text kind.OutOfMemory h = refl
+
+-- so does an error that says a fault
+fault_says_no_limit : (e : Error) (fault : Fault) (key : Option (List ℕ)) → TellsFault e fault key → limit_text e.kind ≡ None
+fault_says_no_limit e fault None h = reading_kind_text e.kind h.0.1
+fault_says_no_limit e fault (Some key) h = elim h as (λ _. limit_text e.kind ≡ None) [
+  | inl a ↦ reading_kind_text e.kind a.0.1
+  | inr a ↦ ap limit_text a.kind_is
+]
 
 -- an error that says a barrier has its line, where it has one of a limit
 limit_of_barrier : (e : Error) (x : Barrier) (line : List ℕ) → SaysBarrier e x → limit_text e.kind ≡ Some line → line ≡ barrier_line x
 limit_of_barrier e too_many_bytes line says is = let same : Some (codes "refused 6\n") ≡ Some line = sym (ap limit_text says.0) ∙ is in cc
 limit_of_barrier e too_deep line says is = let same : Some (codes "refused 7\n") ≡ Some line = sym (ap limit_text says.0) ∙ is in cc
-limit_of_barrier e (fault_of fault) line says is = absurd (none-some line (sym (fault_text_of e.kind _ fault.fault fault.key says) ∙ is))
+limit_of_barrier e (fault_of fault) line says is = absurd (none-some line (sym (fault_says_no_limit e fault.fault fault.key says) ∙ is))
 
 pub limit_form : (b : List ℕ) (e : Error) (line : List ℕ) → LacksForm b e → limit_text e.kind ≡ Some line → PrintsForm b 1 line
 limit_form b e line (inl (inl memory)) is = absurd (none-some line (sym (ap limit_text memory.1.kind_is) ∙ is))
