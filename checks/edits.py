@@ -22,8 +22,9 @@ What each edit came to:
 
 The first is well, the second is told, so that somebody mends the edit, and the others fail the run. Each verdict but bad is
 kept at once in ~/.cache/foyeranise, by a checksum of all that it rests on, and --anew ignores these. The proofs that edits
-are tried over go on from what `rt check` left in the crates' out/, but with --from-nothing. --applies proves nothing: it
-sees that each edit applies.
+are tried over go on from what `rt check` left in the crates' out/, but with --from-nothing. Two flags prove nothing, and
+look at the edits of must-fail/ too: --applies sees that each edit applies, and --compiles that each edited text compiles,
+many edits in a copy, over the libraries that `rt check` built.
 """
 
 import argparse
@@ -411,17 +412,42 @@ class Store:
         new.rename(self.place(edit))
 
 
-def edits_of(top, crates):
-    """Returns the crates' edits; one that can't be applied is settled."""
+def edits_of(top, crates, *folders):
+    """Returns the edits in these folders of the crates; one that can't be applied is settled."""
     found = []
     for crate in crates:
-        for path in sorted((top / "crates" / crate / "edits").glob("*.edit")):
+        for path in sorted(it for folder in folders for it in (top / "crates" / crate / folder).glob("*.edit")):
             edit = Edit.read(crate, path)
             texts = edit.applied(top / "crates" / crate, {})
             if texts is None:
                 edit.settle(BAD, "an old text isn't in its file once")
             found.append(edit)
     return found
+
+
+def compile_rounds(prover, crate, edits, folder):
+    """Settles each edit whose text doesn't compile: where a copy with many does, each of them does."""
+    while edits:
+        now, texts = round_of(edits, folder)
+        ran = prover.check_edited(crate, texts, "--only", "")
+        if ran.returncode and len(now) == 1:
+            lines = ran.stdout.splitlines()
+            now[0].settle(BAD, next((it for it in lines if "error" in it), lines[-1]))
+        elif ran.returncode:
+            for half in (now[: len(now) // 2], now[len(now) // 2 :]):
+                compile_rounds(prover, crate, half, folder)
+        edits = [it for it in edits if it not in now]
+
+
+def compile_all(top, edits, jobs):
+    prover = Prover(top, jobs, keep=None, from_nothing=False)
+    try:
+        for crate in dict.fromkeys(it.crate for it in edits):
+            own = [it for it in edits if it.crate == crate and not it.verdict]
+            compile_rounds(prover, crate, own, top / "crates" / crate)
+    finally:
+        shutil.rmtree(prover.room)
+    return prover.checks
 
 
 def try_all(top, edits, jobs, at_once, keep, from_nothing):
@@ -458,15 +484,20 @@ def main():
     words.add_argument("--anew", action="store_true", help="try each edit, whatever earlier runs kept")
     words.add_argument("--from-nothing", action="store_true", help="take nothing that rt check left in the crates' out/")
     words.add_argument("--applies", action="store_true", help="prove nothing, and see that each edit applies")
+    words.add_argument("--compiles", action="store_true", help="prove nothing, and see that each edited text compiles")
     words.add_argument("--jobs", type=int, default=1, help="what rt check is given (default: 1)")
     words.add_argument("--at-once", type=int, default=os.cpu_count(), help="crates whose edits are tried side by side")
     words.add_argument("--top", type=pathlib.Path, default=TOP, help=argparse.SUPPRESS)
     given = words.parse_args()
 
     begun = time.monotonic()
-    edits = edits_of(given.top, given.crates or libraries(given.top))
+    proves = not (given.applies or given.compiles)
+    folders = ("edits",) if proves else ("edits", "must-fail")
+    edits = edits_of(given.top, given.crates or libraries(given.top), *folders)
     checks = 0
-    if not given.applies:
+    if given.compiles:
+        checks = compile_all(given.top, edits, given.jobs)
+    if proves:
         store = Store(given.top, is_read=not given.anew)
         for edit in edits:
             if not edit.verdict:
@@ -478,7 +509,7 @@ def main():
     wrong = [it for it in edits if it.verdict in (NOT_REFUSED, BAD)]
     spent = resource.getrusage(resource.RUSAGE_CHILDREN)
     print(
-        f"edits: {len(edits) - len(wrong)} of {len(edits)} {'apply' if given.applies else 'are refused'}; {checks} checks,"
+        f"edits: {len(edits) - len(wrong)} of {len(edits)} {'are refused' if proves else 'compile' if given.compiles else 'apply'}; {checks} checks,"
         f" {time.monotonic() - begun:.0f} s, {(spent.ru_utime + spent.ru_stime) / 60:.1f} processor minutes"
     )
     return 1 if wrong else 0

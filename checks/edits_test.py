@@ -103,6 +103,19 @@ class Edits(unittest.TestCase):
         self.assertEqual(status, 1)
         self.assertIn("tiny/there_is_no_such_text: BAD: ", printed)
 
+    def test_each_edit_compiles(self):
+        (self.top / "crates/tiny/must-fail").mkdir()
+        (self.top / "crates/tiny/must-fail/the_type_is_wrong.edit").write_text(edit(("x as u16 + 1", "x + 1")))
+        status, printed = self.tried({
+            "next_is_wrong": edit(NEXT_IS_WRONG, functions="next"),
+            "after_next_is_wrong": edit(("next(x) + 1", "next(x) + 2"), functions="after_next"),
+            "it_is_no_rattle": edit(("next(x) + 1", "next(x) +"), functions="after_next"),
+        }, "--compiles")
+        self.assertEqual(status, 1)
+        for name in ("the_type_is_wrong", "it_is_no_rattle"):
+            self.assertIn(f"tiny/{name}: BAD: ", printed)
+        self.assertIn("edits: 2 of 4 compile", printed)
+
     def test_a_crate_that_is_not_proved_settles_nothing(self):
         (self.top / "crates/tiny/src/lib.rt").write_text(SOURCE.replace("x + 2 }", "x + 3 }"))
         status, printed = self.tried({"next_is_wrong": edit(NEXT_IS_WRONG, functions="next")})
