@@ -228,15 +228,17 @@ module _ (first : ℕ) (refs : List (Bor (List ℕ))) where
 
     pub listed_more : (after : ℕ) → ((n : ℕ) → HasNote notes n → HasNote after n) → HasNote after (note_of key.now)
         → AddsListed first notes refs key.now (keys.Listed first after) (refs ++ key ∷ []) None
-    listed_more after kept here sort below own has canonical =
-        ((has.0, has.1, listed_texts refs below own key has.2, each_more (λ k. HasNote notes (note_of k)) (λ k. HasNote after (note_of k)) own key.now has.3 (λ k. kept (note_of k)) here),
-        document_more own key.now has.0 canonical (is_new sort below own has))
+    listed_more after kept here sort below own has canonical = (
+      (has.0, has.1, listed_texts refs below own key has.2, each_more (λ k. HasNote notes (note_of k)) (λ k. HasNote after (note_of k)) own key.now has.3 (λ k. kept (note_of k)) here),
+      document_more own key.now has.0 canonical (is_new sort below own has),
+    )
 
     pub listed_moved : (set : Box (List (List ℕ)) Global) → set.value ≡ own_in first refs ++ key.now ∷ []
         → AddsListed first notes refs key.now (keys.Indexed set) (take first refs) None
-    listed_moved set e sort below own has canonical =
-        ((has.0, texts_front refs below own first has.1 has.2, e ∙ ap (λ (xs : List (List ℕ)). xs ++ key.now ∷ []) (own_texts refs below own first has.1 has.2)),
-        document_more own key.now has.0 canonical (is_new sort below own has))
+    listed_moved set e sort below own has canonical = (
+      (has.0, texts_front refs below own first has.1 has.2, e ∙ ap (λ (xs : List (List ℕ)). xs ++ key.now ∷ []) (own_texts refs below own first has.1 has.2)),
+      document_more own key.now has.0 canonical (is_new sort below own has),
+    )
 
 -- in an array, where the key is the decimal of its number, and where it isn't
 pub numbers_more : (refs : List (Bor (List ℕ))) (number : ℕ) (key : List ℕ) → key ≡ decimal number → AddsKey keys.Numbers refs number key keys.Numbers refs None

@@ -20,7 +20,8 @@ returns-else-is_behind c =
     let noted = rw c.deref-in-Ascending.ensures.value at c.notes_of-notes.ensures in
     let listed = listed_of c.in-Ascending.first c.args.listed.now.items c.notes_of-notes.result noted in
     record {
-      adds = rw c.in-Ascending.is (IfOk-weaker c.add_listed.result _ _ (λ answer adds sort below own has canonical n. adds sort below own (listed sort below own has) canonical) c.add_listed.ensures.adds);
+      adds = rw c.in-Ascending.is (IfOk-weaker c.add_listed.result _ _
+          (λ answer adds sort below own has canonical n. adds sort below own (listed sort below own has) canonical) c.add_listed.ensures.adds);
     }
 
 pub returns-then-is_decimal : goal.returns-then-is_decimal

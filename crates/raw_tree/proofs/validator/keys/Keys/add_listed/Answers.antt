@@ -8,7 +8,8 @@ is_among-requires-clause-noted c =
 
 pub returns-then-is_among : goal.returns-then-is_among
 returns-then-is_among c = record {
-  adds = listed_repeats c.args.first c.args.listed.now.items c.args.notes c.args.key.now c.args.self.now c.args.listed.now.items (rw c.deref.ensures.value at (c.is_among.ensures.0 c.if-is_among.true));
+  adds = listed_repeats c.args.first c.args.listed.now.items c.args.notes c.args.key.now c.args.self.now c.args.listed.now.items
+      (rw c.deref.ensures.value at (c.is_among.ensures.0 c.if-is_among.true));
 }
 
 pub returns-then-own-lt-MOST_LISTED : goal.returns-then-own-lt-MOST_LISTED
