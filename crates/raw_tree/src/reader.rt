@@ -171,7 +171,7 @@ pub fn bson_from_raw(alloc: Global, value: RawBsonRef<'_>) -> Result<Bson>
     ensures one_reading { IsValueReadOneWay (value_of value.entry) }
 {
     match open(alloc, value)? {
-        Opened::Whole(value) => Ok(value),
+        Opened::Whole(whole) => Ok(whole),
         Opened::Nested(nested) => close(alloc, read_all(alloc, nested, &mut Steps::new())?),
     }
 }

@@ -158,7 +158,7 @@ pub fn validate(alloc: Global, document: RawDocument<'_>) -> Result<Option<Breac
     let mut listed: Vec<&str> = Vec::new(alloc);
     let mut waiting: Vec<Judged<'_>> = Vec::new(alloc);
     let mut level = Judged::of_document(document, &listed);
-    loop {
+    'levels: loop {
         match level.step(alloc, &mut listed)? {
             Step::Whole => {}
             Step::Inside(inner) => {

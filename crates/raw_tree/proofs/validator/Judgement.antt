@@ -1,9 +1,9 @@
 -- The steps of the validator: a level passes a frame, waits at one, ends, or has the first breach; and its levels from
 -- the outermost inward.
-use Rattle.std.proofs.Common.{◌≡◌, ◌≢◌, inl, inr, ◌<◌, ◌+◌, ◌++◌, ◌∷◌, [], ℕ, List, Option, None, Some, Result, Ok, Err, length, drop, map, arith, refl, sym, ◌∙◌, subst, length-append, length-drop, sum_by, Bor}
+use Rattle.std.proofs.Common.{◌≡◌, ◌≢◌, inl, inr, ◌<◌, ◌+◌, ◌++◌, ◌∷◌, [], ℕ, List, Option, None, Some, Ok, Err, length, drop, map, arith, refl, sym, ◌∙◌, subst, length-append, length-drop, sum_by, Bor}
 use Rattle.raw_tree.proofs.Common.{length-map, frame_of, Frame, Fault, IsStop, StepsFront, StopsWith, RawValue, Meaning, Means, value, max_length, RawElement}
 use Rattle.raw_tree.proofs.Common.{BorrowedError, ErrorKind, keys_of_frames, BreachesFront, BreachesKeys, BreachesMeaning, HasBreachUpTo, HasBreachAs, AreKeysCanonical, IsValueCanonical}
-use Rattle.raw_tree.proofs.Common.{IsCanonicalAs, Sort, as_document, Holds, texts, HasKeys, HoldsAs, LeavesKeys, LevelBytes, IsJudged, IsUnjudged, IsAwaiting, JudgesValue, TellsStep, Steps, Shrinks, left_of}
+use Rattle.raw_tree.proofs.Common.{IsCanonicalAs, Sort, as_document, Holds, texts, HasKeys, HoldsAs, LeavesKeys, LevelBytes, IsJudged, IsUnjudged, IsAwaiting, JudgesValue, TellsStep, Shrinks, left_of}
 use Rattle.raw_tree.proofs.Common.{Cause, Keys, Judged, Step}
 use Rattle.raw_view.proofs.Face.{IsFrame-shorter}
 use Rattle.raw_tree.specs.declared.validator.breach.Cause.TheVariants as cause
@@ -39,24 +39,24 @@ module _ {d : LevelBytes} {before : List (Bor (List ℕ))} {level : Judged} (is 
   pub numbered : level.number ≡ length (keys_of_frames is.passed)
   numbered = is.number ∙ sym (length-map is.passed (λ (f : Frame). f.key))
 
-  next : (item : Option (Result RawElement BorrowedError)) (new : Option (List ℕ)) → StepsFront level.elements item new → StepsFront (Some is.rest) item new
-  next item new st = subst (λ (x : Option (List ℕ)). StepsFront x item new) is.left st
-
   breach_here : (n : ℕ) (why : Cause) → BreachesFront (HasBreachUpTo n) d.sort (keys_of_frames is.passed) is.rest [] why → HasBreachAs d.sort d.bytes (level.number ∷ []) why
   breach_here n why front = rw (is.number) (breach_behind is.has_passed n [] why front)
 
   pub level_ends : (new : Option (List ℕ)) → StepsFront level.elements None new → TellsStep d level before step.End
-  level_ends new st = (all_passed is.has_passed (next None new st).0, keys_of_frames is.passed, is.keys)
+  level_ends new st =
+      let end = rw is.left at st in
+      (all_passed is.has_passed end.0, keys_of_frames is.passed, is.keys)
 
   pub level_stops : (e : BorrowedError) (new : Option (List ℕ)) → StepsFront level.elements (Some (Err e)) new → HasBreachAs d.sort d.bytes (level.number ∷ []) cause.Stop
   level_stops e new st =
-      let stop = some_stop e.kind _ is.rest (next (Some (Err e)) new st).0 in
+      let end = rw is.left at st in
+      let stop = some_stop e.kind _ is.rest end.0 in
       breach_here 0 cause.Stop (inl (stop.0, _, stop.1, refl, refl))
 
   -- an element is next
   module _ (e : RawElement) (new : Option (List ℕ)) (st : StepsFront level.elements (Some (Ok e)) new) where
     frame : StepsFront (Some is.rest) (Some (Ok e)) new
-    frame = next (Some (Ok e)) new st
+    frame = rw is.left at st
 
     pub level_key_breaches : (why : Cause) → BreachesKeys d.sort (keys_of_frames is.passed) (frame_of e).key why → HasBreachAs d.sort d.bytes (level.number ∷ []) why
     level_key_breaches why b = breach_here 0 why (inr (frame_of e, frame.0, frame.1, inl (b, refl)))
@@ -176,22 +176,25 @@ pub record AreJudged (b : List ℕ) (ws : List Judged) (refs : List (Bor (List �
 pub judging_begins : (b : List ℕ) (ws : List Judged) (refs : List (Bor (List ℕ))) (level : Judged) → ws ≡ [] → refs ≡ [] → IsUnjudged as_document b refs level → AreJudged b ws refs level
 judging_begins b ws refs level none listed is = record { inner = whole b; waiting = rw none refl; judged = level_begins (whole b) refs level (rw listed refl) is }
 
--- a step of the innermost level
-module _ {b : List ℕ} {ws : List Judged} {refs : List (Bor (List ℕ))} {level : Judged} (are : AreJudged b ws refs level) (new : Judged) (after : List (Bor (List ℕ))) (answer : Step)
-    (steps : Steps level refs new after answer) where
-  told : (is : Step) → answer ≡ is → TellsStep are.inner new after is
-  told is e = subst (λ (x : Step). TellsStep are.inner new after x) e (steps are.inner are.judged)
+-- the innermost level has made a step
+pub record AreStepped (b : List ℕ) (ws : List Judged) (new : Judged) (after : List (Bor (List ℕ))) (answer : Step) : Type 0 where
+  pub inner : LevelBytes
+  pub waiting : AreAwaiting (whole b) ws inner
+  pub told : TellsStep inner new after answer
 
+module _ {b : List ℕ} {ws : List Judged} {new : Judged} {after : List (Bor (List ℕ))} {answer : Step} (are : AreStepped b ws new after answer) where
   pub judging_inside : (inner : Judged) (more : List Judged) → answer ≡ step.Inside inner → more ≡ ws ++ new ∷ [] → AreJudged b more after inner
   judging_inside inner more e f =
-      let t = told (step.Inside inner) e in
+      let t = rw e at are.told in
       record { inner = t.0; waiting = rw f (awaiting_more (whole b) ws are.inner new t.0 are.waiting t.1); judged = level_begins t.0 after inner t.2 t.3 }
 
   pub judging_breach : (why : Cause) → answer ≡ step.Breach why → HasBreachAs as_document b (map (λ w. w.number) ws ++ new.number ∷ []) why
-  judging_breach why e = outward_breach (whole b) ws are.inner (new.number ∷ []) why are.waiting (told (step.Breach why) e)
+  judging_breach why e = outward_breach (whole b) ws are.inner (new.number ∷ []) why are.waiting (rw e at are.told)
 
   pub judging_done : answer ≡ step.End → length ws ≡ 0 → IsCanonicalAs as_document b
-  judging_done e none = subst (λ (d : LevelBytes). IsCanonicalAs d.sort d.bytes) (sym (none_awaiting (whole b) ws are.inner none are.waiting)) (told step.End e).0
+  judging_done e none =
+      let t = rw e at are.told in
+      subst (λ (d : LevelBytes). IsCanonicalAs d.sort d.bytes) (sym (none_awaiting (whole b) ws are.inner none are.waiting)) t.0
 
   -- the level that waits for it goes on
   module _ (less : List Judged) (w : Judged) (e : ws ≡ less ++ w ∷ []) where
@@ -204,5 +207,5 @@ module _ {b : List ℕ} {ws : List Judged} {refs : List (Bor (List ℕ))} {level
     pub judging_popped : answer ≡ step.End → (left : List (Bor (List ℕ))) → LeavesKeys new.keys after left
         → AreJudged b less left (record { elements = w.elements; number = w.number + 1; keys = w.keys })
     judging_popped f left leaves =
-        let t = told step.End f in
+        let t = rw f at are.told in
         record { inner = out.0; waiting = out.1; judged = level_resumes out.2 left t.0 (leaves are.inner.sort are.inner.below t.1 t.2) }

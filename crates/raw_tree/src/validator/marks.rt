@@ -72,13 +72,13 @@ fn has_mark(slots: &[u32], start: usize, mark: u32) -> bool
 {
     let mut at = start;
     'looks: for _ in 0..MOST_LOOKS {
-        let Some(found) = slots.get(at) else {
+        let Some(slot) = slots.get(at) else {
             return false;
         };
-        if *found == mark {
+        if *slot == mark {
             return true;
         }
-        if *found == 0 {
+        if *slot == 0 {
             return false;
         }
         at += 1;

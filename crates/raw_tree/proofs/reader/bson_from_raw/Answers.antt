@@ -1,8 +1,8 @@
 use Rattle.raw_tree.proofs.reader.OneWay.{value_one_way}
 use Rattle.raw_tree.proofs.reader.bson_from_raw.Goals as goal
 
-pub returns-in_err-value-clause-one_reading : goal.returns-in_err-value-clause-one_reading
-returns-in_err-value-clause-one_reading c = value_one_way c.args.value
+pub returns-in_err-whole-clause-one_reading : goal.returns-in_err-whole-clause-one_reading
+returns-in_err-whole-clause-one_reading c = value_one_way c.args.value
 
 pub returns-in-Whole-clause-one_reading : goal.returns-in-Whole-clause-one_reading
 returns-in-Whole-clause-one_reading c = value_one_way c.args.value

@@ -4,9 +4,9 @@ use Rattle.raw_tree.proofs.validator.Judgement.{AreJudged, left_in}
 use Rattle.raw_tree.proofs.validator.validate.Given as goal
 
 -- the innermost level judges some bytes, for which the others wait
-abbrev pub invariant-loop-level : goal.invariant-loop-level
-invariant-loop-level l = AreJudged (bytes_of l.fn.document) l.waiting.items l.listed.items l.level
+abbrev pub invariant-levels : goal.invariant-levels
+invariant-levels l = AreJudged (bytes_of l.fn.document) l.waiting.items l.listed.items l.level
 
 -- the bytes that are left, and the levels
-abbrev pub decreases-loop-level : goal.decreases-loop-level
-decreases-loop-level l = left_of l.level.elements + left_in l.waiting.items
+abbrev pub decreases-levels : goal.decreases-levels
+decreases-levels l = left_of l.level.elements + left_in l.waiting.items

@@ -1,5 +1,5 @@
-use Rattle.std.proofs.Common.{◌≡◌, Option, Result, None, Some, Ok, arith, refl, subst}
-use Rattle.raw_tree.proofs.Common.{frame_of, StepsFront, faulty, RawElement, BorrowedError, value_of, keys_of_frames, LevelBytes, IsJudged, TellsOwnKey, JudgesValue, Cause}
+use Rattle.std.proofs.Common.{◌≡◌, Option, None, Some, Ok, arith, refl}
+use Rattle.raw_tree.proofs.Common.{frame_of, StepsFront, faulty, value_of, keys_of_frames, LevelBytes, IsJudged, TellsOwnKey, JudgesValue, Cause}
 use Rattle.raw_tree.specs.declared.validator.breach.Cause.TheVariants as cause
 use Rattle.raw_tree.proofs.validator.Judgement.{numbered, few_judged, level_ends, level_stops, level_key_breaches, level_meaning_breaches, level_passes, level_judges, less_left, shrinks}
 use Rattle.raw_tree.proofs.validator.Judged.step.Goals as goal
@@ -7,21 +7,18 @@ use Rattle.raw_tree.proofs.validator.Judged.step.Goals.{In-Some-Ok, In_ok-cause,
 
 -- the step to the element
 to_element : (c : In-Some-Ok) → StepsFront c.args.self.now.elements (Some (Ok c.in-Some-Ok.element)) c.next.new.self
-to_element c = subst (λ (x : Result RawElement BorrowedError). StepsFront c.args.self.now.elements (Some x) c.next.new.self) c.in-Some-Ok.field-0-is c.in-Some-Ok.ensures.steps
+to_element c = rw c.in-Some-Ok.field-0-is at c.in-Some-Ok.ensures.steps
 
 -- what is told of its key
 key_told : (c : In_ok-cause) (d : LevelBytes) (is : IsJudged d c.args.listed.now.items c.args.self.now) (cause : Option Cause) → c.in_ok-cause.field-0 ≡ cause
     → TellsOwnKey d.sort d.below (keys_of_frames is.passed) (frame_of c.in-Some-Ok.element).key c.add.new.self c.add.new.listed.items cause
-key_told c d is cause e =
-    rw (← e, ← c.key.ensures) (c.in_ok-cause.ensures.adds d.sort d.below (keys_of_frames is.passed) is.keys is.has_passed.keys (numbered is))
+key_told c d is cause e = rw (← e, ← c.key.ensures) (c.in_ok-cause.ensures.adds d.sort d.below (keys_of_frames is.passed) is.keys is.has_passed.keys (numbered is))
 
 pub returns-in-None-clause-steps : goal.returns-in-None-clause-steps
 returns-in-None-clause-steps c d is = level_ends is c.next.new.self c.in-None.ensures.steps
 
 pub returns-in-Some-Err-clause-steps : goal.returns-in-Some-Err-clause-steps
-returns-in-Some-Err-clause-steps c d is = level_stops is c.in-Some-Err.field-0-0 c.next.new.self
-    (subst (λ (x : Result RawElement BorrowedError). StepsFront c.args.self.now.elements (Some x) c.next.new.self) c.in-Some-Err.field-0-is
-    c.in-Some-Err.ensures.steps)
+returns-in-Some-Err-clause-steps c d is = level_stops is c.in-Some-Err.field-0-0 c.next.new.self (rw c.in-Some-Err.field-0-is at c.in-Some-Err.ensures.steps)
 
 pub returns-in-Some-clause-steps : goal.returns-in-Some-clause-steps
 returns-in-Some-clause-steps c d is =
@@ -46,7 +43,7 @@ returns-clause-steps c d is =
     let judges : JudgesValue v c.add.new.listed.items c.judge_value-step.result = rw (← c.deref.ensures.value) c.judge_value-step.ensures in
     elim c.match-step.branch [
       | in-Whole w ↦ rw (w.self-is, w.in-Whole.is) (level_passes is c.in-Some-Ok.element c.next.new.self (to_element at.In-Some-Ok)
-          c.add.new.self c.add.new.listed.items key.0 key.1 v c.in-Ok.ensures.value (subst (JudgesValue v c.add.new.listed.items) w.in-Whole.is judges))
+          c.add.new.self c.add.new.listed.items key.0 key.1 v c.in-Ok.ensures.value (rw w.in-Whole.is at judges))
       | in_default-step w ↦ rw (w.self-is) (level_judges is c.in-Some-Ok.element c.next.new.self (to_element at.In-Some-Ok)
           c.add.new.self c.add.new.listed.items key.0 key.1 v c.in-Ok.ensures.value c.judge_value-step.result w.in_default-step.not-Whole judges)
     ]

@@ -1,5 +1,4 @@
-use Rattle.std.proofs.Common.{subst}
-use Rattle.raw_tree.specs.validator.Notes.{AreNoted, HasNote, note_of}
+use Rattle.raw_tree.specs.validator.Notes.{HasNote, note_of}
 use Rattle.raw_tree.proofs.validator.References.{each_next, texts_all}
 use Rattle.raw_tree.proofs.validator.notes.notes_of.Goals as goal
 
@@ -8,4 +7,4 @@ loop-key-preserved c = each_next (λ k. HasNote c.loop-key.notes (note_of k)) (�
     c.loop-key.invariant (λ k. c.with_note-notes.ensures.kept (note_of k)) (rw c.note_of.ensures.note at c.with_note-notes.ensures.noted)
 
 pub returns : goal.returns
-returns c = subst (AreNoted c.loop-key.notes) (texts_all c.args.keys.now c.loop-key.key-index c.loop-key-test.false) c.loop-key.invariant
+returns c = rw (texts_all c.args.keys.now c.loop-key.key-index c.loop-key-test.false) at c.loop-key.invariant

@@ -1,7 +1,5 @@
-use Rattle.std.proofs.Common.{inl, inr, ap, subst, ◌∙◌}
+use Rattle.std.proofs.Common.{inl, inr, ap, ◌∙◌}
 use Rattle.raw_tree.specs.validator.References.{texts}
-use Rattle.raw_tree.specs.validator.Validating.{HasKeys}
-use Rattle.raw_tree.specs.declared.validator.keys.Keys.{Keys}
 use Rattle.raw_tree.proofs.validator.References.{texts_front}
 use Rattle.raw_tree.proofs.validator.keys.Keys.leave.Goals as goal
 
@@ -9,6 +7,6 @@ pub returns-in-Ascending : goal.returns-in-Ascending
 returns-in-Ascending c sort below own h =
     let refs = c.args.listed.now.items in
     elim c.in-Ascending.is [
-      | inl is ↦ (let has = subst (λ (k : Keys). HasKeys k refs sort below own) is h in ap texts c.truncate.ensures.items ∙ texts_front refs below own c.in-Ascending.first has.1 has.2)
-      | inr is ↦ (let has = subst (λ (k : Keys). HasKeys k refs sort below own) is.1 h in ap texts c.truncate.ensures.items ∙ texts_front refs below own c.in-Ascending.first has.1 has.2)
+      | inl is ↦ (let has = rw is at h in ap texts c.truncate.ensures.items ∙ texts_front refs below own c.in-Ascending.first has.1 has.2)
+      | inr is ↦ (let has = rw is.1 at h in ap texts c.truncate.ensures.items ∙ texts_front refs below own c.in-Ascending.first has.1 has.2)
     ]

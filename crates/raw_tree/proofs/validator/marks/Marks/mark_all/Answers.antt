@@ -1,5 +1,4 @@
-use Rattle.std.proofs.Common.{subst}
-use Rattle.raw_tree.specs.validator.Marks.{AreMarked, IsMarked}
+use Rattle.raw_tree.specs.validator.Marks.{IsMarked}
 use Rattle.raw_tree.proofs.validator.References.{each_next, texts_all}
 use Rattle.raw_tree.proofs.validator.marks.Marks.mark_all.Goals as goal
 
@@ -8,4 +7,4 @@ loop-key-preserved c = each_next (IsMarked c.loop-key.self) (IsMarked c.mark.new
     c.mark.ensures.kept (c.mark.ensures.marked c.if-not-mark.false)
 
 pub returns : goal.returns
-returns c = record { marked = λ _. subst (AreMarked c.loop-key.self) (texts_all c.args.keys.now c.loop-key.key-index c.loop-key-test.false) c.loop-key.invariant }
+returns c = record { marked = λ _. rw (texts_all c.args.keys.now c.loop-key.key-index c.loop-key-test.false) at c.loop-key.invariant }
