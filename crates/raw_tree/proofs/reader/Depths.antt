@@ -5,6 +5,7 @@ use Rattle.raw_tree.proofs.Common.{le-max_left, le-max_right, max-le, AreBytes, 
 use Rattle.raw_tree.proofs.Common.{IsGreatestDepth, HasDepthUpTo, HasDepth, Sort, StandsFor, StandForEach, ReadsUpTo, ReadsAs}
 use Rattle.bson_model.proofs.Face.{AreBytes-drop}
 use Rattle.raw_view.proofs.Face.{IsFrame-shorter, AreBytes-rest, document_has_walk, has_meaning, one_walk, one_meaning}
+use Rattle.raw_tree.proofs.reader.FrameCounts.{AgreeOn}
 use Rattle.raw_tree.proofs.reader.Loops.{nested_envelope, nested_shorter}
 
 -- what is read within some levels is at most so deep
@@ -65,18 +66,14 @@ read_to_depth n sort b t k h deep few = read_to h.0 deep.0 n sort b t k h.1 deep
 
 -- one depth at most
 
--- nested bytes have one depth
-abbrev AgreeOnDepth : (List ℕ → ℕ → Type 0) → (List ℕ → ℕ → Type 0) → Type 0
-AgreeOnDepth N M = (d : List ℕ) (k j : ℕ) → N d k → M d j → k ≡ j
-
-so_deep_same : (N M : List ℕ → ℕ → Type 0) → AgreeOnDepth N M → (m : Meaning) (k j : ℕ) → IsSoDeep N m k → IsSoDeep M m j → k ≡ j
+so_deep_same : (N M : List ℕ → ℕ → Type 0) → AgreeOn N M → (m : Meaning) (k j : ℕ) → IsSoDeep N m k → IsSoDeep M m j → k ≡ j
 so_deep_same N M same m k j h i = grind arith
 
-greatest_same : (N M : List ℕ → ℕ → Type 0) → AgreeOnDepth N M → (fs : List Frame) (k j : ℕ) → IsGreatestDepth N fs k → IsGreatestDepth M fs j → k ≡ j
+greatest_same : (N M : List ℕ → ℕ → Type 0) → AgreeOn N M → (fs : List Frame) (k j : ℕ) → IsGreatestDepth N fs k → IsGreatestDepth M fs j → k ≡ j
 greatest_same N M same [] k j h i = h ∙ sym i
 greatest_same N M same (f ∷ fs) k j h i = grind (arith, one_meaning, so_deep_same, greatest_same N M same fs)
 
-one_depth_within : (n m : ℕ) → AgreeOnDepth (HasDepthUpTo n) (HasDepthUpTo m)
+one_depth_within : (n m : ℕ) → AgreeOn (HasDepthUpTo n) (HasDepthUpTo m)
 one_depth_within zero m b k j h i = absurd h
 one_depth_within (suc n) zero b k j h i = absurd i
 one_depth_within (suc n) (suc m) b k j h i = grind (arith, greatest_same, one_walk, one_depth_within n m)

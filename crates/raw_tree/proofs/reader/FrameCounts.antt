@@ -200,7 +200,7 @@ has_count_within (suc n) b l env =
     (k.0, count_of_walk b w.0 w.1 k.0 w.2 k.1)
 
 -- bytes that are counted in one way and in another have one count
-abbrev AgreeOn : (List ℕ → ℕ → Type 0) → (List ℕ → ℕ → Type 0) → Type 0
+abbrev pub AgreeOn : (List ℕ → ℕ → Type 0) → (List ℕ → ℕ → Type 0) → Type 0
 AgreeOn N M = (b : List ℕ) (j k : ℕ) → N b j → M b k → j ≡ k
 
 counts_same : (N M : List ℕ → ℕ → Type 0) → AgreeOn N M → (m : Meaning) (j k : ℕ) → CountsIn N m j → CountsIn M m k → j ≡ k

@@ -1,7 +1,7 @@
 -- How a container is written member by member: what is written so far, with what the members that are left will add
 -- and with the lengths that will be set, is its payload.
-use Rattle.std.proofs.Common.{◌≡◌, ◌≤◌, ◌<◌, ◌-◌, ℕ, ◌+◌, List, [], ◌∷◌, ◌++◌, length, map, take, drop, decimal, max, pos, refl, ap, ◌∙◌, append_assoc, length-append, length-take, length-drop, arith, Option, None, Result, Err, MatchOption, IfErr, Vec, Global, vec_len}
-use Rattle.raw_tree.proofs.Common.{nil_from_length, map-append, Tree, Trees, Entries, no_tree, tree_then, no_entry, entry_then, IsNulFree, IsOutOfMemory, Error, string_payload, element_of, tagged}
+use Rattle.std.proofs.Common.{◌≡◌, ◌≤◌, ◌<◌, ◌-◌, ℕ, ◌+◌, List, [], ◌∷◌, ◌++◌, length, map, take, drop, decimal, max, pos, refl, ap, ◌∙◌, append_assoc, length-append, length-take, length-drop, arith, Result, Err, IfErr, Vec, Global}
+use Rattle.raw_tree.proofs.Common.{map-append, Tree, Trees, Entries, no_tree, tree_then, no_entry, entry_then, IsNulFree, IsOutOfMemory, Error, string_payload, element_of, tagged}
 use Rattle.raw_tree.proofs.Common.{framed, scoped_payload, tag_of, max_length, le32, kind_of_tree, tree_payload, items_bytes, entries_bytes, encoded_len, IsRefused, unset, MemberKey, key_bytes}
 use Rattle.raw_tree.proofs.Common.{numbered, keyed, members, members_bytes, members_len, members_left, tree_of_container, opening, opening_len, with_len, ended, Begun, begun_of, members_start}
 use Rattle.raw_tree.proofs.Common.{HoldsTrees, Container, Payload}
@@ -183,10 +183,6 @@ pub outward_smaller : (n : ℕ) (ws less : List Payload) (w : Payload) → ws �
 outward_smaller n ws less w f =
     let grown : map begun_of ws ≡ map begun_of less ++ begun_of w ∷ [] = begun_last less ws w f in
     omega (arith, ap left_in grown, left_in-last (map begun_of less) (begun_of w))
-
--- none waits
-pub none_waits : (old new : Vec Payload Global) (last : Option Payload) → MatchOption last ((vec_len old ≡ 0) × (vec_len new ≡ 0)) (λ x. vec_len new + 1 ≡ vec_len old) → last ≡ None → old.items ≡ []
-none_waits old new last h e = grind (arith, nil_from_length)
 
 -- a tree that may be written fails where memory ran out
 pub refused_memory : (t : Tree) (result : Result (Vec ℕ Global) Error) (e : Error) → result ≡ Err e → IsOutOfMemory e → IsNulFree t → encoded_len t ≤ max_length → IfErr result (IsRefused t)
