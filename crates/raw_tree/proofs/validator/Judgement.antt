@@ -4,7 +4,7 @@ use Rattle.std.proofs.Common.{◌≡◌, ◌≢◌, inl, inr, ◌<◌, ◌+◌, 
 use Rattle.raw_tree.proofs.Common.{length-map, frame_of, Frame, Fault, IsStop, StepsFront, StopsWith, RawValue, Meaning, Means, value, max_length, RawElement}
 use Rattle.raw_tree.proofs.Common.{BorrowedError, ErrorKind, keys_of_frames, BreachesFront, BreachesKeys, BreachesMeaning, HasBreachUpTo, HasBreachAs, AreKeysCanonical, IsValueCanonical}
 use Rattle.raw_tree.proofs.Common.{IsCanonicalAs, Sort, as_document, Holds, texts, HasKeys, HoldsAs, LeavesKeys, LevelBytes, IsJudged, IsUnjudged, IsAwaiting, JudgesValue, TellsStep, Shrinks, left_of}
-use Rattle.raw_tree.proofs.Common.{Cause, Keys, Judged, Step}
+use Rattle.raw_tree.proofs.Common.{TellsOwnKey, Cause, Keys, Judged, Step}
 use Rattle.raw_view.proofs.Face.{IsFrame-shorter}
 use Rattle.raw_tree.specs.declared.validator.breach.Cause.TheVariants as cause
 use Rattle.raw_tree.specs.declared.validator.Step.TheVariants as step
@@ -32,6 +32,10 @@ keys_on k refs others sort below own h e = grind arith
 
 -- the steps of a level
 
+-- this element is next, and these bytes are behind it
+pub record IsNext (level : Judged) (e : RawElement) (new : Option (List ℕ)) : Type 0 where
+  pub steps : StepsFront level.elements (Some (Ok e)) new
+
 module _ {d : LevelBytes} {before : List (Bor (List ℕ))} {level : Judged} (is : IsJudged d before level) where
   pub few_judged : level.number < max_length
   few_judged = rw is.number (few_passed is.has_passed is.envelope)
@@ -54,9 +58,9 @@ module _ {d : LevelBytes} {before : List (Bor (List ℕ))} {level : Judged} (is 
       breach_here 0 cause.Stop (inl (stop.0, _, stop.1, refl, refl))
 
   -- an element is next
-  module _ (e : RawElement) (new : Option (List ℕ)) (st : StepsFront level.elements (Some (Ok e)) new) where
+  module _ {e : RawElement} {new : Option (List ℕ)} (next : IsNext level e new) where
     frame : StepsFront (Some is.rest) (Some (Ok e)) new
-    frame = rw is.left at st
+    frame = rw is.left at next.steps
 
     pub level_key_breaches : (why : Cause) → BreachesKeys d.sort (keys_of_frames is.passed) (frame_of e).key why → HasBreachAs d.sort d.bytes (level.number ∷ []) why
     level_key_breaches why b = breach_here 0 why (inr (frame_of e, frame.0, frame.1, inl (b, refl)))
@@ -66,17 +70,17 @@ module _ {d : LevelBytes} {before : List (Bor (List ℕ))} {level : Judged} (is 
     level_meaning_breaches m why more means b = rw (is.number) (meaning_breaches is.has_passed frame.1 more m [] why means b)
 
     -- its key is canonical
-    module _ (ks : Keys) (after : List (Bor (List ℕ))) (has : HasKeys ks after d.sort d.below (keys_of_frames is.passed ++ (frame_of e).key ∷ []))
-        (more : AreKeysCanonical d.sort (keys_of_frames is.passed ++ (frame_of e).key ∷ [])) (v : RawValue) (means : Means (frame_of e) (value v)) where
+    module _ (ks : Keys) (after : List (Bor (List ℕ))) (key : TellsOwnKey d.sort d.below (keys_of_frames is.passed) (frame_of e).key ks after None)
+        (v : RawValue) (means : Means (frame_of e) (value v)) where
       pub level_passes : IsValueCanonical IsCanonicalAs v → IsJudged d after (record { elements = new; number = level.number + 1; keys = ks })
       level_passes c = record {
         envelope = is.envelope;
         passed = is.passed ++ frame_of e ∷ [];
         rest = frame.0;
-        has_passed = one_passed is.has_passed frame.1 more v means c;
+        has_passed = one_passed is.has_passed frame.1 key.1 v means c;
         left = frame.2;
         number = omega (arith, is.number, length-append is.passed (frame_of e ∷ []));
-        keys = rw (keys_more is.passed (frame_of e)) has;
+        keys = rw (keys_more is.passed (frame_of e)) key.0;
       }
 
       level_waits : (s : Sort) (nested : List ℕ) → HoldsAs v s nested
@@ -87,7 +91,7 @@ module _ {d : LevelBytes} {before : List (Bor (List ℕ))} {level : Judged} (is 
       level_judges step.End other j = absurd j
       level_judges step.Whole other j = absurd (other refl)
       level_judges (step.Inside inner) other j = (record { sort = j.0; bytes = j.1; below = texts after }, level_waits j.0 j.1 j.2, refl, j.3)
-      level_judges (step.Breach why) other j = level_meaning_breaches (value v) why more means j
+      level_judges (step.Breach why) other j = level_meaning_breaches (value v) why key.1 means j
 
     -- less is left, with what is left inside
     pub less_left : left_of new < left_of level.elements

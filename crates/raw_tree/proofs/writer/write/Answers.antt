@@ -52,8 +52,7 @@ payloads-preserved c =
     let step : members_left c.payloads.payload.members ≡ (key_of c.in-Some.key, t) ∷ members_left c.next.new.self = rw (← c.in-Container.ensures) c.in-Some.ensures.step in
     let head = rw (c.tag.ensures, c.text-key.ensures) at c.put_head.ensures.items in
     record {
-      writing = rw (grown, left, begun) (writing_inside (tree_of_container c.args.container) (map begun_of c.payloads.waiting.items)
-          (begun_of c.payloads.payload) c.payloads.out.items c.payloads.invariant.writing (key_of c.in-Some.key, t) (members_left c.next.new.self) step
+      writing = rw (grown, left, begun) (writing_inside _ _ _ _ c.payloads.invariant.writing (key_of c.in-Some.key, t) (members_left c.next.new.self) step
           (length c.put_head.new.out.items) c.put_head.new.out.items c.start-payload-in-Container.new.out.items
           (container_holds c.in-Container.inner) refl head c.start-payload-in-Container.ensures.items);
       capacity = omega (arith, c.payloads.invariant.capacity, c.put_head.ensures.capacity, c.start-payload-in-Container.ensures.capacity);
@@ -69,8 +68,7 @@ payloads-preserved-in_default c =
     begun_last c.pop.new.self.items c.payloads.waiting.items c.in-Some-pop.outer c.in-Some-pop.ensures.items in
     let items = rw (c.in_default.ensures.container) at c.end.ensures.items in
     record {
-      writing = writing_ends (tree_of_container c.args.container) (map begun_of c.payloads.waiting.items)
-          (begun_of c.payloads.payload) c.payloads.out.items c.payloads.invariant.writing c.in_default.ensures.step c.end.new.out.items items
+      writing = writing_ends _ _ _ _ c.payloads.invariant.writing c.in_default.ensures.step c.end.new.out.items items
           (map begun_of c.pop.new.self.items) (begun_of c.in-Some-pop.outer) grown;
       capacity = omega (arith, c.payloads.invariant.capacity, c.end.ensures.capacity);
     }

@@ -1,13 +1,13 @@
-use Rattle.std.proofs.Common.{◌≡◌, Option, None, Some, Ok, arith, refl}
-use Rattle.raw_tree.proofs.Common.{frame_of, StepsFront, faulty, value_of, keys_of_frames, LevelBytes, IsJudged, TellsOwnKey, JudgesValue, Cause}
+use Rattle.std.proofs.Common.{◌≡◌, Option, None, Some, arith, refl}
+use Rattle.raw_tree.proofs.Common.{frame_of, faulty, value_of, keys_of_frames, LevelBytes, IsJudged, TellsOwnKey, JudgesValue, Cause}
 use Rattle.raw_tree.specs.declared.validator.breach.Cause.TheVariants as cause
-use Rattle.raw_tree.proofs.validator.Judgement.{numbered, few_judged, level_ends, level_stops, level_key_breaches, level_meaning_breaches, level_passes, level_judges, less_left, shrinks}
+use Rattle.raw_tree.proofs.validator.Judgement.{IsNext, numbered, few_judged, level_ends, level_stops, level_key_breaches, level_meaning_breaches, level_passes, level_judges, less_left, shrinks}
 use Rattle.raw_tree.proofs.validator.Judged.step.Goals as goal
 use Rattle.raw_tree.proofs.validator.Judged.step.Goals.{In-Some-Ok, In_ok-cause, in-Whole, in_default-step}
 
--- the step to the element
-to_element : (c : In-Some-Ok) → StepsFront c.args.self.now.elements (Some (Ok c.in-Some-Ok.element)) c.next.new.self
-to_element c = rw c.in-Some-Ok.field-0-is at c.in-Some-Ok.ensures.steps
+-- the element is next
+next : (c : In-Some-Ok) → IsNext c.args.self.now c.in-Some-Ok.element c.next.new.self
+next c = record { steps = rw c.in-Some-Ok.field-0-is at c.in-Some-Ok.ensures.steps }
 
 -- what is told of its key
 key_told : (c : In_ok-cause) (d : LevelBytes) (is : IsJudged d c.args.listed.now.items c.args.self.now) (cause : Option Cause) → c.in_ok-cause.field-0 ≡ cause
@@ -23,14 +23,14 @@ returns-in-Some-Err-clause-steps c d is = level_stops is c.in-Some-Err.field-0-0
 pub returns-in-Some-clause-steps : goal.returns-in-Some-clause-steps
 returns-in-Some-clause-steps c d is =
     let at = goal.at.returns-in-Some-clause-steps c in
-    level_key_breaches is c.in-Some-Ok.element c.next.new.self (to_element at.In-Some-Ok) c.in-Some.cause (key_told at.In_ok-cause d is (Some c.in-Some.cause) c.in-Some.is)
+    level_key_breaches is (next at.In-Some-Ok) c.in-Some.cause (key_told at.In_ok-cause d is (Some c.in-Some.cause) c.in-Some.is)
 
 pub returns-in_default-resolve-clause-steps : goal.returns-in_default-resolve-clause-steps
 returns-in_default-resolve-clause-steps c d is =
     let at = goal.at.returns-in_default-resolve-clause-steps c in
     let key = key_told at.In_ok-cause d is None c.in_default.is in
     let fault = c.in_default-resolve.ensures.fault in
-    level_meaning_breaches is c.in-Some-Ok.element c.next.new.self (to_element at.In-Some-Ok) (faulty fault.0) cause.Value key.1 fault.1 (refl, refl)
+    level_meaning_breaches is (next at.In-Some-Ok) (faulty fault.0) cause.Value key.1 fault.1 (refl, refl)
 
 pub overflow_add-self : goal.overflow_add-self
 overflow_add-self c = omega (arith, few_judged c.requires.1)
@@ -42,17 +42,16 @@ returns-clause-steps c d is =
     let key = key_told at.In_ok-cause d is None c.in_default.is in
     let judges : JudgesValue v c.add.new.listed.items c.judge_value-step.result = rw (← c.deref.ensures.value) c.judge_value-step.ensures in
     elim c.match-step.branch [
-      | in-Whole w ↦ rw (w.self-is, w.in-Whole.is) (level_passes is c.in-Some-Ok.element c.next.new.self (to_element at.In-Some-Ok)
-          c.add.new.self c.add.new.listed.items key.0 key.1 v c.in-Ok.ensures.value (rw w.in-Whole.is at judges))
-      | in_default-step w ↦ rw (w.self-is) (level_judges is c.in-Some-Ok.element c.next.new.self (to_element at.In-Some-Ok)
-          c.add.new.self c.add.new.listed.items key.0 key.1 v c.in-Ok.ensures.value c.judge_value-step.result w.in_default-step.not-Whole judges)
+      | in-Whole w ↦ rw (w.self-is, w.in-Whole.is) (level_passes is (next at.In-Some-Ok) c.add.new.self c.add.new.listed.items key v c.in-Ok.ensures.value (rw w.in-Whole.is at judges))
+      | in_default-step w ↦ rw (w.self-is) (level_judges is (next at.In-Some-Ok)
+          c.add.new.self c.add.new.listed.items key v c.in-Ok.ensures.value c.judge_value-step.result w.in_default-step.not-Whole judges)
     ]
 
 pub returns-clause-shrinks : goal.returns-clause-shrinks
 returns-clause-shrinks c =
-    let st = to_element (goal.at.returns-clause-shrinks c).In-Some-Ok in
+    let next = next (goal.at.returns-clause-shrinks c).In-Some-Ok in
     elim c.match-step.branch [
-      | in-Whole w ↦ rw (w.self-is, w.in-Whole.is) (less_left c.requires.1 c.in-Some-Ok.element c.next.new.self st)
-      | in_default-step w ↦ rw (w.self-is) (shrinks c.requires.1 c.in-Some-Ok.element c.next.new.self st c.add.new.self c.deref.result.now (value_of c.in-Ok.value)
+      | in-Whole w ↦ rw (w.self-is, w.in-Whole.is) (less_left c.requires.1 next)
+      | in_default-step w ↦ rw (w.self-is) (shrinks c.requires.1 next c.add.new.self c.deref.result.now (value_of c.in-Ok.value)
           c.judge_value-step.result c.in-Ok.ensures.value w.in_default-step.not-Whole c.judge_value-step.ensures)
     ]
