@@ -1,21 +1,25 @@
--- A search for the first barrier may begin at the element of the outermost level that breaches.
-use Rattle.std.proofs.Common.{◌≡◌, ◌∙◌, ◌≤◌, ◌-◌, ◌∷◌, [], ℕ, zero, suc, List, Option, None, Some, inl, inr, ◌⊎◌, ◌<◌, map, slice_index_or, length, drop, arith, ap, refl, sym, subst, length-drop}
+-- A search for the first barrier may begin at the element of the outermost level that breaches or holds what breaches, and what
+-- is before that is written as it is.
+use Rattle.std.proofs.Common.{◌≡◌, ◌≢◌, ◌∙◌, ◌≤◌, ◌-◌, ◌∷◌, [], ℕ, zero, suc, List, Option, None, Some, inl, inr, ◌⊎◌, ◌<◌, map, slice_index_or, length, drop, arith, ap, refl, sym, subst, length-drop}
 use Rattle.raw_view.specs.Frame.ElementSteps.{HasRead}
 use Rattle.raw_view.specs.Frame.Envelope.{IsEnvelope}
+use Rattle.raw_view.specs.Frame.{Frame, LeadsTo}
 use Rattle.raw_view.specs.Meaning.{Meaning, value, faulty}
 use Rattle.raw_view.specs.Meaning as raw
 use Rattle.raw_view.proofs.Face.{LeadsTo-bound}
-use Rattle.raw_tree.specs.Canonical.{IsCanonicalUpTo}
+use Rattle.raw_tree.specs.Canonical.{AreFramesCanonical, IsCanonicalUpTo}
 use Rattle.raw_tree.specs.Reading.{Sort, as_document}
 use Rattle.raw_tree.proofs.Face.{canonical_frames_read}
 use Rattle.raw_form.specs.Barriers.{step_of, steps_of}
-use Rattle.raw_form.specs.Judging.{TellsFound, verdict_of}
+use Rattle.raw_form.specs.Judging.{TellsFound, TellsStart, verdict_of}
 use Rattle.raw_form.specs.Looking.{AreReadBefore, HasNoneBefore}
-use Rattle.raw_form.specs.Places.{Step, BeginsAt, IsOffsetOf}
+use Rattle.raw_form.specs.Places.{Step, BeginsAt}
 use Rattle.raw_form.specs.Verdicts.{Verdict, JudgesNestedAt, JudgesMeaningAt, JudgesFrontAt, FirstVerdictTo}
 use Rattle.raw_form.specs.Waits.{Wait}
+use Rattle.raw_form.specs.declared.faults.Start.{Start}
 use Rattle.raw_form.specs.declared.place.PathStep.{PathStep}
 use Rattle.raw_form.specs.declared.verdict.Found.{Found}
+use Rattle.raw_form.proofs.Knowing.{known_to, known_to_first}
 use Rattle.raw_form.proofs.Levels.{IsAt}
 use Rattle.raw_form.proofs.Lying.{drop_both, leads_behind, whole_lies}
 
@@ -24,51 +28,74 @@ abbrev first_number : List Step → ℕ
 first_number [] = 0
 first_number (step ∷ steps) = step.number
 
-abbrev behind_first : List Step → List Step
-behind_first [] = []
-behind_first (step ∷ steps) = steps
-
 module _ (P : Sort → List ℕ → Type 0) (N : Sort → List ℕ → Verdict → List Step → ℕ → Type 0) where
-  nested_begins : (b s : List ℕ) (step here : Step) (q : List ℕ) (sort : Sort) (d : List ℕ) (x : Verdict) (offset : ℕ)
-      → JudgesNestedAt P N b s step q sort d x (here ∷ []) offset → (here.number ≡ step.number) × BeginsAt b s offset
-  nested_begins b s step here q sort d x offset (steps, inside, nested, path_is, far) =
-      let none : steps ≡ [] = sym (ap behind_first path_is) in
-      (ap first_number path_is, subst (λ (p : List Step). IsOffsetOf b s d q p inside offset) none far)
+  nested_begins : (b s : List ℕ) (step here : Step) (more : List Step) (q : List ℕ) (sort : Sort) (d : List ℕ) (x : Verdict) (offset : ℕ)
+      → JudgesNestedAt P N b s step q sort d x (here ∷ more) offset → here.number ≡ step.number
+  nested_begins b s step here more q sort d x offset h = ap first_number h.3
 
-  meaning_begins : (b s : List ℕ) (step here : Step) (q : List ℕ) (m : Meaning) (x : Verdict) (offset : ℕ)
-      → JudgesMeaningAt P N b s step q m x (here ∷ []) offset → (here.number ≡ step.number) × BeginsAt b s offset
-  meaning_begins b s step here q (faulty fault) x offset h = (ap first_number h.1.0, h.1.1)
-  meaning_begins b s step here q (value (raw.single l)) x offset h = (ap first_number h.2.0, h.2.1)
-  meaning_begins b s step here q (value (raw.document d)) x offset h = nested_begins b s step here q as_document d x offset h
-  meaning_begins b s step here q (value (raw.array d)) x offset h = nested_begins b s step here q _ d x offset h
-  meaning_begins b s step here q (value (raw.scoped code d)) x offset h = nested_begins b s step here q as_document d x offset h
+  meaning_begins : (b s : List ℕ) (step here : Step) (more : List Step) (q : List ℕ) (m : Meaning) (x : Verdict) (offset : ℕ)
+      → JudgesMeaningAt P N b s step q m x (here ∷ more) offset → here.number ≡ step.number
+  meaning_begins b s step here more q (faulty fault) x offset h = ap first_number h.1.0
+  meaning_begins b s step here more q (value (raw.single l)) x offset h = ap first_number h.2.0
+  meaning_begins b s step here more q (value (raw.document d)) x offset h = nested_begins b s step here more q as_document d x offset h
+  meaning_begins b s step here more q (value (raw.array d)) x offset h = nested_begins b s step here more q _ d x offset h
+  meaning_begins b s step here more q (value (raw.scoped code d)) x offset h = nested_begins b s step here more q as_document d x offset h
 
-  front_begins : (sort : Sort) (keys : List (List ℕ)) (b s : List ℕ) (number : ℕ) (here : Step) (x : Verdict) (offset : ℕ)
-      → JudgesFrontAt P N sort keys b s number x (here ∷ []) offset → (here.number ≡ number) × BeginsAt b s offset
-  front_begins sort keys b s number here x offset (inl stop) = (ap first_number stop.4.0, stop.4.1)
-  front_begins sort keys b s number here x offset (inr (f, q, at, inl key)) = (ap first_number key.3.0, key.3.1)
-  front_begins sort keys b s number here x offset (inr (f, q, at, inr (more, m, means, judged))) =
-      meaning_begins b s (record { number = number; key = Some f.key }) here q m x offset judged
+  front_begins : (sort : Sort) (keys : List (List ℕ)) (b s : List ℕ) (number : ℕ) (here : Step) (more : List Step) (x : Verdict) (offset : ℕ)
+      → JudgesFrontAt P N sort keys b s number x (here ∷ more) offset → here.number ≡ number
+  front_begins sort keys b s number here more x offset (inl stop) = ap first_number stop.4.0
+  front_begins sort keys b s number here more x offset (inr (f, q, at, inl key)) = ap first_number key.3.0
+  front_begins sort keys b s number here more x offset (inr (f, q, at, inr (behind, m, means, judged))) =
+      meaning_begins b s (record { number = number; key = Some f.key }) here more q m x offset judged
 
--- no barrier is before a verdict on an element of the outermost level
-pub verdict_begins : (depth : ℕ) (b : List ℕ) (here : Step) (x : Verdict) (offset : ℕ) → FirstVerdictTo depth as_document b x (here ∷ []) offset → HasNoneBefore depth b here.number offset
-verdict_begins zero b here x offset h inside e = absurd (omega (arith, e))
-verdict_begins (suc n) b here x offset (passed, s, reaches, keys, canonical, front) inside e =
-    let same : n ≡ inside = omega (arith, e) in
-    let read = canonical_frames_read n passed canonical in
-    let begins = front_begins (IsCanonicalUpTo n) (FirstVerdictTo n) as_document _ b s (length passed) here x offset front in
-    let there : AreReadBefore n b here.number offset = record { frames = passed; pairs = read.0; s = s; reaches = reaches; each = read.1; number_is = begins.0; begins = begins.1 } in
-    subst (λ (i : ℕ). AreReadBefore i b here.number offset) same there
+-- so many frames of the document b are canonical, within so many levels
+record AreCanonicalBefore (inside : ℕ) (b : List ℕ) (number : ℕ) : Type 0 where
+  pub frames : List Frame
+  pub s : List ℕ
+  pub reaches : LeadsTo (drop 4 b) frames s
+  pub each : AreFramesCanonical (IsCanonicalUpTo inside) frames
+  pub number_is : number ≡ length frames
 
--- nor before what was found there
-pub found_begins : (depth : ℕ) (b : List ℕ) (found : Found) (path : List PathStep) → TellsFound depth b (Some found) → path ≡ found.place.path.items
-    → length path ≡ 1 → HasNoneBefore depth b (slice_index_or path 0 (record { number = 0; key = None })).number found.place.offset
-found_begins depth b found [] told same one = absurd (omega (arith, one))
-found_begins depth b found (p ∷ []) told same one =
-    let steps : steps_of found.place ≡ step_of p ∷ [] = sym (ap (map step_of) same) in
-    verdict_begins depth b (step_of p) (verdict_of found.cause) found.place.offset
-    (subst (λ (q : List Step). FirstVerdictTo depth as_document b (verdict_of found.cause) q found.place.offset) steps told)
-found_begins depth b found (p ∷ q ∷ r) told same one = absurd (omega (arith, one))
+-- those before the element of the outermost level that has the verdict, or holds what has it
+verdict_begins : (n : ℕ) (b : List ℕ) (here : Step) (more : List Step) (x : Verdict) (offset : ℕ) → FirstVerdictTo (suc n) as_document b x (here ∷ more) offset
+    → AreCanonicalBefore n b here.number
+verdict_begins n b here more x offset (passed, s, reaches, keys, canonical, front) = record {
+  frames = passed;
+  s = s;
+  reaches = reaches;
+  each = canonical;
+  number_is = front_begins (IsCanonicalUpTo n) (FirstVerdictTo n) as_document _ b s (length passed) here more x offset front;
+}
+
+-- no barrier is before that element, and what is before it is written as it is
+found_known : (n depth : ℕ) (b : List ℕ) (start : Start) (is : AreCanonicalBefore n b start.number) → suc n ≡ depth → 5 ≤ length b → BeginsAt b is.s start.offset
+    → TellsStart depth b (Some start)
+found_known n depth b start is levels enough begins = (before, known_to n b start is.frames is.s enough is.reaches is.each is.number_is begins)
+  where
+    before : HasNoneBefore depth b start.number start.offset
+    before inside e =
+        let same : n ≡ inside = omega (arith, e, levels) in
+        let read = canonical_frames_read n is.frames is.each in
+        let there : AreReadBefore n b start.number start.offset =
+        record { frames = is.frames; pairs = read.0; s = is.s; reaches = is.reaches; each = read.1; number_is = is.number_is; begins = begins } in
+        subst (λ (i : ℕ). AreReadBefore i b start.number start.offset) same there
+
+-- of what was found the first step has this number
+pub found_begins : (depth : ℕ) (b : List ℕ) (found : Found) (path : List PathStep) (start : Start) → TellsFound depth b (Some found)
+    → path ≡ found.place.path.items → length path ≢ 0 → start.number ≡ (slice_index_or path 0 (record { number = 0; key = None })).number → 5 ≤ length b
+    → ((frames : List Frame) (s : List ℕ) → LeadsTo (drop 4 b) frames s → length frames ≡ start.number → BeginsAt b s start.offset)
+    → TellsStart depth b (Some start)
+found_begins depth b found [] start told same some number enough there = absurd (some refl)
+found_begins zero b found (p ∷ path) start told same some number enough there =
+    let steps : steps_of found.place ≡ step_of p ∷ map step_of path = sym (ap (map step_of) same) in
+    let none : step_of p ∷ map step_of path ≡ [] = sym steps ∙ told.1 in
+    cc
+found_begins (suc n) b found (p ∷ path) start told same some number enough there =
+    let steps : steps_of found.place ≡ step_of p ∷ map step_of path = sym (ap (map step_of) same) in
+    let is : AreCanonicalBefore n b p.number = verdict_begins n b (step_of p) (map step_of path) (verdict_of found.cause) found.place.offset
+    (subst (λ (q : List Step). FirstVerdictTo (suc n) as_document b (verdict_of found.cause) q found.place.offset) steps told) in
+    let here : AreCanonicalBefore n b start.number = subst (λ (m : ℕ). AreCanonicalBefore n b m) (sym number) is in
+    found_known n (suc n) b start here refl enough (there here.frames here.s here.reaches (sym here.number_is))
 
 -- nor before the first element
 pub first_begins : (depth : ℕ) (b : List ℕ) → 5 ≤ length b → HasNoneBefore depth b 0 4
@@ -81,6 +108,10 @@ first_begins depth b enough inside e = record {
   number_is = refl;
   begins = omega (arith, length-drop 4 b, enough);
 }
+
+-- so it is of the first
+pub first_start : (depth : ℕ) (b : List ℕ) (start : Start) → 5 ≤ length b → start.number ≡ 0 → start.offset ≡ 4 → TellsStart depth b (Some start)
+first_start depth b start enough number offset = (rw (number, offset) (first_begins depth b enough), known_to_first b start number offset)
 
 -- a start is within the document
 pub start_within : (inside : ℕ) (b : List ℕ) (number offset : ℕ) → 5 ≤ length b → AreReadBefore inside b number offset → (4 ≤ offset) × (offset ≤ length b)

@@ -1,5 +1,5 @@
 -- What is left of a level that is rewritten.
-use Rattle.std.proofs.Common.{◌≡◌, ◌∙◌, ◌<◌, ◌≤◌, ◌+◌, ◌^◌, ◌∷◌, [], zero, suc, ℕ, List, Option, None, Some, drop, length, map, arith, ap, refl, sym, subst}
+use Rattle.std.proofs.Common.{◌≡◌, ◌≢◌, ◌∙◌, ◌<◌, ◌+◌, ◌-◌, ◌^◌, ◌∷◌, [], zero, suc, ℕ, Bool, false, List, Option, None, Some, IsTrue, drop, length, map, arith, ap, refl, sym, subst}
 use Rattle.std.specs.List.{IsDistinct}
 use Rattle.std.specs.Str.{bytes_eq}
 use Rattle.bson_model.specs.Leaf.{Leaf}
@@ -18,13 +18,16 @@ use Rattle.raw_tree.specs.Members.{MemberKey, numbered, keyed, members}
 use Rattle.raw_tree.specs.Reading.{as_document, as_array, StandForEach, StandsFor, ReadsAs}
 use Rattle.raw_tree.specs.Validating.{left_of}
 use Rattle.raw_tree.proofs.Face.{each_read}
-use Rattle.raw_form.specs.Rewriting.{HasCode, IsLeft, IsRest, ShowsHeld, TakesNext, TakesPair, held_value}
-use Rattle.raw_form.specs.Staying.{IsLeftAt, TakesFrame, last_places}
+use Rattle.raw_form.specs.Rewriting.{AreLeftOwn, HasCode, IsLeft, IsRest, ShowsHeld, TakesNext, TakesPair, held_value}
+use Rattle.raw_form.specs.Staying.{IsOwnUpTo, IsLeftAt, IsOwnForm, TakesFrame, last_places}
+use Rattle.raw_form.specs.declared.faults.Start.{Start}
 use Rattle.raw_form.specs.declared.held.Held.{Held}
 use Rattle.raw_form.specs.declared.last.LastPlaces.{LastPlaces}
 use Rattle.raw_form.specs.declared.rewritten.Keys.{Keys}
 use Rattle.raw_form.specs.declared.rewritten.Rewritten.{Rewritten}
 use Rattle.raw_form.specs.declared.rewritten.Keys.TheVariants as keys
+use Rattle.raw_form.proofs.Knowing.{one_known}
+use Rattle.raw_form.proofs.OwnForms.{keys_stand}
 use Rattle.raw_form.proofs.Lasting.{frames_at, walk_over, walk_step}
 
 -- pairs
@@ -50,19 +53,21 @@ pair_over (Some s) new pairs h none =
 
 pub number_taken : (n : ℕ) (old new : Option (List ℕ)) (ms : List (MemberKey × Tree)) (pairs : List (List ℕ × Tree)) (e : RawElement) → n + left_of old < 2 ^ 64
     → ms ≡ numbered n (trees (map (λ p. p.1) pairs)) → TakesPair old pairs (Some e) new
-    → TakesNext ms (Some (record { number = Some n; element = e })) (keys.Numbers (n + 1)) new
+    → TakesNext ms (Some (record { number = Some n; element = e; is_known = false })) (keys.Numbers (n + 1)) new
 number_taken n old new ms pairs e small is (t, rest, pairs_are, stands, left, shorter) = (
   t,
   numbered (n + 1) (trees (map (λ p. p.1) rest)),
   is ∙ ap (λ (ps : List (List ℕ × Tree)). numbered n (trees (map (λ p. p.1) ps))) pairs_are,
   stands,
   (omega (arith, small, shorter), rest, left, refl),
+  (λ told. cc),
 )
 
-pub distinct_taken : (old new : Option (List ℕ)) (ms : List (MemberKey × Tree)) (pairs : List (List ℕ × Tree)) (e : RawElement) → ms ≡ keyed (entries pairs)
-    → TakesPair old pairs (Some e) new → TakesNext ms (Some (record { number = None; element = e })) keys.Distinct new
-distinct_taken old new ms pairs e is (t, rest, pairs_are, stands, left, shorter) =
-    (t, keyed (entries rest), is ∙ ap (λ (ps : List (List ℕ × Tree)). keyed (entries ps)) pairs_are, stands, (rest, left, refl))
+pub distinct_taken : (less : ℕ) (is_known : Bool) (old new : Option (List ℕ)) (ms : List (MemberKey × Tree)) (pairs : List (List ℕ × Tree)) (e : RawElement)
+    → ms ≡ keyed (entries pairs) → TakesPair old pairs (Some e) new → AreLeftOwn less new → (IsTrue is_known → IsOwnForm (frame_of e))
+    → TakesNext ms (Some (record { number = None; element = e; is_known = is_known })) (keys.Distinct less) new
+distinct_taken less is_known old new ms pairs e is (t, rest, pairs_are, stands, left, shorter) own known =
+    (t, keyed (entries rest), is ∙ ap (λ (ps : List (List ℕ × Tree)). keyed (entries ps)) pairs_are, stands, (rest, left, refl, own), known)
 
 -- where no frame is in front, no member is left
 
@@ -71,29 +76,27 @@ number_over k n old new ms same left none =
     let here : IsLeft (keys.Numbers n) old ms = subst (λ (x : Keys). IsLeft x old ms) same left in
     here.3 ∙ ap (λ (ps : List (List ℕ × Tree)). numbered n (trees (map (λ p. p.1) ps))) (pair_over old new here.1 here.2 none)
 
-pub distinct_over : (k : Keys) (old new : Option (List ℕ)) (ms : List (MemberKey × Tree)) → k ≡ keys.Distinct → IsLeft k old ms → TakesFrame old None new → ms ≡ []
-distinct_over k old new ms same left none =
-    let here : IsLeft keys.Distinct old ms = subst (λ (x : Keys). IsLeft x old ms) same left in
+pub distinct_over : (k : Keys) (n : ℕ) (old new : Option (List ℕ)) (ms : List (MemberKey × Tree)) → k ≡ keys.Distinct n → IsLeft k old ms → TakesFrame old None new → ms ≡ []
+distinct_over k n old new ms same left none =
+    let here : IsLeft (keys.Distinct n) old ms = subst (λ (x : Keys). IsLeft x old ms) same left in
     here.2 ∙ ap (λ (ps : List (List ℕ × Tree)). keyed (entries ps)) (pair_over old new here.0 here.1 none)
 
 -- the next member by its number, and by its key
 pub next_number : (k : Keys) (n : ℕ) (old new : Option (List ℕ)) (ms : List (MemberKey × Tree)) (e : RawElement) → k ≡ keys.Numbers n → IsLeft k old ms
-    → TakesFrame old (Some e) new → TakesNext ms (Some (record { number = Some n; element = e })) (keys.Numbers (n + 1)) new
+    → TakesFrame old (Some e) new → TakesNext ms (Some (record { number = Some n; element = e; is_known = false })) (keys.Numbers (n + 1)) new
 next_number k n old new ms e same left takes =
     let here : IsLeft (keys.Numbers n) old ms = subst (λ (x : Keys). IsLeft x old ms) same left in
     number_taken n old new ms here.1 e here.0 here.3 (pair_taken old new here.1 e here.2 takes)
 
-pub next_distinct : (k : Keys) (old new : Option (List ℕ)) (ms : List (MemberKey × Tree)) (e : RawElement) → k ≡ keys.Distinct → IsLeft k old ms
-    → TakesFrame old (Some e) new → TakesNext ms (Some (record { number = None; element = e })) k new
-next_distinct k old new ms e same left takes =
-    let here : IsLeft keys.Distinct old ms = subst (λ (x : Keys). IsLeft x old ms) same left in
-    subst (λ (x : Keys). TakesNext ms (Some (record { number = None; element = e })) x new) (sym same) (distinct_taken old new ms here.0 e here.2 (pair_taken old new here.0 e here.1 takes))
+pub next_distinct : (k : Keys) (n less : ℕ) (is_known : Bool) (old new : Option (List ℕ)) (ms : List (MemberKey × Tree)) (e : RawElement) → k ≡ keys.Distinct n
+    → IsLeft k old ms → TakesFrame old (Some e) new → less ≡ n - 1 → (IsTrue is_known → n ≢ 0)
+    → TakesNext ms (Some (record { number = None; element = e; is_known = is_known })) (keys.Distinct less) new
+next_distinct k n less is_known old new ms e same left takes one some =
+    let here : IsLeft (keys.Distinct n) old ms = subst (λ (x : Keys). IsLeft x old ms) same left in
+    let own = one_known n less old new e one here.3 takes in
+    distinct_taken less is_known old new ms here.0 e here.2 (pair_taken old new here.0 e here.1 takes) own.1 (λ told. own.0 (some told))
 
 -- levels that begin
-
-keys_stand : (frames : List Frame) (pairs : List (List ℕ × Tree)) → StandForEach ReadsAs frames pairs → keys_of_frames frames ≡ keys_of pairs
-keys_stand [] pairs h = ap (λ ps. keys_of {T = Tree} ps) (sym h)
-keys_stand (f ∷ frames) pairs h = ap (λ ks. f.key ∷ ks) (keys_stand frames h.2 h.6) ∙ ap (λ ps. keys_of {T = Tree} ps) (sym h.5)
 
 pub array_begins : (d : List ℕ) (t : Tree) → length (drop 4 d) < 2 ^ 64 → ReadsAs as_array d t → HasCode t None × IsLeft (keys.Numbers 0) (Some (drop 4 d)) (members t)
 array_begins d t small (zero, h) = absurd h
@@ -101,20 +104,23 @@ array_begins d t small (suc n, h) =
     subst (λ (x : Tree). HasCode x None × IsLeft (keys.Numbers 0) (Some (drop 4 d)) (members x)) (sym h.2)
     (refl, (omega (arith, small), h.0, (h.1.0, h.1.1, each_read n h.1.0 h.0 h.1.2), refl))
 
-pub distinct_begins : (d : List ℕ) (t : Tree) → ((frames : List Frame) → IsWalk (drop 4 d) frames Done → IsDistinct bytes_eq (keys_of_frames frames))
-    → ReadsAs as_document d t → IsLeft keys.Distinct (Some (drop 4 d)) (members t)
-distinct_begins d t distinct (zero, h) = absurd h
-distinct_begins d t distinct (suc n, h) =
+pub distinct_begins : (d : List ℕ) (t : Tree) (known : Start) → IsOwnUpTo d known
+    → ((frames : List Frame) → IsWalk (drop 4 d) frames Done → IsDistinct bytes_eq (keys_of_frames frames))
+    → ReadsAs as_document d t → IsLeft (keys.Distinct known.number) (Some (drop 4 d)) (members t)
+distinct_begins d t known is distinct (zero, h) = absurd h
+distinct_begins d t known is distinct (suc n, h) =
     let each = each_read n h.1.0 h.0 h.1.2 in
     let apart : IsDistinct bytes_eq (keys_of h.0) = subst (λ (ks : List (List ℕ)). IsDistinct bytes_eq ks) (keys_stand h.1.0 h.0 each) (distinct h.1.0 h.1.1) in
-    (h.0, (h.1.0, h.1.1, each), ap members h.2 ∙ ap (λ (ps : List (List ℕ × Tree)). keyed (entries ps)) (keep-distinct h.0 apart))
+    (h.0, (h.1.0, h.1.1, each), ap members h.2 ∙ ap (λ (ps : List (List ℕ × Tree)). keyed (entries ps)) (keep-distinct h.0 apart), is.next)
 
-pub repeated_begins : (d : List ℕ) (t : Tree) (last : LastPlaces) → bytes_of last.document ≡ d → last.passed ≡ 0 → 5 ≤ length d
-    → ((frames : List Frame) → IsWalk (drop 4 d) frames Done → last.places.items ≡ last_places frames) → ReadsAs as_document d t → IsLeftAt last (members t)
-repeated_begins d t last same none long places (zero, h) = absurd h
-repeated_begins d t last same none long places (suc n, h) =
+pub repeated_begins : (t : Tree) (known : Start) (last : LastPlaces) → IsOwnUpTo (bytes_of last.document) known → last.known ≡ known.offset → last.passed ≡ 0
+    → ((frames : List Frame) → IsWalk (drop 4 (bytes_of last.document)) frames Done → last.places.items ≡ last_places frames)
+    → ReadsAs as_document (bytes_of last.document) t → IsLeftAt last (members t)
+repeated_begins t known last is same none places (zero, h) = absurd h
+repeated_begins t known last is same none places (suc n, h) =
+    let d : List ℕ = bytes_of last.document in
     let each = each_read n h.1.0 h.0 h.1.2 in
-    (keep h.0, rw (same, none, places h.1.0 h.1.1) (frames_at d h.1.0 h.0 h.1.1 each long), ap members h.2)
+    (keep h.0, rw (same, none, places h.1.0 h.1.1) (frames_at known.offset d h.1.0 h.0 h.1.1 (is.before h.1.0 h.1.1) each last.document.envelope.enough), ap members h.2)
 
 pub document_code : (d : List ℕ) (t : Tree) → ReadsAs as_document d t → HasCode t None
 document_code d t (zero, h) = absurd h

@@ -10,6 +10,8 @@ pub mod Lasting
 pub mod Beginning
 pub mod Placing
 pub mod Leaving
+pub mod OwnForms
+pub mod Knowing
 pub mod Plain
 pub mod Writing
 pub mod Formed

@@ -1,19 +1,22 @@
 -- Elements that are written as they are read.
-use Rattle.std.proofs.Common.{◌≡◌, ◌∙◌, inl, inr, List, ℕ, ap, refl, sym}
+use Rattle.std.proofs.Common.{◌≡◌, ◌∙◌, inl, inr, List, ℕ, ap, refl, sym, subst}
 use Rattle.std.proofs.Math.Logic.{∥∥₁_elim}
 use Rattle.std.proofs.Props.{props}
 use Rattle.bson_model.specs.Leaf.{Leaf}
-use Rattle.raw_view.specs.Frame.Format.{element_of, leaf_payload}
-use Rattle.raw_view.specs.Frame.{HasPayload}
+use Rattle.bson_model.specs.Tree.{leaf}
+use Rattle.raw_view.specs.Frame.Format.{leaf_payload}
+use Rattle.raw_view.specs.Frame.{Frame, HasPayload}
 use Rattle.raw_view.specs.Frame.Kind.{kind_of_leaf}
 use Rattle.raw_view.specs.Meaning.{RawValue, MeansValue, kind_of_raw}
 use Rattle.raw_view.specs.Meaning as raw
 use Rattle.raw_view.specs.declared.element_type.ElementType.{ElementType}
 use Rattle.raw_view.specs.declared.element_type.ElementType.TheVariants as kind
 use Rattle.raw_tree.specs.Payload.{payload_of}
-use Rattle.raw_tree.specs.Reading.{leaf_in_order}
+use Rattle.raw_tree.specs.Encoding.{kind_of_tree, tree_payload}
+use Rattle.raw_tree.specs.Reading.{ReadsAs, StandsFor, leaf_in_order}
 use Rattle.raw_tree.proofs.Face.{value_spelled}
 use Rattle.raw_form.specs.Rewriting.{IsPlain}
+use Rattle.raw_form.specs.Staying.{IsOwnForm}
 
 -- a payload of a plain kind is that of a leaf, which stays as it is
 pub record IsPlainLeaf (k : ElementType) (p : List ℕ) (v : RawValue) : Type 0 where
@@ -53,15 +56,14 @@ plain_so kind.Decimal128 p v t m e = plain_as kind.Decimal128 p v _ e m refl ref
 plain_so kind.MaxKey p v t m e = plain_as kind.MaxKey p v _ e m refl refl
 plain_so kind.MinKey p v t m e = plain_as kind.MinKey p v _ e m refl refl
 
-pub plain_leaf : (k : ElementType) (p : List ℕ) (v : RawValue) → IsPlain k → ∥ HasPayload k p ∥₁ → MeansValue k p v → IsPlainLeaf k p v
+plain_leaf : (k : ElementType) (p : List ℕ) (v : RawValue) → IsPlain k → ∥ HasPayload k p ∥₁ → MeansValue k p v → IsPlainLeaf k p v
 plain_leaf k p v plain shape m =
     let same : payload_of v ≡ p = ∥∥₁_elim shape (hlevel props) (λ t. (value_spelled k p t.0 v t.1 m).0) in
     plain_so k p v plain m same
 
--- the leaf is written as the element is
-pub plain_element : (k : ElementType) (p key : List ℕ) (v : RawValue) (is : IsPlainLeaf k p v)
-    → element_of k key p ≡ element_of (kind_of_leaf (leaf_in_order is.leaf)) key (leaf_payload (leaf_in_order is.leaf))
-plain_element k p key v is =
-    let kind_same : k ≡ kind_of_leaf (leaf_in_order is.leaf) = sym is.kind_is ∙ ap kind_of_leaf (sym is.kept) in
-    let payload_same : p ≡ leaf_payload (leaf_in_order is.leaf) = sym is.payload ∙ ap leaf_payload (sym is.kept) in
-    λ i. element_of (kind_same i) key (payload_same i)
+-- so it is written as the element is
+pub plain_own : (f : Frame) → IsPlain f.kind → ∥ HasPayload f.kind f.payload ∥₁ → IsOwnForm f
+plain_own f plain shape t (v, means, stands) =
+    let is : IsPlainLeaf f.kind f.payload v = plain_leaf f.kind f.payload v plain shape means in
+    let whole : t ≡ leaf is.leaf = subst (λ (x : RawValue). StandsFor ReadsAs x t) is.single stands ∙ ap leaf is.kept in
+    (ap kind_of_tree whole ∙ is.kind_is, ap tree_payload whole ∙ is.payload)

@@ -8,6 +8,7 @@ use Rattle.raw_view.specs.Frame.Kind.{kind_of_leaf, tag_of}
 use Rattle.raw_view.specs.Meaning.{RawValue, KeyedFault, Means, faulty, kind_of_raw, value}
 use Rattle.raw_view.specs.Meaning as raw
 use Rattle.raw_view.specs.Frame.Number.{max_length}
+use Rattle.raw_view.specs.declared.element_type.ElementType.{ElementType}
 use Rattle.raw_view.specs.declared.error.Error.{Error}
 use Rattle.raw_view.proofs.Face.{one_meaning}
 use Rattle.raw_tree.specs.Encoding.{encoded_len, kind_of_tree, tree_payload}
@@ -17,6 +18,7 @@ use Rattle.raw_tree.specs.Reading.{leaf_in_order, Reads, ReadsAs, StandsFor}
 use Rattle.raw_tree.proofs.Face.{IsWriting, begun_at, left_in, left_with, length-tree_payload, one_value_of, room_left, writing_begins, writing_done, writing_ends, writing_inside, writing_leaf}
 use Rattle.raw_form.specs.Forms.{IsFormOf, RefusesFormOf}
 use Rattle.raw_form.specs.Rewriting.{FailsFor, HasCode, IsLeft, TakesNext, ended_by, header_len, held_opening, held_value, member_key}
+use Rattle.raw_form.specs.Staying.{IsWrittenAs}
 use Rattle.raw_form.specs.declared.held.Held.{Held}
 use Rattle.raw_form.specs.declared.held.Held.TheVariants as held
 use Rattle.raw_form.specs.declared.rewritten.Member.{Member}
@@ -150,19 +152,22 @@ module _ (b : List ℕ) (ws : List Rewritten) (level : Rewritten) (out : List �
       member_len : members_len is.here.left ≡ (2 + length key + encoded_len next.0) + members_len next.1
       member_len = ap members_len next.2 ∙ ap (λ (k : List ℕ). (2 + length k + encoded_len next.0) + members_len next.1) (sym key_is)
 
-      -- it holds no others
-      module _ (l : Leaf) (single : v ≡ raw.single l) where
-        leaf_is : next.0 ≡ leaf (leaf_in_order l)
-        leaf_is = subst (λ (x : RawValue). StandsFor ReadsAs x next.0) single stands
+      -- the tree of a leaf
+      pub leaf_written : (l : Leaf) → v ≡ raw.single l → IsWrittenAs (kind_of_leaf (leaf_in_order l)) (leaf_payload (leaf_in_order l)) next.0
+      leaf_written l single =
+          let leaf_is : next.0 ≡ leaf (leaf_in_order l) = subst (λ (x : RawValue). StandsFor ReadsAs x next.0) single stands in
+          (ap kind_of_tree leaf_is, ap tree_payload leaf_is)
 
-        pub leaf_refused : (e : Error) → FailsFor (length out + (2 + length key + length (leaf_payload (leaf_in_order l)))) e → RefusesFormOf b e
-        leaf_refused e fails =
-            refused_for b is.tree (length out + (2 + length key + length (leaf_payload (leaf_in_order l)))) e is.read fails (omega (arith, room, member_len, ap encoded_len leaf_is))
+      -- it is put as a whole
+      module _ (k : ElementType) (p : List ℕ) (written : IsWrittenAs k p next.0) where
+        pub put_refused : (e : Error) → FailsFor (length out + (2 + length key + length p)) e → RefusesFormOf b e
+        put_refused e fails =
+            refused_for b is.tree (length out + (2 + length key + length p)) e is.read fails (omega (arith, room, member_len, length-tree_payload next.0, ap length written.1))
 
-        pub rewriting_leaf : (more : List ℕ) → more ≡ out ++ element_of (kind_of_leaf (leaf_in_order l)) key (leaf_payload (leaf_in_order l)) → length more ≤ max_length → IsRewriting b ws new more
-        rewriting_leaf more e fits =
-            let element : element_of (kind_of_leaf (leaf_in_order l)) key (leaf_payload (leaf_in_order l)) ≡ element_of (kind_of_tree next.0)
-            (key_bytes (member_key m)) (tree_payload next.0) = λ i. element_of (kind_of_tree (sym leaf_is i)) (key_is i) (tree_payload (sym leaf_is i)) in
+        pub rewriting_put : (more : List ℕ) → more ≡ out ++ element_of k key p → length more ≤ max_length → IsRewriting b ws new more
+        rewriting_put more e fits =
+            let element : element_of k key p ≡ element_of (kind_of_tree next.0) (key_bytes (member_key m)) (tree_payload next.0) =
+            λ i. element_of (sym written.0 i) (key_is i) (sym written.1 i) in
             record {
               tree = is.tree;
               read = is.read;
@@ -174,8 +179,8 @@ module _ (b : List ℕ) (ws : List Rewritten) (level : Rewritten) (out : List �
               fits = fits;
             }
 
-        pub leaf_grows : (more : List ℕ) → more ≡ out ++ element_of (kind_of_leaf (leaf_in_order l)) key (leaf_payload (leaf_in_order l)) → length out < length more
-        leaf_grows more e = omega (arith, ap length e, length-append out (element_of (kind_of_leaf (leaf_in_order l)) key (leaf_payload (leaf_in_order l))))
+        pub put_grows : (more : List ℕ) → more ≡ out ++ element_of k key p → length out < length more
+        put_grows more e = omega (arith, ap length e, length-append out (element_of k key p))
 
       -- or it holds a level
       module _ (h : Held) (holds : v ≡ held_value h) where

@@ -18,6 +18,7 @@ use Rattle.raw_tree.specs.declared.validator.breach.Cause.TheVariants as cause
 use Rattle.raw_tree.specs.declared.validator.keys_so_far.KeysSoFar.{KeysSoFar}
 use Rattle.raw_form.specs.Barriers.{steps_of}
 use Rattle.raw_form.specs.Looking.{HasNoneBefore}
+use Rattle.raw_form.specs.Staying.{IsOwnUpTo}
 use Rattle.raw_form.specs.Verdicts.{Verdict, too_deep, breach_of, FirstVerdictTo}
 use Rattle.raw_form.specs.declared.judge.Held.{Held}
 use Rattle.raw_form.specs.declared.judge.Held.TheVariants as held
@@ -85,7 +86,7 @@ abbrev pub TellsFound : ℕ → List ℕ → Option Found → Type 0
 TellsFound depth b None = IsCanonicalUpTo depth as_document b
 TellsFound depth b (Some found) = FirstVerdictTo depth as_document b (verdict_of found.cause) (steps_of found.place) found.place.offset
 
--- the document b is canonical; or no element before this one has a barrier
+-- the document b is canonical; or no element before this one has a barrier, and what they stand for is written as they are
 abbrev pub TellsStart : ℕ → List ℕ → Option Start → Type 0
 TellsStart depth b None = IsCanonicalUpTo depth as_document b
-TellsStart depth b (Some start) = HasNoneBefore depth b start.number start.offset
+TellsStart depth b (Some start) = HasNoneBefore depth b start.number start.offset × IsOwnUpTo b start

@@ -1,5 +1,5 @@
 -- What is kept of a level that is rewritten, and what its helpers tell. No public contract cites this file.
-use Rattle.std.specs.Prelude.{◌≡◌, ◌⊎◌, ◌<◌, ◌≤◌, ◌+◌, ◌^◌, ◌++◌, ℕ, List, [], ◌∷◌, Option, None, Some, length, map}
+use Rattle.std.specs.Prelude.{◌≡◌, ◌⊎◌, ◌<◌, ◌≤◌, ◌+◌, ◌^◌, ◌++◌, ℕ, List, [], ◌∷◌, Option, None, Some, IsTrue, length, map}
 use Rattle.bson_model.specs.Tree.{Tree, leaf, array, document, code_with_scope, trees, entries}
 use Rattle.raw_view.specs.Document.{bytes_of}
 use Rattle.raw_view.specs.Frame.ElementSteps.{frame_of}
@@ -18,7 +18,7 @@ use Rattle.raw_tree.specs.Payload.{unset}
 use Rattle.raw_tree.specs.Members.{MemberKey, text, number, numbered, keyed, with_len}
 use Rattle.raw_tree.specs.Reading.{ReadsAs, ReadsRest, FrameStandsFor}
 use Rattle.raw_tree.specs.Validating.{left_of}
-use Rattle.raw_form.specs.Staying.{IsLeftAt}
+use Rattle.raw_form.specs.Staying.{AreNextOwn, IsLeftAt, IsOwnForm}
 use Rattle.raw_form.specs.declared.held.Held.{Held}
 use Rattle.raw_form.specs.declared.held.Held.TheVariants as held
 use Rattle.raw_form.specs.declared.rewritten.Keys.{Keys}
@@ -43,6 +43,11 @@ abbrev pub held_value : Held → RawValue
 held_value (held.Document d) = raw.document (bytes_of d)
 held_value (held.Array d) = raw.array (bytes_of d)
 held_value (held.Code code d) = raw.scoped code.now (bytes_of d)
+
+abbrev pub held_bytes : Held → List ℕ
+held_bytes (held.Document d) = bytes_of d
+held_bytes (held.Array d) = bytes_of d
+held_bytes (held.Code code d) = bytes_of d
 
 -- the value holds no level, or this one
 abbrev pub ShowsHeld : RawValue → Option Held → Type 0
@@ -82,6 +87,11 @@ abbrev pub IsRest : Option (List ℕ) → List (List ℕ × Tree) → Type 0
 IsRest None pairs = ⊥
 IsRest (Some s) pairs = ReadsRest ReadsAs s pairs
 
+-- so many frames in front of what is left are written as they are
+abbrev pub AreLeftOwn : ℕ → Option (List ℕ) → Type 0
+AreLeftOwn n None = Unit {0}
+AreLeftOwn n (Some s) = AreNextOwn n s
+
 -- no pair is left; or the element is that of the first, and the others are left
 abbrev pub TakesPair : Option (List ℕ) → List (List ℕ × Tree) → Option RawElement → Option (List ℕ) → Type 0
 TakesPair old pairs None new = pairs ≡ []
@@ -91,7 +101,7 @@ TakesPair old pairs (Some e) new =
 -- these members are left to be written
 abbrev pub IsLeft : Keys → Option (List ℕ) → List (MemberKey × Tree) → Type 0
 IsLeft (keys.Numbers n) left ms = (n + left_of left < 2 ^ 64) × (pairs : List (List ℕ × Tree)) × IsRest left pairs × (ms ≡ numbered n (trees (map (λ p. p.1) pairs)))
-IsLeft keys.Distinct left ms = (pairs : List (List ℕ × Tree)) × IsRest left pairs × (ms ≡ keyed (entries pairs))
+IsLeft (keys.Distinct n) left ms = (pairs : List (List ℕ × Tree)) × IsRest left pairs × (ms ≡ keyed (entries pairs)) × AreLeftOwn n left
 IsLeft (keys.Repeated last) left ms = IsLeftAt last.value ms
 
 -- the key under which a member is written
@@ -102,8 +112,9 @@ numbered_key (Some n) key = number n
 abbrev pub member_key : Member → MemberKey
 member_key m = numbered_key m.number (frame_of m.element).key
 
--- no member is left; or this is the first, and the others are left
+-- no member is left; or this is the first, and the others are left; where it's told so, it is written as it is
 abbrev pub TakesNext : List (MemberKey × Tree) → Option Member → Keys → Option (List ℕ) → Type 0
 TakesNext ms None k left = ms ≡ []
 TakesNext ms (Some m) k left =
     (t : Tree) × (rest : List (MemberKey × Tree)) × (ms ≡ (member_key m, t) ∷ rest) × FrameStandsFor (frame_of m.element) t × IsLeft k left rest
+    × (IsTrue m.is_known → IsOwnForm (frame_of m.element))

@@ -13,6 +13,7 @@ ghost use Rattle.raw_view.specs.Errors.{IsOutOfMemory};
 
 use crate::barrier::{Barrier, BarrierKind};
 use crate::faults::{FIRST, Start, first_behind};
+use crate::last::offset_of;
 use crate::rewriting::rewrite;
 use crate::verdict::judge_to_depth;
 use raw_tree::{Cause, Limits};
@@ -31,7 +32,7 @@ fn error_of(alloc: Global, barrier: Barrier<'_>) -> Error
 }
 
 /// `None` where a document is canonical and no deeper than this; else where its first barrier is looked for: at the element
-/// of the outermost level that breaches. The only error is out of memory.
+/// of the outermost level that breaches or holds what breaches. The only error is out of memory.
 fn start_of(alloc: Global, document: RawDocument<'_>, depth: usize) -> Result<Option<Start>>
     ensures start { IfOk result (TellsStart depth (bytes_of document.entry)) }
     ensures err { IfErr result IsOutOfMemory }
@@ -40,13 +41,14 @@ fn start_of(alloc: Global, document: RawDocument<'_>, depth: usize) -> Result<Op
         return Ok(None);
     };
     let path = found.place.path.as_slice();
-    if path.len() != 1 {
+    if path.len() == 0 {
         return Ok(Some(FIRST));
     }
+    let number = path[0].number;
     Ok(Some(Start {
-        number: path[0].number,
-        offset: found.place.offset,
-        repeats: matches!(found.cause, Some(Cause::RepeatedKey)),
+        number,
+        offset: offset_of(document, number),
+        repeats: path.len() == 1 && matches!(found.cause, Some(Cause::RepeatedKey)),
     }))
 }
 
@@ -66,7 +68,7 @@ fn form_within(alloc: Global, document: RawDocument<'_>, limits: Limits) -> Resu
     if let Some(barrier) = first_behind(alloc, document, start, limits.depth)? {
         return Err(error_of(alloc, barrier));
     }
-    rewrite(alloc, document, start.repeats)
+    rewrite(alloc, document, start)
 }
 
 /// The canonical form of a document within limits: the bytes that its tree is written as. Documents with equal trees, and

@@ -16,7 +16,7 @@ use raw_tree::Limits;
 use raw_view::{Elements, Error, RawDocument, Result};
 use std::alloc::Global;
 
-/// Where the first barrier is looked for.
+/// Where the first barrier is looked for: what is before it in the outermost level is canonical.
 #[derive(Clone, Copy)]
 pub(crate) struct Start {
     /// how many elements of the outermost level are before it

@@ -4,9 +4,11 @@
 ghost use Rattle.std.specs.Prelude.{IfOk, IfErr};
 ghost use Rattle.bson_model.specs.Tree.{Tree};
 ghost use Rattle.raw_form.specs.Forms.{IsFormOf, RefusesFormOf};
+ghost use Rattle.raw_form.specs.Staying.{IsOwnUpTo};
 ghost use Rattle.raw_tree.specs.Reading.{Reads};
 ghost use Rattle.raw_view.specs.Document.{bytes_of};
 
+use crate::faults::{FIRST, Start};
 use crate::held::{Held, is_plain, level_in, put_end, put_leaf, put_plain};
 use crate::rewritten::Rewritten;
 use itoa::Buffer;
@@ -14,10 +16,11 @@ use raw_view::{Error, RawDocument, Result};
 use std::alloc::Global;
 use std::mem;
 
-/// The encoding of the tree of a document that has one, in which a key is known to be repeated or isn't. The error is out of
-/// memory, or that the encoding is too long.
-pub(crate) fn rewrite(alloc: Global, document: RawDocument<'_>, repeats: bool) -> Result<Vec<u8>>
-    requires { (t : Tree) × Reads (bytes_of document) t }
+/// The encoding of the tree of a document that has one. What is before the start in the outermost level is canonical, and is
+/// written as it is. The error is out of memory, or that the encoding is too long.
+pub(crate) fn rewrite(alloc: Global, document: RawDocument<'_>, known: Start) -> Result<Vec<u8>>
+    requires read { (t : Tree) × Reads (bytes_of document) t }
+    requires known { IsOwnUpTo (bytes_of document) known }
     ensures form { IfOk result (λ form. IsFormOf (bytes_of document.entry) form.items) }
     ensures err { IfErr result (RefusesFormOf (bytes_of document.entry)) }
 {
@@ -26,7 +29,7 @@ pub(crate) fn rewrite(alloc: Global, document: RawDocument<'_>, repeats: bool) -
     whole.put_opening(&mut out)?;
     let mut listed = Vec::new(alloc);
     let mut waiting: Vec<Rewritten<'_>> = Vec::new(alloc);
-    let mut level = Rewritten::new(alloc, whole, 0, &mut listed, repeats)?;
+    let mut level = Rewritten::new(alloc, whole, 0, &mut listed, known)?;
     'levels: loop {
         let Some(member) = level.next() else {
             put_end(&mut out, level.start, &level.code_len)?;
@@ -38,7 +41,7 @@ pub(crate) fn rewrite(alloc: Global, document: RawDocument<'_>, repeats: bool) -
         };
         let mut buffer = Buffer::new();
         let key = member.key(&mut buffer);
-        if is_plain(member.element.element_type()) {
+        if member.is_known || is_plain(member.element.element_type()) {
             put_plain(&mut out, key, member.element)?;
             continue 'levels;
         }
@@ -52,7 +55,7 @@ pub(crate) fn rewrite(alloc: Global, document: RawDocument<'_>, repeats: bool) -
         inner.put_head(&mut out, key)?;
         let start = out.len() as u32;
         inner.put_opening(&mut out)?;
-        let inner = Rewritten::new(alloc, inner, start, &mut listed, false)?;
+        let inner = Rewritten::new(alloc, inner, start, &mut listed, FIRST)?;
         let outer = mem::replace(&mut level, inner);
         if waiting.push(outer).is_err() {
             return Err(Error::out_of_memory());

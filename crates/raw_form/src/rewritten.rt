@@ -5,7 +5,8 @@ ghost use Rattle.std.specs.Prelude.{◌≡◌, ◌≤◌, ℕ, List, Some, drop,
 ghost use Rattle.std.specs.List.{IsDistinct};
 ghost use Rattle.std.specs.Str.{bytes_eq};
 ghost use Rattle.bson_model.specs.Tree.{Tree};
-ghost use Rattle.raw_form.specs.Rewriting.{HasCode, IsLeft, TakesNext, held_opening, held_value, member_key};
+ghost use Rattle.raw_form.specs.Rewriting.{HasCode, IsLeft, TakesNext, held_bytes, held_opening, held_value, member_key};
+ghost use Rattle.raw_form.specs.Staying.{IsOwnUpTo};
 ghost use Rattle.raw_tree.specs.Breaches.{keys_of_frames};
 ghost use Rattle.raw_tree.specs.Members.{MemberKey, key_bytes, members};
 ghost use Rattle.raw_tree.specs.Reading.{ReadsAs, StandsFor, as_document};
@@ -15,6 +16,7 @@ ghost use Rattle.raw_view.specs.Frame.{Done, Frame, IsWalk};
 ghost use Rattle.raw_view.specs.Frame.Number.{max_length};
 
 use crate::code_len::CodeLen;
+use crate::faults::Start;
 use crate::held::Held;
 use crate::last::{LastPlaces, next_element, places_of};
 use itoa::Buffer;
@@ -27,8 +29,8 @@ use std::alloc::Global;
 pub(crate) enum Keys<'a> {
     /// those of an array: all, under the numbers from this one on
     Numbers(usize),
-    /// those of a document, no two of which have one key: all
-    Distinct,
+    /// those of a document, no two of which have one key: all; the next so many are known to be canonical
+    Distinct(usize),
     /// those of another document: of each key the last, in the place of the first
     Repeated(Box<LastPlaces<'a>>),
 }
@@ -46,11 +48,12 @@ pub(crate) struct Rewritten<'a> {
     pub(crate) code_len: CodeLen,
 }
 
-/// An element that stays, and in an array its new number.
+/// An element that stays, in an array its new number, and whether it is known to be canonical.
 #[derive(Clone, Copy)]
 pub(crate) struct Member<'a> {
     pub(crate) number: Option<usize>,
     pub(crate) element: RawElement<'a>,
+    pub(crate) is_known: bool,
 }
 
 impl<'a> Member<'a> {
@@ -65,26 +68,28 @@ impl<'a> Member<'a> {
     }
 }
 
-/// Which elements of a document stay that can be read as a tree, and in which a key is known to be repeated or isn't. The
-/// only error is out of memory.
+/// Which elements of a document stay that can be read as a tree, where what is before the start is canonical. The only error
+/// is out of memory.
 fn keys_of<'a>(
     alloc: Global,
     document: RawDocument<'a>,
     listed: &mut Vec<&'a str>,
-    repeats: bool,
+    known: Start,
 ) -> Result<Keys<'a>>
+    requires { IsOwnUpTo (bytes_of document) known }
     ensures left { (t : Tree)
         → ReadsAs as_document (bytes_of document.entry) t
         → IfOk result (λ keys. IsLeft keys (Some (drop 4 (bytes_of document.entry))) (members t)) }
     ensures err { IfErr result IsOutOfMemory }
 {
-    let Some(places) = places_of(alloc, document, listed, repeats)? else {
-        return Ok(Keys::Distinct);
+    let Some(places) = places_of(alloc, document, listed, known.repeats)? else {
+        return Ok(Keys::Distinct(known.number));
     };
     let last = LastPlaces {
         document,
         places,
         passed: 0,
+        known: known.offset,
     };
     Ok(Keys::Repeated(Box::new(alloc, last)?))
 }
@@ -112,14 +117,16 @@ fn level<'a>(
 impl<'a> Rewritten<'a> {
     /// The level that a value holds, which can be read as a tree, where its payload starts there. Its opening fits into a
     /// document. The only error is out of memory. The list is used to see which keys are repeated, unless one is known to be.
+    /// What is before the start in a level that is no array is canonical.
     pub(crate) fn new(
         alloc: Global,
         held: Held<'a>,
         start: u32,
         listed: &mut Vec<&'a str>,
-        repeats: bool,
+        known: Start,
     ) -> Result<Rewritten<'a>>
-        requires { length (held_opening held) ≤ max_length }
+        requires opening { length (held_opening held) ≤ max_length }
+        requires known { IsOwnUpTo (held_bytes held) known }
         ensures left { (t : Tree)
             → StandsFor ReadsAs (held_value held.entry) t
             → IfOk result
@@ -129,12 +136,12 @@ impl<'a> Rewritten<'a> {
     {
         match held {
             Held::Document(document) => {
-                let keys = keys_of(alloc, document, listed, repeats)?;
+                let keys = keys_of(alloc, document, listed, known)?;
                 Ok(level(document, keys, start, CodeLen::none()))
             }
             Held::Array(document) => Ok(level(document, Keys::Numbers(0), start, CodeLen::none())),
             Held::Code(code, document) => {
-                let keys = keys_of(alloc, document, listed, repeats)?;
+                let keys = keys_of(alloc, document, listed, known)?;
                 let code_len = CodeLen::of(code.len() as u32);
                 Ok(level(document, keys, start, code_len))
             }
@@ -158,20 +165,25 @@ impl<'a> Rewritten<'a> {
                 Some(Member {
                     number: Some(place),
                     element,
+                    is_known: false,
                 })
             }
-            Keys::Distinct => {
+            Keys::Distinct(known) => {
                 let element = next_element(&mut self.elements)?;
+                let count = *known;
+                *known = count.saturating_sub(1);
                 Some(Member {
                     number: None,
                     element,
+                    is_known: count != 0,
                 })
             }
             Keys::Repeated(last) => {
-                let element = last.next()?;
+                let (element, is_known) = last.next()?;
                 Some(Member {
                     number: None,
                     element,
+                    is_known,
                 })
             }
         }

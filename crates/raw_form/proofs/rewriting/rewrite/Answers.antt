@@ -1,16 +1,20 @@
-use Rattle.std.proofs.Common.{rules, ◌≡◌, ◌∙◌, ◌+◌, ◌++◌, ◌∷◌, [], List, ℕ, length, vec_len, arith, ap, refl, sym}
+use Rattle.std.proofs.Common.{rules, ◌≡◌, ◌∙◌, ◌+◌, ◌++◌, ◌∷◌, [], List, ℕ, length, vec_len, arith, ap, refl, subst}
 use Rattle.std.proofs.lemmas.Result.{err_from_is_err_and}
 use Rattle.raw_view.specs.Document.{bytes_of}
 use Rattle.raw_view.specs.Frame.ElementSteps.{frame_of}
 use Rattle.raw_view.specs.Frame.Format.{leaf_payload}
+use Rattle.raw_view.specs.Frame.Kind.{kind_of_leaf}
 use Rattle.raw_view.specs.Meaning.Value.{value_of}
 use Rattle.raw_tree.specs.Reading.{leaf_in_order}
-use Rattle.raw_form.specs.Rewriting.{held_opening, held_value}
+use Rattle.raw_form.specs.Rewriting.{IsPlain, held_opening, held_value}
 use Rattle.raw_form.specs.declared.held.Held.{Held}
 use Rattle.raw_form.specs.declared.held.Held.TheVariants as held
+use Rattle.raw_form.specs.Staying.{IsOwnForm}
+use Rattle.raw_form.proofs.Knowing.{known_to_first}
 use Rattle.raw_form.proofs.Leaving.{shows_held, shows_leaf}
-use Rattle.raw_form.proofs.Plain.{plain_element, plain_leaf}
-use Rattle.raw_form.proofs.Writing.{end_refused, fails_same, head_refused, header_put, held_stands, inside_grows, inside_refused, leaf_grows, leaf_refused, no_fault, rewriting_begins, rewriting_done, rewriting_ends, rewriting_inside, rewriting_leaf, something_left}
+use Rattle.raw_form.proofs.Plain.{plain_own}
+use Rattle.raw_form.proofs.Writing.{end_refused, fails_same, head_refused, header_put, held_stands, inside_grows, inside_refused, leaf_written, no_fault, put_grows, put_refused, rewriting_begins, rewriting_done, rewriting_ends, rewriting_inside, rewriting_put, something_left}
+use Rattle.raw_form.proofs.rewriting.rewrite.Goals.{then-member-via-then-member, then-member-via-else-member+then-is_plain}
 use Rattle.raw_form.proofs.rewriting.rewrite.Goals as goal
 
 pub levels-init : goal.levels-init
@@ -18,9 +22,9 @@ levels-init c =
     let b = bytes_of c.args.document in
     let h : Held = held.Document c.args.document in
     let out_is : c.put_opening.new.out.items ≡ held_opening h = c.in_ok-put_opening.ensures.items ∙ ap (λ (x : List ℕ). x ++ held_opening h) c.in_ok-out.ensures.items in
-    rewriting_begins b c.requires.0 h c.in_ok-level.level c.new-waiting.result.items c.put_opening.new.out.items c.requires.1 refl c.new-waiting.ensures.items
+    rewriting_begins b c.requires.read.0 h c.in_ok-level.level c.new-waiting.result.items c.put_opening.new.out.items c.requires.read.1 refl c.new-waiting.ensures.items
     out_is (omega (arith, c.in_ok-put_opening.ensures.fits, c.put_opening.new.out.ok.0)) c.in_ok-level.ensures.start
-    (c.in_ok-level.ensures.left c.requires.0 c.requires.1)
+    (c.in_ok-level.ensures.left c.requires.read.0 c.requires.read.1)
 
 pub next-requires : goal.next-requires
 next-requires c = something_left (bytes_of c.args.document) c.levels.waiting.items c.levels.level c.levels.out.items c.levels.invariant
@@ -94,10 +98,13 @@ returns-in_err-put_leaf-clause-err c =
     let v = value_of c.in-Ok.value in
     let next = c.in-Some.ensures.next is.here.left is.begun.left in
     let leaf = shows_leaf v c.in_default-level_in.ensures in
+    let l = leaf_in_order leaf.0 in
+    let written = leaf_written b ws c.levels.level out is new c.next.ensures.start c.next.ensures.code_len c.in-Some.member v next c.in-Ok.ensures.value
+    c.key-key.result.now c.key-key.ensures leaf.0 leaf.1 in
     let p = err_from_is_err_and c.from_residual-in_err-put_leaf.result c.from_residual-in_err-put_leaf.ensures.1 in
     let size : vec_len c.levels.out ≡ length out = omega (arith, c.levels.out.ok.0) in
-    rw p.1 (leaf_refused b ws c.levels.level out is new c.next.ensures.start c.next.ensures.code_len c.in-Some.member v next c.in-Ok.ensures.value
-    c.key-key.result.now c.key-key.ensures leaf.0 leaf.1 p.0 (rw (p.2, ← size) (c.in_err-put_leaf.ensures.err leaf.0 leaf.1)))
+    rw p.1 (put_refused b ws c.levels.level out is new c.next.ensures.start c.next.ensures.code_len c.in-Some.member v next c.in-Ok.ensures.value
+    c.key-key.result.now c.key-key.ensures (kind_of_leaf l) (leaf_payload l) written p.0 (rw (p.2, ← size) (c.in_err-put_leaf.ensures.err leaf.0 leaf.1)))
 
 pub levels-smaller-in_default-level_in : goal.levels-smaller-in_default-level_in
 levels-smaller-in_default-level_in c =
@@ -109,8 +116,11 @@ levels-smaller-in_default-level_in c =
     let v = value_of c.in-Ok.value in
     let next = c.in-Some.ensures.next is.here.left is.begun.left in
     let leaf = shows_leaf v c.in_default-level_in.ensures in
-    let grows = leaf_grows b ws c.levels.level out is new c.next.ensures.start c.next.ensures.code_len c.in-Some.member v next c.in-Ok.ensures.value
-    c.key-key.result.now c.key-key.ensures leaf.0 leaf.1 c.put_leaf.new.out.items (c.in_ok-put_leaf.ensures.items leaf.0 leaf.1) in
+    let l = leaf_in_order leaf.0 in
+    let written = leaf_written b ws c.levels.level out is new c.next.ensures.start c.next.ensures.code_len c.in-Some.member v next c.in-Ok.ensures.value
+    c.key-key.result.now c.key-key.ensures leaf.0 leaf.1 in
+    let grows = put_grows b ws c.levels.level out is new c.next.ensures.start c.next.ensures.code_len c.in-Some.member v next c.in-Ok.ensures.value
+    c.key-key.result.now c.key-key.ensures (kind_of_leaf l) (leaf_payload l) written c.put_leaf.new.out.items (c.in_ok-put_leaf.ensures.items leaf.0 leaf.1) in
     omega (arith, grows, c.in_ok-put_leaf.ensures.fits, c.put_leaf.new.out.ok.0)
 
 pub levels-preserved-in_default-level_in : goal.levels-preserved-in_default-level_in
@@ -123,8 +133,11 @@ levels-preserved-in_default-level_in c =
     let v = value_of c.in-Ok.value in
     let next = c.in-Some.ensures.next is.here.left is.begun.left in
     let leaf = shows_leaf v c.in_default-level_in.ensures in
-    rewriting_leaf b ws c.levels.level out is new c.next.ensures.start c.next.ensures.code_len c.in-Some.member v next c.in-Ok.ensures.value
-    c.key-key.result.now c.key-key.ensures leaf.0 leaf.1 c.put_leaf.new.out.items (c.in_ok-put_leaf.ensures.items leaf.0 leaf.1)
+    let l = leaf_in_order leaf.0 in
+    let written = leaf_written b ws c.levels.level out is new c.next.ensures.start c.next.ensures.code_len c.in-Some.member v next c.in-Ok.ensures.value
+    c.key-key.result.now c.key-key.ensures leaf.0 leaf.1 in
+    rewriting_put b ws c.levels.level out is new c.next.ensures.start c.next.ensures.code_len c.in-Some.member v next c.in-Ok.ensures.value
+    c.key-key.result.now c.key-key.ensures (kind_of_leaf l) (leaf_payload l) written c.put_leaf.new.out.items (c.in_ok-put_leaf.ensures.items leaf.0 leaf.1)
     (omega (arith, c.in_ok-put_leaf.ensures.fits, c.put_leaf.new.out.ok.0))
 
 pub returns-in_err-put_head-clause-err : goal.returns-in_err-put_head-clause-err
@@ -196,6 +209,9 @@ levels-preserved c =
     c.in_ok-put_opening-2.ensures.items (c.in_ok-inner.ensures.left next.0 inside)
     (omega (arith, c.in_ok-put_opening-2.ensures.fits, c.put_opening-in-levels.new.out.ok.0)))
 
+pub new-requires-in-levels-clause-known : goal.new-requires-in-levels-clause-known
+new-requires-in-levels-clause-known c = known_to_first _ _ refl refl
+
 pub returns-in_err-put_plain-clause-err : goal.returns-in_err-put_plain-clause-err
 returns-in_err-put_plain-clause-err c =
     let b = bytes_of c.args.document in
@@ -206,16 +222,18 @@ returns-in_err-put_plain-clause-err c =
     let next = c.in-Some.ensures.next is.here.left is.begun.left in
     let f = frame_of c.in-Some.member.element in
     let key = c.key-key.result.now in
-    let plain = plain_leaf f.kind f.payload next.3.0 (search rules) c.in-Some.member.element.framed next.3.1 in
+    let own : IsOwnForm f =
+    elim c.then-member.branch [
+      | then-member-via-then-member w ↦ next.5 w.if-member.true
+      | then-member-via-else-member+then-is_plain w ↦ plain_own f (subst IsPlain w.element_type.ensures (w.is_plain.ensures w.if-is_plain.true)) c.in-Some.member.element.framed
+    ] in
     let p = err_from_is_err_and c.from_residual-in_err-put_plain.result c.from_residual-in_err-put_plain.ensures.1 in
-    let payload : f.payload ≡ leaf_payload (leaf_in_order plain.leaf) = sym plain.payload ∙ ap leaf_payload (sym plain.kept) in
-    let size : vec_len c.levels.out + (2 + length key + length f.payload) ≡ length out + (2 + length key + length (leaf_payload (leaf_in_order plain.leaf))) =
-    omega (arith, c.levels.out.ok.0, ap length payload) in
-    rw p.1 (leaf_refused b ws c.levels.level out is new c.next.ensures.start c.next.ensures.code_len c.in-Some.member next.3.0 next next.3.1 key
-    c.key-key.ensures plain.leaf plain.single p.0 (rw p.2 (fails_same _ _ _ size c.in_err-put_plain.ensures.err)))
+    let size : vec_len c.levels.out + (2 + length key + length f.payload) ≡ length out + (2 + length key + length f.payload) = omega (arith, c.levels.out.ok.0) in
+    rw p.1 (put_refused b ws c.levels.level out is new c.next.ensures.start c.next.ensures.code_len c.in-Some.member next.3.0 next next.3.1 key
+    c.key-key.ensures f.kind f.payload (own next.0 next.3) p.0 (rw p.2 (fails_same _ _ _ size c.in_err-put_plain.ensures.err)))
 
-pub levels-smaller-then-is_plain : goal.levels-smaller-then-is_plain
-levels-smaller-then-is_plain c =
+pub levels-smaller-then-member : goal.levels-smaller-then-member
+levels-smaller-then-member c =
     let b = bytes_of c.args.document in
     let ws = c.levels.waiting.items in
     let out = c.levels.out.items in
@@ -224,14 +242,17 @@ levels-smaller-then-is_plain c =
     let next = c.in-Some.ensures.next is.here.left is.begun.left in
     let f = frame_of c.in-Some.member.element in
     let key = c.key-key.result.now in
-    let plain = plain_leaf f.kind f.payload next.3.0 (search rules) c.in-Some.member.element.framed next.3.1 in
-    let same = plain_element f.kind f.payload key next.3.0 plain in
-    let grows = leaf_grows b ws c.levels.level out is new c.next.ensures.start c.next.ensures.code_len c.in-Some.member next.3.0 next next.3.1 key
-    c.key-key.ensures plain.leaf plain.single c.put_plain.new.out.items (c.in_ok-put_plain.ensures.items ∙ ap (λ (x : List ℕ). out ++ x) same) in
+    let own : IsOwnForm f =
+    elim c.then-member.branch [
+      | then-member-via-then-member w ↦ next.5 w.if-member.true
+      | then-member-via-else-member+then-is_plain w ↦ plain_own f (subst IsPlain w.element_type.ensures (w.is_plain.ensures w.if-is_plain.true)) c.in-Some.member.element.framed
+    ] in
+    let grows = put_grows b ws c.levels.level out is new c.next.ensures.start c.next.ensures.code_len c.in-Some.member next.3.0 next next.3.1 key
+    c.key-key.ensures f.kind f.payload (own next.0 next.3) c.put_plain.new.out.items c.in_ok-put_plain.ensures.items in
     omega (arith, grows, c.in_ok-put_plain.ensures.fits, c.put_plain.new.out.ok.0)
 
-pub levels-preserved-then-is_plain : goal.levels-preserved-then-is_plain
-levels-preserved-then-is_plain c =
+pub levels-preserved-then-member : goal.levels-preserved-then-member
+levels-preserved-then-member c =
     let b = bytes_of c.args.document in
     let ws = c.levels.waiting.items in
     let out = c.levels.out.items in
@@ -240,8 +261,10 @@ levels-preserved-then-is_plain c =
     let next = c.in-Some.ensures.next is.here.left is.begun.left in
     let f = frame_of c.in-Some.member.element in
     let key = c.key-key.result.now in
-    let plain = plain_leaf f.kind f.payload next.3.0 (search rules) c.in-Some.member.element.framed next.3.1 in
-    let same = plain_element f.kind f.payload key next.3.0 plain in
-    rewriting_leaf b ws c.levels.level out is new c.next.ensures.start c.next.ensures.code_len c.in-Some.member next.3.0 next next.3.1 key c.key-key.ensures
-    plain.leaf plain.single c.put_plain.new.out.items (c.in_ok-put_plain.ensures.items ∙ ap (λ (x : List ℕ). out ++ x) same)
-    (omega (arith, c.in_ok-put_plain.ensures.fits, c.put_plain.new.out.ok.0))
+    let own : IsOwnForm f =
+    elim c.then-member.branch [
+      | then-member-via-then-member w ↦ next.5 w.if-member.true
+      | then-member-via-else-member+then-is_plain w ↦ plain_own f (subst IsPlain w.element_type.ensures (w.is_plain.ensures w.if-is_plain.true)) c.in-Some.member.element.framed
+    ] in
+    rewriting_put b ws c.levels.level out is new c.next.ensures.start c.next.ensures.code_len c.in-Some.member next.3.0 next next.3.1 key c.key-key.ensures
+    f.kind f.payload (own next.0 next.3) c.put_plain.new.out.items c.in_ok-put_plain.ensures.items (omega (arith, c.in_ok-put_plain.ensures.fits, c.put_plain.new.out.ok.0))

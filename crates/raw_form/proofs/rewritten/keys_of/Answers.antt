@@ -6,14 +6,14 @@ use Rattle.raw_form.proofs.Leaving.{distinct_begins, repeated_begins}
 use Rattle.raw_form.proofs.rewritten.keys_of.Goals as goal
 
 pub returns-in_default-clause-left : goal.returns-in_default-clause-left
-returns-in_default-clause-left c t read = distinct_begins (bytes_of c.args.document) t
+returns-in_default-clause-left c t read = distinct_begins (bytes_of c.args.document) t c.args.known c.requires
     (λ frames w. subst (λ (x : Option (Vec ℕ Global)). HasLastPlaces (option_map (λ v. v.items) x) frames) c.in_default.is (c.in_ok-places.ensures.places frames w))
     read
 
 pub returns-clause-left : goal.returns-clause-left
 returns-clause-left c t read =
-    let last : LastPlaces = record { document = c.args.document; places = c.in-Some.places; passed = 0 } in
+    let last : LastPlaces = record { document = c.args.document; places = c.in-Some.places; passed = 0; known = c.args.known.offset } in
     let same : c.in_ok-new.field-0.value ≡ last = c.in_ok-new.ensures.ok in
-    rw same (repeated_begins (bytes_of c.args.document) t last refl refl c.args.document.envelope.enough
+    rw same (repeated_begins t c.args.known last c.requires refl refl
     (λ frames w. subst (λ (x : Option (Vec ℕ Global)). HasLastPlaces (option_map (λ v. v.items) x) frames) c.in-Some.is (c.in_ok-places.ensures.places frames w))
     read)
