@@ -1,7 +1,6 @@
 -- The items of a document are determined.
 use Rattle.std.proofs.Common.{◌≡◌, ℕ, List, [], ◌∷◌, drop, sym, ◌∙◌}
 use Rattle.raw_view.specs.Frame.{Frame, End, Done, Stopped}
-use Rattle.raw_view.specs.Meaning.{Meaning}
 use Rattle.raw_view.specs.Meaning.Item.{Item, ItemsOf, AreItems}
 use Rattle.raw_view.specs.OneReading.{AreTheItems}
 use Rattle.raw_view.proofs.Unique.Walks.{one_walk}

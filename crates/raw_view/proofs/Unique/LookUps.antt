@@ -1,8 +1,8 @@
 -- What a look-up finds is determined.
-use Rattle.std.proofs.Common.{refl, ◌≡◌, ◌≢◌, inl, inr, ℕ, List, [], ◌∷◌, ◌<◌, ◌≤◌, length, drop, ap, sym, ◌∙◌, subst, arith, Option, Some}
+use Rattle.std.proofs.Common.{refl, ◌≡◌, ◌≢◌, ℕ, List, [], ◌∷◌, ◌<◌, length, drop, ap, sym, ◌∙◌, subst, arith, Option, Some}
 use Rattle.raw_view.specs.Frame.{Frame, IsFrame, End, IsWalk, LeadsTo}
-use Rattle.raw_view.specs.Meaning.{Meaning, Means}
-use Rattle.raw_view.specs.LookUp.{found_at_end, HasNoKey, FoundElement, found, missing, FindsElement, FindsElementAt, IsMeant, MeansFound, LooksUp, FoundItem, at_frame, at_end, past_end, FindsItem, MeansItem, IsAt, KeyAnswer, present, absent, FindsKey}
+use Rattle.raw_view.specs.Meaning.{Meaning}
+use Rattle.raw_view.specs.LookUp.{HasNoKey, FoundElement, found, missing, FindsElement, FindsElementAt, IsMeant, MeansFound, LooksUp, FoundItem, at_frame, at_end, past_end, FindsItem, MeansItem, IsAt, KeyAnswer, present, absent, FindsKey}
 use Rattle.raw_view.specs.LookUp.ElementLookUp.{IsTheElement, IsTheElementAt}
 use Rattle.raw_view.specs.OneReading.{IsTheAnswer, IsTheKeyAnswer, IsTheAnswerAt}
 use Rattle.raw_view.proofs.Unique.Walks.{one_frame, one_walk, no_frame_at_end}

@@ -1,6 +1,5 @@
-use Rattle.std.proofs.Common.{◌≢◌, ◌<◌, ◌+◌, length, rules, arith}
+use Rattle.std.proofs.Common.{◌≢◌, ◌<◌, length, rules, arith}
 use Rattle.std.proofs.lemmas.List.Elements.{All-more}
-use Rattle.std.specs.List.{All}
 use Rattle.raw_view.proofs.Bytes.AsciiLanes.{ascii_of_each}
 use Rattle.raw_view.proofs.front.c_string.split_last_text.Goals as goal
 
