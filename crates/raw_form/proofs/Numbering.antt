@@ -1,16 +1,17 @@
 -- Keys that are numbered in the order in which they come first, and their places.
-use Rattle.std.proofs.Common.{◌≡◌, ◌∙◌, ◌<◌, ◌++◌, ◌∷◌, [], ℕ, suc, Bool, true, false, cond, List, Option, None, Some, option_map, length, map, slice_set, arith, ap, refl, sym, subst}
+use Rattle.std.proofs.Common.{◌≡◌, ◌≢◌, ◌∙◌, ◌<◌, ◌++◌, ◌∷◌, [], ℕ, suc, Bool, true, false, cond, List, Option, None, Some, option_map, length, map, slice_set, arith, ap, refl, sym, subst}
 use denote.Ref.{Bor}
 use Rattle.std.proofs.lemmas.Cmp.{tied_itself, nat_cmp_total}
 use Rattle.std.proofs.lemmas.List.{length-map, map-append}
 use Rattle.std.proofs.lemmas.Map.Text.{is_eq-slice_cmp}
-use Rattle.std.specs.BTreeMap.{BTreeMap, IsEmpty, UpdatesBy, get}
+use Rattle.std.specs.BTreeMap.{BTreeMap, IsEmpty, get}
 use Rattle.std.specs.Cmp.Lexicographic.{slice_cmp}
+use Rattle.std.specs.Option.{unwrap_or}
 use Rattle.std.specs.Ordering.{is_eq, nat_cmp, ordering_then}
 use Rattle.std.specs.Str.{bytes_eq}
 use Rattle.std.specs.declared.cmp.Ordering.TheVariants.{Less, Equal, Greater}
 use Rattle.bson_model.specs.Pairs.{keys_of, with_pair}
-use Rattle.raw_form.specs.Staying.{AreNumbered, hash_of, key_cmp, number_in}
+use Rattle.raw_form.specs.Staying.{AreNumbered, GivesNumber, hash_of, key_cmp, number_in}
 use Rattle.raw_form.proofs.Keeping.{first_or, flipped, same_key}
 
 -- keys that compare equal are one
@@ -98,13 +99,26 @@ pub number_within : (numbers : BTreeMap (ℕ × Bor (List ℕ)) ℕ) (places : L
 number_within numbers places pairs k i are there =
     omega (arith, (replaced k.now 0 pairs i (sym (are.number k) ∙ there)).within, ap length are.place, length-map pairs (λ (p : List ℕ × ℕ). p.1))
 
-pub numbered_again : (numbers : BTreeMap (ℕ × Bor (List ℕ)) ℕ) (places : List ℕ) (pairs : List (List ℕ × ℕ)) (k : Bor (List ℕ)) (i v : ℕ)
-    → AreNumbered numbers places pairs → get key_cmp numbers (hash_of k.now, k) ≡ Some i → AreNumbered numbers (slice_set places i v) (with_pair k.now v pairs)
-numbered_again numbers places pairs k i v are there =
-    let there = replaced k.now v pairs i (sym (are.number k) ∙ there) in
+kept_number : (keys : List (List ℕ)) (k q : List ℕ) (n : ℕ) → number_in keys k ≡ Some n → cond (bytes_eq q k) (Some n) (number_in keys q) ≡ number_in keys q
+kept_number keys k q n is =
+    elim (bytes_eq q k) as (λ b. bytes_eq q k ≡ b → cond b (Some n) (number_in keys q) ≡ number_in keys q) [
+      | true ↦ λ e. sym (ap (λ (x : List ℕ). number_in keys x) (same_key q k e) ∙ is)
+      | false ↦ λ e. refl
+    ] refl
+
+pub numbered_again : (old new : BTreeMap (ℕ × Bor (List ℕ)) ℕ) (places : List ℕ) (pairs : List (List ℕ × ℕ)) (k : Bor (List ℕ)) (i v : ℕ)
+    → AreNumbered old places pairs → get key_cmp old (hash_of k.now, k) ≡ Some i → GivesNumber old (hash_of k.now) k i new
+    → AreNumbered new (slice_set places i v) (with_pair k.now v pairs)
+numbered_again old new places pairs k i v are there updates =
+    let number : number_in (keys_of pairs) k.now ≡ Some i = sym (are.number k) ∙ there in
+    let same = replaced k.now v pairs i number in
     record {
-      number = λ q. are.number q ∙ ap (λ (keys : List (List ℕ)). number_in keys q.now) (sym there.keys);
-      place = ap (λ (xs : List ℕ). slice_set xs i v) are.place ∙ sym there.values;
+      number = λ q. updates (hash_of q.now, q)
+          ∙ ap (λ (b : Bool). cond b (Some i) (get key_cmp old (hash_of q.now, q))) (key_same k q)
+          ∙ ap (λ (o : Option ℕ). cond (bytes_eq q.now k.now) (Some i) o) (are.number q)
+          ∙ kept_number (keys_of pairs) k.now q.now i number
+          ∙ ap (λ (keys : List (List ℕ)). number_in keys q.now) (sym same.keys);
+      place = ap (λ (xs : List ℕ). slice_set xs i v) are.place ∙ sym same.values;
     }
 
 put_last : (q k : List ℕ) (n : ℕ) (keys : List (List ℕ)) → number_in keys k ≡ None
@@ -118,7 +132,7 @@ put_last q k n keys none =
     ] refl
 
 pub numbered_more : (old new : BTreeMap (ℕ × Bor (List ℕ)) ℕ) (places : List ℕ) (pairs : List (List ℕ × ℕ)) (k : Bor (List ℕ)) (n v : ℕ)
-    → AreNumbered old places pairs → get key_cmp old (hash_of k.now, k) ≡ None → UpdatesBy key_cmp (key_cmp (hash_of k.now, k)) old new (Some n)
+    → AreNumbered old places pairs → get key_cmp old (hash_of k.now, k) ≡ None → GivesNumber old (hash_of k.now) k n new
     → n ≡ length places → AreNumbered new (places ++ v ∷ []) (with_pair k.now v pairs)
 numbered_more old new places pairs k n v are absent updates count =
     let none : number_in (keys_of pairs) k.now ≡ None = sym (are.number k) ∙ absent in
@@ -126,7 +140,7 @@ numbered_more old new places pairs k n v are absent updates count =
     let keys : keys_of (pairs ++ (k.now, v) ∷ []) ≡ keys_of pairs ++ k.now ∷ [] = map-append (λ (p : List ℕ × ℕ). p.0) pairs ((k.now, v) ∷ []) in
     let many : n ≡ length (keys_of pairs) = count ∙ ap length are.place ∙ length-map pairs (λ (p : List ℕ × ℕ). p.1) ∙ sym (length-map pairs (λ (p : List ℕ × ℕ). p.0)) in
     rw last (record {
-      number = λ q. updates.0 (hash_of q.now, q)
+      number = λ q. updates (hash_of q.now, q)
           ∙ ap (λ (b : Bool). cond b (Some n) (get key_cmp old (hash_of q.now, q))) (key_same k q)
           ∙ ap (λ (o : Option ℕ). cond (bytes_eq q.now k.now) (Some n) o) (are.number q)
           ∙ put_last q.now k.now n (keys_of pairs) none
@@ -135,3 +149,13 @@ numbered_more old new places pairs k n v are absent updates count =
           ∙ ap (λ (ks : List (List ℕ)). number_in ks q.now) (sym keys);
       place = ap (λ (xs : List ℕ). xs ++ v ∷ []) are.place ∙ sym (map-append (λ (p : List ℕ × ℕ). p.1) pairs ((k.now, v) ∷ []));
     })
+
+-- what is at a key of the map once it has a number: that which it had, or the next
+
+pub number_new : (found : Option ℕ) (n next : ℕ) → n ≡ unwrap_or found next → n ≡ next → ((i : ℕ) → found ≡ Some i → i < next) → found ≡ None
+number_new None n next is e below = refl
+number_new (Some i) n next is e below = absurd (omega (arith, below i refl, is, e))
+
+pub number_old : (found : Option ℕ) (n next : ℕ) → n ≡ unwrap_or found next → n ≢ next → found ≡ Some n
+number_old None n next is apart = absurd (apart is)
+number_old (Some i) n next is apart = ap (λ (m : ℕ). Some m) (sym is)

@@ -1,7 +1,7 @@
 -- Which frames of a level stay in the canonical form, and what is left of a level that is rewritten. No public contract
 -- cites this file.
 use Rattle.std.specs.Prelude.{◌≡◌, ◌+◌, ◌<◌, ◌≤◌, ℕ, zero, suc, Bool, IsTrue, List, [], ◌∷◌, Option, None, Some, if◌then◌else◌, drop, length, map, option_map}
-use Rattle.std.specs.BTreeMap.{BTreeMap, get}
+use Rattle.std.specs.BTreeMap.{BTreeMap, get, is_at}
 use Rattle.std.specs.Cmp.Lexicographic.{slice_cmp}
 use Rattle.std.specs.Hash.FoldHasher as folding
 use Rattle.std.specs.List.{IsDistinct}
@@ -112,3 +112,7 @@ key_cmp x y = ordering_then (nat_cmp x.0 y.0) (slice_cmp nat_cmp x.1.now y.1.now
 pub record AreNumbered (numbers : BTreeMap (ℕ × Bor (List ℕ)) ℕ) (places : List ℕ) (pairs : List (List ℕ × ℕ)) : Type 0 where
   pub number : (q : Bor (List ℕ)) → get key_cmp numbers (hash_of q.now, q) ≡ number_in (keys_of pairs) q.now
   pub place : places ≡ map (λ p. p.1) pairs
+
+-- the key has this number in the map, and each other the one that it had
+abbrev pub GivesNumber : BTreeMap (ℕ × Bor (List ℕ)) ℕ → ℕ → Bor (List ℕ) → ℕ → BTreeMap (ℕ × Bor (List ℕ)) ℕ → Type 0
+GivesNumber old hash key n new = (q : ℕ × Bor (List ℕ)) → get key_cmp new q ≡ (if is_at (key_cmp (hash, key)) q then Some n else get key_cmp old q)

@@ -1,12 +1,13 @@
 //! Keys that are numbered in the order in which they come first.
 #![tactic(auto)]
 
-ghost use Rattle.std.specs.Prelude.{◌≡◌, ◌≤◌, ◌+◌, ℕ, List, length, IfErr, OnOk};
+ghost use Rattle.std.specs.Prelude.{◌≡◌, ◌≤◌, ◌+◌, ℕ, List, length, unwrap_or, IfErr, IfOk, OnOk};
+ghost use Rattle.std.specs.BTreeMap.{get};
 ghost use Rattle.bson_model.specs.Pairs.{with_pair};
-ghost use Rattle.raw_form.specs.Staying.{AreNumbered, hash_of};
+ghost use Rattle.raw_form.specs.Staying.{AreNumbered, GivesNumber, hash_of, key_cmp};
 ghost use Rattle.raw_view.specs.Errors.{IsOutOfMemory};
 
-use raw_view::{Error, Result};
+use raw_view::Result;
 use std::collections::BTreeMap;
 use std::hash::{FoldHasher, Hasher};
 
@@ -16,6 +17,26 @@ fn hash_of(key: &str) -> u64
     let mut hasher = FoldHasher::default();
     hasher.write(key.as_bytes());
     hasher.finish()
+}
+
+/// The number of a key, which is the next where it has none. The only error is out of memory.
+fn number_of<'a>(
+    numbers: &mut BTreeMap<(u64, &'a str), u32>,
+    hash: u64,
+    key: &'a str,
+    next: u32,
+) -> Result<u32>
+    ensures number { IfOk result
+        (λ number. number ≡ unwrap_or (get key_cmp numbers.old (hash, key.entry)) next) }
+    ensures updates { IfOk result
+        (λ number. GivesNumber numbers.old hash key.entry number numbers.new) }
+    ensures err { IfErr result IsOutOfMemory }
+{
+    let Some(number) = numbers.insert((hash, key), next)? else {
+        return Ok(next);
+    };
+    numbers.insert((hash, key), number)?;
+    Ok(number)
 }
 
 /// Puts the place of an element last, if no element before has its key; else in the place of that of the last with this key.
@@ -34,14 +55,12 @@ pub(crate) fn put_place<'a>(
     ensures few { length places.new.items ≤ place + 1 }
     ensures err { IfErr result IsOutOfMemory }
 {
-    let hash = hash_of(key);
-    if let Some(number) = numbers.get(&(hash, key)) {
-        places[*number as usize] = place;
-        return Ok(());
-    }
-    let number = places.len() as u32;
-    if numbers.insert((hash, key), number).is_err() || places.push(place).is_err() {
-        return Err(Error::out_of_memory());
+    let next = places.len() as u32;
+    let number = number_of(numbers, hash_of(key), key, next)?;
+    if number == next {
+        places.push(place)?;
+    } else {
+        places[number as usize] = place;
     }
     Ok(())
 }
