@@ -1,7 +1,7 @@
 -- How much is left to let go.
-use Rattle.std.proofs.Common.{◌≡◌, ℕ, ◌+◌, ◌<◌, List, [], ◌∷◌, ◌++◌, length, map, Option, None, Some, MatchOption, Vec, vec_len, Global, slice_index_or, slice_set, refl, ap, sym, ◌∙◌, arith}
+use Rattle.std.proofs.Common.{◌≡◌, ℕ, ◌+◌, ◌<◌, List, [], ◌∷◌, ◌++◌, length, map, Option, None, Some, Vec, Global, slice_index_or, slice_set, refl, ap, sym, ◌∙◌, arith}
 use Rattle.std.specs.Option.{IfSome, option_to_list}
-use Rattle.std.proofs.lemmas.List.{append_assoc, map-append, length-map, nil_from_length}
+use Rattle.std.proofs.lemmas.List.{append_assoc, map-append, length-map}
 use Rattle.bson_model.proofs.Steps.{items_in-trees}
 use Rattle.bson_model.proofs.Trees.{tree_of-Array, tree_of-Document, tree_of-JavaScriptCodeWithScope}
 use Rattle.bson_model.specs.LeftTrees.{members, size_of, size_of_items, size_of_entries, load_of, load_of_items, load_of_entries, sizes, load, left, IsCutFrom, IsLess}
@@ -108,15 +108,6 @@ is_less-outside outer (v ∷ vs) first held some e t m =
     outside : (us : List Tree) → 0 < length us → load (array (trees us) ∷ map tree_of vs ++ tree_of v ∷ []) < load (us ++ t ∷ [])
     outside [] h = absurd (omega arith)
     outside (u ∷ us) h = less-outside u us (tree_of v) (map tree_of vs) t m
-
--- where nothing came of a list, nothing is left of it
-pub none_popped : (old new : Vec Bson Global) (last : Option Bson) → MatchOption last ((vec_len old ≡ 0) × (vec_len new ≡ 0)) (λ x. vec_len new + 1 ≡ vec_len old) → last ≡ None → new.items ≡ []
-none_popped old new None h e = nil_from_length new.items (omega (arith, h.1, new.ok.0))
-none_popped old new (Some x) h e = cc
-
--- the last of the front of a list, with what is before it
-pub cut-popped : (items new old : List Bson) (last : Option Bson) → items ≡ new ++ option_to_list last → ((rest : List Bson) × old ≡ items ++ rest) → IsCutFrom new last old
-cut-popped items new old last e (rest, h) = (rest, h ∙ ap (λ l. l ++ rest) e)
 
 -- without its last, a front is a front
 pub front-popped : (items new old : List Bson) (last : Bson) → items ≡ new ++ last ∷ [] → ((rest : List Bson) × old ≡ items ++ rest) → (rest : List Bson) × old ≡ new ++ rest

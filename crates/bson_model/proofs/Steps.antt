@@ -1,19 +1,11 @@
 -- Lists of trees as data and as lists, and one more member or pair of a walk.
 use Rattle.std.proofs.Common.{◌≡◌, ℕ, zero, suc, ◌+◌, List, [], ◌∷◌, ◌++◌, map, take, Some, slice_get, refl, ap, ◌∙◌, add-one}
-use Rattle.bson_model.specs.Tree.{Tree, Trees, Entries, no_tree, tree_then, no_entry, entry_then, trees, entries, items_in, pairs_in, tree_of, with_trees}
+use Rattle.bson_model.specs.Tree.{Tree, Entries, no_entry, entry_then, trees, entries, items_in, pairs_in, tree_of, with_trees}
 use Rattle.bson_model.specs.declared.bson.Bson.{Bson}
 
 pub items_in-trees : (ts : List Tree) → items_in (trees ts) ≡ ts
 items_in-trees [] = refl
 items_in-trees (t ∷ ts) = ap (λ l. t ∷ l) (items_in-trees ts)
-
-pub trees-items_in : (ts : Trees) → trees (items_in ts) ≡ ts
-trees-items_in no_tree = refl
-trees-items_in (tree_then t ts) = ap (λ l. tree_then t l) (trees-items_in ts)
-
-pub pairs_in-entries : (es : List (List ℕ × Tree)) → pairs_in (entries es) ≡ es
-pairs_in-entries [] = refl
-pairs_in-entries (e ∷ es) = ap (λ l. e ∷ l) (pairs_in-entries es)
 
 pub entries-pairs_in : (es : Entries) → entries (pairs_in es) ≡ es
 entries-pairs_in no_entry = refl
@@ -36,9 +28,3 @@ trees-more vs i v e = ap (λ l. map tree_of l) (take-more vs i v e) ∙ map-appe
 -- the trees of one more pair of a document
 pub with_trees-more : (ps : List (List ℕ × Bson)) (i : ℕ) (k : List ℕ) (v : Bson) → slice_get ps i ≡ Some (k, v) → with_trees (take (i + 1) ps) ≡ with_trees (take i ps) ++ (k, tree_of v) ∷ []
 with_trees-more ps i k v e = ap with_trees (take-more ps i (k, v) e) ∙ map-append (λ p. (p.0, tree_of p.1)) (take i ps) ((k, v) ∷ [])
-
--- the pair of a document at a place, with its tree
-pub slice_get-with_trees : (ps : List (List ℕ × Bson)) (i : ℕ) (k : List ℕ) (v : Bson) → slice_get ps i ≡ Some (k, v) → slice_get (with_trees ps) i ≡ Some (k, tree_of v)
-slice_get-with_trees [] i k v e = cc
-slice_get-with_trees (p ∷ ps) zero k v e = let at : ◌≡◌ {A = List ℕ × Bson} p (k, v) = cc in ap (λ q. Some (q.0, tree_of q.1)) at
-slice_get-with_trees (p ∷ ps) (suc i) k v e = slice_get-with_trees ps i k v e

@@ -1,9 +1,9 @@
 -- The tree of a value, by what the value holds.
-use Rattle.std.proofs.Common.{◌≡◌, ℕ, ℤ, Bool, true, false, List, [], ◌∷◌, map, Some, String, Vec, Global, if◌then◌else◌, option_map, refl, ap, ◌∙◌}
+use Rattle.std.proofs.Common.{◌≡◌, ℕ, ℤ, Bool, true, false, List, [], ◌∷◌, map, String, Vec, Global, if◌then◌else◌, refl, ap, ◌∙◌}
 use Rattle.std.specs.Str.{bytes_eq}
 use Rattle.std.specs.String.{string_bytes}
 use Rattle.bson_model.specs.Leaf.{double, string, binary, undefined, object_id, boolean, date_time, null, regular_expression, db_pointer, javascript_code, symbol, int32, timestamp, int64, decimal128, max_key, min_key}
-use Rattle.bson_model.specs.Pairs.{value_at, with_pair}
+use Rattle.bson_model.specs.Pairs.{with_pair}
 use Rattle.bson_model.specs.Scalars.{bytes_of_object_id, millis_of_date_time, bytes_of_decimal128}
 use Rattle.bson_model.specs.Tree.{leaf, array, document, code_with_scope, tree_then, entry_then, trees, entries, entries_beside, tree_of, trees_of, pairs_of, with_trees, TreeEquations}
 use Rattle.bson_model.specs.declared.binaries.Binary.{Binary}
@@ -153,12 +153,4 @@ with_trees-with_pair k v (p ∷ ps) =
     (if b then (p.0, tree_of v) ∷ with_trees ps else (p.0, tree_of p.1) ∷ with_pair k (tree_of v) (with_trees ps))) [
       | true ↦ refl
       | false ↦ ap (λ qs. (p.0, tree_of p.1) ∷ qs) (with_trees-with_pair k v ps)
-    ]
-
-pub value_at-with_trees : (k : List ℕ) (ps : List (List ℕ × Bson)) → value_at k (with_trees ps) ≡ option_map tree_of (value_at k ps)
-value_at-with_trees k [] = refl
-value_at-with_trees k (p ∷ ps) =
-    elim (bytes_eq k p.0) as (λ b. (if b then Some (tree_of p.1) else value_at k (with_trees ps)) ≡ option_map tree_of (if b then Some p.1 else value_at k ps)) [
-      | true ↦ refl
-      | false ↦ value_at-with_trees k ps
     ]

@@ -1,5 +1,5 @@
 -- What is printed of a document without a canonical form.
-use Rattle.std.proofs.Common.{◌≡◌, ◌≢◌, inl, inr, List, ℕ, Option, None, Some, Result, Ok, Err, IfOk, IfErr, codes, refl, sym, ◌∙◌, subst, ap}
+use Rattle.std.proofs.Common.{◌≡◌, inl, inr, List, ℕ, Option, None, Some, Result, Ok, Err, IfOk, IfErr, codes, refl, sym, ◌∙◌, subst, ap}
 use Rattle.std.proofs.lemmas.Option.{none-some}
 use Rattle.raw_bson.specs.Encoding.{IsEncoded, IsRefused, RefusesTree}
 use Rattle.raw_bson.specs.Envelope.{IsEnvelope}
@@ -7,16 +7,16 @@ use Rattle.raw_bson.specs.Error.{Error}
 use Rattle.raw_bson.specs.ErrorKind.{ErrorKind}
 use Rattle.raw_bson.specs.ErrorKind.TheVariants as kind
 use Rattle.raw_bson.specs.Errors.{TellsFault, IsReadingKind, IsReadingReason}
-use Rattle.raw_bson.specs.Frame.{Fault, Stopped}
+use Rattle.raw_bson.specs.Frame.{Fault}
 use Rattle.raw_bson.specs.Limits.{Limits}
 use Rattle.raw_bson.specs.Proper.{IsProper}
 use Rattle.raw_bson.specs.Reason.{Reason}
 use Rattle.raw_bson.specs.Reason.TheVariants as reason
 use Rattle.raw_bson.specs.Tree.{Tree}
-use Rattle.raw_bson.specs.WithinLimits.{Barrier, too_many_bytes, too_deep, fault_of, ReadsWithin, FirstBarrier, SaysBarrier, TellsFirstBarrier}
+use Rattle.raw_bson.specs.WithinLimits.{Barrier, too_many_bytes, too_deep, fault_of, ReadsWithin, SaysBarrier, TellsFirstBarrier}
 use Rattle.bsonraw.specs.Form.{HasForm, LacksForm, limit_text}
 use Rattle.std.specs.String.{string_bytes}
-use Rattle.bsonraw.specs.Print.{form_limits, PrintsForm, PrintsBytes, barrier_line, end_line}
+use Rattle.bsonraw.specs.Print.{form_limits, PrintsForm, PrintsBytes, barrier_line}
 use Rattle.bsonraw.specs.Status.{code_of}
 use Rattle.bsonraw.specs.declared.command.Command.{Command}
 use Rattle.bsonraw.specs.declared.command.Command.TheVariants as command
@@ -67,19 +67,6 @@ limit_form b e line (inr long) is =
     let same : Some (codes "refused 5\n") ≡ Some line = sym (ap limit_text long.2.1) ∙ is in
     let text : line ≡ codes "refused 5\n" = cc in
     inr (inl (long.0, long.1, long.2.0, refl, text))
-
--- where it has none, it says a fault
-fault_of_barrier : (b : List ℕ) (e : Error) (x : Barrier) (output : List ℕ) → FirstBarrier form_limits b x → SaysBarrier e x → limit_text e.kind ≡ None
-    → ((fault : Fault) (key : Option (List ℕ)) → TellsFault e fault key → output ≡ end_line (Stopped fault key)) → PrintsForm b 1 output
-fault_of_barrier b e too_many_bytes output first says is line = absurd (none-some _ (sym is ∙ ap limit_text says.0))
-fault_of_barrier b e too_deep output first says is line = absurd (none-some _ (sym is ∙ ap limit_text says.0))
-fault_of_barrier b e (fault_of fault) output first says is line = inr (inr (fault_of fault, first, refl, line fault.fault fault.key says))
-
-pub fault_form : (b : List ℕ) (e : Error) (output : List ℕ) → LacksForm b e → limit_text e.kind ≡ None → e.kind ≢ kind.OutOfMemory
-    → ((fault : Fault) (key : Option (List ℕ)) → TellsFault e fault key → output ≡ end_line (Stopped fault key)) → PrintsForm b 1 output
-fault_form b e output (inl (inl memory)) is some line = absurd (some memory.1.kind_is)
-fault_form b e output (inl (inr told)) is some line = fault_of_barrier b e told.0 output told.1 told.2 is line
-fault_form b e output (inr long) is some line = absurd (none-some _ (sym is ∙ ap limit_text long.2.1))
 
 -- and so where a result is at hand
 

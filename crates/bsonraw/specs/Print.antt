@@ -41,7 +41,7 @@ fault_key_text None = codes "none"
 fault_key_text (Some key) = key_text key
 
 abbrev pub fault_text : Fault → List ℕ
-fault_text Malformed = codes "malformed"
+fault_text (Malformed _) = codes "malformed"
 fault_text Utf8 = codes "utf8"
 
 -- the line of a frame: tag, key and the payload's length

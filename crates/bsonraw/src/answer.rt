@@ -1,11 +1,11 @@
 ghost use Rattle.std.specs.Prelude.{◌≡◌, ◌⊎◌, IfOk};
 ghost use Rattle.std.specs.String.{string_bytes};
-ghost use Rattle.bsonraw.specs.Print.{IsRefusal, LacksMemory, PrintsBytes, PrintsText, refusal_line};
+ghost use Rattle.bsonraw.specs.Print.{IsRefusal, LacksMemory, Prints, PrintsBytes, PrintsText, refusal_line};
 ghost use Rattle.bsonraw.specs.Status.{code_of};
 
 use crate::canon::canon_document;
 use crate::check::check_document;
-use crate::command::Command;
+use crate::command::{Command, USAGE};
 use crate::digits::without_blanks;
 use crate::list::list_document;
 use crate::printed::{Printed, one_line};
@@ -17,17 +17,26 @@ use std::alloc::{AllocError, Global};
 #[cfg(test)]
 mod tests;
 
-/// What a command prints of the text of a document, and how the run ends. Where memory runs out, status 4 and nothing.
-pub fn answer(alloc: Global, command: Command, text: &[u8]) -> Printed
-    ensures { PrintsText command text.now (code_of result.status) (string_bytes result.output)
-        ⊎ LacksMemory (code_of result.status) (string_bytes result.output) }
+/// What the program prints of a text for a command's name, and its exit status: what the command prints, or how the
+/// program is used. Where memory runs out, status 4 and nothing.
+pub fn answer(alloc: Global, command: &str, text: &[u8]) -> (u8, Vec<u8>)
+    ensures { Prints command.now text.now result.0 result.1.items
+        ⊎ LacksMemory result.0 result.1.items }
 {
-    match of_text(alloc, command, text) {
-        Ok(printed) => printed,
-        Err(AllocError) => Printed {
-            status: Status::NoMemory,
-            output: String::new(alloc),
-        },
+    match of_name(alloc, command, text) {
+        Ok(Printed { status, output }) => (status.code(), output.into_bytes()),
+        Err(AllocError) => (Status::NoMemory.code(), Vec::new(alloc)),
+    }
+}
+
+/// What the command of a name prints of a text, or the usage line.
+fn of_name(alloc: Global, name: &str, text: &[u8]) -> Result<Printed, AllocError>
+    ensures { IfOk result
+        (λ p. Prints name.now text.now (code_of p.status) (string_bytes p.output)) }
+{
+    match Command::from_name(name) {
+        Some(command) => of_text(alloc, command, text),
+        None => one_line(alloc, Status::Usage, USAGE),
     }
 }
 

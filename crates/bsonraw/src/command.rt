@@ -5,7 +5,7 @@ ghost use Rattle.bsonraw.specs.Print.{IsCommand, name_of};
 pub const USAGE: &str = "usage: bsonraw list|canon|check\n";
 
 /// What the program can be asked for.
-#[derive(Clone, Copy, Debug)]
+#[derive(Clone, Copy)]
 pub enum Command {
     /// the elements of a document
     List,

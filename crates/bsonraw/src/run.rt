@@ -1,8 +1,7 @@
 ghost use Rattle.std.specs.Prelude.{◌≡◌, ◌≢◌, ◌⊎◌, OnOk};
 ghost use Rattle.std.specs.Io.KnownBytes.{Appends, Keeps, IsAtEnd};
-ghost use Rattle.bsonraw.specs.Print.{IsCommand, name_of, usage_line};
+ghost use Rattle.bsonraw.specs.Print.{IsCommand, usage_line};
 ghost use Rattle.bsonraw.specs.Run.{Answers};
-ghost use Rattle.bsonraw.specs.Status.{code_of};
 
 use crate::answer::answer;
 use crate::command::{Command, USAGE};
@@ -32,20 +31,15 @@ pub fn run<R: Read, W: Write>(alloc: Global, command: &str, reader: &mut R, writ
     ensures unread { ¬ IsCommand command.now → reader.new ≡ reader.old }
 {
     match Command::from_name(command) {
-        Some(command) => answered(alloc, command, reader, writer),
-        None => written(writer, USAGE.as_bytes(), Status::Usage),
+        Some(_) => answered(alloc, command, reader, writer),
+        None => written(writer, USAGE.as_bytes(), Status::Usage.code()),
     }
 }
 
 /// Reads the text to its end and writes the command's output.
-fn answered<R: Read, W: Write>(
-    alloc: Global,
-    command: Command,
-    reader: &mut R,
-    writer: &mut W,
-) -> u8
+fn answered<R: Read, W: Write>(alloc: Global, command: &str, reader: &mut R, writer: &mut W) -> u8
     ensures answered { result ≢ 4 → result ≢ 5 →
-        Answers (name_of command) (R.remaining reader.old) (R.remaining reader.new)
+        Answers command.now (R.remaining reader.old) (R.remaining reader.new)
         (W.contents writer.old) (W.contents writer.new) result }
     ensures no_memory { result ≡ 4 → Keeps (W.contents writer.old) (W.contents writer.new) }
     ensures read_first { Keeps (W.contents writer.old) (W.contents writer.new)
@@ -55,17 +49,17 @@ fn answered<R: Read, W: Write>(
     if reader.read_to_end(&mut text).is_err() {
         return Status::Io.code();
     }
-    let printed = answer(alloc, command, &text);
-    written(writer, printed.output.as_bytes(), printed.status)
+    let (status, output) = answer(alloc, command, &text);
+    written(writer, &output, status)
 }
 
 /// Writes the output. The status is the output's own, or 5 where writing failed.
-fn written<W: Write>(writer: &mut W, output: &[u8], status: Status) -> u8
-    ensures { result ≢ 5 → (result ≡ code_of status)
+fn written<W: Write>(writer: &mut W, output: &[u8], status: u8) -> u8
+    ensures { result ≢ 5 → (result ≡ status)
         × Appends (W.contents writer.old) (W.contents writer.new) output.now }
 {
     match put(writer, output) {
-        Ok(()) => status.code(),
+        Ok(()) => status,
         Err(_) => Status::Io.code(),
     }
 }

@@ -1,7 +1,8 @@
 use crate::asserts::{is_list, is_want_of_memory};
 use raw_bson::{Cause, Limits, RawDocument};
 use raw_form::{
-    Barrier, PlacedBreach, ValidateError, canonical_within, first_fault_within, validate_within,
+    Barrier, FlattenError, PlacedBreach, ValidateError, canonical_within, first_fault_within,
+    flatten_within, validate_within,
 };
 use std::test::Fail;
 use test_fixtures::*;
@@ -72,5 +73,42 @@ fn a_form_or_want_of_memory(rt: HostRuntime) -> Result<(), Fail> {
     };
     assert!(rt; is_list(canonical_within(rt.alloc(), REPEATED, limits), FORM));
     assert!(rt; is_list(canonical_within(rt.alloc(), FORM, limits), FORM));
+    Ok(())
+}
+
+/// Whether the result counts so many tokens, or is out of memory.
+fn are_tokens(answer: std::result::Result<usize, FlattenError<'_>>, count: usize) -> bool {
+    match answer {
+        Ok(found) => found == count,
+        Err(FlattenError::OutOfMemory) => true,
+        Err(FlattenError::Barrier(_)) => false,
+    }
+}
+
+/// Whether the result is a barrier behind so many levels at this offset, or out of memory.
+fn is_end_of_tokens(
+    answer: std::result::Result<usize, FlattenError<'_>>,
+    levels: usize,
+    offset: usize,
+) -> bool {
+    match answer {
+        Ok(_) => false,
+        Err(FlattenError::OutOfMemory) => true,
+        Err(FlattenError::Barrier(barrier)) => {
+            barrier.place.path.len() == levels && barrier.place.offset == offset
+        }
+    }
+}
+
+#[test]
+fn tokens_or_out_of_memory(rt: HostRuntime) -> Result<(), Fail> {
+    let limits = Limits {
+        bytes: 38,
+        depth: 2,
+    };
+    let view = RawDocument::from_bytes(REPEATED)?;
+    assert!(rt; are_tokens(flatten_within(rt.alloc(), view, limits, &mut []), 6));
+    let stopped = RawDocument::from_bytes(NESTED_STOP)?;
+    assert!(rt; is_end_of_tokens(flatten_within(rt.alloc(), stopped, limits, &mut []), 2, 13));
     Ok(())
 }

@@ -1,4 +1,5 @@
-use raw_bson::{Bson, ElementType, RawBson, RawBsonRef};
+use raw_bson::{Bson, ElementType, Limits, RawBson, RawBsonRef, RawDocument};
+use raw_form::flatten_within;
 use std::alloc::Global;
 use std::process::Abort;
 use std::test::Fail;
@@ -89,4 +90,15 @@ fn try_from_bson_of_a_number_takes_no_memory(rt: HostRuntime) {
 #[test]
 fn try_from_bson_of_null_takes_no_memory(rt: HostRuntime) {
     assert!(rt; is_made(rt.alloc(), Bson::Null, RawBsonRef::Null));
+}
+
+#[test]
+fn flatten_within_of_one_level_takes_no_memory(rt: HostRuntime) -> Result<(), Fail> {
+    let limits = Limits {
+        bytes: 19,
+        depth: 2,
+    };
+    let document = RawDocument::from_bytes(GREETING)?;
+    assert!(rt; matches!(flatten_within(rt.alloc(), document, limits, &mut []), Ok(1)));
+    Ok(())
 }

@@ -20,7 +20,7 @@ use Rattle.raw_form.specs.declared.faults.Start.{Start}
 use Rattle.raw_form.specs.declared.place.PathStep.{PathStep}
 use Rattle.raw_form.specs.declared.verdict.Found.{Found}
 use Rattle.raw_form.proofs.Knowing.{known_to, known_to_first}
-use Rattle.raw_form.proofs.Levels.{IsAt}
+use Rattle.raw_form.specs.Walks.{IsAt}
 use Rattle.raw_form.proofs.Lying.{drop_both, leads_behind, whole_lies}
 
 -- the number of the first step

@@ -1,33 +1,24 @@
--- What the loop over a level that is flattened keeps, and what it tells where it ends.
-use Rattle.std.proofs.Common.{◌≡◌, ◌∙◌, ◌≤◌, ◌<◌, ◌+◌, ◌-◌, ◌*◌, ◌++◌, ◌∷◌, [], inr, ℕ, suc, List, Option, None, Some, map, length, drop, arith, ap, refl, sym, subst, length-append, length-drop, append_assoc, append-nil}
-use denote.Ref.{Bor}
-use Rattle.std.specs.Option.{option_copied}
+-- What a flattening keeps, and what it tells where it ends.
+use Rattle.std.proofs.Common.{◌≡◌, ◌∙◌, ◌≤◌, ◌<◌, ◌+◌, ◌-◌, ◌++◌, ◌∷◌, [], ℕ, suc, List, Option, None, Some, length, drop, arith, ap, refl, sym, subst, length-append, length-drop, append_assoc, append-nil, zero, set, slice_index_or}
 use Rattle.raw_view.specs.Document.{bytes_of}
-use Rattle.raw_view.specs.Frame.ElementSteps.{frame_of}
+use Rattle.raw_view.specs.Frame.ElementSteps.{frame_of, HasRead}
 use Rattle.raw_view.specs.Frame.{Frame, IsFrame, Done}
-use Rattle.raw_view.specs.Frame.Front.{TellsBorrowed}
-use Rattle.raw_view.specs.Meaning.{RawValue, KeyedFault, Means, value}
+use Rattle.raw_view.specs.Meaning.{RawValue, Means, value}
 use Rattle.raw_view.specs.Meaning as raw
 use Rattle.raw_view.specs.declared.document.RawDocument.{RawDocument}
 use Rattle.raw_view.specs.declared.element.RawElement.{RawElement}
-use Rattle.raw_view.specs.declared.error.BorrowedError.{BorrowedError}
 use Rattle.raw_view.proofs.Face.{LeadsTo-walk, LeadsTo-more}
-use Rattle.raw_tree.specs.Reading.{ReadsUpTo, Holds}
-use Rattle.raw_tree.specs.Validating.{left_of}
-use Rattle.raw_tree.specs.WithinLimits.{fault_of, too_deep}
-use Rattle.raw_tree.proofs.Face.{stand_more, nested_beside}
-use Rattle.raw_form.specs.Barriers.{IsBarrier}
-use Rattle.raw_form.specs.Flattening.{FlattensLevel, HaltsLevel}
+use Rattle.raw_tree.specs.Reading.{Holds}
+use Rattle.raw_form.specs.Flattening.{with_inside}
 use Rattle.raw_form.specs.Looking.{HoldsNone, Looks, size_of}
-use Rattle.raw_form.specs.Places.{Step, BeginsAt, IsOffsetOf, FirstFaultAt}
 use Rattle.raw_form.specs.Staying.{end_of}
 use Rattle.raw_form.specs.Tokens.{AreInside, AreTokens, AreTokensOf, HasTokens, IsTokenOf, NestedUpTo, filled_from}
+use Rattle.raw_form.specs.Waits.{Wait}
+use Rattle.raw_form.specs.Walks.{IsOpened, IsOver}
+use Rattle.raw_form.specs.declared.level.Level.{Level}
 use Rattle.raw_form.specs.declared.level.Next.TheVariants as next
-use Rattle.raw_form.specs.declared.token.Halt.{Halt}
 use Rattle.raw_form.specs.declared.token.Token.{Token}
-use Rattle.raw_form.proofs.Levels.{passed_left, frame_size}
-use Rattle.raw_form.proofs.Passing.{IsPassed, fault_here, held_as, held_stands, outward_offset, passed_deep, whole_stands}
-use Rattle.raw_form.proofs.Rooms.{filled_front, filled_more, filled_none}
+use Rattle.raw_form.proofs.Rooms.{filled_more, filled_none}
 
 -- tokens of frames
 
@@ -54,260 +45,348 @@ module _ (Nested : ℕ → List ℕ → List Token → Type 0) where
   inside_held (raw.array e) d end ts h nested = subst (λ (x : List ℕ). NestedUpTo Nested end x ts) h nested
   inside_held (raw.scoped code e) d end ts h nested = subst (λ (x : List ℕ). NestedUpTo Nested end x ts) h nested
 
--- What the loop keeps: frames of d, which ends at this offset, have been passed; what is left begins at that one; and their
--- tokens are behind so many others.
-pub record IsFlattened (inside depth end : ℕ) (d : List ℕ) (before : ℕ) (old : List Token) (left : Option (List ℕ)) (number offset count : ℕ) (room : List Token) : Type 0 where
+-- one level
+
+-- these are the tokens of what has been passed of the bytes d, which begin there
+pub record IsFlat (inside depth start : ℕ) (d : List ℕ) (left : Option (List ℕ)) (offset : ℕ) (tokens : List Token) : Type 0 where
+  pub frames : List Frame
+  pub passed : HasRead (drop 4 d) frames left
+  pub has : AreTokens (HasTokens inside (suc depth)) depth (start + 4) frames tokens
+  pub far : offset ≡ end_of (start + 4) frames
+
+-- a frame more
+flat_more : {inside depth start : ℕ} {d s : List ℕ} {offset : ℕ} {tokens : List Token} (is : IsFlat inside depth start d (Some s) offset tokens)
+    (f : Frame) (r : List ℕ) (left : Option (List ℕ)) (behind : ℕ) (more : List Token) → IsFrame s f r → left ≡ Some r → behind ≡ offset + size_of f
+    → AreTokensOf (HasTokens inside (suc depth)) depth offset f more → IsFlat inside depth start d left behind (tokens ++ more)
+flat_more {inside} {depth} {start} {d} {s} {offset} {tokens} is f r left behind more at left_is far one = record {
+  frames = is.frames ++ f ∷ [];
+  passed = rw left_is (LeadsTo-more (drop 4 d) is.frames s f r is.passed at);
+  has = tokens_more (HasTokens inside (suc depth)) depth (start + 4) is.frames tokens f more is.has
+      (subst (λ (n : ℕ). AreTokensOf (HasTokens inside (suc depth)) depth n f more) is.far one);
+  far = far ∙ (ap (λ (n : ℕ). n + size_of f) is.far ∙ sym (end_of_more (start + 4) is.frames f));
+}
+
+flat_whole : (inside depth start : ℕ) (d : List ℕ) (old new : Option (List ℕ)) (offset behind : ℕ) (tokens : List Token) (e : RawElement) (t : Token)
+    → IsFlat inside depth start d old offset tokens → Looks old new (next.Whole e) → behind ≡ offset + size_of (frame_of e)
+    → IsTokenOf depth offset (frame_of e) 0 t → IsFlat inside depth start d new behind (tokens ++ t ∷ [])
+flat_whole inside depth start d None new offset behind tokens e t is looks far token = absurd is.passed
+flat_whole inside depth start d (Some s) new offset behind tokens e t is (r, v, at, m, none, new_is) far token =
+    flat_more is (frame_of e) r new behind (t ∷ []) at new_is far
+    (v, t, [], m, inside_none (HasTokens inside (suc depth)) v (offset + size_of (frame_of e)) none, token, refl)
+
+flat_over : (inside depth start : ℕ) (d : List ℕ) (left : Option (List ℕ)) (offset : ℕ) (tokens : List Token) → IsFlat inside depth start d left offset tokens
+    → IsOver left → HasTokens (suc inside) depth start d tokens
+flat_over inside depth start d None offset tokens is over = absurd is.passed
+flat_over inside depth start d (Some s) offset tokens is over = (is.frames, LeadsTo-walk (drop 4 d) is.frames s Done is.passed (over s refl), is.has)
+
+-- levels that wait
+
+-- one of them: where it begins, its bytes, the tokens of what is before the element that holds the next one, and the token of
+-- that, which doesn't say yet how many are inside
+pub record Open : Type 0 where
   pub start : ℕ
+  pub bytes : List ℕ
   pub tokens : List Token
-  pub ends : start + length d ≡ end
-  pub is : IsPassed inside d left number
-  pub has : AreTokens (HasTokens inside (suc depth)) depth (start + 4) is.frames tokens
-  pub far : offset ≡ end_of (start + 4) is.frames
-  pub begins : offset + left_of left ≡ end
-  pub count_is : count ≡ before + length tokens
+  pub token : Token
+
+-- it waits for the bytes d, which begin there
+pub record IsOpen (inside depth : ℕ) (o : Open) (w : Wait) (start : ℕ) (d : List ℕ) : Type 0 where
+  pub s : List ℕ
+  pub f : Frame
+  pub r : List ℕ
+  pub v : RawValue
+  pub offset : ℕ
+  pub flat : IsFlat (suc inside) depth o.start o.bytes (Some s) offset o.tokens
+  pub frame : IsFrame s f r
+  pub means : Means f (value v)
+  pub holds : Holds v d
+  pub token : IsTokenOf depth offset f 0 o.token
+  pub left_is : w.elements ≡ Some r
+  pub far : w.offset ≡ offset + size_of f
+  pub ends : start + length d ≡ w.offset
+
+opens : (inside depth start first : ℕ) (d : List ℕ) (old : Option (List ℕ)) (offset : ℕ) (tokens : List Token) (w : Wait) (e : RawElement) (inner : RawDocument) (t : Token)
+    → IsFlat (suc inside) depth start d old offset tokens → Looks old w.elements (next.Inside e inner) → w.offset ≡ offset + size_of (frame_of e)
+    → IsTokenOf depth offset (frame_of e) 0 t → first + length (bytes_of inner) ≡ w.offset
+    → IsOpen inside depth (record { start = start; bytes = d; tokens = tokens; token = t }) w first (bytes_of inner)
+opens inside depth start first d None offset tokens w e inner t is looks far token ends = absurd is.passed
+opens inside depth start first d (Some s) offset tokens w e inner t is (r, v, at, m, holds, left_is) far token ends = record {
+  s = s;
+  f = frame_of e;
+  r = r;
+  v = v;
+  offset = offset;
+  flat = is;
+  frame = at;
+  means = m;
+  holds = holds;
+  token = token;
+  left_is = left_is;
+  far = far;
+  ends = ends;
+}
+
+-- the token of an element in which so many are
+abbrev with : Token → ℕ → Token
+with t size = record t { inside = size }
+
+-- the level goes on behind the one inside, which has these tokens
+closes : {inside depth : ℕ} {o : Open} {w : Wait} {start : ℕ} {d : List ℕ} (tokens : List Token) → IsOpen inside depth o w start d
+    → HasTokens (suc inside) (suc depth) start d tokens
+    → IsFlat (suc inside) depth o.start o.bytes w.elements w.offset (o.tokens ++ with o.token (length tokens) ∷ tokens)
+closes {inside} {depth} {o} {w} {start} {d} tokens is has =
+    let t : Token = with o.token (length tokens) in
+    let nested : NestedUpTo (HasTokens (suc inside) (suc depth)) (is.offset + size_of is.f) d tokens = (start, is.ends ∙ is.far, has) in
+    let token : IsTokenOf depth is.offset is.f (length tokens) t = record {
+      tag = is.token.tag;
+      depth_is = is.token.depth_is;
+      key_at = is.token.key_at;
+      key_len = is.token.key_len;
+      payload_at = is.token.payload_at;
+      payload_len = is.token.payload_len;
+      inside_is = refl;
+    } in
+    flat_more is.flat is.f is.r w.elements w.offset (t ∷ tokens) is.frame is.left_is is.far
+    (is.v, t, tokens, is.means, inside_held (HasTokens (suc inside) (suc depth)) is.v d (is.offset + size_of is.f) tokens is.holds nested, token, refl)
+
+-- the tokens before those of the innermost level; of levels that wait, the innermost first
+abbrev pub tokens_before : List Open → List Token
+tokens_before [] = []
+tokens_before (o ∷ os) = tokens_before os ++ (o.tokens ++ o.token ∷ [])
+
+-- where the tokens of their elements are, the outermost first
+abbrev pub places : List Open → List ℕ
+places [] = []
+places (o ∷ os) = places os ++ length (tokens_before os ++ o.tokens) ∷ []
+
+-- they wait for the bytes d, which begin there and inside of which may be so many levels, from the document b inward
+abbrev pub AreOpen : ℕ → List ℕ → List Open → List Wait → ℕ → ℕ → List ℕ → Type 0
+AreOpen most b [] ws inside start d = (ws ≡ []) × (inside ≡ most) × (start ≡ 0) × (d ≡ b)
+AreOpen most b (o ∷ os) ws inside start d =
+    (outer : List Wait) × (w : Wait) × (ws ≡ outer ++ w ∷ []) × IsOpen inside (length os) o w start d × AreOpen most b os outer (suc inside) o.start o.bytes
+
+open_levels : (most : ℕ) (b : List ℕ) (os : List Open) (ws : List Wait) (inside start : ℕ) (d : List ℕ) → AreOpen most b os ws inside start d
+    → (inside + length os ≡ most) × (length os ≡ length ws)
+open_levels most b [] ws inside start d h = (omega (arith, h.1), sym (ap length h.0))
+open_levels most b (o ∷ os) ws inside start d (outer, w, same, is, are) =
+    let out = open_levels most b os outer (suc inside) o.start o.bytes are in
+    (omega (arith, out.0), omega (arith, out.1, ap length same, length-append outer (w ∷ [])))
+
+places_len : (os : List Open) → length (places os) ≡ length os
+places_len [] = refl
+places_len (o ∷ os) = omega (arith, places_len os, length-append (places os) (length (tokens_before os ++ o.tokens) ∷ []))
+
+tokens_many : (os : List Open) → length os ≤ length (tokens_before os)
+tokens_many [] = omega arith
+tokens_many (o ∷ os) = omega (arith, tokens_many os, length-append (tokens_before os) (o.tokens ++ o.token ∷ []), length-append o.tokens (o.token ∷ []))
+
+-- the token at a place says how many are inside
+filled_inside : (size : ℕ) (front rest : List Token) (t : Token) (room : List Token)
+    → with_inside (length front) size (filled_from 0 room (front ++ t ∷ rest)) ≡ filled_from 0 room (front ++ with t size ∷ rest)
+filled_inside size front rest t [] = refl
+filled_inside size [] rest t (x ∷ room) = refl
+filled_inside size (u ∷ front) rest t (x ∷ room) = ap (λ (ts : List Token). u ∷ ts) (filled_inside size front rest t room)
+
+-- so it does in a room
+pub inside_one : (n size : ℕ) (room : List Token) (none : Token) → n < length room → set room n (with (slice_index_or room n none) size) ≡ with_inside n size room
+inside_one n size [] none h = absurd (omega (arith, h))
+inside_one zero size (x ∷ []) none h = refl
+inside_one zero size (x ∷ y ∷ room) none h = refl
+inside_one (suc n) size (x ∷ room) none h = ap (λ (r : List Token). x ∷ r) (inside_one n size room none (omega (arith, h)))
+
+pub inside_past : (n size : ℕ) (room : List Token) → length room ≤ n → room ≡ with_inside n size room
+inside_past n size [] h = refl
+inside_past zero size (x ∷ room) h = absurd (omega (arith, h))
+inside_past (suc n) size (x ∷ room) h = ap (λ (r : List Token). x ∷ r) (inside_past n size room (omega (arith, h)))
+
+-- the last of a list
+last_same : {X : Type 0} (xs ys : List X) (x y : X) → xs ++ x ∷ [] ≡ ys ++ y ∷ [] → (xs ≡ ys) × (x ≡ y)
+last_same [] [] x y e = (refl, cc)
+last_same [] (b ∷ ys) x y e = absurd (omega (arith, ap length e, length-append ys (y ∷ [])))
+last_same (a ∷ xs) [] x y e = absurd (omega (arith, ap length e, length-append xs (x ∷ [])))
+last_same (a ∷ xs) (b ∷ ys) x y e =
+    let first : a ≡ b = cc in
+    let rest : xs ++ x ∷ [] ≡ ys ++ y ∷ [] = cc in
+    let both = last_same xs ys x y rest in
+    ((λ i. first i ∷ both.0 i), both.1)
+
+-- all levels
+
+-- What a flattening keeps where these levels wait: so many tokens are in front of the room, as many as it has room for, and the
+-- list has the places of those of the elements that hold the levels.
+pub record IsFlattening (most : ℕ) (b : List ℕ) (before : List Token) (ws : List Wait) (left : Option (List ℕ)) (offset : ℕ) (list : List ℕ) (count : ℕ) (room : List Token) : Type 0 where
+  pub os : List Open
+  pub inside : ℕ
+  pub start : ℕ
+  pub d : List ℕ
+  pub tokens : List Token
+  pub are_open : AreOpen most b os ws inside start d
+  pub flat : IsFlat inside (length os) start d left offset tokens
+  pub list_is : list ≡ places os
+  pub count_is : count ≡ length (tokens_before os ++ tokens)
   pub few : count ≤ offset
-  pub filled : room ≡ filled_from before old tokens
+  pub filled : room ≡ filled_from 0 before (tokens_before os ++ tokens)
 
--- the token of an element is put into the room
-pub record IsPut (depth offset count : ℕ) (f : Frame) (size : ℕ) (t : Token) (room after : List Token) : Type 0 where
-  pub token : IsTokenOf depth offset f size t
-  pub filled : after ≡ filled_from count room (t ∷ [])
+pub flat_begins : (most : ℕ) (b : List ℕ) (room : List Token) (left : Option (List ℕ)) (list : List ℕ) → left ≡ Some (drop 4 b) → list ≡ []
+    → IsFlattening most b room [] left 4 list 0 room
+flat_begins most b room left list left_is none = record {
+  os = [];
+  inside = most;
+  start = 0;
+  d = b;
+  tokens = [];
+  are_open = (refl, refl, refl, refl);
+  flat = record { frames = []; passed = rw left_is refl; has = refl; far = refl };
+  list_is = none;
+  count_is = refl;
+  few = omega arith;
+  filled = sym (filled_none 0 room);
+}
 
-pub flat_begins : (inside depth end : ℕ) (d : List ℕ) (before : ℕ) (room : List Token) (left : Option (List ℕ)) (number offset : ℕ) → before + length d ≤ end
-    → left ≡ Some (drop 4 d) → number ≡ 0 → 4 ≤ length d → offset + length (drop 4 d) ≡ end
-    → IsFlattened inside depth end d before room left number offset before room
-flat_begins inside depth end d before room left number offset few left_is none enough begins =
-    let start : ℕ = end - length d in
-    let far : offset ≡ start + 4 = omega (arith, begins, length-drop 4 d, enough, few) in
-    record {
-      start = start;
-      tokens = [];
-      ends = omega (arith, few);
-      is = record { frames = []; pairs = []; passed = rw left_is refl; each = refl; number_is = none };
-      has = refl;
-      far = far;
-      begins = ap (λ (n : ℕ). offset + n) (ap left_of left_is) ∙ begins;
-      count_is = omega arith;
-      few = omega (arith, far, few);
-      filled = sym (filled_none before room);
-    }
+module _ {most : ℕ} {b : List ℕ} {before : List Token} {ws : List Wait} {left : Option (List ℕ)} {offset : ℕ} {list : List ℕ} {count : ℕ} {room : List Token}
+    (is : IsFlattening most b before ws left offset list count room) where
+  -- how many levels wait
+  pub depth_is : length list ≡ length is.os
+  depth_is = ap length is.list_is ∙ places_len is.os
 
--- an element that holds no level
-pub flat_whole : (inside depth end : ℕ) (d : List ℕ) (before : ℕ) (old : List Token) (left new : Option (List ℕ)) (number offset count behind : ℕ)
-    (room after : List Token) (e : RawElement) (t : Token) → IsFlattened inside depth end d before old left number offset count room
-    → Looks left new (next.Whole e) → IsPut depth offset count (frame_of e) 0 t room after → behind ≡ offset + size_of (frame_of e)
-    → IsFlattened inside depth end d before old new (number + 1) behind (count + 1) after
-flat_whole inside depth end d before old None new number offset count behind room after e t flat looks put far = absurd flat.is.passed
-flat_whole inside depth end d before old (Some s) new number offset count behind room after e t flat (r, v, at, m, none, new_is) put far =
-    let f : Frame = frame_of e in
-    let frames = flat.is.frames in
-    let tree = whole_stands inside v none in
-    let here : IsTokenOf depth (end_of (flat.start + 4) frames) f 0 t = subst (λ (n : ℕ). IsTokenOf depth n f 0 t) flat.far put.token in
-    let one : AreTokensOf (HasTokens inside (suc depth)) depth (end_of (flat.start + 4) frames) f (t ∷ []) =
-    (v, t, [], m, inside_none (HasTokens inside (suc depth)) v (end_of (flat.start + 4) frames + size_of f) none, here, refl) in
-    record {
-      start = flat.start;
-      tokens = flat.tokens ++ t ∷ [];
-      ends = flat.ends;
-      is = record {
-        frames = frames ++ f ∷ [];
-        pairs = flat.is.pairs ++ (f.key, tree.0) ∷ [];
-        passed = rw new_is (LeadsTo-more (drop 4 d) frames s f r flat.is.passed at);
-        each = stand_more (ReadsUpTo inside) frames flat.is.pairs f v tree.0 flat.is.each m tree.1;
-        number_is = omega (arith, flat.is.number_is, length-append frames (f ∷ []));
-      };
-      has = tokens_more (HasTokens inside (suc depth)) depth (flat.start + 4) frames flat.tokens f (t ∷ []) flat.has one;
-      far = far ∙ (ap (λ (n : ℕ). n + size_of f) flat.far ∙ sym (end_of_more (flat.start + 4) frames f));
-      begins = omega (arith, far, flat.begins, frame_size s f r at, ap left_of new_is);
-      count_is = omega (arith, flat.count_is, length-append flat.tokens (t ∷ []));
-      few = omega (arith, far, flat.few);
-      filled = put.filled ∙ (ap (λ (x : List Token). filled_from count x (t ∷ [])) flat.filled ∙ filled_more before count old flat.tokens (t ∷ []) flat.count_is);
-    }
+  pub few_wait : length list ≤ count
+  few_wait = omega (arith, depth_is, is.count_is, tokens_many is.os, length-append (tokens_before is.os) is.tokens)
 
--- an element that holds a level, with the tokens of that
-flat_nested : (deeper depth end : ℕ) (d : List ℕ) (before : ℕ) (old : List Token) (s : List ℕ) (new : Option (List ℕ)) (number offset count behind : ℕ)
-    (room filled after : List Token) (e : RawElement) (inner : RawDocument) (t : Token) (total size : ℕ)
-    → IsFlattened (suc deeper) depth end d before old (Some s) number offset count room → Looks (Some s) new (next.Inside e inner)
-    → behind ≡ offset + size_of (frame_of e) → FlattensLevel deeper (suc depth) behind (bytes_of inner) (count + 1) room filled total → total ≤ behind
-    → size + (count + 1) ≡ total → IsPut depth offset count (frame_of e) size t filled after
-    → IsFlattened (suc deeper) depth end d before old new (number + 1) behind total after
-flat_nested deeper depth end d before old s new number offset count behind room filled after e inner t total size flat (r, v, at, m, holds, new_is) far level few
-    size_is put =
-    let inside : ℕ = suc deeper in
-    let f : Frame = frame_of e in
-    let frames = flat.is.frames in
-    let sorted = held_as v (bytes_of inner) holds in
-    let tree = held_stands inside v sorted.0 (bytes_of inner) sorted.1 (level.pairs, (level.pairs, level.reads, refl)) in
-    let many : size ≡ length level.tokens = omega (arith, size_is, level.count_is) in
-    let here : IsTokenOf depth (end_of (flat.start + 4) frames) f (length level.tokens) t =
-    subst (λ (n : ℕ). IsTokenOf depth n f (length level.tokens) t) flat.far (subst (λ (n : ℕ). IsTokenOf depth offset f n t) many put.token) in
-    let up : end_of (flat.start + 4) frames + size_of f ≡ behind = omega (arith, flat.far, far) in
-    let nested : NestedUpTo (HasTokens inside (suc depth)) (end_of (flat.start + 4) frames + size_of f) (bytes_of inner) level.tokens =
-    (level.start, level.ends ∙ sym up, level.has) in
-    let one : AreTokensOf (HasTokens inside (suc depth)) depth (end_of (flat.start + 4) frames) f (t ∷ level.tokens) = (
-      v,
-      t,
-      level.tokens,
-      m,
-      inside_held (HasTokens inside (suc depth)) v (bytes_of inner) (end_of (flat.start + 4) frames + size_of f) level.tokens holds nested,
-      here,
-      refl,
-    ) in
-    record {
-      start = flat.start;
-      tokens = flat.tokens ++ t ∷ level.tokens;
-      ends = flat.ends;
-      is = record {
-        frames = frames ++ f ∷ [];
-        pairs = flat.is.pairs ++ (f.key, tree.0) ∷ [];
-        passed = rw new_is (LeadsTo-more (drop 4 d) frames s f r flat.is.passed at);
-        each = stand_more (ReadsUpTo inside) frames flat.is.pairs f v tree.0 flat.is.each m tree.1;
-        number_is = omega (arith, flat.is.number_is, length-append frames (f ∷ []));
-      };
-      has = tokens_more (HasTokens inside (suc depth)) depth (flat.start + 4) frames flat.tokens f (t ∷ level.tokens) flat.has one;
-      far = sym (end_of_more (flat.start + 4) frames f ∙ up);
-      begins = omega (arith, far, flat.begins, frame_size s f r at, ap left_of new_is);
-      count_is = omega (arith, flat.count_is, level.count_is, length-append flat.tokens (t ∷ level.tokens));
-      few = few;
-      filled = put.filled ∙ (ap (λ (x : List Token). filled_from count x (t ∷ [])) level.filled
-          ∙ (filled_front count room t level.tokens ∙ (ap (λ (x : List Token). filled_from count x (t ∷ level.tokens)) flat.filled
-          ∙ filled_more before count old flat.tokens (t ∷ level.tokens) flat.count_is)));
-    }
+  pub as_many_wait : length list ≡ length ws
+  as_many_wait = depth_is ∙ (open_levels most b is.os ws is.inside is.start is.d is.are_open).1
 
-pub flat_inside : (inside deeper depth end : ℕ) (d : List ℕ) (before : ℕ) (old : List Token) (left new : Option (List ℕ)) (number offset count behind : ℕ)
-    (room filled after : List Token) (e : RawElement) (inner : RawDocument) (t : Token) (total size : ℕ) → inside ≡ suc deeper
-    → IsFlattened inside depth end d before old left number offset count room → Looks left new (next.Inside e inner) → behind ≡ offset + size_of (frame_of e)
-    → FlattensLevel deeper (depth + 1) behind (bytes_of inner) (count + 1) room filled total → total ≤ behind → size + (count + 1) ≡ total
-    → IsPut depth offset count (frame_of e) size t filled after → IsFlattened inside depth end d before old new (number + 1) behind total after
-flat_inside inside deeper depth end d before old None new number offset count behind room filled after e inner t total size levels flat looks far level few size_is put = absurd flat.is.passed
-flat_inside inside deeper depth end d before old (Some s) new number offset count behind room filled after e inner t total size levels flat looks far level few size_is put =
-    let one : depth + 1 ≡ suc depth = omega arith in
-    let here = subst (λ (n : ℕ). IsFlattened n depth end d before old (Some s) number offset count room) levels flat in
-    let there = subst (λ (n : ℕ). FlattensLevel deeper n behind (bytes_of inner) (count + 1) room filled total) one level in
-    subst (λ (n : ℕ). IsFlattened n depth end d before old new (number + 1) behind total after) (sym levels)
-    (flat_nested deeper depth end d before old s new number offset count behind room filled after e inner t total size here looks far there few size_is put)
+  -- the token of an element that holds a level is there
+  pub place_within : (shorter : List ℕ) (place : ℕ) → list ≡ shorter ++ place ∷ [] → place + 1 ≤ count
+  place_within shorter place popped = within is.os is.list_is is.count_is
+    where
+      within : (os : List Open) → list ≡ places os → count ≡ length (tokens_before os ++ is.tokens) → place + 1 ≤ count
+      within [] list_is count_is = absurd (omega (arith, ap length (sym popped ∙ list_is), length-append shorter (place ∷ [])))
+      within (o ∷ os) list_is count_is =
+          let front : List Token = tokens_before os ++ o.tokens in
+          let at = last_same shorter (places os) place (length front) (sym popped ∙ list_is) in
+          omega (
+            arith,
+            at.1,
+            count_is,
+            length-append (tokens_before os) o.tokens,
+            length-append (tokens_before os) (o.tokens ++ o.token ∷ []),
+            length-append o.tokens (o.token ∷ []),
+            length-append (tokens_before (o ∷ os)) is.tokens,
+          )
 
-pub flat_ends : (inside depth end : ℕ) (d : List ℕ) (before : ℕ) (old : List Token) (left new : Option (List ℕ)) (number offset count : ℕ) (room : List Token)
-    → IsFlattened inside depth end d before old left number offset count room → Looks left new next.End → FlattensLevel inside depth end d before old room count
-flat_ends inside depth end d before old None new number offset count room flat looks = absurd flat.is.passed
-flat_ends inside depth end d before old (Some s) new number offset count room flat looks =
-    let walk = LeadsTo-walk (drop 4 d) flat.is.frames s Done flat.is.passed looks in
-    record {
-      tokens = flat.tokens;
-      pairs = flat.is.pairs;
-      start = flat.start;
-      ends = flat.ends;
-      reads = (flat.is.frames, walk, flat.is.each);
-      has = (flat.is.frames, walk, flat.has);
-      count_is = flat.count_is;
-      filled = flat.filled;
-    }
+  -- one token more
+  one_more : (t : Token) (after : List Token) → after ≡ filled_from count room (t ∷ []) → after ≡ filled_from 0 before (tokens_before is.os ++ is.tokens ++ t ∷ [])
+  one_more t after put =
+      put ∙ ap (λ (x : List Token). filled_from count x (t ∷ [])) is.filled
+      ∙ filled_more 0 count before (tokens_before is.os ++ is.tokens) (t ∷ []) (omega (arith, is.count_is))
 
--- bounds
+  -- an element that holds no level
+  pub flattens_whole : (new : Option (List ℕ)) (behind : ℕ) (e : RawElement) (t : Token) (after : List Token) → Looks left new (next.Whole e)
+      → behind ≡ offset + size_of (frame_of e) → IsTokenOf (length list) offset (frame_of e) 0 t → after ≡ filled_from count room (t ∷ [])
+      → IsFlattening most b before ws new behind list (count + 1) after
+  flattens_whole new behind e t after looks far token put =
+      let here : IsTokenOf (length is.os) offset (frame_of e) 0 t = subst (λ (n : ℕ). IsTokenOf n offset (frame_of e) 0 t) depth_is token in
+      let whole : (tokens_before is.os ++ is.tokens) ++ t ∷ [] ≡ tokens_before is.os ++ (is.tokens ++ t ∷ []) = append_assoc (tokens_before is.os) is.tokens (t ∷ []) in
+      record {
+        os = is.os;
+        inside = is.inside;
+        start = is.start;
+        d = is.d;
+        tokens = is.tokens ++ t ∷ [];
+        are_open = is.are_open;
+        flat = flat_whole is.inside (length is.os) is.start is.d left new offset behind is.tokens e t is.flat looks far here;
+        list_is = is.list_is;
+        count_is = omega (arith, is.count_is, ap length whole, length-append (tokens_before is.os ++ is.tokens) (t ∷ []));
+        few = omega (arith, is.few, far);
+        filled = one_more t after put ∙ ap (filled_from 0 before) whole;
+      }
 
-pub flat_within : (inside depth end : ℕ) (d : List ℕ) (before : ℕ) (old : List Token) (left : Option (List ℕ)) (number offset count : ℕ) (room : List Token)
-    → IsFlattened inside depth end d before old left number offset count room → (2 * number ≤ end) × (offset ≤ end) × (count ≤ offset) × (before ≤ count)
-flat_within inside depth end d before old left number offset count room flat =
-    (omega (arith, passed_left inside d left number flat.is, flat.ends), omega (arith, flat.begins), flat.few, omega (arith, flat.count_is))
+  -- an element that holds a level
+  pub flattens_inside : (w : Wait) (e : RawElement) (inner : RawDocument) (t : Token) (after : List Token) (level : Level) (longer : List ℕ)
+      → suc (length ws) ≤ most → Looks left w.elements (next.Inside e inner) → w.offset ≡ offset + size_of (frame_of e)
+      → IsTokenOf (length list) offset (frame_of e) 0 t → after ≡ filled_from count room (t ∷ []) → IsOpened w.offset inner level
+      → longer ≡ list ++ count ∷ [] → offset < level.offset → IsFlattening most b before (ws ++ w ∷ []) level.elements level.offset longer (count + 1) after
+  flattens_inside w e inner t after level longer few looks far token put opened grown further =
+      enters is.inside is.are_open is.flat
+    where
+      o : Open
+      o = record { start = is.start; bytes = is.d; tokens = is.tokens; token = t }
 
--- a first barrier in front of what is left
+      enters : (inside : ℕ) → AreOpen most b is.os ws inside is.start is.d → IsFlat inside (length is.os) is.start is.d left offset is.tokens
+          → IsFlattening most b before (ws ++ w ∷ []) level.elements level.offset longer (count + 1) after
+      enters zero are flat = absurd (omega (arith, few, open_levels most b is.os ws 0 is.start is.d are))
+      enters (suc inside) are flat =
+          let here : IsTokenOf (length is.os) offset (frame_of e) 0 t = subst (λ (n : ℕ). IsTokenOf n offset (frame_of e) 0 t) depth_is token in
+          let whole : (tokens_before is.os ++ is.tokens) ++ t ∷ [] ≡ (tokens_before is.os ++ (is.tokens ++ t ∷ [])) ++ [] =
+          append_assoc (tokens_before is.os) is.tokens (t ∷ []) ∙ sym (append-nil (tokens_before is.os ++ (is.tokens ++ t ∷ []))) in
+          record {
+            os = o ∷ is.os;
+            inside = inside;
+            start = level.start;
+            d = bytes_of inner;
+            tokens = [];
+            are_open = (ws, w, refl, opens inside (length is.os) is.start level.start is.d left offset is.tokens w e inner t flat looks far here opened.starts, are);
+            flat = record { frames = []; passed = rw (opened.left_is) refl; has = refl; far = omega (arith, opened.begins, opened.starts, length-drop 4 (bytes_of inner), inner.envelope.enough) };
+            list_is = grown ∙ (λ i. is.list_is i ++ is.count_is i ∷ []);
+            count_is = omega (arith, is.count_is, ap length whole, length-append (tokens_before is.os ++ is.tokens) (t ∷ []));
+            few = omega (arith, is.few, further);
+            filled = one_more t after put ∙ ap (filled_from 0 before) whole;
+          }
 
-pub flat_fault : (inside depth end : ℕ) (d : List ℕ) (before : ℕ) (old : List Token) (left new : Option (List ℕ)) (number offset count : ℕ) (room : List Token)
-    (key : Option (Bor (List ℕ))) (e : BorrowedError) (path after : List ℕ) (halt : Halt)
-    → IsFlattened inside depth end d before old left number offset count room → Looks left new (next.Fault key e)
-    → ((fault : KeyedFault) → TellsBorrowed e fault → IsBarrier halt.kind (fault_of fault)) → halt.key ≡ key → halt.offset ≡ offset → halt.path_len ≡ 1
-    → after ≡ filled_from depth path (number ∷ []) → HaltsLevel inside depth end d path after halt
-flat_fault inside depth end d before old None new number offset count room key e path after halt flat looks kind key_is offset_is len_is put = absurd flat.is.passed
-flat_fault inside depth end d before old (Some s) new number offset count room key e path after halt flat looks kind key_is offset_is len_is put =
-    let at : ℕ = offset - flat.start in
-    let some : length s ≤ length d = omega (arith, passed_left inside d (Some s) number flat.is) in
-    let begins : BeginsAt d s at = omega (arith, flat.begins, flat.ends, some) in
-    record {
-      x = fault_of looks.0;
-      steps = [];
-      last = record { number = number; key = option_copied key };
-      at = at;
-      start = flat.start;
-      ends = flat.ends;
-      bars = fault_here inside d s number at (option_copied key) looks.0 flat.is looks.1 begins;
-      kind_is = kind looks.0 looks.2;
-      key_is = ap option_copied key_is;
-      offset_is = omega (arith, offset_is, flat.begins, flat.ends, some);
-      len_is = len_is;
-      filled = put;
-    }
+  -- the end of a level for which another waits
+  pub flattens_end : (outer : List Wait) (w : Wait) (shorter : List ℕ) (place size : ℕ) (after : List Token) → ws ≡ outer ++ w ∷ [] → IsOver left
+      → list ≡ shorter ++ place ∷ [] → size + (place + 1) ≡ count → after ≡ with_inside place size room → offset < w.offset
+      → IsFlattening most b before outer w.elements w.offset shorter count after
+  flattens_end outer w shorter place size after same over popped size_is put further = leaves is.os is.are_open is.flat is.list_is is.count_is is.filled
+    where
+      leaves : (os : List Open) → AreOpen most b os ws is.inside is.start is.d → IsFlat is.inside (length os) is.start is.d left offset is.tokens → list ≡ places os
+          → count ≡ length (tokens_before os ++ is.tokens) → room ≡ filled_from 0 before (tokens_before os ++ is.tokens)
+          → IsFlattening most b before outer w.elements w.offset shorter count after
+      leaves [] (none, inside_is, start_is, d_is) flat list_is count_is filled =
+          let left_over : outer ++ w ∷ [] ≡ [] = sym same ∙ none in
+          absurd (omega (arith, ap length left_over, length-append outer (w ∷ [])))
+      leaves (o ∷ os) (far_outer, v, end, is_open, are) flat list_is count_is filled =
+          let waits = last_same far_outer outer v w (sym end ∙ same) in
+          let front : List Token = tokens_before os ++ o.tokens in
+          let at = last_same shorter (places os) place (length front) (sym popped ∙ list_is) in
+          let whole : tokens_before (o ∷ os) ++ is.tokens ≡ front ++ o.token ∷ is.tokens =
+          ap (λ (x : List Token). x ++ is.tokens) (sym (append_assoc (tokens_before os) o.tokens (o.token ∷ []))) ∙ append_assoc front (o.token ∷ []) is.tokens in
+          let many : size ≡ length is.tokens = omega (arith, size_is, count_is, at.1, ap length whole, length-append front (o.token ∷ is.tokens)) in
+          let t : Token = with o.token (length is.tokens) in
+          let tokens : List Token = o.tokens ++ t ∷ is.tokens in
+          let here : front ++ t ∷ is.tokens ≡ tokens_before os ++ tokens = append_assoc (tokens_before os) o.tokens (t ∷ is.tokens) in
+          let set : after ≡ filled_from 0 before (front ++ t ∷ is.tokens) =
+          put ∙ (λ i. with_inside (at.1 i) (many i) (filled i)) ∙ ap (λ (x : List Token). with_inside (length front) (length is.tokens) (filled_from 0 before x)) whole
+          ∙ filled_inside (length is.tokens) front is.tokens o.token before in
+          let next : IsFlat (suc is.inside) (length os) o.start o.bytes w.elements w.offset tokens =
+          subst (λ (x : Wait). IsFlat (suc is.inside) (length os) o.start o.bytes x.elements x.offset tokens) waits.1
+          (closes is.tokens is_open (flat_over is.inside (suc (length os)) is.start is.d left offset is.tokens flat over)) in
+          record {
+            os = os;
+            inside = suc is.inside;
+            start = o.start;
+            d = o.bytes;
+            tokens = tokens;
+            are_open = subst (λ (x : List Wait). AreOpen most b os x (suc is.inside) o.start o.bytes) waits.0 are;
+            flat = next;
+            list_is = at.0;
+            count_is = omega (arith, count_is, ap length whole, ap length here, length-append front (o.token ∷ is.tokens), length-append front (t ∷ is.tokens));
+            few = omega (arith, is.few, further);
+            filled = set ∙ ap (filled_from 0 before) here;
+          }
 
-pub flat_deep : (inside depth end : ℕ) (d : List ℕ) (before : ℕ) (old : List Token) (left new : Option (List ℕ)) (number offset count : ℕ) (room : List Token)
-    (e : RawElement) (inner : RawDocument) (path after : List ℕ) (halt : Halt) → inside ≡ 0
-    → IsFlattened inside depth end d before old left number offset count room → Looks left new (next.Inside e inner) → IsBarrier halt.kind too_deep
-    → option_copied halt.key ≡ Some (frame_of e).key → halt.offset ≡ offset → halt.path_len ≡ 1 → after ≡ filled_from depth path (number ∷ [])
-    → HaltsLevel inside depth end d path after halt
-flat_deep inside depth end d before old left new number offset count room e inner path after halt levels flat looks kind key_is offset_is len_is put =
-    let at : ℕ = offset - flat.start in
-    let some : left_of left ≤ length d = omega (arith, passed_left inside d left number flat.is) in
-    let begins : at + left_of left ≡ length d = omega (arith, flat.begins, flat.ends, some) in
-    let is = subst (λ (n : ℕ). IsPassed n d left number) levels flat.is in
-    let step : Step = record { number = number; key = Some (frame_of e).key } in
-    record {
-      x = too_deep;
-      steps = [];
-      last = step;
-      at = at;
-      start = flat.start;
-      ends = flat.ends;
-      bars = subst (λ (n : ℕ). FirstFaultAt (suc n) d too_deep (step ∷ []) at) (sym levels) (passed_deep d left new number e inner is looks at begins);
-      kind_is = kind;
-      key_is = key_is;
-      offset_is = omega (arith, offset_is, flat.begins, flat.ends, some);
-      len_is = len_is;
-      filled = put;
-    }
-
-some_steps : (steps : List Step) (last : Step) → 0 < length (steps ++ last ∷ [])
-some_steps steps last = omega (arith, length-append steps (last ∷ []))
-
-halted_nested : (deeper depth end : ℕ) (d : List ℕ) (before : ℕ) (old : List Token) (s : List ℕ) (number offset count behind : ℕ) (room : List Token)
-    (e : RawElement) (inner path mid after : List ℕ) (halt out : Halt) → IsFlattened (suc deeper) depth end d before old (Some s) number offset count room
-    → (r : List ℕ) (v : RawValue) → IsFrame s (frame_of e) r → Means (frame_of e) (value v) → Holds v inner → behind ≡ offset + size_of (frame_of e)
-    → HaltsLevel deeper (depth + 1) behind inner path mid halt → out ≡ record halt { path_len = halt.path_len + 1 }
-    → after ≡ filled_from depth mid (number ∷ []) → HaltsLevel (suc deeper) depth end d path after out
-halted_nested deeper depth end d before old s number offset count behind room e inner path mid after halt out flat r v at m holds far h out_is put =
-    let f : Frame = frame_of e in
-    let frames = flat.is.frames in
-    let some : length s ≤ length d = omega (arith, passed_left (suc deeper) d (Some s) number flat.is) in
-    let beside : length inner + length r + 2 ≤ length s = nested_beside s f r v inner at m holds in
-    let size : size_of f + length r ≡ length s = frame_size s f r at in
-    let start : ℕ = h.start - flat.start in
-    let begins : BeginsAt d (inner ++ r) start = omega (arith, length-append inner r, h.ends, flat.ends, flat.begins, far, size, beside, some) in
-    let later : flat.start ≤ h.start = omega (arith, h.ends, flat.ends, flat.begins, far, size, beside, some) in
-    let step : Step = record { number = number; key = Some f.key } in
-    let same : ◌≡◌ {A = List Step} (step ∷ (h.steps ++ h.last ∷ [])) (record { number = length frames; key = Some f.key } ∷ (h.steps ++ h.last ∷ [])) =
-    ap (λ (n : ℕ). record { number = n; key = Some f.key } ∷ (h.steps ++ h.last ∷ [])) flat.is.number_is in
-    let place : IsOffsetOf d s inner r (h.steps ++ h.last ∷ []) h.at (start + h.at) =
-    outward_offset d s inner r (h.steps ++ h.last ∷ []) h.at (start + h.at) start (some_steps h.steps h.last) begins refl in
-    record {
-      x = h.x;
-      steps = step ∷ h.steps;
-      last = h.last;
-      at = start + h.at;
-      start = flat.start;
-      ends = flat.ends;
-      bars = (frames, flat.is.pairs, s, flat.is.passed, flat.is.each, inr (f, r, at, inr (v, inner, h.steps ++ h.last ∷ [], h.at, m, holds, h.bars, same, place)));
-      kind_is = rw out_is h.kind_is;
-      key_is = rw out_is h.key_is;
-      offset_is = ap (λ (x : Halt). x.offset) out_is ∙ omega (arith, h.offset_is, later);
-      len_is = ap (λ (x : Halt). x.path_len) out_is ∙ omega (arith, h.len_is);
-      filled = put ∙ (ap (λ (x : List ℕ). filled_from depth x (number ∷ [])) h.filled ∙ filled_front depth path number (map (λ step. step.number) (h.steps ++ h.last ∷ [])));
-    }
-
-pub flat_halts : (inside deeper depth end : ℕ) (d : List ℕ) (before : ℕ) (old : List Token) (left new : Option (List ℕ)) (number offset count behind : ℕ)
-    (room : List Token) (e : RawElement) (inner : RawDocument) (path mid after : List ℕ) (halt out : Halt) → inside ≡ suc deeper
-    → IsFlattened inside depth end d before old left number offset count room → Looks left new (next.Inside e inner) → behind ≡ offset + size_of (frame_of e)
-    → HaltsLevel deeper (depth + 1) behind (bytes_of inner) path mid halt → out ≡ record halt { path_len = halt.path_len + 1 }
-    → after ≡ filled_from depth mid (number ∷ []) → HaltsLevel inside depth end d path after out
-flat_halts inside deeper depth end d before old None new number offset count behind room e inner path mid after halt out levels flat looks far h out_is put = absurd flat.is.passed
-flat_halts inside deeper depth end d before old (Some s) new number offset count behind room e inner path mid after halt out levels flat (r, v, at, m, holds, new_is) far h out_is put =
-    let here = subst (λ (n : ℕ). IsFlattened n depth end d before old (Some s) number offset count room) levels flat in
-    subst (λ (n : ℕ). HaltsLevel n depth end d path after out) (sym levels)
-    (halted_nested deeper depth end d before old s number offset count behind room e
-    (bytes_of inner) path mid after halt out here r v at m holds far h out_is put)
+  -- the end of the document
+  pub flattens_all : ws ≡ [] → IsOver left → (ts : List Token) × HasTokens (suc most) 0 0 b ts × (count ≡ length ts) × (room ≡ filled_from 0 before ts)
+  flattens_all none over = ends is.os is.are_open is.flat is.count_is is.filled
+    where
+      ends : (os : List Open) → AreOpen most b os ws is.inside is.start is.d → IsFlat is.inside (length os) is.start is.d left offset is.tokens
+          → count ≡ length (tokens_before os ++ is.tokens) → room ≡ filled_from 0 before (tokens_before os ++ is.tokens)
+          → (ts : List Token) × HasTokens (suc most) 0 0 b ts × (count ≡ length ts) × (room ≡ filled_from 0 before ts)
+      ends [] (e, inside_is, start_is, d_is) flat count_is filled =
+          let ts = is.tokens in
+          let has : HasTokens (suc is.inside) 0 is.start is.d ts = flat_over is.inside 0 is.start is.d left offset ts flat over in
+          let here : HasTokens (suc is.inside) 0 0 b ts = subst (λ (n : ℕ). HasTokens (suc is.inside) 0 n b ts) start_is (subst (λ (x : List ℕ). HasTokens (suc is.inside) 0 is.start x ts) d_is has) in
+          (ts, subst (λ (n : ℕ). HasTokens (suc n) 0 0 b ts) inside_is here, count_is, filled)
+      ends (o ∷ os) (outer, w, same, is_open, are) flat count_is filled =
+          let left_over : outer ++ w ∷ [] ≡ [] = sym same ∙ none in
+          absurd (omega (arith, ap length left_over, length-append outer (w ∷ [])))

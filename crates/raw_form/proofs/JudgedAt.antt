@@ -24,10 +24,11 @@ use Rattle.raw_form.specs.declared.judge.Judged.{Judged}
 use Rattle.raw_form.specs.declared.judge.Judged.TheVariants as judged
 use Rattle.raw_form.specs.declared.level.Next.TheVariants as next
 use Rattle.raw_form.specs.Waits.{Stores, StoreEach, Wait}
+use Rattle.raw_form.specs.Walks.{IsAt, IsOpened, left_behind}
+use Rattle.raw_form.specs.declared.level.Level.{Level}
 use Rattle.raw_form.specs.declared.level.Waiting.{Waiting}
 use Rattle.raw_form.proofs.JudgedLevels.{AreHeld, IsInFront, IsJudged, as_held, begun, held_less, held_more, numbered, passed_breach, passed_deep, passed_end, passed_inside, passed_whole, resumed, verdict_outward}
-use Rattle.raw_form.proofs.Levels.{IsAt, IsOpened, at_inside, at_inside_size, at_resumed, at_whole, at_whole_size, waiting_then}
-use Rattle.raw_form.proofs.Passing.{left_behind}
+use Rattle.raw_form.proofs.Levels.{at_inside, at_inside_size, at_resumed, at_whole, at_whole_size, waiting_then}
 
 -- the levels are those that first faults are looked for in; and the innermost judges some bytes, for which the others wait,
 -- with their keys
@@ -68,8 +69,19 @@ judged_begin most depth b ks listed left number offset start k at whole no_keys 
       begins = rw e begins;
     }
 
-module _ (depth : ℕ) (b : List ℕ) (ws : List Wait) (ks : List KeysSoFar) (listed : List (Bor (List ℕ))) (left : Option (List ℕ)) (number offset start : ℕ)
-    (k : KeysSoFar) (at : IsJudgedAt depth b ws ks listed left number offset start k) where
+-- as many wait as there are keys of levels that wait
+same_many : (inside : ℕ) (outer : Sort) (b : List ℕ) (end : ℕ) (under : List (List ℕ)) (ws : List Wait) (ks : List KeysSoFar) (sort : Sort) (d : List ℕ)
+    (last : ℕ) (below : List (List ℕ)) → AreHeld inside outer b end under ws ks sort d last below → length ws ≡ length ks
+same_many inside outer b end under [] [] sort d last below h = refl
+same_many inside outer b end under [] (k ∷ ks) sort d last below h = absurd h
+same_many inside outer b end under (w ∷ ws) [] sort d last below h = absurd h
+same_many inside outer b end under (w ∷ ws) (k ∷ ks) sort d last below h = omega (arith, same_many inside h.0 h.1 w.offset h.2 ws ks sort d last below h.5)
+
+module _ {depth : ℕ} {b : List ℕ} {ws : List Wait} {ks : List KeysSoFar} {listed : List (Bor (List ℕ))} {left : Option (List ℕ)} {number offset start : ℕ}
+    {k : KeysSoFar} (at : IsJudgedAt depth b ws ks listed left number offset start k) where
+  pub as_many : length ws ≡ length ks
+  as_many = same_many at.inside as_document b (length b) [] ws ks at.sort at.d at.end at.below at.held
+
   pub open_keys : AreOpenKeys k listed
   open_keys = (at.sort, at.below, keys_of_frames at.is.frames, at.is.keys, at.is.keys_canonical)
 
@@ -97,7 +109,7 @@ module _ (depth : ℕ) (b : List ℕ) (ws : List Wait) (ks : List KeysSoFar) (li
   judged_whole new i after e behind h far =
       let looks = looks_whole new i after e h in
       record {
-        at = at_whole depth b ws left new number offset start behind e at.at looks far;
+        at = at_whole at.at new behind e looks far;
         inside = at.inside;
         sort = at.sort;
         d = at.d;
@@ -106,44 +118,44 @@ module _ (depth : ℕ) (b : List ℕ) (ws : List Wait) (ks : List KeysSoFar) (li
         held = at.held;
         is = passed_whole at.inside at.sort at.d at.below listed left number k at.is e new after i h;
         levels = at.levels;
-        begins = omega (arith, far, at.begins, (at_whole_size depth b ws left new number offset start e at.at looks).0);
+        begins = omega (arith, far, at.begins, (at_whole_size at.at new e looks).0);
       }
 
   -- the next level, for which this one waits
   opened : (inside : ℕ) (held : AreHeld inside as_document b (length b) [] ws ks at.sort at.d at.end at.below)
       (is : IsJudged inside at.sort at.d at.below listed left number k) → suc (length ws + inside) ≡ depth
       → (new : Option (List ℕ)) (i : KeysSoFar) (after : List (Bor (List ℕ))) (e : RawElement) (inner : RawDocument) (is_array : Bool) (behind : ℕ)
-      (left2 : Option (List ℕ)) (first begin starts : ℕ) (k2 : KeysSoFar)
+      (level : Level) (k2 : KeysSoFar)
       → TellsJudged at.sort at.below (keys_of_frames is.frames) is.rest new i after (judged.Inside e inner is_array)
       → (looks : Looks left new (next.Inside e inner)) → suc (length ws) < depth → (far : behind ≡ offset + size_of (frame_of e))
-      → IsOpened behind inner left2 first begin starts → HasKeysSoFar k2 after (sort_of is_array) (texts after) []
-      → IsJudgedAt depth b (ws ++ waiting_then depth b ws left new number offset start behind e inner at.at looks far ∷ []) (ks ++ i ∷ []) after left2 first begin starts k2
-  opened zero held is levels new i after e inner is_array behind left2 first begin starts k2 h looks few far opens has = absurd (omega (arith, levels, few))
-  opened (suc inside) held is levels new i after e inner is_array behind left2 first begin starts k2 h looks few far opens has =
-      let w : Wait = waiting_then depth b ws left new number offset start behind e inner at.at looks far in
+      → IsOpened behind inner level → HasKeysSoFar k2 after (sort_of is_array) (texts after) []
+      → IsJudgedAt depth b (ws ++ waiting_then at.at new behind e inner looks far ∷ []) (ks ++ i ∷ []) after level.elements level.number level.offset level.start k2
+  opened zero held is levels new i after e inner is_array behind level k2 h looks few far opens has = absurd (omega (arith, levels, few))
+  opened (suc inside) held is levels new i after e inner is_array behind level k2 h looks few far opens has =
+      let w : Wait = waiting_then at.at new behind e inner looks far in
       let waits = passed_inside (suc inside) at.sort at.d at.below listed left number k is e inner is_array new after i w h refl refl refl in
-      let ends : w.offset + left_behind w ≡ at.end = omega (arith, far, at.begins, (at_inside_size depth b ws left new number offset start e inner at.at looks).0) in
+      let ends : w.offset + left_behind w ≡ at.end = omega (arith, far, at.begins, (at_inside_size at.at new e inner looks).0) in
       record {
-        at = at_inside depth b ws left new number offset start behind e inner at.at looks far left2 first begin starts few opens;
+        at = at_inside at.at new behind e inner looks far level few opens;
         inside = inside;
         sort = sort_of is_array;
         d = bytes_of inner;
         end = behind;
         below = texts after;
         held = held_more inside as_document b (length b) [] ws ks at.sort at.d at.end at.below w i (sort_of is_array) (bytes_of inner) (texts after) held waits ends;
-        is = begun inside (sort_of is_array) (bytes_of inner) after left2 first k2 opens.left_is opens.first_is has;
+        is = begun inside (sort_of is_array) (bytes_of inner) after level.elements level.number k2 opens.left_is opens.first_is has;
         levels = omega (arith, levels, length-append ws (w ∷ []));
         begins = rw (opens.left_is) (opens.begins);
       }
 
   pub judged_inside : (new : Option (List ℕ)) (i : KeysSoFar) (after : List (Bor (List ℕ))) (e : RawElement) (inner : RawDocument) (is_array : Bool)
-      (behind : ℕ) (left2 : Option (List ℕ)) (first begin starts : ℕ) (k2 : KeysSoFar) (h : Told new i after (judged.Inside e inner is_array))
-      → suc (length ws) < depth → (far : behind ≡ offset + size_of (frame_of e)) → IsOpened behind inner left2 first begin starts
+      (behind : ℕ) (level : Level) (k2 : KeysSoFar) (h : Told new i after (judged.Inside e inner is_array))
+      → suc (length ws) < depth → (far : behind ≡ offset + size_of (frame_of e)) → IsOpened behind inner level
       → HasKeysSoFar k2 after (sort_of is_array) (texts after) []
-      → IsJudgedAt depth b (ws ++ waiting_then depth b ws left new number offset start behind e inner at.at (looks_inside new i after e inner is_array h) far
-      ∷ []) (ks ++ i ∷ []) after left2 first begin starts k2
-  judged_inside new i after e inner is_array behind left2 first begin starts k2 h few far opens has =
-      opened at.inside at.held at.is at.levels new i after e inner is_array behind left2 first begin starts k2 h (looks_inside new i after e inner is_array h) few far opens has
+      → IsJudgedAt depth b (ws ++ waiting_then at.at new behind e inner (looks_inside new i after e inner is_array h) far
+      ∷ []) (ks ++ i ∷ []) after level.elements level.number level.offset level.start k2
+  judged_inside new i after e inner is_array behind level k2 h few far opens has =
+      opened at.inside at.held at.is at.levels new i after e inner is_array behind level k2 h (looks_inside new i after e inner is_array h) few far opens has
 
   -- a verdict in front of what is left of the innermost level is that on b, at the offset of what is left
   front_outward : (x : Verdict) (step : Step) → IsInFront at.inside at.sort at.d left x step → FirstVerdictTo depth as_document b x (map step_at ws ++ step ∷ []) offset
@@ -188,31 +200,19 @@ module _ (depth : ℕ) (b : List ℕ) (ws : List Wait) (ks : List KeysSoFar) (li
   judged_end new i after h none =
       whole_end ws ks at.inside none (omega (arith, at.levels, none)) at.held (passed_end at.inside at.sort at.d at.below listed left number k at.is new after i h)
 
--- as many wait as there are keys of levels that wait
-same_many : (inside : ℕ) (outer : Sort) (b : List ℕ) (end : ℕ) (under : List (List ℕ)) (ws : List Wait) (ks : List KeysSoFar) (sort : Sort) (d : List ℕ)
-    (last : ℕ) (below : List (List ℕ)) → AreHeld inside outer b end under ws ks sort d last below → length ws ≡ length ks
-same_many inside outer b end under [] [] sort d last below h = refl
-same_many inside outer b end under [] (k ∷ ks) sort d last below h = absurd h
-same_many inside outer b end under (w ∷ ws) [] sort d last below h = absurd h
-same_many inside outer b end under (w ∷ ws) (k ∷ ks) sort d last below h = omega (arith, same_many inside h.0 h.1 w.offset h.2 ws ks sort d last below h.5)
-
-pub as_many : (depth : ℕ) (b : List ℕ) (ws : List Wait) (ks : List KeysSoFar) (listed : List (Bor (List ℕ))) (left : Option (List ℕ)) (number offset start : ℕ)
-    (k : KeysSoFar) → IsJudgedAt depth b ws ks listed left number offset start k → length ws ≡ length ks
-as_many depth b ws ks listed left number offset start k at = same_many at.inside as_document b (length b) [] ws ks at.sort at.d at.end at.below at.held
-
 -- the level that waits for the innermost goes on
-pub judged_resumed : (depth : ℕ) (b : List ℕ) (ws : List Wait) (w : Wait) (ks : List KeysSoFar) (j : KeysSoFar) (listed : List (Bor (List ℕ)))
-    (left : Option (List ℕ)) (number offset start : ℕ) (k : KeysSoFar) (c : Waiting)
+pub judged_resumed : {depth : ℕ} {b : List ℕ} {listed : List (Bor (List ℕ))} {left : Option (List ℕ)} {number offset start : ℕ} {k : KeysSoFar}
+    (ws : List Wait) (w : Wait) (ks : List KeysSoFar) (j : KeysSoFar) (c : Waiting)
     (at : IsJudgedAt depth b (ws ++ w ∷ []) (ks ++ j ∷ []) listed left number offset start k) (new : Option (List ℕ)) (i : KeysSoFar)
     (after left_list : List (Bor (List ℕ))) → TellsJudged at.sort at.below (keys_of_frames at.is.frames) at.is.rest new i after judged.End
     → LeavesOpenKeys i after left_list → Stores b c w → IsJudgedAt depth b ws ks left_list w.elements (w.number + 1) w.offset w.start j
-judged_resumed depth b ws w ks j listed left number offset start k c at new i after left_list h leaves stored =
+judged_resumed {depth} {b} {listed} {left} {number} {offset} {start} {k} ws w ks j c at new i after left_list h leaves stored =
     let less = held_less at.inside as_document b (length b) [] ws ks w j at.sort at.d at.end at.below at.held in
     let canonical = passed_end at.inside at.sort at.d at.below listed left number k at.is new after i h in
     let same : texts left_list ≡ at.below = leaves at.sort at.below (keys_of_frames at.is.frames) h.1 in
     let looks : Looks left new next.End = rw (at.is.left_is) (h.0) in
     record {
-      at = at_resumed depth b ws w left new number offset start c at.at looks stored;
+      at = at_resumed ws w at.at new looks c stored;
       inside = suc at.inside;
       sort = less.sort;
       d = less.d;

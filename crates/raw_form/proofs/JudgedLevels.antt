@@ -27,7 +27,7 @@ use Rattle.raw_form.specs.Places.{Step, BeginsAt, IsOffsetOf}
 use Rattle.raw_form.specs.Verdicts.{Verdict, too_deep, breach_of, JudgesNestedAt, JudgesMeaningAt, FirstVerdictTo}
 use Rattle.raw_form.specs.declared.judge.Judged.TheVariants as judged
 use Rattle.raw_form.specs.Waits.{Wait}
-use Rattle.raw_form.proofs.Passing.{left_behind}
+use Rattle.raw_form.specs.Walks.{left_behind}
 
 -- frames and values
 

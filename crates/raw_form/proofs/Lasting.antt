@@ -1,5 +1,5 @@
 -- A document with repeated keys: where the last frame of each key is, and what is left to be written.
-use Rattle.std.proofs.Common.{◌≡◌, ◌∙◌, ◌<◌, ◌≤◌, ◌+◌, ◌-◌, ◌++◌, ◌∷◌, [], ℕ, zero, suc, Bool, true, false, cond, List, Option, None, Some, Ok, Err, IsTrue, drop, length, map, option_map, ltb, slice_get, slice_index_or, arith, ap, refl, sym, subst, length-append, length-drop}
+use Rattle.std.proofs.Common.{◌≡◌, ◌∙◌, ◌<◌, ◌≤◌, ◌+◌, ◌-◌, ◌++◌, ◌∷◌, [], ℕ, zero, suc, Bool, true, false, cond, List, Option, None, Some, Err, IsTrue, drop, length, map, option_map, ltb, slice_get, slice_index_or, arith, ap, refl, sym, subst, length-append, length-drop}
 use Rattle.std.proofs.Math.Seq.{drop-append-add}
 use Rattle.std.proofs.lemmas.Bool.Decides.{nat_tests}
 use Rattle.std.proofs.lemmas.List.{drop-drop}
@@ -38,22 +38,14 @@ walk_step s (g ∷ fs) f r w at =
 
 -- what a step over the elements takes
 
-pub taken_final : (old new : Option (List ℕ)) → StepsFront old None new → TakesFrame old None new
-taken_final None new st = refl
-taken_final (Some s) new st = no_frame_at_final s st.0
-
 stopped : (s : List ℕ) (k : ErrorKind) (key : Option (List ℕ)) → StopsWith k key s → HasNoFrame s
-stopped s (kind.MalformedValue reason) key h = no_frame_at_stop s Malformed key h
+stopped s (kind.MalformedValue reason) key h = no_frame_at_stop s (Malformed reason) key h
 stopped s (kind.Utf8EncodingError error) key h = no_frame_at_stop s Utf8 key h
 stopped s kind.OutOfMemory key h = absurd h
 
 pub taken_stop : (old new : Option (List ℕ)) (e : BorrowedError) → StepsFront old (Some (Err e)) new → TakesFrame old None new
 taken_stop None new e st = refl
 taken_stop (Some s) new e st = stopped s e.kind (option_copied e.key) st.0
-
-pub taken_element : (old new : Option (List ℕ)) (e : RawElement) → StepsFront old (Some (Ok e)) new → TakesFrame old (Some e) new
-taken_element None new e st = cc
-taken_element (Some s) new e st = st
 
 -- where none is in front, a walk has no frame
 pub walk_over : (s : List ℕ) (frames : List Frame) → IsWalk s frames Done → HasNoFrame s → frames ≡ []
@@ -202,12 +194,6 @@ frames_at known d frames pairs w own h long =
 
 -- the next of them
 
-none_behind : (i : ℕ) (xs : List ℕ) → slice_get xs i ≡ None → drop i xs ≡ []
-none_behind zero [] e = refl
-none_behind zero (x ∷ xs) e = cc
-none_behind (suc i) [] e = refl
-none_behind (suc i) (x ∷ xs) e = none_behind i xs e
-
 one_behind : (i : ℕ) (xs : List ℕ) (x : ℕ) → slice_get xs i ≡ Some x → drop i xs ≡ x ∷ drop (suc i) xs
 one_behind zero [] x e = cc
 one_behind zero (y ∷ xs) x e = let same : y ≡ x = cc in ap (λ (z : ℕ). z ∷ xs) same
@@ -219,18 +205,9 @@ more_behind i xs x e =
     let next : suc i ≡ i + 1 = omega arith in
     one_behind i xs x e ∙ ap (λ (n : ℕ). x ∷ drop n xs) next
 
-pub nothing_left : (last : LastPlaces) (ms : List (MemberKey × Tree)) → IsLeftAt last ms → slice_get last.places.items last.passed ≡ None → ms ≡ []
-nothing_left last ms is none =
-    let over : is.0 ≡ [] = subst (λ (places : List ℕ). AreFramesAt last.known (bytes_of last.document) places is.0) (none_behind last.passed last.places.items none) is.1 in
-    is.2 ∙ ap (λ (pairs : List (List ℕ × Tree)). keyed (entries pairs)) over
-
 next_left : (last : LastPlaces) (o : ℕ) (ms : List (MemberKey × Tree)) (is : IsLeftAt last ms) → slice_get last.places.items last.passed ≡ Some o
     → AreFramesAt last.known (bytes_of last.document) (o ∷ drop (last.passed + 1) last.places.items) is.0
 next_left last o ms is some = subst (λ (places : List ℕ). AreFramesAt last.known (bytes_of last.document) places is.0) (more_behind last.passed last.places.items o some) is.1
-
-pub place_within : (last : LastPlaces) (o : ℕ) (ms : List (MemberKey × Tree)) → IsLeftAt last ms → slice_get last.places.items last.passed ≡ Some o
-    → (4 ≤ o) × (o ≤ length (bytes_of last.document)) × (f : Frame) × (r : List ℕ) × IsFrame (drop o (bytes_of last.document)) f r
-place_within last o ms is some = let next = next_left last o ms is some in (next.4, next.5, next.0, next.1, next.6)
 
 -- an item that is lent is at its place
 pub item_at : (xs : List ℕ) (i x : ℕ) → true ≡ ltb i (length xs) → x ≡ slice_index_or xs i x → slice_get xs i ≡ Some x

@@ -122,10 +122,6 @@ repeated_begins t known last is same none places (suc n, h) =
     let each = each_read n h.1.0 h.0 h.1.2 in
     (keep h.0, rw (same, none, places h.1.0 h.1.1) (frames_at known.offset d h.1.0 h.0 h.1.1 (is.before h.1.0 h.1.1) each last.document.envelope.enough), ap members h.2)
 
-pub document_code : (d : List ℕ) (t : Tree) → ReadsAs as_document d t → HasCode t None
-document_code d t (zero, h) = absurd h
-document_code d t (suc n, h) = subst (λ (x : Tree). HasCode x None) (sym h.2) refl
-
 -- a value that holds no level is a leaf
 pub shows_leaf : (v : RawValue) → ShowsHeld v None → (l : Leaf) × (v ≡ raw.single l)
 shows_leaf (raw.single l) h = (l, refl)

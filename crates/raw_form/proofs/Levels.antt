@@ -1,4 +1,4 @@
--- What the loop over levels keeps, and what it tells where it ends.
+-- What a walk over all levels keeps, and what it tells where it ends.
 use Rattle.std.proofs.Common.{◌≡◌, ◌∙◌, ◌≤◌, ◌<◌, ◌+◌, ◌-◌, ◌*◌, ◌++◌, ◌∷◌, [], ℕ, zero, suc, List, Option, None, Some, map, length, drop, arith, ap, refl, sym, subst, length-append, length-drop}
 use denote.Ref.{Bor}
 use Rattle.std.specs.Option.{option_copied}
@@ -15,41 +15,26 @@ use Rattle.raw_view.specs.declared.error.BorrowedError.{BorrowedError}
 use Rattle.raw_view.proofs.Face.{LeadsTo-bound, LeadsTo-more}
 use Rattle.raw_tree.specs.Reading.{Sort, as_document, tree_of_pairs, ReadsUpTo}
 use Rattle.raw_tree.specs.Validating.{left_of}
-use Rattle.raw_tree.specs.WithinLimits.{Barrier, fault_of, too_deep}
+use Rattle.raw_tree.specs.WithinLimits.{fault_of, too_deep}
+use Rattle.raw_tree.specs.WithinLimits as within
 use Rattle.raw_tree.proofs.Face.{nested_beside}
+use Rattle.raw_form.specs.Barriers.{TellsBarrierWithin}
 use Rattle.raw_form.specs.Looking.{Looks, size_of, step_at}
 use Rattle.raw_form.specs.Places.{Step, FirstFaultAt}
 use Rattle.raw_form.specs.Waits.{LiesAt, Stores, StoreEach, Wait}
+use Rattle.raw_form.specs.Walks.{AreHeld, IsAlong, IsAt, IsOpened, IsOver, IsPassed, left_behind}
+use Rattle.raw_form.specs.declared.barrier.Barrier.{Barrier}
+use Rattle.raw_form.specs.declared.level.Level.{Level}
+use Rattle.raw_form.specs.declared.walk.Walk.{Walk}
 use Rattle.raw_form.specs.declared.level.Waiting.{Waiting}
 use Rattle.raw_form.specs.declared.level.Next.TheVariants as next
-use Rattle.raw_form.proofs.Passing.{read_as, begun, passed_whole, passed_inside, passed_end, IsInFront, passed_fault, passed_deep, resumed, IsPassed, left_behind}
-use Rattle.raw_form.proofs.Outward.{AreHeld, held_more, held_less, held_last, held_ends, barrier_outward}
-use Rattle.raw_form.proofs.Lying.{behind_in, frame_more, led_behind, nested_last, nested_lies, stored_whole, whole_lies}
-
--- what the loop keeps: the innermost level passes over some bytes, for which the others wait, and what is left of them begins
--- at this offset of b; so many levels may be inside
-pub record IsAt (depth : ℕ) (b : List ℕ) (ws : List Wait) (left : Option (List ℕ)) (number offset start : ℕ) : Type 0 where
-  pub inside : ℕ
-  pub sort : Sort
-  pub d : List ℕ
-  pub end : ℕ
-  pub held : AreHeld inside as_document b (length b) ws sort d end
-  pub is : IsPassed inside d left number
-  pub levels : suc (length ws + inside) ≡ depth
-  pub begins : offset + left_of left ≡ end
-  pub lies : LiesAt b start d
-  pub whole : start + length d ≡ end
+use Rattle.raw_form.proofs.Passing.{read_as, begun, passed_whole, passed_inside, passed_end, IsInFront, passed_fault, passed_deep, resumed}
+use Rattle.raw_form.proofs.Outward.{held_more, held_less, held_last, held_ends, barrier_outward}
+use Rattle.raw_form.proofs.Lying.{behind_in, frame_more, led_behind, nested_last, nested_lies, stored_whole, whole_lies, stored_less}
 
 pub passed_left : (inside : ℕ) (d : List ℕ) (left : Option (List ℕ)) (number : ℕ) → IsPassed inside d left number → 2 * number + left_of left ≤ length d
 passed_left inside d None number is = absurd is.passed
 passed_left inside d (Some s) number is = omega (arith, LeadsTo-bound (drop 4 d) is.frames s is.passed, length-drop 4 d, is.number_is)
-
--- the number and the offset of what is left are within b
-pub at_within : (depth : ℕ) (b : List ℕ) (ws : List Wait) (left : Option (List ℕ)) (number offset start : ℕ) → IsAt depth b ws left number offset start
-    → (2 * number + left_of left ≤ length b) × (offset + left_of left ≤ length b)
-at_within depth b ws left number offset start at =
-    let ends = held_ends at.inside as_document b (length b) ws at.sort at.d at.end at.held (omega arith) in
-    (omega (arith, passed_left at.inside at.d left number at.is, ends.0, ends.1), omega (arith, at.begins, ends.1))
 
 pub frame_size : (s : List ℕ) (f : Frame) (r : List ℕ) → IsFrame s f r → size_of f + length r ≡ length s
 frame_size s f r b = omega (arith, ap length b.spelled, length-append f.key (0 ∷ (f.payload ++ r)), length-append f.payload r)
@@ -64,31 +49,12 @@ pub inside_size : (inside : ℕ) (d : List ℕ) (old new : Option (List ℕ)) (n
 inside_size inside d None new number e inner is looks = absurd is.passed
 inside_size inside d (Some s) new number e inner is (r, v, at, m, holds, new_is) = rw new_is (frame_size s (frame_of e) r at)
 
--- what is behind an element begins behind it
-pub at_whole_size : (depth : ℕ) (b : List ℕ) (ws : List Wait) (old new : Option (List ℕ)) (number offset start : ℕ) (e : RawElement)
-    → IsAt depth b ws old number offset start → Looks old new (next.Whole e)
-    → (size_of (frame_of e) + left_of new ≡ left_of old) × (offset + size_of (frame_of e) ≤ length b)
-at_whole_size depth b ws old new number offset start e at looks =
-    let size = whole_size at.inside at.d old new number e at.is looks in
-    (size, omega (arith, size, (at_within depth b ws old number offset start at).1))
-
-pub at_inside_size : (depth : ℕ) (b : List ℕ) (ws : List Wait) (old new : Option (List ℕ)) (number offset start : ℕ) (e : RawElement) (inner : RawDocument)
-    → IsAt depth b ws old number offset start → Looks old new (next.Inside e inner)
-    → (size_of (frame_of e) + left_of new ≡ left_of old) × (offset + size_of (frame_of e) ≤ length b)
-at_inside_size depth b ws old new number offset start e inner at looks =
-    let size = inside_size at.inside at.d old new number e inner at.is looks in
-    (size, omega (arith, size, (at_within depth b ws old number offset start at).1))
-
 -- nested bytes begin no earlier than the element that holds them
 inside_fits : (inside : ℕ) (d : List ℕ) (old new : Option (List ℕ)) (number : ℕ) (e : RawElement) (inner : RawDocument) → IsPassed inside d old number
     → Looks old new (next.Inside e inner) → length (bytes_of inner) ≤ size_of (frame_of e)
 inside_fits inside d None new number e inner is looks = absurd is.passed
 inside_fits inside d (Some s) new number e inner is (r, v, at, m, holds, new_is) =
     omega (arith, nested_beside s (frame_of e) r v (bytes_of inner) at m holds, frame_size s (frame_of e) r at)
-
-pub at_inside_fits : (depth : ℕ) (b : List ℕ) (ws : List Wait) (old new : Option (List ℕ)) (number offset start : ℕ) (e : RawElement) (inner : RawDocument)
-    → IsAt depth b ws old number offset start → Looks old new (next.Inside e inner) → length (bytes_of inner) ≤ size_of (frame_of e)
-at_inside_fits depth b ws old new number offset start e inner at looks = inside_fits at.inside at.d old new number e inner at.is looks
 
 pub at_begin : (most depth : ℕ) (b : List ℕ) (ws : List Wait) (left : Option (List ℕ)) (number offset start : ℕ) → suc most ≡ depth → ws ≡ []
     → left ≡ Some (drop 4 b) → number ≡ 0 → offset + length (drop 4 b) ≡ length b → IsEnvelope b → start + length b ≡ length b
@@ -106,32 +72,9 @@ at_begin most depth b ws left number offset start whole none e first begins enve
   whole = starts;
 }
 
-pub at_whole : (depth : ℕ) (b : List ℕ) (ws : List Wait) (old new : Option (List ℕ)) (number offset start behind : ℕ) (e : RawElement)
-    → IsAt depth b ws old number offset start → Looks old new (next.Whole e) → behind ≡ offset + size_of (frame_of e)
-    → IsAt depth b ws new (number + 1) behind start
-at_whole depth b ws old new number offset start behind e at looks far = record {
-  inside = at.inside;
-  sort = at.sort;
-  d = at.d;
-  end = at.end;
-  held = at.held;
-  is = passed_whole at.inside at.d old new number e at.is looks;
-  levels = at.levels;
-  begins = omega (arith, far, at.begins, whole_size at.inside at.d old new number e at.is looks);
-  lies = at.lies;
-  whole = at.whole;
-}
-
 -- a level that waits, behind this element of it
 abbrev pub wait_behind : (start : ℕ) (d : List ℕ) (new : Option (List ℕ)) (number behind : ℕ) (key : List ℕ) → Wait
 wait_behind start d new number behind key = record { start = start; bytes = d; elements = new; number = number; offset = behind; key = key }
-
--- a level that is entered; it ends where what is left of the one around it begins
-pub record IsOpened (behind : ℕ) (inner : RawDocument) (left : Option (List ℕ)) (first offset start : ℕ) : Type 0 where
-  pub left_is : left ≡ Some (drop 4 (bytes_of inner))
-  pub first_is : first ≡ 0
-  pub begins : offset + length (drop 4 (bytes_of inner)) ≡ behind
-  pub starts : start + length (bytes_of inner) ≡ behind
 
 -- nested bytes lie in the document, where they end with their element
 inside_lies : (inside : ℕ) (b d : List ℕ) (start : ℕ) (old new : Option (List ℕ)) (number offset : ℕ) (e : RawElement) (inner : RawDocument) (first : ℕ)
@@ -186,91 +129,13 @@ record IsIn (inside depth : ℕ) (b : List ℕ) (ws : List Wait) (d : List ℕ) 
   lies : LiesAt b start d
   whole : start + length d ≡ end
 
-opened_at : (inside depth : ℕ) (b : List ℕ) (ws : List Wait) (old new : Option (List ℕ)) (number offset start behind : ℕ) (e : RawElement) (inner : RawDocument)
-    (left : Option (List ℕ)) (first begin starts : ℕ) (sort : Sort) (d : List ℕ) (end : ℕ) → AreHeld inside as_document b (length b) ws sort d end
-    → IsIn inside depth b ws d end old number offset start → Looks old new (next.Inside e inner) → suc (length ws) < depth
-    → behind ≡ offset + size_of (frame_of e) → IsOpened behind inner left first begin starts
-    → IsAt depth b (ws ++ wait_behind start d new number behind (frame_of e).key ∷ []) left first begin starts
-opened_at zero depth b ws old new number offset start behind e inner left first begin starts sort d end held at looks few far opens =
-    absurd (omega (arith, at.levels, few))
-opened_at (suc inside) depth b ws old new number offset start behind e inner left first begin starts sort d end held at looks few far opens =
-    let w : Wait = wait_behind start d new number behind (frame_of e).key in
-    let waits = passed_inside (suc inside) d old new number e inner w at.is looks refl refl refl refl in
-    let ends : w.offset + left_behind w ≡ end = omega (arith, far, at.begins, inside_size (suc inside) d old new number e inner at.is looks) in
-    record {
-      inside = inside;
-      sort = waits.0;
-      d = bytes_of inner;
-      end = behind;
-      held = held_more inside as_document b (length b) ws sort d end w waits.0 (bytes_of inner) held waits.1 ends;
-      is = begun inside (bytes_of inner) left first opens.left_is opens.first_is;
-      levels = omega (arith, at.levels, length-append ws (w ∷ []));
-      begins = rw (opens.left_is) (opens.begins);
-      lies = inside_lies (suc inside) b d start old new number offset e inner starts at.lies at.is (at.begins ∙ sym at.whole) looks (opens.starts ∙ far);
-      whole = opens.starts;
-    }
-
-module _ (depth : ℕ) (b : List ℕ) (ws : List Wait) (old new : Option (List ℕ)) (number offset start behind : ℕ) (e : RawElement) (inner : RawDocument)
-    (at : IsAt depth b ws old number offset start) (looks : Looks old new (next.Inside e inner)) (far : behind ≡ offset + size_of (frame_of e)) where
-  -- the level that waits then
-  abbrev pub waiting_then : Wait
-  waiting_then = wait_behind start at.d new number behind (frame_of e).key
-
-  pub at_inside : (left : Option (List ℕ)) (first begin starts : ℕ) → suc (length ws) < depth → IsOpened behind inner left first begin starts
-      → IsAt depth b (ws ++ waiting_then ∷ []) left first begin starts
-  at_inside left first begin starts few opens =
-      opened_at at.inside depth b ws old new number offset start behind e inner left first begin starts at.sort at.d at.end at.held
-      (record { is = at.is; levels = at.levels; begins = at.begins; lies = at.lies; whole = at.whole }) looks few far opens
-
-  pub at_stored : (w : Waiting) → w.start ≡ start → w.element ≡ offset → w.number ≡ number → Stores b w waiting_then
-  at_stored w starts there n =
-      inside_stored at.inside b at.d start old new number offset behind e inner w at.lies at.is (at.begins ∙ sym at.whole) looks far starts there n
-
-pub at_resumed : (depth : ℕ) (b : List ℕ) (ws : List Wait) (w : Wait) (old new : Option (List ℕ)) (number offset start : ℕ) (c : Waiting)
-    → IsAt depth b (ws ++ w ∷ []) old number offset start → Looks old new next.End → Stores b c w → IsAt depth b ws w.elements (w.number + 1) w.offset w.start
-at_resumed depth b ws w old new number offset start c at looks stored =
-    let less = held_less at.inside as_document b (length b) ws w at.sort at.d at.end at.held in
-    let read = passed_end at.inside at.sort at.d old new number at.is looks in
-    record {
-      inside = suc at.inside;
-      sort = less.0;
-      d = less.1;
-      end = less.2;
-      held = less.3;
-      is = resumed (suc at.inside) less.1 w at.sort at.d less.4 read;
-      levels = omega (arith, at.levels, length-append ws (w ∷ []));
-      begins = less.5;
-      lies = subst (λ (d : List ℕ). LiesAt b w.start d) less.4.bytes_are stored.lies;
-      whole = subst (λ (d : List ℕ). w.start + length d ≡ less.2) less.4.bytes_are (sym (stored_whole b c w stored) ∙ less.5);
-    }
-
 over : (inside : ℕ) (d : List ℕ) (old new : Option (List ℕ)) (number : ℕ) → IsPassed inside d old number → Looks old new next.End → left_of old ≡ 1
 over inside d None new number is looks = absurd is.passed
 over inside d (Some s) new number is looks = ap length looks
 
--- behind the final 0 of a level what is left of the one around it begins
-pub at_over : (depth : ℕ) (b : List ℕ) (ws : List Wait) (w : Wait) (old new : Option (List ℕ)) (number offset start : ℕ)
-    → IsAt depth b (ws ++ w ∷ []) old number offset start → Looks old new next.End → offset + 1 ≡ w.offset
-at_over depth b ws w old new number offset start at looks =
-    omega (arith, at.begins, over at.inside at.d old new number at.is looks, held_last at.inside as_document b (length b) ws w at.sort at.d at.end at.held)
-
--- and within b
-pub at_over_within : (depth : ℕ) (b : List ℕ) (ws : List Wait) (old new : Option (List ℕ)) (number offset start : ℕ) → IsAt depth b ws old number offset start
-    → Looks old new next.End → offset + 1 ≤ length b
-at_over_within depth b ws old new number offset start at looks =
-    omega (arith, over at.inside at.d old new number at.is looks, (at_within depth b ws old number offset start at).1)
-
-pub at_end : (depth : ℕ) (b : List ℕ) (ws : List Wait) (old new : Option (List ℕ)) (number offset start : ℕ) → IsAt depth b ws old number offset start → ws ≡ []
-    → Looks old new next.End → (t : Tree) × ReadsUpTo depth as_document b t
-at_end depth b ws old new number offset start at none looks =
-    let here : AreHeld at.inside as_document b (length b) [] at.sort at.d at.end = subst (λ (x : List Wait). AreHeld at.inside as_document b (length b) x at.sort at.d at.end) none at.held in
-    let read = read_as (suc at.inside) at.sort as_document at.d b (sym here.0) (sym here.1) (passed_end at.inside at.sort at.d old new number at.is looks) in
-    let same : suc at.inside ≡ depth = omega (arith, at.levels, ap length none) in
-    (tree_of_pairs as_document read.0, subst (λ (n : ℕ). ReadsUpTo n as_document b (tree_of_pairs as_document read.0)) same read.1)
-
 -- a barrier in front of what is left of the innermost level is that of b, at the offset of what is left
 front_outward : (inside depth : ℕ) (b : List ℕ) (ws : List Wait) (left : Option (List ℕ)) (number offset start : ℕ) (sort : Sort) (d : List ℕ) (end : ℕ)
-    (x : Barrier) (step : Step) → AreHeld inside as_document b (length b) ws sort d end → IsPassed inside d left number → suc (length ws + inside) ≡ depth
+    (x : within.Barrier) (step : Step) → AreHeld inside as_document b (length b) ws sort d end → IsPassed inside d left number → suc (length ws + inside) ≡ depth
     → offset + left_of left ≡ end → IsInFront inside d left x step → FirstFaultAt depth b x (map step_at ws ++ step ∷ []) offset
 front_outward inside depth b ws left number offset start sort d end x step held is levels begins bars =
     let at : ℕ = length d - left_of left in
@@ -278,18 +143,6 @@ front_outward inside depth b ws left number offset start sort d end x step held 
     let out = barrier_outward inside as_document b (length b) ws sort d end x step at offset held (bars at there) (omega (arith, there, begins)) in
     let same : out.0 ≡ offset = omega (arith, out.2) in
     subst (λ (u : ℕ). FirstFaultAt depth b x (map step_at ws ++ step ∷ []) u) same (subst (λ (n : ℕ). FirstFaultAt n b x (map step_at ws ++ step ∷ []) out.0) levels out.1)
-
-pub at_fault : (depth : ℕ) (b : List ℕ) (ws : List Wait) (old new : Option (List ℕ)) (number offset start : ℕ) (key : Option (Bor (List ℕ))) (e : BorrowedError)
-    → IsAt depth b ws old number offset start → Looks old new (next.Fault key e)
-    → (fault : KeyedFault) × FirstFaultAt depth b (fault_of fault) (map step_at ws ++ record { number = number; key = option_copied key } ∷ []) offset
-    × TellsBorrowed e fault
-at_fault depth b ws old new number offset start key e at looks =
-    let bad = passed_fault at.inside at.d old new number key e at.is looks in (
-      bad.0,
-      front_outward at.inside depth b ws old number offset start at.sort at.d at.end (fault_of bad.0)
-          (record { number = number; key = option_copied key }) at.held at.is at.levels at.begins bad.1,
-      bad.2,
-    )
 
 deep_at : (inside depth : ℕ) (b : List ℕ) (ws : List Wait) (old new : Option (List ℕ)) (number offset start : ℕ) (sort : Sort) (d : List ℕ) (end : ℕ)
     (e : RawElement) (inner : RawDocument) → AreHeld inside as_document b (length b) ws sort d end → IsPassed inside d old number
@@ -300,21 +153,181 @@ deep_at zero depth b ws old new number offset start sort d end e inner held is l
     front_outward 0 depth b ws old number offset start sort d end too_deep (record { number = number; key = Some (frame_of e).key }) held is levels begins
     (passed_deep d old new number e inner is looks)
 
-pub at_deep : (depth : ℕ) (b : List ℕ) (ws : List Wait) (old new : Option (List ℕ)) (number offset start : ℕ) (e : RawElement) (inner : RawDocument)
-    → IsAt depth b ws old number offset start → Looks old new (next.Inside e inner) → depth ≤ suc (length ws)
-    → FirstFaultAt depth b too_deep (map step_at ws ++ record { number = number; key = Some (frame_of e).key } ∷ []) offset
-at_deep depth b ws old new number offset start e inner at looks many =
-    deep_at at.inside depth b ws old new number offset start at.sort at.d at.end e inner at.held at.is at.levels at.begins looks many
+opened_at : (inside depth : ℕ) (b : List ℕ) (ws : List Wait) (old new : Option (List ℕ)) (number offset start behind : ℕ) (e : RawElement) (inner : RawDocument)
+    (level : Level) (sort : Sort) (d : List ℕ) (end : ℕ) → AreHeld inside as_document b (length b) ws sort d end
+    → IsIn inside depth b ws d end old number offset start → Looks old new (next.Inside e inner) → suc (length ws) < depth
+    → behind ≡ offset + size_of (frame_of e) → IsOpened behind inner level
+    → IsAt depth b (ws ++ wait_behind start d new number behind (frame_of e).key ∷ []) level.elements level.number level.offset level.start
+opened_at zero depth b ws old new number offset start behind e inner level sort d end held at looks few far opens = absurd (omega (arith, at.levels, few))
+opened_at (suc inside) depth b ws old new number offset start behind e inner level sort d end held at looks few far opens =
+    let w : Wait = wait_behind start d new number behind (frame_of e).key in
+    let waits = passed_inside (suc inside) d old new number e inner w at.is looks refl refl refl refl in
+    let ends : w.offset + left_behind w ≡ end = omega (arith, far, at.begins, inside_size (suc inside) d old new number e inner at.is looks) in
+    record {
+      inside = inside;
+      sort = waits.0;
+      d = bytes_of inner;
+      end = behind;
+      held = held_more inside as_document b (length b) ws sort d end w waits.0 (bytes_of inner) held waits.1 ends;
+      is = begun inside (bytes_of inner) level.elements level.number opens.left_is opens.first_is;
+      levels = omega (arith, at.levels, length-append ws (w ∷ []));
+      begins = rw (opens.left_is) (opens.begins);
+      lies = inside_lies (suc inside) b d start old new number offset e inner level.start at.lies at.is (at.begins ∙ sym at.whole) looks (opens.starts ∙ far);
+      whole = opens.starts;
+    }
 
--- nested bytes are shorter than what is left
-pub inside_smaller : (inside : ℕ) (d : List ℕ) (old new : Option (List ℕ)) (number : ℕ) (e : RawElement) (inner : RawDocument) → IsPassed inside d old number
-    → Looks old new (next.Inside e inner) → length (bytes_of inner) + left_of new + 1 < left_of old
-inside_smaller inside d None new number e inner is looks = absurd is.passed
-inside_smaller inside d (Some s) new number e inner is (r, v, at, m, holds, new_is) =
-    rw new_is (omega (arith, nested_beside s (frame_of e) r v (bytes_of inner) at m holds))
+over_here : (old new : Option (List ℕ)) → Looks old new next.End → IsOver old
+over_here None new looks s e = absurd (cc)
+over_here (Some t) new looks s e =
+    let same : t ≡ s = cc in
+    sym same ∙ looks
+
+-- a walk is at a place
+module _ {depth : ℕ} {b : List ℕ} {ws : List Wait} {old : Option (List ℕ)} {number offset start : ℕ} (at : IsAt depth b ws old number offset start) where
+  -- the number and the offset of what is left are within b
+  pub at_within : (2 * number + left_of old ≤ length b) × (offset + left_of old ≤ length b)
+  at_within =
+      let ends = held_ends at.inside as_document b (length b) ws at.sort at.d at.end at.held (omega arith) in
+      (omega (arith, passed_left at.inside at.d old number at.is, ends.0, ends.1), omega (arith, at.begins, ends.1))
+
+  -- what is behind an element begins behind it, and within b
+  pub at_whole_size : (new : Option (List ℕ)) (e : RawElement) → Looks old new (next.Whole e)
+      → (size_of (frame_of e) + left_of new ≡ left_of old) × (offset + size_of (frame_of e) ≤ length b)
+  at_whole_size new e looks =
+      let size = whole_size at.inside at.d old new number e at.is looks in
+      (size, omega (arith, size, at_within.1))
+
+  pub at_inside_size : (new : Option (List ℕ)) (e : RawElement) (inner : RawDocument) → Looks old new (next.Inside e inner)
+      → (size_of (frame_of e) + left_of new ≡ left_of old) × (offset + size_of (frame_of e) ≤ length b)
+  at_inside_size new e inner looks =
+      let size = inside_size at.inside at.d old new number e inner at.is looks in
+      (size, omega (arith, size, at_within.1))
+
+  pub at_inside_fits : (new : Option (List ℕ)) (e : RawElement) (inner : RawDocument) → Looks old new (next.Inside e inner) → length (bytes_of inner) ≤ size_of (frame_of e)
+  at_inside_fits new e inner looks = inside_fits at.inside at.d old new number e inner at.is looks
+
+  pub at_whole : (new : Option (List ℕ)) (behind : ℕ) (e : RawElement) → Looks old new (next.Whole e) → behind ≡ offset + size_of (frame_of e)
+      → IsAt depth b ws new (number + 1) behind start
+  at_whole new behind e looks far = record {
+    inside = at.inside;
+    sort = at.sort;
+    d = at.d;
+    end = at.end;
+    held = at.held;
+    is = passed_whole at.inside at.d old new number e at.is looks;
+    levels = at.levels;
+    begins = omega (arith, far, at.begins, whole_size at.inside at.d old new number e at.is looks);
+    lies = at.lies;
+    whole = at.whole;
+  }
+
+  -- a level is entered, for which the one around it waits then
+  module _ (new : Option (List ℕ)) (behind : ℕ) (e : RawElement) (inner : RawDocument) (looks : Looks old new (next.Inside e inner))
+      (far : behind ≡ offset + size_of (frame_of e)) where
+    abbrev pub waiting_then : Wait
+    waiting_then = wait_behind start at.d new number behind (frame_of e).key
+
+    pub at_inside : (level : Level) → suc (length ws) < depth → IsOpened behind inner level → IsAt depth b (ws ++ waiting_then ∷ []) level.elements level.number level.offset level.start
+    at_inside level few opens =
+        opened_at at.inside depth b ws old new number offset start behind e inner level at.sort at.d at.end at.held
+        (record { is = at.is; levels = at.levels; begins = at.begins; lies = at.lies; whole = at.whole }) looks few far opens
+
+    pub at_stored : (w : Waiting) → w.start ≡ start → w.element ≡ offset → w.number ≡ number → Stores b w waiting_then
+    at_stored w starts there n =
+        inside_stored at.inside b at.d start old new number offset behind e inner w at.lies at.is (at.begins ∙ sym at.whole) looks far starts there n
+
+  -- the final 0 is in front, and within b
+  pub over_end : (new : Option (List ℕ)) → Looks old new next.End → IsOver old
+  over_end new looks = over_here old new looks
+
+  pub at_over_within : (new : Option (List ℕ)) → Looks old new next.End → offset + 1 ≤ length b
+  at_over_within new looks = omega (arith, over at.inside at.d old new number at.is looks, at_within.1)
+
+  pub at_end : (new : Option (List ℕ)) → ws ≡ [] → Looks old new next.End → (t : Tree) × ReadsUpTo depth as_document b t
+  at_end new none looks =
+      let here : AreHeld at.inside as_document b (length b) [] at.sort at.d at.end = subst (λ (x : List Wait). AreHeld at.inside as_document b (length b) x at.sort at.d at.end) none at.held in
+      let read = read_as (suc at.inside) at.sort as_document at.d b (sym here.0) (sym here.1) (passed_end at.inside at.sort at.d old new number at.is looks) in
+      let same : suc at.inside ≡ depth = omega (arith, at.levels, ap length none) in
+      (tree_of_pairs as_document read.0, subst (λ (n : ℕ). ReadsUpTo n as_document b (tree_of_pairs as_document read.0)) same read.1)
+
+  -- a barrier in front of what is left
+  pub at_fault : (new : Option (List ℕ)) (key : Option (Bor (List ℕ))) (e : BorrowedError) → Looks old new (next.Fault key e)
+      → (fault : KeyedFault) × FirstFaultAt depth b (fault_of fault) (map step_at ws ++ record { number = number; key = option_copied key } ∷ []) offset
+      × TellsBorrowed e fault
+  at_fault new key e looks =
+      let bad = passed_fault at.inside at.d old new number key e at.is looks in (
+        bad.0,
+        front_outward at.inside depth b ws old number offset start at.sort at.d at.end (fault_of bad.0)
+            (record { number = number; key = option_copied key }) at.held at.is at.levels at.begins bad.1,
+        bad.2,
+      )
+
+  pub at_deep : (new : Option (List ℕ)) (e : RawElement) (inner : RawDocument) → Looks old new (next.Inside e inner) → depth ≤ suc (length ws)
+      → FirstFaultAt depth b too_deep (map step_at ws ++ record { number = number; key = Some (frame_of e).key } ∷ []) offset
+  at_deep new e inner looks many =
+      deep_at at.inside depth b ws old new number offset start at.sort at.d at.end e inner at.held at.is at.levels at.begins looks many
+
+-- of the levels that wait the innermost is taken
+pub record IsPopped (depth : ℕ) (b : List ℕ) (rest : List Waiting) (c : Waiting) (ws : List Wait) (old : Option (List ℕ)) (number offset start : ℕ) : Type 0 where
+  pub outer : List Wait
+  pub w : Wait
+  pub same : ws ≡ outer ++ w ∷ []
+  pub are_stored : StoreEach b rest outer
+  pub stored : Stores b c w
+  pub at : IsAt depth b (outer ++ w ∷ []) old number offset start
+
+pub popped : {depth : ℕ} {b : List ℕ} {ws : List Wait} {old : Option (List ℕ)} {number offset start : ℕ} {waiting rest : List Waiting} {c : Waiting}
+    → IsAt depth b ws old number offset start → StoreEach b waiting ws → waiting ≡ rest ++ c ∷ [] → IsPopped depth b rest c ws old number offset start
+popped {depth} {b} {ws} {old} {number} {offset} {start} {waiting} {rest} {c} at are_stored items =
+    let less = stored_less b rest c ws (subst (λ (xs : List Waiting). StoreEach b xs ws) items are_stored) in
+    record {
+      outer = less.0;
+      w = less.1;
+      same = less.2;
+      are_stored = less.3;
+      stored = less.4;
+      at = subst (λ (xs : List Wait). IsAt depth b xs old number offset start) less.2 at;
+    }
+
+-- the level that waits for the innermost goes on where that ends
+module _ {depth : ℕ} {b : List ℕ} {old : Option (List ℕ)} {number offset start : ℕ} (ws : List Wait) (w : Wait) (at : IsAt depth b (ws ++ w ∷ []) old number offset start)
+    (new : Option (List ℕ)) (looks : Looks old new next.End) where
+  pub at_over : offset + 1 ≡ w.offset
+  at_over = omega (arith, at.begins, over at.inside at.d old new number at.is looks, held_last at.inside as_document b (length b) ws w at.sort at.d at.end at.held)
+
+  pub at_resumed : (c : Waiting) → Stores b c w → IsAt depth b ws w.elements (w.number + 1) w.offset w.start
+  at_resumed c stored =
+      let less = held_less at.inside as_document b (length b) ws w at.sort at.d at.end at.held in
+      let read = passed_end at.inside at.sort at.d old new number at.is looks in
+      record {
+        inside = suc at.inside;
+        sort = less.0;
+        d = less.1;
+        end = less.2;
+        held = less.3;
+        is = resumed (suc at.inside) less.1 w at.sort at.d less.4 read;
+        levels = omega (arith, at.levels, length-append ws (w ∷ []));
+        begins = less.5;
+        lies = subst (λ (d : List ℕ). LiesAt b w.start d) less.4.bytes_are stored.lies;
+        whole = subst (λ (d : List ℕ). w.start + length d ≡ less.2) less.4.bytes_are (sym (stored_whole b c w stored) ∙ less.5);
+      }
 
 -- so it is for levels that are stored
 pub record IsStoredAt (depth : ℕ) (b : List ℕ) (stored : List Waiting) (left : Option (List ℕ)) (number offset start : ℕ) : Type 0 where
   pub waits : List Wait
   pub are_stored : StoreEach b stored waits
   pub at : IsAt depth b waits left number offset start
+
+-- a walk over this document, for whose innermost level so many may wait
+pub record IsWalking (document : RawDocument) (most : ℕ) (walk : Walk) : Type 0 where
+  pub waits : List Wait
+  pub along : IsAlong walk waits
+  pub document_is : walk.document ≡ document
+  pub most_is : walk.most_waiting ≡ most
+
+-- what it tells is told of the document
+pub told_there : {document : RawDocument} {most : ℕ} {walk : Walk} → IsWalking document most walk → (result : Option Barrier)
+    → TellsBarrierWithin (suc walk.most_waiting) (bytes_of walk.document) result → TellsBarrierWithin (suc most) (bytes_of document) result
+told_there {document} {most} {walk} is result told =
+    subst (λ (n : ℕ). TellsBarrierWithin (suc n) (bytes_of document) result) is.most_is
+    (subst (λ (d : RawDocument). TellsBarrierWithin (suc walk.most_waiting) (bytes_of d) result) is.document_is told)

@@ -22,6 +22,5 @@ pub mod OneBarrier
 pub mod OneVerdict
 pub mod Rooms
 pub mod Flattening
-pub mod Flattened
 pub mod Bounds
 pub mod Face

@@ -16,7 +16,7 @@ use Rattle.raw_form.specs.Looking.{HoldsBytes, HoldsNone, Looks}
 use Rattle.raw_form.specs.declared.level.Next.TheVariants as next
 
 stop_of : (k : ErrorKind) (key : Option (List ℕ)) (s : List ℕ) → StopsWith k key s → (fault : KeyedFault) × IsStop s fault.fault fault.key × SaysFault k fault.fault × (key ≡ fault.key)
-stop_of (kind.MalformedValue reason) key s h = (record { fault = Malformed; key = key }, h, refl, refl)
+stop_of (kind.MalformedValue reason) key s h = (record { fault = Malformed reason; key = key }, h, refl, refl)
 stop_of (kind.Utf8EncodingError error) key s h = (record { fault = Utf8; key = key }, h, refl, refl)
 stop_of kind.OutOfMemory key s h = absurd h
 

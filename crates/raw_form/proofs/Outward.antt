@@ -7,14 +7,8 @@ use Rattle.raw_tree.specs.WithinLimits.{Barrier}
 use Rattle.raw_form.specs.Looking.{step_at}
 use Rattle.raw_form.specs.Places.{Step, FirstFaultAt}
 use Rattle.raw_form.specs.Waits.{Wait}
-use Rattle.raw_form.proofs.Passing.{held_within, held_barrier, IsHeld, left_behind}
-
--- levels that wait, the outermost first: from the bytes b, which end at this offset of the document, inward to the bytes d,
--- which end at that one; at most so many levels may be inside d. Nested bytes end where what is left of their level begins.
-abbrev pub AreHeld : ℕ → Sort → List ℕ → ℕ → List Wait → Sort → List ℕ → ℕ → Type 0
-AreHeld inside outer b end [] sort d last = (outer ≡ sort) × (b ≡ d) × (end ≡ last)
-AreHeld inside outer b end (w ∷ ws) sort d last =
-    (s : Sort) × (c : List ℕ) × IsHeld (suc (length ws + inside)) b w s c × (w.offset + left_behind w ≡ end) × AreHeld inside s c w.offset ws sort d last
+use Rattle.raw_form.specs.Walks.{AreHeld, IsHeld, left_behind}
+use Rattle.raw_form.proofs.Passing.{held_within, held_barrier}
 
 pub held_more : (inside : ℕ) (outer : Sort) (b : List ℕ) (end : ℕ) (ws : List Wait) (sort : Sort) (d : List ℕ) (last : ℕ) (w : Wait) (inner : Sort) (c : List ℕ)
     → AreHeld (suc inside) outer b end ws sort d last → IsHeld (suc inside) d w inner c → w.offset + left_behind w ≡ last

@@ -6,22 +6,23 @@ use Rattle.std.specs.Option.{option_copied}
 use Rattle.bson_model.specs.Pairs.{keep}
 use Rattle.bson_model.specs.Tree.{Tree, leaf, entries, code_with_scope}
 use Rattle.raw_view.specs.Document.{bytes_of}
-use Rattle.raw_view.specs.Frame.ElementSteps.{HasRead, frame_of}
-use Rattle.raw_view.specs.Frame.{Frame, IsFrame, LeadsTo}
+use Rattle.raw_view.specs.Frame.ElementSteps.{frame_of}
+use Rattle.raw_view.specs.Frame.{Frame}
 use Rattle.raw_view.specs.Frame.Front.{TellsBorrowed}
-use Rattle.raw_view.specs.Meaning.{RawValue, KeyedFault, Means, value}
+use Rattle.raw_view.specs.Meaning.{RawValue, KeyedFault}
 use Rattle.raw_view.specs.Meaning as raw
 use Rattle.raw_view.specs.declared.document.RawDocument.{RawDocument}
 use Rattle.raw_view.specs.declared.element.RawElement.{RawElement}
 use Rattle.raw_view.specs.declared.error.BorrowedError.{BorrowedError}
 use Rattle.raw_view.proofs.Face.{LeadsTo-walk, LeadsTo-more, LeadsTo-bound}
-use Rattle.raw_tree.specs.Reading.{Sort, as_document, as_array, leaf_in_order, tree_of_pairs, StandsFor, StandForEach, ReadsUpTo, Holds}
+use Rattle.raw_tree.specs.Reading.{Sort, as_document, as_array, leaf_in_order, tree_of_pairs, StandsFor, ReadsUpTo, Holds}
 use Rattle.raw_tree.specs.Validating.{HoldsAs, left_of}
 use Rattle.raw_tree.specs.WithinLimits.{Barrier, fault_of, too_deep}
 use Rattle.raw_tree.proofs.Face.{stand_more, nested_beside}
 use Rattle.raw_form.specs.Looking.{FailsAt, HoldsNone, Looks, step_at}
 use Rattle.raw_form.specs.Places.{Step, BeginsAt, IsOffsetOf, FirstFaultAt}
 use Rattle.raw_form.specs.Waits.{Wait}
+use Rattle.raw_form.specs.Walks.{AreReadTo, IsHeld, IsPassed, left_behind}
 use Rattle.raw_form.specs.declared.level.Next.TheVariants as next
 
 -- values
@@ -37,10 +38,6 @@ as_held (raw.single l) sort d h = h
 as_held (raw.document e) sort d h = h.1
 as_held (raw.array e) sort d h = h.1
 as_held (raw.scoped code e) sort d h = h.1
-
--- these bytes are read as the tree of some pairs
-abbrev pub AreReadTo : ℕ → Sort → List ℕ → Type 0
-AreReadTo n sort d = (pairs : List (List ℕ × Tree)) × ReadsUpTo n sort d (tree_of_pairs sort pairs)
 
 pub read_as : (n : ℕ) (sort other : Sort) (d e : List ℕ) → sort ≡ other → d ≡ e → AreReadTo n sort d → AreReadTo n other e
 read_as n sort other d e s same read = subst (λ (x : List ℕ). AreReadTo n other x) same (subst (λ (x : Sort). AreReadTo n x d) s read)
@@ -62,36 +59,6 @@ whole_stands n (raw.array d) h = absurd (h d refl)
 whole_stands n (raw.scoped code d) h = absurd (h d refl)
 
 -- levels
-
--- so many frames of b have been passed, and they stand for some trees, with at most so many levels inside
-pub record IsPassed (inside : ℕ) (b : List ℕ) (left : Option (List ℕ)) (number : ℕ) : Type 0 where
-  pub frames : List Frame
-  pub pairs : List (List ℕ × Tree)
-  pub passed : HasRead (drop 4 b) frames left
-  pub each : StandForEach (ReadsUpTo inside) frames pairs
-  pub number_is : number ≡ length frames
-
--- and the value of the frame behind them, under this key, holds the bytes d
-pub record IsHeld (inside : ℕ) (b : List ℕ) (w : Wait) (sort : Sort) (d : List ℕ) : Type 0 where
-  pub frames : List Frame
-  pub pairs : List (List ℕ × Tree)
-  pub s : List ℕ
-  pub f : Frame
-  pub r : List ℕ
-  pub v : RawValue
-  pub passed : LeadsTo (drop 4 b) frames s
-  pub frame : IsFrame s f r
-  pub bytes_are : w.bytes ≡ b
-  pub left_is : w.elements ≡ Some r
-  pub number_is : w.number ≡ length frames
-  pub key_is : w.key ≡ f.key
-  pub each : StandForEach (ReadsUpTo inside) frames pairs
-  pub means : Means f (value v)
-  pub holds : HoldsAs v sort d
-
--- what is left of the level that waits
-abbrev pub left_behind : Wait → ℕ
-left_behind w = left_of w.elements
 
 pub begun : (inside : ℕ) (d : List ℕ) (left : Option (List ℕ)) (number : ℕ) → left ≡ Some (drop 4 d) → number ≡ 0 → IsPassed inside d left number
 begun inside d left number e none = record { frames = []; pairs = []; passed = rw e refl; each = refl; number_is = none }

@@ -84,12 +84,6 @@ apart_more d (Some s) new k l listed after number e key is (r, at, new_is) same 
       fits = rw new_is (omega (arith, is.fits, IsFrame-shorter s f r at));
     }
 
--- the next frame has a number
-pub apart_small : (d : List ℕ) (old new : Option (List ℕ)) (k : KeysSoFar) (listed : List (Bor (List ℕ))) (number : ℕ) (e : RawElement)
-    → AreApart d old k listed number → TakesFrame old (Some e) new → number < length (drop 4 d)
-apart_small d None new k listed number e is h = absurd is.read
-apart_small d (Some s) new k listed number e is (r, at, new_is) = omega (arith, is.fits, IsFrame-shorter s (frame_of e) r at)
-
 -- no frame is left
 pub apart_over : (d : List ℕ) (old new : Option (List ℕ)) (k : KeysSoFar) (listed : List (Bor (List ℕ))) (number : ℕ) → AreApart d old k listed number
     → TakesFrame old None new → (frames : List Frame) → IsWalk (drop 4 d) frames Done → IsDistinct bytes_eq (keys_of_frames frames)

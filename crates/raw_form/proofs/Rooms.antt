@@ -39,22 +39,6 @@ filled_more n m room ts us is =
     let same : length ts + n ≡ m = omega (arith, is) in
     subst (λ (k : ℕ). filled_from k (filled_from n room ts) us ≡ filled_from n room (ts ++ us)) same (filled_on n room ts us)
 
--- one in front of others
-filled_before : {X : Type 0} (n : ℕ) (room : List X) (t : X) (ts : List X) → filled_from n (filled_from (suc n) room ts) (t ∷ []) ≡ filled_from n room (t ∷ ts)
-filled_before n [] t ts = refl
-filled_before zero (x ∷ room) t ts = ap (λ (r : List _). t ∷ r) (filled_none zero (filled_from zero room ts))
-filled_before (suc n) (x ∷ room) t ts = ap (λ (r : List _). x ∷ r) (filled_before n room t ts)
-
-pub filled_front : {X : Type 0} (n : ℕ) (room : List X) (t : X) (ts : List X) → filled_from n (filled_from (n + 1) room ts) (t ∷ []) ≡ filled_from n room (t ∷ ts)
-filled_front n room t ts =
-    let same : suc n ≡ n + 1 = omega arith in
-    subst (λ (m : ℕ). filled_from n (filled_from m room ts) (t ∷ []) ≡ filled_from n room (t ∷ ts)) same (filled_before n room t ts)
-
-pub last_key_last : (steps : List Step) (last : Step) → last_key (steps ++ last ∷ []) ≡ last.key
-last_key_last [] last = refl
-last_key_last (step ∷ []) last = refl
-last_key_last (step ∷ next ∷ steps) last = last_key_last (next ∷ steps) last
-
 -- steps of a path
 
 pub numbers_of : (path : List PathStep) → map (λ (step : PathStep). step.number) path ≡ map (λ (step : Step). step.number) (map step_of path)

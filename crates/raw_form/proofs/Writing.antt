@@ -119,7 +119,7 @@ rewriting_begins b t h level ws out read same none out_is fits start left =
       fits = fits;
     }
 
-module _ (b : List ℕ) (ws : List Rewritten) (level : Rewritten) (out : List ℕ) (is : IsRewriting b ws level out) where
+module _ {b : List ℕ} {ws : List Rewritten} {level : Rewritten} {out : List ℕ} (is : IsRewriting b ws level out) where
   -- something is left of the level
   pub something_left : (ms : List (MemberKey × Tree)) × IsLeft level.keys level.elements ms
   something_left = (is.here.left, is.begun.left)

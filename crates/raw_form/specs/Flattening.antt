@@ -1,37 +1,28 @@
--- What a level that is flattened tells. No public contract cites this file.
-use Rattle.std.specs.Prelude.{◌≡◌, ◌+◌, ◌++◌, ◌∷◌, [], ℕ, suc, List, map, length, drop}
-use Rattle.std.specs.Option.{option_copied}
+-- What a flattening tells. No public contract cites this file.
+use Rattle.std.specs.Prelude.{◌≡◌, ◌∷◌, [], ℕ, suc, List, length, zero, Result, Ok, Err, Some}
 use Rattle.bson_model.specs.Tree.{Tree}
-use Rattle.raw_tree.specs.Reading.{ReadsRest, ReadsUpTo}
-use Rattle.raw_tree.specs.WithinLimits as within
-use Rattle.raw_form.specs.Barriers.{IsBarrier}
-use Rattle.raw_form.specs.Places.{Step, FirstFaultAt}
+use Rattle.raw_tree.specs.Reading.{ReadsUpTo, as_document}
+use Rattle.raw_form.specs.Barriers.{TellsBarrierWithin, steps_of}
 use Rattle.raw_form.specs.Tokens.{HasTokens, filled_from}
+use Rattle.raw_form.specs.declared.barrier.BarrierKind.{BarrierKind}
+use Rattle.raw_form.specs.declared.flatten.FlattenError.{FlattenError}
+use Rattle.raw_form.specs.declared.flatten.FlattenError.TheVariants as error
 use Rattle.raw_form.specs.declared.token.Token.{Token}
-use Rattle.raw_form.specs.declared.token.Halt.{Halt}
 
--- the level of the bytes d, which end at this offset, is read as pairs, and its tokens are behind so many others
-pub record FlattensLevel (inside depth end : ℕ) (d : List ℕ) (before : ℕ) (old new : List Token) (count : ℕ) : Type 0 where
-  pub tokens : List Token
-  pub pairs : List (List ℕ × Tree)
-  pub start : ℕ
-  pub ends : start + length d ≡ end
-  pub reads : ReadsRest (ReadsUpTo inside) (drop 4 d) pairs
-  pub has : HasTokens (suc inside) depth start d tokens
-  pub count_is : count ≡ before + length tokens
-  pub filled : new ≡ filled_from before old tokens
+-- the token at this place has so many inside
+abbrev pub with_inside : ℕ → ℕ → List Token → List Token
+with_inside n size [] = []
+with_inside zero size (t ∷ ts) = record t { inside = size } ∷ ts
+with_inside (suc n) size (t ∷ ts) = t ∷ with_inside n size ts
 
--- the first barrier of the bytes d, which end at this offset, and the path to it behind so many other steps
-pub record HaltsLevel (inside depth end : ℕ) (d old new : List ℕ) (halt : Halt) : Type 0 where
-  pub x : within.Barrier
-  pub steps : List Step
-  pub last : Step
-  pub at : ℕ
-  pub start : ℕ
-  pub ends : start + length d ≡ end
-  pub bars : FirstFaultAt (suc inside) d x (steps ++ last ∷ []) at
-  pub kind_is : IsBarrier halt.kind x
-  pub key_is : option_copied halt.key ≡ last.key
-  pub offset_is : halt.offset ≡ start + at
-  pub len_is : halt.path_len ≡ length (steps ++ last ∷ [])
-  pub filled : new ≡ filled_from depth old (map (λ step. step.number) (steps ++ last ∷ []))
+-- a barrier of this kind at the document as a whole
+abbrev pub IsWhole : BarrierKind → FlattenError → Type 0
+IsWhole kind (error.Barrier answer) = (answer.kind ≡ kind) × (steps_of answer.place ≡ []) × (answer.place.offset ≡ 0)
+IsWhole kind error.OutOfMemory = ⊥
+
+-- the document b, inside of which may be so many levels, has these tokens, or a first barrier
+abbrev pub FlattensTo : ℕ → List ℕ → List Token → List Token → Result ℕ FlattenError → Type 0
+FlattensTo inside b before after (Ok count) =
+    (ts : List Token) × (t : Tree) × ReadsUpTo (suc inside) as_document b t × HasTokens (suc inside) 0 0 b ts × (count ≡ length ts) × (after ≡ filled_from 0 before ts)
+FlattensTo inside b before after (Err (error.Barrier answer)) = TellsBarrierWithin (suc inside) b (Some answer)
+FlattensTo inside b before after (Err error.OutOfMemory) = Unit {0}

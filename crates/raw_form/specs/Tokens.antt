@@ -1,20 +1,19 @@
--- The elements of all levels of a document, depth first, as tokens; and what ends a flattening. The bytes b of a document,
--- or of an array, have an envelope.
-use Rattle.std.specs.Prelude.{◌≡◌, ◌+◌, ◌++◌, ◌∷◌, [], ℕ, suc, zero, List, map, drop, length, Option, None, Result, Ok, Err}
-use Rattle.std.specs.Option.{option_copied}
+-- The elements of all levels of a document, depth first, as tokens. The bytes b of a document, or of an array, have an
+-- envelope.
+use Rattle.std.specs.Prelude.{◌≡◌, ◌+◌, ◌++◌, ◌∷◌, [], ℕ, suc, zero, List, drop, length, Option, None, Result, Ok, Err, ◌<◌, ◌≤◌, Some}
 use Rattle.bson_model.specs.Tree.{Tree}
 use Rattle.raw_view.specs.Frame.{Frame, IsWalk, Done}
 use Rattle.raw_view.specs.Frame.Kind.{tag_of}
 use Rattle.raw_view.specs.Meaning.{RawValue, Means, value}
 use Rattle.raw_view.specs.Meaning as raw
-use Rattle.raw_tree.specs.WithinLimits.{ReadsWithin, FirstBarrier}
-use Rattle.raw_tree.specs.WithinLimits as within
+use Rattle.raw_tree.specs.WithinLimits.{ReadsWithin}
 use Rattle.raw_tree.specs.declared.reader.limits.Limits.{Limits}
-use Rattle.raw_form.specs.Barriers.{IsBarrier}
+use Rattle.raw_form.specs.Barriers.{TellsBarrier}
 use Rattle.raw_form.specs.Looking.{size_of}
-use Rattle.raw_form.specs.Places.{Step, FirstBarrierAt}
+use Rattle.raw_form.specs.Places.{Step}
+use Rattle.raw_form.specs.declared.flatten.FlattenError.{FlattenError}
+use Rattle.raw_form.specs.declared.flatten.FlattenError.TheVariants as error
 use Rattle.raw_form.specs.declared.token.Token.{Token}
-use Rattle.raw_form.specs.declared.token.Halt.{Halt}
 
 -- this is the token of a frame at this offset, in a level that so many others are around, with so many tokens inside: its
 -- key is behind the tag, and its payload behind the key and a 0
@@ -70,17 +69,11 @@ last_key [] = None
 last_key (step ∷ []) = step.key
 last_key (step ∷ next ∷ steps) = last_key (next ∷ steps)
 
--- what ended a flattening is this barrier, at this path; the numbers of the path are in the room in which this was before
-pub record HaltsAt (x : within.Barrier) (path : List Step) (before after : List ℕ) (halt : Halt) : Type 0 where
-  pub kind_is : IsBarrier halt.kind x
-  pub key_is : option_copied halt.key ≡ last_key path
-  pub len_is : halt.path_len ≡ length path
-  pub filled : after ≡ filled_from 0 before (map (λ step. step.number) path)
-
 -- What is returned of the document b: how many tokens it has, of which as many as there is room for are in front of the
--- room; or its first barrier, and the path to it, as many numbers of it as there is room for.
-abbrev pub Flattens : Limits → List ℕ → List Token → List Token → List ℕ → List ℕ → Result ℕ Halt → Type 0
-Flattens limits b before after room path (Ok count) =
-    (ts : List Token) × (t : Tree) × ReadsWithin limits b t × HasTokens limits.depth 0 0 b ts × (count ≡ length ts) × (after ≡ filled_from 0 before ts) × (path ≡ room)
-Flattens limits b before after room path (Err halt) =
-    (x : within.Barrier) × (steps : List Step) × FirstBarrier limits b x × FirstBarrierAt limits b x steps halt.offset × HaltsAt x steps room path halt
+-- room; or its first barrier, and where that is; memory is asked for only where the bytes aren't too many and a level may be
+-- entered.
+abbrev pub Flattens : Limits → List ℕ → List Token → List Token → Result ℕ FlattenError → Type 0
+Flattens limits b before after (Ok count) =
+    (ts : List Token) × (t : Tree) × ReadsWithin limits b t × HasTokens limits.depth 0 0 b ts × (count ≡ length ts) × (after ≡ filled_from 0 before ts)
+Flattens limits b before after (Err (error.Barrier answer)) = TellsBarrier limits b (Some answer)
+Flattens limits b before after (Err error.OutOfMemory) = (length b ≤ limits.bytes) × (0 < limits.depth)

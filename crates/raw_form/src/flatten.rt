@@ -1,147 +1,114 @@
-//! The elements of all levels as tokens, without memory.
+//! The elements of all levels as tokens.
 #![tactic(auto)]
 
-ghost use Rattle.std.specs.Prelude.{◌≡◌, ◌+◌, ◌≤◌, length, None, IfOk, IfErr};
-ghost use Rattle.raw_form.specs.Flattening.{FlattensLevel, HaltsLevel};
+ghost use Rattle.raw_form.specs.Flattening.{FlattensTo, IsWhole};
 ghost use Rattle.raw_form.specs.Places.{AllAreBarredAtOnePlace};
 ghost use Rattle.raw_form.specs.Tokens.{Flattens};
 ghost use Rattle.raw_tree.specs.WithinLimits.{AllAreAnsweredOneWay};
 ghost use Rattle.raw_view.specs.Document.{bytes_of};
-ghost use Rattle.raw_view.specs.Frame.Number.{max_length};
 
-use crate::barrier::BarrierKind;
-use crate::level::{Level, Next, behind, look};
-use crate::token::{Halt, Token, put_at};
+use crate::barrier::{Barrier, BarrierKind};
+use crate::faults::FIRST;
+use crate::place::Place;
+use crate::token::{Token, put_at, set_inside};
+use crate::walk::{Event, Walk};
 use raw_tree::Limits;
 use raw_view::RawDocument;
+use std::alloc::Global;
 
-/// Puts the tokens of a level that ends at this offset behind so many others, and returns how many there are then; at most
-/// so many levels may be inside, and so many are around it. What ends it puts its path behind the steps of these.
-fn flatten_level<'a>(
-    document: RawDocument<'a>,
-    end: usize,
-    inside: usize,
-    depth: usize,
-    tokens: &mut [Token],
-    before: usize,
-    path: &mut [usize],
-) -> std::result::Result<usize, Halt<'a>>
-    requires end { end ≤ max_length }
-    requires few { before + length (bytes_of document) ≤ end }
-    requires shallow { depth ≤ before }
-    ensures flat { IfOk result
-        (FlattensLevel inside depth end (bytes_of document.entry) before tokens.old tokens.new) }
-    ensures path { IfOk result (λ _. path.new ≡ path.old) }
-    ensures few { IfOk result (λ count. count ≤ end) }
-    ensures short { IfErr result (λ halt. halt.path_len + depth ≤ end) }
-    ensures halt { IfErr result
-        (HaltsLevel inside depth end (bytes_of document.entry) path.old path.new) }
+/// Why a document isn't flattened within limits. The key and the path borrow from the document.
+/// ```
+/// let document = RawDocument::from_bytes(b"\x09\0\0\0\x08a\0\x02\0")?;
+/// let Err(FlattenError::Barrier(barrier)) = flatten_within(alloc, document, Limits { bytes: 1000, depth: 10 }, &mut []) else { unreachable!() };
+/// assert_eq!(rt; (barrier.place.offset, barrier.place.key()), (4, Some("a")));
+/// ```
+#[derive(Debug, Drop)]
+pub enum FlattenError<'a> {
+    /// Its first barrier, and where it is.
+    Barrier(Barrier<'a>),
+    /// Memory ran out.
+    OutOfMemory,
+}
+
+/// The error that a limit is at the document as a whole.
+fn whole<'a>(alloc: Global, kind: BarrierKind<'a>) -> FlattenError<'a>
+    ensures { IsWhole kind.entry result }
 {
-    let mut count = before;
-    let mut level = Level::new(document, end);
-    'elements: loop {
-        let offset = level.offset;
-        let number = level.number;
-        match look(&mut level.elements) {
-            Next::End => return Ok(count),
-            Next::Whole(element) => {
-                put_at(tokens, count, Token::new(depth, offset, element, 0));
+    FlattenError::Barrier(Barrier {
+        kind,
+        place: Place::whole(alloc),
+    })
+}
+
+/// Puts the tokens of a document, for whose innermost level so many may wait, to the front of a room.
+fn flatten_to<'a>(
+    alloc: Global,
+    document: RawDocument<'a>,
+    most_waiting: usize,
+    tokens: &mut [Token],
+) -> std::result::Result<usize, FlattenError<'a>>
+    ensures { FlattensTo most_waiting (bytes_of document.entry) tokens.old tokens.new result }
+{
+    let mut walk = Walk::new(alloc, document, FIRST, most_waiting);
+    let mut places: Vec<u32> = Vec::new(alloc);
+    let mut count = 0;
+    'events: loop {
+        let offset = walk.level.offset;
+        let depth = places.len();
+        match walk.next(alloc) {
+            Event::Whole(element) => {
+                put_at(tokens, count, Token::new(depth, offset, element));
                 count += 1;
-                level.offset = behind(offset, element);
-                level.number = number + 1;
             }
-            Next::Inside(element, inner) => {
-                level.offset = behind(offset, element);
-                let Some(deeper) = inside.checked_sub(1) else {
-                    put_at(path, depth, number);
-                    return Err(Halt {
-                        kind: BarrierKind::TooDeep,
-                        key: Some(element.key()),
-                        offset,
-                        path_len: 1,
-                    });
-                };
-                match flatten_level(
-                    inner,
-                    level.offset,
-                    deeper,
-                    depth + 1,
-                    tokens,
-                    count + 1,
-                    path,
-                ) {
-                    Ok(after) => {
-                        put_at(
-                            tokens,
-                            count,
-                            Token::new(depth, offset, element, after - (count + 1)),
-                        );
-                        count = after;
-                        level.number = number + 1;
-                    }
-                    Err(halt) => {
-                        put_at(path, depth, number);
-                        return Err(Halt {
-                            path_len: halt.path_len + 1,
-                            ..halt
-                        });
-                    }
+            Event::Enter(element) => {
+                put_at(tokens, count, Token::new(depth, offset, element));
+                if places.push(count as u32).is_err() {
+                    return Err(FlattenError::OutOfMemory);
                 }
+                count += 1;
             }
-            Next::Fault(key, error) => {
-                put_at(path, depth, number);
-                return Err(Halt {
-                    kind: BarrierKind::Fault(error),
-                    key,
-                    offset,
-                    path_len: 1,
-                });
+            Event::Leave => {
+                let Some(place) = places.pop() else {
+                    unreachable!()
+                };
+                let place = place as usize;
+                set_inside(tokens, place, count - (place + 1));
             }
+            Event::End => return Ok(count),
+            Event::Barrier(barrier) => return Err(FlattenError::Barrier(barrier)),
+            Event::OutOfMemory => return Err(FlattenError::OutOfMemory),
         }
     }
 }
 
 /// The elements of all levels of a document within limits as tokens, depth first in byte order: how many there are, of which
-/// as many as there is room for are put there; a code with scope has the elements of its scope inside. The rest of the room,
-/// and that of the path, is as it was. Else the first barrier, as `first_fault_within` has it, and as many numbers of its path
-/// as there is room for; what is in the room for tokens then isn't said. BSON 1.1, `document`.
+/// as many as there is room for are put there; a code with scope has the elements of its scope inside. The rest of the room
+/// is as it was. Else the first barrier, as `first_fault_within` has it; what is in the room then isn't said. Out of memory
+/// comes only where the bytes aren't too many and a level may be entered. BSON 1.1, `document`.
 ///
-/// No clause says so: no memory is taken, and a level takes stack.
+/// No clause says so: no depth fills the stack. Memory is taken for the levels that wait, and for the path of a barrier.
 /// ```
 /// let document = RawDocument::from_bytes(b"\x13\0\0\0\x10a\0\x01\0\0\0\x10b\0\x02\0\0\0\0")?;
 /// let limits = Limits { bytes: 1000, depth: 10 };
 /// let mut tokens = [Token { tag: 0, depth: 0, key_at: 0, key_len: 0, payload_at: 0, payload_len: 0, inside: 0 }; 4];
-/// assert!(rt; matches!(flatten_within(document, limits, &mut tokens, &mut [0; 4]), Ok(2)));
+/// assert!(rt; matches!(flatten_within(alloc, document, limits, &mut tokens), Ok(2)));
 /// assert_eq!(rt; (tokens[1].tag, tokens[1].key_at, tokens[1].payload_len), (16, 12, 4));
 /// ```
 pub fn flatten_within<'a>(
+    alloc: Global,
     document: RawDocument<'a>,
     limits: Limits,
     tokens: &mut [Token],
-    path: &mut [usize],
-) -> std::result::Result<usize, Halt<'a>>
-    ensures flat { Flattens limits (bytes_of document.entry) tokens.old tokens.new path.old path.new result }
+) -> std::result::Result<usize, FlattenError<'a>>
+    ensures flat { Flattens limits (bytes_of document.entry) tokens.old tokens.new result }
     ensures one_answer { AllAreAnsweredOneWay limits }
     ensures one_place { AllAreBarredAtOnePlace limits }
 {
-    let len = document.as_bytes().len();
-    if len > limits.bytes {
-        return Err(whole(BarrierKind::TooManyBytes));
+    if document.as_bytes().len() > limits.bytes {
+        return Err(whole(alloc, BarrierKind::TooManyBytes));
     }
-    let Some(inside) = limits.depth.checked_sub(1) else {
-        return Err(whole(BarrierKind::TooDeep));
+    let Some(most_waiting) = limits.depth.checked_sub(1) else {
+        return Err(whole(alloc, BarrierKind::TooDeep));
     };
-    flatten_level(document, len, inside, 0, tokens, 0, path)
-}
-
-/// What ends a flattening at the document as a whole.
-fn whole<'a>(kind: BarrierKind<'a>) -> Halt<'a>
-    ensures { result ≡ record { kind = kind.entry; key = None; offset = 0; path_len = 0 } }
-{
-    Halt {
-        kind,
-        key: None,
-        offset: 0,
-        path_len: 0,
-    }
+    flatten_to(alloc, document, most_waiting, tokens)
 }

@@ -16,11 +16,12 @@ mod rewriting;
 mod rewritten;
 mod token;
 mod verdict;
+mod walk;
 
 pub use barrier::{Barrier, BarrierKind};
 pub use canonical::canonical_within;
 pub use faults::first_fault_within;
-pub use flatten::flatten_within;
+pub use flatten::{FlattenError, flatten_within};
 pub use place::{PathStep, Place};
-pub use token::{Halt, Token};
+pub use token::Token;
 pub use verdict::{PlacedBreach, ValidateError, validate_within};

@@ -1,11 +1,11 @@
-//! Elements as tokens, and what ends a flattening.
+//! Elements as tokens.
 #![tactic(auto)]
 
 ghost use Rattle.std.specs.Prelude.{◌≡◌, ◌+◌, ◌<◌, ◌^◌, ◌∷◌, [], length};
+ghost use Rattle.raw_form.specs.Flattening.{with_inside};
 ghost use Rattle.raw_form.specs.Tokens.{IsTokenOf, filled_from};
 ghost use Rattle.raw_view.specs.Frame.ElementSteps.{frame_of};
 
-use crate::barrier::BarrierKind;
 use raw_view::RawElement;
 
 /// An element by its offsets, counted from the document's first byte. The elements inside it have tokens behind its own.
@@ -28,31 +28,13 @@ pub struct Token {
     pub inside: u32,
 }
 
-/// What ends a flattening, and where. The key borrows from the document.
-/// ```
-/// let halt = flatten_within(RawDocument::from_bytes(b"\x09\0\0\0\x08a\0\x02\0")?, Limits { bytes: 1000, depth: 10 }, &mut [], &mut [0; 4]);
-/// assert!(rt; matches!(halt, Err(Halt { key: Some("a"), offset: 4, path_len: 1, .. })));
-/// ```
-#[derive(Debug, Drop)]
-pub struct Halt<'a> {
-    /// what it is
-    pub kind: BarrierKind<'a>,
-    /// the key of the element; none of a stop, and of the document as a whole
-    pub key: Option<&'a str>,
-    /// where the element or the stop begins, counted from the document's first byte
-    pub offset: usize,
-    /// how many steps the path has
-    pub path_len: usize,
-}
-
 impl Token {
-    /// The token of an element at this offset, with so many tokens inside.
+    /// The token of an element at this offset, with none inside.
     #[inline(always)]
-    pub(crate) fn new(depth: usize, offset: usize, element: RawElement<'_>, inside: usize) -> Token
+    pub(crate) fn new(depth: usize, offset: usize, element: RawElement<'_>) -> Token
         requires small { offset + (2 + (length (frame_of element).key + length (frame_of element).payload)) < 2 ^ 32 }
         requires shallow { depth < 2 ^ 32 }
-        requires few { inside < 2 ^ 32 }
-        ensures { IsTokenOf depth offset (frame_of element.entry) inside result }
+        ensures { IsTokenOf depth offset (frame_of element.entry) 0 result }
     {
         let key_len = element.key().len() as u32;
         Token {
@@ -62,7 +44,7 @@ impl Token {
             key_len,
             payload_at: offset as u32 + 2 + key_len,
             payload_len: element.len() as u32,
-            inside: inside as u32,
+            inside: 0,
         }
     }
 }
@@ -74,5 +56,19 @@ pub(crate) fn put_at<T: Copy>(room: &mut [T], place: usize, item: T)
 {
     if place < room.len() {
         room[place] = item;
+    }
+}
+
+/// Says how many tokens are inside the one at this place, if the room has it.
+pub(crate) fn set_inside(tokens: &mut [Token], place: usize, inside: usize)
+    requires { inside < 2 ^ 32 }
+    ensures { tokens.new ≡ with_inside place inside tokens.old }
+{
+    if place < tokens.len() {
+        let token = tokens[place];
+        tokens[place] = Token {
+            inside: inside as u32,
+            ..token
+        };
     }
 }

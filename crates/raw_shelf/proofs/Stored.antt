@@ -8,15 +8,13 @@ use Rattle.std.proofs.lemmas.Map.Views.{Contains-from_any, list_any-from_Contain
 use Rattle.std.specs.Cmp.Lexicographic.{same_text}
 use Rattle.std.specs.List.{Contains, list_any}
 use Rattle.std.specs.Str.{bytes_eq}
-use Rattle.raw_bson.specs.Breach.{Breach}
 use Rattle.raw_bson.specs.Canonical.{IsCanonical}
 use Rattle.raw_bson.specs.CanonicalForm.{AllAreSpelledOneWay}
 use Rattle.raw_bson.specs.Envelope.{IsEnvelope}
 use Rattle.raw_bson.specs.Reading.{Reads, as_document}
 use Rattle.raw_bson.specs.Tree.{Tree}
-use Rattle.raw_shelf.specs.Shelves.{IsShelf, Puts, Stores, items}
+use Rattle.raw_shelf.specs.Shelves.{IsShelf, Stores, items}
 use Rattle.raw_shelf.specs.declared.put_error.PutError.{PutError}
-use Rattle.raw_shelf.specs.declared.put_error.PutError.TheVariants as error
 
 -- canonical documents of one tree have the same bytes
 same_bytes : AllAreSpelledOneWay as_document → (d b : List ℕ) (t : Tree) → IsEnvelope d → IsCanonical d → IsEnvelope b → IsCanonical b → Reads d t → Reads b t → d ≡ b
@@ -84,17 +82,3 @@ pub shelf_after : AllAreSpelledOneWay as_document → (before : List (List ℕ))
 shelf_after spelled before b (Ok true) after shelf env canonical s = rw (s.1) (shelf_more spelled before b shelf env canonical s.0)
 shelf_after spelled before b (Ok false) after shelf env canonical s = rw (s.1) shelf
 shelf_after spelled before b (Err e) after shelf env canonical s = rw (s.1) shelf
-
-abbrev is_breach : PutError → Bool
-is_breach (error.Breach breach) = true
-is_breach error.OutOfMemory = false
-
-another_error : (breach : Breach) → error.Breach breach ≡ error.OutOfMemory → ⊥
-another_error breach e = true≢false (ap is_breach e)
-
--- and the document was put as that says
-pub put_as_stored : (before : List (List ℕ)) (b : List ℕ) (answer : Result Bool PutError) (after : List (List ℕ)) → IsCanonical b → Stores before b answer after → Puts before b answer after
-put_as_stored before b (Ok true) after canonical s = (canonical, s.0, s.1)
-put_as_stored before b (Ok false) after canonical s = (canonical, s.0, s.1)
-put_as_stored before b (Err (error.Breach breach)) after canonical s = absurd (another_error breach s.0)
-put_as_stored before b (Err error.OutOfMemory) after canonical s = s.1

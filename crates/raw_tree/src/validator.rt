@@ -140,9 +140,10 @@ fn put_number(path: &mut Vec<usize>, number: usize) -> Result<()>
 
 /// Whether a document is canonical: `None` exactly where it is, and it then has a tree, which is written back as its
 /// own bytes; else the first place, depth first in byte order, where it fails to be, and why. At each element the key
-/// is judged first, then the value, then what is inside. No tree is built, and no depth fills the stack; memory is
-/// taken for the keys of the levels that are open and for the path, and the only error is out of memory. BSON 1.1,
-/// `document`.
+/// is judged first, then the value, then what is inside. The only error is out of memory. BSON 1.1, `document`.
+///
+/// No clause says so: no tree is built, and no depth fills the stack. Memory is taken for the keys of the levels that are open
+/// and for the path.
 /// ```
 /// let document = RawDocument::from_bytes(b"\x13\0\0\0\x10a\0\x01\0\0\0\x10a\0\x02\0\0\0\0")?;
 /// let Some(breach) = validate(alloc, document)? else { unreachable!() };

@@ -1,6 +1,6 @@
 pub mod AsciiLanes
 pub mod NulSearch
-pub mod LongerTexts
+pub mod PlainLanes
 pub mod Numbers
 pub mod Texts
 pub mod DecidedTexts

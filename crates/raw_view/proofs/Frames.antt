@@ -5,6 +5,7 @@ pub mod Standing
 pub mod Written
 pub mod FirstDocuments
 pub mod Decided
+pub mod Reasons
 pub mod Walks
 pub mod Iteration
 pub mod Loops

@@ -56,7 +56,7 @@ IsReadingKind k = (r : Reason) → k ≡ kind.MalformedValue r → IsReadingReas
 
 -- the fault that an error of this kind says
 abbrev pub SaysFault : ErrorKind → Fault → Type 0
-SaysFault (kind.MalformedValue _) fault = fault ≡ Malformed
+SaysFault (kind.MalformedValue why) fault = fault ≡ Malformed why
 SaysFault (kind.Utf8EncodingError _) fault = fault ≡ Utf8
 SaysFault kind.OutOfMemory fault = ⊥
 

@@ -8,15 +8,19 @@ pub mod FirstDocument
 pub mod Kind
 pub mod ElementSteps
 pub mod Front
-use Rattle.std.specs.Prelude.{◌≡◌, ◌⊎◌, ℕ, ◌<◌, ◌≤◌, pos, List, [], ◌∷◌, ◌++◌, length, take, Option, Some, None}
+pub mod Reasons
+use Rattle.std.specs.Prelude.{◌≡◌, ◌≢◌, ◌⊎◌, ℕ, ◌+◌, ◌<◌, ◌≤◌, pos, List, [], ◌∷◌, ◌++◌, length, take, Option, Some, None}
 use Rattle.std.specs.Str.{IsUtf8}
 use Rattle.bson_model.specs.Bytes.{NulFree}
 use Rattle.raw_view.specs.Frame.Number.{max_length, IsLe32}
 use Rattle.raw_view.specs.Frame.Envelope.{IsEnvelope}
 use Rattle.raw_view.specs.Frame.Format.{c_string, string_payload, plain_binary_payload, regex_payload, pointer_payload, tagged, element_of}
 use Rattle.raw_view.specs.Frame.Kind.{tag_of}
+use Rattle.raw_view.specs.Frame.Reasons.{IsStringReason, IsDocumentReason, IsBinaryReason, IsScopeReason}
 use Rattle.raw_view.specs.declared.element_type.ElementType.{ElementType}
 use Rattle.raw_view.specs.declared.element_type.ElementType.TheVariants as kind
+use Rattle.raw_view.specs.declared.error.Reason.{Reason}
+use Rattle.raw_view.specs.declared.error.Reason.TheVariants as reason
 
 -- p is the string of this text, which may hold a 0 and need not be UTF-8
 pub record IsString (p text : List ℕ) : Type 0 where
@@ -106,9 +110,9 @@ StandsAnywhere f = (r : List ℕ) → IsFrame (element_of f.kind f.key (f.payloa
 abbrev pub HasNoFrame : List ℕ → Type 0
 HasNoFrame s = (f : Frame) (r : List ℕ) → ¬ IsFrame s f r
 
--- how reading fails: the bytes are malformed, or a text isn't UTF-8
+-- how reading fails: the bytes are malformed, for this reason, or a text isn't UTF-8
 pub data Fault : Type 0 where
-  Malformed : Fault
+  Malformed : Reason → Fault
   Utf8 : Fault
 
 -- s is a tag, the key up to the next 0, and what is behind that 0
@@ -130,12 +134,53 @@ HasBadRegexText z = BeginsWithBadText z ⊎ ((x w : List ℕ) × (z ≡ c_string
 abbrev pub HasBadText : ℕ → List ℕ → Type 0
 HasBadText tag behind = (tag ≡ tag_of kind.RegularExpression) × HasBadRegexText behind
 
+-- no string is at the front of z
+abbrev pub HasNoString : List ℕ → Type 0
+HasNoString z = (string behind : List ℕ) → z ≡ string ++ behind → ¬ HasText string
+
+-- why no pointer is at the front of z: no string is; or behind the string that is, twelve bytes aren't left
+abbrev pub IsPointerReason : List ℕ → Reason → Type 0
+IsPointerReason z why =
+    (HasNoString z × IsStringReason z why)
+    ⊎ ((string behind : List ℕ) × (z ≡ string ++ behind) × HasText string × (why ≡ reason.PastEnd (length string + 12) (length z)))
+
+-- Why no payload of this kind is at the front of z, where none is. One of no bytes always is; of a regular expression
+-- that isn't, and whose texts are UTF-8, one has no 0.
+abbrev pub IsPayloadReason : ElementType → List ℕ → Reason → Type 0
+IsPayloadReason kind.Double z why = why ≡ reason.PastEnd 8 (length z)
+IsPayloadReason kind.String z why = IsStringReason z why
+IsPayloadReason kind.EmbeddedDocument z why = IsDocumentReason z why
+IsPayloadReason kind.Array z why = IsDocumentReason z why
+IsPayloadReason kind.Binary z why = IsBinaryReason z why
+IsPayloadReason kind.Undefined z why = ⊥
+IsPayloadReason kind.ObjectId z why = why ≡ reason.PastEnd 12 (length z)
+IsPayloadReason kind.Boolean z why = why ≡ reason.PastEnd 1 (length z)
+IsPayloadReason kind.DateTime z why = why ≡ reason.PastEnd 8 (length z)
+IsPayloadReason kind.Null z why = ⊥
+IsPayloadReason kind.RegularExpression z why = why ≡ reason.NoTerminator
+IsPayloadReason kind.DbPointer z why = IsPointerReason z why
+IsPayloadReason kind.JavaScriptCode z why = IsStringReason z why
+IsPayloadReason kind.Symbol z why = IsStringReason z why
+IsPayloadReason kind.JavaScriptCodeWithScope z why = IsScopeReason z why
+IsPayloadReason kind.Int32 z why = why ≡ reason.PastEnd 4 (length z)
+IsPayloadReason kind.Timestamp z why = why ≡ reason.PastEnd 8 (length z)
+IsPayloadReason kind.Int64 z why = why ≡ reason.PastEnd 8 (length z)
+IsPayloadReason kind.Decimal128 z why = why ≡ reason.PastEnd 16 (length z)
+IsPayloadReason kind.MaxKey z why = ⊥
+IsPayloadReason kind.MinKey z why = ⊥
+
+-- why no element of this tag is there, z behind its key: no kind has the tag; or no payload of its kind is in front
+abbrev pub IsElementReason : ℕ → List ℕ → Reason → Type 0
+IsElementReason tag z why =
+    (((k : ElementType) → tag ≢ tag_of k) × (why ≡ reason.InvalidTag tag))
+    ⊎ ((k : ElementType) × (tag ≡ tag_of k) × IsPayloadReason k z why)
+
 -- Where frames end without the final 0: no byte is left; the key isn't UTF-8; or there is a key and no
 -- frame. The last is a fault of text only for the texts of a regular expression.
 abbrev pub IsStop : List ℕ → Fault → Option (List ℕ) → Type 0
-IsStop s Malformed None = s ≡ []
+IsStop s (Malformed why) None = (s ≡ []) × (why ≡ reason.Overflowed)
 IsStop s Utf8 None = (key : List ℕ) × HasKey s key × ¬ IsUtf8 key
-IsStop s Malformed (Some key) = (k : HasKey s key) × IsUtf8 key × HasNoFrame s × ¬ HasBadText k.tag k.behind
+IsStop s (Malformed why) (Some key) = (k : HasKey s key) × IsUtf8 key × HasNoFrame s × (¬ HasBadText k.tag k.behind) × IsElementReason k.tag k.behind why
 IsStop s Utf8 (Some key) = (k : HasKey s key) × IsUtf8 key × HasNoFrame s × HasBadText k.tag k.behind
 
 -- how a walk ends: at the final 0, or at a stop

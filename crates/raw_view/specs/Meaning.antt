@@ -3,18 +3,21 @@
 pub mod Item
 pub mod Value
 pub mod Typed
-use Rattle.std.specs.Prelude.{◌≡◌, ◌≢◌, ◌⊎◌, ℕ, ◌<◌, ◌≤◌, ◌^◌, ◌+ℤ◌, ◌≤ℤ◌, ℤ, pos, negsuc, Bool, List, [], ◌∷◌, ◌++◌, length, take, drop, Option, Some, None}
+use Rattle.std.specs.Prelude.{◌≡◌, ◌≢◌, ◌⊎◌, ℕ, ◌<◌, ◌≤◌, ◌^◌, ◌+ℤ◌, ◌≤ℤ◌, ℤ, pos, negsuc, Bool, List, [], ◌∷◌, length, take, drop, Option, Some, None}
 use Rattle.std.specs.Str.{IsUtf8}
 use Rattle.bson_model.specs.Leaf.{Leaf, double, string, binary, undefined, object_id, boolean, date_time, null, regular_expression, db_pointer, javascript_code, symbol, int32, timestamp, int64, decimal128, max_key, min_key}
 use Rattle.bson_model.specs.Subtype.{subtype_of}
 use Rattle.bson_model.specs.declared.binaries.BinarySubtype.TheVariants.{BinaryOld}
 use Rattle.raw_view.specs.Frame.Number.{max_length, IsLe32, IsLe64, IsUnsigned64}
-use Rattle.raw_view.specs.Frame.Envelope.{IsEnvelope}
+use Rattle.raw_view.specs.Frame.Envelope.{IsEnvelope, Refuses}
 use Rattle.raw_view.specs.Frame.Format.{boolean_payload, inner_payload, scoped_payload, timestamp_payload}
 use Rattle.raw_view.specs.Frame.Kind.{kind_of_leaf}
 use Rattle.raw_view.specs.declared.element_type.ElementType.{ElementType}
 use Rattle.raw_view.specs.declared.element_type.ElementType.TheVariants as kind
-use Rattle.raw_view.specs.Frame.{Frame, IsString, HasText, IsBinary, IsRegex, IsDbPointer, Fault, Malformed, Utf8}
+use Rattle.raw_view.specs.declared.error.Reason.{Reason}
+use Rattle.raw_view.specs.declared.error.Reason.TheVariants as reason
+use Rattle.raw_view.specs.Frame.Reasons.{IsStringReason}
+use Rattle.raw_view.specs.Frame.{Frame, IsString, HasNoString, IsBinary, IsRegex, IsDbPointer, Fault, Malformed, Utf8}
 
 -- a value: one that holds no others, or the bytes of a nested document, of an array, of a code's scope
 pub data RawValue : Type 0 where
@@ -86,13 +89,13 @@ pub record KeyedFault : Type 0 where
   pub fault : Fault
   pub key : Option (List ℕ)
 
--- malformed, with the element's key
-abbrev pub malformed_at : List ℕ → KeyedFault
-malformed_at key = record { fault = Malformed; key = Some key }
+-- malformed for this reason, with the element's key
+abbrev pub malformed_at : Reason → List ℕ → KeyedFault
+malformed_at why key = record { fault = Malformed why; key = Some key }
 
--- malformed, without a key
-abbrev pub malformed : KeyedFault
-malformed = record { fault = Malformed; key = None }
+-- malformed for this reason, without a key
+abbrev pub malformed : Reason → KeyedFault
+malformed why = record { fault = Malformed why; key = None }
 
 -- a text that isn't UTF-8, without a key
 abbrev pub not_text : KeyedFault
@@ -109,27 +112,27 @@ Overflows inner = (negsuc 3 ≤ℤ inner) × (inner ≤ℤ negsuc 0)
 -- the fault of an old binary's bytes, outer
 pub data OldBinaryFault (key outer : List ℕ) (fault : KeyedFault) : Type 0 where
   -- they are under four
-  no_inner_length : length outer < 4 → fault ≡ malformed_at key → OldBinaryFault key outer fault
+  no_inner_length : length outer < 4 → fault ≡ malformed_at reason.OldNoInner key → OldBinaryFault key outer fault
   -- the inner length is from -4 to -1
-  overflow : (inner : ℤ) → 4 ≤ length outer → IsLe32 (take 4 outer) inner → Overflows inner → fault ≡ malformed → OldBinaryFault key outer fault
+  overflow : (inner : ℤ) → 4 ≤ length outer → IsLe32 (take 4 outer) inner → Overflows inner → fault ≡ malformed reason.AddOverflow → OldBinaryFault key outer fault
   -- it is any other which plus 4 isn't theirs
   wrong_inner_length : (inner : ℤ) → 4 ≤ length outer → IsLe32 (take 4 outer) inner → (¬ Overflows inner) → (inner +ℤ pos 4) ≢ pos (length outer)
-      → fault ≡ malformed_at key → OldBinaryFault key outer fault
+      → fault ≡ malformed_at reason.OldWrongInner key → OldBinaryFault key outer fault
 
 -- what is behind the four length bytes of a code with scope doesn't begin with a string
 abbrev pub HasNoCode : List ℕ → Type 0
-HasNoCode p = (string scope : List ℕ) → drop 4 p ≡ string ++ scope → ¬ HasText string
+HasNoCode p = HasNoString (drop 4 p)
 
 -- the fault of a code with scope
 pub data ScopeFault (key p : List ℕ) (fault : KeyedFault) : Type 0 where
   -- it has under 14 bytes
-  too_small : length p < 14 → fault ≡ malformed_at key → ScopeFault key p fault
-  -- no string is behind its length
-  no_code : 14 ≤ length p → HasNoCode p → fault ≡ malformed → ScopeFault key p fault
+  too_small : length p < 14 → fault ≡ malformed_at reason.CodeTooSmall key → ScopeFault key p fault
+  -- no string is behind its length, for this reason
+  no_code : (why : Reason) → 14 ≤ length p → HasNoCode p → IsStringReason (drop 4 p) why → fault ≡ malformed why → ScopeFault key p fault
   -- the string's text isn't UTF-8
   code_no_text : (code scope : List ℕ) → 14 ≤ length p → IsCodeWithScope p code scope → (¬ IsUtf8 code) → fault ≡ not_text → ScopeFault key p fault
-  -- exactly the rest has no envelope
-  no_scope : (code scope : List ℕ) → 14 ≤ length p → IsCodeWithScope p code scope → IsUtf8 code → (¬ IsEnvelope scope) → fault ≡ malformed → ScopeFault key p fault
+  -- exactly the rest has no envelope, for this reason
+  no_scope : (code scope : List ℕ) (why : Reason) → 14 ≤ length p → IsCodeWithScope p code scope → IsUtf8 code → Refuses scope why → fault ≡ malformed why → ScopeFault key p fault
 
 -- the payload p of this kind, under this key, means this fault; the kinds that are not here mean none
 abbrev pub MeansFault : ElementType → List ℕ → List ℕ → KeyedFault → Type 0
@@ -137,7 +140,7 @@ MeansFault kind.String key p fault = SpellsNoText p × (fault ≡ not_text)
 MeansFault kind.JavaScriptCode key p fault = SpellsNoText p × (fault ≡ not_text)
 MeansFault kind.Symbol key p fault = SpellsNoText p × (fault ≡ not_text)
 MeansFault kind.DbPointer key p fault = (namespace id : List ℕ) × IsDbPointer p namespace id × (¬ IsUtf8 namespace) × (fault ≡ not_text)
-MeansFault kind.Boolean key p fault = (byte : ℕ) × (p ≡ byte ∷ []) × (1 < byte) × (fault ≡ malformed_at key)
+MeansFault kind.Boolean key p fault = (byte : ℕ) × (p ≡ byte ∷ []) × (1 < byte) × (fault ≡ malformed_at (reason.BadBoolean byte) key)
 MeansFault kind.Binary key p fault = (outer : List ℕ) × IsBinary p 2 outer × OldBinaryFault key outer fault
 MeansFault kind.JavaScriptCodeWithScope key p fault = ScopeFault key p fault
 MeansFault _ key p fault = ⊥

@@ -243,7 +243,7 @@ impl<'a> BorrowedError<'a> {
         requires { IsReadingReason reason }
         ensures kind { result.kind ≡ ErrorKind.MalformedValue reason }
         ensures key { result.key ≡ None }
-        ensures tells { TellsBorrowed result malformed }
+        ensures tells { TellsBorrowed result (malformed reason) }
     {
         BorrowedError {
             kind: ErrorKind::MalformedValue { reason },
@@ -256,7 +256,7 @@ impl<'a> BorrowedError<'a> {
         requires { IsReadingReason reason }
         ensures kind { result.kind ≡ ErrorKind.MalformedValue reason }
         ensures key { option_copied result.key ≡ Some key.now }
-        ensures tells { TellsBorrowed result (malformed_at key.now) }
+        ensures tells { TellsBorrowed result (malformed_at reason key.now) }
     {
         BorrowedError {
             kind: ErrorKind::MalformedValue { reason },

@@ -3,7 +3,8 @@ use bson_uses::{
     split_dump,
 };
 use raw_bson::{
-    Document, Error, NoDocument, RawBson, RawBsonRef, RawDocument, RawDocumentBuf, Reason, Result,
+    Document, Error, ErrorKind, NoDocument, RawBson, RawBsonRef, RawDocument, RawDocumentBuf,
+    Reason, Result,
 };
 use raw_shelf::Shelf;
 use std::alloc::Global;
@@ -251,6 +252,38 @@ fn a_copy_has_all_but_one_key(rt: HostRuntime) -> std::result::Result<(), Fail> 
         assert!(rt;
             is_copy(copy_without(rt.alloc(), document, key), left),
             "{bytes:?} {key}"
+        );
+    }
+    Ok(())
+}
+
+/// Whether there is no copy, since the document has an unknown tag under `b`.
+fn is_stopped_at_b(copy: Result<RawDocumentBuf>) -> bool {
+    match copy {
+        Ok(_) => false,
+        Err(error) => {
+            error.kind
+                == ErrorKind::MalformedValue {
+                    reason: Reason::InvalidTag(0x20),
+                }
+                && error.key() == Some("b")
+        }
+    }
+}
+
+/// The number 1 under `a`, and then an element under `b` of a tag that no kind has.
+const STOPS_AT_B: &[u8] = b"\x13\0\0\0\x10a\0\x01\0\0\0\x20b\0\x02\0\0\0\0";
+
+/// The key before the stop, that of the stop, and another.
+const KEYS: &[&str] = &["a", "b", "c"];
+
+#[test]
+fn no_copy_of_a_document_that_stops(rt: HostRuntime) -> std::result::Result<(), Fail> {
+    let document = RawDocument::from_bytes(STOPS_AT_B)?;
+    for key in KEYS {
+        assert!(rt;
+            is_stopped_at_b(copy_without(rt.alloc(), document, key)),
+            "{key}"
         );
     }
     Ok(())

@@ -14,22 +14,16 @@ mod random;
 /// A command's text, and the status and the output of its run.
 type Row = (&'static str, u8, &'static str);
 
-/// The exit status and the output of a command on a text.
-fn outcome(alloc: Global, command: Command, text: &[u8]) -> (u8, Vec<u8>) {
-    let Printed { status, output } = answer(alloc, command, text);
-    (status.code(), output.into_bytes())
-}
-
 /// Whether a command on a text ends with this status and prints this.
-fn is_answer(alloc: Global, command: Command, text: &str, status: u8, output: &str) -> bool {
-    let (is_status, is_output) = outcome(alloc, command, text.as_bytes());
+fn is_answer(alloc: Global, command: &str, text: &str, status: u8, output: &str) -> bool {
+    let (is_status, is_output) = answer(alloc, command, text.as_bytes());
     is_status == status && is_output.as_slice() == output.as_bytes()
 }
 
 fn assert_answer(
     rt: &impl Abort,
     alloc: Global,
-    command: Command,
+    command: &str,
     text: &str,
     status: u8,
     output: &str,
@@ -40,7 +34,7 @@ fn assert_answer(
     );
 }
 
-fn assert_rows(rt: &impl Abort, alloc: Global, command: Command, rows: &[Row]) {
+fn assert_rows(rt: &impl Abort, alloc: Global, command: &str, rows: &[Row]) {
     for (text, status, output) in rows {
         assert_answer(rt, alloc, command, text, *status, output);
     }
@@ -63,7 +57,7 @@ const REFUSALS: &[Row] = &[
 
 #[test]
 fn refuses_what_is_no_document(rt: HostRuntime) {
-    for command in [Command::List, Command::Canon, Command::Check] {
+    for command in ["list", "canon", "check"] {
         assert_rows(&rt, rt.alloc(), command, REFUSALS);
     }
 }
@@ -76,6 +70,6 @@ fn reads_hex_in_either_case(rt: HostRuntime) {
         "130000000268690006000000792761 6C6c0000",
         "1 3\n0\r0\r\n00 000268690006000000792761 6c6C00 0 0\n",
     ] {
-        assert_answer(&rt, rt.alloc(), Command::List, text, 0, "02 6869 10\nend\n");
+        assert_answer(&rt, rt.alloc(), "list", text, 0, "02 6869 10\nend\n");
     }
 }

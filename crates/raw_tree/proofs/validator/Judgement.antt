@@ -6,6 +6,8 @@ use Rattle.raw_tree.proofs.Common.{BorrowedError, ErrorKind, keys_of_frames, Bre
 use Rattle.raw_tree.proofs.Common.{IsCanonicalAs, Sort, as_document, Holds, texts, HasKeys, HoldsAs, LeavesKeys, LevelBytes, IsJudged, IsUnjudged, IsAwaiting, JudgesValue, TellsStep, Shrinks, left_of}
 use Rattle.raw_tree.proofs.Common.{TellsOwnKey, Cause, Keys, Judged, Step}
 use Rattle.raw_view.proofs.Face.{IsFrame-shorter}
+use Rattle.raw_view.specs.Frame.{Malformed, Utf8}
+use Rattle.raw_view.specs.declared.error.ErrorKind.TheVariants as kind
 use Rattle.raw_tree.specs.declared.validator.breach.Cause.TheVariants as cause
 use Rattle.raw_tree.specs.declared.validator.Step.TheVariants as step
 use Rattle.raw_tree.proofs.validator.Passed.{all_passed, breach_behind, few_passed, keys_more, meaning_breaches, none_passed, one_passed}
@@ -24,7 +26,9 @@ held_breach v s d path why h b = grind arith
 
 -- a stop is one of some fault
 some_stop : (k : ErrorKind) (key : Option (List ℕ)) (s : List ℕ) → StopsWith k key s → (fault : Fault) × IsStop s fault key
-some_stop k key s h = grind arith
+some_stop (kind.MalformedValue why) key s h = (Malformed why, h)
+some_stop (kind.Utf8EncodingError u) key s h = (Utf8, h)
+some_stop kind.OutOfMemory key s h = absurd h
 
 -- the keys of a level depend on the texts alone
 pub keys_on : (k : Keys) (refs others : List (Bor (List ℕ))) (sort : Sort) (below own : List (List ℕ)) → HasKeys k refs sort below own → texts others ≡ texts refs → HasKeys k others sort below own

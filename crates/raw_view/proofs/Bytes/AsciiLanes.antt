@@ -2,13 +2,12 @@
 use Rattle.std.proofs.Common.{◌≡◌, ℕ, ◌%◌, ◌^◌, ◌<◌, ◌≤◌, Bool, false, cond, leb, List, map, length, get_or, take, replicate, IsAscii, ap, sym, subst, ◌∙◌, arith, inl, inr, w8, leb-false}
 use Rattle.std.proofs.lemmas.Bool.{cases_lt}
 use Rattle.std.proofs.lemmas.List.{get_or-take, length-map, length-take}
-use Rattle.std.specs.List.{All}
 use Rattle.std.proofs.lemmas.Simd.{length-chunk, zip2_splat_left, tops_compared, mask_l-mod, none_from_empty_mask, trailing_mask_l, run_in_chunk_fails}
 use Rattle.std.proofs.Math.ListN.{get_or-eq_default}
 use lib.Count.{count_trailing_zeros}
 use lib.Lanes.{chunk, zip2, mask_l, top}
 
-abbrev wide : ℕ → Bool
+abbrev pub wide : ℕ → Bool
 wide b = leb 128 b
 
 -- a bit for each of the first sixteen bytes, set where the byte is over 127
@@ -22,7 +21,7 @@ mask_is bs l =
     ∙ mask_l-mod (map wide (chunk 0 16 bs)) 64 (omega (arith, length-map (chunk 0 16 bs) wide, long))
 
 -- the bytes before a place, where none of them is over 127
-ascii_below : (bs : List ℕ) (n : ℕ) → ((k : ℕ) → k < n → wide (get_or bs k 0) ≡ false) → IsAscii (take n bs)
+pub ascii_below : (bs : List ℕ) (n : ℕ) → ((k : ℕ) → k < n → wide (get_or bs k 0) ≡ false) → IsAscii (take n bs)
 ascii_below bs n h i =
     elim (cases_lt i n) [
       | inl l ↦ subst (λ b. b < 128) (sym (get_or-take n bs i 0 l)) (omega (arith, leb-false _ _ (h i l)))
@@ -42,11 +41,3 @@ ascii_below_lowest bs n l some below =
     let lowest = trailing_mask_l wide 64 (chunk 0 16 bs) (omega (arith, long)) (omega (arith, same, some)) in
     let counted = ap (λ m. count_trailing_zeros 64 m) same ∙ lowest in
     ascii_below bs n (λ k lt. run_in_chunk_fails wide bs 0 16 _ 0 l counted k (omega arith) (omega arith))
-
--- bytes that are each under 128
-pub ascii_of_each : (bs : List ℕ) → All (λ b. b < 128) bs → IsAscii bs
-ascii_of_each bs each i =
-    elim (cases_lt i (length bs)) [
-      | inl l ↦ each i 0 l
-      | inr l ↦ subst (λ b. b < 128) (sym (get_or-eq_default bs 0 {n = i} (omega (arith, l)))) (omega arith)
-    ]

@@ -5,24 +5,19 @@ use Rattle.std.proofs.lemmas.Grind.{common_steps}
 use Rattle.std.proofs.lemmas.List.{length-map, length-take-le, get_or-take}
 use Rattle.std.proofs.lemmas.List.Elements.{All-more}
 use Rattle.std.proofs.lemmas.Nat.Bits.{bit_at-trailing_zeros}
-use Rattle.std.proofs.lemmas.Simd.{length-chunk, bitmask_splat, trailing_mask_l, mask_l-lt, none_from_empty_mask, run_in_chunk_fails, run_in_chunk_stops}
+use Rattle.std.proofs.lemmas.Simd.{length-chunk, bitmask_splat, trailing_mask_l, mask_l-lt, run_in_chunk_fails, run_in_chunk_stops}
 use Rattle.std.proofs.Math.Numerals.{add-one}
-use Rattle.std.proofs.Math.Seq.{take-length}
 use Rattle.bson_model.specs.Bytes.{NulFree}
 use Rattle.bson_model.proofs.Face.{NulFree-nil}
 use lib.Count.{count_trailing_zeros}
 use lib.Lanes.{chunk, zip2, mask_l, top}
-use Rattle.memchr.specs.Find.{Nowhere, NoneBefore, Passes, is_byte}
+use Rattle.memchr.specs.Find.{NoneBefore, Passes, is_byte}
 
 -- the bytes before a place, where none of them is 0
-NulFree-below : (bs : List ℕ) (i : ℕ) → i ≤ length bs → ((k : ℕ) → k < i → get_or bs k 0 ≢ 0) → NulFree (take i bs)
+pub NulFree-below : (bs : List ℕ) (i : ℕ) → i ≤ length bs → ((k : ℕ) → k < i → get_or bs k 0 ≢ 0) → NulFree (take i bs)
 NulFree-below bs zero l h = NulFree-nil
 NulFree-below bs (suc i) l h =
     subst (λ n. NulFree (take n bs)) (add-one i) (All-more (λ b. b ≢ 0) bs i 0 (omega arith) (NulFree-below bs i (omega arith) (λ k b. h k (omega arith))) (h i (omega arith)))
-
--- where the search finds none
-pub nowhere_no_nul : (bs : List ℕ) → Nowhere (Passes (is_byte 0) bs) 0 (length bs) → NulFree bs
-nowhere_no_nul bs h = subst NulFree (take-length bs) (NulFree-below bs (length bs) (omega arith) (λ k l z. h k (omega arith) l (ap (λ x. eqb x 0) z)))
 
 -- before the first that it finds
 pub before_no_nul : (bs : List ℕ) (at : ℕ) → NoneBefore (Passes (is_byte 0) bs) 0 (length bs) at → NulFree (take at bs)
@@ -72,10 +67,3 @@ nul_of_mask bs l some =
       },
       subst (λ n. Passes (is_byte 0) bs n) (omega arith) (run_in_chunk_stops (is_byte 0) bs 0 16 _ 0 l counted near),
     )
-
--- where no bit is set
-pub no_nul_of_mask : (bs : List ℕ) → 16 ≤ length bs → nuls_of bs ≡ 0 → NulFree (take 16 bs)
-no_nul_of_mask bs l none =
-    let long : length (chunk 0 16 bs) ≡ 16 = length-chunk 0 16 bs l in
-    let same : nuls_of bs ≡ mask_l (map (is_byte 0) (chunk 0 16 bs)) = bitmask_splat w8 eqb (chunk 0 16 bs) 16 0 long (omega arith) in
-    NulFree-below bs 16 l (λ k below z. true≢false (sym (ap (λ x. eqb x 0) z) ∙ none_from_empty_mask (is_byte 0) bs 0 16 0 l (sym same ∙ none) k (omega arith) (omega (arith, below))))

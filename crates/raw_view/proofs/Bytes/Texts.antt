@@ -4,7 +4,6 @@ use Rattle.std.specs.Str.{IsUtf8}
 use Rattle.std.proofs.lemmas.List.{take_at}
 use Rattle.raw_view.specs.declared.error.ErrorKind.{ErrorKind}
 use Rattle.raw_view.specs.declared.error.ErrorKind.TheVariants as what
-use Rattle.raw_view.specs.Frame.Kind.{tag_of}
 use Rattle.raw_view.specs.declared.element_type.ElementType.TheVariants as kind
 use Rattle.bson_model.specs.Bytes.{NulFree}
 use Rattle.raw_view.specs.Frame.{IsRegex, BeginsWithBadText, HasBadRegexText}
@@ -31,7 +30,7 @@ pub regex_front : (bs p r pattern options : List ℕ) → bs ≡ p ++ r → IsRe
 regex_front bs p r pattern options e x = e ∙ ap (λ y. y ++ r) x.spelled ∙ append_assoc pattern (0 ∷ (options ++ 0 ∷ [])) r ∙ ap (λ y. pattern ++ 0 ∷ y) (append_assoc options (0 ∷ []) r)
 
 pub pattern_fault_no_regex : (bs : List ℕ) (fault : ErrorKind) → IsTextFault bs fault → (p r : List ℕ) → bs ≡ p ++ r → (pattern options : List ℕ) × IsRegex p pattern options → ⊥
-pattern_fault_no_regex bs (what.MalformedValue reason) h p r e x = no_nul_in bs x.0 _ (regex_front bs p r x.0 x.1 e x.2) h
+pattern_fault_no_regex bs (what.MalformedValue why) h p r e x = no_nul_in bs x.0 _ (regex_front bs p r x.0 x.1 e x.2) h.0
 pattern_fault_no_regex bs (what.Utf8EncodingError error) h p r e x = good_text bs x.0 _ (regex_front bs p r x.0 x.1 e x.2) x.2.pattern_nul_free x.2.pattern_text h
 pattern_fault_no_regex bs what.OutOfMemory h p r e x = h
 
@@ -41,7 +40,7 @@ options_of bs text behind p r spelled nul_free e x = (cut text x.0 behind (x.1 +
 
 pub options_fault_no_regex : (bs text behind : List ℕ) (fault : ErrorKind) → bs ≡ text ++ 0 ∷ behind → NulFree text → IsTextFault behind fault → (p r : List ℕ)
     → bs ≡ p ++ r → (pattern options : List ℕ) × IsRegex p pattern options → ⊥
-options_fault_no_regex bs text behind (what.MalformedValue reason) spelled nul_free h p r e x = no_nul_in behind x.1 r (options_of bs text behind p r spelled nul_free e x) h
+options_fault_no_regex bs text behind (what.MalformedValue why) spelled nul_free h p r e x = no_nul_in behind x.1 r (options_of bs text behind p r spelled nul_free e x) h.0
 options_fault_no_regex bs text behind (what.Utf8EncodingError error) spelled nul_free h p r e x =
     good_text behind x.1 r (options_of bs text behind p r spelled nul_free e x) x.2.options_nul_free x.2.options_text h
 options_fault_no_regex bs text behind what.OutOfMemory spelled nul_free h p r e x = h
@@ -50,8 +49,8 @@ options_fault_no_regex bs text behind what.OutOfMemory spelled nul_free h p r e 
 pub no_bad_regex : (bs : List ℕ) → NulFree bs → HasBadRegexText bs → ⊥
 no_bad_regex bs h bad = elim bad [ inl b ↦ no_nul_in bs b.0 b.1 b.2 h | inr b ↦ no_nul_in bs b.0 b.1 b.2 h ]
 
-pub pattern_fault : (bs : List ℕ) (fault : ErrorKind) → IsTextFault bs fault → IsPayloadFault (tag_of kind.RegularExpression) bs fault
-pattern_fault bs (what.MalformedValue reason) h = λ bad. no_bad_regex bs h bad.1
+pub pattern_fault : (bs : List ℕ) (fault : ErrorKind) → IsTextFault bs fault → IsPayloadFault kind.RegularExpression bs fault
+pattern_fault bs (what.MalformedValue why) h = (λ bad. no_bad_regex bs h.0 bad.1, h.1)
 pattern_fault bs (what.Utf8EncodingError error) h = (refl, inl h)
 pattern_fault bs what.OutOfMemory h = h
 
@@ -63,8 +62,8 @@ no_bad_options bs text behind e nul_free u h bad =
     ]
 
 pub options_fault : (bs text behind : List ℕ) (fault : ErrorKind) → bs ≡ text ++ 0 ∷ behind → NulFree text → IsUtf8 text → IsTextFault behind fault
-    → IsPayloadFault (tag_of kind.RegularExpression) bs fault
-options_fault bs text behind (what.MalformedValue reason) e nul_free u h = λ bad. no_bad_options bs text behind e nul_free u h bad.1
+    → IsPayloadFault kind.RegularExpression bs fault
+options_fault bs text behind (what.MalformedValue why) e nul_free u h = (λ bad. no_bad_options bs text behind e nul_free u h.0 bad.1, h.1)
 options_fault bs text behind (what.Utf8EncodingError error) e nul_free u h = (refl, inr (text, behind, e, nul_free, u, h))
 options_fault bs text behind what.OutOfMemory e nul_free u h = h
 

@@ -72,7 +72,7 @@ is_length head (pos n) h = inl (n, h)
 is_length head (negsuc n) h = inr (λ m k. let e : negsuc n ≡ pos m = IsLe32-same head (negsuc n) (pos m) h k in cc)
 
 -- the four bytes at the front are a length, or none is there
-length_or_not : (z : List ℕ) → AreBytes z → ((n : ℕ) × IsLe32 (take 4 z) (pos n)) ⊎ ((n : ℕ) → ¬ IsLe32 (take 4 z) (pos n))
+pub length_or_not : (z : List ℕ) → AreBytes z → ((n : ℕ) × IsLe32 (take 4 z) (pos n)) ⊎ ((n : ℕ) → ¬ IsLe32 (take 4 z) (pos n))
 length_or_not z bytes =
     elim (cases_lt (length z) 4) [
       | inl l ↦ inr (λ n h. omega (arith, IsLe32-length (take 4 z) (pos n) h, length-take 4 z))

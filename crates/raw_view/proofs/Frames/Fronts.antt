@@ -1,10 +1,11 @@
 -- A frame is determined by the bytes that it begins; where none begins, the walk stops.
-use Rattle.std.proofs.Common.{◌≡◌, ◌≢◌, ℕ, List, [], ◌∷◌, ◌++◌, ◌-◌, length, ap, sym, ◌∙◌, subst, refl, arith, Option, Some, None, ◌==◌, if◌then◌else◌, slice_get}
+use Rattle.std.proofs.Common.{◌≡◌, ◌≢◌, ℕ, List, [], ◌∷◌, ◌++◌, ◌-◌, length, ap, sym, ◌∙◌, subst, refl, arith, inl, inr, Option, Some, None, ◌==◌, if◌then◌else◌, slice_get}
 use Rattle.std.specs.Str.{IsUtf8}
 use Rattle.raw_view.specs.declared.element_type.ElementType.{ElementType}
 use Rattle.raw_view.specs.declared.element_type.ElementType.TheVariants as kind
 use Rattle.raw_view.specs.declared.error.ErrorKind.{ErrorKind}
 use Rattle.raw_view.specs.declared.error.ErrorKind.TheVariants as what
+use Rattle.raw_view.specs.declared.error.Reason.TheVariants as reason
 use Rattle.raw_view.specs.Frame.Kind.{tag_of}
 use Rattle.bson_model.specs.Bytes.{NulFree}
 use Rattle.raw_view.specs.Frame.{HasShape, HasNoFrame, IsStop, Malformed}
@@ -91,23 +92,24 @@ no_nul_ends tag (x ∷ y ∷ z) h e = let none : y ∷ z ≡ [] = no_nul_ends x 
 
 -- where no text up to a 0 is behind the tag, it is a text that isn't UTF-8
 pub key_stop : (s : List ℕ) (tag : ℕ) (behind : List ℕ) (fault : ErrorKind) → s ≡ tag ∷ behind → behind ≢ [] → slice_get s (length s - 1) ≡ Some 0 → IsTextFault behind fault → StopsWith fault None s
-key_stop s tag behind (what.MalformedValue reason) e some last h =
+key_stop s tag behind (what.MalformedValue why) e some last h =
     let at : length (tag ∷ behind) - 1 ≡ length behind = omega arith in
-    absurd (some (no_nul_ends tag behind h (rw at at (subst (λ (x : List ℕ). slice_get x (length x - 1) ≡ Some 0) e last))))
+    absurd (some (no_nul_ends tag behind h.0 (rw at at (subst (λ (x : List ℕ). slice_get x (length x - 1) ≡ Some 0) e last))))
 key_stop s tag behind (what.Utf8EncodingError error) e some last h =
     (h.0, record { tag = tag; behind = h.1; spelled = e ∙ ap (λ x. tag ∷ x) h.2; nul_free = h.3 }, h.4)
 key_stop s tag behind what.OutOfMemory e some last h = h
 
 -- a tag that is no kind's
-pub tag_stop : (s : List ℕ) (tag : ℕ) (key behind : List ℕ) → s ≡ tag ∷ (key ++ 0 ∷ behind) → NulFree key → IsUtf8 key → ((kind : ElementType) → tag ≢ tag_of kind) → IsStop s Malformed (Some key)
-tag_stop s tag key behind e h u none = (record { tag = tag; behind = behind; spelled = e; nul_free = h }, u, no_kind s tag _ e none, λ bad. none kind.RegularExpression bad.0)
+pub tag_stop : (s : List ℕ) (tag : ℕ) (key behind : List ℕ) → s ≡ tag ∷ (key ++ 0 ∷ behind) → NulFree key → IsUtf8 key → ((kind : ElementType) → tag ≢ tag_of kind)
+    → IsStop s (Malformed (reason.InvalidTag tag)) (Some key)
+tag_stop s tag key behind e h u none = (record { tag = tag; behind = behind; spelled = e; nul_free = h }, u, no_kind s tag _ e none, λ bad. none kind.RegularExpression bad.0, inl (none, refl))
 
 -- a payload that isn't there
 pub payload_stop : (s : List ℕ) (tag : ℕ) (key behind : List ℕ) (kind : ElementType) (fault : ErrorKind) → s ≡ tag ∷ (key ++ 0 ∷ behind) → NulFree key
-    → IsUtf8 key → tag ≡ tag_of kind → ((p r : List ℕ) → behind ≡ p ++ r → HasShape kind p r → ⊥) → IsPayloadFault (tag_of kind) behind fault
+    → IsUtf8 key → tag ≡ tag_of kind → ((p r : List ℕ) → behind ≡ p ++ r → HasShape kind p r → ⊥) → IsPayloadFault kind behind fault
     → StopsWith fault (Some key) s
-payload_stop s tag key behind kind (what.MalformedValue reason) e h u t none fault =
-    (record { tag = tag; behind = behind; spelled = e; nul_free = h }, u, no_frame s tag key behind kind e h t none, λ bad. fault (sym t ∙ bad.0, bad.1))
+payload_stop s tag key behind kind (what.MalformedValue why) e h u t none fault =
+    (record { tag = tag; behind = behind; spelled = e; nul_free = h }, u, no_frame s tag key behind kind e h t none, λ bad. fault.0 (sym t ∙ bad.0, bad.1), inr (kind, t, fault.1))
 payload_stop s tag key behind kind (what.Utf8EncodingError error) e h u t none fault =
     (record { tag = tag; behind = behind; spelled = e; nul_free = h }, u, no_frame s tag key behind kind e h t none, (t ∙ fault.0, fault.1))
 payload_stop s tag key behind kind what.OutOfMemory e h u t none fault = fault

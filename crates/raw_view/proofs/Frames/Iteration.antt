@@ -37,7 +37,7 @@ told_fault b fault e h is = told_kind b.kind fault.key fault.fault e b.reading h
 
 told : (k : ErrorKind) (key : Option (List ℕ)) (s : List ℕ) (e : Error) → IsReadingKind k → StopsWith k key s → HasKeyCopy k key e
     → (fault : Fault) × (told : Option (List ℕ)) × IsStop s fault told × TellsFault e fault told
-told (what.MalformedValue r) key s e reading says is = (Malformed, key, says, told_kind (what.MalformedValue r) key Malformed e reading refl is)
+told (what.MalformedValue r) key s e reading says is = (Malformed r, key, says, told_kind (what.MalformedValue r) key (Malformed r) e reading refl is)
 told (what.Utf8EncodingError u) key s e reading says is = (Utf8, key, says, told_kind (what.Utf8EncodingError u) key Utf8 e reading refl is)
 told what.OutOfMemory key s e reading says is = absurd says
 

@@ -146,8 +146,9 @@ scope_parts p string scope code h e s = record {
   spelled = counted_whole p (string_payload code ++ scope) h (e ∙ ap (λ x. x ++ scope) s.spelled);
 }
 
-pub says_malformed : (P : Reason → Type 0) (k : ErrorKind) → IsMalformed k P → SaysFault k Malformed
-says_malformed P (what.MalformedValue r) h = refl
+-- an error that is malformed for a reason says it
+pub says_malformed : (P : Reason → Type 0) (k : ErrorKind) → IsMalformed k P → (why : Reason) × P why × SaysFault k (Malformed why)
+says_malformed P (what.MalformedValue why) h = (why, h, refl)
 says_malformed P (what.Utf8EncodingError u) h = absurd h
 says_malformed P what.OutOfMemory h = absurd h
 

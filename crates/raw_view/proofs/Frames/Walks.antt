@@ -8,11 +8,14 @@ use Rattle.bson_model.specs.Bytes.{AreBytes, NulFree}
 use Rattle.raw_view.specs.Frame.Envelope.{IsEnvelope}
 use Rattle.raw_view.specs.Frame.Kind.{tag_of}
 use Rattle.raw_view.specs.declared.element_type.ElementType.TheVariants as kind
-use Rattle.raw_view.specs.Frame.{Frame, IsFrame, HasNoFrame, Fault, Malformed, Utf8, HasKey, IsStop, End, Done, Stopped, IsWalk}
+use Rattle.raw_view.specs.declared.error.Reason.{Reason}
+use Rattle.raw_view.specs.declared.error.Reason.TheVariants as reason
+use Rattle.raw_view.specs.Frame.{Frame, IsFrame, HasNoFrame, Fault, Malformed, Utf8, HasKey, IsElementReason, IsStop, End, Done, Stopped, IsWalk}
 use Rattle.raw_view.specs.Frame.Front.{EndsWithNul}
 use Rattle.raw_view.proofs.Bytes.DecidedTexts.{front_text_or_not, bad_regex_or_not}
 use Rattle.raw_view.proofs.Frames.Decided.{both_or_not, kind_or_not, payload_or_not}
 use Rattle.bson_model.proofs.Face.{AreBytes-back, AreBytes-drop}
+use Rattle.raw_view.proofs.Frames.Reasons.{payload_reason}
 use Rattle.raw_view.proofs.Frames.Fronts.{no_frame, no_nul_ends, tag_stop}
 use Rattle.raw_view.proofs.Frames.Loops.{IsFrame-shorter}
 use Rattle.raw_view.proofs.Frames.Iteration.{front_and_rest}
@@ -51,12 +54,12 @@ last_is_final tag behind h last =
 
 -- a key and no frame: a stop, whose fault is one of text where a text of a regular expression is bad
 key_and_no_frame : (s : List ℕ) (tag : ℕ) (key behind : List ℕ) → s ≡ tag ∷ (key ++ 0 ∷ behind) → NulFree key → IsUtf8 key → HasNoFrame s
-    → (fault : Fault) × (key : Option (List ℕ)) × IsStop s fault key
-key_and_no_frame s tag key behind e h u none =
+    → (why : Reason) → IsElementReason tag behind why → (fault : Fault) × (key : Option (List ℕ)) × IsStop s fault key
+key_and_no_frame s tag key behind e h u none why is =
     let k : HasKey s key = record { tag = tag; behind = behind; spelled = e; nul_free = h } in
     elim (both_or_not (cases_eq tag (tag_of kind.RegularExpression)) (bad_regex_or_not behind)) [
       | inl bad ↦ (Utf8, Some key, (k, u, none, bad))
-      | inr good ↦ (Malformed, Some key, (k, u, none, good))
+      | inr good ↦ (Malformed why, Some key, (k, u, none, good, is))
     ]
 
 -- a key that is a text: a frame, or a stop
@@ -74,14 +77,16 @@ behind_key s tag key behind bytes l e h u =
             payload_is = p.2;
           },
         ))
-        | inr none ↦ inr (inr (key_and_no_frame s tag key behind e h u (no_frame s tag key behind k.0 e h k.1 none)))
+        | inr none ↦ (
+            let why = payload_reason k.0 behind bytes none in
+            inr (inr (key_and_no_frame s tag key behind e h u (no_frame s tag key behind k.0 e h k.1 none) why.0 (inr (k.0, k.1, why.1)))))
       ]
-      | inr none ↦ inr (inr (Malformed, Some key, tag_stop s tag key behind e h u none))
+      | inr none ↦ inr (inr (Malformed (reason.InvalidTag tag), Some key, tag_stop s tag key behind e h u none))
     ]
 
 -- something of the three is at the front
 pub has_front : (s : List ℕ) → AreBytes s → EndsWithNul s → HasFront s
-has_front [] bytes last = inr (inr (Malformed, None, refl))
+has_front [] bytes last = inr (inr (Malformed reason.Overflowed, None, (refl, refl)))
 has_front (tag ∷ behind) bytes last =
     elim (front_text_or_not behind) [
       | inl t ↦ (
@@ -96,7 +101,7 @@ has_front (tag ∷ behind) bytes last =
 
 -- a walk through at most so many bytes
 walk_within : (n : ℕ) (s : List ℕ) → length s ≤ n → AreBytes s → EndsWithNul s → (frames : List Frame) × (end : End) × IsWalk s frames end
-walk_within zero s l bytes last = ([], Stopped Malformed None, nil_from_length s (omega arith))
+walk_within zero s l bytes last = ([], Stopped (Malformed reason.Overflowed) None, (nil_from_length s (omega arith), refl))
 walk_within (suc n) s l bytes last =
     elim (has_front s bytes last) [
       | inl e ↦ ([], Done, e)

@@ -24,7 +24,7 @@ Passed s xs (Some q) = (fs : List Frame) × LeadsTo s fs q × (length xs ≡ len
 
 -- a stop with the key that the error borrows
 pub stop_said : (k : ErrorKind) (key : Option (List ℕ)) (s : List ℕ) → StopsWith k key s → (fault : Fault) × SaysFault k fault × IsStop s fault key
-stop_said (what.MalformedValue r) key s h = (Malformed, refl, h)
+stop_said (what.MalformedValue r) key s h = (Malformed r, refl, h)
 stop_said (what.Utf8EncodingError u) key s h = (Utf8, refl, h)
 stop_said what.OutOfMemory key s h = absurd h
 

@@ -5,16 +5,19 @@ use Rattle.std.proofs.lemmas.Int.{ints}
 use Rattle.bson_model.specs.Leaf.{double, string, binary, boolean, date_time, javascript_code, symbol, int32, int64}
 use Rattle.bson_model.specs.declared.binaries.BinarySubtype.TheVariants.{BinaryOld}
 use Rattle.raw_view.specs.Frame.Number.{IsLe32}
-use Rattle.raw_view.specs.Frame.Envelope.{IsEnvelope}
+use Rattle.raw_view.specs.Frame.Envelope.{IsEnvelope, Refuses}
 use Rattle.raw_view.specs.Frame.Format.{string_payload, boolean_payload}
 use Rattle.raw_view.specs.declared.element_type.ElementType.{ElementType}
 use Rattle.raw_view.specs.declared.element_type.ElementType.TheVariants as kind
+use Rattle.raw_view.specs.declared.error.Reason.{Reason}
+use Rattle.raw_view.specs.declared.error.Reason.TheVariants as reason
 use Rattle.raw_view.specs.Frame.{Frame}
-use Rattle.raw_view.specs.Meaning.{RawValue, single, Meaning, value, faulty, Means, MeansValue, MeansFault, SpellsText, SpellsNoText, HasInnerLength, IsBinaryValue, Overflows, IsCodeWithScope, HasNoCode, KeyedFault}
+use Rattle.raw_view.specs.Meaning.{RawValue, single, Meaning, value, faulty, Means, MeansValue, MeansFault, SpellsText, SpellsNoText, HasInnerLength, IsBinaryValue, Overflows, IsCodeWithScope, HasNoCode, KeyedFault, malformed, malformed_at}
 use Rattle.raw_view.specs.Meaning.{OldBinaryFault, no_inner_length, overflow, wrong_inner_length, ScopeFault, too_small, no_code, code_no_text, no_scope}
 use Rattle.raw_view.specs.OneReading.{IsTheMeaning}
 use Rattle.raw_view.proofs.Bytes.Numbers.{le32_of, IsLe32-same, IsLe64-same, IsUnsigned64-same}
 use Rattle.raw_view.proofs.Frames.Payloads.{string_is, code_fits}
+use Rattle.raw_view.proofs.Unique.Reasons.{one_string_reason, one_refusal, refuses_none}
 use Rattle.raw_view.proofs.Unique.Payloads.{one_text, one_binary, one_inner, one_regex, one_pointer, one_code, one_timestamp, one_truth}
 
 -- values
@@ -66,11 +69,11 @@ one_value kind.MinKey p v w a b = a ∙ sym b
 one_old_fault : (key outer : List ℕ) (f g : KeyedFault) → OldBinaryFault key outer f → OldBinaryFault key outer g → f ≡ g
 one_old_fault key outer f g (no_inner_length l e) (no_inner_length m d) = e ∙ sym d
 one_old_fault key outer f g (no_inner_length l e) (overflow v m h o d) = absurd (omega (arith, l, m))
-one_old_fault key outer f g (no_inner_length l e) (wrong_inner_length v m h o n d) = e ∙ sym d
+one_old_fault key outer f g (no_inner_length l e) (wrong_inner_length v m h o n d) = absurd (omega (arith, l, m))
 one_old_fault key outer f g (overflow v m h o d) (no_inner_length l e) = absurd (omega (arith, l, m))
 one_old_fault key outer f g (overflow v l h o e) (overflow w m k u d) = e ∙ sym d
 one_old_fault key outer f g (overflow v l h o e) (wrong_inner_length w m k u n d) = absurd (u (subst Overflows (IsLe32-same _ v w h k) o))
-one_old_fault key outer f g (wrong_inner_length v l h o n e) (no_inner_length m d) = e ∙ sym d
+one_old_fault key outer f g (wrong_inner_length v l h o n e) (no_inner_length m d) = absurd (omega (arith, l, m))
 one_old_fault key outer f g (wrong_inner_length v l h o n e) (overflow w m k u d) = absurd (o (subst Overflows (IsLe32-same _ w v k h) u))
 one_old_fault key outer f g (wrong_inner_length v l h o n e) (wrong_inner_length w m k u d q) = e ∙ sym q
 
@@ -82,24 +85,28 @@ has_code p code scope c none = none (string_payload code) scope (ap (drop 4) c.s
 same_code : (p x y v w : List ℕ) → IsCodeWithScope p x v → IsCodeWithScope p y w → IsUtf8 x → IsUtf8 y
 same_code p x y v w a b u = subst IsUtf8 (one_code p x y v w a b).0 u
 
+-- a scope is one, so its reason is
+same_refusal : (p x y v w : List ℕ) (why other : Reason) → IsCodeWithScope p x v → IsCodeWithScope p y w → Refuses v why → Refuses w other → why ≡ other
+same_refusal p x y v w why other a b r q = one_refusal v why other r (subst (λ (z : List ℕ). Refuses z other) (sym (one_code p x y v w a b).1) q)
+
 -- of a code with scope
 one_scope_fault : (key p : List ℕ) (f g : KeyedFault) → ScopeFault key p f → ScopeFault key p g → f ≡ g
 one_scope_fault key p f g (too_small l e) (too_small m d) = e ∙ sym d
-one_scope_fault key p f g (too_small l e) (no_code m n d) = absurd (omega (arith, l, m))
+one_scope_fault key p f g (too_small l e) (no_code why m n r d) = absurd (omega (arith, l, m))
 one_scope_fault key p f g (too_small l e) (code_no_text x v m c n d) = absurd (omega (arith, l, m))
-one_scope_fault key p f g (too_small l e) (no_scope x v m c u n d) = absurd (omega (arith, l, m))
-one_scope_fault key p f g (no_code m n d) (too_small l e) = absurd (omega (arith, l, m))
-one_scope_fault key p f g (no_code l n e) (no_code m o d) = e ∙ sym d
-one_scope_fault key p f g (no_code l n e) (code_no_text x v m c o d) = absurd (has_code p x v c n)
-one_scope_fault key p f g (no_code l n e) (no_scope x v m c u o d) = e ∙ sym d
+one_scope_fault key p f g (too_small l e) (no_scope x v why m c u r d) = absurd (omega (arith, l, m))
+one_scope_fault key p f g (no_code why m n r d) (too_small l e) = absurd (omega (arith, l, m))
+one_scope_fault key p f g (no_code why l n r e) (no_code other m o q d) = e ∙ ap malformed (one_string_reason (drop 4 p) why other r q) ∙ sym d
+one_scope_fault key p f g (no_code why l n r e) (code_no_text x v m c o d) = absurd (has_code p x v c n)
+one_scope_fault key p f g (no_code why l n r e) (no_scope x v other m c u q d) = absurd (has_code p x v c n)
 one_scope_fault key p f g (code_no_text x v m c n d) (too_small l e) = absurd (omega (arith, l, m))
-one_scope_fault key p f g (code_no_text x v m c o d) (no_code l n e) = absurd (has_code p x v c n)
+one_scope_fault key p f g (code_no_text x v m c o d) (no_code why l n r e) = absurd (has_code p x v c n)
 one_scope_fault key p f g (code_no_text x v l c n e) (code_no_text y w m k o d) = e ∙ sym d
-one_scope_fault key p f g (code_no_text x v l c n e) (no_scope y w m k u o d) = absurd (n (same_code p y x w v k c u))
-one_scope_fault key p f g (no_scope x v m c u n d) (too_small l e) = absurd (omega (arith, l, m))
-one_scope_fault key p f g (no_scope x v m c u o d) (no_code l n e) = d ∙ sym e
-one_scope_fault key p f g (no_scope y w m k u o d) (code_no_text x v l c n e) = absurd (n (same_code p y x w v k c u))
-one_scope_fault key p f g (no_scope x v l c u n e) (no_scope y w m k t o d) = e ∙ sym d
+one_scope_fault key p f g (code_no_text x v l c n e) (no_scope y w why m k u r d) = absurd (n (same_code p y x w v k c u))
+one_scope_fault key p f g (no_scope x v why m c u r d) (too_small l e) = absurd (omega (arith, l, m))
+one_scope_fault key p f g (no_scope x v why m c u r d) (no_code other l n q e) = absurd (has_code p x v c n)
+one_scope_fault key p f g (no_scope y w why m k u r d) (code_no_text x v l c n e) = absurd (n (same_code p y x w v k c u))
+one_scope_fault key p f g (no_scope x v why l c u r e) (no_scope y w other m k t q d) = e ∙ ap malformed (same_refusal p x y v w why other c k r q) ∙ sym d
 
 -- a payload of a kind means one fault at most
 one_fault : (k : ElementType) (key p : List ℕ) (f g : KeyedFault) → MeansFault k key p f → MeansFault k key p g → f ≡ g
@@ -107,7 +114,10 @@ one_fault kind.String key p f g a b = a.1 ∙ sym b.1
 one_fault kind.JavaScriptCode key p f g a b = a.1 ∙ sym b.1
 one_fault kind.Symbol key p f g a b = a.1 ∙ sym b.1
 one_fault kind.DbPointer key p f g a b = a.4 ∙ sym b.4
-one_fault kind.Boolean key p f g a b = a.3 ∙ sym b.3
+one_fault kind.Boolean key p f g a b =
+    let both : a.0 ∷ [] ≡ b.0 ∷ [] = sym a.1 ∙ b.1 in
+    let byte : a.0 ≡ b.0 = cc in
+    a.3 ∙ ap (λ x. malformed_at (reason.BadBoolean x) key) byte ∙ sym b.3
 one_fault kind.Binary key p f g a b =
     let same = one_binary p a.0 b.0 2 2 a.1 b.1 in
     one_old_fault key a.0 f g a.2 (rw same.1 b.2)
@@ -141,9 +151,9 @@ no_scope_fault key p code scope fault c u d b =
     let size : 14 ≤ length p = omega (arith, ap length c.spelled, length-append (string_payload code) scope, length-append code (0 ∷ []), d.enough) in
     elim b [
       | too_small l e ↦ omega (arith, l)
-      | no_code l n e ↦ has_code p code scope c n
+      | no_code why l n r e ↦ has_code p code scope c n
       | code_no_text x v l k n e ↦ n (same_code p code x scope v c k u)
-      | no_scope x v l k t n e ↦ n (subst IsEnvelope (one_code p code x scope v c k).1 d)
+      | no_scope x v why l k t r e ↦ refuses_none v why r (subst IsEnvelope (one_code p code x scope v c k).1 d)
     ]
 
 -- a binary's value, and the fault of an old one

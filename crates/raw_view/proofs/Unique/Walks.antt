@@ -8,6 +8,7 @@ use Rattle.raw_view.specs.OneReading.{IsTheWalk}
 use Rattle.raw_view.proofs.Bytes.Cuts.{cut}
 use Rattle.raw_view.proofs.Frames.Fronts.{tag_of-same}
 use Rattle.raw_view.proofs.Unique.Payloads.{payload_same}
+use Rattle.raw_view.proofs.Unique.Reasons.{one_element_reason}
 
 -- frames and stops
 
@@ -51,30 +52,32 @@ final_has_no_key s key e k = omega (arith, ap length e, key_takes_two s key k)
 
 -- a stop that has a key: the key is a text, and no frame is there
 stop_key : (s : List ℕ) (fault : Fault) (key : List ℕ) → IsStop s fault (Some key) → HasKey s key × IsUtf8 key × HasNoFrame s
-stop_key s Malformed key a = (a.0, a.1, a.2)
+stop_key s (Malformed why) key a = (a.0, a.1, a.2)
 stop_key s Utf8 key a = (a.0, a.1, a.2)
 
 -- of one key, the fault is one
 one_stop_with_key : (s : List ℕ) (fault fault2 : Fault) (key key2 : List ℕ) → IsStop s fault (Some key) → IsStop s fault2 (Some key2) → (fault ≡ fault2) × (key ≡ key2)
-one_stop_with_key s Malformed Malformed key key2 a b = (refl, (one_key s key key2 a.0 b.0).0)
+one_stop_with_key s (Malformed why) (Malformed other) key key2 a b =
+    let same = one_key s key key2 a.0 b.0 in
+    (ap Malformed (one_element_reason a.0.tag a.0.behind why other a.4 (rw (same.1, same.2) b.4)), same.0)
 one_stop_with_key s Utf8 Utf8 key key2 a b = (refl, (one_key s key key2 a.0 b.0).0)
-one_stop_with_key s Malformed Utf8 key key2 a b =
+one_stop_with_key s (Malformed why) Utf8 key key2 a b =
     let same = one_key s key key2 a.0 b.0 in
     absurd (a.3 (rw (same.1, same.2) b.3))
-one_stop_with_key s Utf8 Malformed key key2 a b =
+one_stop_with_key s Utf8 (Malformed why) key key2 a b =
     let same = one_key s key key2 a.0 b.0 in
     absurd (b.3 (rw (← same.1, ← same.2) a.3))
 
 -- a stop without a key: no byte is left, or the key is no text
 one_stop_without_key : (s : List ℕ) (fault fault2 : Fault) → IsStop s fault None → IsStop s fault2 None → fault ≡ fault2
-one_stop_without_key s Malformed Malformed a b = refl
+one_stop_without_key s (Malformed why) (Malformed other) a b = ap Malformed (a.1 ∙ sym b.1)
 one_stop_without_key s Utf8 Utf8 a b = refl
-one_stop_without_key s Malformed Utf8 a b = absurd (empty_has_no_key s b.0 a b.1)
-one_stop_without_key s Utf8 Malformed a b = absurd (empty_has_no_key s a.0 b a.1)
+one_stop_without_key s (Malformed why) Utf8 a b = absurd (empty_has_no_key s b.0 a.0 b.1)
+one_stop_without_key s Utf8 (Malformed why) a b = absurd (empty_has_no_key s a.0 b.0 a.1)
 
 -- it has no key that is a text
 no_text_key : (s : List ℕ) (fault : Fault) (key : List ℕ) → IsStop s fault None → HasKey s key → IsUtf8 key → ⊥
-no_text_key s Malformed key a k u = empty_has_no_key s key a k
+no_text_key s (Malformed why) key a k u = empty_has_no_key s key a.0 k
 no_text_key s Utf8 key a k u = a.2 (subst IsUtf8 (one_key s key a.0 k a.1).0 u)
 
 -- a stop is one
@@ -94,7 +97,7 @@ pub no_frame_at_final : (s : List ℕ) → s ≡ 0 ∷ [] → HasNoFrame s
 no_frame_at_final s e f r b = final_has_no_key s f.key e (frame_key s f r b)
 
 pub no_stop_at_final : (s : List ℕ) (fault : Fault) (key : Option (List ℕ)) → s ≡ 0 ∷ [] → ¬ IsStop s fault key
-no_stop_at_final s Malformed None e a = let bad : ◌≡◌ {A = List ℕ} (0 ∷ []) [] = sym e ∙ a in cc
+no_stop_at_final s (Malformed why) None e a = let bad : ◌≡◌ {A = List ℕ} (0 ∷ []) [] = sym e ∙ a.0 in cc
 no_stop_at_final s Utf8 None e a = final_has_no_key s a.0 e a.1
 no_stop_at_final s fault (Some key) e a = final_has_no_key s key e (stop_key s fault key a).0
 

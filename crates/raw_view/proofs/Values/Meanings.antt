@@ -1,44 +1,57 @@
 -- Every frame has a meaning, and every document its items.
-use Rattle.std.proofs.Common.{◌≡◌, ◌⊎◌, inl, inr, ◌++◌, ◌∷◌, [], ◌+◌, ◌≤◌, ℕ, ℤ, pos, negsuc, zero, suc, true, false, List, length, take, drop, w64, arith, ap, sym, refl, ◌∙◌, subst, length-drop, append_assoc}
+use Rattle.std.proofs.Common.{◌≡◌, ◌⊎◌, inl, inr, ◌++◌, ◌∷◌, [], ◌+◌, ◌-◌, ◌≤◌, ℕ, ℤ, pos, get_or, Some, negsuc, zero, suc, true, false, List, length, take, drop, w64, arith, ap, sym, refl, ◌∙◌, subst, length-drop, append_assoc}
 use Rattle.std.specs.Int.{from_le_bytes}
 use Rattle.std.proofs.lemmas.Bool.{cases_eq, cases_lt}
 use Rattle.std.proofs.lemmas.Int.{ints}
-use Rattle.std.proofs.lemmas.List.{take-append-drop, take_all, take-append-le, append-nil, length-take-le}
+use Rattle.std.proofs.lemmas.List.{take-append-drop, take-append-le, length-take-le}
+use Rattle.std.proofs.lemmas.Option.{slice_get-get_or, get_or_from_slice_get}
 use Rattle.bson_model.specs.Leaf.{Leaf, double, string, binary, undefined, object_id, boolean, date_time, null, regular_expression, db_pointer, javascript_code, symbol, int32, timestamp, int64, decimal128, max_key, min_key}
 use Rattle.bson_model.specs.Subtype.{subtype_of}
 use Rattle.bson_model.specs.declared.binaries.BinarySubtype.TheVariants.{BinaryOld}
 use Rattle.bson_model.specs.Bytes.{AreBytes}
 use Rattle.raw_view.specs.Frame.Number.{le32, IsLe32}
-use Rattle.raw_view.specs.Frame.Envelope.{IsEnvelope}
+use Rattle.raw_view.specs.Frame.Envelope.{IsEnvelope, Refuses}
 use Rattle.raw_view.specs.Frame.Kind.{tag_of}
 use Rattle.raw_view.specs.declared.element_type.ElementType.{ElementType}
 use Rattle.raw_view.specs.declared.element_type.ElementType.TheVariants as kind
+use Rattle.raw_view.specs.declared.error.Reason.{Reason}
+use Rattle.raw_view.specs.declared.error.Reason.TheVariants as reason
 use Rattle.raw_view.specs.Frame.{Frame, IsFrame, HasShape, HasText, IsBinary, IsDbPointer, HasDeclaredLength, IsWalk, End, Done, Stopped}
 use Rattle.raw_view.specs.Meaning.{single, document, array, scoped, Meaning, value, faulty, Means, MeansValue, MeansFault, SpellsText, SpellsNoText, HasInnerLength, IsCodeWithScope, KeyedFault, malformed, malformed_at, not_text}
 use Rattle.raw_view.specs.Meaning.{OldBinaryFault, no_inner_length, overflow, wrong_inner_length, too_small, no_code, code_no_text, no_scope}
 use Rattle.raw_view.specs.Meaning.Item.{Item, entry, stopped, ItemsOf, AreItems}
-use Rattle.raw_view.proofs.Bytes.Numbers.{read_front, unsigned32, unsigned64, signed32, signed64, length_fits, IsLe32-same}
+use Rattle.raw_view.proofs.Bytes.Numbers.{read_front, unsigned32, unsigned64, signed32, signed64, length_fits}
 use Rattle.raw_view.proofs.Frames.Payloads.{timestamp_found}
 use Rattle.bson_model.proofs.Face.{AreBytes-take, AreBytes-front, AreBytes-back, AreBytes-drop}
 use Rattle.raw_view.proofs.Frames.Shapes.{scope_parts}
 use Rattle.raw_view.proofs.Bytes.DecidedTexts.{utf8_or_not}
-use Rattle.raw_view.proofs.Frames.Decided.{string_or_not, document_or_not}
+use Rattle.raw_view.proofs.Frames.Decided.{string_or_not, length_or_not, one_length}
+use Rattle.raw_view.proofs.Frames.Reasons.{string_reason}
 use Rattle.raw_view.proofs.Frames.Walks.{AreBytes-rest, document_has_walk}
 
--- just these bytes are an envelope or not
-envelope_or_not : (b : List ℕ) → AreBytes b → IsEnvelope b ⊎ ¬ IsEnvelope b
-envelope_or_not b bytes =
-    elim (document_or_not b bytes) [
-      | inl d ↦ elim (cases_lt d.0 (length b)) [
-        | inl l ↦ inr (λ env.
-            let size : length (take d.0 b) ≡ d.0 = length-take-le d.0 b d.1 in
-            let part : take 4 b ≡ take 4 (take d.0 b) = ap (take 4) (sym (take-append-drop d.0 b)) ∙ take-append-le 4 (take d.0 b) (drop d.0 b) (omega (arith, d.2.enough)) in
-            let same : pos (length b) ≡ pos (length (take d.0 b)) = IsLe32-same (take 4 b) _ _ env.header (rw part d.2.header) in
-            let equal : length b ≡ length (take d.0 b) = cc in
-            omega arith)
-        | inr l ↦ inl (subst IsEnvelope (take_all d.0 b l) d.2)
+-- the length of bytes is at their front or not
+header_or_not : (b : List ℕ) → AreBytes b → IsLe32 (take 4 b) (pos (length b)) ⊎ ¬ IsLe32 (take 4 b) (pos (length b))
+header_or_not b bytes =
+    elim (length_or_not b bytes) [
+      | inl h ↦ elim (cases_eq h.0 (length b)) [
+        | inl e ↦ inl (subst (λ (x : ℕ). IsLe32 (take 4 b) (pos x)) e h.1)
+        | inr d ↦ inr (λ k. d (sym (one_length (take 4 b) h.0 (length b) h.1 k)))
       ]
-      | inr none ↦ inr (none b [] (sym (append-nil b)))
+      | inr none ↦ inr (none (length b))
+    ]
+
+-- just these bytes are an envelope, or there is a first reason that they aren't
+envelope_or_reason : (b : List ℕ) → AreBytes b → IsEnvelope b ⊎ ((why : Reason) × Refuses b why)
+envelope_or_reason b bytes =
+    elim (cases_lt (length b) 5) [
+      | inl l ↦ inr (reason.TooShort, l)
+      | inr l ↦ elim (header_or_not b bytes) [
+        | inl h ↦ elim (cases_eq (get_or b (length b - 1) 0) 0) [
+          | inl e ↦ inl (record { bytes = bytes; enough = l; header = h; ended = slice_get-get_or b (length b - 1) 0 (omega arith) ∙ ap Some e })
+          | inr d ↦ inr (reason.NotTerminated, (l, h, λ e. d (get_or_from_slice_get b _ 0 0 e)))
+        ]
+        | inr n ↦ inr (reason.LengthIncorrect, (l, n))
+      ]
     ]
 
 -- what a payload means, by kind
@@ -60,7 +73,7 @@ boolean_means key [] l = absurd (omega arith)
 boolean_means key (x ∷ y ∷ p) l = absurd (omega arith)
 boolean_means key (zero ∷ []) l = (value (single (boolean false)), (false, refl, refl))
 boolean_means key (suc zero ∷ []) l = (value (single (boolean true)), (true, refl, refl))
-boolean_means key (suc (suc n) ∷ []) l = (faulty (malformed_at key), (suc (suc n), refl, omega arith, refl))
+boolean_means key (suc (suc n) ∷ []) l = (faulty (malformed_at (reason.BadBoolean (suc (suc n))) key), (suc (suc n), refl, omega arith, refl))
 
 -- the inner length of an old binary counts the rest, or it is a fault
 inner_length : (key outer : List ℕ) (v : ℤ) → 4 ≤ length outer → IsLe32 (take 4 outer) v → ((inner : List ℕ) × HasInnerLength outer inner) ⊎ ((fault : KeyedFault) × OldBinaryFault key outer fault)
@@ -70,19 +83,19 @@ inner_length key outer (pos n) l h =
           let size : length (drop 4 outer) ≡ n = omega (arith, length-drop 4 outer) in
           let head : take 4 outer ≡ le32 (pos (length (drop 4 outer))) = rw size h.bytes_are in
           inl (drop 4 outer, record { fits = omega (arith, size, length_fits (take 4 outer) n h); spelled = sym (take-append-drop 4 outer) ∙ ap (λ x. x ++ drop 4 outer) head }))
-      | inr d ↦ inr (malformed_at key, wrong_inner_length (pos n) l h (λ o. omega (arith, ints, o.0, o.1)) (λ e. d (omega (arith, ints, e))) refl)
+      | inr d ↦ inr (malformed_at reason.OldWrongInner key, wrong_inner_length (pos n) l h (λ o. omega (arith, ints, o.0, o.1)) (λ e. d (omega (arith, ints, e))) refl)
     ]
 inner_length key outer (negsuc n) l h =
     elim (cases_lt n 4) [
-      | inl s ↦ inr (malformed, overflow (negsuc n) l h (omega (arith, ints), omega (arith, ints)) refl)
-      | inr g ↦ inr (malformed_at key, wrong_inner_length (negsuc n) l h (λ o. omega (arith, ints, o.0, o.1)) (λ e. omega (arith, ints, e)) refl)
+      | inl s ↦ inr (malformed reason.AddOverflow, overflow (negsuc n) l h (omega (arith, ints), omega (arith, ints)) refl)
+      | inr g ↦ inr (malformed_at reason.OldWrongInner key, wrong_inner_length (negsuc n) l h (λ o. omega (arith, ints, o.0, o.1)) (λ e. omega (arith, ints, e)) refl)
     ]
 
 -- a binary of subtype 2
 old_binary_means : (key p outer : List ℕ) → AreBytes outer → IsBinary p 2 outer → HasMeaning kind.Binary key p
 old_binary_means key p outer bytes b =
     elim (cases_lt (length outer) 4) [
-      | inl l ↦ (faulty (malformed_at key), (outer, b, no_inner_length l refl))
+      | inl l ↦ (faulty (malformed_at reason.OldNoInner key), (outer, b, no_inner_length l refl))
       | inr l ↦ elim (inner_length key outer _ l (read_front outer _ bytes l refl)) [
         | inl i ↦ (value (single (binary BinaryOld i.0)), (2, outer, b, inr (refl, i.0, i.1, refl)))
         | inr f ↦ (faulty f.0, (outer, b, f.1))
@@ -111,9 +124,9 @@ pointer_means key p namespace id d =
 code_means : (key p code scope : List ℕ) → 14 ≤ length p → AreBytes scope → IsCodeWithScope p code scope → HasMeaning kind.JavaScriptCodeWithScope key p
 code_means key p code scope l bytes c =
     elim (utf8_or_not code) [
-      | inl u ↦ elim (envelope_or_not scope bytes) [
+      | inl u ↦ elim (envelope_or_reason scope bytes) [
         | inl d ↦ (value (scoped code scope), (code, scope, c, u, d, refl))
-        | inr n ↦ (faulty malformed, no_scope code scope l c u n refl)
+        | inr r ↦ (faulty (malformed r.0), no_scope code scope r.0 l c u r.1 refl)
       ]
       | inr n ↦ (faulty not_text, code_no_text code scope l c n refl)
     ]
@@ -122,7 +135,7 @@ code_means key p code scope l bytes c =
 scoped_means : (key p r : List ℕ) → AreBytes p → HasDeclaredLength p r → HasMeaning kind.JavaScriptCodeWithScope key p
 scoped_means key p r bytes d =
     elim (cases_lt (length p) 14) [
-      | inl l ↦ (faulty (malformed_at key), too_small l refl)
+      | inl l ↦ (faulty (malformed_at reason.CodeTooSmall key), too_small l refl)
       | inr l ↦ (
           let behind : AreBytes (drop 4 p) = AreBytes-drop 4 p bytes in
           let four : take 4 (p ++ r) ≡ take 4 p = take-append-le 4 p r (omega arith) in
@@ -131,7 +144,9 @@ scoped_means key p r bytes d =
             | inl s ↦ (
                 let cut : drop 4 p ≡ take s.0 (drop 4 p) ++ drop s.0 (drop 4 p) = sym (take-append-drop s.0 (drop 4 p)) in
                 code_means key p s.2.0 (drop s.0 (drop 4 p)) l (AreBytes-drop s.0 (drop 4 p) behind) (scope_parts p (take s.0 (drop 4 p)) (drop s.0 (drop 4 p)) s.2.0 header cut s.2.1))
-            | inr none ↦ (faulty malformed, no_code l none refl)
+            | inr none ↦ (
+                let why = string_reason (drop 4 p) behind in
+                (faulty (malformed why.0), no_code why.0 l none why.1 refl))
           ])
     ]
 

@@ -6,7 +6,10 @@ use Rattle.std.specs.Option.{option_copied}
 use Rattle.raw_view.specs.declared.error.ErrorKind.{ErrorKind}
 use Rattle.raw_view.specs.declared.error.ErrorKind.TheVariants as kind
 use Rattle.bson_model.specs.Bytes.{NulFree}
-use Rattle.raw_view.specs.Frame.{IsFrame, Malformed, Utf8, IsStop, BeginsWithBadText, HasBadText}
+use Rattle.raw_view.specs.declared.error.Reason.TheVariants as reason
+use Rattle.raw_view.specs.declared.element_type.ElementType.{ElementType}
+use Rattle.raw_view.specs.Frame.Kind.{tag_of}
+use Rattle.raw_view.specs.Frame.{IsFrame, Malformed, Utf8, IsStop, BeginsWithBadText, HasBadText, IsPayloadReason}
 use Rattle.raw_view.specs.Frame.ElementSteps.{frame_of}
 use Rattle.raw_view.specs.Meaning.{KeyedFault}
 use Rattle.raw_view.specs.Errors.{SaysFault}
@@ -17,7 +20,7 @@ EndsWithNul s = 0 < length s → slice_get s (length s - 1) ≡ Some 0
 
 -- s stops with a fault of this kind
 abbrev pub StopsWith : ErrorKind → Option (List ℕ) → List ℕ → Type 0
-StopsWith (kind.MalformedValue _) key s = IsStop s Malformed key
+StopsWith (kind.MalformedValue why) key s = IsStop s (Malformed why) key
 StopsWith (kind.Utf8EncodingError _) key s = IsStop s Utf8 key
 StopsWith kind.OutOfMemory key s = ⊥
 
@@ -28,16 +31,16 @@ StepsFront (Some s) None t = (s ≡ 0 ∷ []) × (t ≡ Some s)
 StepsFront (Some s) (Some (Ok e)) t = (r : List ℕ) × IsFrame s (frame_of e) r × (t ≡ Some r)
 StepsFront (Some s) (Some (Err e)) t = StopsWith e.kind (option_copied e.key) s × (t ≡ None)
 
--- why no payload with this tag is at the front of z: a text of a regular expression that isn't UTF-8,
--- or anything else
-abbrev pub IsPayloadFault : ℕ → List ℕ → ErrorKind → Type 0
-IsPayloadFault tag z (kind.MalformedValue _) = ¬ HasBadText tag z
-IsPayloadFault tag z (kind.Utf8EncodingError _) = HasBadText tag z
-IsPayloadFault tag z kind.OutOfMemory = ⊥
+-- why no payload of this kind is at the front of z: a text of a regular expression that isn't UTF-8,
+-- or the kind's reason
+abbrev pub IsPayloadFault : ElementType → List ℕ → ErrorKind → Type 0
+IsPayloadFault what z (kind.MalformedValue why) = (¬ HasBadText (tag_of what) z) × IsPayloadReason what z why
+IsPayloadFault what z (kind.Utf8EncodingError _) = HasBadText (tag_of what) z
+IsPayloadFault what z kind.OutOfMemory = ⊥
 
 -- why no text up to a 0 is at the front of z
 abbrev pub IsTextFault : List ℕ → ErrorKind → Type 0
-IsTextFault z (kind.MalformedValue _) = NulFree z
+IsTextFault z (kind.MalformedValue why) = NulFree z × (why ≡ reason.NoTerminator)
 IsTextFault z (kind.Utf8EncodingError _) = BeginsWithBadText z
 IsTextFault z kind.OutOfMemory = ⊥
 

@@ -1,4 +1,4 @@
-ghost use Rattle.std.specs.Prelude.{◌≡◌, ◌++◌, ◌∷◌, ◌≤◌, length, take, IsTrue, IfSome, IfOk, IfErr, Some};
+ghost use Rattle.std.specs.Prelude.{◌≡◌, ◌+◌, ◌++◌, ◌∷◌, ◌<◌, ◌≤◌, length, take, IfSome, IfOk, IfErr, Some};
 ghost use Rattle.std.specs.Str.{IsAscii, IsUtf8};
 ghost use Rattle.memchr.specs.Find.{IsFirstByte, is_byte};
 ghost use Rattle.raw_view.specs.Errors.{IsReadingKind};
@@ -56,57 +56,77 @@ fn split_short_text(bytes: &[u8]) -> Option<(&str, &[u8])>
     Some((text, bytes.split_at(at + 1).1))
 }
 
-/// Whether at the front are sixteen bytes of ASCII, none of them 0.
+/// How many of the first N bytes are plain, before one that is 0 or isn't ASCII, by one comparison.
 #[inline(always)]
-fn begins_plain(bytes: &[u8]) -> bool
-    ensures long { IsTrue result → 16 ≤ length bytes.now }
-    ensures nul_free { IsTrue result → NulFree (take 16 bytes.now) }
-    ensures ascii { IsTrue result → IsAscii (take 16 bytes.now) }
+fn plain_lanes<const N: usize>(bytes: &[u8]) -> usize
+    requires few { N ≤ 64 }
+    requires long { N ≤ length bytes.now }
+    ensures within { result ≤ N }
+    ensures nul_free { NulFree (take result bytes.now) }
+    ensures ascii { IsAscii (take result bytes.now) }
 {
-    if bytes.len() < LANES {
-        return false;
+    let lanes = Simd::<u8, N>::from_slice(bytes);
+    let nuls = lanes.simd_eq(Simd::splat(0));
+    let wide = lanes.simd_ge(Simd::splat(128));
+    let ends = (nuls | wide).to_bitmask();
+    if ends == 0 {
+        return N;
     }
-    let lanes = u8x16::from_slice(bytes);
-    let nuls = lanes.simd_eq(u8x16::splat(0)).to_bitmask();
-    let wide = lanes.simd_ge(u8x16::splat(128)).to_bitmask();
-    nuls == 0 && wide == 0
+    ends.trailing_zeros() as usize
 }
 
-/// The same where two steps tell them.
+/// How many bytes at the front are plain, of N to twice as many, by two comparisons that overlap.
 #[inline(always)]
-fn split_longer_text(bytes: &[u8]) -> Option<(&str, &[u8])>
-    ensures { IfSome result
-        (λ x. (bytes.now ≡ x.0.now ++ 0 ∷ x.1.now) × NulFree x.0.now × IsUtf8 x.0.now) }
+fn plain_overlapping<const N: usize>(bytes: &[u8]) -> usize
+    requires few { N ≤ 64 }
+    requires long { N ≤ length bytes.now }
+    requires short { length bytes.now ≤ N + N }
+    ensures within { result ≤ length bytes.now }
+    ensures nul_free { NulFree (take result bytes.now) }
+    ensures ascii { IsAscii (take result bytes.now) }
 {
-    if !begins_plain(bytes) {
-        return None;
+    let front = plain_lanes::<N>(bytes);
+    if front < N {
+        return front;
     }
-    let (end, behind) = split_short_text(bytes.split_at(LANES).1)?;
-    let text = bytes.split_at(LANES + end.len()).0;
-    // ASCII with a text behind it is a text
-    Some((unsafe { std::str::from_utf8_unchecked(text) }, behind))
+    let before = bytes.len() - N;
+    before + plain_lanes::<N>(bytes.split_at(before).1)
 }
 
-/// The same of few bytes, as at the end of a document: they are looked at one by one.
+/// How many bytes at the front are plain, of fewer than sixteen.
+#[inline(always)]
+fn plain_len(bytes: &[u8]) -> usize
+    requires short { length bytes.now < LANES }
+    ensures within { result ≤ length bytes.now }
+    ensures nul_free { NulFree (take result bytes.now) }
+    ensures ascii { IsAscii (take result bytes.now) }
+{
+    match bytes.len() {
+        8.. => plain_overlapping::<8>(bytes),
+        4.. => plain_overlapping::<4>(bytes),
+        2.. => plain_overlapping::<2>(bytes),
+        1 => plain_lanes::<1>(bytes),
+        0 => 0,
+    }
+}
+
+/// Such a text at the front of fewer than sixteen bytes, by comparisons that overlap.
 #[inline(always)]
 fn split_last_text(bytes: &[u8]) -> Option<(&str, &[u8])>
+    requires short { length bytes.now < LANES }
     ensures { IfSome result
         (λ x. (bytes.now ≡ x.0.now ++ 0 ∷ x.1.now) × NulFree x.0.now × IsUtf8 x.0.now) }
 {
-    for at in 0..bytes.len() {
-        let byte = bytes[at];
-        if byte == 0 {
-            let (text, behind) = bytes.split_at(at);
-            return Some((ascii_text(text), &behind[1..]));
-        }
-        if byte >= 128 {
-            return None;
-        }
+    let (text, behind) = bytes.split_at(plain_len(bytes));
+    let (end, behind) = behind.split_first()?;
+    if *end != 0 {
+        return None;
     }
-    None
+    Some((ascii_text(text), behind))
 }
 
-/// The text up to the first 0, and what is behind that 0, where it is of less than 32 bytes and ASCII; `None` says nothing.
+/// The text up to the first 0, and what is behind that 0, where the text is of less than 16 bytes and ASCII; `None` says
+/// nothing.
 #[inline(always)]
 pub(crate) fn split_plain_text(bytes: &[u8]) -> Option<(&str, &[u8])>
     ensures { IfSome result
@@ -115,10 +135,7 @@ pub(crate) fn split_plain_text(bytes: &[u8]) -> Option<(&str, &[u8])>
     if bytes.len() < LANES {
         return split_last_text(bytes);
     }
-    match split_short_text(bytes) {
-        Some(parts) => Some(parts),
-        None => split_longer_text(bytes),
-    }
+    split_short_text(bytes)
 }
 
 /// The text up to the first 0, and what is behind that 0.

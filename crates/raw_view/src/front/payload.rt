@@ -1,9 +1,9 @@
-ghost use Rattle.std.specs.Prelude.{◌≡◌, ◌≢◌, ◌≤◌, ◌<◌, ◌+◌, ◌++◌, ℕ, List, length, take, drop, pos, IfOk, IfErr, IfSome, OnErr};
+ghost use Rattle.std.specs.Prelude.{◌≡◌, ◌≢◌, ◌≤◌, ◌<◌, ◌+◌, ◌++◌, ℕ, List, length, take, drop, pos, negsuc, IfOk, IfErr, IfSome, OnErr};
 ghost use Rattle.raw_view.specs.Frame.Envelope.{IsEnvelope};
 ghost use Rattle.raw_view.specs.Errors.{IsReadingKind, IsReadingReason};
-ghost use Rattle.raw_view.specs.Frame.{HasShape, HasText, HasDeclaredLength};
+ghost use Rattle.raw_view.specs.Frame.{HasShape, HasText, HasDeclaredLength, IsPayloadReason, IsPointerReason};
+ghost use Rattle.raw_view.specs.Frame.Reasons.{IsStringReason, IsDocumentReason, IsBinaryReason, IsScopeReason};
 ghost use Rattle.raw_view.specs.Frame.Front.{IsPayloadFault};
-ghost use Rattle.raw_view.specs.Frame.Kind.{tag_of};
 ghost use Rattle.raw_view.specs.Frame.Number.{IsLe32};
 ghost use Rattle.raw_view.specs.declared.element_type.ElementType.TheVariants.{Binary, DbPointer, RegularExpression};
 
@@ -16,6 +16,7 @@ use crate::front::number::front_i32;
 fn fixed_len(size: usize, rest: &[u8]) -> Result<usize, Reason>
     ensures found { IfOk result (λ n. (n ≡ size) × (size ≤ length rest.now)) }
     ensures none { OnErr result (length rest.now < size) }
+    ensures reason { IfErr result (λ why. why ≡ Reason.PastEnd size (length rest.now)) }
     ensures reading { IfErr result IsReadingReason }
 {
     if rest.len() < size {
@@ -31,6 +32,8 @@ pub(crate) fn declared_len(rest: &[u8]) -> Result<usize, Reason>
     requires { 4 ≤ length rest.now }
     ensures found { IfOk result (λ n. IsLe32 (take 4 rest.now) (pos n)) }
     ensures none { OnErr result ((n : ℕ) → ¬ IsLe32 (take 4 rest.now) (pos n)) }
+    ensures reason { IfErr result
+        (λ why. (n : ℕ) × IsLe32 (take 4 rest.now) (negsuc n) × (why ≡ Reason.NegativeLength)) }
     ensures reading { IfErr result IsReadingReason }
 {
     let declared = front_i32(rest);
@@ -45,6 +48,7 @@ pub(crate) fn front_string_len(rest: &[u8]) -> Result<usize, Reason>
     ensures within { IfOk result (λ n. n ≤ length rest.now) }
     ensures found { IfOk result (λ n. HasText (take n rest.now)) }
     ensures none { OnErr result ((p r : List ℕ) → rest.now ≡ p ++ r → ¬ HasText p) }
+    ensures reason { IfErr result (IsStringReason rest.now) }
     ensures reading { IfErr result IsReadingReason }
 {
     if rest.len() < 4 {
@@ -69,6 +73,7 @@ fn document_len(rest: &[u8]) -> Result<usize, Reason>
     ensures within { IfOk result (λ n. n ≤ length rest.now) }
     ensures found { IfOk result (λ n. IsEnvelope (take n rest.now)) }
     ensures none { OnErr result ((p r : List ℕ) → rest.now ≡ p ++ r → ¬ IsEnvelope p) }
+    ensures reason { IfErr result (IsDocumentReason rest.now) }
     ensures reading { IfErr result IsReadingReason }
 {
     if rest.len() < 5 {
@@ -92,6 +97,7 @@ fn binary_len(rest: &[u8]) -> Result<usize, Reason>
     ensures within { IfOk result (λ n. n ≤ length rest.now) }
     ensures found { IfOk result (λ n. HasShape Binary (take n rest.now) (drop n rest.now)) }
     ensures none { OnErr result ((p r : List ℕ) → rest.now ≡ p ++ r → ¬ HasShape Binary p r) }
+    ensures reason { IfErr result (IsBinaryReason rest.now) }
     ensures reading { IfErr result IsReadingReason }
 {
     if rest.len() < 4 {
@@ -108,6 +114,7 @@ fn code_with_scope_len(rest: &[u8]) -> Result<usize, Reason>
     ensures within { IfOk result (λ n. n ≤ length rest.now) }
     ensures found { IfOk result (λ n. HasDeclaredLength (take n rest.now) (drop n rest.now)) }
     ensures none { OnErr result ((p r : List ℕ) → rest.now ≡ p ++ r → ¬ HasDeclaredLength p r) }
+    ensures reason { IfErr result (IsScopeReason rest.now) }
     ensures reading { IfErr result IsReadingReason }
 {
     if rest.len() < 4 {
@@ -124,6 +131,7 @@ fn db_pointer_len(rest: &[u8]) -> Result<usize, Reason>
     ensures within { IfOk result (λ n. n ≤ length rest.now) }
     ensures found { IfOk result (λ n. HasShape DbPointer (take n rest.now) (drop n rest.now)) }
     ensures none { OnErr result ((p r : List ℕ) → rest.now ≡ p ++ r → ¬ HasShape DbPointer p r) }
+    ensures reason { IfErr result (IsPointerReason rest.now) }
     ensures reading { IfErr result IsReadingReason }
 {
     let size = front_string_len(rest)? + 12;
@@ -139,7 +147,7 @@ fn regex_len(rest: &[u8]) -> Result<usize, ErrorKind>
         (λ n. HasShape RegularExpression (take n rest.now) (drop n rest.now)) }
     ensures none { OnErr result ((p r : List ℕ) → rest.now ≡ p ++ r →
         ¬ HasShape RegularExpression p r) }
-    ensures fault { IfErr result (IsPayloadFault (tag_of RegularExpression) rest.now) }
+    ensures fault { IfErr result (IsPayloadFault RegularExpression rest.now) }
     ensures reading { IfErr result IsReadingKind }
 {
     let (_pattern, behind) = split_text(rest)?;
@@ -154,6 +162,7 @@ fn sized_len(kind: ElementType, rest: &[u8]) -> Result<usize, Reason>
     ensures within { IfOk result (λ n. n ≤ length rest.now) }
     ensures found { IfOk result (λ n. HasShape kind (take n rest.now) (drop n rest.now)) }
     ensures none { OnErr result ((p r : List ℕ) → rest.now ≡ p ++ r → ¬ HasShape kind p r) }
+    ensures reason { IfErr result (IsPayloadReason kind rest.now) }
     ensures reading { IfErr result IsReadingReason }
 {
     match kind {
@@ -183,7 +192,7 @@ pub(crate) fn front_len(kind: ElementType, rest: &[u8]) -> Result<usize, ErrorKi
     ensures within { IfOk result (λ n. n ≤ length rest.now) }
     ensures found { IfOk result (λ n. HasShape kind (take n rest.now) (drop n rest.now)) }
     ensures none { OnErr result ((p r : List ℕ) → rest.now ≡ p ++ r → ¬ HasShape kind p r) }
-    ensures fault { IfErr result (IsPayloadFault (tag_of kind) rest.now) }
+    ensures fault { IfErr result (IsPayloadFault kind rest.now) }
     ensures reading { IfErr result IsReadingKind }
 {
     match kind {

@@ -1,7 +1,6 @@
 use super::documents::*;
 use super::forms::levels;
 use super::{Row, assert_answer, assert_rows};
-use crate::command::Command;
 use std::test::Fail;
 
 /// Documents that aren't canonical, and what `check` prints of them.
@@ -57,7 +56,7 @@ pub(super) const BREACHES: &[Row] = &[
 
 #[test]
 fn tells_the_first_breach(rt: HostRuntime) {
-    assert_rows(&rt, rt.alloc(), Command::Check, BREACHES);
+    assert_rows(&rt, rt.alloc(), "check", BREACHES);
 }
 
 /// Documents that are.
@@ -72,9 +71,9 @@ pub(super) const CANONICAL: &[Row] = &[
 
 #[test]
 fn tells_that_documents_are_canonical(rt: HostRuntime) {
-    assert_rows(&rt, rt.alloc(), Command::Check, CANONICAL);
+    assert_rows(&rt, rt.alloc(), "check", CANONICAL);
     for (_, form) in FORMS {
-        assert_answer(&rt, rt.alloc(), Command::Check, form, 0, "canonical\n");
+        assert_answer(&rt, rt.alloc(), "check", form, 0, "canonical\n");
     }
 }
 
@@ -83,6 +82,6 @@ fn five_hundred_and_one_levels_are_canonical(rt: HostRuntime) -> Result<(), Fail
     // `check` has no limits
     let text = levels(rt.alloc(), 501)?;
     assert!(rt; text.starts_with("b10d00000300"));
-    assert_answer(&rt, rt.alloc(), Command::Check, &text, 0, "canonical\n");
+    assert_answer(&rt, rt.alloc(), "check", &text, 0, "canonical\n");
     Ok(())
 }

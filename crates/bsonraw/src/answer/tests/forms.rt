@@ -1,15 +1,14 @@
 use super::documents::*;
 use super::{Row, assert_answer, assert_rows};
-use crate::command::Command;
 use std::alloc::{AllocError, Global};
 use std::test::Fail;
 
 #[test]
 fn writes_canonical_forms(rt: HostRuntime) {
     for (text, form) in FORMS {
-        assert_answer(&rt, rt.alloc(), Command::Canon, text, 0, form);
+        assert_answer(&rt, rt.alloc(), "canon", text, 0, form);
         // and the canonical form of a form is the form
-        assert_answer(&rt, rt.alloc(), Command::Canon, form, 0, form);
+        assert_answer(&rt, rt.alloc(), "canon", form, 0, form);
     }
 }
 
@@ -29,7 +28,7 @@ pub(super) const OWN_FORMS: &[&str] = &[
 #[test]
 fn writes_canonical_documents_as_they_are(rt: HostRuntime) {
     for form in OWN_FORMS {
-        assert_answer(&rt, rt.alloc(), Command::Canon, form, 0, form);
+        assert_answer(&rt, rt.alloc(), "canon", form, 0, form);
     }
 }
 
@@ -52,7 +51,7 @@ pub(super) const FIRST_FAULTS: &[Row] = &[
 
 #[test]
 fn tells_the_first_fault(rt: HostRuntime) {
-    assert_rows(&rt, rt.alloc(), Command::Canon, FIRST_FAULTS);
+    assert_rows(&rt, rt.alloc(), "canon", FIRST_FAULTS);
 }
 
 /// The text of so many levels of documents, each but the innermost holding the next under the empty key.
@@ -76,7 +75,7 @@ pub(super) fn levels(alloc: Global, count: u32) -> Result<String, AllocError> {
 fn five_hundred_levels_come_back(rt: HostRuntime) -> Result<(), Fail> {
     let text = levels(rt.alloc(), 500)?;
     assert!(rt; text.starts_with("aa0d00000300"));
-    assert_answer(&rt, rt.alloc(), Command::Canon, &text, 0, &text);
+    assert_answer(&rt, rt.alloc(), "canon", &text, 0, &text);
     Ok(())
 }
 
@@ -84,6 +83,6 @@ fn five_hundred_levels_come_back(rt: HostRuntime) -> Result<(), Fail> {
 fn five_hundred_and_one_levels_are_refused(rt: HostRuntime) -> Result<(), Fail> {
     let text = levels(rt.alloc(), 501)?;
     assert!(rt; text.starts_with("b10d00000300"));
-    assert_answer(&rt, rt.alloc(), Command::Canon, &text, 1, "refused 7\n");
+    assert_answer(&rt, rt.alloc(), "canon", &text, 1, "refused 7\n");
     Ok(())
 }

@@ -3,8 +3,7 @@
 
 use super::documents::{DOCUMENTS, bytes_of};
 use super::lister::{Listing, listing_of, refusal_of};
-use super::outcome;
-use crate::command::Command;
+use crate::answer::answer;
 use std::alloc::{AllocError, Global};
 use std::process::Abort;
 use std::test::Fail;
@@ -35,7 +34,7 @@ fn assert_text_answered(
 }
 
 fn is_listed(alloc: Global, text: &str, listing: &Listing) -> bool {
-    let (status, output) = outcome(alloc, Command::List, text.as_bytes());
+    let (status, output) = answer(alloc, "list", text.as_bytes());
     status == listing.status && output.as_slice() == listing.output.as_bytes()
 }
 
@@ -46,7 +45,7 @@ fn is_fault(output: &[u8]) -> bool {
 
 /// A document has a form only where its walk ends at its final 0.
 fn is_canonized(alloc: Global, text: &str, refusal: Option<&str>, listing: &Listing) -> bool {
-    let (status, output) = outcome(alloc, Command::Canon, text.as_bytes());
+    let (status, output) = answer(alloc, "canon", text.as_bytes());
     match (status, refusal) {
         (1, Some(refusal)) => output.as_slice() == refusal.as_bytes(),
         (1, None) => is_fault(&output),
@@ -57,7 +56,7 @@ fn is_canonized(alloc: Global, text: &str, refusal: Option<&str>, listing: &List
 
 /// A document is canonical exactly where `canon` prints it as it is, and has a breach elsewhere.
 fn is_checked(alloc: Global, text: &str, refusal: Option<&str>) -> bool {
-    let (status, output) = outcome(alloc, Command::Check, text.as_bytes());
+    let (status, output) = answer(alloc, "check", text.as_bytes());
     match (status, refusal) {
         (1, Some(refusal)) => output.as_slice() == refusal.as_bytes(),
         (1, None) => output.starts_with(b"breach ") && !is_unchanged(alloc, text),
@@ -68,20 +67,20 @@ fn is_checked(alloc: Global, text: &str, refusal: Option<&str>) -> bool {
 
 /// Whether `canon` prints these digits as they are, and a line end.
 fn is_unchanged(alloc: Global, digits: &str) -> bool {
-    let (status, output) = outcome(alloc, Command::Canon, digits.as_bytes());
+    let (status, output) = answer(alloc, "canon", digits.as_bytes());
     status == 0 && output.strip_suffix(b"\n") == Some(digits.as_bytes())
 }
 
 /// Whether `canon` prints a form of the bytes.
 pub(super) fn has_form(alloc: Global, bytes: &[u8]) -> Result<bool, AllocError> {
     let text = hex::encode(alloc, bytes)?;
-    let (status, _) = outcome(alloc, Command::Canon, text.as_bytes());
+    let (status, _) = answer(alloc, "canon", text.as_bytes());
     Ok(status == 0)
 }
 
 /// Whether `canon` prints the text as it is.
 fn is_form(alloc: Global, text: &[u8]) -> bool {
-    let (status, output) = outcome(alloc, Command::Canon, text);
+    let (status, output) = answer(alloc, "canon", text);
     status == 0 && output.as_slice() == text
 }
 

@@ -1,6 +1,5 @@
 use super::documents::*;
 use super::{Row, assert_answer, assert_rows};
-use crate::command::Command;
 use std::alloc::{AllocError, Global};
 use std::process::Abort;
 use std::test::Fail;
@@ -35,7 +34,7 @@ pub(super) const LISTINGS: &[Row] = &[
 
 #[test]
 fn lists_documents(rt: HostRuntime) {
-    assert_rows(&rt, rt.alloc(), Command::List, LISTINGS);
+    assert_rows(&rt, rt.alloc(), "list", LISTINGS);
 }
 
 /// Documents of one damaged element.
@@ -134,8 +133,8 @@ pub(super) const APPENDED: &[Row] = &[
 
 #[test]
 fn lists_damaged_documents(rt: HostRuntime) {
-    assert_rows(&rt, rt.alloc(), Command::List, DAMAGED);
-    assert_rows(&rt, rt.alloc(), Command::List, APPENDED);
+    assert_rows(&rt, rt.alloc(), "list", DAMAGED);
+    assert_rows(&rt, rt.alloc(), "list", APPENDED);
 }
 
 /// The first so many bytes of the greeting, with this header and a final 0.
@@ -189,7 +188,7 @@ pub(super) const CUT_GREETINGS: &[Row] = &[
 
 #[test]
 fn lists_the_greeting_cut_off(rt: HostRuntime) {
-    assert_rows(&rt, rt.alloc(), Command::List, CUT_GREETINGS);
+    assert_rows(&rt, rt.alloc(), "list", CUT_GREETINGS);
 }
 
 /// Seventy letters `a` in hex.
@@ -206,7 +205,7 @@ fn assert_null_listed(
     let text = format!(in alloc; "{len:02x}0000000a{digits}0000")?;
     let key = if digits.is_empty() { "-" } else { digits };
     let listing = format!(in alloc; "0a {key} 0\nend\n")?;
-    assert_answer(rt, alloc, Command::List, &text, 0, &listing);
+    assert_answer(rt, alloc, "list", &text, 0, &listing);
     Ok(())
 }
 

@@ -23,7 +23,7 @@ use Rattle.raw_form.proofs.judge.judge.Goals as goal
 
 -- a stop is one of some fault
 some_stop : (k : ErrorKind) (key : Option (List ℕ)) (s : List ℕ) → StopsWith k key s → (fault : Fault) × IsStop s fault key
-some_stop (kind.MalformedValue r) key s h = (Malformed, h)
+some_stop (kind.MalformedValue r) key s h = (Malformed r, h)
 some_stop (kind.Utf8EncodingError e) key s h = (Utf8, h)
 some_stop kind.OutOfMemory key s h = absurd h
 

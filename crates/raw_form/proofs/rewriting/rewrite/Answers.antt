@@ -27,40 +27,33 @@ levels-init c =
     (c.in_ok-level.ensures.left c.requires.read.0 c.requires.read.1)
 
 pub next-requires : goal.next-requires
-next-requires c = something_left (bytes_of c.args.document) c.levels.waiting.items c.levels.level c.levels.out.items c.levels.invariant
+next-requires c = something_left c.levels.invariant
 
 pub put_end-requires : goal.put_end-requires
 put_end-requires c =
-    let b = bytes_of c.args.document in
-    let ws = c.levels.waiting.items in
-    let out = c.levels.out.items in
     let is = c.levels.invariant in
     let new = c.next.new.self in
     let none : is.here.left ≡ [] = c.in_default.ensures.next is.here.left is.begun.left in
-    omega (arith, header_put b ws c.levels.level out is new c.next.ensures.start c.next.ensures.code_len none, c.levels.out.ok.0)
+    omega (arith, header_put is new c.next.ensures.start c.next.ensures.code_len none, c.levels.out.ok.0)
 
 pub returns-in_err-put_end-clause-err : goal.returns-in_err-put_end-clause-err
 returns-in_err-put_end-clause-err c =
-    let b = bytes_of c.args.document in
-    let ws = c.levels.waiting.items in
     let out = c.levels.out.items in
     let is = c.levels.invariant in
     let new = c.next.new.self in
     let none : is.here.left ≡ [] = c.in_default.ensures.next is.here.left is.begun.left in
     let p = err_from_is_err_and c.from_residual-in_err-put_end.result c.from_residual-in_err-put_end.ensures.1 in
     let size : vec_len c.levels.out + 1 ≡ length out + 1 = omega (arith, c.levels.out.ok.0) in
-    rw p.1 (end_refused b ws c.levels.level out is new c.next.ensures.start c.next.ensures.code_len none p.0 (rw p.2 (fails_same _ _ _ size c.in_err-put_end.ensures.err)))
+    rw p.1 (end_refused is new c.next.ensures.start c.next.ensures.code_len none p.0 (rw p.2 (fails_same _ _ _ size c.in_err-put_end.ensures.err)))
 
 pub returns-in_default-pop-clause-form : goal.returns-in_default-pop-clause-form
 returns-in_default-pop-clause-form c =
-    let b = bytes_of c.args.document in
     let ws = c.levels.waiting.items in
-    let out = c.levels.out.items in
     let is = c.levels.invariant in
     let new = c.next.new.self in
     let none : is.here.left ≡ [] = c.in_default.ensures.next is.here.left is.begun.left in
     let none_waits : ws ≡ [] = search rules in
-    rewriting_done b ws c.levels.level out is new c.next.ensures.start c.next.ensures.code_len none c.put_end.new.out.items c.in_ok-put_end.ensures.items
+    rewriting_done is new c.next.ensures.start c.next.ensures.code_len none c.put_end.new.out.items c.in_ok-put_end.ensures.items
     none_waits (omega (arith, c.in_ok-put_end.ensures.fits, c.put_end.new.out.ok.0))
 
 pub levels-smaller-in_default : goal.levels-smaller-in_default
@@ -68,30 +61,22 @@ levels-smaller-in_default c = omega (arith, c.in_ok-put_end.ensures.len, c.in_ok
 
 pub levels-preserved-in_default : goal.levels-preserved-in_default
 levels-preserved-in_default c =
-    let b = bytes_of c.args.document in
-    let ws = c.levels.waiting.items in
-    let out = c.levels.out.items in
     let is = c.levels.invariant in
     let new = c.next.new.self in
     let none : is.here.left ≡ [] = c.in_default.ensures.next is.here.left is.begun.left in
-    rewriting_ends b ws c.levels.level out is new c.next.ensures.start c.next.ensures.code_len none c.put_end.new.out.items c.in_ok-put_end.ensures.items
+    rewriting_ends is new c.next.ensures.start c.next.ensures.code_len none c.put_end.new.out.items c.in_ok-put_end.ensures.items
     c.pop.new.self.items c.in-Some-pop.outer c.in-Some-pop.ensures.items (omega (arith, c.in_ok-put_end.ensures.fits, c.put_end.new.out.ok.0))
 
 pub unreachable-requires : goal.unreachable-requires
 unreachable-requires c =
-    let b = bytes_of c.args.document in
-    let ws = c.levels.waiting.items in
-    let out = c.levels.out.items in
     let is = c.levels.invariant in
     let new = c.next.new.self in
     let next = c.in-Some.ensures.next is.here.left is.begun.left in
     let fault = c.in_default-resolve.ensures.fault in
-    no_fault b ws c.levels.level out is new c.next.ensures.start c.next.ensures.code_len c.in-Some.member next fault.0 fault.1
+    no_fault is new c.next.ensures.start c.next.ensures.code_len c.in-Some.member next fault.0 fault.1
 
 pub returns-in_err-put_leaf-clause-err : goal.returns-in_err-put_leaf-clause-err
 returns-in_err-put_leaf-clause-err c =
-    let b = bytes_of c.args.document in
-    let ws = c.levels.waiting.items in
     let out = c.levels.out.items in
     let is = c.levels.invariant in
     let new = c.next.new.self in
@@ -99,51 +84,43 @@ returns-in_err-put_leaf-clause-err c =
     let next = c.in-Some.ensures.next is.here.left is.begun.left in
     let leaf = shows_leaf v c.in_default-level_in.ensures in
     let l = leaf_in_order leaf.0 in
-    let written = leaf_written b ws c.levels.level out is new c.next.ensures.start c.next.ensures.code_len c.in-Some.member v next c.in-Ok.ensures.value
+    let written = leaf_written is new c.next.ensures.start c.next.ensures.code_len c.in-Some.member v next c.in-Ok.ensures.value
     c.key-key.result.now c.key-key.ensures leaf.0 leaf.1 in
     let p = err_from_is_err_and c.from_residual-in_err-put_leaf.result c.from_residual-in_err-put_leaf.ensures.1 in
     let size : vec_len c.levels.out ≡ length out = omega (arith, c.levels.out.ok.0) in
-    rw p.1 (put_refused b ws c.levels.level out is new c.next.ensures.start c.next.ensures.code_len c.in-Some.member v next c.in-Ok.ensures.value
+    rw p.1 (put_refused is new c.next.ensures.start c.next.ensures.code_len c.in-Some.member v next c.in-Ok.ensures.value
     c.key-key.result.now c.key-key.ensures (kind_of_leaf l) (leaf_payload l) written p.0 (rw (p.2, ← size) (c.in_err-put_leaf.ensures.err leaf.0 leaf.1)))
 
 pub levels-smaller-in_default-level_in : goal.levels-smaller-in_default-level_in
 levels-smaller-in_default-level_in c =
-    let b = bytes_of c.args.document in
-    let ws = c.levels.waiting.items in
-    let out = c.levels.out.items in
     let is = c.levels.invariant in
     let new = c.next.new.self in
     let v = value_of c.in-Ok.value in
     let next = c.in-Some.ensures.next is.here.left is.begun.left in
     let leaf = shows_leaf v c.in_default-level_in.ensures in
     let l = leaf_in_order leaf.0 in
-    let written = leaf_written b ws c.levels.level out is new c.next.ensures.start c.next.ensures.code_len c.in-Some.member v next c.in-Ok.ensures.value
+    let written = leaf_written is new c.next.ensures.start c.next.ensures.code_len c.in-Some.member v next c.in-Ok.ensures.value
     c.key-key.result.now c.key-key.ensures leaf.0 leaf.1 in
-    let grows = put_grows b ws c.levels.level out is new c.next.ensures.start c.next.ensures.code_len c.in-Some.member v next c.in-Ok.ensures.value
+    let grows = put_grows is new c.next.ensures.start c.next.ensures.code_len c.in-Some.member v next c.in-Ok.ensures.value
     c.key-key.result.now c.key-key.ensures (kind_of_leaf l) (leaf_payload l) written c.put_leaf.new.out.items (c.in_ok-put_leaf.ensures.items leaf.0 leaf.1) in
     omega (arith, grows, c.in_ok-put_leaf.ensures.fits, c.put_leaf.new.out.ok.0)
 
 pub levels-preserved-in_default-level_in : goal.levels-preserved-in_default-level_in
 levels-preserved-in_default-level_in c =
-    let b = bytes_of c.args.document in
-    let ws = c.levels.waiting.items in
-    let out = c.levels.out.items in
     let is = c.levels.invariant in
     let new = c.next.new.self in
     let v = value_of c.in-Ok.value in
     let next = c.in-Some.ensures.next is.here.left is.begun.left in
     let leaf = shows_leaf v c.in_default-level_in.ensures in
     let l = leaf_in_order leaf.0 in
-    let written = leaf_written b ws c.levels.level out is new c.next.ensures.start c.next.ensures.code_len c.in-Some.member v next c.in-Ok.ensures.value
+    let written = leaf_written is new c.next.ensures.start c.next.ensures.code_len c.in-Some.member v next c.in-Ok.ensures.value
     c.key-key.result.now c.key-key.ensures leaf.0 leaf.1 in
-    rewriting_put b ws c.levels.level out is new c.next.ensures.start c.next.ensures.code_len c.in-Some.member v next c.in-Ok.ensures.value
+    rewriting_put is new c.next.ensures.start c.next.ensures.code_len c.in-Some.member v next c.in-Ok.ensures.value
     c.key-key.result.now c.key-key.ensures (kind_of_leaf l) (leaf_payload l) written c.put_leaf.new.out.items (c.in_ok-put_leaf.ensures.items leaf.0 leaf.1)
     (omega (arith, c.in_ok-put_leaf.ensures.fits, c.put_leaf.new.out.ok.0))
 
 pub returns-in_err-put_head-clause-err : goal.returns-in_err-put_head-clause-err
 returns-in_err-put_head-clause-err c =
-    let b = bytes_of c.args.document in
-    let ws = c.levels.waiting.items in
     let out = c.levels.out.items in
     let is = c.levels.invariant in
     let new = c.next.new.self in
@@ -153,14 +130,11 @@ returns-in_err-put_head-clause-err c =
     let holds : v ≡ held_value h = shows_held v h c.in-Some-level_in.ensures in
     let p = err_from_is_err_and c.from_residual-in_err-put_head.result c.from_residual-in_err-put_head.ensures.1 in
     let size : vec_len c.levels.out ≡ length out = omega (arith, c.levels.out.ok.0) in
-    rw p.1 (head_refused b ws c.levels.level out is new c.next.ensures.start c.next.ensures.code_len c.in-Some.member v next c.in-Ok.ensures.value
+    rw p.1 (head_refused is new c.next.ensures.start c.next.ensures.code_len c.in-Some.member v next c.in-Ok.ensures.value
     c.key-key.result.now c.key-key.ensures h holds p.0 (rw (p.2, ← size) c.in_err-put_head.ensures.err))
 
 pub returns-in_err-put_opening-2-clause-err : goal.returns-in_err-put_opening-2-clause-err
 returns-in_err-put_opening-2-clause-err c =
-    let b = bytes_of c.args.document in
-    let ws = c.levels.waiting.items in
-    let out = c.levels.out.items in
     let is = c.levels.invariant in
     let new = c.next.new.self in
     let v = value_of c.in-Ok.value in
@@ -169,31 +143,26 @@ returns-in_err-put_opening-2-clause-err c =
     let holds : v ≡ held_value h = shows_held v h c.in-Some-level_in.ensures in
     let p = err_from_is_err_and c.from_residual-in_err-put_opening-2.result c.from_residual-in_err-put_opening-2.ensures.1 in
     let size : vec_len c.put_head.new.out ≡ length c.put_head.new.out.items = omega (arith, c.put_head.new.out.ok.0) in
-    rw p.1 (inside_refused b ws c.levels.level out is new c.next.ensures.start c.next.ensures.code_len c.in-Some.member v next c.in-Ok.ensures.value
+    rw p.1 (inside_refused is new c.next.ensures.start c.next.ensures.code_len c.in-Some.member v next c.in-Ok.ensures.value
     c.key-key.result.now c.key-key.ensures h holds c.put_head.new.out.items c.in_ok-put_head.ensures.items p.0
     (rw (p.2, ← size) c.in_err-put_opening-2.ensures.err))
 
 pub levels-smaller : goal.levels-smaller
 levels-smaller c =
-    let b = bytes_of c.args.document in
-    let ws = c.levels.waiting.items in
-    let out = c.levels.out.items in
     let is = c.levels.invariant in
     let new = c.next.new.self in
     let v = value_of c.in-Ok.value in
     let next = c.in-Some.ensures.next is.here.left is.begun.left in
     let h : Held = c.in-Some-level_in.inner in
     let holds : v ≡ held_value h = shows_held v h c.in-Some-level_in.ensures in
-    let grows = inside_grows b ws c.levels.level out is new c.next.ensures.start c.next.ensures.code_len c.in-Some.member v next c.in-Ok.ensures.value
+    let grows = inside_grows is new c.next.ensures.start c.next.ensures.code_len c.in-Some.member v next c.in-Ok.ensures.value
     c.key-key.result.now c.key-key.ensures h holds c.put_head.new.out.items c.in_ok-put_head.ensures.items c.put_opening-in-levels.new.out.items
     c.in_ok-put_opening-2.ensures.items in
     omega (arith, grows, c.in_ok-put_opening-2.ensures.fits, c.put_opening-in-levels.new.out.ok.0)
 
 pub levels-preserved : goal.levels-preserved
 levels-preserved c =
-    let b = bytes_of c.args.document in
     let ws = c.levels.waiting.items in
-    let out = c.levels.out.items in
     let is = c.levels.invariant in
     let new = c.next.new.self in
     let v = value_of c.in-Ok.value in
@@ -202,8 +171,8 @@ levels-preserved c =
     let holds : v ≡ held_value h = shows_held v h c.in-Some-level_in.ensures in
     let grown : c.push.new.self.items ≡ ws ++ new ∷ [] = search rules in
     let start : c.len-start.result ≡ length c.put_head.new.out.items = omega (arith, c.len-start.ensures, c.put_head.new.out.ok.0) in
-    let inside = held_stands b ws c.levels.level out is new c.next.ensures.start c.next.ensures.code_len c.in-Some.member v next c.in-Ok.ensures.value c.key-key.result.now c.key-key.ensures h holds in
-    rw (c.replace-outer.ensures.after) (rewriting_inside b ws c.levels.level out is new c.next.ensures.start c.next.ensures.code_len c.in-Some.member v next
+    let inside = held_stands is new c.next.ensures.start c.next.ensures.code_len c.in-Some.member v next c.in-Ok.ensures.value c.key-key.result.now c.key-key.ensures h holds in
+    rw (c.replace-outer.ensures.after) (rewriting_inside is new c.next.ensures.start c.next.ensures.code_len c.in-Some.member v next
     c.in-Ok.ensures.value c.key-key.result.now c.key-key.ensures h holds c.put_head.new.out.items c.in_ok-put_head.ensures.items c.in_ok-inner.inner
     c.len-start.result c.put_opening-in-levels.new.out.items c.push.new.self.items grown start c.in_ok-inner.ensures.start
     c.in_ok-put_opening-2.ensures.items (c.in_ok-inner.ensures.left next.0 inside)
@@ -214,8 +183,6 @@ new-requires-in-levels-clause-known c = known_to_first _ _ refl refl
 
 pub returns-in_err-put_plain-clause-err : goal.returns-in_err-put_plain-clause-err
 returns-in_err-put_plain-clause-err c =
-    let b = bytes_of c.args.document in
-    let ws = c.levels.waiting.items in
     let out = c.levels.out.items in
     let is = c.levels.invariant in
     let new = c.next.new.self in
@@ -229,14 +196,11 @@ returns-in_err-put_plain-clause-err c =
     ] in
     let p = err_from_is_err_and c.from_residual-in_err-put_plain.result c.from_residual-in_err-put_plain.ensures.1 in
     let size : vec_len c.levels.out + (2 + length key + length f.payload) ≡ length out + (2 + length key + length f.payload) = omega (arith, c.levels.out.ok.0) in
-    rw p.1 (put_refused b ws c.levels.level out is new c.next.ensures.start c.next.ensures.code_len c.in-Some.member next.3.0 next next.3.1 key
+    rw p.1 (put_refused is new c.next.ensures.start c.next.ensures.code_len c.in-Some.member next.3.0 next next.3.1 key
     c.key-key.ensures f.kind f.payload (own next.0 next.3) p.0 (rw p.2 (fails_same _ _ _ size c.in_err-put_plain.ensures.err)))
 
 pub levels-smaller-then-member : goal.levels-smaller-then-member
 levels-smaller-then-member c =
-    let b = bytes_of c.args.document in
-    let ws = c.levels.waiting.items in
-    let out = c.levels.out.items in
     let is = c.levels.invariant in
     let new = c.next.new.self in
     let next = c.in-Some.ensures.next is.here.left is.begun.left in
@@ -247,15 +211,12 @@ levels-smaller-then-member c =
       | then-member-via-then-member w ↦ next.5 w.if-member.true
       | then-member-via-else-member+then-is_plain w ↦ plain_own f (subst IsPlain w.element_type.ensures (w.is_plain.ensures w.if-is_plain.true)) c.in-Some.member.element.framed
     ] in
-    let grows = put_grows b ws c.levels.level out is new c.next.ensures.start c.next.ensures.code_len c.in-Some.member next.3.0 next next.3.1 key
+    let grows = put_grows is new c.next.ensures.start c.next.ensures.code_len c.in-Some.member next.3.0 next next.3.1 key
     c.key-key.ensures f.kind f.payload (own next.0 next.3) c.put_plain.new.out.items c.in_ok-put_plain.ensures.items in
     omega (arith, grows, c.in_ok-put_plain.ensures.fits, c.put_plain.new.out.ok.0)
 
 pub levels-preserved-then-member : goal.levels-preserved-then-member
 levels-preserved-then-member c =
-    let b = bytes_of c.args.document in
-    let ws = c.levels.waiting.items in
-    let out = c.levels.out.items in
     let is = c.levels.invariant in
     let new = c.next.new.self in
     let next = c.in-Some.ensures.next is.here.left is.begun.left in
@@ -266,5 +227,5 @@ levels-preserved-then-member c =
       | then-member-via-then-member w ↦ next.5 w.if-member.true
       | then-member-via-else-member+then-is_plain w ↦ plain_own f (subst IsPlain w.element_type.ensures (w.is_plain.ensures w.if-is_plain.true)) c.in-Some.member.element.framed
     ] in
-    rewriting_put b ws c.levels.level out is new c.next.ensures.start c.next.ensures.code_len c.in-Some.member next.3.0 next next.3.1 key c.key-key.ensures
+    rewriting_put is new c.next.ensures.start c.next.ensures.code_len c.in-Some.member next.3.0 next next.3.1 key c.key-key.ensures
     f.kind f.payload (own next.0 next.3) c.put_plain.new.out.items c.in_ok-put_plain.ensures.items (omega (arith, c.in_ok-put_plain.ensures.fits, c.put_plain.new.out.ok.0))

@@ -2,30 +2,40 @@ use Rattle.std.proofs.Common.{rules, ◌≡◌, ◌≤◌, ◌<◌, ◌+◌, ◌
 use Rattle.std.specs.Option.{option_copied}
 use Rattle.raw_view.specs.Document.{bytes_of}
 use Rattle.raw_view.specs.Frame.ElementSteps.{frame_of}
+use Rattle.raw_tree.specs.Breaches.{keys_of_frames}
 use Rattle.raw_tree.specs.OpenKeys.{HasKeysSoFar}
 use Rattle.raw_tree.specs.Reading.{as_document}
 use Rattle.raw_tree.specs.References.{texts}
 use Rattle.raw_tree.specs.declared.validator.keys_so_far.KeysSoFar.{KeysSoFar}
 use Rattle.raw_form.specs.Barriers.{steps_of}
-use Rattle.raw_form.specs.Judging.{sort_of, Judges}
+use Rattle.raw_form.specs.Judging.{sort_of, Judges, TellsJudged}
 use Rattle.raw_form.specs.Looking.{step_at}
 use Rattle.raw_form.specs.Places.{Step}
 use Rattle.raw_form.specs.Verdicts.{Verdict, too_deep, breach_of, FirstVerdictTo}
-use Rattle.raw_form.specs.Waits.{StoreEach, Wait}
+use Rattle.raw_form.specs.Waits.{Wait}
+use Rattle.raw_form.specs.Walks.{IsOpened}
 use Rattle.raw_form.specs.declared.judge.Judged.{Judged}
 use Rattle.raw_form.specs.declared.judge.Judged.TheVariants as judged
 use Rattle.raw_form.specs.declared.level.Waiting.{Waiting}
 use Rattle.raw_form.specs.declared.place.Place.{Place}
 use Rattle.raw_form.proofs.JudgedAt.{IsJudgedAt, as_many, judged_begin, judged_breach, judged_deep, judged_end, judged_inside, judged_resumed, judged_whole, looks_end, looks_inside, looks_whole, open_keys, told}
-use Rattle.raw_form.proofs.Levels.{IsAt, IsOpened, at_begin, at_inside_fits, at_inside_size, at_over, at_over_within, at_stored, at_whole_size, at_within, waiting_then}
-use Rattle.raw_form.proofs.Lying.{envelope_fits, stored_less, stored_many, stored_more}
+use Rattle.raw_form.proofs.Levels.{at_begin, at_inside_fits, at_inside_size, at_over, at_over_within, at_stored, at_whole_size, at_within, waiting_then, popped}
+use Rattle.raw_form.proofs.Lying.{envelope_fits, stored_many, stored_more}
 use Rattle.raw_form.proofs.verdict.judge_to_depth.Goals as goal
+use Rattle.raw_form.proofs.verdict.judge_to_depth.Goals.{In_ok-element}
 
 -- a verdict at the steps and the offset of a place
 placed : (depth : ℕ) (b : List ℕ) (x : Verdict) (steps : List Step) (offset : ℕ) (place : Place) → steps_of place ≡ steps → place.offset ≡ offset
     → FirstVerdictTo depth as_document b x steps offset → FirstVerdictTo depth as_document b x (steps_of place) place.offset
 placed depth b x steps offset place p o h = subst (λ (u : ℕ). FirstVerdictTo depth as_document b x (steps_of place) u) (sym o)
     (subst (λ (q : List Step). FirstVerdictTo depth as_document b x q offset) (sym p) h)
+
+-- what is told of the element that was judged
+told_as : (c : In_ok-element) (x : Judged) → c.in_ok-element.field-0 ≡ x → let at = c.levels.invariant.at in
+    TellsJudged at.sort at.below (keys_of_frames at.is.frames) at.is.rest c.judge.new.elements c.judge.new.keys c.judge.new.listed.items x
+told_as c x is = told c.levels.invariant.at c.judge.new.elements c.judge.new.keys c.judge.new.listed.items x
+    (subst (λ (y : Judged). Judges c.levels.level.elements c.levels.keys c.levels.listed.items c.levels.level.number c.judge.new.elements c.judge.new.keys
+    c.judge.new.listed.items y) is c.in_ok-element.ensures.judges)
 
 pub levels-init : goal.levels-init
 levels-init c =
@@ -48,78 +58,53 @@ levels-init c =
     }
 
 pub judge-requires : goal.judge-requires
-judge-requires c = open_keys c.args.depth (bytes_of c.args.document) c.levels.invariant.waits c.levels.outer_keys.items c.levels.listed.items
-    c.levels.level.elements c.levels.level.number c.levels.level.offset c.levels.level.start c.levels.keys c.levels.invariant.at
+judge-requires c = open_keys c.levels.invariant.at
 
 pub behind-requires : goal.behind-requires
 behind-requires c =
-    let tells = told c.args.depth (bytes_of c.args.document) c.levels.invariant.waits c.levels.outer_keys.items c.levels.listed.items c.levels.level.elements
-    c.levels.level.number c.levels.level.offset c.levels.level.start c.levels.keys c.levels.invariant.at c.judge.new.elements c.judge.new.keys
-    c.judge.new.listed.items _ (subst (λ (x : Judged). Judges c.levels.level.elements c.levels.keys c.levels.listed.items c.levels.level.number
-    c.judge.new.elements c.judge.new.keys c.judge.new.listed.items x) c.in-Whole.is c.in_ok-element.ensures.judges) in
-    let looks = looks_whole c.args.depth (bytes_of c.args.document) c.levels.invariant.waits c.levels.outer_keys.items c.levels.listed.items
-    c.levels.level.elements c.levels.level.number c.levels.level.offset c.levels.level.start c.levels.keys c.levels.invariant.at c.judge.new.elements
+    let tells = told_as (goal.at.behind-requires c).In_ok-element _ c.in-Whole.is in
+    let looks = looks_whole c.levels.invariant.at c.judge.new.elements
     c.judge.new.keys c.judge.new.listed.items c.in-Whole.element tells in
-    let size = at_whole_size c.args.depth (bytes_of c.args.document) c.levels.invariant.waits c.levels.level.elements c.judge.new.elements c.levels.level.number
-    c.levels.level.offset c.levels.level.start c.in-Whole.element c.levels.invariant.at.at looks in
+    let size = at_whole_size c.levels.invariant.at.at c.judge.new.elements c.in-Whole.element looks in
     omega (arith, size.1, c.ranges.document)
 
 pub overflow_add-level : goal.overflow_add-level
 overflow_add-level c =
-    let tells = told c.args.depth (bytes_of c.args.document) c.levels.invariant.waits c.levels.outer_keys.items c.levels.listed.items c.levels.level.elements
-    c.levels.level.number c.levels.level.offset c.levels.level.start c.levels.keys c.levels.invariant.at c.judge.new.elements c.judge.new.keys
-    c.judge.new.listed.items _ (subst (λ (x : Judged). Judges c.levels.level.elements c.levels.keys c.levels.listed.items c.levels.level.number
-    c.judge.new.elements c.judge.new.keys c.judge.new.listed.items x) c.in-Whole.is c.in_ok-element.ensures.judges) in
-    let looks = looks_whole c.args.depth (bytes_of c.args.document) c.levels.invariant.waits c.levels.outer_keys.items c.levels.listed.items
-    c.levels.level.elements c.levels.level.number c.levels.level.offset c.levels.level.start c.levels.keys c.levels.invariant.at c.judge.new.elements
+    let tells = told_as (goal.at.overflow_add-level c).In_ok-element _ c.in-Whole.is in
+    let looks = looks_whole c.levels.invariant.at c.judge.new.elements
     c.judge.new.keys c.judge.new.listed.items c.in-Whole.element tells in
-    let within = at_within c.args.depth (bytes_of c.args.document) c.levels.invariant.waits c.levels.level.elements c.levels.level.number c.levels.level.offset
-    c.levels.level.start c.levels.invariant.at.at in
-    let size = at_whole_size c.args.depth (bytes_of c.args.document) c.levels.invariant.waits c.levels.level.elements c.judge.new.elements c.levels.level.number
-    c.levels.level.offset c.levels.level.start c.in-Whole.element c.levels.invariant.at.at looks in
+    let within = at_within c.levels.invariant.at.at in
+    let size = at_whole_size c.levels.invariant.at.at c.judge.new.elements c.in-Whole.element looks in
     omega (arith, within.0, size.0, c.ranges.document)
 
 pub levels-smaller-in-Whole : goal.levels-smaller-in-Whole
 levels-smaller-in-Whole c =
-    let tells = told c.args.depth (bytes_of c.args.document) c.levels.invariant.waits c.levels.outer_keys.items c.levels.listed.items c.levels.level.elements
-    c.levels.level.number c.levels.level.offset c.levels.level.start c.levels.keys c.levels.invariant.at c.judge.new.elements c.judge.new.keys
-    c.judge.new.listed.items _ (subst (λ (x : Judged). Judges c.levels.level.elements c.levels.keys c.levels.listed.items c.levels.level.number
-    c.judge.new.elements c.judge.new.keys c.judge.new.listed.items x) c.in-Whole.is c.in_ok-element.ensures.judges) in
-    let looks = looks_whole c.args.depth (bytes_of c.args.document) c.levels.invariant.waits c.levels.outer_keys.items c.levels.listed.items
-    c.levels.level.elements c.levels.level.number c.levels.level.offset c.levels.level.start c.levels.keys c.levels.invariant.at c.judge.new.elements
+    let tells = told_as (goal.at.levels-smaller-in-Whole c).In_ok-element _ c.in-Whole.is in
+    let looks = looks_whole c.levels.invariant.at c.judge.new.elements
     c.judge.new.keys c.judge.new.listed.items c.in-Whole.element tells in
-    let size = at_whole_size c.args.depth (bytes_of c.args.document) c.levels.invariant.waits c.levels.level.elements c.judge.new.elements c.levels.level.number
-    c.levels.level.offset c.levels.level.start c.in-Whole.element c.levels.invariant.at.at looks in
+    let size = at_whole_size c.levels.invariant.at.at c.judge.new.elements c.in-Whole.element looks in
     omega (arith, size.1, c.behind.ensures)
 
 pub levels-preserved-in-Whole : goal.levels-preserved-in-Whole
 levels-preserved-in-Whole c =
-    let tells = told c.args.depth (bytes_of c.args.document) c.levels.invariant.waits c.levels.outer_keys.items c.levels.listed.items c.levels.level.elements
-    c.levels.level.number c.levels.level.offset c.levels.level.start c.levels.keys c.levels.invariant.at c.judge.new.elements c.judge.new.keys
-    c.judge.new.listed.items _ (subst (λ (x : Judged). Judges c.levels.level.elements c.levels.keys c.levels.listed.items c.levels.level.number
-    c.judge.new.elements c.judge.new.keys c.judge.new.listed.items x) c.in-Whole.is c.in_ok-element.ensures.judges) in
+    let tells = told_as (goal.at.levels-preserved-in-Whole c).In_ok-element _ c.in-Whole.is in
     record {
       waits = c.levels.invariant.waits;
       are_stored = c.levels.invariant.are_stored;
-      at = judged_whole c.args.depth (bytes_of c.args.document) c.levels.invariant.waits c.levels.outer_keys.items c.levels.listed.items c.levels.level.elements
-          c.levels.level.number c.levels.level.offset c.levels.level.start c.levels.keys c.levels.invariant.at c.judge.new.elements c.judge.new.keys
+      at = judged_whole c.levels.invariant.at c.judge.new.elements c.judge.new.keys
           c.judge.new.listed.items c.in-Whole.element c.behind.result tells c.behind.ensures;
     }
 
 pub returns-then-len-most_waiting-clause-found : goal.returns-then-len-most_waiting-clause-found
 returns-then-len-most_waiting-clause-found c =
-    let tells = told c.args.depth (bytes_of c.args.document) c.levels.invariant.waits c.levels.outer_keys.items c.levels.listed.items c.levels.level.elements
-    c.levels.level.number c.levels.level.offset c.levels.level.start c.levels.keys c.levels.invariant.at c.judge.new.elements c.judge.new.keys
-    c.judge.new.listed.items _ (subst (λ (x : Judged). Judges c.levels.level.elements c.levels.keys c.levels.listed.items c.levels.level.number
-    c.judge.new.elements c.judge.new.keys c.judge.new.listed.items x) c.in-Inside.is c.in_ok-element.ensures.judges) in
+    let tells = told_as (goal.at.returns-then-len-most_waiting-clause-found c).In_ok-element _ c.in-Inside.is in
     let ws = c.levels.invariant.waits in
     let number = c.levels.level.number in
     let offset = c.levels.level.offset in
     let key : List ℕ = (frame_of c.in-Inside.element).key in
     let many : length ws ≡ length c.levels.waiting.items = stored_many (bytes_of c.args.document) c.levels.waiting.items ws c.levels.invariant.are_stored in
     let full : c.args.depth ≤ suc (length c.levels.waiting.items) = search rules in
-    let deep = judged_deep c.args.depth (bytes_of c.args.document) c.levels.invariant.waits c.levels.outer_keys.items c.levels.listed.items
-    c.levels.level.elements c.levels.level.number c.levels.level.offset c.levels.level.start c.levels.keys c.levels.invariant.at c.judge.new.elements
+    let deep = judged_deep c.levels.invariant.at c.judge.new.elements
     c.judge.new.keys c.judge.new.listed.items c.in-Inside.element c.in-Inside.inner c.in-Inside.is_array tells (omega (arith, full, many)) in
     let place = c.in_ok-place-in-Inside.place in
     let steps : steps_of place ≡ map step_at ws ++ record { number = number; key = Some key } ∷ [] =
@@ -131,50 +116,33 @@ pub overflow_cast-outer-in-Inside-2 : goal.overflow_cast-outer-in-Inside-2
 overflow_cast-outer-in-Inside-2 c =
     omega (
       arith,
-      (at_within c.args.depth (bytes_of c.args.document) c.levels.invariant.waits c.levels.level.elements c.levels.level.number
-          c.levels.level.offset c.levels.level.start c.levels.invariant.at.at).0,
+      (at_within c.levels.invariant.at.at).0,
       envelope_fits (bytes_of c.args.document) c.args.document.envelope,
     )
 
 pub behind-requires-in-Inside : goal.behind-requires-in-Inside
 behind-requires-in-Inside c =
-    let tells = told c.args.depth (bytes_of c.args.document) c.levels.invariant.waits c.levels.outer_keys.items c.levels.listed.items c.levels.level.elements
-    c.levels.level.number c.levels.level.offset c.levels.level.start c.levels.keys c.levels.invariant.at c.judge.new.elements c.judge.new.keys
-    c.judge.new.listed.items _ (subst (λ (x : Judged). Judges c.levels.level.elements c.levels.keys c.levels.listed.items c.levels.level.number
-    c.judge.new.elements c.judge.new.keys c.judge.new.listed.items x) c.in-Inside.is c.in_ok-element.ensures.judges) in
-    let looks = looks_inside c.args.depth (bytes_of c.args.document) c.levels.invariant.waits c.levels.outer_keys.items c.levels.listed.items
-    c.levels.level.elements c.levels.level.number c.levels.level.offset c.levels.level.start c.levels.keys c.levels.invariant.at c.judge.new.elements
+    let tells = told_as (goal.at.behind-requires-in-Inside c).In_ok-element _ c.in-Inside.is in
+    let looks = looks_inside c.levels.invariant.at c.judge.new.elements
     c.judge.new.keys c.judge.new.listed.items c.in-Inside.element c.in-Inside.inner c.in-Inside.is_array tells in
-    let size = at_inside_size c.args.depth (bytes_of c.args.document) c.levels.invariant.waits c.levels.level.elements c.judge.new.elements
-    c.levels.level.number c.levels.level.offset c.levels.level.start c.in-Inside.element c.in-Inside.inner c.levels.invariant.at.at looks in
+    let size = at_inside_size c.levels.invariant.at.at c.judge.new.elements c.in-Inside.element c.in-Inside.inner looks in
     omega (arith, size.1, c.ranges.document)
 
 pub new-level-requires-in-Inside : goal.new-level-requires-in-Inside
 new-level-requires-in-Inside c =
-    let tells = told c.args.depth (bytes_of c.args.document) c.levels.invariant.waits c.levels.outer_keys.items c.levels.listed.items c.levels.level.elements
-    c.levels.level.number c.levels.level.offset c.levels.level.start c.levels.keys c.levels.invariant.at c.judge.new.elements c.judge.new.keys
-    c.judge.new.listed.items _ (subst (λ (x : Judged). Judges c.levels.level.elements c.levels.keys c.levels.listed.items c.levels.level.number
-    c.judge.new.elements c.judge.new.keys c.judge.new.listed.items x) c.in-Inside.is c.in_ok-element.ensures.judges) in
-    let looks = looks_inside c.args.depth (bytes_of c.args.document) c.levels.invariant.waits c.levels.outer_keys.items c.levels.listed.items
-    c.levels.level.elements c.levels.level.number c.levels.level.offset c.levels.level.start c.levels.keys c.levels.invariant.at c.judge.new.elements
+    let tells = told_as (goal.at.new-level-requires-in-Inside c).In_ok-element _ c.in-Inside.is in
+    let looks = looks_inside c.levels.invariant.at c.judge.new.elements
     c.judge.new.keys c.judge.new.listed.items c.in-Inside.element c.in-Inside.inner c.in-Inside.is_array tells in
-    let fits = at_inside_fits c.args.depth (bytes_of c.args.document) c.levels.invariant.waits c.levels.level.elements c.judge.new.elements
-    c.levels.level.number c.levels.level.offset c.levels.level.start c.in-Inside.element c.in-Inside.inner c.levels.invariant.at.at looks in
+    let fits = at_inside_fits c.levels.invariant.at.at c.judge.new.elements c.in-Inside.element c.in-Inside.inner looks in
     omega (arith, fits, c.behind-in-Inside.ensures)
 
 pub levels-smaller-in-Inside : goal.levels-smaller-in-Inside
 levels-smaller-in-Inside c =
-    let tells = told c.args.depth (bytes_of c.args.document) c.levels.invariant.waits c.levels.outer_keys.items c.levels.listed.items c.levels.level.elements
-    c.levels.level.number c.levels.level.offset c.levels.level.start c.levels.keys c.levels.invariant.at c.judge.new.elements c.judge.new.keys
-    c.judge.new.listed.items _ (subst (λ (x : Judged). Judges c.levels.level.elements c.levels.keys c.levels.listed.items c.levels.level.number
-    c.judge.new.elements c.judge.new.keys c.judge.new.listed.items x) c.in-Inside.is c.in_ok-element.ensures.judges) in
-    let looks = looks_inside c.args.depth (bytes_of c.args.document) c.levels.invariant.waits c.levels.outer_keys.items c.levels.listed.items
-    c.levels.level.elements c.levels.level.number c.levels.level.offset c.levels.level.start c.levels.keys c.levels.invariant.at c.judge.new.elements
+    let tells = told_as (goal.at.levels-smaller-in-Inside c).In_ok-element _ c.in-Inside.is in
+    let looks = looks_inside c.levels.invariant.at c.judge.new.elements
     c.judge.new.keys c.judge.new.listed.items c.in-Inside.element c.in-Inside.inner c.in-Inside.is_array tells in
-    let size = at_inside_size c.args.depth (bytes_of c.args.document) c.levels.invariant.waits c.levels.level.elements c.judge.new.elements
-    c.levels.level.number c.levels.level.offset c.levels.level.start c.in-Inside.element c.in-Inside.inner c.levels.invariant.at.at looks in
-    let fits = at_inside_fits c.args.depth (bytes_of c.args.document) c.levels.invariant.waits c.levels.level.elements c.judge.new.elements
-    c.levels.level.number c.levels.level.offset c.levels.level.start c.in-Inside.element c.in-Inside.inner c.levels.invariant.at.at looks in
+    let size = at_inside_size c.levels.invariant.at.at c.judge.new.elements c.in-Inside.element c.in-Inside.inner looks in
+    let fits = at_inside_fits c.levels.invariant.at.at c.judge.new.elements c.in-Inside.element c.in-Inside.inner looks in
     omega (
       arith,
       size.1,
@@ -189,12 +157,8 @@ levels-smaller-in-Inside c =
 -- the level that waits is the one that was judged, behind the element
 pub levels-preserved-in-Inside : goal.levels-preserved-in-Inside
 levels-preserved-in-Inside c =
-    let tells = told c.args.depth (bytes_of c.args.document) c.levels.invariant.waits c.levels.outer_keys.items c.levels.listed.items c.levels.level.elements
-    c.levels.level.number c.levels.level.offset c.levels.level.start c.levels.keys c.levels.invariant.at c.judge.new.elements c.judge.new.keys
-    c.judge.new.listed.items _ (subst (λ (x : Judged). Judges c.levels.level.elements c.levels.keys c.levels.listed.items c.levels.level.number
-    c.judge.new.elements c.judge.new.keys c.judge.new.listed.items x) c.in-Inside.is c.in_ok-element.ensures.judges) in
-    let looks = looks_inside c.args.depth (bytes_of c.args.document) c.levels.invariant.waits c.levels.outer_keys.items c.levels.listed.items
-    c.levels.level.elements c.levels.level.number c.levels.level.offset c.levels.level.start c.levels.keys c.levels.invariant.at c.judge.new.elements
+    let tells = told_as (goal.at.levels-preserved-in-Inside c).In_ok-element _ c.in-Inside.is in
+    let looks = looks_inside c.levels.invariant.at c.judge.new.elements
     c.judge.new.keys c.judge.new.listed.items c.in-Inside.element c.in-Inside.inner c.in-Inside.is_array tells in
     let b = bytes_of c.args.document in
     let ws = c.levels.invariant.waits in
@@ -205,8 +169,7 @@ levels-preserved-in-Inside c =
     let has : HasKeysSoFar c.keys_of.result after (sort_of c.in-Inside.is_array) (texts after) [] =
     subst (λ (xs : List (Bor (List ℕ))). HasKeysSoFar c.keys_of.result xs (sort_of c.in-Inside.is_array) (texts xs) []) c.deref-in-Inside.ensures.value
     c.keys_of.ensures in
-    let opens : IsOpened c.behind-in-Inside.result c.in-Inside.inner c.new-level-in-Inside.result.elements c.new-level-in-Inside.result.number
-    c.new-level-in-Inside.result.offset c.new-level-in-Inside.result.start = record {
+    let opens : IsOpened c.behind-in-Inside.result c.in-Inside.inner c.new-level-in-Inside.result = record {
       left_is = c.new-level-in-Inside.ensures.elements;
       first_is = c.new-level-in-Inside.ensures.number;
       begins = c.new-level-in-Inside.ensures.offset;
@@ -214,31 +177,23 @@ levels-preserved-in-Inside c =
     } in
     let many : length ws ≡ length c.levels.waiting.items = stored_many b c.levels.waiting.items ws c.levels.invariant.are_stored in
     let few : suc (length c.levels.waiting.items) < c.args.depth = search rules in
-    let stored = at_stored c.args.depth b ws c.levels.level.elements c.judge.new.elements c.levels.level.number c.levels.level.offset c.levels.level.start
-    c.behind-in-Inside.result c.in-Inside.element c.in-Inside.inner c.levels.invariant.at.at looks c.behind-in-Inside.ensures w refl refl refl in
+    let stored = at_stored c.levels.invariant.at.at c.judge.new.elements c.behind-in-Inside.result c.in-Inside.element c.in-Inside.inner looks c.behind-in-Inside.ensures w refl refl refl in
     record {
-      waits = ws ++ waiting_then c.args.depth b ws c.levels.level.elements c.judge.new.elements c.levels.level.number c.levels.level.offset c.levels.level.start
-          c.behind-in-Inside.result c.in-Inside.element c.in-Inside.inner c.levels.invariant.at.at looks c.behind-in-Inside.ensures ∷ [];
+      waits = ws ++ waiting_then c.levels.invariant.at.at c.judge.new.elements c.behind-in-Inside.result c.in-Inside.element c.in-Inside.inner looks c.behind-in-Inside.ensures ∷ [];
       are_stored = rw grown (stored_more b c.levels.waiting.items w ws _ c.levels.invariant.are_stored stored);
       at = rw (keys_grown, c.replace-keys.ensures.after)
-          (judged_inside c.args.depth (bytes_of c.args.document) c.levels.invariant.waits c.levels.outer_keys.items c.levels.listed.items
-          c.levels.level.elements c.levels.level.number c.levels.level.offset c.levels.level.start c.levels.keys c.levels.invariant.at c.judge.new.elements
-          c.judge.new.keys after c.in-Inside.element c.in-Inside.inner c.in-Inside.is_array c.behind-in-Inside.result c.new-level-in-Inside.result.elements
-          c.new-level-in-Inside.result.number c.new-level-in-Inside.result.offset c.new-level-in-Inside.result.start c.keys_of.result tells
+          (judged_inside c.levels.invariant.at c.judge.new.elements
+          c.judge.new.keys after c.in-Inside.element c.in-Inside.inner c.in-Inside.is_array c.behind-in-Inside.result c.new-level-in-Inside.result c.keys_of.result tells
           (omega (arith, few, many)) c.behind-in-Inside.ensures opens has);
     }
 
 pub returns-in-Breach-clause-found : goal.returns-in-Breach-clause-found
 returns-in-Breach-clause-found c =
-    let tells = told c.args.depth (bytes_of c.args.document) c.levels.invariant.waits c.levels.outer_keys.items c.levels.listed.items c.levels.level.elements
-    c.levels.level.number c.levels.level.offset c.levels.level.start c.levels.keys c.levels.invariant.at c.judge.new.elements c.judge.new.keys
-    c.judge.new.listed.items _ (subst (λ (x : Judged). Judges c.levels.level.elements c.levels.keys c.levels.listed.items c.levels.level.number
-    c.judge.new.elements c.judge.new.keys c.judge.new.listed.items x) c.in-Breach.is c.in_ok-element.ensures.judges) in
+    let tells = told_as (goal.at.returns-in-Breach-clause-found c).In_ok-element _ c.in-Breach.is in
     let ws = c.levels.invariant.waits in
     let number = c.levels.level.number in
     let key = option_copied c.in-Breach.key in
-    let bad = judged_breach c.args.depth (bytes_of c.args.document) c.levels.invariant.waits c.levels.outer_keys.items c.levels.listed.items
-    c.levels.level.elements c.levels.level.number c.levels.level.offset c.levels.level.start c.levels.keys c.levels.invariant.at c.judge.new.elements
+    let bad = judged_breach c.levels.invariant.at c.judge.new.elements
     c.judge.new.keys c.judge.new.listed.items c.in-Breach.key c.in-Breach.cause tells in
     let place = c.in_ok-place-in-Breach.place in
     let steps : steps_of place ≡ map step_at ws ++ record { number = number; key = key } ∷ [] =
@@ -248,29 +203,19 @@ returns-in-Breach-clause-found c =
 
 pub returns-in_default-pop-clause-found : goal.returns-in_default-pop-clause-found
 returns-in_default-pop-clause-found c =
-    let tells = told c.args.depth (bytes_of c.args.document) c.levels.invariant.waits c.levels.outer_keys.items c.levels.listed.items c.levels.level.elements
-    c.levels.level.number c.levels.level.offset c.levels.level.start c.levels.keys c.levels.invariant.at c.judge.new.elements c.judge.new.keys
-    c.judge.new.listed.items _ (subst (λ (x : Judged). Judges c.levels.level.elements c.levels.keys c.levels.listed.items c.levels.level.number
-    c.judge.new.elements c.judge.new.keys c.judge.new.listed.items x) c.in-End.is c.in_ok-element.ensures.judges) in
-    judged_end c.args.depth (bytes_of c.args.document) c.levels.invariant.waits c.levels.outer_keys.items c.levels.listed.items c.levels.level.elements
-    c.levels.level.number c.levels.level.offset c.levels.level.start c.levels.keys c.levels.invariant.at c.judge.new.elements c.judge.new.keys
+    let tells = told_as (goal.at.returns-in_default-pop-clause-found c).In_ok-element _ c.in-End.is in
+    judged_end c.levels.invariant.at c.judge.new.elements c.judge.new.keys
     c.judge.new.listed.items tells (omega (
       arith,
-      as_many c.args.depth
-          (bytes_of c.args.document) c.levels.invariant.waits c.levels.outer_keys.items c.levels.listed.items c.levels.level.elements c.levels.level.number
-          c.levels.level.offset c.levels.level.start c.levels.keys c.levels.invariant.at,
+      as_many c.levels.invariant.at,
       c.levels.outer_keys.ok.0,
       c.in_default-pop.ensures.cases.0,
     ))
 
 pub returns-in_default-pop-2-clause-found : goal.returns-in_default-pop-2-clause-found
 returns-in_default-pop-2-clause-found c =
-    let tells = told c.args.depth (bytes_of c.args.document) c.levels.invariant.waits c.levels.outer_keys.items c.levels.listed.items c.levels.level.elements
-    c.levels.level.number c.levels.level.offset c.levels.level.start c.levels.keys c.levels.invariant.at c.judge.new.elements c.judge.new.keys
-    c.judge.new.listed.items _ (subst (λ (x : Judged). Judges c.levels.level.elements c.levels.keys c.levels.listed.items c.levels.level.number
-    c.judge.new.elements c.judge.new.keys c.judge.new.listed.items x) c.in-End.is c.in_ok-element.ensures.judges) in
-    judged_end c.args.depth (bytes_of c.args.document) c.levels.invariant.waits c.levels.outer_keys.items c.levels.listed.items c.levels.level.elements
-    c.levels.level.number c.levels.level.offset c.levels.level.start c.levels.keys c.levels.invariant.at c.judge.new.elements c.judge.new.keys
+    let tells = told_as (goal.at.returns-in_default-pop-2-clause-found c).In_ok-element _ c.in-End.is in
+    judged_end c.levels.invariant.at c.judge.new.elements c.judge.new.keys
     c.judge.new.listed.items tells (omega (
       arith,
       stored_many
@@ -281,85 +226,55 @@ returns-in_default-pop-2-clause-found c =
 
 pub behind-level-requires : goal.behind-level-requires
 behind-level-requires c =
-    let tells = told c.args.depth (bytes_of c.args.document) c.levels.invariant.waits c.levels.outer_keys.items c.levels.listed.items c.levels.level.elements
-    c.levels.level.number c.levels.level.offset c.levels.level.start c.levels.keys c.levels.invariant.at c.judge.new.elements c.judge.new.keys
-    c.judge.new.listed.items _ (subst (λ (x : Judged). Judges c.levels.level.elements c.levels.keys c.levels.listed.items c.levels.level.number
-    c.judge.new.elements c.judge.new.keys c.judge.new.listed.items x) c.in-End.is c.in_ok-element.ensures.judges) in
+    let tells = told_as (goal.at.behind-level-requires c).In_ok-element _ c.in-End.is in
     let b = bytes_of c.args.document in
-    let less = stored_less b c.pop-in-End.new.self.items c.in-Some-pop-2.outer c.levels.invariant.waits
-    (subst (λ (ws : List Waiting). StoreEach b ws c.levels.invariant.waits) c.in-Some-pop-2.ensures.items c.levels.invariant.are_stored) in
-    let at : IsAt c.args.depth b (less.0 ++ less.1 ∷ []) c.levels.level.elements c.levels.level.number c.levels.level.offset c.levels.level.start =
-    subst (λ (ws : List Wait). IsAt c.args.depth b ws c.levels.level.elements c.levels.level.number c.levels.level.offset c.levels.level.start) less.2
-    c.levels.invariant.at.at in
-    let looks = looks_end c.args.depth (bytes_of c.args.document) c.levels.invariant.waits c.levels.outer_keys.items c.levels.listed.items
-    c.levels.level.elements c.levels.level.number c.levels.level.offset c.levels.level.start c.levels.keys c.levels.invariant.at c.judge.new.elements
+    let less = popped c.levels.invariant.at.at c.levels.invariant.are_stored c.in-Some-pop-2.ensures.items in
+    let looks = looks_end c.levels.invariant.at c.judge.new.elements
     c.judge.new.keys c.judge.new.listed.items tells in
-    let far = at_over c.args.depth b less.0 less.1 c.levels.level.elements c.judge.new.elements c.levels.level.number c.levels.level.offset c.levels.level.start at looks in
-    (less.1, less.4, far)
+    let far = at_over less.outer less.w less.at c.judge.new.elements looks in
+    (less.w, less.stored, far)
 
 pub levels-smaller : goal.levels-smaller
 levels-smaller c =
-    let tells = told c.args.depth (bytes_of c.args.document) c.levels.invariant.waits c.levels.outer_keys.items c.levels.listed.items c.levels.level.elements
-    c.levels.level.number c.levels.level.offset c.levels.level.start c.levels.keys c.levels.invariant.at c.judge.new.elements c.judge.new.keys
-    c.judge.new.listed.items _ (subst (λ (x : Judged). Judges c.levels.level.elements c.levels.keys c.levels.listed.items c.levels.level.number
-    c.judge.new.elements c.judge.new.keys c.judge.new.listed.items x) c.in-End.is c.in_ok-element.ensures.judges) in
+    let tells = told_as (goal.at.levels-smaller c).In_ok-element _ c.in-End.is in
     let b = bytes_of c.args.document in
-    let less = stored_less b c.pop-in-End.new.self.items c.in-Some-pop-2.outer c.levels.invariant.waits
-    (subst (λ (ws : List Waiting). StoreEach b ws c.levels.invariant.waits) c.in-Some-pop-2.ensures.items c.levels.invariant.are_stored) in
-    let at : IsAt c.args.depth b (less.0 ++ less.1 ∷ []) c.levels.level.elements c.levels.level.number c.levels.level.offset c.levels.level.start =
-    subst (λ (ws : List Wait). IsAt c.args.depth b ws c.levels.level.elements c.levels.level.number c.levels.level.offset c.levels.level.start) less.2
-    c.levels.invariant.at.at in
-    let looks = looks_end c.args.depth (bytes_of c.args.document) c.levels.invariant.waits c.levels.outer_keys.items c.levels.listed.items
-    c.levels.level.elements c.levels.level.number c.levels.level.offset c.levels.level.start c.levels.keys c.levels.invariant.at c.judge.new.elements
+    let less = popped c.levels.invariant.at.at c.levels.invariant.are_stored c.in-Some-pop-2.ensures.items in
+    let looks = looks_end c.levels.invariant.at c.judge.new.elements
     c.judge.new.keys c.judge.new.listed.items tells in
-    let far = at_over c.args.depth b less.0 less.1 c.levels.level.elements c.judge.new.elements c.levels.level.number c.levels.level.offset c.levels.level.start at looks in
-    let goes = c.behind-level.ensures less.1 less.4 far in
+    let far = at_over less.outer less.w less.at c.judge.new.elements looks in
+    let goes = c.behind-level.ensures less.w less.stored far in
     omega (
       arith,
       far,
       goes.offset_is,
-      at_over_within c.args.depth b
-          (less.0 ++ less.1 ∷ []) c.levels.level.elements c.judge.new.elements c.levels.level.number c.levels.level.offset c.levels.level.start at looks,
+      at_over_within less.at c.judge.new.elements looks,
     )
 
 pub levels-preserved : goal.levels-preserved
 levels-preserved c =
-    let tells = told c.args.depth (bytes_of c.args.document) c.levels.invariant.waits c.levels.outer_keys.items c.levels.listed.items c.levels.level.elements
-    c.levels.level.number c.levels.level.offset c.levels.level.start c.levels.keys c.levels.invariant.at c.judge.new.elements c.judge.new.keys
-    c.judge.new.listed.items _ (subst (λ (x : Judged). Judges c.levels.level.elements c.levels.keys c.levels.listed.items c.levels.level.number
-    c.judge.new.elements c.judge.new.keys c.judge.new.listed.items x) c.in-End.is c.in_ok-element.ensures.judges) in
+    let tells = told_as (goal.at.levels-preserved c).In_ok-element _ c.in-End.is in
     let b = bytes_of c.args.document in
-    let less = stored_less b c.pop-in-End.new.self.items c.in-Some-pop-2.outer c.levels.invariant.waits
-    (subst (λ (ws : List Waiting). StoreEach b ws c.levels.invariant.waits) c.in-Some-pop-2.ensures.items c.levels.invariant.are_stored) in
-    let at : IsAt c.args.depth b (less.0 ++ less.1 ∷ []) c.levels.level.elements c.levels.level.number c.levels.level.offset c.levels.level.start =
-    subst (λ (ws : List Wait). IsAt c.args.depth b ws c.levels.level.elements c.levels.level.number c.levels.level.offset c.levels.level.start) less.2
-    c.levels.invariant.at.at in
-    let looks = looks_end c.args.depth (bytes_of c.args.document) c.levels.invariant.waits c.levels.outer_keys.items c.levels.listed.items
-    c.levels.level.elements c.levels.level.number c.levels.level.offset c.levels.level.start c.levels.keys c.levels.invariant.at c.judge.new.elements
+    let less = popped c.levels.invariant.at.at c.levels.invariant.are_stored c.in-Some-pop-2.ensures.items in
+    let looks = looks_end c.levels.invariant.at c.judge.new.elements
     c.judge.new.keys c.judge.new.listed.items tells in
-    let far = at_over c.args.depth b less.0 less.1 c.levels.level.elements c.judge.new.elements c.levels.level.number c.levels.level.offset c.levels.level.start at looks in
+    let far = at_over less.outer less.w less.at c.judge.new.elements looks in
     let ks = c.pop.new.self.items in
     let j = c.in-Some-pop.outer_key in
-    let goes = c.behind-level.ensures less.1 less.4 far in
+    let goes = c.behind-level.ensures less.w less.stored far in
     let held : IsJudgedAt c.args.depth b c.levels.invariant.waits
     (ks ++ j ∷ []) c.levels.listed.items c.levels.level.elements c.levels.level.number c.levels.level.offset c.levels.level.start c.levels.keys =
     subst (λ (x : List KeysSoFar). IsJudgedAt c.args.depth b c.levels.invariant.waits x c.levels.listed.items c.levels.level.elements c.levels.level.number
     c.levels.level.offset c.levels.level.start c.levels.keys) c.in-Some-pop.ensures.items c.levels.invariant.at in
-    let both : IsJudgedAt c.args.depth b (less.0 ++ less.1 ∷ [])
+    let both : IsJudgedAt c.args.depth b (less.outer ++ less.w ∷ [])
     (ks ++ j ∷ []) c.levels.listed.items c.levels.level.elements c.levels.level.number c.levels.level.offset c.levels.level.start c.levels.keys =
     subst (λ (x : List Wait). IsJudgedAt c.args.depth b x
-    (ks ++ j ∷ []) c.levels.listed.items c.levels.level.elements c.levels.level.number c.levels.level.offset c.levels.level.start c.levels.keys) less.2 held
-    in
+    (ks ++ j ∷ []) c.levels.listed.items c.levels.level.elements c.levels.level.number c.levels.level.offset c.levels.level.start c.levels.keys) less.same held in
     let judges = subst (λ (x : Judged). Judges c.levels.level.elements c.levels.keys c.levels.listed.items c.levels.level.number c.judge.new.elements
     c.judge.new.keys c.judge.new.listed.items x) c.in-End.is c.in_ok-element.ensures.judges in
-    let over = told c.args.depth b (less.0 ++ less.1 ∷ [])
-    (ks ++ j ∷ []) c.levels.listed.items c.levels.level.elements c.levels.level.number c.levels.level.offset c.levels.level.start c.levels.keys both
-    c.judge.new.elements c.judge.new.keys c.judge.new.listed.items judged.End judges in
+    let over = told both c.judge.new.elements c.judge.new.keys c.judge.new.listed.items judged.End judges in
     record {
-      waits = less.0;
-      are_stored = less.3;
+      waits = less.outer;
+      are_stored = less.are_stored;
       at = rw (goes.elements_are, goes.number_is, goes.offset_is, goes.start_is)
-          (judged_resumed c.args.depth b less.0 less.1 ks j c.levels.listed.items c.levels.level.elements c.levels.level.number c.levels.level.offset
-          c.levels.level.start c.levels.keys c.in-Some-pop-2.outer both c.judge.new.elements c.judge.new.keys c.judge.new.listed.items c.leave.new.listed.items
-          over c.leave.ensures less.4);
+          (judged_resumed less.outer less.w ks j c.in-Some-pop-2.outer both c.judge.new.elements c.judge.new.keys c.judge.new.listed.items c.leave.new.listed.items over c.leave.ensures less.stored);
     }

@@ -1,0 +1,14 @@
+use Rattle.std.proofs.Common.{◌-◌, length}
+use Rattle.raw_view.specs.Document.{bytes_of}
+use Rattle.raw_form.proofs.Flattening.{IsFlattening}
+use Rattle.raw_form.proofs.Levels.{IsWalking}
+use Rattle.raw_form.proofs.flatten.flatten_to.Given as goal
+
+abbrev pub invariant-events : goal.invariant-events
+invariant-events l =
+    (is : IsWalking l.fn.document l.fn.most_waiting l.walk)
+    × IsFlattening l.fn.most_waiting (bytes_of l.fn.document) l.fn.tokens is.waits l.walk.level.elements l.walk.level.offset l.places.items l.count l.tokens
+
+-- the bytes behind the offset
+abbrev pub decreases-events : goal.decreases-events
+decreases-events l = length (bytes_of l.fn.document) - l.walk.level.offset
