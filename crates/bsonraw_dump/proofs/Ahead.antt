@@ -1,8 +1,15 @@
 -- Bytes that are read ahead.
-use Rattle.std.proofs.Common.{◌≡◌, ℕ, suc, ◌+◌, ◌-◌, ◌≤◌, List, [], ◌∷◌, ◌++◌, Option, None, Some, arith, length, take, drop, min, sym, ap, ◌∙◌, refl, append-nil}
+use Rattle.std.proofs.Common.{◌≡◌, ℕ, suc, ◌+◌, ◌-◌, ◌≤◌, List, [], ◌∷◌, ◌++◌, Option, None, Some, arith, length, length-drop, length-take-le, take, drop, min, sym, ap, ◌∙◌, refl, append-nil}
 use Rattle.std.proofs.lemmas.List.{drop-take, drop-drop, length-take, take-append-drop, take-take}
 use Rattle.std.specs.Io.KnownBytes.{Consumes, IsAtEnd}
-use Rattle.bsonraw_dump.specs.Reading.{Looks, LooksSome}
+use Rattle.bsonraw_dump.specs.Reading.{IsWindow, Looks, Stays, ahead_of}
+use Rattle.bsonraw_dump.specs.declared.window.Window.{Window}
+
+-- how many bytes are ahead
+pub len_ahead : (w : Window) → IsWindow w → length (ahead_of w) ≡ w.len
+len_ahead w is =
+    let size : length (drop w.at w.room.items) ≡ length w.room.items - w.at = length-drop w.at w.room.items in
+    length-take-le w.len (drop w.at w.room.items) (omega arith)
 
 -- some bytes are passed
 pub passed_ahead : (at len n : ℕ) (room : List ℕ) → n ≤ length (take len (drop at room)) → take (len - n) (drop (at + n) room) ≡ drop n (take len (drop at room))
@@ -26,9 +33,6 @@ looks_on a b c x y z p q =
       len = omega arith;
       kept = sym (take-take (length x) (length y) z less) ∙ ap (take (length x)) q.kept ∙ p.kept;
     }
-
-pub fails_on : (a b c : Option (List ℕ)) (x y : List ℕ) → Looks a b x y → LooksSome b c y → LooksSome a c x
-fails_on a b c x y p f before read = f before (p.is_read before read)
 
 -- a reader that is at its end has given all
 pub all_ahead : (s ahead : List ℕ) (r : Option (List ℕ)) → Consumes (Some s) r ahead → IsAtEnd r → s ≡ ahead

@@ -1,10 +1,11 @@
 mod Filling
 mod Ahead
 mod Going
-mod Counting
 mod Skipping
+mod Deciding
 mod Digesting
 mod Writing
 mod Listed
 mod Passing
+mod Stopping
 mod Objects

@@ -1,7 +1,7 @@
 -- What the loop over a level that is listed keeps, and what it tells where it ends.
 use Rattle.std.proofs.Common.{◌≡◌, ◌+◌, ℕ, suc, List, [], ◌∷◌, ◌++◌, Option, None, Some, OnOk, Result, Ok, Err, drop, ap, sym, ◌∙◌, subst, refl, inl, inr, append_assoc, append-nil}
 use Rattle.std.specs.Io.KnownBytes.{Appends}
-use Rattle.std.proofs.KnownBytes.{Appends-nil, Appends-trans}
+use Rattle.std.proofs.KnownBytes.{Appends-trans}
 use Rattle.std.specs.Option.{option_copied}
 use Rattle.raw_form.specs.Looking.{HoldsBytes}
 use Rattle.raw_view.specs.Document.{bytes_of}
@@ -60,15 +60,6 @@ module _ (Nested : List ℕ → List ℕ → Type 0) where
       let nothing : text ≡ [] = subst (λ (y : Option RawDocument). ListsHeld y text) none held in
       (_, inr (fault, shown, means, says, refl), subst (Appends a c) (append-nil _) (Appends-trans a b c _ [] put (subst (Appends b c) nothing more)))
 
-pub listed_none : (inside depth : ℕ) (d : List ℕ) (left out : Option (List ℕ)) → left ≡ Some (drop 4 d) → IsListed inside depth d left out out
-listed_none inside depth d left out is = record {
-  frames = [];
-  text = [];
-  read = subst (HasRead (drop 4 d) []) (sym is) refl;
-  lists = refl;
-  put = Appends-nil out;
-}
-
 read_more : (s : List ℕ) (fs : List Frame) (old new : Option (List ℕ)) (e : RawElement) → HasRead s fs old → StepsFront old (Some (Ok e)) new → HasRead s (fs ++ frame_of e ∷ []) new
 read_more s fs None new e l st = absurd l
 read_more s fs (Some r) new e l st = subst (HasRead s (fs ++ frame_of e ∷ [])) (sym st.2) (LeadsTo-more s fs r (frame_of e) st.0 l st.1)
@@ -96,7 +87,7 @@ listed_end inside depth d (Some s) new old out is steps =
     (is.text, (is.frames, Done, is.text, [], LeadsTo-walk (drop 4 d) is.frames s Done is.read steps.0, is.lists, refl, sym (append-nil is.text)), is.put)
 
 stop_of : (k : ErrorKind) (key : Option (List ℕ)) (s : List ℕ) → StopsWith k key s → (fault : Fault) × IsStop s fault key × SaysFault k fault
-stop_of (kind.MalformedValue reason) key s h = (Malformed, h, refl)
+stop_of (kind.MalformedValue reason) key s h = (Malformed reason, h, refl)
 stop_of (kind.Utf8EncodingError error) key s h = (Utf8, h, refl)
 stop_of kind.OutOfMemory key s h = absurd h
 

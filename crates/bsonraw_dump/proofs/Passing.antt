@@ -1,25 +1,27 @@
 -- How what was passed grows by one more part.
-use Rattle.std.proofs.Common.{◌≡◌, ℕ, ◌+◌, List, [], ◌∷◌, ◌++◌, Bool, true, false, Option, None, Some, IfSome, Result, Ok, Err, IfErr, IsErrAnd, length, length-take-le, drop, take, flat_map, fold, sym, ap, ◌∙◌, subst, refl, append_assoc, append-nil, length-append, add_assoc, add-zero, zero-add}
+use Rattle.std.proofs.Common.{◌≡◌, ℕ, ◌+◌, List, [], ◌∷◌, ◌++◌, Bool, true, Option, None, Some, IfSome, Result, Ok, Err, IfErr, length, length-take-le, drop, take, flat_map, fold, sym, ap, ◌∙◌, subst, refl, append_assoc, append-nil, length-append, add_assoc, add-zero, zero-add}
 use Rattle.std.proofs.Math.Seq.{drop-append_seam}
 use Rattle.std.proofs.lemmas.List.{take-append-drop}
-use Rattle.std.specs.Io.KnownBytes.{Consumes, Appends, Keeps}
-use Rattle.std.proofs.KnownBytes.{Consumes-nil, Appends-kept, Appends-nil, Appends-trans}
-use Rattle.bsonraw_dump.proofs.Going.{ends_all}
+use Rattle.std.specs.Io.KnownBytes.{Consumes, Appends}
+use Rattle.std.proofs.KnownBytes.{Consumes-nil, Appends-nil, Appends-trans}
+use Rattle.bsonraw_dump.proofs.Deciding.{place_since}
 use Rattle.bsonraw_dump.proofs.Skipping.{read_behind}
 use Rattle.bsonraw_dump.proofs.Writing.{writes_none, writes_more}
 use Rattle.std.proofs.lemmas.Grind.{flat_map-append, fold-append}
-use Rattle.bsonraw_dump.specs.Cut.{EndsWith, IsPiece}
-use Rattle.bsonraw_dump.specs.Reading.{Looks, LooksSome, TellsNext, ahead_of}
-use Rattle.bsonraw_dump.specs.Resync.{IsNextPlace, no_work}
-use Rattle.bsonraw_dump.specs.declared.resync.Work.{Work}
-use Rattle.bsonraw_dump.specs.Run.{AreParts, Ends, Entry, Gap, IsEntry, IsGap, IsPart, IsReading, Part, piece, gap, Passed, PassesFront, PassesGap, PassesOne, Reports, Stops, Writes, are_sound, bytes_of_part, bytes_of_parts, made_of_part, made_of_parts, lines_of_part, lines_of_parts, count_entry, count_part, work_behind}
+use Rattle.bsonraw_dump.specs.Cut.{IsPiece}
+use Rattle.bsonraw_dump.specs.Reading.{Looks, ahead_of}
+use Rattle.bsonraw_dump.specs.Resync.{BreaksWith, IsBelieved, IsNextPlace, Spends, TellsPart}
+use Rattle.raw_resync.specs.Seeking.{no_work}
+use Rattle.raw_resync.specs.declared.work.Work.{Work}
+use Rattle.bsonraw_dump.specs.Run.{AreParts, Entry, Gap, IsEntry, IsGap, IsPart, IsReading, IsTaken, Part, piece, gap, Passed, PassesFront, PassesGap, PassesOne, Reports, Writes, bytes_of_part, bytes_of_parts, made_of_part, made_of_parts, lines_of_part, count_entry, count_part, work_behind}
 use Rattle.bsonraw_dump.specs.Told.{ending_line}
 use Rattle.bsonraw_dump.specs.declared.ending.Ending.{Ending}
+use Rattle.bsonraw_dump.specs.declared.ending.Rest.TheVariants as rest
 use Rattle.bsonraw_dump.specs.declared.failure.Failure.{Failure}
 use Rattle.bsonraw_dump.specs.declared.find.Finding.{Finding}
 use Rattle.bsonraw_dump.specs.declared.command.Command.{Command}
 use Rattle.bsonraw_dump.specs.declared.counts.Counts.{Counts}
-use Rattle.bsonraw_dump.specs.declared.digests.Digests.{Digests}
+use Rattle.bsonraw_dump.specs.declared.kept.Kept.{Kept}
 use Rattle.bsonraw_dump.specs.declared.style.Style.{Style}
 use Rattle.bsonraw_dump.specs.declared.window.Next.{Next}
 use Rattle.bsonraw_dump.specs.declared.window.Next.TheVariants as next
@@ -39,7 +41,7 @@ module _ (c : Command) (style : Style) (resync : Bool) (name : List ℕ) where
 one_more : {A : Type 0} (f : Part → List A) (ps : List Part) (p : Part) → flat_map f ps ++ f p ≡ flat_map f (ps ++ p ∷ [])
 one_more f ps p = sym (flat_map-append f ps (p ∷ []) ∙ ap (λ xs. flat_map f ps ++ xs) (append-nil (f p)))
 
-pub passed_none : (c : Command) (style : Style) (resync : Bool) (name : List ℕ) (r d w : Option (List ℕ)) (n : Counts) (k : Digests) → Passed c style resync name [] r r d d w w n n k k []
+pub passed_none : (c : Command) (style : Style) (resync : Bool) (name : List ℕ) (r d w : Option (List ℕ)) (n : Counts) (k : Kept) → Passed c style resync name [] r r d d w w n n k k []
 passed_none c style resync name r d w n k = record {
   parts = tt;
   is_read = Consumes-nil r;
@@ -58,7 +60,7 @@ input_behind bytes x (Some s) (Some rest) P read holds =
     subst P (sym behind) (holds (x ++ rest) refl)
 
 -- more is read ahead
-pub passed_ahead : (c : Command) (style : Style) (resync : Bool) (name x y : List ℕ) (r r' r'' d d' w w' : Option (List ℕ)) (n n' : Counts) (k k' : Digests) (ps : List Part)
+pub passed_ahead : (c : Command) (style : Style) (resync : Bool) (name x y : List ℕ) (r r' r'' d d' w w' : Option (List ℕ)) (n n' : Counts) (k k' : Kept) (ps : List Part)
     → Passed c style resync name x r r' d d' w w' n n' k k' ps → Looks r' r'' x y → Passed c style resync name y r r'' d d' w w' n n' k k' ps
 passed_ahead c style resync name x y r r' r'' d d' w w' n n' k k' ps p looks = record {
   parts = p.parts;
@@ -69,7 +71,7 @@ passed_ahead c style resync name x y r r' r'' d d' w w' n n' k k' ps p looks = r
 }
 
 -- one more part is passed, and these bytes are ahead then
-passed_more : (c : Command) (style : Style) (resync : Bool) (name x y : List ℕ) (r r' r'' d d' d'' w w' w'' : Option (List ℕ)) (n n' n'' : Counts) (k k' k'' : Digests) (ps : List Part) (p : Part)
+passed_more : (c : Command) (style : Style) (resync : Bool) (name x y : List ℕ) (r r' r'' d d' d'' w w' w'' : Option (List ℕ)) (n n' n'' : Counts) (k k' k'' : Kept) (ps : List Part) (p : Part)
     → Passed c style resync name x r r' d d' w w' n n' k k' ps → IsPart c style resync name r (length (bytes_of_parts ps)) (fold work_behind no_work ps) p
     → ((before : Option (List ℕ)) → Consumes before r' x → Consumes before r'' (bytes_of_part p ++ y)) → Writes c (made_of_part p) d' d'' k' k'' → Appends w' w'' (lines_of_part p)
     → n'' ≡ count_part n' p → Passed c style resync name y r r'' d d'' w w'' n n'' k k'' (ps ++ p ∷ [])
@@ -86,193 +88,112 @@ passed_more c style resync name x y r r' r'' d d' d'' w w' w'' n n' n'' k k' k''
 bytes_more : (ps : List Part) (p : Part) → length (bytes_of_parts (ps ++ p ∷ [])) ≡ length (bytes_of_parts ps) + length (bytes_of_part p)
 bytes_more ps p = ap length (sym (one_more bytes_of_part ps p)) ∙ length-append (bytes_of_parts ps) (bytes_of_part p)
 
-sound_more : (ps : List Part) (e : Entry) (end : Option Ending) → are_sound (ps ++ piece e ∷ []) end ≡ are_sound ps end
-sound_more [] e end = refl
-sound_more (piece x ∷ ps) e end = sound_more ps e end
-sound_more (gap x ∷ ps) e end = refl
-
-unsound_more : (ps : List Part) (g : Gap) (end : Option Ending) → are_sound (ps ++ gap g ∷ []) end ≡ false
-unsound_more [] g end = refl
-unsound_more (piece x ∷ ps) g end = unsound_more ps g end
-unsound_more (gap x ∷ ps) g end = refl
-
--- what the loop keeps: parts were passed, the next one begins behind them, what the searches in them cost, and whether there is no gap
-pub record HasPassed (c : Command) (style : Style) (resync : Bool) (name ahead : List ℕ) (r r' d d' w w' : Option (List ℕ)) (n n' : Counts) (k k' : Digests)
-    (offset : ℕ) (work : Work) (sound : Bool) : Type 0 where
+-- what the loop keeps: parts were passed, the next one begins behind them, and what the searches in them cost
+pub record HasPassed (c : Command) (style : Style) (resync : Bool) (name ahead : List ℕ) (r r' d d' w w' : Option (List ℕ)) (n n' : Counts) (k k' : Kept)
+    (offset : ℕ) (work : Work) : Type 0 where
   pub ps : List Part
   pub passed : Passed c style resync name ahead r r' d d' w w' n n' k k' ps
   pub at : offset ≡ length (bytes_of_parts ps)
   pub worked : work ≡ fold work_behind no_work ps
-  pub is_sound : sound ≡ are_sound ps None
 
-pub has_passed_none : (c : Command) (style : Style) (resync : Bool) (name ahead : List ℕ) (r d w : Option (List ℕ)) (n : Counts) (k : Digests) (offset : ℕ) (v : Work)
-    → ahead ≡ [] → offset ≡ 0 → v ≡ no_work → HasPassed c style resync name ahead r r d d w w n n k k offset v true
+pub has_passed_none : (c : Command) (style : Style) (resync : Bool) (name ahead : List ℕ) (r d w : Option (List ℕ)) (n : Counts) (k : Kept) (offset : ℕ) (v : Work)
+    → ahead ≡ [] → offset ≡ 0 → v ≡ no_work → HasPassed c style resync name ahead r r d d w w n n k k offset v
 has_passed_none c style resync name ahead r d w n k offset v none start unworked = record {
   ps = [];
   passed = subst (λ (x : List ℕ). Passed c style resync name x r r d d w w n n k k []) (sym none) (passed_none c style resync name r d w n k);
   at = start;
   worked = unworked;
-  is_sound = refl;
 }
 
 -- a piece in front of the bytes ahead is passed
 pub has_passed_piece : (c : Command) (style : Style) (resync : Bool) (name x y z b : List ℕ) (r r' r'' d d' d'' w w' w'' : Option (List ℕ)) (n n' n'' : Counts)
-    (k k' k'' : Digests) (offset behind len : ℕ) (v : Work) (sound : Bool) (f : Finding)
-    → HasPassed c style resync name x r r' d d' w w' n n' k k' offset v sound → Looks r' r'' x y → IsPiece b → y ≡ b ++ z → length b ≡ len → PassesOne c style name offset b d' d'' w' w'' k' k'' f
-    → ((e : Entry) → length e.bytes ≡ len → e.finding ≡ f → n'' ≡ count_entry n' e) → behind ≡ offset + len
-    → HasPassed c style resync name z r r'' d d'' w w'' n n'' k k'' behind v sound
-has_passed_piece c style resync name x y z b r r' r'' d d' d'' w w' w'' n n' n'' k k' k'' offset behind len v sound f h looks is split size passes counted sum =
+    (k k' k'' : Kept) (offset behind : ℕ) (v v' : Work) (f : Finding)
+    → HasPassed c style resync name x r r' d d' w w' n n' k k' offset v → Looks r' r'' x y → IsPiece b × (y ≡ b ++ z) × (behind ≡ offset + length b)
+    → ((s : List ℕ) → Consumes (Some s) r' x → (resync ≡ true → IsBelieved s offset (length b) v') × Spends s offset v v') → PassesOne c style name offset b d' d'' w' w'' k' k'' f
+    → ((e : Entry) → length e.bytes ≡ length b → e.finding ≡ f → n'' ≡ count_entry n' e)
+    → HasPassed c style resync name z r r'' d d'' w w'' n n'' k k'' behind v'
+has_passed_piece c style resync name x y z b r r' r'' d d' d'' w w' w'' n n' n'' k k' k'' offset behind v v' f h looks (is, split, sum) taken passes counted =
     let (told, found, (made, makes, put), (lines, reports, reported)) = passes in
-    let e : Entry = record { bytes = b; finding = f; told = told; made = made; lines = lines } in
-    let entry : IsEntry c style name (length (bytes_of_parts h.ps)) e =
+    let bytes = bytes_of_parts h.ps in
+    let e : Entry = record { bytes = b; finding = f; told = told; made = made; lines = lines; work = v' } in
+    let entry : IsEntry c style name (length bytes) e =
     record { piece = is; found = found; makes = makes; reports = subst (λ (n : ℕ). Reports c style name n b f told lines) h.at reports } in
+    let here : (s : List ℕ) → Consumes (Some s) r' x → IsTaken resync s offset v e = λ s all. record { believed = (taken s all).0; spends = (taken s all).1 } in
+    let kept : IfSome r (λ s. IsTaken resync (drop (length bytes) s) (length bytes) (fold work_behind no_work h.ps) e) =
+    input_behind bytes x r r' (λ s. IsTaken resync s (length bytes) (fold work_behind no_work h.ps) e) h.passed.is_read
+    (λ s all. subst (λ (u : Work). IsTaken resync s (length bytes) u e) h.worked (subst (λ (m : ℕ). IsTaken resync s m v e) h.at (here s all))) in
     let read : (before : Option (List ℕ)) → Consumes before r' x → Consumes before r'' (b ++ z) = λ before first. subst (Consumes before r'') split (looks.is_read before first) in
     record {
       ps = h.ps ++ piece e ∷ [];
-      passed = passed_more c style resync name x z r r' r'' d d' d'' w w' w'' n n' n'' k k' k'' h.ps (piece e) h.passed entry read put reported (counted e size refl);
-      at = sum ∙ ap (λ k. k + len) h.at ∙ ap (λ k. length (bytes_of_parts h.ps) + k) (sym size) ∙ sym (bytes_more h.ps (piece e));
-      worked = h.worked ∙ sym (fold-append work_behind no_work h.ps (piece e ∷ []));
-      is_sound = h.is_sound ∙ sym (sound_more h.ps e None);
+      passed = passed_more c style resync name x z r r' r'' d d' d'' w w' w'' n n' n'' k k' k'' h.ps (piece e) h.passed (entry, kept) read put reported (counted e refl refl);
+      at = sum ∙ ap (λ m. m + length b) h.at ∙ sym (bytes_more h.ps (piece e));
+      worked = sym (fold-append work_behind no_work h.ps (piece e ∷ []));
     }
 
 -- the document in front of the bytes ahead is passed
 pub has_passed_front : (c : Command) (style : Style) (resync : Bool) (name : List ℕ) (x y z : Window) (r r' r'' d d' d'' w w' w'' : Option (List ℕ))
-    (n n' n'' : Counts) (k k' k'' : Digests) (len : ℕ) (v : Work) (sound : Bool)
-    → HasPassed c style resync name (ahead_of x) r r' d d' w w' n n' k k' x.offset v sound → TellsNext r' r'' x y 0 (next.Document len) → PassesFront c style name len y z d' d'' w' w'' n' n'' k' k''
-    → HasPassed c style resync name (ahead_of z) r r'' d d'' w w'' n n'' k k'' z.offset v sound
-has_passed_front c style resync name x y z r r' r'' d d' d'' w w' w'' n n' n'' k k' k'' len v sound h t p =
+    (n n' n'' : Counts) (k k' k'' : Kept) (len : ℕ) (v v' : Work)
+    → HasPassed c style resync name (ahead_of x) r r' d d' w w' n n' k k' x.offset v → TellsPart resync r' r'' x y v v' (next.Document len)
+    → PassesFront c style name len y z d' d'' w' w'' n' n'' k' k''
+    → HasPassed c style resync name (ahead_of z) r r'' d d'' w w'' n n'' k k'' z.offset v'
+has_passed_front c style resync name x y z r r' r'' d d' d'' w w' w'' n n' n'' k k' k'' len v v' h t p =
     let b = take len (ahead_of y) in
+    let stays = t.searches.stays in
     let split : ahead_of y ≡ b ++ ahead_of z = sym (take-append-drop len (ahead_of y)) ∙ ap (λ l. b ++ l) (sym p.ahead) in
-    let size : length b ≡ len = length-take-le len (ahead_of y) t.is.0 in
-    let passes = subst (λ (m : ℕ). PassesOne c style name m b d' d'' w' w'' k' k'' p.finding) t.offset p.passed in
-    let behind : z.offset ≡ x.offset + len = p.offset ∙ ap (λ m. m + len) t.offset in
-    has_passed_piece c style resync name (ahead_of x) (ahead_of y)
-    (ahead_of z) b r r' r'' d d' d'' w w' w'' n n' n'' k k' k'' x.offset z.offset len v sound p.finding h t.looks t.is.1 split size passes p.is_counted behind
+    let size : length b ≡ len = length-take-le len (ahead_of y) t.ahead.0 in
+    let passes = subst (λ (m : ℕ). PassesOne c style name m b d' d'' w' w'' k' k'' p.finding) stays.offset p.passed in
+    let sum : z.offset ≡ x.offset + length b = p.offset ∙ ap (λ m. m + len) stays.offset ∙ ap (λ m. x.offset + m) (sym size) in
+    has_passed_piece c style resync name (ahead_of x) (ahead_of y) (ahead_of z) b r r' r'' d d' d'' w w' w'' n n' n'' k k' k'' x.offset z.offset v v' p.finding h stays.looks
+    (t.ahead.1, split, sum) (λ s all. (subst (λ (m : ℕ). resync ≡ true → IsBelieved s x.offset m v') (sym size) (t.is s all), t.searches.spends s all)) passes
+    (λ e same found. p.is_counted e (same ∙ size) found)
 
 -- a gap is passed
-pub has_passed_gap : (c : Command) (style : Style) (resync : Bool) (name : List ℕ) (x y z : Window) (r r' r'' q d d' w w' w'' : Option (List ℕ)) (n n' : Counts)
-    (k k' : Digests) (v v' : Work) (sound : Bool) (e : Ending)
-    → HasPassed c style resync name (ahead_of x) r r' d d' w w' n n' k k' x.offset v sound → TellsNext r' r'' x y 0 (next.End e) → resync ≡ true → PassesGap style name e r'' q y z v v' w' w''
-    → HasPassed c style resync name (ahead_of z) r q d d' w w'' n n' k k' z.offset v' false
-has_passed_gap c style resync name x y z r r' r'' q d d' w w' w'' n n' k k' v v' sound e h t asked over =
+pub has_passed_gap : (c : Command) (style : Style) (resync : Bool) (name : List ℕ) (x y z : Window) (r r' r'' q d d' w w' w'' : Option (List ℕ)) (n n' n'' : Counts)
+    (k k' : Kept) (v v' v'' : Work) (e : Ending)
+    → HasPassed c style resync name (ahead_of x) r r' d d' w w' n n' k k' x.offset v → TellsPart resync r' r'' x y v v' (next.End e) → resync ≡ true
+    → PassesGap style name e r'' q y z v' v'' w' w'' n' n''
+    → HasPassed c style resync name (ahead_of z) r q d d' w w'' n n'' k k' z.offset v''
+has_passed_gap c style resync name x y z r r' r'' q d d' w w' w'' n n' n'' k k' v v' v'' e h t asked over =
     let bytes = bytes_of_parts h.ps in
+    let stays = t.searches.stays in
+    let skip = over.skip in
     let p = over.skips.passes in
-    let line = ending_line style name (length bytes) e (Some over.skip) in
-    let g : Gap = record { bytes = p.bytes; end = e; skip = over.skip; work = v'; lines = line } in
-    let read = passed_ahead c style resync name (ahead_of x) (ahead_of y) r r' r'' d d' w w' n n' k k' h.ps h.passed t.looks in
-    let at : y.offset ≡ length bytes = t.offset ∙ h.at in
+    let line = ending_line style name (length bytes) e (rest.PassedOver skip) in
+    let g : Gap = record { bytes = p.bytes; end = e; skip = skip; work = v''; lines = line } in
+    let read = passed_ahead c style resync name (ahead_of x) (ahead_of y) r r' r'' d d' w w' n n' k k' h.ps h.passed stays.looks in
+    let at : y.offset ≡ length bytes = stays.offset ∙ h.at in
+    let here : (s : List ℕ) → Consumes (Some s) r' (ahead_of x) → IsNextPlace s (length bytes) v v'' skip = λ s all.
+    let before : Spends s (length bytes) v v' = subst (λ (m : ℕ). Spends s m v v') h.at (t.searches.spends s all) in
+    place_since s (length bytes) v v' v'' skip before (subst (λ (m : ℕ). IsNextPlace s m v' v'' skip) at (over.skips.is s (stays.looks.is_read (Some s) all))) in
     let is : IsGap style resync name r (length bytes) v g = record {
       asked = asked;
-      ends = input_behind bytes (ahead_of y) r r'' (EndsWith e) read.is_read (λ s all. ends_all e s (ahead_of y) r'' t.is.0 t.is.1 all);
+      breaks = input_behind bytes (ahead_of x) r r' (BreaksWith e) h.passed.is_read t.is;
       len = p.len;
-      next = input_behind bytes (ahead_of y) r r'' (λ s. IsNextPlace s (length bytes) v v' over.skip) read.is_read
-          (λ s all. subst (λ (m : ℕ). IsNextPlace s m v v' over.skip) at (over.skips.is s all));
+      next = input_behind bytes (ahead_of x) r r' (λ s. IsNextPlace s (length bytes) v v'' skip) h.passed.is_read here;
       reports = refl;
     } in
-    let here = subst (λ (u : Work). IsGap style resync name r (length bytes) u g) h.worked is in
-    let told : Appends w' w'' line = subst (λ m. Appends w' w'' (ending_line style name m e (Some over.skip))) at over.told in
+    let gap' = subst (λ (u : Work). IsGap style resync name r (length bytes) u g) h.worked is in
+    let told : Appends w' w'' line = subst (λ m. Appends w' w'' (ending_line style name m e (rest.PassedOver skip))) at over.told in
     record {
       ps = h.ps ++ gap g ∷ [];
-      passed = passed_more c style resync name (ahead_of y) (ahead_of z) r r'' q d d' d' w w' w'' n n' n' k k' k' h.ps (gap g) read here p.is_read (writes_none c d' k') told refl;
-      at = over.skips.offset ∙ ap (λ m. m + over.skip.count) at ∙ ap (λ m. length bytes + m) (sym p.len) ∙ sym (bytes_more h.ps (gap g));
+      passed = passed_more c style resync name (ahead_of y) (ahead_of z) r r'' q d d' d' w w' w'' n n' n'' k k' k' h.ps (gap g) read gap' p.is_read (writes_none c d' k') told over.is_counted;
+      at = over.skips.offset ∙ ap (λ m. m + skip.count) at ∙ ap (λ m. length bytes + m) (sym p.len) ∙ sym (bytes_more h.ps (gap g));
       worked = sym (fold-append work_behind no_work h.ps (gap g ∷ []));
-      is_sound = sym (unsound_more h.ps g None);
-    }
-
-are_unsound : (ps : List Part) (e : Ending) → are_sound ps (Some e) ≡ false
-are_unsound [] e = refl
-are_unsound (piece x ∷ ps) e = are_unsound ps e
-are_unsound (gap x ∷ ps) e = refl
-
--- the input is at its end
-pub ends_whole : (c : Command) (style : Style) (resync : Bool) (name : List ℕ) (x y : Window) (r r' r'' d d' w w' : Option (List ℕ)) (n n' : Counts) (k k' : Digests) (v : Work) (sound : Bool)
-    → HasPassed c style resync name (ahead_of x) r r' d d' w w' n n' k k' x.offset v sound → TellsNext r' r'' x y 0 next.Nothing → Ends c style resync name r r'' d d' w w' n n' k k' sound
-ends_whole c style resync name x y r r' r'' d d' w w' n n' k k' v sound h t = record {
-  ps = h.ps;
-  report_between = w';
-  left = ahead_of y;
-  passed = passed_ahead c style resync name (ahead_of x) (ahead_of y) r r' r'' d d' w w' n n' k k' h.ps h.passed t.looks;
-  end = None;
-  ends = t.is;
-  whole = λ asked. refl;
-  told = Appends-nil w';
-  is_sound = h.is_sound;
-}
-
--- nothing is passed over
-pub ends_unasked : (c : Command) (style : Style) (resync : Bool) (name : List ℕ) (x y : Window) (r r' r'' d d' w w' w'' : Option (List ℕ)) (n n' : Counts)
-    (k k' : Digests) (v : Work) (sound : Bool) (e : Ending)
-    → HasPassed c style resync name (ahead_of x) r r' d d' w w' n n' k k' x.offset v sound → TellsNext r' r'' x y 0 (next.End e) → resync ≡ false
-    → Appends w' w'' (ending_line style name y.offset e None)
-    → Ends c style resync name r r'' d d' w w'' n n' k k' false
-ends_unasked c style resync name x y r r' r'' d d' w w' w'' n n' k k' v sound e h t unasked told = record {
-  ps = h.ps;
-  report_between = w';
-  left = ahead_of y;
-  passed = passed_ahead c style resync name (ahead_of x) (ahead_of y) r r' r'' d d' w w' n n' k k' h.ps h.passed t.looks;
-  end = Some e;
-  ends = t.is;
-  whole = λ asked. let no : false ≡ true = sym unasked ∙ asked in let impossible : ⊥ = cc in absurd impossible;
-  told = subst (λ m. Appends w' w'' (ending_line style name m e None)) (t.offset ∙ h.at) told;
-  is_sound = sym (are_unsound h.ps e);
-}
-
--- behind these bytes some more are read
-left_some : (bytes x : List ℕ) (r r' r'' : Option (List ℕ)) → Consumes r r' (bytes ++ x) → LooksSome r' r'' x → (more : List ℕ) × Consumes r r'' (bytes ++ more)
-left_some bytes x None r' r'' read some = ([], tt)
-left_some bytes x (Some s) None r'' read some = absurd read
-left_some bytes x (Some s) (Some rest) None read some = absurd ((some (Some (x ++ rest)) refl).1)
-left_some bytes x (Some s) (Some rest) (Some left) read some =
-    let (more, is) = some (Some (x ++ rest)) refl in
-    (more, read ∙ append_assoc bytes x rest ∙ ap (λ l. bytes ++ l) is ∙ sym (append_assoc bytes more left))
-
--- reading fails where some bytes are ahead
-pub stops_reading : (c : Command) (style : Style) (resync : Bool) (name x : List ℕ) (r r' r'' d d' w w' : Option (List ℕ)) (n n' : Counts) (k k' : Digests) (offset : ℕ) (v : Work) (sound : Bool)
-    → HasPassed c style resync name x r r' d d' w w' n n' k k' offset v sound → LooksSome r' r'' x → Stops c style resync name r r'' d d' w w' n n' k k'
-stops_reading c style resync name x r r' r'' d d' w w' n n' k k' offset v sound h some =
-    let (more, read) = left_some (bytes_of_parts h.ps) x r r' r'' h.passed.is_read some in
-    record {
-      ps = h.ps;
-      ahead = more;
-      passed = record { parts = h.passed.parts; is_read = read; is_written = h.passed.is_written; is_reported = h.passed.is_reported; is_counted = h.passed.is_counted };
-    }
-
--- the same where the report is kept
-pub stops_kept : (c : Command) (style : Style) (resync : Bool) (name x : List ℕ) (r r' r'' d d' w w' w'' : Option (List ℕ)) (n n' : Counts) (k k' : Digests) (offset : ℕ) (v : Work) (sound : Bool)
-    → HasPassed c style resync name x r r' d d' w w' n n' k k' offset v sound → LooksSome r' r'' x × Keeps w' w'' → Stops c style resync name r r'' d d' w w'' n n' k k'
-stops_kept c style resync name x r r' r'' d d' w w' w'' n n' k k' offset v sound h (some, kept) =
-    let (more, read) = left_some (bytes_of_parts h.ps) x r r' r'' h.passed.is_read some in
-    record {
-      ps = h.ps;
-      ahead = more;
-      passed = record {
-        parts = h.passed.parts;
-        is_read = read;
-        is_written = h.passed.is_written;
-        is_reported = Appends-kept w w' w'' (lines_of_parts h.ps) h.passed.is_reported kept;
-        is_counted = h.passed.is_counted;
-      };
     }
 
 -- what is next was told, and nothing is passed yet
-pub has_passed_ahead : (c : Command) (style : Style) (resync : Bool) (name : List ℕ) (x y : Window) (r r' r'' d d' w w' : Option (List ℕ)) (n n' : Counts) (k k' : Digests)
-    (v : Work) (sound : Bool) (told : Next)
-    → HasPassed c style resync name (ahead_of x) r r' d d' w w' n n' k k' x.offset v sound → TellsNext r' r'' x y 0 told
-    → HasPassed c style resync name (ahead_of y) r r'' d d' w w' n n' k k' y.offset v sound
-has_passed_ahead c style resync name x y r r' r'' d d' w w' n n' k k' v sound told h t = record {
+pub has_passed_ahead : (c : Command) (style : Style) (resync : Bool) (name : List ℕ) (x y : Window) (r r' r'' d d' w w' : Option (List ℕ)) (n n' : Counts) (k k' : Kept)
+    (v v' : Work) (told : Next)
+    → HasPassed c style resync name (ahead_of x) r r' d d' w w' n n' k k' x.offset v → TellsPart resync r' r'' x y v v' told
+    → HasPassed c style resync name (ahead_of y) r r'' d d' w w' n n' k k' y.offset v
+has_passed_ahead c style resync name x y r r' r'' d d' w w' n n' k k' v v' told h t = record {
   ps = h.ps;
-  passed = passed_ahead c style resync name (ahead_of x) (ahead_of y) r r' r'' d d' w w' n n' k k' h.ps h.passed t.looks;
-  at = t.offset ∙ h.at;
+  passed = passed_ahead c style resync name (ahead_of x) (ahead_of y) r r' r'' d d' w w' n n' k k' h.ps h.passed t.searches.stays.looks;
+  at = t.searches.stays.offset ∙ h.at;
   worked = h.worked;
-  is_sound = h.is_sound;
 }
 
 -- a failure of any kind
 pub if_err_reading : {A : Type 0} (r : Result A Failure) (P : Type 0) → P → IfErr r (λ failure. IsReading failure → P)
 if_err_reading (Ok x) P is = tt
 if_err_reading (Err e) P is = λ reading. is
-
--- a failure that is passed on
-pub if_err_same : {A : Type 0} (r : Result A Failure) (f : Failure) (P : Type 0) → IsErrAnd r (λ e. e ≡ f) → (IsReading f → P) → IfErr r (λ failure. IsReading failure → P)
-if_err_same (Ok x) f P same is = tt
-if_err_same (Err e) f P same is = λ reading. is (subst IsReading same reading)

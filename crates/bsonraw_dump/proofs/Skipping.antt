@@ -1,14 +1,23 @@
 -- Bytes that are passed over, one after the other.
-use Rattle.std.proofs.Common.{◌≡◌, ℕ, zero, suc, ◌+◌, ◌<◌, ◌≤◌, ◌⊎◌, List, [], ◌++◌, Option, None, Some, Bool, true, false, Result, Ok, Err, IfErr, arith, length, take, drop, sym, ap, ◌∙◌, subst, refl, inl, inr, append_assoc, length-append, length-take-le}
-use Rattle.std.proofs.lemmas.List.{take-append-drop}
-use Rattle.std.proofs.Math.Nat.{eq-or-lt_of_le}
+use Rattle.std.proofs.Common.{◌≡◌, ℕ, ◌+◌, ◌-◌, ◌<◌, ◌≤◌, List, [], ◌++◌, Option, None, Some, Bool, true, false, ◌&&◌, not, Result, Ok, Err, IfErr, arith, length, take, drop, sym, ap, ◌∙◌, subst, refl, inl, inr, append_assoc, length-append, length-drop, length-take-le, add_assoc, add-zero}
+use Rattle.std.proofs.lemmas.List.{drop-drop, take-append-drop}
 use Rattle.std.proofs.Math.Seq.{drop-append_seam}
-use Rattle.std.specs.Io.KnownBytes.{Consumes}
-use Rattle.bsonraw_dump.specs.Reading.{IsWindow, Looks, LooksSome, ReadsSome, ahead_of}
-use Rattle.bsonraw_dump.specs.Resync.{Checks, GoesOn, HasNoneBefore, IsWork, Passes, Searches, SkipsTo, TellsPlace}
-use Rattle.bsonraw_dump.specs.declared.resync.Work.{Work}
+use Rattle.std.specs.Io.KnownBytes.{Consumes, IsAtEnd}
+use Rattle.raw_tree.specs.declared.reader.limits.Limits.{Limits}
+use Rattle.raw_resync.specs.Resync.{GoesOn, GoesOnWith}
+use Rattle.raw_resync.specs.Charge.{Charges, IsBounded}
+use Rattle.raw_resync.specs.Seeking.{IsWork, MayFollow, PassesOver, Seeks, TellsSought}
+use Rattle.raw_resync.specs.declared.search.Places.{Places}
+use Rattle.raw_resync.specs.declared.search.Sought.{Sought}
+use Rattle.raw_resync.specs.declared.search.Sought.TheVariants as sought
+use Rattle.raw_resync.specs.declared.work.Work.{Work}
+use Rattle.raw_resync.proofs.Face.{charges_further, charges_none, charges_on, passes_join, passes_since, spent_more}
+use Rattle.raw_resync.proofs.Face as face
+use Rattle.bsonraw_dump.specs.Find.{limits}
+use Rattle.bsonraw_dump.specs.Reading.{GoesAhead, IsWindow, Looks, Passes, SeesAhead, Stays, ahead_of}
+use Rattle.bsonraw_dump.specs.Resync.{IsNextPlace, SkipsTo, Spends}
+use Rattle.bsonraw_dump.specs.declared.resync.Skip.{Skip}
 use Rattle.bsonraw_dump.specs.declared.window.Window.{Window}
-use Rattle.bsonraw_dump.proofs.Going.{checked_goes, checked_stops}
 
 -- behind these bytes more is read ahead
 pub read_behind : (bytes x y : List ℕ) (r r' r'' : Option (List ℕ)) → Consumes r r' (bytes ++ x)
@@ -23,25 +32,6 @@ read_behind bytes x y (Some s) (Some rest) (Some left) read more =
 pub passes_none : (r : Option (List ℕ)) (x : List ℕ) → Passes r r x x 0
 passes_none r x = record { bytes = []; len = refl; is_read = λ before read. read }
 
--- behind these bytes some more are read
-pub reads_behind : (bytes x : List ℕ) (r r' r'' : Option (List ℕ)) → Consumes r r' (bytes ++ x) → LooksSome r' r'' x → ReadsSome r r''
-reads_behind bytes x None r' r'' read more = ([], tt)
-reads_behind bytes x (Some s) None r'' read more = absurd read
-reads_behind bytes x (Some s) (Some rest) None read more = absurd ((more (Some (x ++ rest)) refl).1)
-reads_behind bytes x (Some s) (Some rest) (Some left) read more =
-    let (t, is) = more (Some (x ++ rest)) refl in
-    (bytes ++ t, read ∙ append_assoc bytes x rest ∙ ap (λ l. bytes ++ l) is ∙ sym (append_assoc bytes t left))
-
-pub passes_some : (r r' r'' : Option (List ℕ)) (x y : List ℕ) (n : ℕ) → Passes r r' x y n → LooksSome r' r'' y → LooksSome r r'' x
-passes_some r r' r'' x y n p more before read = reads_behind p.bytes y before r' r'' (p.is_read before read) more
-
-pub passes_read : (r r' : Option (List ℕ)) (x y : List ℕ) (n : ℕ) → Passes r r' x y n → LooksSome r r' x
-passes_read r r' x y n p before read = (p.bytes ++ y, p.is_read before read)
-
-pub if_err : {A E : Type 0} (r : Result A E) (P : Type 0) → P → IfErr r (λ _. P)
-if_err (Ok x) P is = tt
-if_err (Err e) P is = is
-
 -- more is read ahead
 pub passes_ahead : (r r' r'' : Option (List ℕ)) (x y z : List ℕ) (n : ℕ) → Passes r r' x y n → Looks r' r'' y z → Passes r r'' x z n
 passes_ahead r r' r'' x y z n p looks = record {
@@ -50,15 +40,24 @@ passes_ahead r r' r'' x y z n p looks = record {
   is_read = λ before read. read_behind p.bytes y z before r' r'' (p.is_read before read) looks.is_read;
 }
 
--- one more byte is passed over
-pub passes_more : (r r' : Option (List ℕ)) (x y z : List ℕ) (n : ℕ) → Passes r r' x y n → 0 < length y → z ≡ drop 1 y → Passes r r' x z (n + 1)
-passes_more r r' x y z n p some is =
-    let one : length (take 1 y) ≡ 1 = length-take-le 1 y (omega arith) in
-    let whole : y ≡ take 1 y ++ z = sym (take-append-drop 1 y) ∙ ap (λ l. take 1 y ++ l) (sym is) in
+-- so many were passed, and more is read ahead
+pub goes_ahead : (r r' r'' : Option (List ℕ)) (x z w : Window) (n : ℕ) → Passes r r' (ahead_of x) (ahead_of z) n → z.offset ≡ x.offset + n → Stays r' r'' z w → GoesAhead r r'' x w
+goes_ahead r r' r'' x z w n passes at stays = record {
+  window = stays.window;
+  count = n;
+  offset = stays.offset ∙ at;
+  passes = passes_ahead r r' r'' (ahead_of x) (ahead_of z) (ahead_of w) n passes stays.looks;
+}
+
+-- more bytes are passed over
+pub passes_more : (r r' : Option (List ℕ)) (x y z : List ℕ) (n k : ℕ) → Passes r r' x y n → k ≤ length y → z ≡ drop k y → Passes r r' x z (n + k)
+passes_more r r' x y z n k p some is =
+    let size : length (take k y) ≡ k = length-take-le k y some in
+    let whole : y ≡ take k y ++ z = sym (take-append-drop k y) ∙ ap (λ l. take k y ++ l) (sym is) in
     record {
-      bytes = p.bytes ++ take 1 y;
-      len = length-append p.bytes (take 1 y) ∙ ap (λ m. m + length (take 1 y)) p.len ∙ ap (λ m. n + m) one;
-      is_read = λ before read. subst (Consumes before r') (ap (λ l. p.bytes ++ l) whole ∙ sym (append_assoc p.bytes (take 1 y) z)) (p.is_read before read);
+      bytes = p.bytes ++ take k y;
+      len = length-append p.bytes (take k y) ∙ ap (λ m. m + length (take k y)) p.len ∙ ap (λ m. n + m) size;
+      is_read = λ before read. subst (Consumes before r') (ap (λ l. p.bytes ++ l) whole ∙ sym (append_assoc p.bytes (take k y) z)) (p.is_read before read);
     }
 
 -- what is left behind the bytes that are passed over
@@ -71,106 +70,167 @@ left_behind r (Some rest) x y s n p read =
     let len : length p.bytes ≡ n = p.len in
     (behind, omega arith)
 
--- there is no place before the first byte behind the start
-pub none_before : (s : List ℕ) → HasNoneBefore s 1
-none_before s j some less = absurd (omega arith)
+-- what follows the bytes ahead: nothing, where the input is at its end
+pub follows : (s ahead : List ℕ) (r : Option (List ℕ)) (last : Bool) → Consumes (Some s) r ahead → (last ≡ true → IsAtEnd r) → (rest : List ℕ) × (s ≡ ahead ++ rest) × MayFollow last rest
+follows s ahead None last read ends = absurd read
+follows s ahead (Some rest) last read ends = (rest, read, ends)
 
-none_more : (s : List ℕ) (n : ℕ) → HasNoneBefore s n → ¬ GoesOn (drop n s) → HasNoneBefore s (suc n)
-none_more s n none not j some less =
-    elim (eq-or-lt_of_le {n = j} {m = n} (omega arith)) [
-      | inl same ↦ subst (λ k. ¬ GoesOn (drop k s)) (sym same) not
-      | inr before ↦ none j some before
-    ]
+-- what was searched of all that is left: the places from the second on and before one, at no cost that is over the bound
+pub record IsCovered (s : List ℕ) (at : ℕ) (old new : Work) (to : ℕ) (all : Bool) : Type 0 where
+  pub over : PassesOver limits (at + length s) s 1 to 0 new all
+  pub spends : Spends s at old new
 
--- where each place was checked, documents go on at none of them
-none_searched : (s : List ℕ) (at : ℕ) (old new : Work) (n : ℕ) (all : Bool) → Searches s at old new n all → all ≡ true → HasNoneBefore s (suc n)
-none_searched s at old new zero all is checked = none_before s
-none_searched s at old new (suc n) all (mid, before, searches, inl (stops, same)) checked =
-    none_more s (suc n) (none_searched s at old mid n before searches (sym same ∙ checked)) (checked_stops (drop (suc n) s) (at + suc n) mid new stops)
-none_searched s at old new (suc n) all (mid, before, searches, inr (left, not)) checked = let impossible : ⊥ = cc in absurd impossible
-
--- what the loop keeps: bytes are passed over, more are ahead, and the places in those were searched
-pub record IsSearched (r r' : Option (List ℕ)) (x y : Window) (old new : Work) (n : ℕ) (all : Bool) : Type 0 where
+-- what the loop keeps: so many bytes are passed over, more are ahead, and the places before this one of those were searched
+pub record IsSearched (r r' : Option (List ℕ)) (x y : Window) (old new : Work) (from : ℕ) (last all : Bool) : Type 0 where
+  pub n : ℕ
   pub window : IsWindow y
   pub work : IsWork new
   pub offset : y.offset ≡ x.offset + n
-  pub some : 0 < length (ahead_of y)
+  pub start : 1 ≤ n + from
+  pub within : from ≤ length (ahead_of y)
+  pub ends : last ≡ true → IsAtEnd r'
   pub passes : Passes r r' (ahead_of x) (ahead_of y) n
-  pub searches : (s : List ℕ) → Consumes (Some s) r (ahead_of x) → Searches s x.offset old new n all
+  pub searches : (s : List ℕ) → Consumes (Some s) r (ahead_of x) → IsCovered s x.offset old new (n + from) all
 
-pub searched_none : (r : Option (List ℕ)) (x : Window) (w : Work) → IsWindow x → IsWork w → 0 < length (ahead_of x) → IsSearched r r x x w w 0 true
+pub searched_none : (r : Option (List ℕ)) (x : Window) (w : Work) → IsWindow x → IsWork w → 0 < length (ahead_of x) → IsSearched r r x x w w 1 false true
 searched_none r x w is work some = record {
+  n = 0;
   window = is;
   work = work;
   offset = omega arith;
-  some = some;
+  start = omega arith;
+  within = omega (arith, some);
+  ends = λ is. let impossible : ⊥ = cc in absurd impossible;
   passes = passes_none r (ahead_of x);
-  searches = λ s read. (refl, refl);
+  searches = λ s read. record {
+    over = face.passes_none limits (x.offset + length s) s 1 0 w;
+    spends = record { charges = charges_none limits s w; bounded = λ bound. bound };
+  };
 }
 
-some_judged : (j : Option Bool) (P : Type 0) → ¬ (j ≡ Some true) → (j ≡ Some true) ⊎ P → P
-some_judged j P not (inl found) = absurd (not found)
-some_judged j P not (inr is) = is
+nothing_from : (j : ℕ) → 0 - j ≡ 0
+nothing_from j = omega arith
 
--- a byte is passed, and the place behind it is checked
-module _ (r r' r'' : Option (List ℕ)) (x y z w : Window) (old mid new : Work) (n : ℕ) (all : Bool) (is : IsSearched r r' x y old mid n all)
-    (one : ahead_of z ≡ drop 1 (ahead_of y)) (at : z.offset ≡ y.offset + 1) (judged : Option Bool) (place : TellsPlace r' r'' z w mid new judged) where
-  first : Passes r r' (ahead_of x) (ahead_of z) (n + 1)
-  first = passes_more r r' (ahead_of x) (ahead_of y) (ahead_of z) n is.passes is.some one
+-- bytes are passed over up to here
+next_place : (s : List ℕ) (at : ℕ) (old new : Work) (n place : ℕ) (all : Bool) (skip : Skip) → 1 ≤ n + place → n + place ≤ length s → GoesOnWith limits (0 - place) (drop place (drop n s))
+    → IsCovered s at old new (n + place) all → skip.count ≡ n + place → skip.all ≡ all → IsNextPlace s at old new skip
+next_place s at old new n place all skip some within goes done count both =
+    let none : 0 - place ≡ 0 = omega arith in
+    let here = subst (λ m. GoesOn limits (drop m s)) (sym count) (subst (GoesOn limits) (drop-drop place n s) (subst (λ m. GoesOnWith limits m (drop place (drop n s))) none goes)) in
+    let over = done.over in
+    record {
+      some = omega (arith, count, some);
+      within = subst (λ m. m ≤ length s) (sym count) within;
+      goes_on = here;
+      passed = λ j low high. elim (over.each j low (omega (arith, high, count))) [
+        | inl not ↦ inl (subst (λ m. ¬ GoesOnWith limits m (drop j s)) (nothing_from j) not)
+        | inr left ↦ inr left
+      ];
+      all = λ is j low high. subst (λ m. ¬ GoesOnWith limits m (drop j s)) (nothing_from j) (over.whole (sym both ∙ is) j low (omega (arith, high, count)));
+      left = λ is. let (j, low, high, left) = over.some (sym both ∙ is) in (j, low, omega (arith, high, count), left);
+      spends = done.spends;
+    }
 
-  over : Passes r r'' (ahead_of x) (ahead_of w) (n + 1)
-  over = passes_ahead r r' r'' (ahead_of x) (ahead_of z) (ahead_of w) (n + 1) first place.stays.looks
+-- a search in the bytes ahead
+module _ (r r' : Option (List ℕ)) (x y : Window) (old mid new : Work) (from : ℕ) (last all : Bool) (is : IsSearched r r' x y old mid from last all) (q : Places)
+    (begin : q.from ≡ from) (end : q.end ≡ 0) where
+  -- all that is left, as its front that was passed, the bytes ahead, and what follows them
+  whole : (s : List ℕ) → Consumes (Some s) r (ahead_of x) → (rest : List ℕ) × (drop is.n s ≡ ahead_of y ++ rest) × MayFollow last rest × (y.offset + length (drop is.n s) ≡ x.offset + length s)
+  whole s read =
+      let (left, within) = left_behind r r' (ahead_of x) (ahead_of y) s is.n is.passes read in
+      let (rest, split, may) = follows (drop is.n s) (ahead_of y) r' last left is.ends in
+      let size : length (drop is.n s) ≡ length s - is.n = length-drop is.n s in
+      (rest, split, may, omega (arith, size, within, is.offset))
 
-  there : z.offset ≡ x.offset + (n + 1)
-  there = let before : y.offset ≡ x.offset + n = is.offset in omega arith
+  module _ (told : Sought) (seeks : Seeks limits (ahead_of y) last y.offset q mid new told) where
+    -- what it tells of all that is left
+    tells : (s : List ℕ) → Consumes (Some s) r (ahead_of x) → TellsSought limits (ahead_of y) last (x.offset + length s) (drop is.n s) q new told
+    tells s read =
+        let (rest, split, may, total) = whole s read in
+        let here = seeks.tells rest may in
+        let here' = subst (λ t. TellsSought limits (ahead_of y) last (y.offset + length t) t q new told) (sym split) here in
+        subst (λ n. TellsSought limits (ahead_of y) last n (drop is.n s) q new told) total here'
 
-  checks : (s : List ℕ) → Consumes (Some s) r (ahead_of x) → Checks (drop (n + 1) s) (x.offset + (n + 1)) mid new judged
-  checks s read = subst (λ m. Checks (drop (n + 1) s) m mid new judged) there (place.checks (drop (n + 1) s) ((left_behind r r' (ahead_of x) (ahead_of z) s (n + 1) first read).0))
+    charged : (s : List ℕ) → Consumes (Some s) r (ahead_of x) → Charges limits s mid new
+    charged s read =
+        let (rest, split, may, total) = whole s read in
+        charges_further limits is.n s mid new (subst (λ t. Charges limits t mid new) (sym split) (seeks.works.charges rest may))
+
+    bounded : (s : List ℕ) → Consumes (Some s) r (ahead_of x) → IsBounded (x.offset + length s) mid → IsBounded (x.offset + length s) new
+    bounded s read =
+        let (rest, split, may, total) = whole s read in
+        let here = subst (λ t. IsBounded (y.offset + length t) mid → IsBounded (y.offset + length t) new) (sym split) (seeks.works.bounded rest may) in
+        subst (λ n. IsBounded n mid → IsBounded n new) total here
+
+    -- the places before another were searched, too
+    searched : (place : ℕ) (more : Bool) (s : List ℕ) (read : Consumes (Some s) r (ahead_of x)) → from ≤ place
+        → PassesOver limits (x.offset + length s) (drop is.n s) q.from place q.end new more → IsCovered s x.offset old new (is.n + place) (all && more)
+    searched place more s read high over =
+        let before = is.searches s read in
+        let here = charged s read in
+        let over' = subst (λ n. PassesOver limits (x.offset + length s) (drop is.n s) from place n new more) end
+        (subst (λ n. PassesOver limits (x.offset + length s) (drop is.n s) n place q.end new more) begin over) in
+        record {
+          over = passes_join limits (x.offset + length s) 1 is.n from place s new all more is.start high
+              (passes_since limits (x.offset + length s) s 1 (is.n + from) 0 mid new all (spent_more limits s mid new here) before.over) over';
+          spends = record {
+            charges = charges_on limits s old mid new before.spends.charges here;
+            bounded = λ bound. bounded s read (before.spends.bounded bound);
+          };
+        }
+
+  -- it wants more, and more is read
+  pub searched_on : (r'' : Option (List ℕ)) (z w : Window) (place n want : ℕ) (more there : Bool) → Seeks limits (ahead_of y) last y.offset q mid new (sought.Wants place n more) → IsWork new
+      → ahead_of z ≡ drop place (ahead_of y) → z.offset ≡ y.offset + place → SeesAhead r' r'' z w want there → (last' : Bool) → (last' ≡ true → there ≡ false)
+      → IsSearched r r'' x w old new 0 last' (all && more)
+  searched_on r'' z w place n want more there seeks work passed at sees last' ends =
+      let told = seeks.tells [] (λ yes. refl) in
+      let low : from ≤ place = subst (λ m. m ≤ place) begin told.0 in
+      record {
+        n = is.n + place;
+        window = sees.window;
+        work = work;
+        offset = sees.offset ∙ at ∙ ap (λ m. m + place) is.offset ∙ add_assoc x.offset is.n place;
+        start = omega (arith, is.start, low);
+        within = omega arith;
+        ends = λ yes. (sees.ends (ends yes)).1;
+        passes = passes_ahead r r' r'' (ahead_of x) (ahead_of z) (ahead_of w) (is.n + place)
+            (passes_more r r' (ahead_of x) (ahead_of y) (ahead_of z) is.n place is.passes told.2 passed) sees.looks;
+        searches = λ s read.
+            let here = tells (sought.Wants place n more) seeks s read in
+            subst (λ m. IsCovered s x.offset old new m (all && more)) (sym (add-zero (is.n + place)))
+            (searched (sought.Wants place n more) seeks place more s read low here.4);
+      }
 
   -- documents go on there
-  pub searched_to : judged ≡ Some true → SkipsTo r r'' x w old new (record { count = n + 1; all = all })
-  searched_to found = record {
-    window = place.stays.window;
-    offset = place.stays.offset ∙ there;
-    work = place.work;
-    passes = over;
-    is = λ s read.
-        let goes = subst (λ j. Checks (drop (n + 1) s) (x.offset + (n + 1)) mid new j) found (checks s read) in
-        let searches = is.searches s read in record {
-          some = omega arith;
-          within = (left_behind r r' (ahead_of x) (ahead_of z) s (n + 1) first read).1;
-          goes_on = checked_goes (drop (n + 1) s) (x.offset + (n + 1)) mid new goes;
-          first = λ checked. let next : suc n ≡ n + 1 = omega arith in subst (HasNoneBefore s) next (none_searched s x.offset old mid n all searches checked);
-          before = n;
-          count = omega arith;
-          mid = mid;
-          searches = searches;
-          checks = goes;
-        };
-  }
+  pub searched_to : (z : Window) (place : ℕ) (more : Bool) (skip : Skip) → Seeks limits (ahead_of y) last y.offset q mid new (sought.Found place more) → IsWork new
+      → IsWindow z → ahead_of z ≡ drop place (ahead_of y) → z.offset ≡ y.offset + place → skip.count ≡ is.n + place → skip.all ≡ (all && more) → SkipsTo r r' x z old new skip
+  searched_to z place more skip seeks work window passed at count both =
+      let told = seeks.tells [] (λ yes. refl) in
+      let low : from ≤ place = subst (λ m. m ≤ place) begin told.0 in
+      let over = passes_more r r' (ahead_of x) (ahead_of y) (ahead_of z) is.n place is.passes told.2 passed in
+      record {
+        window = window;
+        offset = at ∙ ap (λ m. m + place) is.offset ∙ add_assoc x.offset is.n place ∙ ap (λ m. x.offset + m) (sym count);
+        work = work;
+        passes = subst (Passes r r' (ahead_of x) (ahead_of z)) (sym count) over;
+        is = λ s read.
+            let here = tells (sought.Found place more) seeks s read in
+            let done = searched (sought.Found place more) seeks place more s read low here.4 in
+            let goes = subst (λ m. GoesOnWith limits m (drop place (drop is.n s))) (ap (λ e. e - place) end) here.3 in
+            let within = (left_behind r r' (ahead_of x) (ahead_of z) s (is.n + place) over read).1 in
+            next_place s x.offset old new is.n place (all && more) skip (omega (arith, is.start, low)) within goes done count both;
+      }
 
-  -- what the search is then
-  searched : (more : Bool) → ((judged ≡ Some false) × (more ≡ all)) ⊎ ((judged ≡ None) × (more ≡ false)) → (s : List ℕ) → Consumes (Some s) r (ahead_of x) → Searches s x.offset old new (n + 1) more
-  searched more how s read =
-      let next : suc n ≡ n + 1 = omega arith in
-      let here : Checks (drop (suc n) s) (x.offset + suc n) mid new judged = subst (λ m. Checks (drop m s) (x.offset + m) mid new judged) (sym next) (checks s read) in
-      subst (λ m. Searches s x.offset old new m more) next (
-        mid,
-        all,
-        is.searches s read,
-        elim how [
-          | inl (stops, same) ↦ inl (subst (λ j. Checks (drop (suc n) s) (x.offset + suc n) mid new j) stops here, same)
-          | inr (left, not) ↦ inr (subst (λ j. Checks (drop (suc n) s) (x.offset + suc n) mid new j) left here, not)
-        ],
-      )
+-- a search in these bytes is one in those ahead
+pub seeks_ahead : (m : Limits) (b : List ℕ) (l : Bool) (a : ℕ) (y : Window) (last : Bool) (q : Places) (v w : Work) (told found : Sought) → m ≡ limits → b ≡ ahead_of y → l ≡ last → a ≡ y.offset
+    → told ≡ found → Seeks m b l a q v w told → Seeks limits (ahead_of y) last y.offset q v w found
+seeks_ahead m b l a y last q v w told found most bytes is at same seeks =
+    subst (λ t. Seeks limits (ahead_of y) last y.offset q v w t) same
+    (subst (λ n. Seeks limits (ahead_of y) last n q v w told) at
+    (subst (λ i. Seeks limits (ahead_of y) i a q v w told) is
+    (subst (λ t. Seeks limits t l a q v w told) bytes (subst (λ n. Seeks n b l a q v w told) most seeks))))
 
-  -- they don't, or it isn't known
-  pub searched_on : (more : Bool) → ((judged ≡ Some false) × (more ≡ all)) ⊎ ((judged ≡ None) × (more ≡ false)) → ¬ (judged ≡ Some true) → IsSearched r r'' x w old new (n + 1) more
-  searched_on more how not = record {
-    window = place.stays.window;
-    work = place.work;
-    offset = place.stays.offset ∙ there;
-    some = some_judged judged (0 < length (ahead_of w)) not place.some;
-    passes = over;
-    searches = searched more how;
-  }
+pub not_true : (b : Bool) → not b ≡ true → b ≡ false
+not_true true is = let impossible : ⊥ = cc in absurd impossible
+not_true false is = refl

@@ -1,15 +1,18 @@
 -- How what was written grows by more documents.
-use Rattle.std.proofs.Common.{◌≡◌, ℕ, List, [], ◌∷◌, ◌++◌, Bool, Option, codes, fold, sym, ap, ◌∙◌, subst, refl, append_assoc, append-nil}
+use Rattle.std.proofs.Common.{◌≡◌, ◌+◌, ◌⊎◌, ℕ, List, [], ◌∷◌, ◌++◌, Bool, Option, arith, codes, fold, inl, inr, length, length-append, sym, ap, ◌∙◌, subst, refl, append_assoc, append-nil}
+use Rattle.std.specs.BTreeSet.{contains}
+use Rattle.std.specs.Cmp.Lexicographic.{slice_cmp}
+use Rattle.std.specs.Ordering.{nat_cmp}
 use Rattle.std.specs.Io.KnownBytes.{Appends}
 use Rattle.std.proofs.KnownBytes.{Appends-nil, Appends-trans}
 use Rattle.std.proofs.lemmas.Grind.{flat_map-append, fold-append}
 use Rattle.bson_json.specs.Json.{IsJson}
 use Rattle.bson_json.specs.declared.style.Style as json
-use Rattle.bsonraw_dump.specs.Run.{Emits, Writes}
-use Rattle.bsonraw_dump.specs.Unique.{knows, with_form, if_new, first_forms, joined, written_of, known_behind}
+use Rattle.bsonraw_dump.specs.Run.{Emits, MakesJson, Writes}
+use Rattle.bsonraw_dump.specs.Unique.{CountsOne, first_forms, if_new, joined, kept_of, known_behind, knows, with_form, written_of}
 use Rattle.bsonraw_dump.specs.declared.command.Command.{Command}
 use Rattle.bsonraw_dump.specs.declared.command.Command.TheVariants as command
-use Rattle.bsonraw_dump.specs.declared.digests.Digests.{Digests}
+use Rattle.bsonraw_dump.specs.declared.kept.Kept.{Kept}
 use Rattle.bsonraw_dump.specs.declared.find.Finding.{Finding}
 use Rattle.bsonraw_dump.specs.declared.find.Finding.TheVariants as finding
 
@@ -23,13 +26,16 @@ first_forms-append known (x ∷ xs) ys =
     let next = with_form known x in
     ap (λ l. here ++ l) (first_forms-append next xs ys) ∙ sym (append_assoc here (first_forms next xs) (first_forms (fold with_form next xs) ys))
 
+kept_of-append : (c : Command) (known : List ℕ → Bool) (xs ys : List (List ℕ)) → kept_of c known (xs ++ ys) ≡ kept_of c known xs ++ kept_of c (known_behind c known xs) ys
+kept_of-append command.Check known xs ys = refl
+kept_of-append command.List known xs ys = refl
+kept_of-append command.Canon known xs ys = refl
+kept_of-append command.Sound known xs ys = refl
+kept_of-append (command.Json style) known xs ys = refl
+kept_of-append command.Unique known xs ys = first_forms-append known xs ys
+
 written_of-append : (c : Command) (known : List ℕ → Bool) (xs ys : List (List ℕ)) → written_of c known (xs ++ ys) ≡ written_of c known xs ++ written_of c (known_behind c known xs) ys
-written_of-append command.Check known xs ys = joined-append xs ys
-written_of-append command.List known xs ys = joined-append xs ys
-written_of-append command.Canon known xs ys = joined-append xs ys
-written_of-append command.Sound known xs ys = joined-append xs ys
-written_of-append (command.Json style) known xs ys = joined-append xs ys
-written_of-append command.Unique known xs ys = ap joined (first_forms-append known xs ys) ∙ joined-append (first_forms known xs) (first_forms (fold with_form known xs) ys)
+written_of-append c known xs ys = ap joined (kept_of-append c known xs ys) ∙ joined-append (kept_of c known xs) (kept_of c (known_behind c known xs) ys)
 
 known_behind-append : (c : Command) (known : List ℕ → Bool) (xs ys : List (List ℕ)) → known_behind c known (xs ++ ys) ≡ known_behind c (known_behind c known xs) ys
 known_behind-append command.Check known xs ys = refl
@@ -39,13 +45,13 @@ known_behind-append command.Sound known xs ys = refl
 known_behind-append (command.Json style) known xs ys = refl
 known_behind-append command.Unique known xs ys = fold-append with_form known xs ys
 
-nothing_written : (c : Command) (known : List ℕ → Bool) → [] ≡ written_of c known []
-nothing_written command.Check known = refl
-nothing_written command.List known = refl
-nothing_written command.Canon known = refl
-nothing_written command.Sound known = refl
-nothing_written (command.Json style) known = refl
-nothing_written command.Unique known = refl
+nothing_kept : (c : Command) (known : List ℕ → Bool) → kept_of c known [] ≡ []
+nothing_kept command.Check known = refl
+nothing_kept command.List known = refl
+nothing_kept command.Canon known = refl
+nothing_kept command.Sound known = refl
+nothing_kept (command.Json style) known = refl
+nothing_kept command.Unique known = refl
 
 nothing_known : (c : Command) (known : List ℕ → Bool) (d : List ℕ) → known d ≡ known_behind c known [] d
 nothing_known command.Check known d = refl
@@ -55,13 +61,14 @@ nothing_known command.Sound known d = refl
 nothing_known (command.Json style) known d = refl
 nothing_known command.Unique known d = refl
 
-pub writes_none : (c : Command) (out : Option (List ℕ)) (k : Digests) → Writes c [] out out k k
+pub writes_none : (c : Command) (out : Option (List ℕ)) (k : Kept) → Writes c [] out out k k
 writes_none c out k = record {
-  is_written = subst (Appends out out) (nothing_written c (knows k)) (Appends-nil out);
+  is_written = subst (λ l. Appends out out (joined l)) (sym (nothing_kept c (knows k))) (Appends-nil out);
   is_known = nothing_known c (knows k);
+  is_counted = let none : length (kept_of c (knows k) []) ≡ 0 = ap length (nothing_kept c (knows k)) in omega arith;
 }
 
-pub writes_more : (c : Command) (xs ys : List (List ℕ)) (d d' d'' : Option (List ℕ)) (k k' k'' : Digests) → Writes c xs d d' k k' → Writes c ys d' d'' k' k'' → Writes c (xs ++ ys) d d'' k k''
+pub writes_more : (c : Command) (xs ys : List (List ℕ)) (d d' d'' : Option (List ℕ)) (k k' k'' : Kept) → Writes c xs d d' k k' → Writes c ys d' d'' k' k'' → Writes c (xs ++ ys) d d'' k k''
 writes_more c xs ys d d' d'' k k' k'' first second =
     let behind = known_behind c (knows k) xs in
     let same : knows k' ≡ behind = λ i. λ (x : List ℕ). first.is_known x i in
@@ -69,17 +76,32 @@ writes_more c xs ys d d' d'' k k' k'' first second =
       is_written = subst (Appends d d'') (ap (λ (known : List ℕ → Bool). written_of c (knows k) xs ++ written_of c known ys) same
           ∙ sym (written_of-append c (knows k) xs ys)) (Appends-trans d d' d'' _ _ first.is_written second.is_written);
       is_known = λ x. second.is_known x ∙ ap (λ (known : List ℕ → Bool). known_behind c known ys x) same ∙ sym (ap (λ (known : List ℕ → Bool). known x) (known_behind-append c (knows k) xs ys));
+      is_counted =
+          let all : length (kept_of c (knows k) (xs ++ ys)) ≡ length (kept_of c (knows k) xs) + length (kept_of c behind ys) =
+          ap length (kept_of-append c (knows k) xs ys) ∙ length-append (kept_of c (knows k) xs) (kept_of c behind ys) in
+          let one : k'.count ≡ k.count + length (kept_of c (knows k) xs) = first.is_counted in
+          let two : k''.count ≡ k'.count + length (kept_of c behind ys) =
+          second.is_counted ∙ ap (λ (known : List ℕ → Bool). k'.count + length (kept_of c known ys)) same in
+          omega arith;
     }
 
-line_written : (style : json.Style) (line : List ℕ) (d d' : Option (List ℕ)) (k : Digests) → Appends d d' line → Writes (command.Json style) (line ∷ []) d d' k k
-line_written style line d d' k put = record {
+known_same : (k k' : Kept) (d : List ℕ) → k'.digests ≡ k.digests → knows k' d ≡ knows k d
+known_same k k' d same = ap (λ s. contains (slice_cmp nat_cmp) s d) same
+
+line_written : (style : json.Style) (line : List ℕ) (d d' : Option (List ℕ)) (k k' : Kept) → Appends d d' line → CountsOne k k' → Writes (command.Json style) (line ∷ []) d d' k k'
+line_written style line d d' k k' put (counted, same) = record {
   is_written = subst (Appends d d') (sym (append-nil line)) put;
-  is_known = λ x. refl;
+  is_known = λ x. known_same k k' x same;
+  is_counted = counted;
 }
 
 -- a document without damage is written as Extended JSON
-pub json_emitted : (style : json.Style) (b : List ℕ) (f : Finding) (d d' : Option (List ℕ)) (k : Digests) → ¬ (f ≡ finding.Damaged)
-    → (text : List ℕ) × IsJson style b text × Appends d d' (text ++ codes "\n") → Emits (command.Json style) b f d d' k k
-json_emitted style b finding.Canonical d d' k sound (text, is, put) = ((text ++ codes "\n") ∷ [], (text, is, refl), line_written style (text ++ codes "\n") d d' k put)
-json_emitted style b finding.Breached d d' k sound (text, is, put) = ((text ++ codes "\n") ∷ [], (text, is, refl), line_written style (text ++ codes "\n") d d' k put)
-json_emitted style b finding.Damaged d d' k sound h = absurd (sound refl)
+pub json_emitted : (style : json.Style) (b : List ℕ) (f : Finding) (d d' : Option (List ℕ)) (k k' : Kept) → (f ≡ finding.Canonical) ⊎ (f ≡ finding.Breached)
+    → (text : List ℕ) × IsJson style b text × Appends d d' (text ++ codes "\n") × CountsOne k k' → Emits (command.Json style) b f d d' k k'
+json_emitted style b f d d' k k' sound (text, is, put, counted) =
+    let line = text ++ codes "\n" in
+    let made : MakesJson style b f (line ∷ []) = elim sound [
+      | inl canonical ↦ subst (λ x. MakesJson style b x (line ∷ [])) (sym canonical) (text, is, refl)
+      | inr breached ↦ subst (λ x. MakesJson style b x (line ∷ [])) (sym breached) (text, is, refl)
+    ] in
+    (line ∷ [], made, line_written style line d d' k k' put counted)

@@ -75,7 +75,7 @@ kind_text (kind.MalformedValue why) = reason_text why
 kind_text (kind.Utf8EncodingError why) = codes "a text isn't UTF-8"
 kind_text kind.OutOfMemory = []
 
--- what is told of what ends the reading of a document at a place; of a fault for a reason that reading has
+-- what is told of what ends the reading of a document at a place; of a fault its reason
 abbrev pub SaysBarrier : Barrier → Spot → Account → Type 0
 SaysBarrier too_many_bytes spot told = told ≡ account_at (codes "too long") spot
 SaysBarrier too_deep spot told = told ≡ account_at (codes "too deep") spot
@@ -91,6 +91,17 @@ abbrev pub verdict_of : Option Cause → Verdict
 verdict_of None = verdict.too_deep
 verdict_of (Some why) = breach_of why
 
+-- what is found where this ends the reading: that a level is too deep; else damage
+abbrev pub finding_of : Barrier → Finding
+finding_of too_deep = finding.TooDeep
+finding_of _ = finding.Damaged
+
+-- this ends the reading of a piece b, with this finding, and so it is told
+abbrev pub IsBarred : List ℕ → Finding → Option Account → Type 0
+IsBarred b found told =
+    IsEnvelope b × ((x : Barrier) × (spot : Spot) × (account : Account) × FirstBarrierAt limits b x spot.path spot.offset × SaysBarrier x spot account
+    × (found ≡ finding_of x) × (told ≡ Some account))
+
 -- What is found in a piece b of an input, and what is told of it: nothing where it is canonical; where it is read as a tree
 -- within the limits, where it is first not canonical; where something ends its reading, what and where; or why it has no
 -- envelope.
@@ -99,9 +110,8 @@ Finds b finding.Canonical told = IsEnvelope b × IsCanonicalWithin limits b × (
 Finds b finding.Breached told =
     IsEnvelope b × ((t : Tree) × ReadsWithin limits b t)
     × ((x : Verdict) × (spot : Spot) × FirstVerdict limits b x spot.path spot.offset × (told ≡ Some (account_at (verdict_word x) spot)))
-Finds b finding.Damaged told =
-    (IsEnvelope b × ((x : Barrier) × (spot : Spot) × (account : Account) × FirstBarrierAt limits b x spot.path spot.offset × SaysBarrier x spot account × (told ≡ Some account)))
-    ⊎ ((why : Reason) × Refuses b why × (told ≡ Some (account_of_damage None (reason_text why))))
+Finds b finding.Damaged told = IsBarred b finding.Damaged told ⊎ ((why : Reason) × Refuses b why × (told ≡ Some (account_of_damage None (reason_text why))))
+Finds b finding.TooDeep told = IsBarred b finding.TooDeep told
 
 -- what a place shows
 abbrev pub spot_of : Place → Spot

@@ -26,7 +26,7 @@ indented depth text = replicate (2 * depth) 32 ++ text ++ codes "\n"
 abbrev pub element_line : ℕ → List ℕ → List ℕ → List ℕ
 element_line depth key text = indented depth (quoted key ++ codes ": " ++ text)
 
--- these words say a fault, for a reason that reading has
+-- these words say a fault, with its reason
 abbrev pub ShowsFault : Fault → List ℕ → Type 0
 ShowsFault fault text = (why : ErrorKind) × SaysFault why fault × IsReadingKind why × (text ≡ codes "damaged: " ++ find.kind_text why)
 

@@ -1,30 +1,24 @@
 -- What reading an input gives, where some of it is read ahead.
-use Rattle.std.specs.Prelude.{◌≡◌, ◌+◌, ◌≤◌, ◌<◌, ℕ, List, [], Bool, true, false, Option, take, drop, length}
+use Rattle.std.specs.Prelude.{◌≡◌, ◌+◌, ◌≤◌, ◌<◌, ℕ, List, [], ◌++◌, Bool, true, false, Option, IsNone, take, drop, length}
 use Rattle.std.specs.Io.KnownBytes.{Consumes, IsAtEnd}
 use Rattle.bsonraw_dump.specs.Cut.{IsPiece, EndsWith}
 use Rattle.bsonraw_dump.specs.declared.ending.Ending.{Ending}
 use Rattle.bsonraw_dump.specs.declared.ending.Ending.TheVariants as ending
+use Rattle.bsonraw_dump.specs.declared.window.Drained.{Drained}
+use Rattle.bsonraw_dump.specs.declared.window.Filled.{Filled}
 use Rattle.bsonraw_dump.specs.declared.window.Next.{Next}
 use Rattle.bsonraw_dump.specs.declared.window.Next.TheVariants as next
 use Rattle.bsonraw_dump.specs.declared.window.Window.{Window}
 
--- some bytes were read, and no more is known
-abbrev pub ReadsSome : Option (List ℕ) → Option (List ℕ) → Type 0
-ReadsSome old new = (s : List ℕ) × Consumes old new s
-
 -- With the known bytes of a reader before and after, and the buffer's: it was filled from the end of the front on to here,
--- and is full enough, or the input is at its end. Whoever had read the front has read as far as here.
-pub record FillsBuffer (old new : Option (List ℕ)) (front enough : ℕ) (buffer filled : List ℕ) (at : ℕ) : Type 0 where
+-- and is full enough, or the input is at its end, unless reading failed. Whoever had read the front has read as far as here.
+pub record FillsBuffer (old new : Option (List ℕ)) (front enough : ℕ) (buffer filled : List ℕ) (to : Filled) : Type 0 where
   pub len : length filled ≡ length buffer
-  pub behind : front ≤ at
-  pub within : at ≤ length filled
+  pub behind : front ≤ to.len
+  pub within : to.len ≤ length filled
   pub kept : take front filled ≡ take front buffer
-  pub is_read : (before : Option (List ℕ)) → Consumes before old (take front buffer) → Consumes before new (take at filled)
-  pub to_end : at < enough → IsAtEnd new
-
--- whoever had read the front has read some bytes
-abbrev pub FillsSome : Option (List ℕ) → Option (List ℕ) → ℕ → List ℕ → Type 0
-FillsSome old new front buffer = (before : Option (List ℕ)) → Consumes before old (take front buffer) → ReadsSome before new
+  pub is_read : (before : Option (List ℕ)) → Consumes before old (take front buffer) → Consumes before new (take to.len filled)
+  pub to_end : IsNone to.failure → to.len < enough → IsAtEnd new
 
 -- the bytes ahead are in the room
 abbrev pub IsWindow : Window → Type 0
@@ -48,14 +42,38 @@ pub record SeesAhead (old new : Option (List ℕ)) (window_old window_new : Wind
   pub there : is_there ≡ true → want ≤ length (ahead_of window_new)
   pub ends : is_there ≡ false → (length (ahead_of window_new) < want) × IsAtEnd new
 
--- whoever had read what was ahead has read some bytes
-abbrev pub LooksSome : Option (List ℕ) → Option (List ℕ) → List ℕ → Type 0
-LooksSome old new ahead = (before : Option (List ℕ)) → Consumes before old ahead → ReadsSome before new
+-- bytes were read, and none passed
+pub record Stays (old new : Option (List ℕ)) (window_old window_new : Window) : Type 0 where
+  pub window : IsWindow window_new
+  pub offset : window_new.offset ≡ window_old.offset
+  pub looks : Looks old new (ahead_of window_old) (ahead_of window_new)
+
+-- what is passed: so many bytes, which were read
+pub record Passes (old new : Option (List ℕ)) (ahead_old ahead_new : List ℕ) (count : ℕ) : Type 0 where
+  pub bytes : List ℕ
+  pub len : length bytes ≡ count
+  pub is_read : (before : Option (List ℕ)) → Consumes before old ahead_old → Consumes before new (bytes ++ ahead_new)
+
+-- bytes were read, and some of them passed
+pub record GoesAhead (old new : Option (List ℕ)) (window_old window_new : Window) : Type 0 where
+  pub window : IsWindow window_new
+  pub count : ℕ
+  pub offset : window_new.offset ≡ window_old.offset + count
+  pub passes : Passes old new (ahead_of window_old) (ahead_of window_new) count
+
+-- The rest of an input is read: those bytes that are ahead, and others behind them. They are so many. Unless reading failed, none
+-- are left.
+pub record ReadsRest (old new : Option (List ℕ)) (ahead : List ℕ) (rest : Drained) : Type 0 where
+  pub more : List ℕ
+  pub is_read : (before : Option (List ℕ)) → Consumes before old ahead → Consumes before new (ahead ++ more)
+  pub len : length (ahead ++ more) ≡ rest.count
+  pub to_end : IsNone rest.failure → IsAtEnd new
 
 -- the input was read to its end; behind a length that is unsound it need not be
 abbrev pub IsReadBehind : Ending → Option (List ℕ) → Type 0
 IsReadBehind (ending.CutOff count) new = IsAtEnd new
-IsReadBehind ending.Unsound new = Unit {0}
+IsReadBehind (ending.Unsound len) new = Unit {0}
+IsReadBehind (ending.WrongLength len) new = Unit {0}
 
 -- what is next in the bytes ahead: a document in front; nothing, at the end of the input; or why there is no document
 abbrev pub IsNext : Option (List ℕ) → List ℕ → Next → Type 0

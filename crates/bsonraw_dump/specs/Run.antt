@@ -1,28 +1,34 @@
 -- What a run over an input reads, writes and counts.
-use Rattle.std.specs.Prelude.{◌≡◌, ℕ, ◌+◌, List, [], ◌∷◌, ◌++◌, Bool, true, false, Option, None, Some, IfSome, codes, decimal, drop, flat_map, fold, length, take}
+use Rattle.std.specs.Prelude.{◌≡◌, ℕ, ◌+◌, List, [], ◌∷◌, ◌++◌, Bool, true, false, Option, None, Some, IfSome, IsNone, codes, decimal, drop, flat_map, fold, length, take}
 use Rattle.std.specs.Io.KnownBytes.{Appends, Consumes, IsAtEnd}
 use Rattle.raw_tree.specs.CanonicalForm.{IsCanonicalForm}
 use Rattle.bson_json.specs.Json.{IsJson}
 use Rattle.bson_json.specs.declared.style.Style as json
 use Rattle.bsonraw_dump.specs.Cut.{IsPiece, EndsWith}
 use Rattle.bsonraw_dump.specs.Reading.{IsReadBehind, IsWindow, ahead_of}
-use Rattle.bsonraw_dump.specs.Resync.{IsNextPlace, SkipsTo, no_work}
+use Rattle.bsonraw_dump.specs.Resync.{BreaksWith, IsBelieved, IsNextPlace, SkipsTo, Spends}
+use Rattle.raw_resync.specs.Seeking.{no_work}
+use Rattle.bsonraw_dump.specs.declared.window.Drained.{Drained}
 use Rattle.bsonraw_dump.specs.declared.window.Window.{Window}
 use Rattle.bsonraw_dump.specs.Find.{Account, Finds}
 use Rattle.bsonraw_dump.specs.Listing.{ListsDocument}
 use Rattle.bsonraw_dump.specs.Told.{ending_line, last_line, line, report_line, words_of}
-use Rattle.bsonraw_dump.specs.Unique.{knows, written_of, known_behind}
+use Rattle.bsonraw_dump.specs.Unique.{kept_of, known_behind, knows, written_of}
 use Rattle.bsonraw_dump.specs.declared.failure.Failure.{Failure}
+use Rattle.bsonraw_dump.specs.declared.failure.ReadFailure.{ReadFailure}
 use Rattle.bsonraw_dump.specs.declared.failure.Failure.TheVariants as failure
 use Rattle.bsonraw_dump.specs.declared.command.Command.{Command}
 use Rattle.bsonraw_dump.specs.declared.command.Command.TheVariants as command
 use Rattle.bsonraw_dump.specs.declared.counts.Counts.{Counts}
-use Rattle.bsonraw_dump.specs.declared.digests.Digests.{Digests}
+use Rattle.bsonraw_dump.specs.declared.kept.Kept.{Kept}
 use Rattle.bsonraw_dump.specs.declared.ending.Ending.{Ending}
+use Rattle.bsonraw_dump.specs.declared.ending.Rest.TheVariants as rest
 use Rattle.bsonraw_dump.specs.declared.resync.Skip.{Skip}
-use Rattle.bsonraw_dump.specs.declared.resync.Work.{Work}
+use Rattle.raw_resync.specs.declared.work.Work.{Work}
 use Rattle.bsonraw_dump.specs.declared.find.Finding.{Finding}
 use Rattle.bsonraw_dump.specs.declared.find.Finding.TheVariants as finding
+use Rattle.bsonraw_dump.specs.declared.run.Stop.{Stop}
+use Rattle.bsonraw_dump.specs.declared.run.Stop.TheVariants as stop
 use Rattle.bsonraw_dump.specs.declared.style.Style.{Style}
 
 -- how many bytes a piece has, and behind that what is told of it
@@ -35,42 +41,46 @@ abbrev pub told_line : Style → List ℕ → ℕ → Option Account → List �
 told_line style name offset None = []
 told_line style name offset (Some told) = report_line style name offset told
 
--- a piece of an input, what is found in it and what is told of that, the document that is made of it, if there is one, and what
--- is reported of it
+-- a piece of an input, what is found in it and what is told of that, the document that is made of it, if there is one, what is
+-- reported of it, and what the searches cost then
 pub record Entry : Type 0 where
   pub bytes : List ℕ
   pub finding : Finding
   pub told : Option Account
   pub made : List (List ℕ)
   pub lines : List ℕ
+  pub work : Work
 
--- the canonical form of a piece b in which this is found, but for damage
+-- the canonical form of a piece b in which this is found, unless it is damaged or too deep
 abbrev pub MakesForm : List ℕ → Finding → List (List ℕ) → Type 0
 MakesForm b finding.Canonical made = made ≡ b ∷ []
 MakesForm b finding.Breached made = (form : List ℕ) × IsCanonicalForm b form × (made ≡ form ∷ [])
-MakesForm b finding.Damaged made = made ≡ []
+MakesForm b _ made = made ≡ []
 
--- the line of a piece b in which this is found, but for damage: its text as Extended JSON, and a line feed
+-- the line of a piece b in which this is found, unless it is damaged or too deep: its text as Extended JSON, and a line feed
 abbrev pub MakesJson : json.Style → List ℕ → Finding → List (List ℕ) → Type 0
 MakesJson style b finding.Damaged made = made ≡ []
+MakesJson style b finding.TooDeep made = made ≡ []
 MakesJson style b _ made = (text : List ℕ) × IsJson style b text × (made ≡ (text ++ codes "\n") ∷ [])
 
--- what a command makes of a piece b in which this is found: check and list nothing; sound the piece itself, but for damage; canon and
+-- what a command makes of a piece b in which this is found: check and list nothing; sound the piece itself, unless it is damaged or too deep; canon and
 -- unique its canonical form; json its line
 abbrev pub Makes : Command → List ℕ → Finding → List (List ℕ) → Type 0
 Makes command.Check b found made = made ≡ []
 Makes command.List b found made = made ≡ []
 Makes command.Sound b finding.Damaged made = made ≡ []
+Makes command.Sound b finding.TooDeep made = made ≡ []
 Makes command.Sound b _ made = made ≡ b ∷ []
 Makes command.Canon b found made = MakesForm b found made
 Makes command.Unique b found made = MakesForm b found made
 Makes (command.Json style) b found made = MakesJson style b found made
 
 -- what a command reports of a piece b at this offset, in which this is found: list its length, what is found and its elements;
--- check what isn't canonical; the others damage
+-- check what isn't canonical; the others what they leave out
 abbrev pub Reports : Command → Style → List ℕ → ℕ → List ℕ → Finding → Option Account → List ℕ → Type 0
 Reports command.List style name offset b found told lines = (listing : List ℕ) × ListsDocument b listing × (lines ≡ line name offset (head_text b told) ++ listing)
 Reports c style name offset b finding.Damaged told lines = lines ≡ told_line style name offset told
+Reports c style name offset b finding.TooDeep told lines = lines ≡ told_line style name offset told
 Reports command.Check style name offset b finding.Breached told lines = lines ≡ told_line style name offset told
 Reports c style name offset b found told lines = lines ≡ []
 
@@ -81,8 +91,14 @@ pub record IsEntry (c : Command) (style : Style) (name : List ℕ) (offset : ℕ
   pub makes : Makes c e.bytes e.finding e.made
   pub reports : Reports c style name offset e.bytes e.finding e.told e.lines
 
--- bytes of an input that are passed over, since no document is in front of them, why not, how many, what the searches cost then,
--- and the line of that
+-- A piece is in front of s, the end of an input from this offset on, and is taken at its length, where bytes may be passed over; and
+-- what finding that out cost, where earlier searches cost so much.
+pub record IsTaken (resync : Bool) (s : List ℕ) (offset : ℕ) (work : Work) (e : Entry) : Type 0 where
+  pub believed : resync ≡ true → IsBelieved s offset (length e.bytes) e.work
+  pub spends : Spends s offset work e.work
+
+-- bytes of an input that are passed over, since no document that is believed is in front of them, why not, how many, what the
+-- searches cost then, and the line of that
 pub record Gap : Type 0 where
   pub bytes : List ℕ
   pub end : Ending
@@ -91,13 +107,14 @@ pub record Gap : Type 0 where
   pub lines : List ℕ
 
 -- What is so of a gap at this offset of an input, of which these bytes are known, where earlier searches cost so much: it is
--- asked for, no document is in front of it, and the next place at which documents are found to go on is behind it.
+-- asked for, no document is in front of it, or a damaged one whose length isn't believed, and the next place at which documents are
+-- found to go on is behind it.
 pub record IsGap (style : Style) (resync : Bool) (name : List ℕ) (input : Option (List ℕ)) (offset : ℕ) (work : Work) (g : Gap) : Type 0 where
   pub asked : resync ≡ true
-  pub ends : IfSome input (λ s. EndsWith g.end (drop offset s))
+  pub breaks : IfSome input (λ s. BreaksWith g.end (drop offset s))
   pub len : length g.bytes ≡ g.skip.count
   pub next : IfSome input (λ s. IsNextPlace (drop offset s) offset work g.work g.skip)
-  pub reports : g.lines ≡ ending_line style name offset g.end (Some g.skip)
+  pub reports : g.lines ≡ ending_line style name offset g.end (rest.PassedOver g.skip)
 
 -- a part of an input: a piece, or a gap
 pub data Part : Type 0 where
@@ -118,12 +135,12 @@ lines_of_part (gap g) = g.lines
 
 -- what the searches cost behind a part
 abbrev pub work_behind : Work → Part → Work
-work_behind work (piece e) = work
+work_behind work (piece e) = e.work
 work_behind work (gap g) = g.work
 
 -- what is so of a part at this offset of an input, where the searches before it cost so much
 abbrev pub IsPart : Command → Style → (resync : Bool) → List ℕ → Option (List ℕ) → ℕ → Work → Part → Type 0
-IsPart c style resync name input offset work (piece e) = IsEntry c style name offset e
+IsPart c style resync name input offset work (piece e) = IsEntry c style name offset e × IfSome input (λ s. IsTaken resync (drop offset s) offset work e)
 IsPart c style resync name input offset work (gap g) = IsGap style resync name input offset work g
 
 -- parts one behind the other, the first of which begins at this offset of the input, where the searches before it cost so much
@@ -132,19 +149,20 @@ AreParts c style resync name input offset work [] = Unit {0}
 AreParts c style resync name input offset work (p ∷ ps) =
     IsPart c style resync name input offset work p × AreParts c style resync name input (offset + length (bytes_of_part p)) (work_behind work p) ps
 
--- these documents are written, or of unique those that are new, and their digests are known then
-pub record Writes (c : Command) (made : List (List ℕ)) (out_old out_new : Option (List ℕ)) (digests_old digests_new : Digests) : Type 0 where
-  pub is_written : Appends out_old out_new (written_of c (knows digests_old) made)
-  pub is_known : (d : List ℕ) → knows digests_new d ≡ known_behind c (knows digests_old) made d
+-- these documents are written and counted, or of unique those that are new, and their digests are known then
+pub record Writes (c : Command) (made : List (List ℕ)) (out_old out_new : Option (List ℕ)) (kept_old kept_new : Kept) : Type 0 where
+  pub is_written : Appends out_old out_new (written_of c (knows kept_old) made)
+  pub is_known : (d : List ℕ) → knows kept_new d ≡ known_behind c (knows kept_old) made d
+  pub is_counted : kept_new.count ≡ kept_old.count + length (kept_of c (knows kept_old) made)
 
 -- of this piece, in which this is found, a document is made and written
-abbrev pub Emits : Command → List ℕ → Finding → (out_old out_new : Option (List ℕ)) → (digests_old digests_new : Digests) → Type 0
-Emits c b found out_old out_new digests_old digests_new = (made : List (List ℕ)) × Makes c b found made × Writes c made out_old out_new digests_old digests_new
+abbrev pub Emits : Command → List ℕ → Finding → (out_old out_new : Option (List ℕ)) → (kept_old kept_new : Kept) → Type 0
+Emits c b found out_old out_new kept_old kept_new = (made : List (List ℕ)) × Makes c b found made × Writes c made out_old out_new kept_old kept_new
 
 -- a piece at this offset is passed: what is written of it, and what is reported
-abbrev pub PassesOne : Command → Style → List ℕ → ℕ → List ℕ → (out_old out_new report_old report_new : Option (List ℕ)) → (digests_old digests_new : Digests) → Finding → Type 0
-PassesOne c style name offset b out_old out_new report_old report_new digests_old digests_new found =
-    (told : Option Account) × Finds b found told × Emits c b found out_old out_new digests_old digests_new
+abbrev pub PassesOne : Command → Style → List ℕ → ℕ → List ℕ → (out_old out_new report_old report_new : Option (List ℕ)) → (kept_old kept_new : Kept) → Finding → Type 0
+PassesOne c style name offset b out_old out_new report_old report_new kept_old kept_new found =
+    (told : Option Account) × Finds b found told × Emits c b found out_old out_new kept_old kept_new
     × ((lines : List ℕ) × Reports c style name offset b found told lines × Appends report_old report_new lines)
 
 abbrev pub bytes_of_parts : List Part → List ℕ
@@ -156,83 +174,146 @@ made_of_parts ps = flat_map made_of_part ps
 abbrev pub lines_of_parts : List Part → List ℕ
 lines_of_parts ps = flat_map lines_of_part ps
 
+-- nothing was read
+abbrev pub no_counts : Counts
+no_counts = record { documents = 0; bytes = 0; breached = 0; damaged = 0; too_deep = 0; passed_over = 0; not_read = 0; files = 0 }
+
 -- one more of what is found
 abbrev pub count_finding : Finding → Counts → Counts
 count_finding finding.Canonical n = n
 count_finding finding.Breached n = record n { breached = n.breached + 1 }
 count_finding finding.Damaged n = record n { damaged = n.damaged + 1 }
+count_finding finding.TooDeep n = record n { too_deep = n.too_deep + 1 }
 
 -- one more document
 abbrev pub count_entry : Counts → Entry → Counts
 count_entry n e = count_finding e.finding (record n { documents = n.documents + 1; bytes = n.bytes + length e.bytes })
 
--- one more part; only documents are counted
+-- so many bytes more that are passed over
+abbrev pub count_gap : Counts → ℕ → Counts
+count_gap n count = record n { passed_over = n.passed_over + count }
+
+-- one more part
 abbrev pub count_part : Counts → Part → Counts
 count_part n (piece e) = count_entry n e
-count_part n (gap g) = n
+count_part n (gap g) = count_gap n g.skip.count
 
--- whether there is no gap, and nothing is left
-abbrev pub are_sound : List Part → Option Ending → Bool
-are_sound [] None = true
-are_sound [] (Some end) = false
-are_sound (piece e ∷ ps) end = are_sound ps end
-are_sound (gap g ∷ ps) end = false
+-- one more file that isn't read to its end, with so many bytes of which no part is made
+abbrev pub count_left : Counts → ℕ → Counts
+count_left n count = record n { not_read = n.not_read + count; files = n.files + 1 }
+
+-- the same of a file, unless it is read to its end: bytes are left, or reading fails
+abbrev pub count_end : Option Ending → Option ReadFailure → Counts → ℕ → Counts
+count_end None None n count = n
+count_end _ _ n count = count_left n count
+
+-- both together
+abbrev pub plus : Counts → Counts → Counts
+plus n m = record {
+  documents = n.documents + m.documents;
+  bytes = n.bytes + m.bytes;
+  breached = n.breached + m.breached;
+  damaged = n.damaged + m.damaged;
+  too_deep = n.too_deep + m.too_deep;
+  passed_over = n.passed_over + m.passed_over;
+  not_read = n.not_read + m.not_read;
+  files = n.files + m.files;
+}
 
 -- These parts were read, and behind them what is ahead; and of the parts this was written and counted, and nothing else. Known
 -- bytes are those of a reader and two writers.
 pub record Passed (c : Command) (style : Style) (resync : Bool) (name ahead : List ℕ)
-    (read_old read_new out_old out_new report_old report_new : Option (List ℕ)) (counts_old counts_new : Counts) (digests_old digests_new : Digests)
+    (read_old read_new out_old out_new report_old report_new : Option (List ℕ)) (counts_old counts_new : Counts) (kept_old kept_new : Kept)
     (ps : List Part) : Type 0 where
   pub parts : AreParts c style resync name read_old 0 no_work ps
   pub is_read : Consumes read_old read_new (bytes_of_parts ps ++ ahead)
-  pub is_written : Writes c (made_of_parts ps) out_old out_new digests_old digests_new
+  pub is_written : Writes c (made_of_parts ps) out_old out_new kept_old kept_new
   pub is_reported : Appends report_old report_new (lines_of_parts ps)
   pub is_counted : counts_new ≡ fold count_part counts_old ps
 
--- nothing is left of an input, or bytes that no document begins with
-abbrev pub EndsAs : Option Ending → List ℕ → (read_new : Option (List ℕ)) → Type 0
-EndsAs None left read_new = (left ≡ []) × IsAtEnd read_new
-EndsAs (Some end) left read_new = EndsWith end left × IsReadBehind end read_new
+-- What is left of an input: nothing, at its end; or bytes that no document begins with, where none are passed over. Unless reading
+-- failed, they are all.
+abbrev pub EndsAs : (resync : Bool) → Option Ending → Option ReadFailure → List ℕ → (read_new : Option (List ℕ)) → Type 0
+EndsAs resync None None left read_new = (left ≡ []) × IsAtEnd read_new
+EndsAs resync None (Some failed) left read_new = Unit {0}
+EndsAs resync (Some end) None left read_new = EndsWith end left × (resync ≡ false) × IsAtEnd read_new
+EndsAs resync (Some end) (Some failed) left read_new = EndsWith end left × (resync ≡ false)
 
--- How a run ends: parts were passed; then this was left to be read, of which no part is made, and its line was written.
--- Nothing is left where bytes are passed over. What was known of the report between the two is a part of it.
+-- How a run ends: parts were passed; then this was left, of which no part is made, and was counted, and its line was written. Where
+-- reading failed, it failed behind it. What was known of the report and what was counted between the two is a part of it.
 pub record Ends (c : Command) (style : Style) (resync : Bool) (name : List ℕ) (read_old read_new out_old out_new report_old report_new : Option (List ℕ))
-    (counts_old counts_new : Counts) (digests_old digests_new : Digests) (sound : Bool) : Type 0 where
+    (counts_old counts_new : Counts) (kept_old kept_new : Kept) (failed : Option ReadFailure) : Type 0 where
   pub ps : List Part
   pub report_between : Option (List ℕ)
+  pub counts_between : Counts
   pub left : List ℕ
-  pub passed : Passed c style resync name left read_old read_new out_old out_new report_old report_between counts_old counts_new digests_old digests_new ps
+  pub passed : Passed c style resync name left read_old read_new out_old out_new report_old report_between counts_old counts_between kept_old kept_new ps
   pub end : Option Ending
-  pub ends : EndsAs end left read_new
-  pub whole : resync ≡ true → end ≡ None
-  pub told : Appends report_between report_new (last_line style name (length (bytes_of_parts ps)) end)
-  pub is_sound : sound ≡ are_sound ps end
+  pub ends : EndsAs resync end failed left read_new
+  pub fails : IfSome failed (λ failure. failure.at ≡ length (bytes_of_parts ps) + length left)
+  pub told : Appends report_between report_new (last_line style name (length (bytes_of_parts ps)) end (length left))
+  pub is_counted : counts_new ≡ count_end end failed counts_between (length left)
 
--- Reading fails: parts were passed, and some bytes behind them were read.
-pub record Stops (c : Command) (style : Style) (resync : Bool) (name : List ℕ) (read_old read_new out_old out_new report_old report_new : Option (List ℕ))
-    (counts_old counts_new : Counts) (digests_old digests_new : Digests) : Type 0 where
-  pub ps : List Part
-  pub ahead : List ℕ
-  pub passed : Passed c style resync name ahead read_old read_new out_old out_new report_old report_new counts_old counts_new digests_old digests_new ps
-
--- nothing is said of what was written where there is no memory, or where writing fails
+-- reading fails
 abbrev pub IsReading : Failure → Type 0
 IsReading (failure.Reading e) = Unit {0}
 IsReading _ = ⊥
 
 -- at the bytes ahead no document begins, and bytes are passed over; their line was written
 pub record PassesGap (style : Style) (name : List ℕ) (end : Ending) (read_old read_new : Option (List ℕ)) (window_old window_new : Window)
-    (work_old work_new : Work) (report_old report_new : Option (List ℕ)) : Type 0 where
+    (work_old work_new : Work) (report_old report_new : Option (List ℕ)) (counts_old counts_new : Counts) : Type 0 where
   pub skip : Skip
   pub skips : SkipsTo read_old read_new window_old window_new work_old work_new skip
-  pub told : Appends report_old report_new (ending_line style name window_old.offset end (Some skip))
+  pub told : Appends report_old report_new (ending_line style name window_old.offset end (rest.PassedOver skip))
+  pub is_counted : counts_new ≡ count_gap counts_old skip.count
 
 -- the document of so many bytes in front of the bytes ahead is passed
 pub record PassesFront (c : Command) (style : Style) (name : List ℕ) (len : ℕ) (window_old window_new : Window)
-    (out_old out_new report_old report_new : Option (List ℕ)) (counts_old counts_new : Counts) (digests_old digests_new : Digests) : Type 0 where
+    (out_old out_new report_old report_new : Option (List ℕ)) (counts_old counts_new : Counts) (kept_old kept_new : Kept) : Type 0 where
   pub window : IsWindow window_new
   pub offset : window_new.offset ≡ window_old.offset + len
   pub ahead : ahead_of window_new ≡ drop len (ahead_of window_old)
   pub finding : Finding
-  pub passed : PassesOne c style name window_old.offset (take len (ahead_of window_old)) out_old out_new report_old report_new digests_old digests_new finding
+  pub passed : PassesOne c style name window_old.offset (take len (ahead_of window_old)) out_old out_new report_old report_new kept_old kept_new finding
   pub is_counted : (e : Entry) → length e.bytes ≡ len → e.finding ≡ finding → counts_new ≡ count_entry counts_old e
+
+-- How the parts of an input end that were passed: at its end; with bytes that no document begins with; or with an error, where the
+-- last part ended.
+abbrev pub StopsAt : (resync : Bool) → Stop → (from : ℕ) → (read_new : Option (List ℕ)) → (window_new : Window) → (left : List ℕ) → Type 0
+StopsAt resync stop.End from read_new window_new left = (left ≡ []) × IsAtEnd read_new
+StopsAt resync (stop.Left end) from read_new window_new left =
+    (left ≡ ahead_of window_new) × (window_new.offset ≡ from) × EndsWith end left × IsReadBehind end read_new × (resync ≡ false)
+StopsAt resync (stop.Failed at error) from read_new window_new left = (at ≡ from) × (window_new.offset + length (ahead_of window_new) ≡ from + length left)
+
+-- reading fails, and the last part ended here
+abbrev pub FailsAt : ℕ → Stop → Type 0
+FailsAt from (stop.Failed at error) = at ≡ from
+FailsAt from _ = ⊥
+
+-- parts were passed, and how they end
+pub record PassesAll (c : Command) (style : Style) (resync : Bool) (name : List ℕ) (read_old read_new out_old out_new report_old report_new : Option (List ℕ))
+    (counts_old counts_new : Counts) (kept_old kept_new : Kept) (window_new : Window) (stopped : Stop) : Type 0 where
+  pub window : IsWindow window_new
+  pub ps : List Part
+  pub left : List ℕ
+  pub passed : Passed c style resync name left read_old read_new out_old out_new report_old report_new counts_old counts_new kept_old kept_new ps
+  pub stops : StopsAt resync stopped (length (bytes_of_parts ps)) read_new window_new left
+
+-- The rest of an input, with which no document begins, is read: bytes that are ahead, and others behind them. They are so many.
+pub record IsLeft (end : Ending) (read_old read_new : Option (List ℕ)) (ahead : List ℕ) (rest : Drained) : Type 0 where
+  pub more : List ℕ
+  pub is_read : (before : Option (List ℕ)) → Consumes before read_old ahead → Consumes before read_new (ahead ++ more)
+  pub ends : EndsWith end (ahead ++ more)
+  pub len : length (ahead ++ more) ≡ rest.count
+  pub to_end : IsNone rest.failure → IsAtEnd read_new
+
+-- The rest of an input, with which no document begins, is counted, and its line is written. Reading fails behind it, or it is all.
+pub record Leaves (style : Style) (name : List ℕ) (end : Ending) (window_old : Window) (read_old read_new report_old report_new : Option (List ℕ))
+    (counts_old counts_new : Counts) (failed : Option ReadFailure) : Type 0 where
+  pub more : List ℕ
+  pub is_read : (before : Option (List ℕ)) → Consumes before read_old (ahead_of window_old) → Consumes before read_new (ahead_of window_old ++ more)
+  pub ends : EndsWith end (ahead_of window_old ++ more)
+  pub to_end : IsNone failed → IsAtEnd read_new
+  pub fails : IfSome failed (λ failure. failure.at ≡ window_old.offset + length (ahead_of window_old ++ more))
+  pub told : Appends report_old report_new (ending_line style name window_old.offset end (rest.NotRead (length (ahead_of window_old ++ more))))
+  pub is_counted : counts_new ≡ count_left counts_old (length (ahead_of window_old ++ more))

@@ -1,14 +1,19 @@
 -- How what is told is printed: in words, or as an object of JSON.
-use Rattle.std.specs.Prelude.{◌≡◌, ℕ, List, [], ◌∷◌, ◌++◌, Bool, true, false, Option, None, Some, codes, decimal, flat_map, map}
+use Rattle.std.specs.Prelude.{◌≡◌, ℕ, List, [], ◌∷◌, ◌++◌, ◌-◌, Bool, true, false, Option, None, Some, codes, decimal, flat_map, map}
+use Rattle.std.specs.Fmt.{signed_decimal}
 use Rattle.json.specs.Print.{print, quoted}
 use Rattle.json.specs.Token.{Token, begin_object, end_object, begin_array, end_array, key, string, number, null}
 use Rattle.json.specs.Written.{Written}
 use Rattle.raw_form.specs.Places.{Step}
 use Rattle.bsonraw_dump.specs.Find.{Account, Spot}
+use Rattle.bsonraw_dump.specs.declared.command.Command.{Command}
+use Rattle.bsonraw_dump.specs.declared.command.Command.TheVariants as command
 use Rattle.bsonraw_dump.specs.declared.counts.Counts.{Counts}
 use Rattle.bsonraw_dump.specs.declared.ending.Ending.{Ending}
 use Rattle.bsonraw_dump.specs.declared.ending.Ending.TheVariants as ending
-use Rattle.bsonraw_dump.specs.declared.resync.Skip.{Skip}
+use Rattle.bsonraw_dump.specs.declared.ending.Rest.{Rest}
+use Rattle.bsonraw_dump.specs.declared.ending.Rest.TheVariants as rest
+use Rattle.bsonraw_dump.specs.declared.summary.Count as summary
 use Rattle.bsonraw_dump.specs.declared.style.Style.{Style}
 use Rattle.bsonraw_dump.specs.declared.style.Style.TheVariants as style
 
@@ -89,48 +94,101 @@ abbrev pub all_text : Bool → List ℕ
 all_text true = []
 all_text false = codes ", not each place checked"
 
--- how many bytes are passed over, in words
-abbrev pub skip_text : Option Skip → List ℕ
-skip_text None = []
-skip_text (Some skip) = codes ": " ++ decimal skip.count ++ codes " bytes passed over" ++ all_text skip.all
+-- what comes of bytes that no document begins with, in words
+abbrev pub rest_text : Rest → List ℕ
+rest_text (rest.PassedOver skip) = codes ": " ++ decimal skip.count ++ codes " bytes passed over" ++ all_text skip.all
+rest_text (rest.NotRead count) = codes ": " ++ decimal count ++ codes " bytes not read, --resync goes on"
 
 -- the same as members of an object
 abbrev pub all_members : Bool → List Token
 all_members true = []
 all_members false = key (codes "checked") ∷ string (codes "not each place") ∷ []
 
-abbrev pub skip_members : Option Skip → List Token
-skip_members None = []
-skip_members (Some skip) = key (codes "passed over") ∷ number (decimal skip.count) ∷ all_members skip.all
+abbrev pub rest_members : Rest → List Token
+rest_members (rest.PassedOver skip) = key (codes "passed over") ∷ number (decimal skip.count) ∷ all_members skip.all
+rest_members (rest.NotRead count) = key (codes "not read") ∷ number (decimal count) ∷ []
 
 -- why no document is in front of what is left, in words
 abbrev pub ending_text : Ending → List ℕ
 ending_text (ending.CutOff count) = codes "cut off: only " ++ decimal count ++ codes " bytes of a document"
-ending_text ending.Unsound = codes "unsound length"
+ending_text (ending.Unsound len) = codes "unsound length " ++ signed_decimal len
+ending_text (ending.WrongLength len) = codes "wrong length " ++ decimal len
 
 -- the same as members of an object
 abbrev pub ending_members : Ending → List Token
 ending_members (ending.CutOff count) = key (codes "finding") ∷ string (codes "cut off") ∷ key (codes "bytes") ∷ number (decimal count) ∷ []
-ending_members ending.Unsound = key (codes "finding") ∷ string (codes "unsound length") ∷ []
+ending_members (ending.Unsound len) = key (codes "finding") ∷ string (codes "unsound length") ∷ key (codes "length") ∷ number (signed_decimal len) ∷ []
+ending_members (ending.WrongLength len) = key (codes "finding") ∷ string (codes "wrong length") ∷ key (codes "length") ∷ number (decimal len) ∷ []
 
--- the line of a place at which no document begins, and how many bytes are passed over there
-abbrev pub ending_line : Style → List ℕ → ℕ → Ending → Option Skip → List ℕ
-ending_line style.Words name offset end skipped = line name offset (ending_text end ++ skip_text skipped)
-ending_line style.Json name offset end skipped = object_line (head_members name offset ++ ending_members end ++ skip_members skipped)
+-- the line of a place at which no document begins, and what comes of the bytes there
+abbrev pub ending_line : Style → List ℕ → ℕ → Ending → Rest → List ℕ
+ending_line style.Words name offset end left = line name offset (ending_text end ++ rest_text left)
+ending_line style.Json name offset end left = object_line (head_members name offset ++ ending_members end ++ rest_members left)
 
--- the last line of an input: why no document is in front of what is left; none where nothing is left
-abbrev pub last_line : Style → List ℕ → ℕ → Option Ending → List ℕ
-last_line style name offset None = []
-last_line style name offset (Some end) = ending_line style name offset end None
+-- the last line of an input of which so many bytes are left: why no document is in front of them; none where nothing is left
+abbrev pub last_line : Style → List ℕ → ℕ → Option Ending → ℕ → List ℕ
+last_line style name offset None count = []
+last_line style name offset (Some end) count = ending_line style name offset end (rest.NotRead count)
 
--- the line behind all that a check reports
-abbrev pub summary_line : Style → Counts → List ℕ
-summary_line style.Words n =
-    codes "documents: " ++ decimal n.documents ++ codes ", bytes: " ++ decimal n.bytes ++ codes ", not canonical: " ++ decimal n.breached
-    ++ codes ", damaged: " ++ decimal n.damaged ++ codes "\n"
-summary_line style.Json n =
-    object_line (key (codes "documents") ∷ number (decimal n.documents) ∷ key (codes "bytes") ∷ number (decimal n.bytes)
-    ∷ key (codes "not canonical") ∷ number (decimal n.breached) ∷ key (codes "damaged") ∷ number (decimal n.damaged) ∷ [])
+-- a number that is counted
+abbrev pub Count : Type 0
+Count = List ℕ × ℕ
+
+-- what a number of the code counts
+abbrev pub count_of : summary.Count → Count
+count_of count = (count.name.now, count.number)
+
+-- how many documents a command kept, and how many it left out; check and list keep none
+abbrev pub kept_counts : Command → Counts → ℕ → List Count
+kept_counts command.Check n kept = []
+kept_counts command.List n kept = []
+kept_counts _ n kept = (codes "kept", kept) ∷ (codes "left out", n.documents - kept) ∷ []
+
+-- how many documents without damage aren't canonical, where that changes what the command does
+abbrev pub breached_counts : Command → Counts → List Count
+breached_counts command.Check n = (codes "not canonical", n.breached) ∷ []
+breached_counts command.Canon n = (codes "not canonical", n.breached) ∷ []
+breached_counts _ n = []
+
+-- what is left out: documents, bytes, and files of which it is some
+abbrev pub left_counts : Counts → List Count
+left_counts n =
+    (codes "damaged", n.damaged) ∷ (codes "too deep", n.too_deep) ∷ (codes "bytes passed over", n.passed_over) ∷ (codes "bytes not read", n.not_read)
+    ∷ (codes "files not read to the end", n.files) ∷ []
+
+-- all that is counted beside the documents
+abbrev pub counts_of : Command → Counts → ℕ → List Count
+counts_of c n kept = (codes "bytes", n.bytes) ∷ kept_counts c n kept ++ breached_counts c n ++ left_counts n
+
+-- a number behind its name, in words
+abbrev pub count_text : Count → List ℕ
+count_text count = count.0 ++ codes ": " ++ decimal count.1
+
+-- the same behind another one
+abbrev pub next_text : Count → List ℕ
+next_text count = codes ", " ++ count_text count
+
+-- the number of documents, and what else is counted, with commas between
+abbrev pub counts_text : ℕ → List Count → List ℕ
+counts_text documents counts = count_text (codes "documents", documents) ++ flat_map next_text counts
+
+-- a number behind its name, as a member of an object
+abbrev pub count_members : Count → List Token
+count_members count = key count.0 ∷ number (decimal count.1) ∷ []
+
+-- the name of an input, of whose counts a line tells; none where it tells of all
+abbrev pub name_text : Option (List ℕ) → List ℕ
+name_text None = []
+name_text (Some name) = quoted name ++ codes ": "
+
+abbrev pub name_members : Option (List ℕ) → List Token
+name_members None = []
+name_members (Some name) = key (codes "file") ∷ string name ∷ []
+
+-- the line that tells what was counted of an input, or of all
+abbrev pub summary_line : Style → Option (List ℕ) → Command → Counts → ℕ → List ℕ
+summary_line style.Words name c n kept = name_text name ++ counts_text n.documents (counts_of c n kept) ++ codes "\n"
+summary_line style.Json name c n kept = object_line (name_members name ++ count_members (codes "documents", n.documents) ++ flat_map count_members (counts_of c n kept))
 
 -- What the code tells of an object that is written. No public contract cites it.
 

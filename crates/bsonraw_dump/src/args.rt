@@ -1,6 +1,7 @@
 //! The command line.
 #![tactic(auto)]
 
+use crate::batch::Job;
 use crate::command::Command;
 use crate::style::Style;
 use crate::version::VERSION;
@@ -11,12 +12,8 @@ use std::alloc::{AllocError, Global};
 /// What the arguments ask for.
 #[derive(Drop)]
 pub struct Task<'a> {
-    /// the command
-    pub command: Command,
-    /// how what is found is printed
-    pub style: Style,
-    /// whether it is looked for where documents go on behind a length that is unsound
-    pub resync: bool,
+    /// what is asked of the inputs
+    pub job: Job,
     /// the file that is written in place of standard output
     pub output: Option<&'a str>,
     /// what is read; nothing and `-` are standard input
@@ -162,9 +159,11 @@ fn task_of<'a>(
         inputs.push("-")?;
     }
     Ok(Task {
-        command,
-        style,
-        resync: matches.get_flag("resync"),
+        job: Job {
+            command,
+            style,
+            resync: matches.get_flag("resync"),
+        },
         output,
         inputs,
     })

@@ -1,5 +1,5 @@
-ghost use Rattle.std.specs.Prelude.{◌≡◌, IfSome, length};
-ghost use Rattle.bsonraw_dump.specs.Run.{count_entry, Entry};
+ghost use Rattle.std.specs.Prelude.{◌≡◌, ◌+◌, IfSome, length};
+ghost use Rattle.bsonraw_dump.specs.Run.{Entry, count_entry, count_gap, count_left, no_counts, plus};
 
 use crate::find::Finding;
 
@@ -12,20 +12,32 @@ pub struct Counts {
     pub bytes: u64,
     /// those without damage that aren't canonical
     pub breached: u64,
-    /// those with damage, and those that are too deep
+    /// those with damage
     pub damaged: u64,
+    /// those that are too deep
+    pub too_deep: u64,
+    /// bytes that were passed over
+    pub passed_over: u64,
+    /// bytes of which no document was made, in files that weren't read to their end
+    pub not_read: u64,
+    /// those files
+    pub files: u64,
 }
 
 impl Counts {
     /// Nothing was read.
     pub fn new() -> Counts
-        ensures { result ≡ record { documents = 0; bytes = 0; breached = 0; damaged = 0 } }
+        ensures { result ≡ no_counts }
     {
         Counts {
             documents: 0,
             bytes: 0,
             breached: 0,
             damaged: 0,
+            too_deep: 0,
+            passed_over: 0,
+            not_read: 0,
+            files: 0,
         }
     }
 
@@ -49,6 +61,48 @@ impl Counts {
                 damaged: read.damaged.checked_add(1)?,
                 ..read
             }),
+            Finding::TooDeep => Some(Counts {
+                too_deep: read.too_deep.checked_add(1)?,
+                ..read
+            }),
         }
+    }
+
+    /// So many bytes more that were passed over; `None` where they would be over the range of a count.
+    pub fn with_gap(self, count: u64) -> Option<Counts>
+        ensures { IfSome result (λ n. n ≡ count_gap self count) }
+    {
+        Some(Counts {
+            passed_over: self.passed_over.checked_add(count)?,
+            ..self
+        })
+    }
+
+    /// One file more that wasn't read to its end, and so many bytes of which no document was made; `None` where a count would be
+    /// over its range.
+    pub fn with_left(self, count: u64) -> Option<Counts>
+        ensures { IfSome result (λ n. n ≡ count_left self count) }
+    {
+        Some(Counts {
+            not_read: self.not_read.checked_add(count)?,
+            files: self.files.checked_add(1)?,
+            ..self
+        })
+    }
+
+    /// Both together; `None` where a count would be over its range.
+    pub fn plus(self, other: Counts) -> Option<Counts>
+        ensures { IfSome result (λ n. n ≡ plus self other) }
+    {
+        Some(Counts {
+            documents: self.documents.checked_add(other.documents)?,
+            bytes: self.bytes.checked_add(other.bytes)?,
+            breached: self.breached.checked_add(other.breached)?,
+            damaged: self.damaged.checked_add(other.damaged)?,
+            too_deep: self.too_deep.checked_add(other.too_deep)?,
+            passed_over: self.passed_over.checked_add(other.passed_over)?,
+            not_read: self.not_read.checked_add(other.not_read)?,
+            files: self.files.checked_add(other.files)?,
+        })
     }
 }

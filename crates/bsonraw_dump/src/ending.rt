@@ -1,8 +1,21 @@
+use crate::resync::Skip;
+
 /// Why no document is in front of what is left of an input.
 #[derive(Clone, Copy)]
 pub enum Ending {
     /// only so many bytes are left of a document that says more
     CutOff(usize),
-    /// no document has the length in front
-    Unsound,
+    /// no document has the length in front, which is this
+    Unsound(i32),
+    /// the document in front is damaged, and its length, which is this, isn't believed
+    WrongLength(usize),
+}
+
+/// What comes of bytes that no document begins with.
+#[derive(Clone, Copy)]
+pub enum Rest {
+    /// they are passed over
+    PassedOver(Skip),
+    /// they are so many, up to the end of the input, and aren't read
+    NotRead(u64),
 }

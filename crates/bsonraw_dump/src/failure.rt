@@ -1,3 +1,6 @@
+ghost use Rattle.std.specs.Prelude.{◌≡◌, IfErr, IfOk, Some};
+ghost use Rattle.bsonraw_dump.specs.Run.{IsReading};
+
 use std::alloc::AllocError;
 use std::io;
 
@@ -13,12 +16,31 @@ pub enum Failure {
 }
 
 impl From<AllocError> for Failure {
-    ghost use Rattle.std.specs.Prelude.{◌≡◌};
     ghost use Rattle.bsonraw_dump.specs.declared.failure.Failure.TheVariants.{Memory};
 
     ghost from_gives = { λ _ failure. failure ≡ Memory };
 
     fn from(_: AllocError) -> Failure {
         Failure::Memory
+    }
+}
+
+/// That reading failed, and behind how many bytes of an input.
+#[derive(Drop)]
+pub struct ReadFailure {
+    /// so many bytes were read
+    pub at: u64,
+    /// why no more were
+    pub error: io::Error,
+}
+
+/// A number, unless it is over its range.
+pub fn in_range<T: Copy>(number: Option<T>) -> Result<T, Failure>
+    ensures same { IfOk result (λ n. number ≡ Some n) }
+    ensures failed { IfErr result (λ failure. ¬ IsReading failure) }
+{
+    match number {
+        Some(number) => Ok(number),
+        None => Err(Failure::Writing(io::Error::from(io::ErrorKind::FileTooLarge))),
     }
 }

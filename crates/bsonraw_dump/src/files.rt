@@ -2,66 +2,60 @@
 #![tactic(auto)]
 
 use crate::args::{Task, parsed};
+use crate::batch::{Cut, Totals, run_all, status_of};
 use crate::command::Command;
-use crate::counts::Counts;
-use crate::digests::Digests;
 use crate::failure::Failure;
+use crate::inputs::Inputs;
 use crate::output::into_file;
-use crate::run::{Asked, put_summary, run};
 use crate::status::Status;
 use crate::style::Style;
 use crate::tell::{tell, tell_words};
 use crate::watch::Watched;
-use std::alloc::Global;
 use std::fs::File;
-use std::io::{BufWriter, ErrorKind, Read, Write};
+use std::io::{BufWriter, ErrorKind, Read, Stdin, Write};
 use std::{env, io};
 
 /// How many bytes are written at a time.
 pub const BLOCK: usize = 1 << 18;
 
-/// What came of the inputs so far.
+/// A file, or standard input.
 #[derive(Drop)]
-pub struct Totals {
-    /// what was read
-    pub counts: Counts,
-    /// the digests of the forms that came
-    pub digests: Digests,
-    /// the worst that happened
-    pub status: Status,
-    /// whether the run goes on: there is memory, and writing didn't fail
-    pub goes_on: bool,
-    /// whether all inputs were read to their ends
-    pub is_whole: bool,
+pub enum Source<'a> {
+    /// a file
+    File(Watched<'a, File>),
+    /// standard input
+    Input(Watched<'a, Stdin>),
 }
 
-impl Totals {
-    /// Nothing was read.
-    fn new(alloc: Global) -> Totals {
-        Totals {
-            counts: Counts::new(),
-            digests: Digests::new(alloc),
-            status: Status::Done,
-            goes_on: true,
-            is_whole: true,
+impl Read for Source<'_> {
+    fn read(&mut self, buf: &mut [u8]) -> io::Result<usize> {
+        match self {
+            Source::File(file) => file.read(buf),
+            Source::Input(input) => input.read(buf),
         }
     }
+}
 
-    /// This happened, too.
-    fn worsen(&mut self, status: Status) {
-        self.status = self.status.or(status);
+/// The files of a run.
+#[derive(Drop)]
+pub struct Files<'a> {
+    rt: &'a HostRuntime,
+    style: Style,
+}
+
+impl<'a> Inputs for Files<'a> {
+    type Input = Source<'a>;
+
+    fn open(&self, name: &str) -> io::Result<Source<'a>> {
+        if name == "-" {
+            return Ok(Source::Input(Watched::new(self.rt, self.rt.stdin())));
+        }
+        let file = File::open(self.rt, name)?;
+        Ok(Source::File(Watched::new(self.rt, file)))
     }
 
-    /// An input wasn't read to its end.
-    fn lacks(&mut self) {
-        self.worsen(Status::Input);
-        self.is_whole = false;
-    }
-
-    /// The run ends with this.
-    pub fn end(&mut self, status: Status) {
-        self.worsen(status);
-        self.goes_on = false;
+    fn tell(&self, name: &str, at: Option<u64>, error: &io::Error) {
+        tell(self.rt, self.style, name, at, error);
     }
 }
 
@@ -73,7 +67,7 @@ pub fn all(rt: &HostRuntime) -> Status {
             Err(_) => return Status::Memory,
         },
         Err(error) => {
-            tell(rt, Style::Words, "the arguments", &error);
+            tell(rt, Style::Words, "the arguments", None, &error);
             return Status::Usage;
         }
     };
@@ -103,11 +97,11 @@ fn start(rt: &HostRuntime, task: &Task<'_>) -> Status {
         return into_file(rt, task, name);
     }
     let Ok(mut out) = BufWriter::with_capacity(rt.alloc(), BLOCK, rt.stdout()) else {
-        tell_words(rt, task.style, "not enough memory");
+        tell_words(rt, task.job.style, "not enough memory");
         return Status::Memory;
     };
-    match task.command {
-        Command::Check | Command::List => told(rt, task, &mut out),
+    match task.job.command {
+        Command::Check | Command::List => each(rt, task, &mut io::sink(), &mut out).status,
         Command::Canon | Command::Sound | Command::Unique | Command::Json(_) => each(
             rt,
             task,
@@ -117,136 +111,81 @@ fn start(rt: &HostRuntime, task: &Task<'_>) -> Status {
     }
 }
 
-/// Checks or lists the inputs; of a check, writes the summary.
-fn told<W: Write>(rt: &HostRuntime, task: &Task<'_>, report: &mut W) -> Status {
-    let mut totals = each(rt, task, &mut io::sink(), report);
-    if totals.goes_on && matches!(task.command, Command::Check) {
-        if let Err(failure) = put_summary(rt.alloc(), task.style, &totals.counts, report) {
-            failed(rt, task, "-", failure, &mut totals);
-        }
-    }
-    if totals.goes_on {
-        flushed(rt, task, report, &mut totals);
-    }
-    totals.status
+/// Why not all was written.
+#[derive(Clone, Copy)]
+pub enum Lack<'a> {
+    /// an input wasn't read to its end
+    Cut(Cut<'a>),
+    /// memory ran out
+    Memory,
+    /// writing failed
+    Writing,
+}
+
+/// What came of a task.
+#[derive(Clone, Copy)]
+pub struct Done<'a> {
+    /// how it ended
+    pub status: Status,
+    /// why not all was written, if it wasn't
+    pub lack: Option<Lack<'a>>,
 }
 
 /// Runs the command over each input.
-pub fn each<D: Write, W: Write>(
+pub fn each<'a, D: Write, W: Write>(
     rt: &HostRuntime,
-    task: &Task<'_>,
+    task: &Task<'a>,
     data: &mut D,
     report: &mut W,
-) -> Totals {
-    let mut totals = Totals::new(rt.alloc());
-    for name in &task.inputs {
-        if totals.goes_on {
-            one(rt, task, name, data, report, &mut totals);
-        }
-    }
-    let is_worse = is_damage(task.command, &totals.counts);
-    if is_worse {
-        totals.worsen(Status::Damage);
-    }
-    if totals.goes_on {
-        flushed(rt, task, data, &mut totals);
-    }
-    totals
-}
-
-/// Whether what was read makes the command's status one of damage.
-fn is_damage(command: Command, counts: &Counts) -> bool {
-    counts.damaged > 0 || (matches!(command, Command::Check) && counts.breached > 0)
-}
-
-/// Runs the command over an input.
-fn one<D: Write, W: Write>(
-    rt: &HostRuntime,
-    task: &Task<'_>,
-    name: &str,
-    data: &mut D,
-    report: &mut W,
-    totals: &mut Totals,
-) {
-    if name == "-" {
-        let reader = Watched::new(rt, rt.stdin());
-        return read(rt, task, name, reader, data, report, totals);
-    }
-    match File::open(rt, name) {
-        Ok(file) => {
-            let reader = Watched::new(rt, file);
-            read(rt, task, name, reader, data, report, totals);
-        }
-        Err(error) => {
-            tell(rt, task.style, name, &error);
-            totals.lacks();
-        }
-    }
-}
-
-fn read<R: Read + Drop, D: Write, W: Write>(
-    rt: &HostRuntime,
-    task: &Task<'_>,
-    name: &str,
-    reader: R,
-    data: &mut D,
-    report: &mut W,
-    totals: &mut Totals,
-) {
-    let mut reader = reader;
-    let asked = Asked {
-        command: task.command,
-        style: task.style,
-        resync: task.resync,
-        name,
+) -> Done<'a> {
+    let inputs = Files {
+        rt,
+        style: task.job.style,
     };
-    match run(
+    let mut totals = Totals::new(rt.alloc());
+    let result = run_all(
         rt.alloc(),
-        asked,
-        &mut reader,
+        task.job,
+        &inputs,
+        &task.inputs,
         data,
         report,
-        &mut totals.counts,
-        &mut totals.digests,
-    ) {
-        Ok(true) => {}
-        Ok(false) if task.resync => totals.worsen(Status::Input),
-        Ok(false) => totals.lacks(),
-        Err(failure) => failed(rt, task, name, failure, totals),
+        &mut totals,
+    );
+    let status = status_of(task.job.command, totals.counts);
+    match result {
+        Ok(()) => Done {
+            status,
+            lack: totals.cut.map(Lack::Cut),
+        },
+        Err(failure) => failed(rt, task, status, failure),
     }
 }
 
-/// Writes what is left in the buffers.
-pub fn flushed<W: Write>(rt: &HostRuntime, task: &Task<'_>, writer: &mut W, totals: &mut Totals) {
-    if let Err(error) = writer.flush() {
-        failed(rt, task, "-", Failure::Writing(error), totals);
-    }
-}
-
-/// Tells a failure. A pipe whose reader is gone ends the run quietly.
-pub fn failed(
-    rt: &HostRuntime,
-    task: &Task<'_>,
-    name: &str,
-    failure: Failure,
-    totals: &mut Totals,
-) {
+/// Tells a failure in a run whose status would be this. A pipe whose reader is gone ends it quietly.
+fn failed<'a>(rt: &HostRuntime, task: &Task<'a>, status: Status, failure: Failure) -> Done<'a> {
+    let style = task.job.style;
     match failure {
         Failure::Memory => {
-            tell_words(rt, task.style, "not enough memory");
-            totals.end(Status::Memory);
+            tell_words(rt, style, "not enough memory");
+            Done {
+                status: Status::Memory,
+                lack: Some(Lack::Memory),
+            }
         }
-        Failure::Reading(error) => {
-            tell(rt, task.style, name, &error);
-            totals.lacks();
-        }
-        Failure::Writing(error) if error.kind() == ErrorKind::BrokenPipe => {
-            totals.end(Status::Done);
-        }
-        Failure::Writing(error) => {
+        Failure::Writing(error) | Failure::Reading(error) => {
+            if error.kind() == ErrorKind::BrokenPipe {
+                return Done {
+                    status,
+                    lack: Some(Lack::Writing),
+                };
+            }
             let output = task.output.unwrap_or("standard output");
-            tell(rt, task.style, output, &error);
-            totals.end(Status::Output);
+            tell(rt, style, output, None, &error);
+            Done {
+                status: Status::Output,
+                lack: Some(Lack::Writing),
+            }
         }
     }
 }

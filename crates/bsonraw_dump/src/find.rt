@@ -4,13 +4,14 @@
 ghost use Rattle.std.specs.Prelude.{◌≡◌, ◌≤◌, ℕ, List, IfOk, length};
 ghost use Rattle.std.specs.Option.{option_map};
 ghost use Rattle.raw_view.specs.Document.{bytes_of};
-ghost use Rattle.raw_view.specs.Frame.Envelope.{Refuses};
+ghost use Rattle.raw_view.specs.Frame.Envelope.{IsEnvelope, Refuses};
 ghost use Rattle.raw_view.specs.Errors.{IsMalformed};
 ghost use Rattle.raw_form.specs.Barriers.{IsBarrier, steps_of};
+ghost use Rattle.raw_form.specs.Places.{FirstBarrierAt};
 ghost use Rattle.raw_form.specs.Verdicts.{FirstVerdict};
 ghost use Rattle.bsonraw_dump.specs.Cut.{most};
 ghost use Rattle.raw_tree.specs.WithinLimits as within;
-ghost use Rattle.bsonraw_dump.specs.Find.{account_of, Finds, limits, SaysBarrier, spot_of, verdict_of, verdict_word};
+ghost use Rattle.bsonraw_dump.specs.Find.{account_of, Finds, SaysBarrier, limits, spot_of, verdict_of, verdict_word};
 
 use crate::reason::kind_words;
 use crate::window::MOST;
@@ -26,8 +27,10 @@ pub enum Finding {
     Canonical,
     /// it has no damage, and isn't canonical
     Breached,
-    /// it is damaged, or too deep
+    /// it is damaged
     Damaged,
+    /// it is too deep
+    TooDeep,
 }
 
 /// What is told of a document that isn't canonical.
@@ -115,10 +118,7 @@ fn not_canonical<'a>(
         → IfOk result (λ found. Finds (bytes_of document.entry) found.finding (option_map account_of found.told)) }
 {
     match first_fault_within(alloc, document, most_allowed()) {
-        Ok(Some(barrier)) => Ok(Found {
-            finding: Finding::Damaged,
-            told: Some(told_of(barrier)),
-        }),
+        Ok(Some(barrier)) => Ok(barred(barrier)),
         Ok(None) => Ok(Found {
             finding: Finding::Breached,
             told: Some(Told {
@@ -128,6 +128,22 @@ fn not_canonical<'a>(
             }),
         }),
         Err(_) => Err(AllocError),
+    }
+}
+
+/// What is found in a document whose reading this ends.
+fn barred(barrier: Barrier<'_>) -> Found<'_>
+    ensures { (b : List ℕ) (x : within.Barrier) → IsEnvelope b → IsBarrier barrier.entry.kind x
+        → FirstBarrierAt limits b x (steps_of barrier.entry.place) barrier.entry.place.offset
+        → Finds b result.finding (option_map account_of result.told) }
+{
+    let finding = match &barrier.kind {
+        BarrierKind::TooDeep => Finding::TooDeep,
+        BarrierKind::TooManyBytes | BarrierKind::Fault(_) => Finding::Damaged,
+    };
+    Found {
+        finding,
+        told: Some(told_of(barrier)),
     }
 }
 

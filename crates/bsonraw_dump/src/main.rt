@@ -2,13 +2,15 @@
 #![tactic(auto)]
 
 mod args;
+mod batch;
 mod command;
 mod counts;
-mod digests;
 mod ending;
 mod failure;
 mod files;
 mod find;
+mod inputs;
+mod kept;
 mod listing;
 mod object;
 mod output;
@@ -17,6 +19,7 @@ mod resync;
 mod run;
 mod status;
 mod style;
+mod summary;
 mod tell;
 mod text;
 mod value;

@@ -2,16 +2,17 @@
 #![tactic(auto)]
 
 ghost use Rattle.std.specs.Prelude.{◌≡◌, ◌++◌, ◌∷◌, [], List, Some, codes, decimal, IfOk, map, OnOk};
+ghost use Rattle.std.specs.Fmt.{signed_decimal};
 ghost use Rattle.std.specs.Option.{option_copied};
 ghost use Rattle.json.specs.Token.{Token, begin_object, end_object, key, number, string};
 ghost use Rattle.json.specs.Written.{Written};
 ghost use Rattle.raw_form.specs.Barriers.{step_of};
 ghost use Rattle.bsonraw_dump.specs.Find.{account_of, spot_of};
-ghost use Rattle.bsonraw_dump.specs.Told.{all_members, ending_members, head_members, key_token, keys_members, members_of, number_token, numbers_members, object_line, report_line, skip_members, spot_members, summary_line, text_or_null, Grows};
+ghost use Rattle.bsonraw_dump.specs.Told.{all_members, ending_members, head_members, key_token, keys_members, members_of, number_token, numbers_members, object_line, report_line, rest_members, spot_members, text_or_null, Grows};
+ghost use Rattle.bsonraw_dump.specs.declared.ending.Rest.TheVariants.{PassedOver};
 ghost use Rattle.bsonraw_dump.specs.declared.style.Style.TheVariants.{Json};
 
-use crate::counts::Counts;
-use crate::ending::Ending;
+use crate::ending::{Ending, Rest};
 use crate::find::Told;
 use crate::resync::Skip;
 use json::Writer;
@@ -19,7 +20,7 @@ use raw_form::{PathStep, Place};
 use std::alloc::{AllocError, Global};
 
 /// An object that is begun.
-fn begun(alloc: Global) -> Result<Writer, AllocError>
+pub fn begun(alloc: Global) -> Result<Writer, AllocError>
     ensures { IfOk result (λ object. (object.before ≡ []) × (object.tokens ≡ begin_object ∷ [])) }
 {
     let mut object = Writer::new(Vec::new(alloc));
@@ -28,7 +29,7 @@ fn begun(alloc: Global) -> Result<Writer, AllocError>
 }
 
 /// The line of an object to which these members were put.
-fn ended(object: Writer) -> Result<Vec<u8>, AllocError>
+pub fn ended(object: Writer) -> Result<Vec<u8>, AllocError>
     ensures { (members : List Token) → object.before ≡ [] → object.tokens ≡ begin_object ∷ members
         → IfOk result (λ text. text.items ≡ object_line members) }
 {
@@ -40,15 +41,23 @@ fn ended(object: Writer) -> Result<Vec<u8>, AllocError>
 }
 
 /// Puts a member that is a number.
-fn put_number(object: &mut Writer, name: &str, value: u64) -> Result<(), AllocError>
+pub fn put_number(object: &mut Writer, name: &str, value: u64) -> Result<(), AllocError>
     ensures { OnOk result (Grows object.old object.new (key name.now ∷ number (decimal value) ∷ [])) }
 {
     object.key(name)?;
     object.u64(value)
 }
 
+fn put_signed(object: &mut Writer, name: &str, value: i64) -> Result<(), AllocError>
+    ensures { OnOk result
+        (Grows object.old object.new (key name.now ∷ number (signed_decimal value) ∷ [])) }
+{
+    object.key(name)?;
+    object.i64(value)
+}
+
 /// Puts a member that is a text.
-fn put_text(object: &mut Writer, name: &str, value: &str) -> Result<(), AllocError>
+pub fn put_text(object: &mut Writer, name: &str, value: &str) -> Result<(), AllocError>
     ensures { OnOk result (Grows object.old object.new (key name.now ∷ string value.now ∷ [])) }
 {
     object.key(name)?;
@@ -164,19 +173,32 @@ fn put_ending(object: &mut Writer, ending: Ending) -> Result<(), AllocError>
             put_text(object, "finding", "cut off")?;
             put_number(object, "bytes", count as u64)
         }
-        Ending::Unsound => put_text(object, "finding", "unsound length"),
+        Ending::Unsound(len) => {
+            put_text(object, "finding", "unsound length")?;
+            put_signed(object, "length", i64::from(len))
+        }
+        Ending::WrongLength(len) => {
+            put_text(object, "finding", "wrong length")?;
+            put_number(object, "length", len as u64)
+        }
     }
 }
 
-/// Puts the members that tell how many bytes are passed over.
-fn put_skipped(object: &mut Writer, skipped: Option<Skip>) -> Result<(), AllocError>
-    ensures { OnOk result (Grows object.old object.new (skip_members skipped)) }
+/// Puts the members that tell what comes of the bytes.
+fn put_rest(object: &mut Writer, rest: Rest) -> Result<(), AllocError>
+    ensures { OnOk result (Grows object.old object.new (rest_members rest)) }
 {
-    let Some(skipped) = skipped else {
-        return Ok(());
-    };
-    put_number(object, "passed over", skipped.count)?;
-    put_all(object, skipped.all)
+    match rest {
+        Rest::PassedOver(skip) => put_skip(object, skip),
+        Rest::NotRead(count) => put_number(object, "not read", count),
+    }
+}
+
+fn put_skip(object: &mut Writer, skip: Skip) -> Result<(), AllocError>
+    ensures { OnOk result (Grows object.old object.new (rest_members (PassedOver skip))) }
+{
+    put_number(object, "passed over", skip.count)?;
+    put_all(object, skip.all)
 }
 
 /// Puts the member that tells whether each place in what is passed over was checked, if one wasn't.
@@ -195,33 +217,29 @@ pub fn ending_object(
     name: &str,
     offset: u64,
     ending: Ending,
-    skipped: Option<Skip>,
+    rest: Rest,
 ) -> Result<Vec<u8>, AllocError>
     ensures { IfOk result (λ text. text.items
-        ≡ object_line (head_members name.now offset ++ ending_members ending ++ skip_members skipped)) }
+        ≡ object_line (head_members name.now offset ++ ending_members ending ++ rest_members rest)) }
 {
     let mut object = placed(alloc, name, offset)?;
     put_ending(&mut object, ending)?;
-    put_skipped(&mut object, skipped)?;
-    ended(object)
-}
-
-/// The line behind all that a check reports.
-pub fn summary_object(alloc: Global, counts: &Counts) -> Result<Vec<u8>, AllocError>
-    ensures { IfOk result (λ text. text.items ≡ summary_line Json counts.now) }
-{
-    let mut object = begun(alloc)?;
-    put_number(&mut object, "documents", counts.documents)?;
-    put_number(&mut object, "bytes", counts.bytes)?;
-    put_number(&mut object, "not canonical", counts.breached)?;
-    put_number(&mut object, "damaged", counts.damaged)?;
+    put_rest(&mut object, rest)?;
     ended(object)
 }
 
 /// The line of what goes wrong with a file.
-pub fn error_object(alloc: Global, name: &str, text: &str) -> Result<Vec<u8>, AllocError> {
+pub fn error_object(
+    alloc: Global,
+    name: &str,
+    at: Option<u64>,
+    text: &str,
+) -> Result<Vec<u8>, AllocError> {
     let mut object = begun(alloc)?;
     put_text(&mut object, "file", name)?;
+    if let Some(at) = at {
+        put_number(&mut object, "offset", at)?;
+    }
     put_text(&mut object, "error", text)?;
     ended(object)
 }

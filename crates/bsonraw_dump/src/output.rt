@@ -2,10 +2,9 @@
 #![tactic(auto)]
 
 use crate::args::Task;
-use crate::failure::Failure;
-use crate::files::{BLOCK, Totals, each, failed};
+use crate::files::{BLOCK, Done, each};
 use crate::status::Status;
-use crate::tell::tell;
+use crate::tell::{tell, tell_lack};
 use std::fs::{File, OpenOptions, Permissions};
 use std::io::BufWriter;
 use std::os::fd::AsRawFd;
@@ -30,7 +29,7 @@ pub fn into_file(rt: &HostRuntime, task: &Task<'_>, name: &str) -> Status {
 }
 
 fn without(rt: &HostRuntime, task: &Task<'_>, name: &str, error: &io::Error) -> Status {
-    tell(rt, task.style, name, error);
+    tell(rt, task.job.style, name, None, error);
     Status::Output
 }
 
@@ -72,27 +71,30 @@ fn replaced(
     let number = process::id(rt.process());
     let beside = format!(in rt.alloc(); "{place}.{number}.tmp")?;
     let file = File::create_new(rt, beside.as_str())?;
-    let totals = match filled(rt, task, file, mode) {
-        Ok(totals) if totals.goes_on && totals.is_whole => {
+    let result = match filled(rt, task, file, mode) {
+        Ok(done) if done.lack.is_none() => {
             fs::rename(rt, beside.as_str(), place.as_str())?;
-            return Ok(totals.status);
+            return Ok(done.status);
         }
         result => result,
     };
     let _removed = fs::remove_file(rt, beside.as_str());
-    Ok(totals?.status)
+    let done = result?;
+    if let Some(lack) = done.lack {
+        tell_lack(rt, task.job.style, name, lack);
+    }
+    Ok(done.status)
 }
 
-fn filled(
+fn filled<'a>(
     rt: &HostRuntime,
-    task: &Task<'_>,
+    task: &Task<'a>,
     file: File,
     mode: Option<Permissions>,
-) -> io::Result<Totals> {
+) -> io::Result<Done<'a>> {
     if let Some(mode) = mode {
         file.set_permissions(mode)?;
     }
     let mut data = BufWriter::with_capacity(rt.alloc(), BLOCK, file)?;
-    let mut totals = each(rt, task, &mut data, &mut rt.stderr());
-    Ok(totals)
+    Ok(each(rt, task, &mut data, &mut rt.stderr()))
 }

@@ -1,30 +1,25 @@
-//! Looks where documents go on behind bytes that no document begins with.
+//! Goes on in an input behind bytes that no document begins with, and behind lengths that aren't believed.
 #![tactic(auto)]
 
-ghost use Rattle.std.specs.Prelude.{◌≡◌, ◌+◌, ◌≤◌, ◌<◌, ◌^◌, ℕ, List, [], ◌∷◌, IfErr, IfOk, length};
-ghost use Rattle.bsonraw_dump.specs.Cut.{IsPiece, said_len};
-ghost use Rattle.bsonraw_dump.specs.Reading.{IsWindow, LooksSome, ahead_of};
-ghost use Rattle.bsonraw_dump.specs.Resync.{CountsTo, IsJudged, IsWork, Judges, JudgesAll, SkipsTo, TellsPlace, no_work, said_behind};
+ghost use Rattle.std.specs.Prelude.{◌≡◌, ◌≤◌, ◌<◌, IfErr, IfOk, MatchBool, length, take};
+ghost use Rattle.bsonraw_dump.specs.Cut.{IsPiece, most};
+ghost use Rattle.bsonraw_dump.specs.Find.{limits};
+ghost use Rattle.bsonraw_dump.specs.Reading.{GoesAhead, IsWindow, Stays, ahead_of};
+ghost use Rattle.bsonraw_dump.specs.Resync.{Doubts, SeesBehind, SeesInside, SkipsTo, TellsPart};
 ghost use Rattle.bsonraw_dump.specs.Run.{IsReading};
+ghost use Rattle.raw_resync.specs.Resync.{IsSound};
+ghost use Rattle.raw_resync.specs.Seeking.{IsWork};
 
+use crate::ending::Ending;
 use crate::failure::Failure;
 use crate::find::most_allowed;
 use crate::window::{Next, Window, look_ahead};
-use memchr::memchr;
 use raw_form::first_fault_within;
+use raw_resync::{Check, Part, Places, Sought, Work, check_behind, seek};
 use raw_view::RawDocument;
 use std::alloc::{AllocError, Global};
 use std::io;
 use std::io::Read;
-
-/// The tag of a regular expression.
-const REGULAR_EXPRESSION: u8 = 11;
-
-/// So many bytes an element has at most beside its key and those that its length says.
-const AROUND: usize = 24;
-
-/// So many bytes are looked at, at most, for each byte up to the furthest end of a piece.
-const MOST_FOR_EACH: u128 = 8;
 
 /// What was passed over.
 #[derive(Clone, Copy)]
@@ -35,21 +30,19 @@ pub struct Skip {
     pub all: bool,
 }
 
-/// What the searches of an input cost so far. The range is over that of any sum.
-#[derive(Clone, Copy)]
-pub struct Work {
-    /// how many bytes they looked at
-    pub spent: u128,
-    /// the offset in the input of the furthest end of a piece that they came to
-    pub reach: u128,
-}
-
-impl Work {
-    /// There was no search.
-    pub fn new() -> Work
-        ensures { result ≡ no_work }
-    {
-        Work { spent: 0, reach: 0 }
+/// The bytes ahead, behind which the input ends or may go on.
+fn part_of(window: &Window, is_last: bool) -> Part<'_>
+    requires { IsWindow window.now }
+    ensures bytes { result.bytes.now ≡ ahead_of window.now }
+    ensures last { result.is_last ≡ is_last }
+    ensures at { result.at ≡ window.now.offset }
+    ensures limits { result.limits ≡ limits }
+{
+    Part {
+        bytes: window.ahead(),
+        is_last,
+        at: window.offset(),
+        limits: most_allowed(),
     }
 }
 
@@ -62,145 +55,154 @@ pub fn pass_over<R: Read>(
 ) -> Result<Skip, Failure>
     requires { IsWindow window.old × IsWork work.old × (0 < length (ahead_of window.old)) }
     ensures skips { IfOk result (SkipsTo (R.remaining reader.old) (R.remaining reader.new) window.old window.new work.old work.new) }
-    ensures fails { IfErr result (λ failure. IsReading failure → LooksSome (R.remaining reader.old) (R.remaining reader.new) (ahead_of window.old)) }
+    ensures fails { IfErr result (λ failure. IsReading failure → GoesAhead (R.remaining reader.old) (R.remaining reader.new) window.old window.new) }
 {
-    let mut all = true;
-    for passed in 0..u64::MAX {
-        window.pass(1)?;
-        match goes_on(alloc, reader, window, work)? {
-            Some(true) => {
+    let start = window.offset();
+    let mut from = 1;
+    let mut is_last = false;
+    let mut are_all = true;
+    for _ in 0..u64::MAX {
+        let places = Places {
+            from,
+            until: usize::MAX,
+            end: 0,
+        };
+        match seek(alloc, part_of(window, is_last), places, work)? {
+            Sought::Found { place, all } => {
+                window.pass(place)?;
                 return Ok(Skip {
-                    count: passed + 1,
-                    all,
+                    count: window.offset() - start,
+                    all: are_all && all,
                 });
             }
-            Some(false) => {}
-            None => all = false,
+            Sought::Wants { place, count, all } => {
+                window.pass(place)?;
+                is_last = !window.look(reader, count - place)?;
+                are_all = are_all && all;
+                from = 0;
+            }
+            Sought::Nowhere { all: _ } => unreachable!(),
         }
     }
     Err(Failure::Reading(io::Error::from(io::ErrorKind::TimedOut)))
 }
 
-/// Whether documents go on at the bytes ahead; `None` where it would cost too much to know.
-fn goes_on<R: Read>(
+/// Looks what is next in an input. Where bytes may be passed over, a damaged document whose length isn't believed is none.
+pub fn next_part<R: Read>(
     alloc: Global,
+    resync: bool,
     reader: &mut R,
     window: &mut Window,
     work: &mut Work,
-) -> Result<Option<bool>, Failure>
+) -> Result<Next, Failure>
     requires { IsWindow window.old × IsWork work.old }
-    ensures told { IfOk result (TellsPlace (R.remaining reader.old) (R.remaining reader.new) window.old window.new work.old work.new) }
-    ensures fails { IfErr result (λ _. LooksSome (R.remaining reader.old) (R.remaining reader.new) (ahead_of window.old)) }
+    ensures told { IfOk result (TellsPart resync (R.remaining reader.old) (R.remaining reader.new) window.old window.new work.old work.new) }
+    ensures fails { IfErr result (λ _. Stays (R.remaining reader.old) (R.remaining reader.new) window.old window.new) }
 {
-    let end = match look_ahead(reader, window, 0)? {
-        Next::Nothing => return Ok(Some(true)),
-        Next::End(_) => return Ok(Some(false)),
-        Next::Document(len) => len,
+    let next = look_ahead(reader, window, 0)?;
+    let Next::Document(len) = next else {
+        return Ok(next);
     };
-    let next = look_ahead(reader, window, end)?;
-    let at = u128::from(window.offset());
-    let (first, rest) = window.ahead().split_at(end);
-    match next {
-        Next::Nothing => Ok(judge(alloc, first, at, work)?),
-        Next::End(_) => Ok(Some(false)),
-        Next::Document(len) => Ok(judge_two(alloc, first, &rest[..len], at, work)?),
+    if resync && is_doubted(alloc, reader, window, len, work)? {
+        return Ok(Next::End(Ending::WrongLength(len)));
     }
+    Ok(next)
 }
 
-/// Whether two pieces one behind the other, at this offset of the input, are documents without damage; `None` where it would
-/// cost too much to know.
-fn judge_two(
+/// Whether the document of so many of the bytes ahead is damaged and its length isn't believed: documents go on inside it, and
+/// the first reaches to its end, or neither the end of the input nor a document without damage is there.
+fn is_doubted<R: Read>(
     alloc: Global,
-    first: &[u8],
-    second: &[u8],
-    at: u128,
+    reader: &mut R,
+    window: &mut Window,
+    len: usize,
     work: &mut Work,
-) -> Result<Option<bool>, AllocError>
-    requires { IsPiece first.now × IsPiece second.now × IsWork work.old × (at < 2 ^ 64) }
-    ensures work { IsWork work.new }
-    ensures judged { IfOk result (JudgesAll (first.now ∷ second.now ∷ []) at work.old work.new) }
+) -> Result<bool, Failure>
+    requires { IsWindow window.old × IsWork work.old × (len ≤ length (ahead_of window.old)) × IsPiece (take len (ahead_of window.old)) }
+    ensures doubts { IfOk result (Doubts (R.remaining reader.old) (R.remaining reader.new) window.old window.new work.old work.new len) }
+    ensures fails { IfErr result (λ _. Stays (R.remaining reader.old) (R.remaining reader.new) window.old window.new) }
 {
-    match judge(alloc, first, at, work)? {
-        Some(true) => judge(alloc, second, at + first.len() as u128, work),
-        other => Ok(other),
+    if is_sound(alloc, &window.ahead()[..len])? {
+        return Ok(false);
     }
+    let goes_on = goes_on_behind(alloc, reader, window, len, work)?;
+    goes_on_inside(alloc, reader, window, len, reach(len, goes_on), work)
 }
 
-/// Whether a piece at this offset of the input is a document without damage; `None` where it would cost too much to know.
-fn judge(alloc: Global, bytes: &[u8], at: u128, work: &mut Work) -> Result<Option<bool>, AllocError>
-    requires { IsPiece bytes.now × IsWork work.old × (at < 2 ^ 65) }
-    ensures work { IsWork work.new }
-    ensures judged { IfOk result (Judges bytes.now (at + length bytes.now) work.old work.new) }
+/// How far documents that go on inside one of so many bytes have to reach: to its end, where something goes on there.
+fn reach(len: usize, goes_on: bool) -> usize
+    ensures { MatchBool goes_on (result ≡ len) (result ≡ 0) }
 {
-    let len = bytes.len() as u128;
-    work.reach = work.reach.max(at + len);
-    if MOST_FOR_EACH * work.reach <= work.spent + len {
-        return Ok(None);
-    }
-    let verdict = verdict_on(alloc, bytes)?;
-    work.spent += verdict.cost as u128;
-    Ok(Some(verdict.is_sound))
+    if goes_on { len } else { 0 }
 }
 
-/// Whether a piece is a document without damage, and how many of its bytes were looked at, or somewhat more.
-#[derive(Clone, Copy)]
-struct Verdict {
-    is_sound: bool,
-    cost: usize,
-}
-
-fn verdict_on(alloc: Global, bytes: &[u8]) -> Result<Verdict, AllocError>
+/// Whether these bytes are a document without damage.
+fn is_sound(alloc: Global, bytes: &[u8]) -> Result<bool, AllocError>
     requires { IsPiece bytes.now }
-    ensures judged { IfOk result (λ verdict. IsJudged bytes.now verdict.is_sound verdict.cost) }
-    ensures cost { IfOk result (λ verdict. verdict.cost ≤ length bytes.now) }
+    ensures { IfOk result (λ is. MatchBool is (IsSound limits bytes.now) (¬ IsSound limits bytes.now)) }
 {
     let Ok(document) = RawDocument::from_bytes(bytes) else {
-        return Ok(Verdict {
-            is_sound: false,
-            cost: 0,
-        });
+        return Ok(false);
     };
     match first_fault_within(alloc, document, most_allowed()) {
-        Ok(None) => Ok(Verdict {
-            is_sound: true,
-            cost: bytes.len(),
-        }),
-        Ok(Some(barrier)) => Ok(Verdict {
-            is_sound: false,
-            cost: looked_at(bytes, barrier.place.offset),
-        }),
+        Ok(barrier) => Ok(barrier.is_none()),
         Err(_) => Err(AllocError),
     }
 }
 
-/// How many bytes are looked at of a document whose first fault begins here, or somewhat more: those in front of it, its
-/// key, and as many as the length behind the key says. Where no key is there, they are all.
-fn looked_at(bytes: &[u8], offset: usize) -> usize
-    ensures counts { CountsTo bytes.now offset result }
-    ensures within { result ≤ length bytes.now }
+/// Whether behind so many of the bytes ahead the input ends or a document without damage begins, or it could cost too much to
+/// know.
+fn goes_on_behind<R: Read>(
+    alloc: Global,
+    reader: &mut R,
+    window: &mut Window,
+    len: usize,
+    work: &mut Work,
+) -> Result<bool, Failure>
+    requires { IsWindow window.old × IsWork work.old × (len ≤ length (ahead_of window.old)) × (len ≤ most) }
+    ensures sees { IfOk result (SeesBehind (R.remaining reader.old) (R.remaining reader.new) window.old window.new work.old work.new len) }
+    ensures fails { IfErr result (λ _. Stays (R.remaining reader.old) (R.remaining reader.new) window.old window.new) }
 {
-    if offset >= bytes.len() {
-        return bytes.len();
+    let mut is_last = false;
+    for _ in 0..u64::MAX {
+        match check_behind(alloc, part_of(window, is_last), len, work)? {
+            Check::GoesOn | Check::LeftOut => return Ok(true),
+            Check::Stops => return Ok(false),
+            Check::Wants(count) => is_last = !window.look(reader, count)?,
+        }
     }
-    let Some(end) = memchr(0, &bytes[offset + 1..]) else {
-        return bytes.len();
-    };
-    let said = length_behind(bytes[offset], &bytes[offset + end + 2..], bytes.len());
-    bytes.len().min(
-        offset
-            .saturating_add(end)
-            .saturating_add(said)
-            .saturating_add(AROUND),
-    )
+    Err(Failure::Reading(io::Error::from(io::ErrorKind::TimedOut)))
 }
 
-/// The length that an element of this tag says behind its key; of a regular expression, which says none, and where none is
-/// there, this one.
-fn length_behind(tag: u8, rest: &[u8], otherwise: usize) -> usize
-    ensures { result ≡ said_behind tag rest.now otherwise }
+/// Whether documents go on behind the first and before so many of the bytes ahead, with a first one that reaches to this end.
+fn goes_on_inside<R: Read>(
+    alloc: Global,
+    reader: &mut R,
+    window: &mut Window,
+    len: usize,
+    end: usize,
+    work: &mut Work,
+) -> Result<bool, Failure>
+    requires { IsWindow window.old × IsWork work.old × (0 < len) × (len ≤ length (ahead_of window.old)) × (len ≤ most) }
+    ensures sees { IfOk result (SeesInside (R.remaining reader.old) (R.remaining reader.new) window.old window.new work.old work.new len end) }
+    ensures fails { IfErr result (λ _. Stays (R.remaining reader.old) (R.remaining reader.new) window.old window.new) }
 {
-    match rest.first_chunk::<4>() {
-        Some(head) if tag != REGULAR_EXPRESSION => u32::from_le_bytes(*head) as usize,
-        _ => otherwise,
+    let mut from = 1;
+    let mut is_last = false;
+    for _ in 0..u64::MAX {
+        let places = Places {
+            from,
+            until: len,
+            end,
+        };
+        match seek(alloc, part_of(window, is_last), places, work)? {
+            Sought::Found { .. } => return Ok(true),
+            Sought::Nowhere { .. } => return Ok(false),
+            Sought::Wants { place, count, .. } => {
+                is_last = !window.look(reader, count)?;
+                from = place;
+            }
+        }
     }
+    Err(Failure::Reading(io::Error::from(io::ErrorKind::TimedOut)))
 }

@@ -1,17 +1,18 @@
 //! Runs a command over an input.
 #![tactic(auto)]
 
-ghost use Rattle.std.specs.Prelude.{◌≡◌, ℕ, List, Option, [], ◌∷◌, ◌++◌, ◌<◌, ◌≤◌, codes, IfOk, IfErr, OnOk, length, take};
-ghost use Rattle.std.specs.Option.{option_map};
+ghost use Rattle.std.specs.Prelude.{◌≡◌, ℕ, List, Option, [], ◌∷◌, ◌++◌, ◌<◌, ◌≤◌, codes, IfOk, IfErr, IfSome, IsNone, OnOk, length, take};
+ghost use Rattle.std.specs.Option.{option_copied, option_map};
 ghost use Rattle.std.specs.Io.KnownBytes.{Appends, Keeps};
-ghost use Rattle.bsonraw_dump.specs.Cut.{IsPiece};
+ghost use Rattle.bsonraw_dump.specs.Cut.{EndsWith, IsPiece};
 ghost use Rattle.bsonraw_dump.specs.Find.{Finds};
-ghost use Rattle.bsonraw_dump.specs.Reading.{IsWindow, LooksSome, ahead_of};
-ghost use Rattle.bsonraw_dump.specs.Resync.{IsWork};
+ghost use Rattle.bsonraw_dump.specs.Reading.{GoesAhead, IsReadBehind, IsWindow, ahead_of};
+ghost use Rattle.raw_resync.specs.Seeking.{IsWork};
 ghost use Rattle.bsonraw_dump.specs.Listing.{ListsDocument};
 ghost use Rattle.bsonraw_dump.specs.Find.{Account, account_of};
+ghost use Rattle.bsonraw_dump.specs.Unique.{CountsOne};
 ghost use Rattle.bsonraw_dump.specs.Told.{ending_line, line, summary_line};
-ghost use Rattle.bsonraw_dump.specs.Run.{Emits, Ends, IsReading, PassesFront, PassesGap, PassesOne, Reports, Stops, Writes, head_text};
+ghost use Rattle.bsonraw_dump.specs.Run.{Emits, Ends, FailsAt, IsLeft, IsReading, Leaves, PassesAll, PassesFront, PassesGap, PassesOne, Reports, Writes, head_text};
 ghost use Rattle.bsonraw_dump.specs.Run as says;
 ghost use Rattle.raw_tree.specs.CanonicalForm.{IsCanonicalForm};
 ghost use Rattle.raw_view.specs.Frame.Envelope.{IsEnvelope};
@@ -20,19 +21,21 @@ ghost use Rattle.bsonraw_dump.specs.declared.command.Command.TheVariants.{Unique
 
 use crate::command::Command;
 use crate::counts::Counts;
-use crate::digests::Digests;
-use crate::ending::Ending;
-use crate::failure::Failure;
+use crate::ending::{Ending, Rest};
+use crate::failure::{Failure, ReadFailure, in_range};
 use crate::find::{Finding, Found, Told, find, most_allowed};
+use crate::kept::Kept;
 use crate::listing::list_level;
-use crate::object::{ending_object, summary_object, told_object};
-use crate::resync::{Skip, Work, pass_over};
+use crate::object::{ending_object, told_object};
+use crate::resync::{next_part, pass_over};
 use crate::style::Style;
-use crate::text::{ending_words, line_of, sized, summary, told_line};
-use crate::window::{Next, Window, look_ahead};
+use crate::summary::{summary, summary_object};
+use crate::text::{ending_words, line_of, sized, told_line};
+use crate::window::{Drained, Next, Window};
 use crate::write::put;
 use bson_json::{Style as JsonStyle, WriteJsonError, write_json};
 use raw_form::canonical_within;
+use raw_resync::Work;
 use raw_view::RawDocument;
 use std::alloc::{AllocError, Global};
 use std::io;
@@ -51,9 +54,20 @@ pub struct Asked<'a> {
     pub name: &'a str,
 }
 
+/// How the documents of an input end, and the bytes that are passed over between them.
+#[derive(Drop)]
+pub enum Stop {
+    /// with the input
+    End,
+    /// with bytes that no document begins with
+    Left(Ending),
+    /// reading fails; the last of them ended at this offset
+    Failed(u64, io::Error),
+}
+
 /// Reads an input, a document at a time, writes what the command gives of each, and reports in a line what is wrong with
-/// it. Where no document is in front of what is left, bytes are passed over until documents go on, if that is asked for;
-/// else the run ends. Returns whether all lengths were sound.
+/// it. Where no document is in front of what is left, or a damaged one whose length isn't believed, bytes are passed over until
+/// documents go on, if that is asked for; else what is left is counted, and the run ends. Returns where reading fails, if it does.
 pub fn run<R: Read, D: Write, W: Write>(
     alloc: Global,
     asked: Asked<'_>,
@@ -61,33 +75,133 @@ pub fn run<R: Read, D: Write, W: Write>(
     out: &mut D,
     report: &mut W,
     counts: &mut Counts,
-    digests: &mut Digests,
-) -> Result<bool, Failure>
+    kept: &mut Kept,
+) -> Result<Option<ReadFailure>, Failure>
     ensures ends { IfOk result (Ends asked.entry.command asked.entry.style asked.entry.resync asked.entry.name.now (R.remaining reader.old) (R.remaining reader.new)
-        (D.contents out.old) (D.contents out.new) (W.contents report.old) (W.contents report.new) counts.old counts.new digests.old digests.new) }
-    ensures stops { IfErr result (λ failure. IsReading failure → Stops asked.entry.command asked.entry.style asked.entry.resync asked.entry.name.now (R.remaining reader.old) (R.remaining reader.new)
-        (D.contents out.old) (D.contents out.new) (W.contents report.old) (W.contents report.new) counts.old counts.new digests.old digests.new) }
+        (D.contents out.old) (D.contents out.new) (W.contents report.old) (W.contents report.new) counts.old counts.new kept.old kept.new) }
+    ensures failed { IfErr result (λ failure. ¬ IsReading failure) }
 {
     let mut window = Window::new(alloc);
+    match pass_all(alloc, asked, reader, &mut window, out, report, counts, kept)? {
+        Stop::End => Ok(None),
+        Stop::Left(ending) => { leave(alloc, asked, ending, reader, &mut window, report, counts) }
+        Stop::Failed(from, error) => {
+            let at = window.end()?;
+            *counts = in_range(counts.with_left(at.saturating_sub(from)))?;
+            Ok(Some(ReadFailure { at, error }))
+        }
+    }
+}
+
+/// Passes the documents of an input, and the bytes between them where that is asked for.
+fn pass_all<R: Read, D: Write, W: Write>(
+    alloc: Global,
+    asked: Asked<'_>,
+    reader: &mut R,
+    window: &mut Window,
+    out: &mut D,
+    report: &mut W,
+    counts: &mut Counts,
+    kept: &mut Kept,
+) -> Result<Stop, Failure>
+    requires { IsWindow window.old × (ahead_of window.old ≡ []) × (window.old.offset ≡ 0) }
+    ensures passed { IfOk result (PassesAll asked.entry.command asked.entry.style asked.entry.resync asked.entry.name.now (R.remaining reader.old) (R.remaining reader.new)
+        (D.contents out.old) (D.contents out.new) (W.contents report.old) (W.contents report.new) counts.old counts.new kept.old kept.new window.new) }
+    ensures failed { IfErr result (λ failure. ¬ IsReading failure) }
+{
     let mut work = Work::new();
-    let mut are_sound = true;
     for _ in 0..u64::MAX {
-        match look_ahead(reader, &mut window, 0)? {
+        let from = window.offset();
+        let next = match next_part(alloc, asked.resync, reader, window, &mut work) {
+            Ok(next) => next,
+            Err(failure) => return stopped(from, failure),
+        };
+        match next {
             Next::Document(len) => {
-                pass_front(alloc, asked, len, &mut window, out, report, counts, digests)?;
+                pass_front(alloc, asked, len, window, out, report, counts, kept)?;
             }
-            Next::Nothing => return Ok(are_sound),
+            Next::Nothing => return Ok(Stop::End),
             Next::End(ending) => {
                 if !asked.resync {
-                    put_ending(alloc, asked, window.offset(), ending, None, report)?;
-                    return Ok(false);
+                    return Ok(Stop::Left(ending));
                 }
-                pass_gap(alloc, asked, ending, reader, &mut window, &mut work, report)?;
-                are_sound = false;
+                if let Err(failure) = pass_gap(
+                    alloc, asked, ending, reader, window, &mut work, report, counts,
+                ) {
+                    return stopped(from, failure);
+                }
             }
         }
     }
     Err(Failure::Writing(io::Error::from(io::ErrorKind::FileTooLarge)))
+}
+
+/// That reading failed, where it did; the last document ended at this offset.
+fn stopped(from: u64, failure: Failure) -> Result<Stop, Failure>
+    ensures stops { IfOk result (λ stop. IsReading failure × FailsAt from stop) }
+    ensures failed { IfErr result (λ failure. ¬ IsReading failure) }
+{
+    match failure {
+        Failure::Reading(error) => Ok(Stop::Failed(from, error)),
+        other => Err(other),
+    }
+}
+
+/// Counts the rest of an input, with which no document begins, and tells why. Returns where reading fails, if it does.
+fn leave<R: Read, W: Write>(
+    alloc: Global,
+    asked: Asked<'_>,
+    ending: Ending,
+    reader: &mut R,
+    window: &mut Window,
+    report: &mut W,
+    counts: &mut Counts,
+) -> Result<Option<ReadFailure>, Failure>
+    requires { IsWindow window.old × EndsWith ending (ahead_of window.old) × IsReadBehind ending (R.remaining reader.old) }
+    ensures left { IfOk result (Leaves asked.entry.style asked.entry.name.now ending window.old (R.remaining reader.old) (R.remaining reader.new)
+        (W.contents report.old) (W.contents report.new) counts.old counts.new) }
+    ensures failed { IfErr result (λ failure. ¬ IsReading failure) }
+{
+    let offset = window.offset();
+    let rest = rest_of(ending, reader, window)?;
+    put_ending(
+        alloc,
+        asked,
+        offset,
+        ending,
+        Rest::NotRead(rest.count),
+        report,
+    )?;
+    *counts = in_range(counts.with_left(rest.count))?;
+    let at = in_range(offset.checked_add(rest.count))?;
+    Ok(failure_at(at, rest.failure))
+}
+
+/// Reads the rest of an input, with which no document begins, and counts it.
+fn rest_of<R: Read>(ending: Ending, reader: &mut R, window: &mut Window) -> Result<Drained, Failure>
+    requires { IsWindow window.old × EndsWith ending (ahead_of window.old) × IsReadBehind ending (R.remaining reader.old) }
+    ensures left { IfOk result (IsLeft ending (R.remaining reader.old) (R.remaining reader.new) (ahead_of window.old)) }
+    ensures failed { IfErr result (λ failure. ¬ IsReading failure) }
+{
+    match ending {
+        Ending::CutOff(count) => Ok(Drained {
+            count: count as u64,
+            failure: None,
+        }),
+        Ending::Unsound(_) => window.drain(reader),
+        Ending::WrongLength(_) => unreachable!(),
+    }
+}
+
+/// That reading failed behind so many bytes, where it did.
+fn failure_at(at: u64, error: Option<io::Error>) -> Option<ReadFailure>
+    ensures none { IsNone result → IsNone error }
+    ensures at { IfSome result (λ failure. failure.at ≡ at) }
+{
+    match error {
+        Some(error) => Some(ReadFailure { at, error }),
+        None => None,
+    }
 }
 
 /// Passes the document of so many bytes in front of the bytes ahead.
@@ -99,11 +213,11 @@ fn pass_front<D: Write, W: Write>(
     out: &mut D,
     report: &mut W,
     counts: &mut Counts,
-    digests: &mut Digests,
+    kept: &mut Kept,
 ) -> Result<(), Failure>
     requires { IsWindow window.old × (len ≤ length (ahead_of window.old)) × IsPiece (take len (ahead_of window.old)) }
     ensures passed { OnOk result (PassesFront asked.entry.command asked.entry.style asked.entry.name.now len window.old window.new
-        (D.contents out.old) (D.contents out.new) (W.contents report.old) (W.contents report.new) counts.old counts.new digests.old digests.new) }
+        (D.contents out.old) (D.contents out.new) (W.contents report.old) (W.contents report.new) counts.old counts.new kept.old kept.new) }
     ensures failed { IfErr result (λ failure. ¬ IsReading failure) }
 {
     let bytes = &window.ahead()[..len];
@@ -116,16 +230,13 @@ fn pass_front<D: Write, W: Write>(
         bytes,
         out,
         report,
-        digests,
+        kept,
     )?;
-    let Some(more) = counts.with(len, finding) else {
-        return Err(Failure::Writing(io::Error::from(io::ErrorKind::FileTooLarge)));
-    };
-    *counts = more;
+    *counts = in_range(counts.with(len, finding))?;
     window.pass(len)
 }
 
-/// Passes over bytes in front of which is no document, and tells why none is there.
+/// Passes over bytes in front of which is no document that is believed, and tells why none is there.
 fn pass_gap<R: Read, W: Write>(
     alloc: Global,
     asked: Asked<'_>,
@@ -134,16 +245,19 @@ fn pass_gap<R: Read, W: Write>(
     window: &mut Window,
     work: &mut Work,
     report: &mut W,
+    counts: &mut Counts,
 ) -> Result<(), Failure>
     requires { IsWindow window.old × IsWork work.old × (0 < length (ahead_of window.old)) }
     ensures passed { OnOk result (PassesGap asked.entry.style asked.entry.name.now ending (R.remaining reader.old) (R.remaining reader.new)
-        window.old window.new work.old work.new (W.contents report.old) (W.contents report.new)) }
-    ensures fails { IfErr result (λ failure. IsReading failure
-        → LooksSome (R.remaining reader.old) (R.remaining reader.new) (ahead_of window.old) × Keeps (W.contents report.old) (W.contents report.new)) }
+        window.old window.new work.old work.new (W.contents report.old) (W.contents report.new) counts.old counts.new) }
+    ensures fails { IfErr result (λ failure. IsReading failure → GoesAhead (R.remaining reader.old) (R.remaining reader.new) window.old window.new
+        × Keeps (W.contents report.old) (W.contents report.new) × (counts.new ≡ counts.old)) }
 {
     let offset = window.offset();
     let skip = pass_over(alloc, reader, window, work)?;
-    put_ending(alloc, asked, offset, ending, Some(skip), report)
+    put_ending(alloc, asked, offset, ending, Rest::PassedOver(skip), report)?;
+    *counts = in_range(counts.with_gap(skip.count))?;
+    Ok(())
 }
 
 /// Passes one document.
@@ -156,16 +270,16 @@ fn pass<D: Write, W: Write>(
     bytes: &[u8],
     out: &mut D,
     report: &mut W,
-    digests: &mut Digests,
+    kept: &mut Kept,
 ) -> Result<Finding, Failure>
     requires { IsPiece bytes.now }
     ensures passed { IfOk result (PassesOne command style name.now offset bytes.now
-        (D.contents out.old) (D.contents out.new) (W.contents report.old) (W.contents report.new) digests.old digests.new) }
+        (D.contents out.old) (D.contents out.new) (W.contents report.old) (W.contents report.new) kept.old kept.new) }
     ensures failed { IfErr result (λ failure. ¬ IsReading failure) }
 {
     let found = find(alloc, bytes)?;
     report_found(alloc, command, style, name, offset, bytes, &found, report)?;
-    emit(alloc, command, found.finding, bytes, out, digests)?;
+    emit(alloc, command, found.finding, bytes, out, kept)?;
     Ok(found.finding)
 }
 
@@ -188,7 +302,7 @@ fn report_found<W: Write>(
 {
     match (command, found.finding) {
         (Command::List, _) => put_listing(alloc, name, offset, bytes, &found.told, report),
-        (_, Finding::Damaged) | (Command::Check, Finding::Breached) => {
+        (_, Finding::Damaged | Finding::TooDeep) | (Command::Check, Finding::Breached) => {
             put_told(alloc, style, name, offset, &found.told, report)
         }
         (Command::Check, Finding::Canonical)
@@ -266,17 +380,16 @@ fn ending_text(
     name: &str,
     offset: u64,
     ending: Ending,
-    skipped: Option<Skip>,
+    rest: Rest,
 ) -> Result<Vec<u8>, AllocError>
-    ensures { IfOk result
-        (λ text. text.items ≡ ending_line style name.now offset ending skipped) }
+    ensures { IfOk result (λ text. text.items ≡ ending_line style name.now offset ending rest) }
 {
     match style {
         Style::Words => {
-            let words = ending_words(alloc, ending, skipped)?;
+            let words = ending_words(alloc, ending, rest)?;
             line_of(alloc, name, offset, &words)
         }
-        Style::Json => ending_object(alloc, name, offset, ending, skipped),
+        Style::Json => ending_object(alloc, name, offset, ending, rest),
     }
 }
 
@@ -285,31 +398,34 @@ fn put_ending<W: Write>(
     asked: Asked<'_>,
     offset: u64,
     ending: Ending,
-    skipped: Option<Skip>,
+    rest: Rest,
     report: &mut W,
 ) -> Result<(), Failure>
     ensures written { OnOk result
-        (Appends (W.contents report.old) (W.contents report.new) (ending_line asked.entry.style asked.entry.name.now offset ending skipped)) }
+        (Appends (W.contents report.old) (W.contents report.new) (ending_line asked.entry.style asked.entry.name.now offset ending rest)) }
     ensures failed { IfErr result (λ failure. ¬ IsReading failure) }
 {
-    let text = ending_text(alloc, asked.style, asked.name, offset, ending, skipped)?;
+    let text = ending_text(alloc, asked.style, asked.name, offset, ending, rest)?;
     put(report, &text)
 }
 
-/// Writes the line behind all that a check reports.
+/// Writes the line that tells what was counted of an input, or of all.
 pub fn put_summary<W: Write>(
     alloc: Global,
     style: Style,
+    name: Option<&str>,
+    command: Command,
     counts: &Counts,
+    kept: u64,
     report: &mut W,
 ) -> Result<(), Failure>
-    ensures written { OnOk result
-        (Appends (W.contents report.old) (W.contents report.new) (summary_line style counts.now)) }
+    ensures written { OnOk result (Appends (W.contents report.old) (W.contents report.new)
+        (summary_line style (option_copied name.entry) command counts.now kept)) }
     ensures failed { IfErr result (λ failure. ¬ IsReading failure) }
 {
     let text = match style {
-        Style::Words => summary(alloc, counts)?,
-        Style::Json => summary_object(alloc, counts)?,
+        Style::Words => summary(alloc, name, command, counts, kept)?,
+        Style::Json => summary_object(alloc, name, command, counts, kept)?,
     };
     put(report, &text)
 }
@@ -321,29 +437,29 @@ fn emit<D: Write>(
     finding: Finding,
     bytes: &[u8],
     out: &mut D,
-    digests: &mut Digests,
+    kept: &mut Kept,
 ) -> Result<(), Failure>
     requires { (told : Option Account) × Finds bytes.now finding told }
     ensures written { OnOk result
-        (Emits command bytes.now finding (D.contents out.old) (D.contents out.new) digests.old digests.new) }
+        (Emits command bytes.now finding (D.contents out.old) (D.contents out.new) kept.old kept.new) }
     ensures failed { IfErr result (λ failure. ¬ IsReading failure) }
 {
     match (command, finding) {
-        (Command::Check | Command::List, _) | (_, Finding::Damaged) => put(out, b""),
+        (Command::Check | Command::List, _) | (_, Finding::Damaged | Finding::TooDeep) => {
+            put(out, b"")
+        }
         (Command::Sound, Finding::Canonical | Finding::Breached) => put_document(
-            command, bytes, out, digests,
+            command, bytes, out, kept,
         ),
         (Command::Canon | Command::Unique, Finding::Canonical) => put_document(
-            command, bytes, out, digests,
+            command, bytes, out, kept,
         ),
-        (Command::Canon, Finding::Breached) => {
-            put_form(alloc, Command::Canon, bytes, out, digests)
-        }
+        (Command::Canon, Finding::Breached) => { put_form(alloc, Command::Canon, bytes, out, kept) }
         (Command::Unique, Finding::Breached) => {
-            put_form(alloc, Command::Unique, bytes, out, digests)
+            put_form(alloc, Command::Unique, bytes, out, kept)
         }
         (Command::Json(style), Finding::Canonical | Finding::Breached) => {
-            put_json(alloc, style, bytes, out)
+            put_json(alloc, style, bytes, out, kept)
         }
     }
 }
@@ -354,14 +470,14 @@ fn put_form<D: Write>(
     command: Command,
     bytes: &[u8],
     out: &mut D,
-    digests: &mut Digests,
+    kept: &mut Kept,
 ) -> Result<(), Failure>
     ensures written { OnOk result ((form : List ℕ) × IsCanonicalForm bytes.now form
-        × Writes command (form ∷ []) (D.contents out.old) (D.contents out.new) digests.old digests.new) }
+        × Writes command (form ∷ []) (D.contents out.old) (D.contents out.new) kept.old kept.new) }
     ensures failed { IfErr result (λ failure. ¬ IsReading failure) }
 {
     match canonical_within(alloc, bytes, most_allowed()) {
-        Ok(form) => put_document(command, &form, out, digests),
+        Ok(form) => put_document(command, &form, out, kept),
         Err(_) => Err(Failure::Memory),
     }
 }
@@ -372,17 +488,18 @@ fn put_json<D: Write>(
     style: JsonStyle,
     bytes: &[u8],
     out: &mut D,
+    kept: &mut Kept,
 ) -> Result<(), Failure>
     requires { IsEnvelope bytes.now }
     ensures written { OnOk result ((text : List ℕ) × IsJson style bytes.now text
-        × Appends (D.contents out.old) (D.contents out.new) (text ++ codes "\n")) }
+        × Appends (D.contents out.old) (D.contents out.new) (text ++ codes "\n") × CountsOne kept.old kept.new) }
     ensures failed { IfErr result (λ failure. ¬ IsReading failure) }
 {
     let Ok(document) = RawDocument::from_bytes(bytes) else {
         unreachable!()
     };
     match write_json(alloc, document, style, most_allowed(), out) {
-        Ok(()) => put(out, b"\n"),
+        Ok(()) => put_one(b"\n", out, kept),
         Err(WriteJsonError::Writing(error)) => Err(Failure::Writing(error)),
         Err(_) => Err(Failure::Memory),
     }
@@ -393,28 +510,38 @@ fn put_document<D: Write>(
     command: Command,
     document: &[u8],
     out: &mut D,
-    digests: &mut Digests,
+    kept: &mut Kept,
 ) -> Result<(), Failure>
     ensures written { OnOk result
-        (Writes command (document.now ∷ []) (D.contents out.old) (D.contents out.new) digests.old digests.new) }
+        (Writes command (document.now ∷ []) (D.contents out.old) (D.contents out.new) kept.old kept.new) }
     ensures failed { IfErr result (λ failure. ¬ IsReading failure) }
 {
     match command {
-        Command::Unique => put_new(document, out, digests),
-        Command::Check | Command::List | Command::Canon | Command::Sound | Command::Json(_) => put(
-            out, document,
-        ),
+        Command::Unique => put_new(document, out, kept),
+        Command::Check | Command::List | Command::Canon | Command::Sound | Command::Json(_) => {
+            put_one(document, out, kept)
+        }
     }
 }
 
-/// Writes a document whose digest is new, which is known then.
-fn put_new<D: Write>(document: &[u8], out: &mut D, digests: &mut Digests) -> Result<(), Failure>
+/// Writes these bytes, with which a document more is written.
+fn put_one<D: Write>(bytes: &[u8], out: &mut D, kept: &mut Kept) -> Result<(), Failure>
     ensures written { OnOk result
-        (Writes Unique (document.now ∷ []) (D.contents out.old) (D.contents out.new) digests.old digests.new) }
+        (Appends (D.contents out.old) (D.contents out.new) bytes.now × CountsOne kept.old kept.new) }
     ensures failed { IfErr result (λ failure. ¬ IsReading failure) }
 {
-    if digests.add(document)? {
-        put(out, document)
+    put(out, bytes)?;
+    kept.count_one()
+}
+
+/// Writes a document whose digest is new, which is known then.
+fn put_new<D: Write>(document: &[u8], out: &mut D, kept: &mut Kept) -> Result<(), Failure>
+    ensures written { OnOk result
+        (Writes Unique (document.now ∷ []) (D.contents out.old) (D.contents out.new) kept.old kept.new) }
+    ensures failed { IfErr result (λ failure. ¬ IsReading failure) }
+{
+    if kept.add(document)? {
+        put_one(document, out, kept)
     } else {
         put(out, b"")
     }

@@ -1,4 +1,4 @@
-ghost use Rattle.std.specs.Prelude.{◌≡◌, max};
+ghost use Rattle.std.specs.Prelude.{◌≡◌};
 ghost use Rattle.bsonraw_dump.specs.Status.{code_of};
 
 /// How a run ends, from the best on.
@@ -30,17 +30,6 @@ impl Status {
             Status::Input => 3,
             Status::Memory => 4,
             Status::Output => 5,
-        }
-    }
-
-    /// The worse of two, whose exit status is higher.
-    pub fn or(self, other: Status) -> Status
-        ensures { code_of result ≡ max (code_of self) (code_of other) }
-    {
-        if self.code() < other.code() {
-            other
-        } else {
-            self
         }
     }
 }

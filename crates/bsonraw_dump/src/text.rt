@@ -2,19 +2,17 @@
 #![tactic(auto)]
 
 ghost use Rattle.std.specs.Prelude.{◌≡◌, ◌++◌, ℕ, List, Some, codes, decimal, IfOk, flat_map, length, map, OnOk};
+ghost use Rattle.std.specs.Fmt.{signed_decimal};
 ghost use Rattle.std.specs.Option.{option_map};
 ghost use Rattle.json.specs.Print.{quoted};
 ghost use Rattle.raw_form.specs.Barriers.{step_of};
 ghost use Rattle.bsonraw_dump.specs.Find.{account_of, spot_of};
-ghost use Rattle.bsonraw_dump.specs.Told.{all_text, ending_text, line, skip_text, spot_text, step_text, summary_line};
+ghost use Rattle.bsonraw_dump.specs.Told.{all_text, ending_text, line, rest_text, spot_text, step_text};
 ghost use Rattle.bsonraw_dump.specs.Told as says;
 ghost use Rattle.bsonraw_dump.specs.Run.{head_text};
-ghost use Rattle.bsonraw_dump.specs.declared.style.Style.TheVariants.{Words};
 
-use crate::counts::Counts;
-use crate::ending::Ending;
+use crate::ending::{Ending, Rest};
 use crate::find::Told;
-use crate::resync::Skip;
 use itoa::Buffer;
 use json::Writer;
 use raw_form::{PathStep, Place};
@@ -34,6 +32,13 @@ pub fn push_words(text: &mut Vec<u8>, words: &str) -> Result<(), AllocError>
     ensures { OnOk result (text.new.items ≡ text.old.items ++ words.now) }
 {
     text.extend_from_slice(words.as_bytes())
+}
+
+pub fn push_signed(text: &mut Vec<u8>, number: i64) -> Result<(), AllocError>
+    ensures { OnOk result (text.new.items ≡ text.old.items ++ signed_decimal number) }
+{
+    let mut digits = Buffer::new();
+    text.extend_from_slice(digits.format(number).as_bytes())
 }
 
 pub fn push_number(text: &mut Vec<u8>, number: u64) -> Result<(), AllocError>
@@ -118,16 +123,12 @@ pub fn line_of(alloc: Global, name: &str, offset: u64, words: &[u8]) -> Result<V
     Ok(text)
 }
 
-/// Why no document is in front of what is left, and how many bytes are passed over.
-pub fn ending_words(
-    alloc: Global,
-    ending: Ending,
-    skipped: Option<Skip>,
-) -> Result<Vec<u8>, AllocError>
-    ensures { IfOk result (λ text. text.items ≡ ending_text ending ++ skip_text skipped) }
+/// Why no document is in front of what is left, and what comes of that.
+pub fn ending_words(alloc: Global, ending: Ending, rest: Rest) -> Result<Vec<u8>, AllocError>
+    ensures { IfOk result (λ text. text.items ≡ ending_text ending ++ rest_text rest) }
 {
     let mut text = why_ended(alloc, ending)?;
-    push_skipped(&mut text, skipped)?;
+    push_rest(&mut text, rest)?;
     Ok(text)
 }
 
@@ -141,20 +142,34 @@ fn why_ended(alloc: Global, ending: Ending) -> Result<Vec<u8>, AllocError>
             push_words(&mut text, " bytes of a document")?;
             Ok(text)
         }
-        Ending::Unsound => Vec::from_slice(alloc, b"unsound length"),
+        Ending::Unsound(len) => {
+            let mut text = Vec::from_slice(alloc, b"unsound length ")?;
+            push_signed(&mut text, i64::from(len))?;
+            Ok(text)
+        }
+        Ending::WrongLength(len) => {
+            let mut text = Vec::from_slice(alloc, b"wrong length ")?;
+            push_number(&mut text, len as u64)?;
+            Ok(text)
+        }
     }
 }
 
-fn push_skipped(text: &mut Vec<u8>, skipped: Option<Skip>) -> Result<(), AllocError>
-    ensures { OnOk result (text.new.items ≡ text.old.items ++ skip_text skipped) }
+fn push_rest(text: &mut Vec<u8>, rest: Rest) -> Result<(), AllocError>
+    ensures { OnOk result (text.new.items ≡ text.old.items ++ rest_text rest) }
 {
-    let Some(skipped) = skipped else {
-        return Ok(());
-    };
     push_words(text, ": ")?;
-    push_number(text, skipped.count)?;
-    push_words(text, " bytes passed over")?;
-    push_words(text, all_words(skipped.all))
+    match rest {
+        Rest::PassedOver(skip) => {
+            push_number(text, skip.count)?;
+            push_words(text, " bytes passed over")?;
+            push_words(text, all_words(skip.all))
+        }
+        Rest::NotRead(count) => {
+            push_number(text, count)?;
+            push_words(text, " bytes not read, --resync goes on")
+        }
+    }
 }
 
 /// Whether each place in what is passed over was checked.
@@ -179,21 +194,5 @@ pub fn sized(alloc: Global, len: usize, told: &Option<Told<'_>>) -> Result<Vec<u
         push_words(&mut text, ": ")?;
         text.extend_from_slice(&words_of(alloc, told)?)?;
     }
-    Ok(text)
-}
-
-/// The line behind all that a check reports.
-pub fn summary(alloc: Global, counts: &Counts) -> Result<Vec<u8>, AllocError>
-    ensures { IfOk result (λ text. text.items ≡ summary_line Words counts.now) }
-{
-    let mut text = Vec::from_slice(alloc, b"documents: ")?;
-    push_number(&mut text, counts.documents)?;
-    push_words(&mut text, ", bytes: ")?;
-    push_number(&mut text, counts.bytes)?;
-    push_words(&mut text, ", not canonical: ")?;
-    push_number(&mut text, counts.breached)?;
-    push_words(&mut text, ", damaged: ")?;
-    push_number(&mut text, counts.damaged)?;
-    push_words(&mut text, "\n")?;
     Ok(text)
 }

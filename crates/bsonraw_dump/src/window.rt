@@ -4,11 +4,11 @@
 ghost use Rattle.std.specs.Prelude.{◌≡◌, ◌+◌, ◌≤◌, ◌<◌, ◌^◌, ◌⊎◌, ℕ, List, MatchBool, Option, [], true, drop, length, take, IfErr, IfOk, OnOk};
 ghost use Rattle.std.specs.Io.KnownBytes.{IsAtEnd};
 ghost use Rattle.bsonraw_dump.specs.Cut.{most, said_len, IsSoundLength};
-ghost use Rattle.bsonraw_dump.specs.Reading.{FillsBuffer, FillsSome, IsNext, IsWindow, LooksSome, SeesAhead, TellsNext, ahead_of};
+ghost use Rattle.bsonraw_dump.specs.Reading.{FillsBuffer, IsNext, IsWindow, ReadsRest, SeesAhead, Stays, TellsNext, ahead_of};
 ghost use Rattle.bsonraw_dump.specs.Run.{IsReading};
 
 use crate::ending::Ending;
-use crate::failure::Failure;
+use crate::failure::{Failure, in_range};
 use std::alloc::{AllocError, Global};
 use std::io;
 use std::io::{ErrorKind, Read};
@@ -73,16 +73,22 @@ impl Window {
         &self.room[self.at..self.at + self.len]
     }
 
+    /// How many bytes of the input were read. Fails if they are over the range of an offset.
+    pub fn end(&self) -> Result<u64, Failure>
+        requires { IsWindow self.now }
+        ensures end { IfOk result (λ end. end ≡ self.now.offset + length (ahead_of self.now)) }
+        ensures failed { IfErr result (λ failure. ¬ IsReading failure) }
+    {
+        in_range(self.offset.checked_add(self.len as u64))
+    }
+
     /// Passes so many bytes. Fails if the offset would be over its range.
     pub fn pass(&mut self, count: usize) -> Result<(), Failure>
         requires { IsWindow self.old × (count ≤ length (ahead_of self.old)) }
         ensures passed { OnOk result (IsWindow self.new × (ahead_of self.new ≡ drop count (ahead_of self.old)) × (self.new.offset ≡ self.old.offset + count)) }
         ensures failed { IfErr result (λ failure. ¬ IsReading failure) }
     {
-        let Some(offset) = self.offset.checked_add(count as u64) else {
-            return Err(Failure::Writing(io::Error::from(ErrorKind::FileTooLarge)));
-        };
-        self.offset = offset;
+        self.offset = in_range(self.offset.checked_add(count as u64))?;
         self.at += count;
         self.len -= count;
         Ok(())
@@ -92,19 +98,31 @@ impl Window {
     pub fn look<R: Read>(&mut self, reader: &mut R, want: usize) -> Result<bool, Failure>
         requires { IsWindow self.old × (want < 2 ^ 32) }
         ensures looks { IfOk result (SeesAhead (R.remaining reader.old) (R.remaining reader.new) self.old self.new want) }
-        ensures fails { IfErr result (λ _. LooksSome (R.remaining reader.old) (R.remaining reader.new) (ahead_of self.old)) }
+        ensures fails { IfErr result (λ _. Stays (R.remaining reader.old) (R.remaining reader.new) self.old self.new) }
     {
         if want <= self.len {
             return Ok(true);
         }
         self.make_room(want)?;
-        match fill(reader, &mut self.room[self.at..], self.len, want) {
-            Ok(len) => {
-                self.len = len;
-                Ok(want <= len)
-            }
-            Err(error) => Err(Failure::Reading(error)),
+        let filled = fill(reader, &mut self.room[self.at..], self.len, want);
+        self.len = filled.len;
+        match filled.failure {
+            None => Ok(want <= self.len),
+            Some(error) => Err(Failure::Reading(error)),
         }
+    }
+
+    /// Reads the rest of the input, of which some bytes are ahead, and counts it.
+    pub fn drain<R: Read>(&mut self, reader: &mut R) -> Result<Drained, Failure>
+        requires { IsWindow self.old × (0 < length (ahead_of self.old)) }
+        ensures drained { IfOk result (ReadsRest (R.remaining reader.old) (R.remaining reader.new) (ahead_of self.old)) }
+        ensures failed { IfErr result (λ failure. ¬ IsReading failure) }
+    {
+        let more = drain(reader, &mut self.room)?;
+        Ok(Drained {
+            count: in_range(more.count.checked_add(self.len as u64))?,
+            failure: more.failure,
+        })
     }
 
     /// Makes room for so many bytes from the first one ahead on. No more bytes are moved than were passed.
@@ -128,34 +146,81 @@ impl Window {
     }
 }
 
-/// Reads on behind the front of the buffer, until so many bytes are filled or the input ends, and returns how far it is
-/// filled then.
-fn fill<R: Read>(
-    reader: &mut R,
-    buffer: &mut [u8],
-    front: usize,
-    enough: usize,
-) -> io::Result<usize>
+/// How far a buffer is filled, and the error with which reading failed, if it did.
+#[derive(Drop)]
+struct Filled {
+    len: usize,
+    failure: Option<io::Error>,
+}
+
+/// Reads on behind the front of the buffer, until so many bytes are filled, the input ends or reading fails.
+fn fill<R: Read>(reader: &mut R, buffer: &mut [u8], front: usize, enough: usize) -> Filled
     requires { (front ≤ length buffer.old) × (enough ≤ length buffer.old) }
-    ensures read { IfOk result (FillsBuffer (R.remaining reader.old) (R.remaining reader.new) front enough buffer.old buffer.new) }
-    ensures some { IfErr result (λ _. FillsSome (R.remaining reader.old) (R.remaining reader.new) front buffer.old) }
+    ensures { FillsBuffer (R.remaining reader.old) (R.remaining reader.new) front enough buffer.old buffer.new result }
 {
-    let mut at = front;
+    let mut len = front;
     for _ in 0..u64::MAX {
-        if at >= enough {
-            return Ok(at);
+        if len >= enough {
+            return Filled { len, failure: None };
         }
-        match reader.read(&mut buffer[at..]) {
-            Ok(0) => return Ok(at),
-            Ok(count) => at += count,
+        match reader.read(&mut buffer[len..]) {
+            Ok(0) => return Filled { len, failure: None },
+            Ok(count) => len += count,
             Err(error) => {
                 if error.kind() != ErrorKind::Interrupted {
-                    return Err(error);
+                    return Filled {
+                        len,
+                        failure: Some(error),
+                    };
                 }
             }
         }
     }
-    Err(io::Error::from(ErrorKind::TimedOut))
+    Filled {
+        len,
+        failure: Some(io::Error::from(ErrorKind::TimedOut)),
+    }
+}
+
+/// Of how many bytes the rest of an input is, and the error with which reading failed, if it did.
+#[derive(Drop)]
+pub struct Drained {
+    /// how many bytes
+    pub count: u64,
+    /// the error
+    pub failure: Option<io::Error>,
+}
+
+/// Reads the input to its end, over a buffer that isn't empty.
+fn drain<R: Read>(reader: &mut R, buffer: &mut [u8]) -> Result<Drained, Failure>
+    requires { 0 < length buffer.old }
+    ensures drained { IfOk result (ReadsRest (R.remaining reader.old) (R.remaining reader.new) []) }
+    ensures failed { IfErr result (λ failure. ¬ IsReading failure) }
+{
+    let mut count: u64 = 0;
+    for _ in 0..u64::MAX {
+        match reader.read(buffer) {
+            Ok(0) => {
+                return Ok(Drained {
+                    count,
+                    failure: None,
+                });
+            }
+            Ok(more) => count = in_range(count.checked_add(more as u64))?,
+            Err(error) => {
+                if error.kind() != ErrorKind::Interrupted {
+                    return Ok(Drained {
+                        count,
+                        failure: Some(error),
+                    });
+                }
+            }
+        }
+    }
+    Ok(Drained {
+        count,
+        failure: Some(io::Error::from(ErrorKind::TimedOut)),
+    })
 }
 
 /// Looks what is next in an input behind so many of the bytes ahead.
@@ -166,14 +231,15 @@ pub fn look_ahead<R: Read>(
 ) -> Result<Next, Failure>
     requires { IsWindow window.old × (from ≤ length (ahead_of window.old)) × (from < 2 ^ 26) }
     ensures told { IfOk result (TellsNext (R.remaining reader.old) (R.remaining reader.new) window.old window.new from) }
-    ensures fails { IfErr result (λ _. LooksSome (R.remaining reader.old) (R.remaining reader.new) (ahead_of window.old)) }
+    ensures fails { IfErr result (λ _. Stays (R.remaining reader.old) (R.remaining reader.new) window.old window.new) }
 {
     if !window.look(reader, from + 4)? {
         return Ok(too_few(window.ahead().len() - from));
     }
-    let len = length_at(window.ahead(), from);
+    let said = length_at(window.ahead(), from);
+    let len = said as usize;
     if !is_sound(len) {
-        return Ok(Next::End(Ending::Unsound));
+        return Ok(Next::End(Ending::Unsound(said.cast_signed())));
     }
     if window.look(reader, from + len)? {
         Ok(Next::Document(len))
@@ -183,14 +249,14 @@ pub fn look_ahead<R: Read>(
 }
 
 /// The length that four bytes at this offset say.
-fn length_at(bytes: &[u8], from: usize) -> usize
+fn length_at(bytes: &[u8], from: usize) -> u32
     requires { from + 4 ≤ length bytes.now }
     ensures { result ≡ said_len (drop from bytes.now) }
 {
     let Some(head) = bytes[from..].first_chunk::<4>() else {
         unreachable!()
     };
-    u32::from_le_bytes(*head) as usize
+    u32::from_le_bytes(*head)
 }
 
 /// What is next where so many bytes are left, fewer than a length has.

@@ -1,6 +1,6 @@
 use Rattle.std.proofs.Common.{◌∷◌, ◌++◌}
 use Rattle.json.specs.Token.{begin_object}
-use Rattle.bsonraw_dump.specs.Told.{ending_members, head_members, skip_members}
+use Rattle.bsonraw_dump.specs.Told.{ending_members, head_members, rest_members}
 use Rattle.bsonraw_dump.proofs.Objects.{has_more}
 use Rattle.bsonraw_dump.proofs.object.ending_object.Goals as goal
 
@@ -8,7 +8,7 @@ pub returns : goal.returns
 returns c =
     let head = head_members c.args.name.now c.args.offset in
     let why = ending_members c.args.ending in
-    let over = skip_members c.args.skipped in
+    let over = rest_members c.args.rest in
     let first = has_more c.in_ok-object.object c.put_ending.new.object (begin_object ∷ head) why c.in_ok-object.ensures c.in_ok-put_ending.ensures in
-    let second = has_more c.put_ending.new.object c.put_skipped.new.object _ over first c.in_ok-put_skipped.ensures in
+    let second = has_more c.put_ending.new.object c.put_rest.new.object _ over first c.in_ok-put_rest.ensures in
     c.ended.ensures (head ++ why ++ over) second.0 second.1

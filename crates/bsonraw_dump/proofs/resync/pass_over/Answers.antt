@@ -1,47 +1,140 @@
-use Rattle.std.proofs.Common.{◌≡◌, ◌+◌, None, Some, true, false, refl, inl, inr}
-use Rattle.bsonraw_dump.specs.Reading.{LooksSome, ahead_of}
-use Rattle.bsonraw_dump.proofs.Skipping.{passes_more, passes_read, passes_some, searched_none, searched_on, searched_to}
+use Rattle.std.proofs.Common.{◌≡◌, ◌+◌, ◌-◌, ◌*◌, ◌<◌, ◌≤◌, ◌∙◌, [], ◌&&◌, add_assoc, arith, ap, length, refl, subst, sym, not}
+use Rattle.bsonraw_dump.specs.Reading.{ahead_of}
+use Rattle.raw_resync.specs.declared.search.Places.{Places}
+use Rattle.raw_resync.specs.declared.search.Sought.TheVariants as sought
 use Rattle.bsonraw_dump.proofs.Passing.{if_err_reading}
+use Rattle.bsonraw_dump.proofs.Skipping.{IsSearched, goes_ahead, not_true, passes_more, searched_none, searched_on, searched_to, seeks_ahead}
 use Rattle.bsonraw_dump.proofs.resync.pass_over.Goals as goal
-use Rattle.bsonraw_dump.proofs.resync.pass_over.Goals.{in-Some-false, in-None}
+use Rattle.bsonraw_dump.proofs.resync.pass_over.Goals.{then-are_all-2, else-are_all-2}
 
-pub loop-passed-init : goal.loop-passed-init
-loop-passed-init g c = searched_none (g.R.Read.remaining c.args.reader.now) c.args.window.now c.args.work.now c.requires.0 c.requires.1 c.requires.2
+pub loop-init : goal.loop-init
+loop-init g c = searched_none (g.R.Read.remaining c.args.reader.now) c.args.window.now c.args.work.now c.requires.0 c.requires.1 c.requires.2
 
-pub returns-in_err-goes_on-clause-fails : goal.returns-in_err-goes_on-clause-fails
-returns-in_err-goes_on-clause-fails g c =
-    let r = g.R.Read.remaining c.args.reader.now in
-    let r' = g.R.Read.remaining c.loop-passed.reader in
-    let r'' = g.R.Read.remaining c.goes_on.new.reader in
-    let x = ahead_of c.args.window.now in
-    let y = ahead_of c.loop-passed.window in
-    let z = ahead_of c.pass.new.self in
-    let inv = c.loop-passed.invariant in
-    let one = passes_more r r' x y z c.loop-passed.passed inv.passes inv.some c.in_ok-pass.ensures.passed.1 in
-    if_err_reading c.from_residual-in_err-goes_on.result (LooksSome r r'' x) (passes_some r r' r'' x z (c.loop-passed.passed + 1) one c.in_err-goes_on.ensures.fails)
+pub pass-requires : goal.pass-requires
+pass-requires g c =
+    let y = c.loop.window in
+    let q : Places = record { from = c.loop.from; until = 18446744073709551615; end = 0 } in
+    let seeks = seeks_ahead c.part_of.result.limits c.part_of.result.bytes.now c.part_of.result.is_last c.part_of.result.at y c.loop.is_last q c.loop.work c.seek.new.work
+    c.in_ok-place.field-0 (sought.Found c.in-Found.place c.in-Found.all) c.part_of.ensures.limits c.part_of.ensures.bytes c.part_of.ensures.last c.part_of.ensures.at c.in-Found.is
+    c.in_ok-place.ensures.sought in
+    (c.loop.invariant.window, (seeks.tells [] (λ is. refl)).2)
 
-pub returns-in-Some-true-clause-skips : goal.returns-in-Some-true-clause-skips
-returns-in-Some-true-clause-skips g c =
-    let found : c.in_ok-goes_on.field-0 ≡ Some true = cc in
-    searched_to (g.R.Read.remaining c.args.reader.now) (g.R.Read.remaining c.loop-passed.reader)
-    (g.R.Read.remaining c.goes_on.new.reader) c.args.window.now c.loop-passed.window c.pass.new.self c.goes_on.new.window
-    c.args.work.now c.loop-passed.work c.goes_on.new.work c.loop-passed.passed c.loop-passed.all c.loop-passed.invariant
-    c.in_ok-pass.ensures.passed.1 c.in_ok-pass.ensures.passed.2 c.in_ok-goes_on.field-0 c.in_ok-goes_on.ensures.told found
+pub returns-then-are_all-clause-skips : goal.returns-then-are_all-clause-skips
+returns-then-are_all-clause-skips g c =
+    let r = g.R.Read.remaining in
+    let y = c.loop.window in
+    let inv = c.loop.invariant in
+    let q : Places = record { from = c.loop.from; until = 18446744073709551615; end = 0 } in
+    let seeks = seeks_ahead c.part_of.result.limits c.part_of.result.bytes.now c.part_of.result.is_last c.part_of.result.at y c.loop.is_last q c.loop.work c.seek.new.work
+    c.in_ok-place.field-0 (sought.Found c.in-Found.place c.in-Found.all) c.part_of.ensures.limits c.part_of.ensures.bytes c.part_of.ensures.last c.part_of.ensures.at c.in-Found.is
+    c.in_ok-place.ensures.sought in
+    let passed = c.in_ok-pass-in-Found.ensures.passed in
+    let at : c.pass.new.self.offset ≡ y.offset + c.in-Found.place = passed.2 in
+    let count : c.offset.result - c.offset-start.result ≡ inv.n + c.in-Found.place = omega (arith, c.offset.ensures, c.offset-start.ensures, at, inv.offset) in
+    searched_to (r c.args.reader.now) (r c.loop.reader) c.args.window.now y c.args.work.now c.loop.work c.seek.new.work c.loop.from c.loop.is_last c.loop.are_all inv q refl refl
+    c.pass.new.self c.in-Found.place c.in-Found.all (record { count = c.offset.result - c.offset-start.result; all = c.in-Found.all }) seeks c.seek.ensures.work
+    passed.0 passed.1 at count (sym (ap (λ b. b && c.in-Found.all) c.if-are_all.true))
+
+pub returns-else-are_all-clause-skips : goal.returns-else-are_all-clause-skips
+returns-else-are_all-clause-skips g c =
+    let r = g.R.Read.remaining in
+    let y = c.loop.window in
+    let inv = c.loop.invariant in
+    let q : Places = record { from = c.loop.from; until = 18446744073709551615; end = 0 } in
+    let seeks = seeks_ahead c.part_of.result.limits c.part_of.result.bytes.now c.part_of.result.is_last c.part_of.result.at y c.loop.is_last q c.loop.work c.seek.new.work
+    c.in_ok-place.field-0 (sought.Found c.in-Found.place c.in-Found.all) c.part_of.ensures.limits c.part_of.ensures.bytes c.part_of.ensures.last c.part_of.ensures.at c.in-Found.is
+    c.in_ok-place.ensures.sought in
+    let passed = c.in_ok-pass-in-Found.ensures.passed in
+    let at : c.pass.new.self.offset ≡ y.offset + c.in-Found.place = passed.2 in
+    let count : c.offset.result - c.offset-start.result ≡ inv.n + c.in-Found.place = omega (arith, c.offset.ensures, c.offset-start.ensures, at, inv.offset) in
+    searched_to (r c.args.reader.now) (r c.loop.reader) c.args.window.now y c.args.work.now c.loop.work c.seek.new.work c.loop.from c.loop.is_last c.loop.are_all inv q refl refl
+    c.pass.new.self c.in-Found.place c.in-Found.all (record { count = c.offset.result - c.offset-start.result; all = c.loop.are_all }) seeks c.seek.ensures.work
+    passed.0 passed.1 at count (c.if-are_all.false ∙ sym (ap (λ b. b && c.in-Found.all) c.if-are_all.false))
+
+pub pass-requires-in-Wants : goal.pass-requires-in-Wants
+pass-requires-in-Wants g c =
+    let q : Places = record { from = c.loop.from; until = 18446744073709551615; end = 0 } in
+    let seeks = seeks_ahead c.part_of.result.limits c.part_of.result.bytes.now c.part_of.result.is_last c.part_of.result.at c.loop.window c.loop.is_last q c.loop.work c.seek.new.work
+    c.in_ok-place.field-0 (sought.Wants c.in-Wants.place c.in-Wants.count c.in-Wants.all) c.part_of.ensures.limits c.part_of.ensures.bytes c.part_of.ensures.last c.part_of.ensures.at
+    c.in-Wants.is c.in_ok-place.ensures.sought in
+    (c.loop.invariant.window, (seeks.tells [] (λ is. refl)).2)
+
+pub overflow_sub-count : goal.overflow_sub-count
+overflow_sub-count g c =
+    let q : Places = record { from = c.loop.from; until = 18446744073709551615; end = 0 } in
+    let seeks = seeks_ahead c.part_of.result.limits c.part_of.result.bytes.now c.part_of.result.is_last c.part_of.result.at c.loop.window c.loop.is_last q c.loop.work c.seek.new.work
+    c.in_ok-place.field-0 (sought.Wants c.in-Wants.place c.in-Wants.count c.in-Wants.all) c.part_of.ensures.limits c.part_of.ensures.bytes c.part_of.ensures.last c.part_of.ensures.at
+    c.in-Wants.is c.in_ok-place.ensures.sought in
+    let told = seeks.tells [] (λ is. refl) in
+    let within : c.in-Wants.place ≤ length (ahead_of c.loop.window) = told.2 in
+    let more : length (ahead_of c.loop.window) < c.in-Wants.count = told.3.1 in
+    omega (arith, within, more)
+
+pub look-requires : goal.look-requires
+look-requires g c =
+    let q : Places = record { from = c.loop.from; until = 18446744073709551615; end = 0 } in
+    let seeks = seeks_ahead c.part_of.result.limits c.part_of.result.bytes.now c.part_of.result.is_last c.part_of.result.at c.loop.window c.loop.is_last q c.loop.work c.seek.new.work
+    c.in_ok-place.field-0 (sought.Wants c.in-Wants.place c.in-Wants.count c.in-Wants.all) c.part_of.ensures.limits c.part_of.ensures.bytes c.part_of.ensures.last c.part_of.ensures.at
+    c.in-Wants.is c.in_ok-place.ensures.sought in
+    let told = seeks.tells [] (λ is. refl) in
+    let bound : c.in-Wants.count ≤ c.in-Wants.place + 2 * 16793600 + 8 = told.3.2 in
+    (c.in_ok-pass-in-Wants.ensures.passed.0, omega (arith, bound))
+
+pub returns-in_err-is_last-in-Wants-clause-fails : goal.returns-in_err-is_last-in-Wants-clause-fails
+returns-in_err-is_last-in-Wants-clause-fails g c =
+    let r = g.R.Read.remaining in
+    let y = c.loop.window in
+    let inv = c.loop.invariant in
+    let q : Places = record { from = c.loop.from; until = 18446744073709551615; end = 0 } in
+    let seeks = seeks_ahead c.part_of.result.limits c.part_of.result.bytes.now c.part_of.result.is_last c.part_of.result.at y c.loop.is_last q c.loop.work c.seek.new.work
+    c.in_ok-place.field-0 (sought.Wants c.in-Wants.place c.in-Wants.count c.in-Wants.all) c.part_of.ensures.limits c.part_of.ensures.bytes c.part_of.ensures.last c.part_of.ensures.at
+    c.in-Wants.is c.in_ok-place.ensures.sought in
+    let told = seeks.tells [] (λ is. refl) in
+    let one = passes_more (r c.args.reader.now) (r c.loop.reader) (ahead_of c.args.window.now) (ahead_of y) (ahead_of c.pass-in-Wants.new.self) inv.n c.in-Wants.place inv.passes told.2
+    c.in_ok-pass-in-Wants.ensures.passed.1 in
+    let at : c.pass-in-Wants.new.self.offset ≡ c.args.window.now.offset + (inv.n + c.in-Wants.place) =
+    c.in_ok-pass-in-Wants.ensures.passed.2 ∙ ap (λ m. m + c.in-Wants.place) inv.offset ∙ add_assoc c.args.window.now.offset inv.n c.in-Wants.place in
+    if_err_reading c.from_residual-in_err-is_last-in-Wants.result _
+    (goes_ahead (r c.args.reader.now) (r c.loop.reader) (r c.look.new.reader) c.args.window.now c.pass-in-Wants.new.self c.look.new.self (inv.n + c.in-Wants.place) one at
+    c.in_err-is_last-in-Wants.ensures.fails)
+
+pub unreachable-requires : goal.unreachable-requires
+unreachable-requires g c =
+    let q : Places = record { from = c.loop.from; until = 18446744073709551615; end = 0 } in
+    let seeks = seeks_ahead c.part_of.result.limits c.part_of.result.bytes.now c.part_of.result.is_last c.part_of.result.at c.loop.window c.loop.is_last q c.loop.work c.seek.new.work
+    c.in_ok-place.field-0 (sought.Nowhere c.in-Nowhere.all) c.part_of.ensures.limits c.part_of.ensures.bytes c.part_of.ensures.last c.part_of.ensures.at
+    c.in-Nowhere.is c.in_ok-place.ensures.sought in
+    let told = seeks.tells [] (λ is. refl) in
+    let long : 18446744073709551615 ≤ length (ahead_of c.loop.window) = told.0 in
+    let same : length c.part_of.result.bytes.now ≡ length (ahead_of c.loop.window) = ap length c.part_of.ensures.bytes in
+    omega (arith, long, same)
+
+pub loop-preserved : goal.loop-preserved
+loop-preserved g c =
+    let r = g.R.Read.remaining in
+    let y = c.loop.window in
+    let inv = c.loop.invariant in
+    let q : Places = record { from = c.loop.from; until = 18446744073709551615; end = 0 } in
+    let seeks = seeks_ahead c.part_of.result.limits c.part_of.result.bytes.now c.part_of.result.is_last c.part_of.result.at y c.loop.is_last q c.loop.work c.seek.new.work
+    c.in_ok-place.field-0 (sought.Wants c.in-Wants.place c.in-Wants.count c.in-Wants.all) c.part_of.ensures.limits c.part_of.ensures.bytes c.part_of.ensures.last c.part_of.ensures.at
+    c.in-Wants.is c.in_ok-place.ensures.sought in
+    let passed = c.in_ok-pass-in-Wants.ensures.passed in
+    let there = c.in_ok-is_last-in-Wants.field-0 in
+    let on = searched_on (r c.args.reader.now) (r c.loop.reader) c.args.window.now y c.args.work.now c.loop.work c.seek.new.work c.loop.from c.loop.is_last c.loop.are_all inv q refl refl
+    (r c.look.new.reader) c.pass-in-Wants.new.self c.look.new.self c.in-Wants.place c.in-Wants.count (c.in-Wants.count - c.in-Wants.place) c.in-Wants.all there seeks c.seek.ensures.work
+    passed.1 passed.2 c.in_ok-is_last-in-Wants.ensures.looks (not there) (not_true there) in
+    elim c.if-are_all-2.branch [
+      | then-are_all-2 w ↦
+          rw (w.from-is, w.are_all-is)
+          (subst (IsSearched (r c.args.reader.now) (r c.look.new.reader) c.args.window.now c.look.new.self c.args.work.now c.seek.new.work 0 (not there))
+          (ap (λ b. b && c.in-Wants.all) w.if-are_all-2.true) on)
+      | else-are_all-2 w ↦
+          rw (w.from-is, w.are_all-is)
+          (subst (IsSearched (r c.args.reader.now) (r c.look.new.reader) c.args.window.now c.look.new.self c.args.work.now c.seek.new.work 0 (not there))
+          (ap (λ b. b && c.in-Wants.all) w.if-are_all-2.false ∙ sym w.if-are_all-2.false) on)
+    ]
 
 pub returns-clause-fails : goal.returns-clause-fails
-returns-clause-fails g c is = passes_read (g.R.Read.remaining c.args.reader.now) (g.R.Read.remaining c.loop-passed.reader) (ahead_of c.args.window.now)
-    (ahead_of c.loop-passed.window) c.loop-passed.passed c.loop-passed.invariant.passes
-
-pub loop-passed-preserved : goal.loop-passed-preserved
-loop-passed-preserved g c =
-    let on = searched_on (g.R.Read.remaining c.args.reader.now) (g.R.Read.remaining c.loop-passed.reader) (g.R.Read.remaining c.goes_on.new.reader)
-    c.args.window.now c.loop-passed.window c.pass.new.self c.goes_on.new.window c.args.work.now c.loop-passed.work c.goes_on.new.work c.loop-passed.passed
-    c.loop-passed.all c.loop-passed.invariant c.in_ok-pass.ensures.passed.1 c.in_ok-pass.ensures.passed.2 c.in_ok-goes_on.field-0 c.in_ok-goes_on.ensures.told in
-    elim c.match-branch-3.branch [
-      | in-Some-false w ↦
-          let found : c.in_ok-goes_on.field-0 ≡ Some false = cc in
-          rw w.all-is (on c.loop-passed.all (inl (found, refl)) (λ is. let impossible : ⊥ = cc in impossible))
-      | in-None w ↦
-          let found : c.in_ok-goes_on.field-0 ≡ None = cc in
-          rw w.all-is (on false (inr (found, refl)) (λ is. let impossible : ⊥ = cc in impossible))
-    ]
+returns-clause-fails g c is =
+    let inv = c.loop.invariant in
+    record { window = inv.window; count = inv.n; offset = inv.offset; passes = inv.passes }

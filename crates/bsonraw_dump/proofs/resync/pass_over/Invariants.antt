@@ -1,6 +1,6 @@
 use Rattle.bsonraw_dump.proofs.Skipping.{IsSearched}
 use Rattle.bsonraw_dump.proofs.resync.pass_over.Given as goal
 
--- so many bytes were passed over
-abbrev pub invariant-loop-passed : goal.invariant-loop-passed
-invariant-loop-passed g l = IsSearched (g.R.Read.remaining l.initial.reader) (g.R.Read.remaining l.reader) l.initial.window l.window l.initial.work l.work l.passed l.all
+-- bytes were passed over, and the places before were searched
+abbrev pub invariant-loop : goal.invariant-loop
+invariant-loop g l = IsSearched (g.R.Read.remaining l.initial.reader) (g.R.Read.remaining l.reader) l.initial.window l.window l.initial.work l.work l.from l.is_last l.are_all

@@ -6,8 +6,8 @@ use Rattle.bsonraw_dump.proofs.window.fill.Given as goal
 abbrev pub invariant-loop : goal.invariant-loop
 invariant-loop g l = record {
   len : length l.buffer ≡ length l.initial.buffer;
-  behind : l.front ≤ l.at;
-  within : l.at ≤ length l.buffer;
+  behind : l.front ≤ l.len;
+  within : l.len ≤ length l.buffer;
   kept : take l.front l.buffer ≡ take l.front l.initial.buffer;
-  is_read : (before : Option (List ℕ)) → Consumes before (g.R.Read.remaining l.initial.reader) (take l.front l.initial.buffer) → Consumes before (g.R.Read.remaining l.reader) (take l.at l.buffer);
+  is_read : (before : Option (List ℕ)) → Consumes before (g.R.Read.remaining l.initial.reader) (take l.front l.initial.buffer) → Consumes before (g.R.Read.remaining l.reader) (take l.len l.buffer);
 }

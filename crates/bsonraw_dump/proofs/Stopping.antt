@@ -1,0 +1,143 @@
+-- How the parts of an input end.
+use Rattle.std.proofs.Common.{◌≡◌, ℕ, ◌+◌, List, [], ◌++◌, Bool, false, Option, None, Some, IfSome, IsNone, Result, Ok, Err, IfOk, ℤ, append-nil, arith, length, length-append, sym, ap, ◌∙◌, subst, refl}
+use Rattle.std.specs.Io.KnownBytes.{Consumes, Appends, IsAtEnd, Keeps}
+use Rattle.std.proofs.KnownBytes.{Appends-kept}
+use Rattle.bsonraw_dump.specs.Reading.{GoesAhead, IsReadBehind, ReadsRest, ahead_of}
+use Rattle.bsonraw_dump.specs.Resync.{TellsPart}
+use Rattle.bsonraw_dump.specs.Run.{Ends, EndsAs, FailsAt, IsLeft, Leaves, PassesAll, bytes_of_parts, count_end, count_left, lines_of_parts}
+use Rattle.bsonraw_dump.specs.Cut.{EndsWith}
+use Rattle.bsonraw_dump.specs.Told.{ending_line}
+use Rattle.bsonraw_dump.specs.declared.command.Command.{Command}
+use Rattle.bsonraw_dump.specs.declared.counts.Counts.{Counts}
+use Rattle.bsonraw_dump.specs.declared.ending.Ending.{Ending}
+use Rattle.bsonraw_dump.specs.declared.ending.Ending.TheVariants as ending
+use Rattle.bsonraw_dump.specs.declared.ending.Rest.TheVariants as rest
+use Rattle.bsonraw_dump.specs.declared.failure.ReadFailure.{ReadFailure}
+use Rattle.bsonraw_dump.specs.declared.kept.Kept.{Kept}
+use Rattle.raw_resync.specs.declared.work.Work.{Work}
+use Rattle.bsonraw_dump.specs.declared.run.Stop.{Stop}
+use Rattle.bsonraw_dump.specs.declared.run.Stop.TheVariants as stop
+use Rattle.bsonraw_dump.specs.declared.style.Style.{Style}
+use Rattle.bsonraw_dump.specs.declared.window.Drained.{Drained}
+use Rattle.bsonraw_dump.specs.declared.window.Next.TheVariants as next
+use Rattle.bsonraw_dump.specs.declared.window.Window.{Window}
+use Rattle.bsonraw_dump.proofs.Going.{unsound_behind}
+use Rattle.bsonraw_dump.proofs.Passing.{HasPassed, passed_ahead}
+use Rattle.bsonraw_dump.proofs.Skipping.{read_behind}
+
+pub if_ok : {A E : Type 0} (r : Result A E) (P Q : A → Type 0) → ((x : A) → P x → Q x) → IfOk r P → IfOk r Q
+if_ok (Ok x) P Q is p = is x p
+if_ok (Err e) P Q is p = tt
+
+pub keeps_same : (w : Option (List ℕ)) → Keeps w w
+keeps_same None = tt
+keeps_same (Some xs) = refl
+
+-- what is left of a document that says more
+pub left_cut : (r : Option (List ℕ)) (x : List ℕ) (count : ℕ) → EndsWith (ending.CutOff count) x → IsReadBehind (ending.CutOff count) r
+    → IsLeft (ending.CutOff count) r r x (record { count = count; failure = None })
+left_cut r x count ends behind = record {
+  more = [];
+  is_read = λ before read. subst (Consumes before r) (sym (append-nil x)) read;
+  ends = subst (EndsWith (ending.CutOff count)) (sym (append-nil x)) ends;
+  len = ap length (append-nil x) ∙ ends.0;
+  to_end = λ none. behind;
+}
+
+-- what is left behind a length that is unsound
+pub left_unsound : (r r' : Option (List ℕ)) (x : List ℕ) (len : ℤ) (drained : Drained) → EndsWith (ending.Unsound len) x → ReadsRest r r' x drained
+    → IsLeft (ending.Unsound len) r r' x drained
+left_unsound r r' x len drained ends l = record {
+  more = l.more;
+  is_read = l.is_read;
+  ends = unsound_behind len x l.more ends;
+  len = l.len;
+  to_end = l.to_end;
+}
+
+module _ (c : Command) (style : Style) (resync : Bool) (name : List ℕ) (r r' r'' d d' w w' w'' : Option (List ℕ)) (n n' n'' : Counts) (k k' : Kept) where
+  -- the input is at its end
+  pub stops_end : (x y : Window) (v v' : Work) → HasPassed c style resync name (ahead_of x) r r' d d' w w' n n' k k' x.offset v → TellsPart resync r' r'' x y v v' next.Nothing
+      → PassesAll c style resync name r r'' d d' w w' n n' k k' y stop.End
+  stops_end x y v v' h t = record {
+    window = t.searches.stays.window;
+    ps = h.ps;
+    left = ahead_of y;
+    passed = passed_ahead c style resync name (ahead_of x) (ahead_of y) r r' r'' d d' w w' n n' k k' h.ps h.passed t.searches.stays.looks;
+    stops = t.ahead;
+  }
+
+  -- no document is in front, and nothing is passed over
+  pub stops_left : (x y : Window) (v v' : Work) (e : Ending) → HasPassed c style resync name (ahead_of x) r r' d d' w w' n n' k k' x.offset v
+      → TellsPart resync r' r'' x y v v' (next.End e) → resync ≡ false → PassesAll c style resync name r r'' d d' w w' n n' k k' y (stop.Left e)
+  stops_left x y v v' e h t unasked =
+      let (ends, behind) = t.ahead.1 unasked in
+      record {
+        window = t.searches.stays.window;
+        ps = h.ps;
+        left = ahead_of y;
+        passed = passed_ahead c style resync name (ahead_of x) (ahead_of y) r r' r'' d d' w w' n n' k k' h.ps h.passed t.searches.stays.looks;
+        stops = (refl, t.searches.stays.offset ∙ h.at, ends, behind, unasked);
+      }
+
+  -- reading fails
+  pub stops_failed : (x y : Window) (v : Work) (from : ℕ) (s : Stop) → FailsAt from s → HasPassed c style resync name (ahead_of x) r r' d d' w w' n n' k k' x.offset v → from ≡ x.offset
+      → GoesAhead r' r'' x y → Keeps w' w'' → n'' ≡ n' → PassesAll c style resync name r r'' d d' w w'' n n'' k k' y s
+  stops_failed x y v from stop.End fails h at goes kept same = absurd fails
+  stops_failed x y v from (stop.Left e) fails h at goes kept same = absurd fails
+  stops_failed x y v from (stop.Failed there error) fails h at goes kept same =
+      let p = goes.passes in
+      let bytes = bytes_of_parts h.ps in
+      let left = p.bytes ++ ahead_of y in
+      let start : x.offset ≡ length bytes = h.at in
+      let count : length p.bytes ≡ goes.count = p.len in
+      let size : length left ≡ length p.bytes + length (ahead_of y) = length-append p.bytes (ahead_of y) in
+      let end : y.offset ≡ x.offset + goes.count = goes.offset in
+      record {
+        window = goes.window;
+        ps = h.ps;
+        left = left;
+        passed = record {
+          parts = h.passed.parts;
+          is_read = read_behind bytes (ahead_of x) left r r' r'' h.passed.is_read p.is_read;
+          is_written = h.passed.is_written;
+          is_reported = Appends-kept w w' w'' (lines_of_parts h.ps) h.passed.is_reported kept;
+          is_counted = same ∙ h.passed.is_counted;
+        };
+        stops = (fails ∙ at ∙ start, omega arith);
+      }
+
+  -- with what no document begins with
+  pub ends_left : (y : Window) (e : Ending) (failed : Option ReadFailure) → PassesAll c style resync name r r' d d' w w' n n' k k' y (stop.Left e)
+      → Leaves style name e y r' r'' w' w'' n' n'' failed → Ends c style resync name r r'' d d' w w'' n n'' k k' failed
+  ends_left y e failed p l =
+      let (ahead, at, ends, behind, unasked) = p.stops in
+      let bytes = bytes_of_parts p.ps in
+      let left = ahead_of y ++ l.more in
+      let is : EndsAs resync (Some e) failed left r'' = elim failed as (λ f. (IsNone f → IsAtEnd r'') → EndsAs resync (Some e) f left r'') [
+        | None ↦ λ to_end. (l.ends, unasked, to_end refl)
+        | Some f ↦ λ to_end. (l.ends, unasked)
+      ] l.to_end in
+      let counted : count_end (Some e) failed n' (length left) ≡ count_left n' (length left) = elim failed as (λ f. count_end (Some e) f n' (length left) ≡ count_left n' (length left)) [
+        | None ↦ refl
+        | Some f ↦ refl
+      ] in
+      let here : y.offset + length left ≡ length bytes + length left = ap (λ m. m + length left) at in
+      record {
+        ps = p.ps;
+        report_between = w';
+        counts_between = n';
+        left = left;
+        passed = record {
+          parts = p.passed.parts;
+          is_read = read_behind bytes p.left left r r' r'' p.passed.is_read (λ before read. l.is_read before (subst (Consumes before r') ahead read));
+          is_written = p.passed.is_written;
+          is_reported = p.passed.is_reported;
+          is_counted = p.passed.is_counted;
+        };
+        end = Some e;
+        ends = is;
+        fails = subst (λ m. IfSome failed (λ (f : ReadFailure). f.at ≡ m)) here l.fails;
+        told = subst (λ m. Appends w' w'' (ending_line style name m e (rest.NotRead (length left)))) at l.told;
+        is_counted = l.is_counted ∙ sym counted;
+      }

@@ -1,0 +1,32 @@
+use Rattle.std.proofs.Common.{rules, ◌≡◌, ◌+◌, ◌++◌, IfSome, length, ap, sym, ◌∙◌, subst}
+use Rattle.std.specs.Io.KnownBytes.{Appends}
+use Rattle.bsonraw_dump.specs.Reading.{ahead_of}
+use Rattle.bsonraw_dump.specs.Run.{count_left}
+use Rattle.bsonraw_dump.specs.Told.{ending_line}
+use Rattle.bsonraw_dump.specs.declared.ending.Rest.TheVariants as rest
+use Rattle.bsonraw_dump.specs.declared.failure.ReadFailure.{ReadFailure}
+use Rattle.bsonraw_dump.proofs.run.leave.Goals as goal
+
+pub returns-clause-left : goal.returns-clause-left
+returns-clause-left g c =
+    let drained = c.in_ok-rest.rest in
+    let left = c.in_ok-rest.ensures.left in
+    let w = c.args.window.now in
+    let n = c.args.counts.now in
+    let all = ahead_of w ++ left.more in
+    let old = g.W.Write.contents c.args.report.now in
+    let new = g.W.Write.contents c.put_ending.new.report in
+    let at : c.offset-offset.result ≡ w.offset = c.offset-offset.ensures in
+    let counted : c.in_ok-counts.field-0 ≡ count_left n drained.count = search rules in
+    let sum : c.in_ok-at.at ≡ c.offset-offset.result + drained.count = search rules in
+    let end : c.in_ok-at.at ≡ w.offset + length all = sum ∙ ap (λ m. m + drained.count) at ∙ ap (λ m. w.offset + m) (sym left.len) in
+    record {
+      more = left.more;
+      is_read = left.is_read;
+      ends = left.ends;
+      to_end = λ none. left.to_end (c.failure_at.ensures.none none);
+      fails = subst (λ m. IfSome c.failure_at.result (λ (f : ReadFailure). f.at ≡ m)) end c.failure_at.ensures.at;
+      told = subst (λ m. Appends old new (ending_line c.args.asked.style c.args.asked.name.now w.offset c.args.ending (rest.NotRead m))) (sym left.len)
+          (subst (λ m. Appends old new (ending_line c.args.asked.style c.args.asked.name.now m c.args.ending (rest.NotRead drained.count))) at c.in_ok-put_ending.ensures.written);
+      is_counted = counted ∙ ap (count_left n) (sym left.len);
+    }

@@ -1,0 +1,80 @@
+-- What is looked at of a document from its first fault on.
+use Rattle.std.proofs.Common.{◌≡◌, ◌≢◌, ℕ, suc, ◌+◌, ◌-◌, ◌<◌, ◌≤◌, ◌⊎◌, List, ◌∷◌, ◌++◌, Bool, true, false, MatchBool, Option, None, Some, arith, get_or, length, min, drop, sym, ap, ◌∙◌, refl, inl, inr, length-append}
+use Rattle.std.proofs.Math.Seq.{get_or-append_seam}
+use Rattle.bson_model.specs.Bytes.{NulFree}
+use Rattle.raw_view.specs.Frame.{HasKey}
+use Rattle.raw_view.specs.Frame.Envelope.{IsEnvelope}
+use Rattle.raw_tree.specs.WithinLimits.{AllAreAnsweredOneWay, Barrier}
+use Rattle.raw_tree.specs.declared.reader.limits.Limits.{Limits}
+use Rattle.raw_form.specs.Barriers.{TellsBarrier, steps_of}
+use Rattle.raw_form.specs.Barriers as barriers
+use Rattle.raw_form.specs.Places.{Step}
+use Rattle.raw_form.specs.Tokens.{last_key}
+use Rattle.raw_form.specs.declared.barrier.Barrier as told
+use Rattle.raw_form.proofs.Face.{barrier_bound}
+use Rattle.raw_resync.specs.Pieces.{said_len}
+use Rattle.raw_resync.specs.Resync.{IsSound}
+use Rattle.raw_resync.specs.Charge.{Costs, IsBehindZero, IsOfText, IsOfValue, LooksAt, LooksAtRegex}
+
+-- whether a text of a value isn't UTF-8
+pub of_value : (x : Barrier) (path : List Step) (r : Bool) (k : List ℕ) → MatchBool r (IsOfText x) (¬ IsOfText x) → last_key path ≡ Some k → MatchBool r (IsOfValue x path) (¬ IsOfValue x path)
+of_value x path true k is last = (is, (k, last))
+of_value x path false k is last = λ v. is v.0
+
+pub no_value : (x : Barrier) (path : List Step) → last_key path ≡ None → ¬ IsOfValue x path
+no_value x path none v = let (text, (key, some)) = v in let bad : ◌≡◌ {A = Option (List ℕ)} None (Some key) = sym none ∙ some in let impossible : ⊥ = cc in impossible
+
+-- no key ends
+pub looks_all : (x : Barrier) (path : List Step) (s text : List ℕ) (tag : ℕ) → s ≡ tag ∷ text → NulFree text → LooksAt x path s (length s)
+looks_all x path s text tag split free =
+    inl (
+      λ key k.
+          let whole : tag ∷ text ≡ k.tag ∷ (key ++ 0 ∷ k.behind) = sym split ∙ k.spelled in
+          let same : text ≡ key ++ 0 ∷ k.behind = ap (drop 1) whole in
+          let len : length text ≡ length key + length (0 ∷ k.behind) = ap length same ∙ length-append key (0 ∷ k.behind) in
+          free (length key) 0 (omega (arith, len)) (ap (λ l. get_or l (length key) 0) same ∙ get_or-append_seam key 0 k.behind 0),
+      refl,
+    )
+
+-- either length that is said leads to all that is left, or both are one
+same_min : (all key behind said r : ℕ) → all ≡ key + behind → (r ≡ said) ⊎ (behind < 4) → min all (key + r + 16) ≡ min all (key + (said + 16))
+same_min all key behind said r is (inl one) = omega (arith, one)
+same_min all key behind said r is (inr few) = omega (arith, is, few)
+
+-- a key ends, and this is behind it
+module _ (x : Barrier) (path : List Step) (s text behind : List ℕ) (tag : ℕ) (split : s ≡ tag ∷ text) (z : IsBehindZero text behind) where
+  has_key : HasKey s z.0
+  has_key = record { tag = tag; behind = behind; spelled = split ∙ ap (λ l. tag ∷ l) z.2; nul_free = z.1 }
+
+  key_len : length s - length behind ≡ length z.0 + 2
+  key_len =
+      let whole : length s ≡ suc (length text) = ap length split in
+      let len : length text ≡ length z.0 + length (0 ∷ behind) = ap length z.2 ∙ length-append z.0 (0 ∷ behind) in
+      omega (arith, whole, len)
+
+  pub looks_regex : (m : ℕ) → tag ≡ 11 → LooksAtRegex behind m → LooksAt x path s (length s - length behind + m)
+  unfolding has_key
+  looks_regex m is regex = inr (inl (z.0, has_key, is, m, regex, ap (λ n. n + m) key_len))
+
+  pub looks_value : (said : ℕ) → tag ≢ 11 → IsOfValue x path → (said ≡ said_len behind) ⊎ (length behind < 4) → LooksAt x path s (min (length s) (length s - length behind + said + 16))
+  unfolding has_key
+  looks_value said not is same =
+      let whole : length s ≡ suc (length text) = ap length split in
+      let len : length text ≡ length z.0 + length (0 ∷ behind) = ap length z.2 ∙ length-append z.0 (0 ∷ behind) in
+      let all : length s ≡ length z.0 + 2 + length behind = omega (arith, whole, len) in
+      inr (inr (inl (z.0, has_key, not, is, ap (λ n. min (length s) (n + said + 16)) key_len ∙ same_min (length s) (length z.0 + 2) (length behind) (said_len behind) said all same)))
+
+  pub looks_key : tag ≢ 11 → ¬ IsOfValue x path → LooksAt x path s (length s - length behind)
+  unfolding has_key
+  looks_key not none = inr (inr (inr (z.0, has_key, not, none, key_len)))
+
+-- a document with a barrier costs what is looked at
+pub costs_fault : (limits : Limits) (b : List ℕ) (barrier : told.Barrier) (m : ℕ) → IsEnvelope b → TellsBarrier limits b (Some barrier) → AllAreAnsweredOneWay limits
+    → ((x : Barrier) → barriers.IsBarrier barrier.kind x → LooksAt x (steps_of barrier.place) (drop barrier.place.offset b) m)
+    → (¬ IsSound limits b) × Costs limits b (barrier.place.offset + m)
+costs_fault limits b barrier m envelope (x, first, is, at) one looks =
+    let damaged : ¬ IsSound limits b = λ sound. (one b envelope).not_both sound.tree x sound.reads first in
+    (damaged, inr (inr (envelope, damaged, (x, steps_of barrier.place, barrier.place.offset, m, at, looks x is, refl))))
+
+pub offset_within : (limits : Limits) (b : List ℕ) (barrier : told.Barrier) → TellsBarrier limits b (Some barrier) → barrier.place.offset ≤ length b
+offset_within limits b barrier (x, first, is, at) = barrier_bound limits b x (steps_of barrier.place) barrier.place.offset at

@@ -1,0 +1,90 @@
+-- What searches cost, one after the other.
+use Rattle.std.proofs.Common.{◌≡◌, ℕ, ◌+◌, ◌*◌, ◌≤◌, List, [], ◌∷◌, ◌++◌, Bool, true, false, Option, None, Some, arith, drop, fold, sym, ap, ◌∙◌, subst, refl, inl, inr, append_assoc}
+use Rattle.std.proofs.lemmas.List.Elements.{All-append, All-cons, All-head, All-nil, All-tail}
+use Rattle.std.proofs.lemmas.List.Sums.{fold-append}
+use Rattle.std.specs.List.{All}
+use Rattle.raw_tree.specs.declared.reader.limits.Limits.{Limits}
+use Rattle.raw_resync.specs.Pieces.{IsPiece}
+use Rattle.raw_resync.specs.Charge.{Charges, Costs, IsBounded, IsCostIn, IsLeftOut, IsUnjudged}
+use Rattle.raw_resync.specs.Seeking.{IsJudged, IsWork, Judges, Works}
+use Rattle.raw_resync.specs.declared.work.Work.{Work}
+
+-- nothing is charged
+pub charges_none : (limits : Limits) (s : List ℕ) (w : Work) → Charges limits s w w
+charges_none limits s w = record { costs = []; each = All-nil (IsCostIn limits s); spent = refl }
+
+-- one after the other
+pub charges_on : (limits : Limits) (s : List ℕ) (old mid new : Work) → Charges limits s old mid → Charges limits s mid new → Charges limits s old new
+charges_on limits s old mid new p q = record {
+  costs = p.costs ++ q.costs;
+  each = All-append (IsCostIn limits s) p.costs q.costs p.each q.each;
+  spent =
+      q.spent ∙ ap (λ n. fold (λ total cost. total + cost) n q.costs) p.spent ∙ sym (fold-append (λ total cost. total + cost) old.spent p.costs q.costs);
+}
+
+cost_behind : (limits : Limits) (front s : List ℕ) (n : ℕ) → IsCostIn limits s n → IsCostIn limits (front ++ s) n
+cost_behind limits front s n (before, b, rest, split, is, costs) =
+    (front ++ before, b, rest, ap (λ l. front ++ l) split ∙ sym (append_assoc front before (b ++ rest)), is, costs)
+
+costs_behind : (limits : Limits) (front s : List ℕ) (ns : List ℕ) → All (IsCostIn limits s) ns → All (IsCostIn limits (front ++ s)) ns
+costs_behind limits front s [] all = All-nil (IsCostIn limits (front ++ s))
+costs_behind limits front s (n ∷ ns) all =
+    let here = cost_behind limits front s n (All-head (IsCostIn limits s) n ns all) in
+    All-cons (IsCostIn limits (front ++ s)) n ns here (costs_behind limits front s ns (All-tail (IsCostIn limits s) n ns all))
+
+-- what a search behind these bytes costs
+pub charges_behind : (limits : Limits) (front s : List ℕ) (old new : Work) → Charges limits s old new → Charges limits (front ++ s) old new
+charges_behind limits front s old new p = record { costs = p.costs; each = costs_behind limits front s p.costs p.each; spent = p.spent }
+
+-- a judged piece has a cost
+judged_cost : (limits : Limits) (b : List ℕ) (is : Bool) (n : ℕ) → IsJudged limits b is n → Costs limits b n
+judged_cost limits b true n (sound, len) = inl (sound, len)
+judged_cost limits b false n (damaged, costs) = costs
+
+pub charges_judged : (limits : Limits) (front b rest s : List ℕ) (end : ℕ) (old new : Work) (judged : Option Bool) → s ≡ front ++ (b ++ rest) → IsPiece limits.bytes b
+    → Judges limits b end old new judged → Charges limits s old new
+charges_judged limits front b rest s end old new None split is (same, few) = subst (Charges limits s old) (sym same) (charges_none limits s old)
+charges_judged limits front b rest s end old new (Some j) split is (n, judged, spent, reach) = record {
+  costs = n ∷ [];
+  each = All-cons (IsCostIn limits s) n [] (front, b, rest, split, is, judged_cost limits b j n judged) (All-nil (IsCostIn limits s));
+  spent = spent;
+}
+
+pub bounded_judged : (limits : Limits) (total end : ℕ) (b : List ℕ) (old new : Work) (judged : Option Bool) → end ≤ total → IsWork new → Judges limits b end old new judged
+    → IsBounded total old → IsBounded total new
+bounded_judged limits total end b old new None within work (same, few) bound = subst (IsBounded total) (sym same) bound
+bounded_judged limits total end b old new (Some j) within work (n, judged, spent, reach) bound =
+    let eight : new.spent ≤ 8 * new.reach = work.0 in
+    let far : old.reach ≤ total = bound.1 in
+    (eight, omega (arith, reach))
+
+fold_more : (n : ℕ) (costs : List ℕ) → n ≤ fold (λ total cost. total + cost) n costs
+fold_more n [] = omega arith
+fold_more n (c ∷ cs) =
+    let more : n + c ≤ fold (λ total cost. total + cost) (n + c) cs = fold_more (n + c) cs in
+    omega (arith, more)
+
+-- more is charged
+pub spent_more : (limits : Limits) (s : List ℕ) (old new : Work) → Charges limits s old new → old.spent ≤ new.spent
+spent_more limits s old new p = subst (λ n. old.spent ≤ n) (sym p.spent) (fold_more old.spent p.costs)
+
+pub unjudged_on : (limits : Limits) (total : ℕ) (t : List ℕ) (old new : Work) → old.spent ≤ new.spent → IsUnjudged limits total t old → IsUnjudged limits total t new
+unjudged_on limits total t old new more (b, rest, end, is, split, at, few) = (b, rest, end, is, split, at, omega (arith, few, more))
+
+pub left_on : (limits : Limits) (total : ℕ) (s : List ℕ) (old new : Work) (j : ℕ) → old.spent ≤ new.spent → IsLeftOut limits total s old j → IsLeftOut limits total s new j
+left_on limits total s old new j more (inl here) = inl (unjudged_on limits total (drop j s) old new more here)
+left_on limits total s old new j more (inr (c, rest, is, split, next)) = inr (c, rest, is, split, unjudged_on limits total rest old new more next)
+
+-- a look, and another
+pub works_none : (limits : Limits) (bytes : List ℕ) (last : Bool) (at : ℕ) (w : Work) → Works limits bytes last at w w
+works_none limits bytes last at w = record { charges = λ rest may. charges_none limits (bytes ++ rest) w; bounded = λ rest may bound. bound }
+
+pub works_on : (limits : Limits) (bytes : List ℕ) (last : Bool) (at : ℕ) (old mid new : Work) → Works limits bytes last at old mid → Works limits bytes last at mid new
+    → Works limits bytes last at old new
+works_on limits bytes last at old mid new p q = record {
+  charges = λ rest may. charges_on limits (bytes ++ rest) old mid new (p.charges rest may) (q.charges rest may);
+  bounded = λ rest may bound. q.bounded rest may (p.bounded rest may bound);
+}
+
+pub works_more : (limits : Limits) (bytes : List ℕ) (last : Bool) (at : ℕ) (old new : Work) → Works limits bytes last at old new → old.spent ≤ new.spent
+works_more limits bytes last at old new p = spent_more limits (bytes ++ []) old new (p.charges [] (λ is. refl))

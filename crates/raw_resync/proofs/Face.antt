@@ -1,0 +1,9 @@
+-- The lemmas of this crate that crates above may cite; they cite no other.
+
+-- what is charged, one after the other
+pub use Rattle.raw_resync.proofs.Costing.{charges_none, charges_on, spent_more, unjudged_on, left_on}
+-- places that are passed, one after the other
+pub use Rattle.raw_resync.proofs.Passing.{passes_none, passes_since}
+pub use Rattle.raw_resync.proofs.Joining.{charges_further, left_further, passes_join}
+-- whether a length is believed
+pub use Rattle.raw_resync.proofs.Believing.{passes_after, disbelieved, believed}

@@ -1,0 +1,126 @@
+-- What is in front of what is left of an input.
+use Rattle.std.proofs.Common.{◌≡◌, ℕ, ◌+◌, ◌-◌, ◌<◌, ◌≤◌, List, [], ◌++◌, Bool, arith, length, take, drop, sym, ap, ◌∙◌, subst, inl, inr, append-nil, length-append, length-drop, length-take-le}
+use Rattle.std.proofs.lemmas.List.{drop-append-le, drop-drop, take-append-drop, take-append-le, take-take}
+use Rattle.std.proofs.Math.Seq.{take-append_seam, drop-append_seam}
+use Rattle.std.specs.Int.{w32, from_le_bytes}
+use Rattle.raw_tree.specs.declared.reader.limits.Limits.{Limits}
+use Rattle.raw_resync.specs.Pieces.{IsPiece, IsSoundLength, said_len}
+use Rattle.raw_resync.specs.Resync.{EndsOrBegins, GoesOnWith, IsSound}
+use Rattle.raw_resync.specs.Seeking.{LacksPiece, MayFollow}
+
+pub said_front : (x y : List ℕ) → 4 ≤ length x → said_len (x ++ y) ≡ said_len x
+said_front x y four = ap (from_le_bytes w32) (take-append-le 4 x y four)
+
+-- the length in front is that of the piece in front
+pub front_said : (most : ℕ) (s b rest : List ℕ) → IsPiece most b → s ≡ b ++ rest → said_len s ≡ length b
+front_said most s b rest is split = let enough : 5 ≤ length b = is.sound.0 in ap said_len split ∙ said_front b rest (omega arith) ∙ is.said
+
+-- one piece alone is in front
+pub same_front : (most : ℕ) (s b rest c more : List ℕ) → IsPiece most b → s ≡ b ++ rest → IsPiece most c → s ≡ c ++ more → (b ≡ c) × (rest ≡ more)
+same_front most s b rest c more is split is' split' =
+    let same : length b ≡ length c = sym (front_said most s b rest is split) ∙ front_said most s c more is' split' in
+    let both : b ++ rest ≡ c ++ more = sym split ∙ split' in (
+      sym (take-append_seam b rest) ∙ ap (take (length b)) both ∙ ap (λ n. take n (c ++ more)) same ∙ take-append_seam c more,
+      sym (drop-append_seam b rest) ∙ ap (drop (length b)) both ∙ ap (λ n. drop n (c ++ more)) same ∙ drop-append_seam c more,
+    )
+
+-- a piece has bytes
+pub some_bytes : (most : ℕ) (s b rest : List ℕ) → IsPiece most b → s ≡ b ++ rest → 0 < length s
+some_bytes most s b rest is split =
+    let enough : 5 ≤ length b = is.sound.0 in
+    let len : length s ≡ length b + length rest = ap length split ∙ length-append b rest in
+    omega arith
+
+-- no piece is in front of t, whatever follows it
+pub no_piece : (most : ℕ) (last : Bool) (t rest b more : List ℕ) → LacksPiece most last t → MayFollow last rest → IsPiece most b → ¬ (t ++ rest ≡ b ++ more)
+no_piece most last t rest b more (inl (is, some, inl short)) may piece split =
+    let enough : 5 ≤ length b = piece.sound.0 in
+    let none : length rest ≡ 0 = ap length (may is) in
+    let len : length t + length rest ≡ length b + length more = sym (length-append t rest) ∙ ap length split ∙ length-append b more in
+    absurd (omega arith)
+no_piece most last t rest b more (inl (is, some, inr cut)) may piece split =
+    let none : length rest ≡ 0 = ap length (may is) in
+    let whole : t ≡ b ++ more = sym (append-nil t) ∙ ap (λ l. t ++ l) (sym (may is)) ∙ split in
+    let said : said_len t ≡ length b = front_said most t b more piece whole in
+    let len : length t + length rest ≡ length b + length more = sym (length-append t rest) ∙ ap length split ∙ length-append b more in
+    absurd (omega arith)
+no_piece most last t rest b more (inr (four, inl few)) may piece split =
+    let said : said_len (t ++ rest) ≡ length b = front_said most (t ++ rest) b more piece split in
+    let same : said_len (t ++ rest) ≡ said_len t = said_front t rest four in
+    let enough : 5 ≤ length b = piece.sound.0 in
+    absurd (omega arith)
+no_piece most last t rest b more (inr (four, inr many)) may piece split =
+    let said : said_len (t ++ rest) ≡ length b = front_said most (t ++ rest) b more piece split in
+    let same : said_len (t ++ rest) ≡ said_len t = said_front t rest four in
+    let bound : length b ≤ most = piece.sound.1 in
+    absurd (omega arith)
+
+-- where no piece is in front of t, it isn't empty
+pub lacking_some : (most : ℕ) (last : Bool) (t : List ℕ) → LacksPiece most last t → 0 < length t
+lacking_some most last t (inl (is, some, short)) = some
+lacking_some most last t (inr (four, which)) = omega arith
+
+-- what is left behind so many bytes
+pub left_behind : (place : ℕ) (bytes rest : List ℕ) → place ≤ length bytes → drop place (bytes ++ rest) ≡ drop place bytes ++ rest
+left_behind place bytes rest within = drop-append-le place bytes rest within
+
+not_nil : (t rest : List ℕ) → 0 < length t → ¬ (t ++ rest ≡ [])
+not_nil t rest some none =
+    let len : length t + length rest ≡ 0 = sym (length-append t rest) ∙ ap length none in
+    absurd (omega arith)
+
+-- no document without damage, and no end, is where no piece is
+pub lacks_behind : (limits : Limits) (last : Bool) (place : ℕ) (bytes rest : List ℕ) → place ≤ length bytes → LacksPiece limits.bytes last (drop place bytes) → MayFollow last rest
+    → ¬ EndsOrBegins limits (drop place (bytes ++ rest))
+lacks_behind limits last place bytes rest within lacks may (inl none) =
+    not_nil (drop place bytes) rest (lacking_some limits.bytes last (drop place bytes) lacks) (sym (left_behind place bytes rest within) ∙ none)
+lacks_behind limits last place bytes rest within lacks may (inr (more, (b, sound, split))) =
+    no_piece limits.bytes last (drop place bytes) rest b more lacks may sound.piece (sym (left_behind place bytes rest within) ∙ split)
+
+-- the piece in front of what is left behind so many bytes, and what is behind it
+pub split_front : (place len : ℕ) (bytes rest : List ℕ) → place + len ≤ length bytes
+    → drop place (bytes ++ rest) ≡ take len (drop place bytes) ++ drop (place + len) (bytes ++ rest)
+split_front place len bytes rest within =
+    let size : length (drop place bytes) ≡ length bytes - place = length-drop place bytes in
+    let all : drop place (bytes ++ rest) ≡ drop place bytes ++ rest = drop-append-le place bytes rest (omega arith) in
+    let front : take len (drop place bytes ++ rest) ≡ take len (drop place bytes) = take-append-le len (drop place bytes) rest (omega arith) in
+    sym (take-append-drop len (drop place (bytes ++ rest))) ∙ ap (λ l. l ++ drop len (drop place (bytes ++ rest))) (ap (take len) all ∙ front)
+    ∙ ap (λ l. take len (drop place bytes) ++ l) (drop-drop len place (bytes ++ rest))
+
+pub front_len : (place len : ℕ) (bytes : List ℕ) → place + len ≤ length bytes → length (take len (drop place bytes)) ≡ len
+front_len place len bytes within = let size : length (drop place bytes) ≡ length bytes - place = length-drop place bytes in length-take-le len (drop place bytes) (omega arith)
+
+-- the piece in front
+pub front_piece : (most : ℕ) (a : List ℕ) (len : ℕ) → said_len a ≡ len → IsSoundLength most len → len ≤ length a → IsPiece most (take len a)
+front_piece most a len said sound within =
+    let enough : 5 ≤ len = sound.0 in
+    let count : length (take len a) ≡ len = length-take-le len a within in
+    let says : said_len (take len a) ≡ len = ap (from_le_bytes w32) (take-take 4 len a (omega arith)) ∙ said in
+    record { said = says ∙ sym count; sound = subst (IsSoundLength most) (sym count) sound }
+
+-- what is so of the piece in front of t
+module _ (limits : Limits) (t b rest : List ℕ) (is : IsPiece limits.bytes b) (split : t ≡ b ++ rest) where
+  -- it is without damage
+  pub begins : IsSound limits b → EndsOrBegins limits t
+  begins sound = inr (rest, (b, sound, split))
+
+  pub is_sound : EndsOrBegins limits t → IsSound limits b
+  is_sound (inl none) =
+      let some : 0 < length t = some_bytes limits.bytes t b rest is split in
+      let none' : length t ≡ 0 = ap length none in
+      absurd (omega arith)
+  is_sound (inr (more, (c, sound, split'))) = subst (IsSound limits) (sym ((same_front limits.bytes t b rest c more is split sound.piece split').0)) sound
+
+  -- documents go on with it
+  pub goes_on : (least : ℕ) → least ≤ length b → IsSound limits b → EndsOrBegins limits rest → GoesOnWith limits least t
+  goes_on least long sound next = inr (b, rest, sound, split, long, next)
+
+  -- and only so
+  pub goes_only : (least : ℕ) → GoesOnWith limits least t → IsSound limits b × EndsOrBegins limits rest × (least ≤ length b)
+  goes_only least (inl none) =
+      let some : 0 < length t = some_bytes limits.bytes t b rest is split in
+      let none' : length t ≡ 0 = ap length none in
+      absurd (omega arith)
+  goes_only least (inr (c, more, sound, split', long, next)) =
+      let (same, same') = same_front limits.bytes t b rest c more is split sound.piece split' in
+      (subst (IsSound limits) (sym same) sound, subst (EndsOrBegins limits) (sym same') next, subst (λ (l : List ℕ). least ≤ length l) (sym same) long)

@@ -1,0 +1,9 @@
+pub mod Zeros
+pub mod Charging
+pub mod Fronts
+pub mod Costing
+pub mod Looking
+pub mod Passing
+pub mod Joining
+pub mod Believing
+pub mod Face

@@ -1,0 +1,161 @@
+-- What a look at a place tells.
+use Rattle.std.proofs.Common.{◌≡◌, ℕ, ◌+◌, ◌*◌, ◌-◌, ◌<◌, ◌≤◌, List, [], ◌++◌, Bool, true, false, Option, None, Some, Result, Ok, Err, IfOk, arith, length, take, drop, sym, ap, ◌∙◌, refl, inl, inr, length-append, length-drop}
+use Rattle.std.proofs.lemmas.List.{take-append-drop}
+use Rattle.raw_view.specs.Frame.Envelope.{IsEnvelope}
+use Rattle.raw_tree.specs.declared.reader.limits.Limits.{Limits}
+use Rattle.raw_resync.specs.Pieces.{IsPiece}
+use Rattle.raw_resync.specs.Resync.{EndsOrBegins, GoesOnWith, IsSound}
+use Rattle.raw_resync.specs.Charge.{IsUnjudged}
+use Rattle.raw_resync.specs.Seeking.{Checks, ChecksBehind, IsWork, JudgesPiece, Judges, MayFollow, TellsBehind, TellsCheck, TellsFront, TellsPiece, check_of}
+use Rattle.raw_resync.specs.declared.check.Check.{Check}
+use Rattle.raw_resync.specs.declared.check.Check.TheVariants as check
+use Rattle.raw_resync.specs.declared.check.Front.TheVariants as front
+use Rattle.raw_resync.specs.declared.work.Work.{Work}
+use Rattle.raw_resync.proofs.Fronts.{begins, front_len, goes_on, goes_only, is_sound, lacks_behind, left_behind, split_front}
+use Rattle.raw_resync.proofs.Costing.{bounded_judged, charges_judged, works_none, works_on}
+
+pub if_ok : {A E : Type 0} (P Q : A → Type 0) (r : Result A E) → ((x : A) → P x → Q x) → IfOk r P → IfOk r Q
+if_ok P Q (Ok x) on is = on x is
+if_ok P Q (Err e) on is = tt
+
+-- how all that is left is split by a piece behind so many bytes
+whole_split : (place len : ℕ) (bytes rest : List ℕ) → place + len ≤ length bytes
+    → bytes ++ rest ≡ take place (bytes ++ rest) ++ (take len (drop place bytes) ++ drop (place + len) (bytes ++ rest))
+whole_split place len bytes rest within = sym (take-append-drop place (bytes ++ rest)) ∙ ap (λ l. take place (bytes ++ rest) ++ l) (split_front place len bytes rest within)
+
+-- a piece without an envelope is judged
+pub judges_none : (limits : Limits) (bytes : List ℕ) (last : Bool) (at place len : ℕ) (w : Work) → ¬ IsEnvelope (take len (drop place bytes))
+    → JudgesPiece limits bytes last at place len w w (Some false)
+judges_none limits bytes last at place len w none = record { works = works_none limits bytes last at w; tells = λ sound. none sound.envelope }
+
+told_judged : (limits : Limits) (b : List ℕ) (end : ℕ) (old new : Work) (judged : Option Bool) → Judges limits b end old new judged
+    → TellsPiece limits b end new judged
+told_judged limits b end old new None (same, few) = let spent : new.spent ≡ old.spent = ap (λ (w : Work). w.spent) same in omega (arith, few, spent)
+told_judged limits b end old new (Some true) (n, (sound, len), spent, reach) = sound
+told_judged limits b end old new (Some false) (n, (damaged, costs), spent, reach) = damaged
+
+-- another is judged, or left out
+pub judges_piece : (limits : Limits) (bytes : List ℕ) (last : Bool) (at place len : ℕ) (old new : Work) (judged : Option Bool) → place + len ≤ length bytes
+    → IsPiece limits.bytes (take len (drop place bytes)) → IsWork new → Judges limits (take len (drop place bytes)) (at + (place + len)) old new judged
+    → JudgesPiece limits bytes last at place len old new judged
+judges_piece limits bytes last at place len old new judged within is work judges = record {
+  works = record {
+    charges = λ rest may.
+        charges_judged limits (take place (bytes ++ rest)) (take len (drop place bytes)) (drop (place + len) (bytes ++ rest)) (bytes ++ rest) (at + (place + len))
+        old new judged (whole_split place len bytes rest within) is judges;
+    bounded = λ rest may bound.
+        let size : length (bytes ++ rest) ≡ length bytes + length rest = length-append bytes rest in
+        bounded_judged limits (at + length (bytes ++ rest)) (at + (place + len)) (take len (drop place bytes)) old new judged (omega (arith, within, size)) work judges bound;
+  };
+  tells = told_judged limits (take len (drop place bytes)) (at + (place + len)) old new judged judges;
+}
+
+-- a piece that is left out, of all that is left
+unjudged : (limits : Limits) (bytes rest : List ℕ) (at place len : ℕ) (w : Work) → place + len ≤ length bytes → IsPiece limits.bytes (take len (drop place bytes))
+    → 8 * (at + (place + len)) ≤ w.spent + length (take len (drop place bytes)) → IsUnjudged limits (at + length (bytes ++ rest)) (drop place (bytes ++ rest)) w
+unjudged limits bytes rest at place len w within is few =
+    let all : length (bytes ++ rest) ≡ length bytes + length rest = length-append bytes rest in
+    let size : length (drop (place + len) (bytes ++ rest)) ≡ length (bytes ++ rest) - (place + len) = length-drop (place + len) (bytes ++ rest) in
+    (take len (drop place bytes), drop (place + len) (bytes ++ rest), at + (place + len), is, split_front place len bytes rest within, omega (arith, all, size, within), few)
+
+-- what is behind so many bytes is told by a piece
+pub behind_piece : (limits : Limits) (bytes : List ℕ) (last : Bool) (at place len : ℕ) (old new : Work) (judged : Option Bool) → place + len ≤ length bytes
+    → IsPiece limits.bytes (take len (drop place bytes)) → JudgesPiece limits bytes last at place len old new judged
+    → ChecksBehind limits bytes last at place old new (check_of judged)
+behind_piece limits bytes last at place len old new None within is p = record {
+  works = p.works;
+  tells = λ rest may. unjudged limits bytes rest at place len new within is p.tells;
+}
+behind_piece limits bytes last at place len old new (Some true) within is p = record {
+  works = p.works;
+  tells = λ rest may. begins limits (drop place (bytes ++ rest)) (take len (drop place bytes)) (drop (place + len) (bytes ++ rest)) is (split_front place len bytes rest within) p.tells;
+}
+behind_piece limits bytes last at place len old new (Some false) within is p = record {
+  works = p.works;
+  tells = λ rest may there.
+      p.tells (is_sound limits (drop place (bytes ++ rest)) (take len (drop place bytes)) (drop (place + len) (bytes ++ rest)) is (split_front place len bytes rest within) there);
+}
+
+-- nothing is left behind so many bytes
+nothing_left : (place : ℕ) (last : Bool) (bytes rest : List ℕ) → place ≤ length bytes → last ≡ true → drop place bytes ≡ [] → MayFollow last rest → drop place (bytes ++ rest) ≡ []
+nothing_left place last bytes rest within is none may = left_behind place bytes rest within ∙ ap (λ l. l ++ rest) none ∙ may is
+
+-- a piece of so many bytes is behind so many of these bytes
+module _ (limits : Limits) (bytes : List ℕ) (last : Bool) (at place len : ℕ) (within : place + len ≤ length bytes) (is : IsPiece limits.bytes (take len (drop place bytes))) where
+  size : length (take len (drop place bytes)) ≡ len
+  size = front_len place len bytes within
+
+  some : place < length bytes
+  some = let enough : 5 ≤ length (take len (drop place bytes)) = is.sound.0 in omega (arith, enough, size, within)
+
+  only : (rest : List ℕ) (least : ℕ) → GoesOnWith limits least (drop place (bytes ++ rest))
+      → IsSound limits (take len (drop place bytes)) × EndsOrBegins limits (drop (place + len) (bytes ++ rest)) × (least ≤ length (take len (drop place bytes)))
+  only rest least goes =
+      goes_only limits (drop place (bytes ++ rest)) (take len (drop place bytes)) (drop (place + len) (bytes ++ rest)) is (split_front place len bytes rest within) least goes
+
+  goes : (rest : List ℕ) (least : ℕ) → least ≤ len → IsSound limits (take len (drop place bytes)) → EndsOrBegins limits (drop (place + len) (bytes ++ rest))
+      → GoesOnWith limits least (drop place (bytes ++ rest))
+  goes rest least long sound next =
+      goes_on limits (drop place (bytes ++ rest)) (take len (drop place bytes)) (drop (place + len) (bytes ++ rest)) is (split_front place len bytes rest within) least
+      (omega (arith, long, size)) sound next
+
+  -- it is shorter than is asked for
+  -- it has no envelope
+  pub no_envelope : (w : Work) → ¬ IsEnvelope (take len (drop place bytes)) → Checks limits bytes last at place len w w check.Stops
+  no_envelope w none = record { works = works_none limits bytes last at w; tells = λ rest may. (some, λ there. none ((only rest len there).0.envelope)) }
+
+  -- no piece is behind it
+  pub no_second : (w : Work) → TellsFront limits.bytes bytes last (place + len) front.NoPiece → Checks limits bytes last at place len w w check.Stops
+  no_second w lacks = record {
+    works = works_none limits bytes last at w;
+    tells = λ rest may. (some, λ there. lacks_behind limits last (place + len) bytes rest within lacks may ((only rest len there).1));
+  }
+
+  pub wants_second : (n : ℕ) (w : Work) → TellsFront limits.bytes bytes last (place + len) (front.Wants n) → Checks limits bytes last at place len w w (check.Wants n)
+  wants_second n w (not, more, few) =
+      let bound : length (take len (drop place bytes)) ≤ limits.bytes = is.sound.1 in
+      record { works = works_none limits bytes last at w; tells = λ rest may. (not, more, omega (arith, few, bound, size)) }
+
+  -- it is all that is left
+  pub is_last_piece : (old new : Work) (judged : Option Bool) → TellsFront limits.bytes bytes last (place + len) front.End → JudgesPiece limits bytes last at place len old new judged
+      → Checks limits bytes last at place len old new (check_of judged)
+  is_last_piece old new None (ends, none) p = record { works = p.works; tells = λ rest may. (some, inl (unjudged limits bytes rest at place len new within is p.tells)) }
+  is_last_piece old new (Some true) (ends, none) p =
+      record { works = p.works; tells = λ rest may. goes rest len (omega arith) p.tells (inl (nothing_left (place + len) last bytes rest within ends none may)) }
+  is_last_piece old new (Some false) (ends, none) p = record { works = p.works; tells = λ rest may. (some, λ there. p.tells ((only rest len there).0)) }
+
+  -- it is damaged, or left out, and what is behind it says nothing
+  pub first_alone : (old new : Work) (judged : Option Bool) → ¬ (judged ≡ Some true) → JudgesPiece limits bytes last at place len old new judged
+      → Checks limits bytes last at place len old new (check_of judged)
+  first_alone old new None not p = record { works = p.works; tells = λ rest may. (some, inl (unjudged limits bytes rest at place len new within is p.tells)) }
+  first_alone old new (Some true) not p = absurd (not refl)
+  first_alone old new (Some false) not p = record { works = p.works; tells = λ rest may. (some, λ there. p.tells ((only rest len there).0)) }
+
+  -- what is behind it tells, where it is without damage
+  second : (rest : List ℕ) (w : Work) (judged : Option Bool) → IsSound limits (take len (drop place bytes))
+      → TellsBehind limits bytes last (at + length (bytes ++ rest)) (bytes ++ rest) (place + len) w (check_of judged)
+      → TellsCheck limits bytes last (at + length (bytes ++ rest)) (bytes ++ rest) place len w (check_of judged)
+  second rest w None sound told = (some, inr (take len (drop place bytes), drop (place + len) (bytes ++ rest), is, split_front place len bytes rest within, told))
+  second rest w (Some true) sound told = goes rest len (omega arith) sound told
+  second rest w (Some false) sound told = (some, λ there. told ((only rest len there).1))
+
+  -- another piece is behind it
+  pub two_pieces : (more : ℕ) (old mid new : Work) (judged : Option Bool) → (place + len) + more ≤ length bytes → IsPiece limits.bytes (take more (drop (place + len) bytes))
+      → JudgesPiece limits bytes last at place len old mid (Some true) → JudgesPiece limits bytes last at (place + len) more mid new judged
+      → Checks limits bytes last at place len old new (check_of judged)
+  two_pieces more old mid new judged within' is' p q =
+      let behind = behind_piece limits bytes last at (place + len) more mid new judged within' is' q in
+      record { works = works_on limits bytes last at old mid new p.works q.works; tells = λ rest may. second rest new judged p.tells (behind.tells rest may) }
+
+  -- it is as long as is asked for
+  long_told : (rest : List ℕ) (least : ℕ) (w : Work) (told : Check) → least ≤ len
+      → TellsCheck limits bytes last (at + length (bytes ++ rest)) (bytes ++ rest) place len w told
+      → TellsCheck limits bytes last (at + length (bytes ++ rest)) (bytes ++ rest) place least w told
+  long_told rest least w check.GoesOn long tells = let (sound, next, same) = only rest len tells in goes rest least long sound next
+  long_told rest least w check.Stops long (there, stops) = (there, λ on. let (sound, next, same) = only rest least on in stops (goes rest len (omega arith) sound next))
+  long_told rest least w check.LeftOut long tells = tells
+  long_told rest least w (check.Wants n) long tells = tells
+
+  pub long_enough : (least : ℕ) (old new : Work) (told : Check) → least ≤ len → Checks limits bytes last at place len old new told
+      → Checks limits bytes last at place least old new told
+  long_enough least old new told long p = record { works = p.works; tells = λ rest may. long_told rest least new told long (p.tells rest may) }

@@ -1,0 +1,141 @@
+-- Places that are passed, one after the other.
+use Rattle.std.proofs.Common.{◌≡◌, ℕ, ◌+◌, ◌-◌, ◌<◌, ◌≤◌, List, [], ◌++◌, Bool, true, false, arith, length, drop, sym, subst, refl, inl, inr}
+use Rattle.std.proofs.Math.Nat.{eq-or-lt_of_le}
+use Rattle.raw_tree.specs.declared.reader.limits.Limits.{Limits}
+use Rattle.raw_resync.specs.Resync.{GoesOnWith}
+use Rattle.raw_resync.specs.Charge.{IsLeftOut}
+use Rattle.raw_resync.specs.Seeking.{Checks, MayFollow, PassesOver, Seeks, Works}
+use Rattle.raw_resync.specs.declared.search.Places.{Places}
+use Rattle.raw_resync.specs.declared.search.Sought.TheVariants as sought
+use Rattle.raw_resync.specs.declared.check.Check.TheVariants as check
+use Rattle.raw_resync.specs.declared.work.Work.{Work}
+use Rattle.raw_resync.proofs.Costing.{left_on, works_more, works_on}
+
+-- no place is passed yet
+pub passes_none : (limits : Limits) (total : ℕ) (s : List ℕ) (from end : ℕ) (w : Work) → PassesOver limits total s from from end w true
+passes_none limits total s from end w = record {
+  each = λ j low high. absurd (omega (arith, low, high));
+  whole = λ is j low high. absurd (omega (arith, low, high));
+  some = λ not. let impossible : ⊥ = cc in absurd impossible;
+}
+
+-- more is charged since
+pub passes_since : (limits : Limits) (total : ℕ) (s : List ℕ) (from to end : ℕ) (old new : Work) (all : Bool) → old.spent ≤ new.spent
+    → PassesOver limits total s from to end old all → PassesOver limits total s from to end new all
+passes_since limits total s from to end old new all more p = record {
+  each = λ j low high. elim (p.each j low high) [
+    | inl not ↦ inl not
+    | inr left ↦ inr (left_on limits total s old new j more left)
+  ];
+  whole = p.whole;
+  some = λ not. let (j, low, high, left) = p.some not in (j, low, high, left_on limits total s old new j more left);
+}
+
+-- the next place is one at which they don't go on
+pub passes_stop : (limits : Limits) (total : ℕ) (s : List ℕ) (from to end : ℕ) (w : Work) (all : Bool) → from ≤ to → ¬ GoesOnWith limits (end - to) (drop to s)
+    → PassesOver limits total s from to end w all → PassesOver limits total s from (to + 1) end w all
+passes_stop limits total s from to end w all start stops p = record {
+  each = λ j low high. elim (eq-or-lt_of_le {n = j} {m = to} (omega (arith, high))) [
+    | inl same ↦ inl (subst (λ k. ¬ GoesOnWith limits (end - k) (drop k s)) (sym same) stops)
+    | inr before ↦ p.each j low before
+  ];
+  whole = λ is j low high. elim (eq-or-lt_of_le {n = j} {m = to} (omega (arith, high))) [
+    | inl same ↦ subst (λ k. ¬ GoesOnWith limits (end - k) (drop k s)) (sym same) stops
+    | inr before ↦ p.whole is j low before
+  ];
+  some = λ not. let (j, low, high, left) = p.some not in (j, low, omega (arith, high), left);
+}
+
+-- the next place is left out
+pub passes_left : (limits : Limits) (total : ℕ) (s : List ℕ) (from to end : ℕ) (w : Work) (all : Bool) → from ≤ to → IsLeftOut limits total s w to
+    → PassesOver limits total s from to end w all → PassesOver limits total s from (to + 1) end w false
+passes_left limits total s from to end w all start left p = record {
+  each = λ j low high. elim (eq-or-lt_of_le {n = j} {m = to} (omega (arith, high))) [
+    | inl same ↦ inr (subst (IsLeftOut limits total s w) (sym same) left)
+    | inr before ↦ p.each j low before
+  ];
+  whole = λ is. let impossible : ⊥ = cc in absurd impossible;
+  some = λ not. (to, start, omega arith, left);
+}
+
+-- what the loop keeps
+pub record HasPassed (limits : Limits) (bytes : List ℕ) (is_last : Bool) (at from to end : ℕ) (old new : Work) (all : Bool) : Type 0 where
+  pub low : from ≤ to
+  pub within : to ≤ length bytes
+  pub works : Works limits bytes is_last at old new
+  pub over : (rest : List ℕ) → MayFollow is_last rest → PassesOver limits (at + length (bytes ++ rest)) (bytes ++ rest) from to end new all
+
+pub has_passed_none : (limits : Limits) (bytes : List ℕ) (last : Bool) (at from end : ℕ) (w : Work) → from ≤ length bytes → Works limits bytes last at w w
+    → HasPassed limits bytes last at from from end w w true
+has_passed_none limits bytes last at from end w within works = record {
+  low = omega arith;
+  within = within;
+  works = works;
+  over = λ rest may. passes_none limits (at + length (bytes ++ rest)) (bytes ++ rest) from end w;
+}
+
+module _ (limits : Limits) (bytes : List ℕ) (last : Bool) (at from to end least : ℕ) (old mid new : Work) (all : Bool) (p : HasPassed limits bytes last at from to end old mid all)
+    (is : least ≡ end - to) where
+  since : Works limits bytes last at mid new → (rest : List ℕ) → MayFollow last rest → PassesOver limits (at + length (bytes ++ rest)) (bytes ++ rest) from to end new all
+  since works rest may = passes_since limits (at + length (bytes ++ rest)) (bytes ++ rest) from to end mid new all (works_more limits bytes last at mid new works) (p.over rest may)
+
+  pub passed_over : Works limits bytes last at mid new → (rest : List ℕ) → MayFollow last rest
+      → PassesOver limits (at + length (bytes ++ rest)) (bytes ++ rest) from to end new all
+  passed_over works = since works
+
+  pub has_passed_stop : Checks limits bytes last at to least mid new check.Stops → HasPassed limits bytes last at from (to + 1) end old new all
+  has_passed_stop c =
+      let (there, stops) = c.tells [] (λ ends. refl) in
+      record {
+        low = omega (arith, p.low);
+        within = omega (arith, there);
+        works = works_on limits bytes last at old mid new p.works c.works;
+        over = λ rest may.
+            passes_stop limits (at + length (bytes ++ rest)) (bytes ++ rest) from to end new all p.low
+            (subst (λ n. ¬ GoesOnWith limits n (drop to (bytes ++ rest))) is ((c.tells rest may).1)) (since c.works rest may);
+      }
+
+  pub has_passed_left : Checks limits bytes last at to least mid new check.LeftOut → HasPassed limits bytes last at from (to + 1) end old new false
+  has_passed_left c =
+      let (there, left) = c.tells [] (λ ends. refl) in
+      record {
+        low = omega (arith, p.low);
+        within = omega (arith, there);
+        works = works_on limits bytes last at old mid new p.works c.works;
+        over = λ rest may.
+            passes_left limits (at + length (bytes ++ rest)) (bytes ++ rest) from to end new all p.low ((c.tells rest may).1) (since c.works rest may);
+      }
+
+-- what a search tells, where it stops at a place
+module _ (limits : Limits) (bytes : List ℕ) (last : Bool) (at : ℕ) (q : Places) (to least : ℕ) (old mid new : Work) (all : Bool)
+    (p : HasPassed limits bytes last at q.from to q.end old mid all) (is : least ≡ q.end - to) (high : to < q.until) where
+  -- documents go on there
+  pub sought_found : Checks limits bytes last at to least mid new check.GoesOn → Seeks limits bytes last at q old new (sought.Found to all)
+  sought_found c = record {
+    works = works_on limits bytes last at old mid new p.works c.works;
+    tells = λ rest may. (
+      p.low,
+      high,
+      p.within,
+      subst (λ n. GoesOnWith limits n (drop to (bytes ++ rest))) is (c.tells rest may),
+      passed_over limits bytes last at q.from to q.end least old mid new all p is c.works rest may,
+    );
+  }
+
+  -- it isn't known
+  pub sought_wants : (n : ℕ) → Checks limits bytes last at to least mid new (check.Wants n) → Seeks limits bytes last at q old new (sought.Wants to n all)
+  sought_wants n c = record {
+    works = works_on limits bytes last at old mid new p.works c.works;
+    tells = λ rest may. (p.low, high, p.within, c.tells rest may, passed_over limits bytes last at q.from to q.end least old mid new all p is c.works rest may);
+  }
+
+-- all places were looked at
+pub sought_nowhere : (limits : Limits) (bytes : List ℕ) (last : Bool) (at : ℕ) (q : Places) (to : ℕ) (old new : Work) (all : Bool)
+    → HasPassed limits bytes last at q.from to q.end old new all → to ≡ q.until → Seeks limits bytes last at q old new (sought.Nowhere all)
+sought_nowhere limits bytes last at q to old new all p is = record {
+  works = p.works;
+  tells = λ rest may. (
+    subst (λ n. n ≤ length bytes) is p.within,
+    subst (λ n. PassesOver limits (at + length (bytes ++ rest)) (bytes ++ rest) q.from n q.end new all) is (p.over rest may),
+  );
+}

@@ -1,0 +1,55 @@
+use Rattle.std.proofs.Common.{◌≡◌, ◌+◌, ◌-◌, Some, None, true, false, arith, subst, sym, take, drop}
+use Rattle.raw_view.specs.Frame.Envelope.{IsEnvelope}
+use Rattle.raw_resync.specs.Seeking.{Checks, JudgesPiece}
+use Rattle.raw_resync.proofs.Looking.{first_alone, is_last_piece, no_envelope, no_second, two_pieces, wants_second}
+use Rattle.raw_resync.proofs.check.check_piece.Goals as goal
+
+pub returns-in_ok-judge_piece-in-End-clause-checked : goal.returns-in_ok-judge_piece-in-End-clause-checked
+returns-in_ok-judge_piece-in-End-clause-checked c =
+    let p = c.args.part in
+    subst (Checks p.limits p.bytes.now p.is_last p.at c.args.place c.args.len c.args.work.now c.judge_piece.new.work) (sym c.told.ensures)
+    (is_last_piece p.limits p.bytes.now p.is_last p.at c.args.place c.args.len c.requires.1 c.requires.2 c.args.work.now c.judge_piece.new.work
+    c.in_ok-judge_piece-in-End.field-0 c.in-End.ensures c.in_ok-judge_piece-in-End.ensures.judged)
+
+pub returns-in-NoPiece-clause-checked : goal.returns-in-NoPiece-clause-checked
+returns-in-NoPiece-clause-checked c =
+    let p = c.args.part in
+    no_second p.limits p.bytes.now p.is_last p.at c.args.place c.args.len c.requires.1 c.requires.2 c.args.work.now c.in-NoPiece.ensures
+
+pub returns-in-Wants-clause-checked : goal.returns-in-Wants-clause-checked
+returns-in-Wants-clause-checked c =
+    let p = c.args.part in
+    wants_second p.limits p.bytes.now p.is_last p.at c.args.place c.args.len c.requires.1 c.requires.2 c.in-Wants.count c.args.work.now c.in-Wants.ensures
+
+pub returns-in_ok-judge_piece-in-Some-true-clause-checked : goal.returns-in_ok-judge_piece-in-Some-true-clause-checked
+returns-in_ok-judge_piece-in-Some-true-clause-checked c =
+    let p = c.args.part in
+    let first : c.in_ok-judge_piece-in-Piece.field-0 ≡ Some true = cc in
+    subst (Checks p.limits p.bytes.now p.is_last p.at c.args.place c.args.len c.args.work.now c.judge_piece-in-Some-true.new.work) (sym c.told-in-Some-true.ensures)
+    (two_pieces p.limits p.bytes.now p.is_last p.at c.args.place c.args.len c.requires.1 c.requires.2 c.in-Piece.more c.args.work.now
+    c.judge_piece-in-Piece.new.work c.judge_piece-in-Some-true.new.work c.in_ok-judge_piece-in-Some-true.field-0 c.in-Piece.ensures.0 c.in-Piece.ensures.1
+    (subst (JudgesPiece p.limits p.bytes.now p.is_last p.at c.args.place c.args.len c.args.work.now c.judge_piece-in-Piece.new.work) first c.in_ok-judge_piece-in-Piece.ensures.judged)
+    c.in_ok-judge_piece-in-Some-true.ensures.judged)
+
+pub returns-in-Err-clause-checked : goal.returns-in-Err-clause-checked
+returns-in-Err-clause-checked c =
+    let p = c.args.part in
+    let same : c.args.place + c.args.len - c.args.place ≡ c.args.len = omega arith in
+    no_envelope p.limits p.bytes.now p.is_last p.at c.args.place c.args.len c.requires.1 c.requires.2 c.args.work.now
+    (λ envelope. let is = c.in-Err.ensures.sound.1 (subst (λ n. IsEnvelope (take n (drop c.args.place p.bytes.now))) (sym same) envelope) in let impossible : ⊥ = cc in impossible)
+
+pub returns-in-Some-false-clause-checked : goal.returns-in-Some-false-clause-checked
+returns-in-Some-false-clause-checked c =
+    let p = c.args.part in
+    let damaged : c.in_ok-judge_piece-in-Piece.field-0 ≡ Some false = cc in
+    first_alone p.limits p.bytes.now p.is_last p.at c.args.place c.args.len c.requires.1 c.requires.2 c.args.work.now c.judge_piece-in-Piece.new.work (Some false)
+    (λ is. let impossible : ⊥ = cc in impossible)
+    (subst (JudgesPiece p.limits p.bytes.now p.is_last p.at c.args.place c.args.len c.args.work.now c.judge_piece-in-Piece.new.work) damaged c.in_ok-judge_piece-in-Piece.ensures.judged)
+
+pub returns-in-None-clause-checked : goal.returns-in-None-clause-checked
+returns-in-None-clause-checked c =
+    let p = c.args.part in
+    let left : c.in_ok-judge_piece-in-Piece.field-0 ≡ None = cc in
+    first_alone p.limits p.bytes.now p.is_last p.at c.args.place c.args.len c.requires.1 c.requires.2 c.args.work.now c.judge_piece-in-Piece.new.work None
+    (λ is. let impossible : ⊥ = cc in impossible)
+    (subst (JudgesPiece p.limits p.bytes.now p.is_last p.at c.args.place c.args.len c.args.work.now c.judge_piece-in-Piece.new.work) left c.in_ok-judge_piece-in-Piece.ensures.judged)

@@ -1,0 +1,4 @@
+pub mod Pieces
+pub mod Resync
+pub mod Charge
+pub mod Seeking

@@ -1,0 +1,118 @@
+-- What the code of a search tells of some bytes of an input. Behind them is more, rest, which isn't known; or nothing, where they are
+-- the last.
+use Rattle.std.specs.Prelude.{◌≡◌, ◌⊎◌, ◌<◌, ◌≤◌, ◌+◌, ◌*◌, ◌-◌, ◌^◌, ℕ, List, [], ◌++◌, Bool, true, false, Option, None, Some, drop, length, max, take}
+use Rattle.raw_tree.specs.declared.reader.limits.Limits.{Limits}
+use Rattle.raw_resync.specs.Pieces.{IsPiece, said_len}
+use Rattle.raw_resync.specs.Resync.{EndsOrBegins, GoesOnWith, IsSound}
+use Rattle.raw_resync.specs.Charge.{Charges, Costs, IsBounded, IsLeftOut, IsUnjudged}
+use Rattle.raw_resync.specs.declared.check.Check.{Check}
+use Rattle.raw_resync.specs.declared.check.Check.TheVariants as check
+use Rattle.raw_resync.specs.declared.check.Front.{Front}
+use Rattle.raw_resync.specs.declared.check.Front.TheVariants as front
+use Rattle.raw_resync.specs.declared.search.Places.{Places}
+use Rattle.raw_resync.specs.declared.search.Sought.{Sought}
+use Rattle.raw_resync.specs.declared.search.Sought.TheVariants as sought
+use Rattle.raw_resync.specs.declared.work.Work.{Work}
+
+-- before the first search of an input
+abbrev pub no_work : Work
+no_work = record { spent = 0; reach = 0 }
+
+-- so much is charged, and no sum is over its range
+abbrev pub IsWork : Work → Type 0
+IsWork w = (w.spent ≤ 8 * w.reach) × (w.reach < 2 ^ 66)
+
+-- whether a piece b is a document without damage, and what it costs
+abbrev pub IsJudged : Limits → List ℕ → Bool → ℕ → Type 0
+IsJudged limits b true n = IsSound limits b × (n ≡ length b)
+IsJudged limits b false n = (¬ IsSound limits b) × Costs limits b n
+
+-- a piece b that ends at this offset of the input is judged, or left out
+abbrev pub Judges : Limits → List ℕ → ℕ → (old new : Work) → Option Bool → Type 0
+Judges limits b end old new None = (new ≡ old) × (8 * end ≤ old.spent + length b)
+Judges limits b end old new (Some is) = (n : ℕ) × IsJudged limits b is n × (new.spent ≡ old.spent + n) × (new.reach ≡ max old.reach end)
+
+-- no piece is in front of t: it is shorter than its length says, and the last; or no document has this length
+abbrev pub LacksPiece : ℕ → Bool → List ℕ → Type 0
+LacksPiece most is_last t =
+    ((is_last ≡ true) × (0 < length t) × ((length t < 4) ⊎ (length t < said_len t))) ⊎ ((4 ≤ length t) × ((said_len t < 5) ⊎ (most < said_len t)))
+
+-- what is in front behind so many bytes
+abbrev pub TellsFront : ℕ → List ℕ → Bool → ℕ → Front → Type 0
+TellsFront most bytes is_last place front.End = (is_last ≡ true) × (drop place bytes ≡ [])
+TellsFront most bytes is_last place front.NoPiece = LacksPiece most is_last (drop place bytes)
+TellsFront most bytes is_last place (front.Wants n) = (is_last ≡ false) × (length bytes < n) × (n ≤ place + most + 4)
+TellsFront most bytes is_last place (front.Piece len) = (place + len ≤ length bytes) × IsPiece most (take len (drop place bytes))
+
+-- more bytes are wanted than there are
+abbrev pub Wants : Limits → List ℕ → Bool → ℕ → ℕ → Type 0
+Wants limits bytes is_last place n = (is_last ≡ false) × (length bytes < n) × (n ≤ place + 2 * limits.bytes + 8)
+
+-- what is found of the places in s, the end of an input of so many bytes
+abbrev pub TellsCheck : Limits → List ℕ → Bool → (total : ℕ) → List ℕ → (place least : ℕ) → Work → Check → Type 0
+TellsCheck limits bytes is_last total s place least work check.GoesOn = GoesOnWith limits least (drop place s)
+TellsCheck limits bytes is_last total s place least work check.Stops = (place < length bytes) × ¬ GoesOnWith limits least (drop place s)
+TellsCheck limits bytes is_last total s place least work check.LeftOut = (place < length bytes) × IsLeftOut limits total s work place
+TellsCheck limits bytes is_last total s place least work (check.Wants n) = Wants limits bytes is_last place n
+
+-- what is found behind so many bytes of s
+abbrev pub TellsBehind : Limits → List ℕ → Bool → (total : ℕ) → List ℕ → (place : ℕ) → Work → Check → Type 0
+TellsBehind limits bytes is_last total s place work check.GoesOn = EndsOrBegins limits (drop place s)
+TellsBehind limits bytes is_last total s place work check.Stops = ¬ EndsOrBegins limits (drop place s)
+TellsBehind limits bytes is_last total s place work check.LeftOut = IsUnjudged limits total (drop place s) work
+TellsBehind limits bytes is_last total s place work (check.Wants n) = Wants limits bytes is_last place n
+
+-- rest may be behind bytes
+abbrev pub MayFollow : Bool → List ℕ → Type 0
+MayFollow is_last rest = is_last ≡ true → rest ≡ []
+
+-- what a look at bytes at this offset of the input costs, whatever is behind them
+pub record Works (limits : Limits) (bytes : List ℕ) (is_last : Bool) (at : ℕ) (old new : Work) : Type 0 where
+  pub charges : (rest : List ℕ) → MayFollow is_last rest → Charges limits (bytes ++ rest) old new
+  pub bounded : (rest : List ℕ) → MayFollow is_last rest → IsBounded (at + length (bytes ++ rest)) old → IsBounded (at + length (bytes ++ rest)) new
+
+-- a place is looked at
+pub record Checks (limits : Limits) (bytes : List ℕ) (is_last : Bool) (at place least : ℕ) (old new : Work) (told : Check) : Type 0 where
+  pub works : Works limits bytes is_last at old new
+  pub tells : (rest : List ℕ) → MayFollow is_last rest → TellsCheck limits bytes is_last (at + length (bytes ++ rest)) (bytes ++ rest) place least new told
+
+-- it is looked whether the input ends there, or a document without damage begins
+pub record ChecksBehind (limits : Limits) (bytes : List ℕ) (is_last : Bool) (at place : ℕ) (old new : Work) (told : Check) : Type 0 where
+  pub works : Works limits bytes is_last at old new
+  pub tells : (rest : List ℕ) → MayFollow is_last rest → TellsBehind limits bytes is_last (at + length (bytes ++ rest)) (bytes ++ rest) place new told
+
+-- Documents that reach to this end go on at no place of s from one on and before another, or the place was left out; and
+-- whether all were looked at.
+pub record PassesOver (limits : Limits) (total : ℕ) (s : List ℕ) (from to end : ℕ) (work : Work) (all : Bool) : Type 0 where
+  pub each : (j : ℕ) → from ≤ j → j < to → (¬ GoesOnWith limits (end - j) (drop j s)) ⊎ IsLeftOut limits total s work j
+  pub whole : all ≡ true → (j : ℕ) → from ≤ j → j < to → ¬ GoesOnWith limits (end - j) (drop j s)
+  pub some : all ≡ false → (j : ℕ) × (from ≤ j) × (j < to) × IsLeftOut limits total s work j
+
+-- what a search finds
+abbrev pub TellsSought : Limits → List ℕ → Bool → (total : ℕ) → List ℕ → Places → Work → Sought → Type 0
+TellsSought limits bytes is_last total s p work (sought.Found place all) =
+    (p.from ≤ place) × (place < p.until) × (place ≤ length bytes) × GoesOnWith limits (p.end - place) (drop place s) × PassesOver limits total s p.from place p.end work all
+TellsSought limits bytes is_last total s p work (sought.Nowhere all) = (p.until ≤ length bytes) × PassesOver limits total s p.from p.until p.end work all
+TellsSought limits bytes is_last total s p work (sought.Wants place n all) =
+    (p.from ≤ place) × (place < p.until) × (place ≤ length bytes) × Wants limits bytes is_last place n × PassesOver limits total s p.from place p.end work all
+
+-- a piece of so many bytes is judged, or left out
+abbrev pub TellsPiece : Limits → List ℕ → (end : ℕ) → Work → Option Bool → Type 0
+TellsPiece limits b end work None = 8 * end ≤ work.spent + length b
+TellsPiece limits b end work (Some true) = IsSound limits b
+TellsPiece limits b end work (Some false) = ¬ IsSound limits b
+
+pub record JudgesPiece (limits : Limits) (bytes : List ℕ) (is_last : Bool) (at place len : ℕ) (old new : Work) (judged : Option Bool) : Type 0 where
+  pub works : Works limits bytes is_last at old new
+  pub tells : TellsPiece limits (take len (drop place bytes)) (at + (place + len)) new judged
+
+-- what is found at a place whose last piece is judged so
+abbrev pub check_of : Option Bool → Check
+check_of None = check.LeftOut
+check_of (Some true) = check.GoesOn
+check_of (Some false) = check.Stops
+
+-- a search in bytes at this offset of the input
+pub record Seeks (limits : Limits) (bytes : List ℕ) (is_last : Bool) (at : ℕ) (p : Places) (old new : Work) (told : Sought) : Type 0 where
+  pub works : Works limits bytes is_last at old new
+  pub tells : (rest : List ℕ) → MayFollow is_last rest → TellsSought limits bytes is_last (at + length (bytes ++ rest)) (bytes ++ rest) p new told

@@ -1,0 +1,181 @@
+//! Whether documents go on at a place.
+#![tactic(auto)]
+
+ghost use Rattle.std.specs.Prelude.{◌≡◌, ◌≤◌, ◌+◌, IfOk, drop, length, take};
+ghost use Rattle.raw_resync.specs.Pieces.{IsPiece};
+ghost use Rattle.raw_resync.specs.Seeking.{Checks, ChecksBehind, IsWork, JudgesPiece, TellsFront, check_of};
+
+use crate::judge::judge;
+use crate::work::Work;
+use raw_tree::Limits;
+use raw_view::RawDocument;
+use std::alloc::{AllocError, Global};
+
+/// Some bytes of an input, and what is asked of them.
+#[derive(Clone, Copy)]
+pub struct Part<'a> {
+    /// the bytes
+    pub bytes: &'a [u8],
+    /// whether the input ends behind them
+    pub is_last: bool,
+    /// where in the input they begin
+    pub at: u64,
+    /// the limits of a document without damage
+    pub limits: Limits,
+}
+
+/// What is in front of what is left of an input.
+#[derive(Clone, Copy)]
+pub(crate) enum Front {
+    /// nothing: the input is at its end
+    End,
+    /// no document has the length in front, or so many bytes aren't left
+    NoPiece,
+    /// it isn't known before so many bytes are there
+    Wants(usize),
+    /// so many bytes, as many as they say
+    Piece(usize),
+}
+
+/// What is found at a place.
+#[derive(Clone, Copy)]
+pub enum Check {
+    /// documents go on
+    GoesOn,
+    /// they don't
+    Stops,
+    /// it could cost too much to know
+    LeftOut,
+    /// it isn't known before so many bytes are there
+    Wants(usize),
+}
+
+/// What is in front behind so many of these bytes.
+#[inline(always)]
+pub(crate) fn front_at(part: Part<'_>, place: usize) -> Front
+    requires { place ≤ length part.bytes.now }
+    ensures { TellsFront part.entry.limits.bytes part.entry.bytes.now part.entry.is_last place result }
+{
+    let rest = part.bytes.split_at(place).1;
+    let Some(head) = rest.first_chunk::<4>() else {
+        return match (part.is_last, rest.is_empty()) {
+            (true, true) => Front::End,
+            (true, false) => Front::NoPiece,
+            (false, _) => Front::Wants(place + 4),
+        };
+    };
+    let len = u32::from_le_bytes(*head) as usize;
+    if len < 5 || part.limits.bytes < len {
+        return Front::NoPiece;
+    }
+    if len <= rest.len() {
+        Front::Piece(len)
+    } else if part.is_last {
+        Front::NoPiece
+    } else {
+        Front::Wants(place + len)
+    }
+}
+
+/// Whether documents go on behind so many of these bytes, with a first one of at least so many bytes.
+#[inline(always)]
+pub(crate) fn check_at(
+    alloc: Global,
+    part: Part<'_>,
+    place: usize,
+    least: usize,
+    work: &mut Work,
+) -> Result<Check, AllocError>
+    requires { IsWork work.old × (place ≤ length part.bytes.now) }
+    ensures work { IsWork work.new }
+    ensures checked { IfOk result (Checks part.entry.limits part.entry.bytes.now part.entry.is_last part.entry.at place least work.old work.new) }
+{
+    let len = match front_at(part, place) {
+        Front::End => return Ok(Check::GoesOn),
+        Front::NoPiece => return Ok(Check::Stops),
+        Front::Wants(count) => return Ok(Check::Wants(count)),
+        Front::Piece(len) => len,
+    };
+    if len < least {
+        return Ok(Check::Stops);
+    }
+    check_piece(alloc, part, place, len, work)
+}
+
+/// Whether documents go on with a piece of so many bytes behind so many of these bytes.
+fn check_piece(
+    alloc: Global,
+    part: Part<'_>,
+    place: usize,
+    len: usize,
+    work: &mut Work,
+) -> Result<Check, AllocError>
+    requires { IsWork work.old × (place + len ≤ length part.bytes.now) × IsPiece part.limits.bytes (take len (drop place part.bytes.now)) }
+    ensures work { IsWork work.new }
+    ensures checked { IfOk result (Checks part.entry.limits part.entry.bytes.now part.entry.is_last part.entry.at place len work.old work.new) }
+{
+    let end = place + len;
+    if let Err(_) = RawDocument::from_bytes(&part.bytes[place..end]) {
+        return Ok(Check::Stops);
+    }
+    match front_at(part, end) {
+        Front::End => Ok(told(judge_piece(alloc, part, place, len, work)?)),
+        Front::NoPiece => Ok(Check::Stops),
+        Front::Wants(count) => Ok(Check::Wants(count)),
+        Front::Piece(more) => match judge_piece(alloc, part, place, len, work)? {
+            Some(true) => Ok(told(judge_piece(alloc, part, end, more, work)?)),
+            Some(false) => Ok(Check::Stops),
+            None => Ok(Check::LeftOut),
+        },
+    }
+}
+
+/// What is found at a place whose last piece is judged so.
+fn told(judged: Option<bool>) -> Check
+    ensures { result ≡ check_of judged }
+{
+    match judged {
+        Some(true) => Check::GoesOn,
+        Some(false) => Check::Stops,
+        None => Check::LeftOut,
+    }
+}
+
+/// Whether a piece of so many bytes behind so many of these bytes is a document without damage; `None` where it could cost too
+/// much to know.
+fn judge_piece(
+    alloc: Global,
+    part: Part<'_>,
+    place: usize,
+    len: usize,
+    work: &mut Work,
+) -> Result<Option<bool>, AllocError>
+    requires { IsWork work.old × (place + len ≤ length part.bytes.now) × IsPiece part.limits.bytes (take len (drop place part.bytes.now)) }
+    ensures work { IsWork work.new }
+    ensures judged { IfOk result (JudgesPiece part.entry.limits part.entry.bytes.now part.entry.is_last part.entry.at place len work.old work.new) }
+{
+    let Ok(document) = RawDocument::from_bytes(&part.bytes[place..place + len]) else {
+        return Ok(Some(false));
+    };
+    let end = part.at as u128 + (place + len) as u128;
+    judge(alloc, part.limits, document, end, work)
+}
+
+/// Whether behind so many of these bytes the input ends, or a document without damage begins.
+pub fn check_behind(
+    alloc: Global,
+    part: Part<'_>,
+    place: usize,
+    work: &mut Work,
+) -> Result<Check, AllocError>
+    requires { IsWork work.old × (place ≤ length part.bytes.now) }
+    ensures work { IsWork work.new }
+    ensures checked { IfOk result (ChecksBehind part.entry.limits part.entry.bytes.now part.entry.is_last part.entry.at place work.old work.new) }
+{
+    match front_at(part, place) {
+        Front::End => Ok(Check::GoesOn),
+        Front::NoPiece => Ok(Check::Stops),
+        Front::Wants(count) => Ok(Check::Wants(count)),
+        Front::Piece(len) => Ok(told(judge_piece(alloc, part, place, len, work)?)),
+    }
+}

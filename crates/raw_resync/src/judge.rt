@@ -1,0 +1,70 @@
+//! Whether a piece of an input is a document without damage.
+#![tactic(auto)]
+
+ghost use Rattle.std.specs.Prelude.{◌≡◌, ◌≤◌, ◌<◌, ◌^◌, IfOk, length};
+ghost use Rattle.raw_view.specs.Document.{bytes_of};
+ghost use Rattle.raw_resync.specs.Pieces.{IsPiece};
+ghost use Rattle.raw_resync.specs.Seeking.{IsJudged, IsWork, Judges};
+
+use crate::charge::looked_at;
+use crate::work::Work;
+use raw_form::first_fault_within;
+use raw_tree::Limits;
+use raw_view::RawDocument;
+use std::alloc::{AllocError, Global};
+
+/// At most so many bytes are charged for each byte up to the furthest end of a piece.
+const MOST_FOR_EACH: u128 = 8;
+
+/// Whether a piece that ends at this offset of the input is a document without damage; `None` where it could cost too much
+/// to know.
+pub(crate) fn judge(
+    alloc: Global,
+    limits: Limits,
+    document: RawDocument<'_>,
+    end: u128,
+    work: &mut Work,
+) -> Result<Option<bool>, AllocError>
+    requires { IsPiece limits.bytes (bytes_of document) × IsWork work.old × (end < 2 ^ 66) }
+    ensures work { IsWork work.new }
+    ensures judged { IfOk result (Judges limits (bytes_of document.entry) end work.old work.new) }
+{
+    let len = document.as_bytes().len() as u128;
+    let reach = work.reach.max(end);
+    if MOST_FOR_EACH * reach <= work.spent + len {
+        return Ok(None);
+    }
+    let verdict = verdict_on(alloc, limits, document)?;
+    work.reach = reach;
+    work.spent += verdict.cost as u128;
+    Ok(Some(verdict.is_sound))
+}
+
+/// Whether a document is without damage, and what is charged for that.
+#[derive(Clone, Copy)]
+struct Verdict {
+    is_sound: bool,
+    cost: usize,
+}
+
+fn verdict_on(
+    alloc: Global,
+    limits: Limits,
+    document: RawDocument<'_>,
+) -> Result<Verdict, AllocError>
+    requires { IsPiece limits.bytes (bytes_of document) }
+    ensures judged { IfOk result (λ verdict. IsJudged limits (bytes_of document.entry) verdict.is_sound verdict.cost) }
+    ensures within { IfOk result (λ verdict. verdict.cost ≤ length (bytes_of document.entry)) }
+{
+    match first_fault_within(alloc, document, limits) {
+        Ok(None) => Ok(Verdict {
+            is_sound: true,
+            cost: document.as_bytes().len(),
+        }),
+        Ok(Some(barrier)) => Ok(Verdict {
+            is_sound: false,
+            cost: barrier.place.offset + looked_at(document, &barrier),
+        }),
+        Err(_) => Err(AllocError),
+    }
+}
