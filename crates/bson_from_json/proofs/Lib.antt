@@ -1,0 +1,8 @@
+mod Integers
+mod Uuids
+mod Times
+mod Takes
+mod Left
+mod Steps
+mod Moments
+mod Keys

@@ -1,2 +1,11 @@
 pub mod Left
 pub mod Place
+pub mod Numbers
+pub mod Values
+pub mod DecimalTexts
+pub mod Times
+pub mod Wrapped
+pub mod Meaning
+pub mod Texts
+pub mod Taken
+pub mod Levels

@@ -1,155 +1,166 @@
 //! Times in ISO 8601, in the form of RFC 3339.
-ghost use Rattle.std.specs.Prelude.{◌<◌, ◌≤◌, ◌≤ℤ◌, IfSome, negsuc, pos};
+ghost use Rattle.std.specs.Prelude.{◌≡◌, ◌<◌, ◌+◌, ◌*◌, ◌∷◌, [], ◌++◌, ℕ, List, IfSome, pos, ◌+ℤ◌, ◌-ℤ◌, ◌*ℤ◌};
+ghost use Rattle.jiff_core.specs.Calendar.{IsCivilDate, days_from_civil, IsBetween, IsEpochDay};
+ghost use Rattle.bson_from_json.specs.Times.{two_digits as digits_of_two, four_digits as digits_of_four, date_text, time_text, IsDistance, WritesClock, WritesFraction, WritesTime, WritesZone, IsAhead, digit_of};
 
-/// The days from 1 March of the year -400 to 1 January 1970.
-const DAYS_TO_1970: i64 = 865_565;
+use jiff_core::civil::Date;
 
-/// A text that is read.
-#[derive(Drop)]
-struct Fields<'a> {
-    rest: &'a [u8],
+const DAY: i64 = 86_400_000;
+
+/// Takes a number of two digits.
+fn two_digits(text: &[u8]) -> Option<(u32, &[u8])>
+    ensures { IfSome result (λ found. (found.0 < 100) × (text.now ≡ digits_of_two found.0 ++ found.1.now)) }
+{
+    match text {
+        [tens @ b'0'..=b'9', ones @ b'0'..=b'9', rest @ ..] => {
+            let number = u32::from(*tens - b'0') * 10 + u32::from(*ones - b'0');
+            Some((number, rest))
+        }
+        _ => None,
+    }
 }
 
-/// The value of a digit.
-fn digit(byte: u8) -> Option<u32>
-    ensures { IfSome result (λ value. value < 10) }
+/// Takes a number of four digits.
+fn four_digits(text: &[u8]) -> Option<(u32, &[u8])>
+    ensures { IfSome result (λ found. (found.0 < 10000) × (text.now ≡ digits_of_four found.0 ++ found.1.now)) }
 {
-    if byte.is_ascii_digit() {
-        Some(u32::from(byte - b'0'))
+    let (hundreds, rest) = two_digits(text)?;
+    let (number, rest) = two_digits(rest)?;
+    Some((hundreds * 100 + number, rest))
+}
+
+/// Takes this byte.
+fn byte(text: &[u8], byte: u8) -> Option<&[u8]>
+    ensures { IfSome result (λ rest. text.now ≡ byte ∷ rest.now) }
+{
+    match text {
+        [found, rest @ ..] if *found == byte => Some(rest),
+        _ => None,
+    }
+}
+
+/// Takes a date, as days from 1 January 1970.
+fn days(text: &[u8]) -> Option<(i32, &[u8])>
+    ensures date { IfSome result (λ found. (year month day : ℕ) × (year < 10000) × IsCivilDate (pos year) month day
+        × (text.now ≡ date_text year month day ++ found.1.now) × (found.0 ≡ days_from_civil (pos year) month day)) }
+    ensures bound { IfSome result (λ found. IsEpochDay found.0) }
+{
+    let (year, rest) = four_digits(text)?;
+    let (month, rest) = two_digits(byte(rest, b'-')?)?;
+    let (day, rest) = two_digits(byte(rest, b'-')?)?;
+    let date = match Date::new(year as i16, month as i8, day as i8) {
+        Ok(date) => date,
+        Err(_) => return None,
+    };
+    Some((date.to_unix_epoch_day(), rest))
+}
+
+/// Takes a time of day, as seconds.
+fn seconds(text: &[u8]) -> Option<(u32, &[u8])>
+    ensures { IfSome result (λ found. (hour minute second : ℕ) × (hour < 24) × (minute < 60) × (second < 60)
+        × (text.now ≡ time_text hour minute second ++ found.1.now) × (found.0 ≡ (hour * 60 + minute) * 60 + second)) }
+{
+    let (hour, rest) = two_digits(text)?;
+    let (minute, rest) = two_digits(byte(rest, b':')?)?;
+    let (second, rest) = two_digits(byte(rest, b':')?)?;
+    if hour < 24 && minute < 60 && second < 60 {
+        Some(((hour * 60 + minute) * 60 + second, rest))
     } else {
         None
     }
 }
 
-impl Fields<'_> {
-    /// Takes this byte, if it is next.
-    fn byte(&mut self, byte: u8) -> Option<()> {
-        match self.rest {
-            [found, rest @ ..] if *found == byte => {
-                self.rest = rest;
-                Some(())
-            }
-            _ => None,
-        }
-    }
-
-    /// Takes a digit, if one is next.
-    fn digit(&mut self) -> Option<u32>
-        ensures { IfSome result (λ value. value < 10) }
-    {
-        let [byte, rest @ ..] = self.rest else {
-            return None;
-        };
-        let value = digit(*byte)?;
-        self.rest = rest;
-        Some(value)
-    }
-
-    /// Takes a number of two digits, up to the greatest.
-    fn two_digits(&mut self, greatest: u32) -> Option<u32>
-        ensures { IfSome result (λ value. value ≤ greatest) }
-    {
-        let value = self.digit()? * 10 + self.digit()?;
-        if value <= greatest { Some(value) } else { None }
-    }
-
-    /// Takes a date, as days from 1 January 1970.
-    fn days(&mut self) -> Option<i64>
-        ensures { IfSome result (λ days. (negsuc 4000000 ≤ℤ days) × (days ≤ℤ pos 4000000)) }
-    {
-        let year = self.two_digits(99)? * 100 + self.two_digits(99)?;
-        self.byte(b'-')?;
-        let month = self.two_digits(12)?;
-        self.byte(b'-')?;
-        let day = self.two_digits(31)?;
-        if month == 0 || day == 0 || day > days_in_month(year, month) {
-            return None;
-        }
-        Some(i64::from(days_before(year, month, day)) - DAYS_TO_1970)
-    }
-
-    /// Takes a time of day, as milliseconds.
-    fn millis(&mut self) -> Option<u32>
-        ensures { IfSome result (λ value. value < 86400000) }
-    {
-        let hour = self.two_digits(23)?;
-        self.byte(b':')?;
-        let minute = self.two_digits(59)?;
-        self.byte(b':')?;
-        let second = self.two_digits(59)?;
-        Some(((hour * 60 + minute) * 60 + second) * 1000 + self.fraction()?)
-    }
-
-    /// Takes a fraction of a second of one to three digits, if one is next, as milliseconds.
-    fn fraction(&mut self) -> Option<u32>
-        ensures { IfSome result (λ value. value < 1000) }
-    {
-        if self.byte(b'.').is_none() {
-            return Some(0);
-        }
-        let tenths = self.digit()?;
-        let hundredths = self.digit().unwrap_or(0);
-        let thousandths = self.digit().unwrap_or(0);
-        Some(tenths * 100 + hundredths * 10 + thousandths)
-    }
-
-    /// Takes a distance from UTC, as minutes: `Z`, or a sign, hours and minutes.
-    fn distance(&mut self) -> Option<i64>
-        ensures { IfSome result (λ minutes. (negsuc 1440 ≤ℤ minutes) × (minutes ≤ℤ pos 1440)) }
-    {
-        if self.byte(b'Z').is_some() {
-            return Some(0);
-        }
-        let is_east = self.byte(b'+').is_some();
-        if !is_east {
-            self.byte(b'-')?;
-        }
-        let hours = self.two_digits(23)?;
-        self.byte(b':')?;
-        let minutes = i64::from(hours * 60 + self.two_digits(59)?);
-        Some(if is_east { minutes } else { -minutes })
-    }
-}
-
-/// How many days a month has, from 1 on.
-fn days_in_month(year: u32, month: u32) -> u32 {
-    match month {
-        2 if is_leap(year) => 29,
-        2 => 28,
-        4 | 6 | 9 | 11 => 30,
-        _ => 31,
-    }
-}
-
-fn is_leap(year: u32) -> bool {
-    year % 4 == 0 && (year % 100 != 0 || year % 400 == 0)
-}
-
-/// The days from 1 March of the year -400 to this one, by years and months that begin in March.
-fn days_before(year: u32, month: u32, day: u32) -> u32
-    requires year { year < 10000 }
-    requires month { month ≤ 12 }
-    requires day { (0 < day) × (day ≤ 31) }
-    ensures { result < 4000000 }
+/// Takes a digit.
+fn digit(text: &[u8]) -> Option<(u32, &[u8])>
+    ensures { IfSome result (λ found. (found.0 < 10) × (text.now ≡ digit_of found.0 ∷ found.1.now)) }
 {
-    let (year, month) = if month < 3 {
-        (year + 399, month + 9)
-    } else {
-        (year + 400, month - 3)
+    match text {
+        [digit @ b'0'..=b'9', rest @ ..] => Some((u32::from(*digit - b'0'), rest)),
+        _ => None,
+    }
+}
+
+/// Takes a fraction of a second of one to three digits, if one is next, as milliseconds.
+fn fraction(text: &[u8]) -> Option<(u32, &[u8])>
+    ensures fraction { IfSome result (λ found. (fraction : List ℕ) × WritesFraction fraction found.0 × (text.now ≡ fraction ++ found.1.now)) }
+    ensures bound { IfSome result (λ found. found.0 < 1000) }
+{
+    let Some(rest) = byte(text, b'.') else {
+        return Some((0, text));
     };
-    let leaps = year / 4 - year / 100 + year / 400;
-    year * 365 + leaps + (month * 153 + 2) / 5 + day - 1
+    let (tenths, rest) = digit(rest)?;
+    let Some((hundredths, rest)) = digit(rest) else {
+        return Some((tenths * 100, rest));
+    };
+    let Some((thousandths, rest)) = digit(rest) else {
+        return Some((tenths * 100 + hundredths * 10, rest));
+    };
+    Some((tenths * 100 + hundredths * 10 + thousandths, rest))
+}
+
+/// The minutes that hours and minutes write, with a colon between them or without one.
+fn distance(text: &[u8]) -> Option<u32>
+    ensures distance { IfSome result (λ minutes. IsDistance text.now minutes) }
+    ensures bound { IfSome result (λ minutes. minutes < 1440) }
+{
+    let (hour, rest) = two_digits(text)?;
+    let rest = match rest {
+        [b':', rest @ ..] => rest,
+        _ => rest,
+    };
+    let (minute, rest) = two_digits(rest)?;
+    if hour < 24 && minute < 60 && rest.is_empty() {
+        Some(hour * 60 + minute)
+    } else {
+        None
+    }
+}
+
+/// How many minutes the clocks of a zone are ahead of UTC: `Z`, or a sign, hours and minutes.
+fn zone(text: &[u8]) -> Option<i64>
+    ensures zone { IfSome result (λ ahead. WritesZone text.now ahead) }
+    ensures bound { IfSome result IsAhead }
+{
+    if let Some(behind) = byte(text, b'+') {
+        let minutes = distance(behind)?;
+        return Some(i64::from(minutes));
+    }
+    if let Some(behind) = byte(text, b'-') {
+        let minutes = distance(behind)?;
+        return Some(-i64::from(minutes));
+    }
+    match text {
+        [b'Z'] => Some(0),
+        _ => None,
+    }
+}
+
+/// A time of day, as milliseconds, and how many minutes its clocks are ahead of UTC.
+fn clock(text: &[u8]) -> Option<(u32, i64)>
+    ensures clock { IfSome result (λ found. WritesClock text.now found.0 found.1) }
+    ensures bound { IfSome result (λ found. (found.0 < 86400000) × IsAhead found.1) }
+{
+    let (seconds, rest) = seconds(text)?;
+    let (millis, rest) = fraction(rest)?;
+    let ahead = zone(rest)?;
+    Some((seconds * 1000 + millis, ahead))
+}
+
+/// The milliseconds from 1970 on to so many of a day, by clocks that are so many minutes ahead of UTC.
+fn instant(days: i64, millis: i64, ahead: i64) -> i64
+    requires days { IsEpochDay days }
+    requires millis { IsBetween (pos 0) (pos 86399999) millis }
+    requires ahead { IsAhead ahead }
+    ensures { result ≡ ((days *ℤ pos 86400000) +ℤ millis) -ℤ (ahead *ℤ pos 60000) }
+{
+    days * DAY + millis - ahead * 60_000
 }
 
 /// The milliseconds from 1970 on to the time that a text writes, as `2012-12-24T12:15:30.501Z`.
-pub(crate) fn millis_of(text: &[u8]) -> Option<i64> {
-    let mut fields = Fields { rest: text };
-    let days = fields.days()?;
-    fields.byte(b'T')?;
-    let millis = i64::from(fields.millis()?);
-    let distance = fields.distance()?;
-    if !fields.rest.is_empty() {
-        return None;
-    }
-    (days * 86_400_000 + millis).checked_sub(distance * 60_000)
+pub(crate) fn millis_of(text: &[u8]) -> Option<i64>
+    ensures { IfSome result (λ millis. WritesTime text.now millis) }
+{
+    let (days, rest) = days(text)?;
+    let (millis, ahead) = clock(byte(rest, b'T')?)?;
+    Some(instant(i64::from(days), i64::from(millis), ahead))
 }

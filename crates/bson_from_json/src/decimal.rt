@@ -1,8 +1,7 @@
 //! Decimal128 from text: IEEE 754-2008, in the binary encoding of coefficients, as BSON has it.
-ghost use Rattle.std.specs.Prelude.{◌≤ℤ◌, IfOk, negsuc, pos};
+ghost use Rattle.std.specs.Prelude.{◌≡◌, ◌+◌, ◌≤ℤ◌, length, IfOk, negsuc, pos};
 
 use crate::error::JsonReason;
-use crate::number::split_digits;
 use crate::wrapper::Wrapper;
 
 /// The least coefficient of 34 digits, the most that there is room for.
@@ -48,6 +47,17 @@ pub(crate) fn decimal_of(text: &[u8]) -> Result<[u8; 16], JsonReason> {
 /// Whether a text is this word, whatever its case.
 fn is_word(text: &[u8], word: &[u8]) -> bool {
     text.eq_ignore_ascii_case(word)
+}
+
+/// The digits in front, and what is behind them.
+fn split_digits(text: &[u8]) -> (&[u8], &[u8])
+    ensures { length result.0.now + length result.1.now ≡ length text.now }
+{
+    let len = text
+        .iter()
+        .position(|byte| !byte.is_ascii_digit())
+        .unwrap_or(text.len());
+    text.split_at(len)
 }
 
 /// The decimal that a text writes without its sign.

@@ -18,6 +18,8 @@ pub enum JsonReason {
     TooDeep,
     /// The text ends inside the document.
     EndOfText,
+    /// The text begins with a byte order mark.
+    ByteOrderMark,
     /// A document has to be here, and no other value.
     ExpectedDocument,
     /// A key, in quotes, has to be here.
@@ -32,6 +34,8 @@ pub enum JsonReason {
     TextBehind,
     /// This is no number as JSON writes them.
     BadNumber,
+    /// This integer takes more than 64 bits.
+    IntegerTooLarge,
     /// This number is beyond the greatest double.
     NumberTooLarge,
     /// A string has a control character, which has to be escaped.
@@ -42,12 +46,10 @@ pub enum JsonReason {
     LoneSurrogate,
     /// A key, a pattern or options hold U+0000, which BSON ends them with.
     InteriorNul,
-    /// The object begins as this one, and isn't one.
+    /// The object has a key of this one, and isn't one.
     Malformed(Wrapper),
     /// No Decimal128 is exactly this decimal.
     InexactDecimal,
-    /// The object is a regular expression or a binary of version 1 of the format.
-    Version1,
     /// The bytes that were written aren't a document. No text is known to give this error.
     Unsound,
 }
@@ -81,6 +83,7 @@ impl JsonReason {
             JsonReason::TooManyBytes => "more bytes than allowed",
             JsonReason::TooDeep => "deeper than allowed",
             JsonReason::EndOfText => "the text ends too early",
+            JsonReason::ByteOrderMark => "a byte order mark in front of the text",
             JsonReason::ExpectedDocument => "expected a document",
             JsonReason::ExpectedKey => "expected a key in quotes",
             JsonReason::ExpectedColon => "expected a colon",
@@ -88,6 +91,7 @@ impl JsonReason {
             JsonReason::ExpectedValue => "expected a value",
             JsonReason::TextBehind => "text behind the document",
             JsonReason::BadNumber => "not a number of JSON",
+            JsonReason::IntegerTooLarge => "an integer of more than 64 bits",
             JsonReason::NumberTooLarge => "a number beyond the greatest double",
             JsonReason::ControlCharacter => "a control character that is not escaped",
             JsonReason::BadEscape => "not an escape of JSON",
@@ -95,7 +99,6 @@ impl JsonReason {
             JsonReason::InteriorNul => "U+0000 in a key, a pattern or options",
             JsonReason::Malformed(_) => "a malformed value",
             JsonReason::InexactDecimal => "a decimal that no Decimal128 is exactly",
-            JsonReason::Version1 => "a form of version 1 of Extended JSON",
             JsonReason::Unsound => "the bytes written are not a document",
         }
     }

@@ -1,14 +1,17 @@
-//! BSON from MongoDB Extended JSON v2: a text is read once, from front to back, into the bytes of a document.
+//! BSON from MongoDB Extended JSON v2: a text is read once, by its tokens, into the bytes of a document.
 #![tactic(auto)]
 
+mod codes;
 mod date;
 mod decimal;
 mod error;
+mod fault;
+mod leaves;
 mod levels;
-mod lexer;
 mod number;
 mod place;
 mod reading;
+mod source;
 mod wrapped;
 mod wrapper;
 

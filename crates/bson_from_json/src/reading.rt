@@ -1,16 +1,28 @@
 //! Documents from text: one loop over the members of the innermost level.
-ghost use Rattle.std.specs.Prelude.{◌≡◌, ◌<◌, ◌≤◌, length, IfErr, IfOk, OnOk};
-ghost use Rattle.raw_bson.specs.Tree.{Tree};
-ghost use Rattle.bson_from_json.specs.Left.{left_of};
-ghost use Rattle.bson_from_json.specs.Place.{IsPlaceIn};
-ghost use Rattle.raw_bson.specs.WithinLimits.{ReadsWithin};
+#![tactic(auto, using(crate::proofs::Left::one_taken, crate::proofs::Left::some_taken))]
 
+ghost use Rattle.std.specs.Prelude.{◌≡◌, ◌<◌, ◌≤◌, ◌∷◌, [], decimal, IfErr, IfOk, IfSome, OnOk};
+ghost use Rattle.json.specs.Reads.{token_of};
+ghost use Rattle.json.specs.Token.{begin_object};
+ghost use Rattle.raw_bson.specs.Format.{element_of, string_payload};
+ghost use Rattle.bson_model.specs.Leaf.{Leaf};
+ghost use Rattle.bson_from_json.specs.Numbers.{IsPlain};
+ghost use Rattle.raw_bson.specs.Tree.{Tree};
+ghost use Rattle.raw_bson.specs.WithinLimits.{ReadsWithin};
+ghost use Rattle.bson_from_json.specs.Left.{left_of};
+ghost use Rattle.bson_from_json.specs.Levels.{Closes, HasMembers, MayBeIn, Puts, SaysBytes, TakesLevel, TakesValue, array_level, leaf_element};
+ghost use Rattle.bson_from_json.specs.Place.{IsPlaceIn};
+ghost use Rattle.bson_from_json.specs.Texts.{IsWritten};
+
+use crate::codes::{Codes, codes_of};
 use crate::error::{JsonError, JsonReason};
-use crate::levels::{Holder, Unfinished};
-use crate::lexer::Lexer;
-use crate::number::Number;
+use crate::fault::Wanted;
+use crate::levels::{Holder, Level, Unfinished};
+use crate::number::{Number, number_of};
+use crate::source::Source;
 use crate::wrapper::Wrapper;
 use itoa::Buffer;
+use json::{Reader as Tokens, Scratch, Token};
 use raw_bson::{ElementType, Limits, RawDocumentBuf};
 use std::alloc::Global;
 
@@ -18,214 +30,291 @@ use std::alloc::Global;
 #[derive(Drop)]
 pub(crate) struct Reader<'a> {
     pub(crate) alloc: Global,
-    pub(crate) lexer: Lexer<'a>,
-    pub(crate) document: Unfinished,
-    /// the key of the member in hand
-    pub(crate) key: Vec<u8>,
-    /// a string or a key of a wrapper
-    pub(crate) text: Vec<u8>,
+    pub(crate) source: Source<'a>,
+    pub(crate) document: Unfinished<'a>,
+    /// the codes that come behind their scopes, once they are looked for
+    pub(crate) codes: Option<Codes<'a>>,
+    /// whether they have to be
+    pub(crate) misses_codes: bool,
 }
 
 /// The document that a text of MongoDB Extended JSON v2 writes, canonical or relaxed. A number without a wrapper is an Int32
-/// or else an Int64 where it is an integer of so many bits, else the nearest double. An object whose first key is a wrapper's
-/// is its value, and may have no other members; a decimal has to be one that a Decimal128 is exactly; forms of version 1 are
-/// refused. Members come in the order of the text, repeated keys too; options are sorted. No depth of the text
-/// takes stack, and the time is linear. The document has a tree within the limits, so no fault at any level. The error is
-/// the first in the text, with its place; or out of memory. BSON 1.1, `document`.
+/// or else an Int64 where it is an integer, which may have 64 bits; else the nearest double. An object whose keys are a
+/// wrapper's, in any order, is its value; one that has a wrapper's key and others is refused. Only the whole text and a scope
+/// are documents whatever their keys. A decimal has to be one that a Decimal128 is exactly. Members come in the order of the
+/// text, repeated keys too; options are sorted. The document has a tree within the limits, so no fault at any level. The error
+/// is of the first token that can't be there, with its place; or out of memory. BSON 1.1, `document`.
+///
+/// No clause says so: no depth of the text takes stack, the time is linear, and memory is taken for as many bytes as the text
+/// has, besides the document. A text with a code behind its scope is read again, and its codes are kept meanwhile. There
+/// `TooManyBytes` may be of the scope's brace, where the code is written, and not of the code.
 /// ```
 /// let limits = Limits { bytes: 1000, depth: 10 };
 /// let document = from_json(alloc, "{\"a\": 1}", limits)?;
 /// assert_eq!(rt; document.as_bytes(), b"\x0C\0\0\0\x10a\0\x01\0\0\0\0".as_slice());
 /// ```
 pub fn from_json(alloc: Global, text: &str, limits: Limits) -> Result<RawDocumentBuf, JsonError>
+    ensures written { IfOk result (IsWritten text.now) }
     ensures sound { IfOk result (λ document. (t : Tree) × ReadsWithin limits document t) }
     ensures place { IfErr result (IsPlaceIn text.now) }
 {
+    if let Some(document) = document_of(alloc, text, limits, None)? {
+        return Ok(document);
+    }
+    let codes = match codes_of(alloc, text) {
+        Ok(codes) => codes,
+        Err(reason) => return Err(JsonError::at(reason, text.as_bytes(), 0)),
+    };
+    let codes = Some(Codes::new(&codes));
+    match document_of(alloc, text, limits, codes)? {
+        Some(document) => Ok(document),
+        None => Err(JsonError::at(JsonReason::Unsound, text.as_bytes(), 0)),
+    }
+}
+
+/// The document that a text writes, by its tokens; none if a code comes behind its scope, and codes weren't looked for.
+fn document_of<'a>(
+    alloc: Global,
+    text: &'a str,
+    limits: Limits,
+    codes: Option<Codes<'a>>,
+) -> Result<Option<RawDocumentBuf>, JsonError>
+    ensures written { IfOk result (λ found. IfSome found (IsWritten text.now)) }
+    ensures sound { IfOk result (λ found. IfSome found (λ document. (t : Tree) × ReadsWithin limits document t)) }
+    ensures place { IfErr result (IsPlaceIn text.now) }
+{
+    let mut scratch = Scratch::new(alloc);
+    let tokens = match Tokens::new(text, &mut scratch) {
+        Ok(tokens) => tokens,
+        Err(_) => return Err(JsonError::at(JsonReason::OutOfMemory, text.as_bytes(), 0)),
+    };
     let mut reader = Reader {
         alloc,
-        lexer: Lexer::new(text.as_bytes()),
+        source: Source::new(text, tokens),
         document: Unfinished::new(alloc, limits),
-        key: Vec::new(alloc),
-        text: Vec::new(alloc),
+        codes,
+        misses_codes: false,
     };
     let outcome = reader.read();
-    let offset = text.len().saturating_sub(reader.lexer.left_at_place());
+    if reader.misses_codes {
+        return Ok(None);
+    }
+    let offset = reader.source.place.min(text.len());
     let reason = match outcome {
         Err(reason) => reason,
-        Ok(()) => match reader.document.finish(limits) {
-            Ok(document) => return Ok(document),
+        Ok(()) => match reader.document.finish(alloc, limits) {
+            Ok(document) => return Ok(Some(document)),
             Err(reason) => reason,
         },
     };
     Err(JsonError::at(reason, text.as_bytes(), offset))
 }
 
-impl Reader<'_> {
+impl<'a> Reader<'a> {
     /// Reads the whole text.
-    fn read(&mut self) -> Result<(), JsonReason> {
-        self.lexer.expect(b'{', JsonReason::ExpectedDocument)?;
-        self.open_document(Holder::Document)?;
-        'members: while let Some(level) = self.document.innermost() {
-            if !self.lexer.has_member(level.end(), level.members == 0)? {
-                self.close()?;
-                continue;
-            }
-            match level.holder {
-                Holder::Array => self.number_key(level.members)?,
-                _ => self.read_key()?,
-            }
-            self.document.count_member();
-            self.value()?;
+    fn read(&mut self) -> Result<(), JsonReason>
+        requires bytes { self.old.document.bytes.items ≡ [] }
+        requires levels { self.old.document.levels.items ≡ [] }
+        ensures { OnOk result (SaysBytes self.old.source.tokens self.new.document.bytes.items) }
+    {
+        let Token::BeginObject = self.source.token(Wanted::Document)? else {
+            return Err(self.source.fault(Wanted::Document));
+        };
+        self.document.open(Holder::Text)?;
+        'members: while let Some(level) = self.document.pop() {
+            self.on_with(level)?;
         }
-        self.lexer.end()
+        self.source.end_of_text()
     }
 
-    /// Opens a level behind its brace, which has to be a document's.
-    pub(crate) fn open_document(&mut self, holder: Holder) -> Result<(), JsonReason>
-        ensures { OnOk result (left_of self.new ≤ left_of self.old) }
+    /// Takes an item or a member of a level that was taken off, or its end.
+    fn on_with(&mut self, level: Level<'a>) -> Result<(), JsonReason>
+        ensures less { OnOk result (left_of self.new < left_of self.old) }
+        ensures rest { OnOk result (TakesLevel self.old self.new level.entry) }
     {
-        match self.wrapper()? {
-            None => self.document.open(holder),
-            Some(_) => Err(JsonReason::ExpectedDocument),
-        }
-    }
-
-    /// Ends the innermost level, and the wrapper that it is in.
-    fn close(&mut self) -> Result<(), JsonReason>
-        ensures { OnOk result (left_of self.new ≤ left_of self.old) }
-    {
-        let level = self.document.close()?;
         match level.holder {
-            Holder::Document | Holder::Array => Ok(()),
-            Holder::Scope(start) => {
-                self.document.end_payload(level, start)?;
-                self.lexer
-                    .expect(b'}', JsonReason::Malformed(Wrapper::Code))
+            Holder::Array(items) => self.item(level.start, items),
+            Holder::Begun(key) => {
+                self.document.push(Level {
+                    holder: Holder::Document,
+                    start: level.start,
+                })?;
+                self.value_of(key)
             }
-            Holder::ScopeBeforeCode(start, number) => {
-                self.read_code_behind(number)?;
-                self.document.end_payload(level, start)
-            }
+            _ => self.member(level),
         }
     }
 
-    /// The key of a member of an array.
-    fn number_key(&mut self, number: usize) -> Result<(), JsonReason>
-        ensures { self.new.lexer ≡ self.old.lexer }
+    /// Takes an item of an array that starts there and has so many, or its end.
+    fn item(&mut self, start: usize, items: usize) -> Result<(), JsonReason>
+        ensures less { OnOk result (left_of self.new < left_of self.old) }
+        ensures rest { OnOk result (TakesLevel self.old self.new (array_level items start)) }
     {
+        let token = self.source.token(Wanted::Item)?;
+        if let Token::EndArray = token {
+            return self.close(Level {
+                holder: Holder::Array(items),
+                start,
+            });
+        }
+        let more = items.checked_add(1).ok_or(JsonReason::TooManyBytes)?;
+        self.document.push(Level {
+            holder: Holder::Array(more),
+            start,
+        })?;
         let mut buffer = Buffer::new();
-        self.key.clear();
-        self.key
-            .extend_from_slice(buffer.format(number).as_bytes())?;
-        Ok(())
+        let key = buffer.format(items);
+        self.value(token, key, Wanted::Item)
     }
 
-    /// Takes the key of a member and its colon.
-    fn read_key(&mut self) -> Result<(), JsonReason>
-        ensures { OnOk result (left_of self.new ≤ left_of self.old) }
+    /// Takes a member of a level that was taken off, or its end.
+    fn member(&mut self, level: Level<'a>) -> Result<(), JsonReason>
+        requires { HasMembers level.holder }
+        ensures less { OnOk result (left_of self.new < left_of self.old) }
+        ensures rest { OnOk result (TakesLevel self.old self.new level.entry) }
     {
-        self.lexer.expect(b'"', JsonReason::ExpectedKey)?;
-        self.key.clear();
-        self.lexer.string(&mut self.key)?;
-        if self.key.contains(&0) {
-            return Err(JsonReason::InteriorNul);
-        }
-        self.lexer.expect(b':', JsonReason::ExpectedColon)
-    }
-
-    /// Takes a value, or the beginning of one that is a level, and puts it under the key.
-    fn value(&mut self) -> Result<(), JsonReason>
-        ensures { OnOk result (left_of self.new < left_of self.old) }
-    {
-        match self.lexer.peek() {
-            None => Err(JsonReason::EndOfText),
-            Some(b'"') => {
-                self.lexer.pass();
-                self.document.note_string(&self.key);
-                self.put_head(ElementType::String)?;
-                self.document.put_read(&mut self.lexer)
+        match self.source.token(Wanted::Member)? {
+            Token::EndObject => self.close(level),
+            Token::Key(key) => {
+                check_key(key, level.holder)?;
+                self.document.push(level)?;
+                self.value_of(key)
             }
-            Some(b'{') => {
-                self.lexer.pass();
-                match self.wrapper()? {
-                    Some(wrapper) => self.wrapped(wrapper),
-                    None => {
-                        self.put_head(ElementType::EmbeddedDocument)?;
-                        self.document.open(Holder::Document)
-                    }
+            _ => Err(self.source.fault(Wanted::Member)),
+        }
+    }
+
+    /// Takes the value of a member.
+    fn value_of(&mut self, key: &str) -> Result<(), JsonReason>
+        ensures less { OnOk result (left_of self.new < left_of self.old) }
+        ensures rest { OnOk result (TakesValue self.old self.new key.now []) }
+    {
+        let token = self.source.token(Wanted::Value)?;
+        self.value(token, key, Wanted::Value)
+    }
+
+    /// Ends a level that was taken off, whose bracket is passed, and the wrapper that it is in.
+    fn close(&mut self, level: Level<'a>) -> Result<(), JsonReason>
+        ensures less { OnOk result (left_of self.new ≤ left_of self.old) }
+        ensures rest { OnOk result (Closes self.old self.new level.entry) }
+    {
+        self.document.close(level)?;
+        match level.holder {
+            Holder::Scope(start) => {
+                self.document.set_len(start)?;
+                self.source.end(Wrapper::Code)
+            }
+            Holder::ScopeBeforeCode(start, code) => {
+                self.document.set_len(start)?;
+                self.source.code(code)
+            }
+            _ => Ok(()),
+        }
+    }
+
+    /// Puts the value that begins with this token, or the beginning of one that is a level, under a key.
+    fn value(&mut self, token: Token<'a>, key: &str, wanted: Wanted) -> Result<(), JsonReason>
+        ensures less { OnOk result (left_of self.new ≤ left_of self.old) }
+        ensures rest { OnOk result (TakesValue self.old self.new key.now (token_of token.entry ∷ [])) }
+    {
+        match token {
+            Token::String(text) => self.put_text(ElementType::String, key, text),
+            Token::Number(text) => self.number(text, key),
+            Token::Bool(false) => self.put(ElementType::Boolean, key, &[0]),
+            Token::Bool(true) => self.put(ElementType::Boolean, key, &[1]),
+            Token::Null => self.put(ElementType::Null, key, &[]),
+            Token::BeginObject => self.object(key),
+            Token::BeginArray => self
+                .document
+                .open_under(ElementType::Array, key, Holder::Array(0)),
+            Token::Key(_) => Err(self.source.fault(Wanted::Comma)),
+            Token::EndObject | Token::EndArray | Token::Bad => Err(self.source.fault(wanted)),
+        }
+    }
+
+    /// Takes the first key of an object, which says whether it is a wrapper, or its end.
+    fn object(&mut self, key: &str) -> Result<(), JsonReason>
+        ensures less { OnOk result (left_of self.new ≤ left_of self.old) }
+        ensures rest { OnOk result (TakesValue self.old self.new key.now (begin_object ∷ [])) }
+    {
+        let brace = self.source.place;
+        match self.source.token(Wanted::Member)? {
+            Token::EndObject => {
+                self.source.place = brace;
+                self.document.put_empty(key)
+            }
+            Token::Key(first) => match Wrapper::of_key(first) {
+                Some(wrapper) => self.wrapped(wrapper, key),
+                None => {
+                    check_free(first)?;
+                    self.source.place = brace;
+                    self.document
+                        .open_under(ElementType::EmbeddedDocument, key, Holder::Begun(first))
                 }
-            }
-            Some(b'[') => {
-                self.lexer.pass();
-                self.put_head(ElementType::Array)?;
-                self.document.open(Holder::Array)
-            }
-            Some(b'-' | b'0'..=b'9') => self.number(),
-            Some(_) => self.word(),
+            },
+            _ => Err(self.source.fault(Wanted::Member)),
         }
     }
 
-    /// Takes a number.
-    fn number(&mut self) -> Result<(), JsonReason>
-        ensures { OnOk result (left_of self.new < left_of self.old) }
+    /// Puts a number without a wrapper under a key.
+    fn number(&mut self, text: &str, key: &str) -> Result<(), JsonReason>
+        ensures source { self.new.source ≡ self.old.source }
+        ensures puts { OnOk result ((l : Leaf) × IsPlain text.now l × Puts self.old self.new (leaf_element key.now l)) }
     {
-        let numeral = self.lexer.numeral()?;
-        match numeral.value().ok_or(JsonReason::NumberTooLarge)? {
-            Number::Int32(value) => self.put(ElementType::Int32, &value.to_le_bytes()),
-            Number::Int64(value) => self.put(ElementType::Int64, &value.to_le_bytes()),
-            Number::Double(bits) => self.put(ElementType::Double, &bits.to_le_bytes()),
+        match number_of(text)? {
+            Number::Int32(value) => self.put(ElementType::Int32, key, &value.to_le_bytes()),
+            Number::Int64(value) => self.put(ElementType::Int64, key, &value.to_le_bytes()),
+            Number::Double(bits) => self.put(ElementType::Double, key, &bits.to_le_bytes()),
         }
     }
 
-    /// Takes a word.
-    fn word(&mut self) -> Result<(), JsonReason>
-        ensures { OnOk result (left_of self.new < left_of self.old) }
+    /// Puts a value under a key.
+    pub(crate) fn put(
+        &mut self,
+        kind: ElementType,
+        key: &str,
+        payload: &[u8],
+    ) -> Result<(), JsonReason>
+        ensures source { self.new.source ≡ self.old.source }
+        ensures puts { OnOk result (Puts self.old self.new (element_of kind key.now payload.now)) }
     {
-        if self.lexer.word(b"true") {
-            self.put(ElementType::Boolean, &[1])
-        } else if self.lexer.word(b"false") {
-            self.put(ElementType::Boolean, &[0])
-        } else if self.lexer.word(b"null") {
-            self.put(ElementType::Null, &[])
-        } else {
-            Err(JsonReason::ExpectedValue)
-        }
-    }
-
-    /// Takes the first key of an object behind its brace and its colon, if that is a wrapper's.
-    pub(crate) fn wrapper(&mut self) -> Result<Option<Wrapper>, JsonReason>
-        ensures { OnOk result (left_of self.new ≤ left_of self.old) }
-    {
-        let mut ahead = self.lexer;
-        ahead.peek();
-        if !ahead.has_dollar_key() {
-            return Ok(None);
-        }
-        ahead.pass();
-        self.text.clear();
-        if ahead.string(&mut self.text).is_err() {
-            return Ok(None);
-        }
-        let wrapper = Wrapper::of_key(&self.text);
-        if wrapper.is_some() {
-            self.lexer = ahead;
-            self.lexer.expect(b':', JsonReason::ExpectedColon)?;
-        }
-        Ok(wrapper)
-    }
-
-    /// Puts a kind and the key.
-    pub(crate) fn put_head(&mut self, kind: ElementType) -> Result<(), JsonReason>
-        ensures { self.new.lexer ≡ self.old.lexer }
-    {
-        self.document.put_head(kind, &self.key)
-    }
-
-    /// Puts a value under the key.
-    pub(crate) fn put(&mut self, kind: ElementType, payload: &[u8]) -> Result<(), JsonReason>
-        ensures { self.new.lexer ≡ self.old.lexer }
-    {
-        self.put_head(kind)?;
+        self.document.put_head(kind, key)?;
         self.document.put(payload)
+    }
+
+    /// Puts a text under a key, as a string, a symbol or code.
+    pub(crate) fn put_text(
+        &mut self,
+        kind: ElementType,
+        key: &str,
+        text: &str,
+    ) -> Result<(), JsonReason>
+        ensures source { self.new.source ≡ self.old.source }
+        ensures puts { OnOk result (Puts self.old self.new (element_of kind key.now (string_payload text.now))) }
+    {
+        self.document.put_head(kind, key)?;
+        self.document.put_string(text)
+    }
+}
+
+/// A key has no U+0000, which would end it; nor is it a wrapper's, in a document.
+fn check_key(key: &str, holder: Holder<'_>) -> Result<(), JsonReason>
+    ensures { OnOk result (MayBeIn holder.entry key.now) }
+{
+    match holder {
+        Holder::Document => match Wrapper::of_key(key) {
+            Some(wrapper) => Err(JsonReason::Malformed(wrapper)),
+            None => check_free(key),
+        },
+        _ => check_free(key),
+    }
+}
+
+/// A key has no U+0000, which would end it.
+fn check_free(key: &str) -> Result<(), JsonReason> {
+    if key.as_bytes().contains(&0) {
+        Err(JsonReason::InteriorNul)
+    } else {
+        Ok(())
     }
 }

@@ -1,6 +1,9 @@
 //! The objects that write a value which JSON has no words for.
+ghost use Rattle.std.specs.Prelude.{◌≡◌, false, MatchOption};
+ghost use Rattle.bson_from_json.specs.Levels.{wrapper_key};
+ghost use Rattle.bson_from_json.specs.Meaning.{is_wrapper_key};
 
-/// What an object's first key says that the object writes: not a document, but one value.
+/// What the keys of an object say that it writes: not a document, but one value.
 #[derive(Clone, Copy, Debug, PartialEq, Eq)]
 pub enum Wrapper {
     /// `{"$oid": 24 hex digits}`
@@ -41,25 +44,37 @@ pub enum Wrapper {
 
 impl Wrapper {
     /// The wrapper that has this key, if one has it.
-    pub(crate) fn of_key(key: &[u8]) -> Option<Wrapper> {
+    pub(crate) fn of_key(key: &str) -> Option<Wrapper>
+        ensures { MatchOption result (is_wrapper_key key.now ≡ false) (λ wrapper. key.now ≡ wrapper_key wrapper) }
+    {
+        match key.as_bytes() {
+            [b'$', ..] => Wrapper::with_dollar(key),
+            _ => None,
+        }
+    }
+
+    /// The wrapper that has this key, which begins with a dollar, if one has it.
+    fn with_dollar(key: &str) -> Option<Wrapper>
+        ensures { MatchOption result (is_wrapper_key key.now ≡ false) (λ wrapper. key.now ≡ wrapper_key wrapper) }
+    {
         match key {
-            b"$oid" => Some(Wrapper::Oid),
-            b"$numberInt" => Some(Wrapper::NumberInt),
-            b"$numberLong" => Some(Wrapper::NumberLong),
-            b"$numberDouble" => Some(Wrapper::NumberDouble),
-            b"$numberDecimal" => Some(Wrapper::NumberDecimal),
-            b"$binary" => Some(Wrapper::Binary),
-            b"$uuid" => Some(Wrapper::Uuid),
-            b"$date" => Some(Wrapper::Date),
-            b"$regularExpression" => Some(Wrapper::RegularExpression),
-            b"$timestamp" => Some(Wrapper::Timestamp),
-            b"$code" => Some(Wrapper::Code),
-            b"$scope" => Some(Wrapper::Scope),
-            b"$dbPointer" => Some(Wrapper::DbPointer),
-            b"$symbol" => Some(Wrapper::Symbol),
-            b"$undefined" => Some(Wrapper::Undefined),
-            b"$minKey" => Some(Wrapper::MinKey),
-            b"$maxKey" => Some(Wrapper::MaxKey),
+            "$oid" => Some(Wrapper::Oid),
+            "$numberInt" => Some(Wrapper::NumberInt),
+            "$numberLong" => Some(Wrapper::NumberLong),
+            "$numberDouble" => Some(Wrapper::NumberDouble),
+            "$numberDecimal" => Some(Wrapper::NumberDecimal),
+            "$binary" => Some(Wrapper::Binary),
+            "$uuid" => Some(Wrapper::Uuid),
+            "$date" => Some(Wrapper::Date),
+            "$regularExpression" => Some(Wrapper::RegularExpression),
+            "$timestamp" => Some(Wrapper::Timestamp),
+            "$code" => Some(Wrapper::Code),
+            "$scope" => Some(Wrapper::Scope),
+            "$dbPointer" => Some(Wrapper::DbPointer),
+            "$symbol" => Some(Wrapper::Symbol),
+            "$undefined" => Some(Wrapper::Undefined),
+            "$minKey" => Some(Wrapper::MinKey),
+            "$maxKey" => Some(Wrapper::MaxKey),
             _ => None,
         }
     }

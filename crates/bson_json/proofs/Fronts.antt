@@ -16,7 +16,7 @@ use Rattle.raw_view.proofs.Face.{one_frame, no_frame_at_final, no_frame_at_stop,
 use Rattle.bson_json.specs.Levels.{Gives, IsReadable}
 
 stop_of : (k : ErrorKind) (key : Option (List ℕ)) (s : List ℕ) → StopsWith k key s → (fault : Fault) × IsStop s fault key
-stop_of (kind.MalformedValue reason) key s h = (Malformed, h)
+stop_of (kind.MalformedValue reason) key s h = (Malformed reason, h)
 stop_of (kind.Utf8EncodingError error) key s h = (Utf8, h)
 stop_of kind.OutOfMemory key s h = absurd h
 
@@ -38,15 +38,6 @@ no_fault (Some s) new e fault (n, (pairs, (g ∷ gs, (q, g_at, walk), (w, t, oth
     let same = one_frame s g (frame_of e) q r g_at at in
     let both : value w ≡ faulty fault = one_meaning (frame_of e) (value w) (faulty fault) (subst (λ (x : Frame). Means x (value w)) same.0 w_means) means in
     absurd (cc)
-
-pub gives_end : (old new : Option (List ℕ)) → IsReadable old → StepsFront old None new → Gives old new None
-gives_end None new (n, h) steps = h
-gives_end (Some s) new reads steps = steps.0
-
-pub gives_element : (old new : Option (List ℕ)) (e : RawElement) (v : RawBsonRef) (key : Bor (List ℕ)) → IsReadable old → StepsFront old (Some (Ok e)) new
-    → Means (frame_of e) (value (value_of v)) → key.now ≡ (frame_of e).key → Gives old new (Some (key, v))
-gives_element None new e v key (n, h) steps means is = h
-gives_element (Some s) new e v key reads (r, at, left) means is = (frame_of e, r, at, means, is, left)
 
 -- what was next, of the bytes that were left
 pub record IsEnd (old : Option (List ℕ)) : Type 0 where

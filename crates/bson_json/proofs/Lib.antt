@@ -6,3 +6,8 @@ pub mod Days
 pub mod Left
 pub mod Fronts
 pub mod Printing
+pub mod Utf8
+pub mod Exact
+pub mod Calendar
+pub mod Texts
+pub mod Blocks

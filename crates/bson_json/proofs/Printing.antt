@@ -9,7 +9,6 @@ use Rattle.bson_model.specs.Tree.{Tree}
 use Rattle.raw_view.specs.Frame.{Frame, IsFrame}
 use Rattle.raw_view.specs.Meaning.{RawValue, Means, value}
 use Rattle.raw_view.specs.Meaning as raw
-use Rattle.raw_view.proofs.Face.{IsFrame-shorter}
 use Rattle.raw_tree.specs.Reading.{Reads, Holds}
 use Rattle.raw_tree.specs.Reading as reading
 use Rattle.raw_tree.specs.Validating.{left_of}
@@ -194,17 +193,6 @@ module _ (style : Style) (b : List ℕ) where
             (is.rest ((head ++ piece) ++ text) (left_entered style is.levels 0 depth ws l outer inner (head ++ piece) text from_top step left));
         put = Appends-trans old mid new is.written (head ++ piece) is.put put;
       }
-
-  -- the bytes that are left become fewer
-  pub smaller_closes : (ws : List Level) (w l : Level) → left_of w.elements + left_in ws < left_of l.elements + left_in (ws ++ w ∷ [])
-  smaller_closes ws w l = omega (arith, sum_by_push (λ (x : Level). left_of x.elements + 1) ws w)
-
-  pub smaller_leaf : (ws : List Level) (l next : Level) (s r : List ℕ) (f : Frame) → l.elements ≡ Some s → next.elements ≡ Some r → IsFrame s f r
-      → left_of next.elements + left_in ws < left_of l.elements + left_in ws
-  smaller_leaf ws l next s r f e next_is at =
-      let before : left_of l.elements ≡ length s = ap left_of e in
-      let behind : left_of next.elements ≡ length r = ap left_of next_is in
-      omega (arith, IsFrame-shorter s f r at)
 
   pub smaller_opens : (ws : List Level) (l outer inner : Level) (s r : List ℕ) (f : Frame) (v : RawValue) (piece : List ℕ) → l.elements ≡ Some s
       → outer.elements ≡ Some r → IsFrame s f r → Means f (value v) → Opens v inner piece

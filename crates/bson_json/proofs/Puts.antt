@@ -1,12 +1,20 @@
 -- What is written piece by piece.
-use Rattle.std.proofs.Common.{◌≡◌, ◌++◌, ◌+◌, ℕ, List, Option, Result, Ok, Err, OnOk, replicate, subst, ap, ◌∙◌, append_assoc}
-use Rattle.std.specs.Io.KnownBytes.{Appends}
-use Rattle.std.proofs.KnownBytes.{Appends-trans}
+use Rattle.std.proofs.Common.{◌≡◌, ◌++◌, ◌+◌, ℕ, List, Option, Result, Ok, Err, OnErr, OnOk, replicate, subst, sym, take, drop, ap, ◌∙◌, append_assoc, take-append-drop}
+use Rattle.std.specs.Io.KnownBytes.{Appends, Keeps}
+use Rattle.std.proofs.KnownBytes.{Appends-kept, Appends-trans}
 use Rattle.std.proofs.lemmas.List.{replicate-append-replicate}
 
 pub on_ok : {A E : Type 0} (r : Result A E) (P Q : Type 0) → (P → Q) → OnOk r P → OnOk r Q
 on_ok (Ok x) P Q f h = f h
 on_ok (Err e) P Q f h = h
+
+pub on_err : {A E : Type 0} (r : Result A E) (P Q : Type 0) → (P → Q) → OnErr r P → OnErr r Q
+on_err (Ok x) P Q f h = h
+on_err (Err e) P Q f h = f h
+
+pub on_any : {A E : Type 0} (r : Result A E) (P : Type 0) → P → OnErr r P
+on_any (Ok x) P h = tt
+on_any (Err e) P h = h
 
 -- two pieces one behind the other are the whole
 pub whole_put : (a b c : Option (List ℕ)) (x y z : List ℕ) → Appends a b x → Appends b c y → x ++ y ≡ z → Appends a c z
@@ -19,3 +27,19 @@ joined a q b x = append_assoc a (q ++ b) x ∙ ap (λ (y : List ℕ). a ++ y) (a
 -- so many more
 pub repeated_more : (m n k byte : ℕ) → m + n ≡ k → replicate m byte ++ replicate n byte ≡ replicate k byte
 repeated_more m n k byte e = replicate-append-replicate m n byte ∙ ap (λ (j : ℕ). replicate j byte) e
+
+-- a front of the bytes is written, and this is left
+pub record IsAhead (old new : Option (List ℕ)) (bytes rest : List ℕ) : Type 0 where
+  pub front : List ℕ
+  pub whole : bytes ≡ front ++ rest
+  pub put : Appends old new front
+
+pub ahead_more : (a b c : Option (List ℕ)) (bytes rest left : List ℕ) (n : ℕ) → IsAhead a b bytes rest → Appends b c (take n rest) → left ≡ drop n rest → IsAhead a c bytes left
+ahead_more a b c bytes rest left n h put is = record {
+  front = h.front ++ take n rest;
+  whole = h.whole ∙ ap (λ (z : List ℕ). h.front ++ z) (sym (take-append-drop n rest) ∙ ap (λ (z : List ℕ). take n rest ++ z) (sym is)) ∙ sym (append_assoc h.front (take n rest) left);
+  put = Appends-trans a b c h.front (take n rest) h.put put;
+}
+
+pub ahead_kept : (a b c : Option (List ℕ)) (bytes rest : List ℕ) → IsAhead a b bytes rest → Keeps b c → IsAhead a c bytes rest
+ahead_kept a b c bytes rest h kept = record { front = h.front; whole = h.whole; put = Appends-kept a b c h.front h.put kept }

@@ -20,7 +20,10 @@ use std::io::Write;
 
 /// Writes a document within limits as MongoDB Extended JSON v2, each element as it is: repeated keys in order, an array without
 /// its keys. The error is the first barrier, as `first_fault_within` has it, and then nothing was written; else the writer's
-/// own, or out of memory. Memory is taken for the levels alone, and no depth fills the stack. BSON 1.1, `document`.
+/// own, or out of memory, and then what was written is a front of the text. BSON 1.1, `document`.
+///
+/// No clause says so: memory is taken for the levels, and for the text of one value and 4 KiB, which are written in one call;
+/// no depth fills the stack.
 /// ```
 /// let document = RawDocument::from_bytes(b"\x0C\0\0\0\x10a\0\x01\0\0\0\0")?;
 /// let style = Style { format: Format::Canonical, layout: Layout::OneLine };
@@ -39,7 +42,7 @@ pub fn write_json<'a, W: Write>(
         × Appends (W.contents out.old) (W.contents out.new) text) }
     ensures within { OnOk result ((t : Tree) × ReadsWithin limits (bytes_of document.entry) t) }
     ensures err { IfErr result
-        (TellsWriteError limits (bytes_of document.entry) (W.contents out.old) (W.contents out.new)) }
+        (TellsWriteError limits style (bytes_of document.entry) (W.contents out.old) (W.contents out.new)) }
 {
     match first_fault_within(alloc, document, limits) {
         Ok(None) => {}
@@ -77,8 +80,6 @@ pub fn to_json<'a>(
         Err(WriteJsonError::Barrier(barrier)) => return Err(ToJsonError::Barrier(barrier)),
         Err(_) => return Err(ToJsonError::OutOfMemory),
     }
-    match String::from_utf8(text) {
-        Ok(text) => Ok(text),
-        Err(_) => Err(ToJsonError::OutOfMemory),
-    }
+    // Each text that `write_json` writes is UTF-8, so it isn't looked through once more.
+    Ok(unsafe { String::from_utf8_unchecked(text) })
 }

@@ -1,20 +1,24 @@
 //! Prints the levels of a document.
 #![tactic(auto)]
 
-ghost use Rattle.std.specs.Prelude.{ℕ, List, OnOk};
+ghost use Rattle.std.specs.Prelude.{ℕ, List, OnErr, OnOk};
 ghost use Rattle.std.specs.Io.KnownBytes.{Appends};
 ghost use Rattle.bson_model.specs.Tree.{Tree};
 ghost use Rattle.raw_tree.specs.Reading.{Reads};
 ghost use Rattle.raw_view.specs.Document.{bytes_of};
 ghost use Rattle.bson_json.specs.Json.{IsJson};
+ghost use Rattle.bson_json.specs.Written.{AppendsFront, Moves, WroteFront};
 
 use crate::level::{Level, Sort, next_of, put_end, put_head, put_value};
-use crate::put::put;
+use crate::put::{put, put_all};
 use crate::style::Style;
 use raw_view::RawDocument;
 use std::alloc::{AllocFailed, Global};
 use std::io::Write;
 use std::{io, mem};
+
+/// From so many bytes on a block is written.
+const FULL: usize = 4096;
 
 /// Why a document without a barrier isn't printed whole.
 #[derive(Debug, Drop)]
@@ -23,9 +27,10 @@ pub(crate) enum Failure {
     Writing(io::Error),
 }
 
+/// A block in memory takes all that it is given, unless memory runs out.
 impl From<io::Error> for Failure {
-    fn from(error: io::Error) -> Failure {
-        Failure::Writing(error)
+    fn from(_error: io::Error) -> Failure {
+        Failure::OutOfMemory
     }
 }
 
@@ -35,7 +40,32 @@ impl<T: Drop> From<AllocFailed<T>> for Failure {
     }
 }
 
-/// Writes a document that has no fault.
+/// Writes a block.
+fn write_block<W: Write>(out: &mut W, block: &[u8]) -> Result<(), Failure>
+    ensures written { OnOk result (Appends (W.contents out.old) (W.contents out.new) block.now) }
+    ensures front { OnErr result (AppendsFront (W.contents out.old) (W.contents out.new) block.now) }
+{
+    match put_all(out, block) {
+        Ok(()) => Ok(()),
+        Err(error) => Err(Failure::Writing(error)),
+    }
+}
+
+/// Writes a block that is full, and empties it.
+#[inline]
+fn pass_on<W: Write>(out: &mut W, block: &mut Vec<u8>) -> Result<(), Failure>
+    ensures moved { OnOk result (Moves (W.contents out.old) (W.contents out.new) block.old.items block.new.items) }
+    ensures front { OnErr result (AppendsFront (W.contents out.old) (W.contents out.new) block.old.items) }
+{
+    if block.len() < FULL {
+        return Ok(());
+    }
+    write_block(out, block)?;
+    block.clear();
+    Ok(())
+}
+
+/// Writes a document that has no fault, by blocks of whole values.
 pub(crate) fn print<W: Write>(
     alloc: Global,
     document: RawDocument<'_>,
@@ -43,24 +73,33 @@ pub(crate) fn print<W: Write>(
     out: &mut W,
 ) -> Result<(), Failure>
     requires { (t : Tree) × Reads (bytes_of document) t }
-    ensures { OnOk result ((text : List ℕ) × IsJson style (bytes_of document.entry) text
+    ensures text { OnOk result ((text : List ℕ) × IsJson style (bytes_of document.entry) text
         × Appends (W.contents out.old) (W.contents out.new) text) }
+    ensures front { OnErr result (WroteFront style (bytes_of document.entry) (W.contents out.old) (W.contents out.new)) }
 {
     let mut waiting: Vec<Level<'_>> = Vec::new(alloc);
+    let mut block: Vec<u8> = Vec::new(alloc);
     let mut level = Level::new(document, Sort::Document);
-    put(out, b"{")?;
+    put(&mut block, b"{")?;
     'levels: loop {
+        pass_on(out, &mut block)?;
         match next_of(&mut level.elements) {
             None => {
-                put_end(out, style.layout, waiting.len(), level.sort, level.first)?;
+                put_end(
+                    &mut block,
+                    style.layout,
+                    waiting.len(),
+                    level.sort,
+                    level.first,
+                )?;
                 let Some(outer) = waiting.pop() else {
-                    return Ok(());
+                    return write_block(out, &block);
                 };
                 level = outer;
             }
             Some((key, value)) => {
                 put_head(
-                    out,
+                    &mut block,
                     style.layout,
                     waiting.len() + 1,
                     level.sort,
@@ -68,7 +107,7 @@ pub(crate) fn print<W: Write>(
                     key,
                 )?;
                 level.first = false;
-                if let Some(inner) = put_value(out, style.format, value)? {
+                if let Some(inner) = put_value(&mut block, style.format, value)? {
                     let outer = mem::replace(&mut level, inner);
                     waiting.push(outer)?;
                 }

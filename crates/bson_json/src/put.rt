@@ -1,14 +1,38 @@
 //! Writes bytes.
 #![tactic(auto)]
 
-ghost use Rattle.std.specs.Prelude.{◌++◌, replicate, OnOk};
+ghost use Rattle.std.specs.Prelude.{◌++◌, replicate, OnErr, OnOk};
 ghost use Rattle.std.specs.Io.KnownBytes.{Appends};
+ghost use Rattle.bson_json.specs.Written.{AppendsFront};
 
 use std::io;
 use std::io::Write;
 
 /// How many bytes are written in one call.
 const BLOCK: usize = 64;
+
+/// Writes these bytes, as `write_all` does: what it leaves behind an error is a front of them.
+pub(crate) fn put_all<W: Write>(out: &mut W, bytes: &[u8]) -> io::Result<()>
+    ensures written { OnOk result (Appends (W.contents out.old) (W.contents out.new) bytes.now) }
+    ensures front { OnErr result (AppendsFront (W.contents out.old) (W.contents out.new) bytes.now) }
+{
+    let mut rest = bytes;
+    'calls: for _ in 0..u64::MAX {
+        if rest.is_empty() {
+            return Ok(());
+        }
+        match out.write(rest) {
+            Ok(0) => return Err(io::Error::from(io::ErrorKind::WriteZero)),
+            Ok(len) => rest = &rest[len..],
+            Err(error) => {
+                if error.kind() != io::ErrorKind::Interrupted {
+                    return Err(error);
+                }
+            }
+        }
+    }
+    Err(io::Error::from(io::ErrorKind::TimedOut))
+}
 
 /// Writes these bytes.
 #[inline(always)]

@@ -11,7 +11,7 @@ use raw_view::RawDocument;
 use std::alloc::Global;
 use std::test::Fail;
 
-const LIMITS: Limits = Limits {
+pub(crate) const LIMITS: Limits = Limits {
     bytes: 100_000,
     depth: 501,
 };
@@ -26,7 +26,7 @@ const CANONICAL: Style = Style {
     layout: Layout::OneLine,
 };
 
-const INDENTED: Style = Style {
+pub(crate) const INDENTED: Style = Style {
     format: Format::Relaxed,
     layout: Layout::Indented,
 };
@@ -137,45 +137,42 @@ fn decimals_4_have_their_texts(rt: HostRuntime) -> Result<(), Fail> {
 }
 
 /// A document with an empty array, an array of a document and a null, and a code with a scope.
-const NESTED: &[u8] =
+pub(crate) const NESTED: &[u8] =
     b"@\0\0\0\x04e\0\x05\0\0\0\0\x04a\0\x17\0\0\0\x030\0\x0C\0\0\0\x10b\0\x01\0\0\0\0\x0A1\0\0\x0Fc\0\x16\0\0\0\x02\0\0\0f\0\x0C\0\0\0\x10x\0\x02\0\0\0\0\0";
+
+pub(crate) const NESTED_TEXT: &str =
+    "{\n  \"e\": [],\n  \"a\": [\n    {\n      \"b\": 1\n    },\n    null\n  ],\n  \"c\": {\"$code\":\"f\",\"$scope\":{\n    \"x\": 2\n  }}\n}";
 
 #[test]
 fn members_are_indented(rt: HostRuntime) -> Result<(), Fail> {
-    has_text(
-        rt.alloc(),
-        NESTED,
-        INDENTED,
-        "{\n  \"e\": [],\n  \"a\": [\n    {\n      \"b\": 1\n    },\n    null\n  ],\n  \"c\": {\"$code\":\"f\",\"$scope\":{\n    \"x\": 2\n  }}\n}",
-    )
+    has_text(rt.alloc(), NESTED, INDENTED, NESTED_TEXT)
 }
 
-/// A document with so many levels in it.
+/// A document with so many levels in it, of which each but the innermost has one member, of the key `k`.
 fn nested(alloc: Global, levels: usize) -> Result<Vec<u8>, Fail> {
-    let mut bytes = Vec::from_slice(alloc, b"\x05\0\0\0\0")?;
+    let mut bytes = Vec::new(alloc);
+    for outside in 0..levels {
+        let len = (levels - outside)
+            .saturating_mul(8)
+            .saturating_add(5)
+            .min(100_000) as u32;
+        bytes.extend_from_slice(&len.to_le_bytes())?;
+        bytes.extend_from_slice(b"\x03k\0")?;
+    }
+    bytes.extend_from_slice(b"\x05\0\0\0\0")?;
     for _ in 0..levels {
-        bytes = around(alloc, &bytes)?;
+        bytes.push(0)?;
     }
     Ok(bytes)
 }
 
-/// A document whose one member, of the key `k`, is this document.
-fn around(alloc: Global, document: &[u8]) -> Result<Vec<u8>, Fail> {
-    let len = document.len().saturating_add(8).min(100_000) as u32;
-    let mut bytes = Vec::from_slice(alloc, &len.to_le_bytes())?;
-    bytes.extend_from_slice(b"\x03k\0")?;
-    bytes.extend_from_slice(document)?;
-    bytes.push(0)?;
-    Ok(bytes)
-}
-
-/// How many bytes the text of a document with so many levels in it has.
-fn text_len(alloc: Global, levels: usize) -> Result<usize, Fail> {
+/// How many bytes the text of a document with so many levels in it has, or 0 where it is too deep.
+fn text_len(alloc: Global, levels: usize, limits: Limits) -> Result<usize, Fail> {
     let bytes = nested(alloc, levels)?;
     let Ok(document) = RawDocument::from_bytes(&bytes) else {
         return Err(Fail::new("no document"));
     };
-    match to_json(alloc, document, RELAXED, LIMITS) {
+    match to_json(alloc, document, RELAXED, limits) {
         Ok(text) => Ok(text.len()),
         Err(ToJsonError::Barrier(barrier)) => match barrier.kind {
             BarrierKind::TooDeep => Ok(0),
@@ -187,7 +184,18 @@ fn text_len(alloc: Global, levels: usize) -> Result<usize, Fail> {
 
 #[test]
 fn five_hundred_levels_are_printed(rt: HostRuntime) -> Result<(), Fail> {
-    assert!(rt; text_len(rt.alloc(), 500)? == 2 + 500 * 6);
-    assert!(rt; text_len(rt.alloc(), 501)? == 0);
+    assert!(rt; text_len(rt.alloc(), 500, LIMITS)? == 2 + 500 * 6);
+    assert!(rt; text_len(rt.alloc(), 501, LIMITS)? == 0);
+    Ok(())
+}
+
+const DEEP: Limits = Limits {
+    bytes: 100_000,
+    depth: 12_001,
+};
+
+#[test]
+fn twelve_thousand_levels_are_printed(rt: HostRuntime) -> Result<(), Fail> {
+    assert!(rt; text_len(rt.alloc(), 12_000, DEEP)? == 2 + 12_000 * 6);
     Ok(())
 }

@@ -1,28 +1,54 @@
-use bson_from_json::from_json;
+use bson_from_json::{JsonReason, from_json};
 use raw_bson::Limits;
 use std::alloc::Global;
 use std::test::Fail;
 
-const LIMITS: Limits = Limits {
-    bytes: 1000,
-    depth: 10,
-};
-
 /// Texts and the bytes that they write, in hex.
 type Texts = &'static [(&'static str, &'static str)];
 
-/// Each text writes these bytes.
+/// Whether a text writes these bytes, and has too many for a limit of one less.
+fn is_read(alloc: Global, text: &str, digits: &str) -> bool {
+    let bytes = digits.len() / 2;
+    writes(alloc, text, digits, bytes) && is_too_long(alloc, text, bytes.saturating_sub(1))
+}
+
+/// Whether a text writes these bytes within this limit.
+fn writes(alloc: Global, text: &str, digits: &str, bytes: usize) -> bool {
+    match from_json(alloc, text, Limits { bytes, depth: 10 }) {
+        Ok(document) => are_written(document.as_bytes(), digits),
+        Err(_) => false,
+    }
+}
+
+/// Whether a text has too many bytes for this limit.
+fn is_too_long(alloc: Global, text: &str, bytes: usize) -> bool {
+    match from_json(alloc, text, Limits { bytes, depth: 10 }) {
+        Ok(_) => false,
+        Err(error) => error.reason == JsonReason::TooManyBytes,
+    }
+}
+
+/// Whether these are the bytes that the hex digits write.
+pub(crate) fn are_written(bytes: &[u8], digits: &str) -> bool {
+    let mut rest = digits.as_bytes();
+    for byte in bytes {
+        let [high, low, behind @ ..] = rest else {
+            return false;
+        };
+        let mut found = [0];
+        if hex::decode_to_slice([*high, *low].as_slice(), &mut found).is_err() || found != [*byte] {
+            return false;
+        }
+        rest = behind;
+    }
+    rest.is_empty()
+}
+
+/// Each text writes these bytes, and no fewer are enough.
 fn check(alloc: Global, texts: Texts) -> Result<(), Fail> {
-    for (text, bytes) in texts {
-        let document = match from_json(alloc, text, LIMITS) {
-            Ok(document) => document,
-            Err(error) => return Err(Fail::new(format_args!("{text}: {error}"))),
-        };
-        let Ok(bytes) = hex::decode(alloc, *bytes) else {
-            return Err(Fail::new(*bytes));
-        };
-        if document.as_bytes() != bytes.as_slice() {
-            return Err(Fail::new(format_args!("{text}: {document:?}")));
+    for (text, digits) in texts {
+        if !is_read(alloc, text, digits) {
+            return Err(Fail::new(*text));
         }
     }
     Ok(())
@@ -60,9 +86,42 @@ const NUMBERS: Texts = &[
         "100000000164002A1BF5F41022B14300",
     ),
     ("{\"d\": -1.0}", "10000000016400000000000000F0BF00"),
+    ("{\"a\":-0}", "0C0000001061000000000000"),
+    ("{\"a\":-0.0}", "10000000016100000000000000008000"),
     (
-        "{\"d\": 9223372036854775808}",
-        "10000000016400000000000000E04300",
+        "{\"a\":{\"$numberInt\":\"-0\"}}",
+        "0C0000001061000000000000",
+    ),
+    (
+        "{\"a\":{\"$numberLong\":\"9223372036854775807\"}}",
+        "10000000126100FFFFFFFFFFFFFF7F00",
+    ),
+    ("{\"a\":-2147483649}", "10000000126100FFFFFF7FFFFFFFFF00"),
+    (
+        "{\"a\":-9223372036854775808}",
+        "10000000126100000000000000008000",
+    ),
+    ("{\"a\":1e0}", "10000000016100000000000000F03F00"),
+    ("{\"a\":1e-400}", "10000000016100000000000000000000"),
+    (
+        "{\"a\":9007199254740993.0}",
+        "10000000016100000000000000404300",
+    ),
+    (
+        "{\"a\":{\"$numberDouble\":\"1\"}}",
+        "10000000016100000000000000F03F00",
+    ),
+    (
+        "{\"a\":9223372036854775807}",
+        "10000000126100FFFFFFFFFFFFFF7F00",
+    ),
+    (
+        "{\"a\":{\"$numberInt\":\"2147483647\"}}",
+        "0C000000106100FFFFFF7F00",
+    ),
+    (
+        "{\"a\":{\"$numberDouble\":\"1.5e+3\"}}",
+        "10000000016100000000000070974000",
     ),
 ];
 
@@ -94,6 +153,155 @@ const DECIMALS: Texts = &[
     (
         "{\"d\": {\"$numberDecimal\": \"0E-9000\"}}",
         "180000001364000000000000000000000000000000000000",
+    ),
+    (
+        "{\"a\":{\"$numberDecimal\":\"10E-6177\"}}",
+        "180000001361000100000000000000000000000000000000",
+    ),
+    (
+        "{\"a\":{\"$numberDecimal\":\"10000000000000000000000000000000000\"}}",
+        "18000000136100000000000A5BC138938D44C64D31423000",
+    ),
+    (
+        "{\"a\":{\"$numberDecimal\":\"1E+6112\"}}",
+        "180000001361000A00000000000000000000000000FE5F00",
+    ),
+    (
+        "{\"a\":{\"$numberDecimal\":\"0E+9000\"}}",
+        "180000001361000000000000000000000000000000FE5F00",
+    ),
+    (
+        "{\"a\":{\"$numberDecimal\":\"-0E-9000\"}}",
+        "180000001361000000000000000000000000000000008000",
+    ),
+    (
+        "{\"a\":{\"$numberDecimal\":\".5\"}}",
+        "1800000013610005000000000000000000000000003E3000",
+    ),
+    (
+        "{\"a\":{\"$numberDecimal\":\"5.\"}}",
+        "180000001361000500000000000000000000000000403000",
+    ),
+    (
+        "{\"a\":{\"$numberDecimal\":\"-nan\"}}",
+        "180000001361000000000000000000000000000000007C00",
+    ),
+    (
+        "{\"a\":{\"$numberDecimal\":\"+Inf\"}}",
+        "180000001361000000000000000000000000000000007800",
+    ),
+    (
+        "{\"a\":{\"$numberDecimal\":\"0E000000000000000000000000000009\"}}",
+        "180000001361000000000000000000000000000000523000",
+    ),
+];
+
+const DATES: Texts = &[
+    (
+        "{\"a\":{\"$date\":\"2012-12-24T12:15:30.5Z\"}}",
+        "10000000096100C4D8D6CC3B01000000",
+    ),
+    (
+        "{\"a\":{\"$date\":\"2012-12-24T12:15:30.50Z\"}}",
+        "10000000096100C4D8D6CC3B01000000",
+    ),
+    (
+        "{\"a\":{\"$date\":\"2012-12-24T12:15:30.501+01:00\"}}",
+        "1000000009610045EA9FCC3B01000000",
+    ),
+    (
+        "{\"a\":{\"$date\":\"2012-12-24T12:15:30.501-05:30\"}}",
+        "1000000009610085F804CE3B01000000",
+    ),
+    (
+        "{\"a\":{\"$date\":\"2012-12-24T12:15:30+0100\"}}",
+        "1000000009610050E89FCC3B01000000",
+    ),
+    (
+        "{\"a\":{\"$date\":\"0000-01-01T00:00:00Z\"}}",
+        "1000000009610000A0FB9075C7FFFF00",
+    ),
+    (
+        "{\"a\":{\"$date\":\"0000-02-29T00:00:00Z\"}}",
+        "1000000009610000D4D2C076C7FFFF00",
+    ),
+    (
+        "{\"a\":{\"$date\":\"2000-02-29T23:59:59.999Z\"}}",
+        "10000000096100FF3BCD9FDD00000000",
+    ),
+    (
+        "{\"a\":{\"$date\":\"1969-12-31T23:59:59.999Z\"}}",
+        "10000000096100FFFFFFFFFFFFFFFF00",
+    ),
+    (
+        "{\"a\":{\"$date\":\"9999-12-31T23:59:59.999-23:59\"}}",
+        "100000000961009F4D45D777E6000000",
+    ),
+];
+
+const STRINGS: Texts = &[
+    ("{\"a\":\"a\\/b\"}", "1000000002610004000000612F620000"),
+    (
+        "{\"a\":\"\\udbff\\udfff\"}",
+        "1100000002610005000000F48FBFBF0000",
+    ),
+    (
+        "{\"a\":\"\\ud800\\udc00\"}",
+        "1100000002610005000000F09080800000",
+    ),
+    (
+        "{\"a\":\"\\ud7ff\\ue000\"}",
+        "1300000002610007000000ED9FBFEE80800000",
+    ),
+    (
+        "{\"a\":\"\\b\\f\\n\\r\\t\\\"\\\\\"}",
+        "1400000002610008000000080C0A0D09225C0000",
+    ),
+    ("{\"a\":\"\\u0000\"}", "0E00000002610002000000000000"),
+];
+
+/// Objects that are documents, whatever their keys: those without a key of a wrapper, the whole text, and a scope.
+const OBJECTS: Texts = &[
+    (
+        "{\"a\":{\"$regex\":\"a\",\"$options\":\"b\"}}",
+        "2B00000003610023000000022472656765780002000000610002246F7074696F6E73000200000062000000",
+    ),
+    (
+        "{\"a\":{\"$regex\":{\"$regularExpression\":{\"pattern\":\"a\",\"options\":\"\"}},\"$options\":\"i\"}}",
+        "28000000036100200000000B2472656765780061000002246F7074696F6E73000200000069000000",
+    ),
+    (
+        "{\"a\":{\"$regex\":\"a\"}}",
+        "1B0000000361001300000002247265676578000200000061000000",
+    ),
+    (
+        "{\"a\":{\"$unknown\":1}}",
+        "1B000000036100130000001024756E6B6E6F776E00010000000000",
+    ),
+    (
+        "{\"$ref\":\"c\",\"$id\":1}",
+        "1A00000002247265660002000000630010246964000100000000",
+    ),
+    (
+        "{\"a\":{\"$scope\":{},\"$code\":\"x\"}}",
+        "170000000F61000F000000020000007800050000000000",
+    ),
+    (
+        "{\"a\":{\"$scope\":{\"b\":{\"$scope\":{\"c\":1},\"$code\":\"y\"}},\"$code\":\"x\"}}",
+        "300000000F6100280000000200000078001E0000000F6200160000000200000079000C00000010630001000000000000",
+    ),
+    (
+        "{\"a\":{\"$code\":\"x\",\"$scope\":{\"$oid\":\"56e1fc72e0c917e9c4714161\"}}}",
+        "3A0000000F6100320000000200000078002800000002246F69640019000000353665316663373265306339313765396334373134313631000000",
+    ),
+    ("{\"$date\":5}", "10000000102464617465000500000000"),
+    (
+        "{\"b\":1,\"$oid\":\"x\"}",
+        "180000001062000100000002246F69640002000000780000",
+    ),
+    (
+        "{\"a\":{\"$scope\":{\"b\":1,\"$minKey\":2},\"$code\":\"x\"}}",
+        "2B0000000F610023000000020000007800190000001062000100000010246D696E4B657900020000000000",
     ),
 ];
 
@@ -172,6 +380,46 @@ const VALUES: Texts = &[
         "{\"a\": {\"$gt\": 1}}",
         "160000000361000E0000001024677400010000000000",
     ),
+    (
+        "{\"a\":{\"\\u0024oid\":\"56e1fc72e0c917e9c4714161\"}}",
+        "1400000007610056E1FC72E0C917E9C471416100",
+    ),
+    (
+        "{\"a\":{\"$timestamp\":{\"i\":1,\"t\":2}}}",
+        "10000000116100010000000200000000",
+    ),
+    (
+        "{\"a\":{\"$timestamp\":{\"t\":-0,\"i\":1}}}",
+        "10000000116100010000000000000000",
+    ),
+    (
+        "{\"a\":{\"$timestamp\":{\"t\":4294967295,\"i\":4294967295}}}",
+        "10000000116100FFFFFFFFFFFFFFFF00",
+    ),
+    (
+        "{\"a\":{\"$binary\":{\"base64\":\"\",\"subType\":\"02\"}}}",
+        "1100000005610004000000020000000000",
+    ),
+    (
+        "{\"a\":{\"$binary\":{\"base64\":\"//8=\",\"subType\":\"fF\"}}}",
+        "0F00000005610002000000FFFFFF00",
+    ),
+    (
+        "{\"a\":{\"$uuid\":\"73FFD264-44b3-4c69-90e8-e7d1dfc035d4\"}}",
+        "1D000000056100100000000473FFD26444B34C6990E8E7D1DFC035D400",
+    ),
+    (
+        "{\"a\":{\"$dbPointer\":{\"$id\":{\"$oid\":\"56e1fc72e0c917e9c4714161\"},\"$ref\":\"b\"}}}",
+        "1A0000000C610002000000620056E1FC72E0C917E9C471416100",
+    ),
+    (
+        "{\"a\":{\"$regularExpression\":{\"options\":\"xis\",\"pattern\":\"a\"}}}",
+        "0E0000000B610061006973780000",
+    ),
+    (
+        "{\"a\":[[],{},[1,{\"b\":[2]}]]}",
+        "430000000461003B000000043000050000000003310005000000000432002300000010300001000000033100140000000462000C000000103000020000000000000000",
+    ),
 ];
 
 #[test]
@@ -182,6 +430,21 @@ fn numbers(rt: HostRuntime) -> Result<(), Fail> {
 #[test]
 fn decimals(rt: HostRuntime) -> Result<(), Fail> {
     check(rt.alloc(), DECIMALS)
+}
+
+#[test]
+fn dates(rt: HostRuntime) -> Result<(), Fail> {
+    check(rt.alloc(), DATES)
+}
+
+#[test]
+fn strings(rt: HostRuntime) -> Result<(), Fail> {
+    check(rt.alloc(), STRINGS)
+}
+
+#[test]
+fn objects(rt: HostRuntime) -> Result<(), Fail> {
+    check(rt.alloc(), OBJECTS)
 }
 
 #[test]

@@ -1,6 +1,11 @@
 use Rattle.bson_from_json.specs.Left.{left_of}
+use Rattle.bson_from_json.proofs.Moments.{Whole}
 use Rattle.bson_from_json.proofs.reading.Reader.read.Given as goal
 
--- how many bytes are left
+-- what is left is made to the bytes that the text says
+abbrev pub invariant-members : goal.invariant-members
+invariant-members l = Whole l.fn.self.source.tokens l.self
+
+-- how many tokens are left
 abbrev pub decreases-members : goal.decreases-members
 decreases-members l = left_of l.self

@@ -1,0 +1,21 @@
+use Rattle.std.proofs.Common.{◌≡◌, ◌∙◌, refl, rules}
+use Rattle.bson_from_json.specs.declared.levels.Holder.TheVariants as holder
+use Rattle.bson_from_json.proofs.Moments.{code_closed, on_ok, plain_closed, scope_closed}
+use Rattle.bson_from_json.proofs.reading.Reader.close.Goals as goal
+
+pub returns-in_default-clause-rest : goal.returns-in_default-clause-rest
+returns-in_default-clause-rest c = plain_closed _ _ c.args.level c.in_default.not-Scope c.in_default.not-ScopeBeforeCode c.close.ensures.levels c.in_ok-close.ensures.bytes refl
+
+pub returns-in_ok-set_len-in-Scope-clause-rest : goal.returns-in_ok-set_len-in-Scope-clause-rest
+returns-in_ok-set_len-in-Scope-clause-rest c =
+    let is : c.args.level.holder ≡ holder.Scope c.in-Scope.start = search rules in
+    let levels = c.set_len.ensures.levels ∙ c.close.ensures.levels in
+    on_ok c.end.result (λ e. scope_closed _ _ c.args.level c.in-Scope.start is levels c.in_ok-close.ensures.bytes c.in_ok-set_len-in-Scope.ensures.bytes e) c.end.ensures
+
+pub returns-in_ok-set_len-in-ScopeBeforeCode-clause-rest : goal.returns-in_ok-set_len-in-ScopeBeforeCode-clause-rest
+returns-in_ok-set_len-in-ScopeBeforeCode-clause-rest c =
+    let is : c.args.level.holder ≡ holder.ScopeBeforeCode c.in-ScopeBeforeCode.start c.in-ScopeBeforeCode.code = search rules in
+    let levels = c.set_len-in-ScopeBeforeCode.ensures.levels ∙ c.close.ensures.levels in
+    on_ok c.code.result
+    (λ e. code_closed _ _ c.args.level c.in-ScopeBeforeCode.start c.in-ScopeBeforeCode.code is levels c.in_ok-close.ensures.bytes c.in_ok-set_len-in-ScopeBeforeCode.ensures.bytes e)
+    c.code.ensures

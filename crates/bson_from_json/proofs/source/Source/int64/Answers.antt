@@ -1,0 +1,6 @@
+use Rattle.std.proofs.Common.{rules}
+use Rattle.bson_from_json.proofs.Takes.{int64_taken}
+use Rattle.bson_from_json.proofs.source.Source.int64.Goals as goal
+
+pub returns : goal.returns
+returns c = int64_taken c.in_ok-value.ensures.1 (search rules) (search rules)

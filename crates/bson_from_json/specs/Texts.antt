@@ -1,0 +1,20 @@
+-- What a text of Extended JSON v2 says.
+use Rattle.std.specs.Prelude.{◌≡◌, ℕ, List}
+use Rattle.json.specs.Json.{Json}
+use Rattle.json.specs.Lex.{tokens}
+use Rattle.json.specs.Tree.{json_tokens}
+use Rattle.bson_model.specs.Tree.{Entries, document}
+use Rattle.raw_bson.specs.Encoding.{encoding}
+use Rattle.bson_from_json.specs.Meaning.{IsWhole}
+
+-- the text is this JSON value (RFC 8259), however deep it nests: its tokens are those of the value.
+abbrev pub IsJsonText : List ℕ → Json → Type 0
+IsJsonText text j = tokens text ≡ json_tokens j
+
+-- the text says this document
+abbrev pub Says : List ℕ → Entries → Type 0
+Says text es = (j : Json) × IsJsonText text j × IsWhole j es
+
+-- the bytes are those of a document that the text says
+abbrev pub IsWritten : List ℕ → List ℕ → Type 0
+IsWritten text bytes = (es : Entries) × Says text es × (bytes ≡ encoding (document es))
