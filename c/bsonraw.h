@@ -1,15 +1,16 @@
-/* bsonraw.h: raw BSON documents, read as they lie in memory. The functions that the library exports are proved against the
- * contracts of the crate bsonraw_c, which say what each input gives. The inline functions here are tested.
+/* bsonraw.h: raw BSON documents, read as they lie in memory. The functions that are declared without a body, up to the part on
+ * daily use, are proved against the contracts of the crate bsonraw_c, which say what each input gives. The inline functions, and
+ * those of that part, are tested.
  *
  * What a caller has to keep:
- *   - A pointer with its length names memory that may be read, or where it isn't const written, for the whole call. It
- *     is never null, also where the length is 0: neither NULL with 0, to ask how long a form would be (bsonraw_canonical
- *     has an example), nor data() of an empty std::vector. Pointers to structs and to numbers are aligned.
+ *   - A pointer with its length names memory that may be read, or where it isn't const written, for the whole call. NULL with a
+ *     length of 0 is no bytes, or no room; NULL with a length, or in place of a struct, a number or a text that a call needs, gives
+ *     BSONRAW_NULL. Pointers to structs and to numbers are aligned.
  *   - Memory that a call writes overlaps nothing else that is passed to it, and no other thread touches it meanwhile.
  *     Memory that is only read may be read by any number of calls at once, and changes by none.
- *   - malloc, realloc and free come from one allocator, as the C library's do. No call is made from a signal handler, nor
- *     from the forked child of a process with threads.
- *   - Depth takes memory, and no stack, but in bsonraw_flatten, whose caller limits max_depth to what its stack bears.
+ *   - malloc, realloc and free come from one allocator, as the C library's do, and align as they do, for up to 16 bytes. No
+ *     call is made from a signal handler, nor from the forked child of a process with threads.
+ *   - Depth takes memory, and no stack.
  *
  * No call keeps memory, or a pointer, after it returns; none writes past what it was given.
  */
@@ -18,6 +19,8 @@
 
 #include <stddef.h>
 #include <stdint.h>
+#include <stdio.h>
+#include <string.h>
 
 #ifdef __cplusplus
 extern "C" {
@@ -38,7 +41,11 @@ enum bsonraw_status {
     BSONRAW_SMALL_BUFFER = 8,   /* the room is too small, and how much is wanted is said */
     BSONRAW_BAD_OFFSET = 9,     /* the fields that were given name no place in the bytes */
     BSONRAW_NO_MEMORY = 10,     /* memory was refused */
-    BSONRAW_OTHER_KIND = 11     /* the element is of another kind. Of a builder: the parts aren't those of the kind */
+    BSONRAW_OTHER_KIND = 11,    /* the element is of another kind. Of a builder: the parts aren't those of the kind */
+    BSONRAW_NULL = 12,          /* NULL with a length, or for what is needed */
+    BSONRAW_MISUSE = 13,        /* of a builder: a level is open in it, or the level that is ended isn't the one that is open in it */
+    BSONRAW_CUT = 14,           /* a file ends within a document */
+    BSONRAW_NOT_READ = 15       /* a file couldn't be read, and errno says why */
 };
 
 /* The kinds of elements, and what the payload of each is, as BSON stores it: nothing is converted, numbers are
@@ -113,11 +120,23 @@ enum bsonraw_cause {
 #endif
 
 #if defined(__cplusplus) || (defined(__STDC_VERSION__) && __STDC_VERSION__ >= 199901L)
-#define BSONRAW_INLINE static inline
+#define BSONRAW_LOCAL static inline
 #elif defined(__GNUC__)
-#define BSONRAW_INLINE static __inline__
+#define BSONRAW_LOCAL static __inline__
 #else
-#define BSONRAW_INLINE static
+#define BSONRAW_LOCAL static
+#endif
+
+#if defined(__cplusplus) && __cplusplus >= 201103L
+#define BSONRAW_NIL nullptr
+#else
+#define BSONRAW_NIL NULL
+#endif
+
+/* The library exports the inline functions, too, for languages that see no bodies: with -DBSONRAW_INLINE=extern, as for bindgen,
+ * they are functions like others. */
+#ifndef BSONRAW_INLINE
+#define BSONRAW_INLINE BSONRAW_LOCAL
 #endif
 
 #ifdef __cplusplus
@@ -126,13 +145,33 @@ enum bsonraw_cause {
 #define BSONRAW_UINT32(number) static_cast<uint32_t>(number)
 #define BSONRAW_UINT64(number) static_cast<uint64_t>(number)
 #define BSONRAW_DOUBLE(number) static_cast<double>(number)
+#define BSONRAW_BYTES(pointer) reinterpret_cast<const uint8_t *>(pointer)
+#define BSONRAW_CHARS(pointer) reinterpret_cast<const char *>(pointer)
+#define BSONRAW_TEXT(bytes, at, len) static_cast<int>(len), reinterpret_cast<const char *>(bytes) + (at)
 #else
 #define BSONRAW_INT32(number) (int32_t)(number)
 #define BSONRAW_BYTE(number) (uint8_t)(number)
 #define BSONRAW_UINT32(number) (uint32_t)(number)
 #define BSONRAW_UINT64(number) (uint64_t)(number)
 #define BSONRAW_DOUBLE(number) (double)(number)
+#define BSONRAW_BYTES(pointer) (const uint8_t *)(pointer)
+#define BSONRAW_CHARS(pointer) (const char *)(pointer)
+#define BSONRAW_TEXT(bytes, at, len) (int)(len), (const char *)(bytes) + (at) /* a key or a text as two arguments of printf, for "%.*s" */
 #endif
+
+/* A literal as two arguments: a key, a path or a text, and its length. A pointer doesn't compile here: BSONRAW_STR has those. */
+#define BSONRAW_KEY(literal) BSONRAW_BYTES("" literal), sizeof("" literal) - 1
+
+/* A text that a 0 ends as two arguments; it is looked at twice, and NULL is an empty text. */
+#define BSONRAW_STR(text) bsonraw_str_bytes(text), bsonraw_str_len(text)
+
+BSONRAW_LOCAL const uint8_t *bsonraw_str_bytes(const char *text) {
+    return BSONRAW_BYTES(text ? text : "");
+}
+
+BSONRAW_LOCAL size_t bsonraw_str_len(const char *text) {
+    return text ? strlen(text) : 0;
+}
 
 /* The version of the library: 20000 for 2.0.0. The last four digits are raised with what is added, the others with what is
  * changed.
@@ -155,8 +194,11 @@ struct bsonraw_error {
  * Each of these calls returns an int32_t of enum bsonraw_status, takes no memory, and may be given any bytes, and a cursor
  * with any fields: it reads nothing outside of the bytes. A call that goes on from a cursor whose fields name no document in
  * the bytes, or no place in it, returns BSONRAW_BAD_OFFSET. All offsets are from the first of the bytes, in nested documents
- * too. Where a cursor is at no element, its tag is 0, its offsets are the length of the bytes (4294967295 where they are
- * more), and its lengths are 0.
+ * too. Where a cursor is at no element, its tag is 0, key_at and payload_at are the length of the bytes (4294967295 where they
+ * are more), and key_len and payload_len are 0; but at a stop with a key, key_at and key_len are that key's. The other fields say
+ * then where it goes on: document_at and document_len the document, next the place. After BSONRAW_NO_DOCUMENT and BSONRAW_OTHER_KIND
+ * it is in no document: document_at, document_len and next are 0. After BSONRAW_BAD_OFFSET of a call that goes on they are as they
+ * were.
  */
 
 /* A cursor. It is at one element of a document, or at none. */
@@ -172,12 +214,6 @@ struct bsonraw_iter {
     struct bsonraw_error error; /* the last fault that was met in this document; all 0 before any */
 };
 
-/* A key or a text as two arguments of printf, for "%.*s". */
-#define BSONRAW_TEXT(bytes, at, len) (int)(len), (const char *)(bytes) + (at)
-
-/* A literal as two arguments: a key, a path or a text, and its length. */
-#define BSONRAW_KEY(literal) (const uint8_t *)(literal), sizeof(literal) - 1
-
 /* Sets a cursor before the first element: BSONRAW_OK. Else BSONRAW_NO_DOCUMENT, and error says why.
  * BSONRAW_OK of bsonraw_iter_next says that the cursor is at the next element; BSONRAW_NONE, that there are no more;
  * BSONRAW_FAULT, that none is where the next should begin: error says why, and the key is that of the stop, if it has
@@ -188,20 +224,20 @@ struct bsonraw_iter {
  *     struct bsonraw_iter it;
  *     if (bsonraw_iter_init(&it, bytes, len) == BSONRAW_OK)
  *         while (bsonraw_iter_next(&it, bytes, len) == BSONRAW_OK)
- *             printf("%02x %.*s\n", (unsigned)it.tag, BSONRAW_TEXT(bytes, it.key_at, it.key_len));
+ *             printf("%02x %.*s\n", it.tag, BSONRAW_TEXT(bytes, it.key_at, it.key_len));
  */
 BSONRAW_USE int32_t bsonraw_iter_init(struct bsonraw_iter *iter, const uint8_t *bytes, size_t len);
 BSONRAW_USE int32_t bsonraw_iter_next(struct bsonraw_iter *iter, const uint8_t *bytes, size_t len);
 
 /* Sets a cursor before the first element of the document or the array that iter is at: BSONRAW_OK; BSONRAW_OTHER_KIND where
- * it is at neither.
+ * it is at neither; BSONRAW_NO_DOCUMENT where the fields of iter were changed, so that they name bytes that are none.
  *
  *     struct bsonraw_iter it, child;
  *     if (bsonraw_iter_init(&it, bytes, len) == BSONRAW_OK)
  *         while (bsonraw_iter_next(&it, bytes, len) == BSONRAW_OK)
  *             if (bsonraw_iter_recurse(&it, bytes, len, &child) == BSONRAW_OK)
  *                 while (bsonraw_iter_next(&child, bytes, len) == BSONRAW_OK)
- *                     printf("%02x\n", (unsigned)child.tag);
+ *                     printf("%02x\n", child.tag);
  *
  * bsonraw_iter_init_at sets one before the first element of the document of document_len bytes at document_at, such as a
  * scope: BSONRAW_BAD_OFFSET where so many aren't there, or they end past 4294967295, and else BSONRAW_NO_DOCUMENT where they
@@ -213,7 +249,7 @@ BSONRAW_USE int32_t bsonraw_iter_next(struct bsonraw_iter *iter, const uint8_t *
  *         bsonraw_iter_value(&it, bytes, len, &v) == BSONRAW_OK && v.tag == BSONRAW_TAG_JAVASCRIPT_WITH_SCOPE &&
  *         bsonraw_iter_init_at(&scope, bytes, len, v.more_at, v.more_len) == BSONRAW_OK)
  *         while (bsonraw_iter_next(&scope, bytes, len) == BSONRAW_OK)
- *             printf("%02x %.*s\n", (unsigned)scope.tag, BSONRAW_TEXT(bytes, scope.key_at, scope.key_len));
+ *             printf("%02x %.*s\n", scope.tag, BSONRAW_TEXT(bytes, scope.key_at, scope.key_len));
  */
 BSONRAW_USE int32_t bsonraw_iter_recurse(const struct bsonraw_iter *iter, const uint8_t *bytes, size_t len,
                                          struct bsonraw_iter *child);
@@ -226,7 +262,7 @@ BSONRAW_USE int32_t bsonraw_iter_init_at(struct bsonraw_iter *iter, const uint8_
  *     struct bsonraw_iter it;
  *     int32_t status = bsonraw_iter_init_find(&it, bytes, len, BSONRAW_KEY("name"));
  *     while (status == BSONRAW_OK) {
- *         printf("%lu bytes\n", (unsigned long)it.payload_len);
+ *         printf("%u bytes\n", it.payload_len);
  *         status = bsonraw_iter_find(&it, bytes, len, BSONRAW_KEY("name"));
  *     }
  */
@@ -244,7 +280,7 @@ BSONRAW_USE int32_t bsonraw_iter_init_find(struct bsonraw_iter *iter, const uint
  *     struct bsonraw_iter it;
  *     if (bsonraw_iter_init(&it, bytes, len) == BSONRAW_OK &&
  *         bsonraw_iter_find_descendant(&it, bytes, len, BSONRAW_KEY("authors.0.name"), '.') == BSONRAW_OK)
- *         printf("%02x\n", (unsigned)it.tag);
+ *         printf("%02x\n", it.tag);
  */
 BSONRAW_USE int32_t bsonraw_iter_find_descendant(struct bsonraw_iter *iter, const uint8_t *bytes, size_t len,
                                                  const uint8_t *path, size_t path_len, uint8_t separator);
@@ -267,11 +303,91 @@ struct bsonraw_entry {
  *     int32_t status = bsonraw_iter_init(&it, bytes, len);
  *     while (status == BSONRAW_OK) {
  *         status = bsonraw_iter_next_many(&it, bytes, len, entries, 64, &count);
- *         for (i = 0; i < count; i++) printf("%02x\n", (unsigned)entries[i].tag);
+ *         for (i = 0; i < count; i++) printf("%02x\n", entries[i].tag);
  *     }
  */
 BSONRAW_USE int32_t bsonraw_iter_next_many(struct bsonraw_iter *iter, const uint8_t *bytes, size_t len,
                                            struct bsonraw_entry *entries, size_t room, uint64_t *count);
+
+/* ---- NULL ------------------------------------------------------------------------------------------------------------
+ *
+ * Each call that the library exports has another one here, which goes by its name: it puts some memory in the place of NULL with a
+ * length of 0, and returns BSONRAW_NULL for NULL with a length, or in place of a struct or a number, which is then as it was. With
+ * BSONRAW_UNCHECKED defined, before the header is included, a name is that of the exported call.
+ */
+#define BSONRAW_LACKS(pointer, len) (!(pointer) && (len) != 0)
+
+BSONRAW_LOCAL const uint8_t *bsonraw_some_bytes(const uint8_t *bytes) {
+    static const uint8_t none[1] = {0};
+    return bytes ? bytes : none;
+}
+
+BSONRAW_LOCAL uint8_t *bsonraw_some_room(uint8_t *room) {
+    static uint8_t none[1];
+    return room ? room : none;
+}
+
+BSONRAW_LOCAL uint64_t *bsonraw_some_path(uint64_t *path) {
+    static uint64_t none[1];
+    return path ? path : none;
+}
+
+#ifndef BSONRAW_UNCHECKED
+BSONRAW_USE BSONRAW_INLINE int32_t bsonraw_checked_iter_init(struct bsonraw_iter *iter, const uint8_t *bytes, size_t len) {
+    if (!iter || BSONRAW_LACKS(bytes, len)) return BSONRAW_NULL;
+    return bsonraw_iter_init(iter, bsonraw_some_bytes(bytes), len);
+}
+#define bsonraw_iter_init bsonraw_checked_iter_init
+
+BSONRAW_USE BSONRAW_INLINE int32_t bsonraw_checked_iter_next(struct bsonraw_iter *iter, const uint8_t *bytes, size_t len) {
+    if (!iter || BSONRAW_LACKS(bytes, len)) return BSONRAW_NULL;
+    return bsonraw_iter_next(iter, bsonraw_some_bytes(bytes), len);
+}
+#define bsonraw_iter_next bsonraw_checked_iter_next
+
+BSONRAW_USE BSONRAW_INLINE int32_t bsonraw_checked_iter_recurse(const struct bsonraw_iter *iter, const uint8_t *bytes, size_t len,
+                                                                struct bsonraw_iter *child) {
+    if (!iter || BSONRAW_LACKS(bytes, len) || !child) return BSONRAW_NULL;
+    return bsonraw_iter_recurse(iter, bsonraw_some_bytes(bytes), len, child);
+}
+#define bsonraw_iter_recurse bsonraw_checked_iter_recurse
+
+BSONRAW_USE BSONRAW_INLINE int32_t bsonraw_checked_iter_init_at(struct bsonraw_iter *iter, const uint8_t *bytes, size_t len,
+                                                                uint32_t document_at, uint32_t document_len) {
+    if (!iter || BSONRAW_LACKS(bytes, len)) return BSONRAW_NULL;
+    return bsonraw_iter_init_at(iter, bsonraw_some_bytes(bytes), len, document_at, document_len);
+}
+#define bsonraw_iter_init_at bsonraw_checked_iter_init_at
+
+BSONRAW_USE BSONRAW_INLINE int32_t bsonraw_checked_iter_find(struct bsonraw_iter *iter, const uint8_t *bytes, size_t len,
+                                                             const uint8_t *key, size_t key_len) {
+    if (!iter || BSONRAW_LACKS(bytes, len) || BSONRAW_LACKS(key, key_len)) return BSONRAW_NULL;
+    return bsonraw_iter_find(iter, bsonraw_some_bytes(bytes), len, bsonraw_some_bytes(key), key_len);
+}
+#define bsonraw_iter_find bsonraw_checked_iter_find
+
+BSONRAW_USE BSONRAW_INLINE int32_t bsonraw_checked_iter_init_find(struct bsonraw_iter *iter, const uint8_t *bytes, size_t len,
+                                                                  const uint8_t *key, size_t key_len) {
+    if (!iter || BSONRAW_LACKS(bytes, len) || BSONRAW_LACKS(key, key_len)) return BSONRAW_NULL;
+    return bsonraw_iter_init_find(iter, bsonraw_some_bytes(bytes), len, bsonraw_some_bytes(key), key_len);
+}
+#define bsonraw_iter_init_find bsonraw_checked_iter_init_find
+
+BSONRAW_USE BSONRAW_INLINE int32_t bsonraw_checked_iter_find_descendant(struct bsonraw_iter *iter, const uint8_t *bytes, size_t len,
+                                                                        const uint8_t *path, size_t path_len, uint8_t separator) {
+    if (!iter || BSONRAW_LACKS(bytes, len) || BSONRAW_LACKS(path, path_len)) return BSONRAW_NULL;
+    return bsonraw_iter_find_descendant(iter, bsonraw_some_bytes(bytes), len, bsonraw_some_bytes(path), path_len, separator);
+}
+#define bsonraw_iter_find_descendant bsonraw_checked_iter_find_descendant
+
+BSONRAW_USE BSONRAW_INLINE int32_t bsonraw_checked_iter_next_many(struct bsonraw_iter *iter, const uint8_t *bytes, size_t len,
+                                                                  struct bsonraw_entry *entries, size_t room, uint64_t *count) {
+    static struct bsonraw_entry none;
+    if (!iter || BSONRAW_LACKS(bytes, len) || BSONRAW_LACKS(entries, room) || !count) return BSONRAW_NULL;
+    return bsonraw_iter_next_many(iter, bsonraw_some_bytes(bytes), len, entries ? entries : &none, room, count);
+}
+#define bsonraw_iter_next_many bsonraw_checked_iter_next_many
+#endif
 
 /* ---- values ----------------------------------------------------------------------------------------------------------
  *
@@ -306,23 +422,37 @@ struct bsonraw_value {
 BSONRAW_USE int32_t bsonraw_iter_value(const struct bsonraw_iter *iter, const uint8_t *bytes, size_t len,
                                        struct bsonraw_value *value);
 
+#ifndef BSONRAW_UNCHECKED
+BSONRAW_USE BSONRAW_INLINE int32_t bsonraw_checked_iter_value(const struct bsonraw_iter *iter, const uint8_t *bytes, size_t len,
+                                                              struct bsonraw_value *value) {
+    if (!iter || BSONRAW_LACKS(bytes, len) || !value) return BSONRAW_NULL;
+    return bsonraw_iter_value(iter, bsonraw_some_bytes(bytes), len, value);
+}
+#define bsonraw_iter_value bsonraw_checked_iter_value
+#endif
+
 /* The value where its kind is the one that is asked for, in place of all of struct bsonraw_value. BSONRAW_OTHER_KIND where
  * the cursor's tag or the value's kind is another, else BSONRAW_FAULT and BSONRAW_BAD_OFFSET as bsonraw_iter_value; what is
- * written then is 0, and of a part the offset is the length of the bytes.
+ * written then is 0, a pointer NULL, and an offset the length of the bytes.
  *
  *     struct bsonraw_iter it;
  *     int32_t born;
  *     if (bsonraw_iter_init_find(&it, bytes, len, BSONRAW_KEY("born")) == BSONRAW_OK &&
  *         bsonraw_iter_int32(&it, bytes, len, &born) == BSONRAW_OK)
- *         printf("%ld\n", (long)born);
+ *         printf("%d\n", born);
  */
 BSONRAW_USE BSONRAW_INLINE int32_t bsonraw_iter_value_of(const struct bsonraw_iter *iter, const uint8_t *bytes, size_t len,
                                                          uint32_t tag, struct bsonraw_value *value) {
-    struct bsonraw_iter none = *iter;
+    static const struct bsonraw_value nothing = {0, 0, 0, 0, 0, 0, 0, 0, 0, 0, {0, 0, 0, 0, 0}};
+    struct bsonraw_iter none;
+    if (!value) return BSONRAW_NULL;
+    *value = nothing;
+    if (!iter || BSONRAW_LACKS(bytes, len)) return BSONRAW_NULL;
     if (iter->tag == tag) {
         int32_t status = bsonraw_iter_value(iter, bytes, len, value);
         if (status != BSONRAW_OK || value->tag == tag) return status;
     }
+    none = *iter;
     none.key_at = 0; /* the cursor is at no element, so that value is none */
     (void)!bsonraw_iter_value(&none, bytes, len, value);
     return BSONRAW_OTHER_KIND;
@@ -332,6 +462,7 @@ BSONRAW_USE BSONRAW_INLINE int32_t bsonraw_iter_int32(const struct bsonraw_iter 
                                                       int32_t *number) {
     struct bsonraw_value value;
     int32_t status = bsonraw_iter_value_of(iter, bytes, len, BSONRAW_TAG_INT32, &value);
+    if (!number) return BSONRAW_NULL;
     *number = BSONRAW_INT32(value.integer);
     return status;
 }
@@ -340,6 +471,7 @@ BSONRAW_USE BSONRAW_INLINE int32_t bsonraw_iter_int64(const struct bsonraw_iter 
                                                       int64_t *number) {
     struct bsonraw_value value;
     int32_t status = bsonraw_iter_value_of(iter, bytes, len, BSONRAW_TAG_INT64, &value);
+    if (!number) return BSONRAW_NULL;
     *number = value.integer;
     return status;
 }
@@ -349,6 +481,7 @@ BSONRAW_USE BSONRAW_INLINE int32_t bsonraw_iter_date_time(const struct bsonraw_i
                                                           int64_t *millis) {
     struct bsonraw_value value;
     int32_t status = bsonraw_iter_value_of(iter, bytes, len, BSONRAW_TAG_DATETIME, &value);
+    if (!millis) return BSONRAW_NULL;
     *millis = value.integer;
     return status;
 }
@@ -358,6 +491,7 @@ BSONRAW_USE BSONRAW_INLINE int32_t bsonraw_iter_bool(const struct bsonraw_iter *
                                                      int32_t *is_true) {
     struct bsonraw_value value;
     int32_t status = bsonraw_iter_value_of(iter, bytes, len, BSONRAW_TAG_BOOLEAN, &value);
+    if (!is_true) return BSONRAW_NULL;
     *is_true = BSONRAW_INT32(value.integer);
     return status;
 }
@@ -370,6 +504,7 @@ BSONRAW_USE BSONRAW_INLINE int32_t bsonraw_iter_double(const struct bsonraw_iter
         double number;
     } same;
     int32_t status = bsonraw_iter_value_of(iter, bytes, len, BSONRAW_TAG_DOUBLE, &value);
+    if (!number) return BSONRAW_NULL;
     same.bits = value.bits;
     *number = same.number;
     return status;
@@ -379,6 +514,7 @@ BSONRAW_USE BSONRAW_INLINE int32_t bsonraw_iter_timestamp(const struct bsonraw_i
                                                           uint32_t *time, uint32_t *increment) {
     struct bsonraw_value value;
     int32_t status = bsonraw_iter_value_of(iter, bytes, len, BSONRAW_TAG_TIMESTAMP, &value);
+    if (!time || !increment) return BSONRAW_NULL;
     *time = value.time;
     *increment = value.increment;
     return status;
@@ -388,8 +524,9 @@ BSONRAW_USE BSONRAW_INLINE int32_t bsonraw_iter_timestamp(const struct bsonraw_i
 BSONRAW_USE BSONRAW_INLINE int32_t bsonraw_iter_as_int64(const struct bsonraw_iter *iter, const uint8_t *bytes, size_t len,
                                                          int64_t *number) {
     struct bsonraw_value value;
-    int32_t status = bsonraw_iter_value_of(iter, bytes, len,
-                                           iter->tag == BSONRAW_TAG_INT32 ? BSONRAW_TAG_INT32 : BSONRAW_TAG_INT64, &value);
+    int32_t status = bsonraw_iter_value_of(
+        iter, bytes, len, iter && iter->tag == BSONRAW_TAG_INT32 ? BSONRAW_TAG_INT32 : BSONRAW_TAG_INT64, &value);
+    if (!number) return BSONRAW_NULL;
     *number = value.integer;
     return status;
 }
@@ -400,6 +537,7 @@ BSONRAW_USE BSONRAW_INLINE int32_t bsonraw_iter_as_double(const struct bsonraw_i
     int64_t whole;
     int32_t status = bsonraw_iter_as_int64(iter, bytes, len, &whole);
     if (status == BSONRAW_OTHER_KIND) return bsonraw_iter_double(iter, bytes, len, number);
+    if (!number) return BSONRAW_NULL;
     *number = BSONRAW_DOUBLE(whole);
     return status;
 }
@@ -409,77 +547,124 @@ BSONRAW_USE BSONRAW_INLINE int32_t bsonraw_iter_text_of(const struct bsonraw_ite
                                                         uint32_t tag, uint32_t *text_at, uint32_t *text_len) {
     struct bsonraw_value value;
     int32_t status = bsonraw_iter_value_of(iter, bytes, len, tag, &value);
+    if (!text_at || !text_len) return BSONRAW_NULL;
     *text_at = value.text_at;
     *text_len = value.text_len;
     return status;
 }
 
+/* The same as a pointer into the bytes, and a length; with any status but BSONRAW_OK NULL and 0. */
+BSONRAW_USE BSONRAW_INLINE int32_t bsonraw_iter_bytes_of(const struct bsonraw_iter *iter, const uint8_t *bytes, size_t len,
+                                                         uint32_t tag, const uint8_t **part, size_t *part_len) {
+    struct bsonraw_value value;
+    int32_t status = bsonraw_iter_value_of(iter, bytes, len, tag, &value);
+    if (!part || !part_len) return BSONRAW_NULL;
+    *part = status == BSONRAW_OK ? bytes + value.text_at : BSONRAW_NIL;
+    *part_len = value.text_len;
+    return status;
+}
+
+/* A 0 is behind the text, and may be in it. */
 BSONRAW_USE BSONRAW_INLINE int32_t bsonraw_iter_utf8(const struct bsonraw_iter *iter, const uint8_t *bytes, size_t len,
-                                                     uint32_t *text_at, uint32_t *text_len) {
-    return bsonraw_iter_text_of(iter, bytes, len, BSONRAW_TAG_STRING, text_at, text_len);
+                                                     const char **text, size_t *text_len) {
+    const uint8_t *part = BSONRAW_NIL;
+    int32_t status = bsonraw_iter_bytes_of(iter, bytes, len, BSONRAW_TAG_STRING, &part, text_len);
+    if (!text) return BSONRAW_NULL;
+    *text = BSONRAW_CHARS(part);
+    return status;
 }
 
 BSONRAW_USE BSONRAW_INLINE int32_t bsonraw_iter_code(const struct bsonraw_iter *iter, const uint8_t *bytes, size_t len,
-                                                     uint32_t *code_at, uint32_t *code_len) {
-    return bsonraw_iter_text_of(iter, bytes, len, BSONRAW_TAG_JAVASCRIPT, code_at, code_len);
+                                                     const char **code, size_t *code_len) {
+    const uint8_t *part = BSONRAW_NIL;
+    int32_t status = bsonraw_iter_bytes_of(iter, bytes, len, BSONRAW_TAG_JAVASCRIPT, &part, code_len);
+    if (!code) return BSONRAW_NULL;
+    *code = BSONRAW_CHARS(part);
+    return status;
+}
+
+BSONRAW_USE BSONRAW_INLINE int32_t bsonraw_iter_symbol(const struct bsonraw_iter *iter, const uint8_t *bytes, size_t len,
+                                                       const char **symbol, size_t *symbol_len) {
+    const uint8_t *part = BSONRAW_NIL;
+    int32_t status = bsonraw_iter_bytes_of(iter, bytes, len, BSONRAW_TAG_SYMBOL, &part, symbol_len);
+    if (!symbol) return BSONRAW_NULL;
+    *symbol = BSONRAW_CHARS(part);
+    return status;
+}
+
+BSONRAW_USE BSONRAW_INLINE int32_t bsonraw_iter_document(const struct bsonraw_iter *iter, const uint8_t *bytes, size_t len,
+                                                         const uint8_t **document, size_t *document_len) {
+    return bsonraw_iter_bytes_of(iter, bytes, len, BSONRAW_TAG_DOCUMENT, document, document_len);
+}
+
+BSONRAW_USE BSONRAW_INLINE int32_t bsonraw_iter_array(const struct bsonraw_iter *iter, const uint8_t *bytes, size_t len,
+                                                      const uint8_t **array, size_t *array_len) {
+    return bsonraw_iter_bytes_of(iter, bytes, len, BSONRAW_TAG_ARRAY, array, array_len);
 }
 
 /* The twelve bytes of an ObjectId. */
 BSONRAW_USE BSONRAW_INLINE int32_t bsonraw_iter_oid(const struct bsonraw_iter *iter, const uint8_t *bytes, size_t len,
-                                                    uint32_t *id_at, uint32_t *id_len) {
-    return bsonraw_iter_text_of(iter, bytes, len, BSONRAW_TAG_OBJECT_ID, id_at, id_len);
+                                                    const uint8_t **id) {
+    size_t id_len;
+    return bsonraw_iter_bytes_of(iter, bytes, len, BSONRAW_TAG_OBJECT_ID, id, &id_len);
 }
 
 /* The sixteen bytes of a Decimal128. */
 BSONRAW_USE BSONRAW_INLINE int32_t bsonraw_iter_decimal128(const struct bsonraw_iter *iter, const uint8_t *bytes, size_t len,
-                                                           uint32_t *decimal_at, uint32_t *decimal_len) {
-    return bsonraw_iter_text_of(iter, bytes, len, BSONRAW_TAG_DECIMAL128, decimal_at, decimal_len);
+                                                           const uint8_t **decimal) {
+    size_t decimal_len;
+    return bsonraw_iter_bytes_of(iter, bytes, len, BSONRAW_TAG_DECIMAL128, decimal, &decimal_len);
 }
 
 BSONRAW_USE BSONRAW_INLINE int32_t bsonraw_iter_binary(const struct bsonraw_iter *iter, const uint8_t *bytes, size_t len,
-                                                       uint32_t *subtype, uint32_t *data_at, uint32_t *data_len) {
+                                                       uint32_t *subtype, const uint8_t **data, size_t *data_len) {
     struct bsonraw_value value;
     int32_t status = bsonraw_iter_value_of(iter, bytes, len, BSONRAW_TAG_BINARY, &value);
+    if (!subtype || !data || !data_len) return BSONRAW_NULL;
     *subtype = value.subtype;
-    *data_at = value.text_at;
+    *data = status == BSONRAW_OK ? bytes + value.text_at : BSONRAW_NIL;
     *data_len = value.text_len;
     return status;
 }
 
+/* A 0 is behind both, and in none. */
 BSONRAW_USE BSONRAW_INLINE int32_t bsonraw_iter_regex(const struct bsonraw_iter *iter, const uint8_t *bytes, size_t len,
-                                                      uint32_t *pattern_at, uint32_t *pattern_len, uint32_t *options_at,
-                                                      uint32_t *options_len) {
+                                                      const char **pattern, const char **options) {
     struct bsonraw_value value;
     int32_t status = bsonraw_iter_value_of(iter, bytes, len, BSONRAW_TAG_REGEX, &value);
-    *pattern_at = value.text_at;
-    *pattern_len = value.text_len;
-    *options_at = value.more_at;
-    *options_len = value.more_len;
+    if (!pattern || !options) return BSONRAW_NULL;
+    *pattern = status == BSONRAW_OK ? BSONRAW_CHARS(bytes + value.text_at) : BSONRAW_NIL;
+    *options = status == BSONRAW_OK ? BSONRAW_CHARS(bytes + value.more_at) : BSONRAW_NIL;
     return status;
 }
 
 /* ---- building --------------------------------------------------------------------------------------------------------
  *
  * A builder puts a document into memory of the caller, which is its room. It keeps no pointer: each call is given the room
- * anew, and whatever the builder holds, nothing outside of the room is written. A call returns builder->status, and
- * bsonraw_append_begin level->status, which the builder takes over as the level is ended:
+ * anew, and whatever the builder holds, nothing outside of the room is written. struct bsonraw_buffer has a room of its own, which
+ * grows. A call returns builder->status, and bsonraw_append_begin level->status, which the builder takes over:
  *   - BSONRAW_OK: what was appended so far is in the room.
  *   - BSONRAW_SMALL_BUFFER: the room is too small. Later calls go on to count, so that in the end len says how many bytes
  *     are wanted. They do so with no room at all, too.
- *   - Anything else: the first call that was refused, and why. Later calls change nothing.
- * So one look at the end is enough. Refused are, in this order: a builder whose len is under begins + 4, as where it is all 0
+ *   - Anything else: the first call that was refused, and why. Later calls change nothing, and count is the number of the element
+ *     that was refused, from 0, in its level.
+ * So one look at the end is enough. Refused are, in this order: NULL with a length (BSONRAW_NULL); an append to a builder in which a
+ * level is open, its end, and the end of a level that isn't the one that is open in it, as one that was ended before (BSONRAW_MISUSE);
+ * a builder that was ended, or whose len is under begins + 4, as where it is all 0
  * since no call has begun it, and a cursor that is at no element (BSONRAW_BAD_OFFSET); a tag of no kind, and parts that aren't
  * those of the kind, as another length, or a boolean's byte over 1 (BSONRAW_OTHER_KIND), a text that isn't UTF-8, or a pattern
  * or options with a 0 (BSONRAW_FAULT), or bytes that are no document (BSONRAW_NO_DOCUMENT); a key with a 0, or that isn't UTF-8
- * (BSONRAW_FAULT); more than 2147483647 bytes (BSONRAW_TOO_LONG). In an array the keys are made, 0, 1, 2 and so on, and the key
- * that is given isn't looked at. Whether a key is there already isn't looked at either.
+ * (BSONRAW_FAULT); an element behind which its level couldn't be ended within 2147483647 bytes, or a count that is as much, as
+ * where it was changed (BSONRAW_TOO_LONG). As a level is ended, the final 0s of those around it aren't counted yet. In an array
+ * the keys are made, 0, 1, 2 and so on, and the key that is given isn't looked at. Whether a key is there already isn't looked
+ * at either.
  */
 struct bsonraw_builder {
     uint32_t len;    /* how many bytes are taken so far, or wanted; in the end, how many the document has */
     uint32_t begins; /* where the document or the array begins whose elements are appended */
     uint32_t count;  /* how many it has so far */
     uint32_t tag;    /* BSONRAW_TAG_DOCUMENT or BSONRAW_TAG_ARRAY */
-    int32_t status;  /* enum bsonraw_status */
+    int32_t status;  /* enum bsonraw_status; under 0 while a level is open in it: where that begins, negated */
 };
 
 /* What is given for a key in an array. */
@@ -494,11 +679,12 @@ struct bsonraw_builder {
  *     bsonraw_append_int32(&b, room, sizeof room, BSONRAW_KEY("born"), 1882);
  *     if (bsonraw_builder_end(&b, room, sizeof room) == BSONRAW_OK) fwrite(room, 1, b.len, stdout);
  */
-int32_t bsonraw_builder_begin(struct bsonraw_builder *builder, const uint8_t *room, size_t room_len);
+int32_t bsonraw_builder_begin(struct bsonraw_builder *builder, uint8_t *room, size_t room_len);
 BSONRAW_USE int32_t bsonraw_builder_end(struct bsonraw_builder *builder, uint8_t *room, size_t room_len);
 
 /* Begins a document or an array in another one, and ends it. Between the two its elements are appended to a builder of its
- * own, and none to the builder around it. One that is never ended isn't there. bsonraw_append_document_begin and
+ * own, and none to the builder around it. bsonraw_append_cancel takes back a level that is open, with all that is in it: the builder
+ * around it goes on as if it had never been begun, but for a status that the level has. bsonraw_append_document_begin and
  * bsonraw_append_array_begin give the tag.
  *
  *     uint8_t room[64];
@@ -545,12 +731,103 @@ int32_t bsonraw_append_iter(struct bsonraw_builder *builder, uint8_t *room, size
 int32_t bsonraw_append(struct bsonraw_builder *builder, uint8_t *room, size_t room_len, uint32_t tag, const uint8_t *key,
                        size_t key_len, const uint8_t *one, size_t one_len, const uint8_t *two, size_t two_len);
 
+/* The builder takes no more, for this reason, where it took more before. */
+BSONRAW_LOCAL int32_t bsonraw_refuse(struct bsonraw_builder *builder, int32_t status) {
+    if (builder->status <= BSONRAW_OK || builder->status == BSONRAW_SMALL_BUFFER) builder->status = status;
+    return builder->status;
+}
+
+/* Whether this level is the one that is open in the builder. */
+BSONRAW_LOCAL int bsonraw_is_open(const struct bsonraw_builder *builder, const struct bsonraw_builder *level) {
+    return builder->status < 0 && BSONRAW_UINT32(builder->status) == 0u - level->begins;
+}
+
+/* Takes back a level: see bsonraw_append_begin. */
+BSONRAW_INLINE int32_t bsonraw_append_cancel(struct bsonraw_builder *builder, struct bsonraw_builder *level) {
+    if (!builder) return BSONRAW_NULL;
+    if (!level) return bsonraw_refuse(builder, BSONRAW_NULL);
+    if (level->status < 0 || !bsonraw_is_open(builder, level)) return bsonraw_refuse(builder, BSONRAW_MISUSE);
+    builder->status = level->status;
+    level->begins = level->len;
+    return builder->status;
+}
+
+#ifndef BSONRAW_UNCHECKED
+BSONRAW_INLINE int32_t bsonraw_checked_builder_begin(struct bsonraw_builder *builder, uint8_t *room, size_t room_len) {
+    if (!builder) return BSONRAW_NULL;
+    (void)bsonraw_builder_begin(builder, bsonraw_some_room(room), room ? room_len : 0);
+    return BSONRAW_LACKS(room, room_len) ? bsonraw_refuse(builder, BSONRAW_NULL) : builder->status;
+}
+#define bsonraw_builder_begin bsonraw_checked_builder_begin
+
+/* A builder that is ended has no four bytes for its length, so that each later call is refused. */
+BSONRAW_USE BSONRAW_INLINE int32_t bsonraw_checked_builder_end(struct bsonraw_builder *builder, uint8_t *room, size_t room_len) {
+    int32_t status;
+    if (!builder) return BSONRAW_NULL;
+    if (BSONRAW_LACKS(room, room_len)) return bsonraw_refuse(builder, BSONRAW_NULL);
+    if (builder->status < 0) return bsonraw_refuse(builder, BSONRAW_MISUSE);
+    status = bsonraw_builder_end(builder, bsonraw_some_room(room), room_len);
+    if (status == BSONRAW_OK || status == BSONRAW_SMALL_BUFFER) builder->begins = builder->len;
+    return status;
+}
+#define bsonraw_builder_end bsonraw_checked_builder_end
+
+BSONRAW_INLINE int32_t bsonraw_checked_append_begin(struct bsonraw_builder *builder, uint8_t *room, size_t room_len, uint32_t tag,
+                                                    const uint8_t *key, size_t key_len, struct bsonraw_builder *level) {
+    int32_t status;
+    if (!builder) return BSONRAW_NULL;
+    if (!level) return bsonraw_refuse(builder, BSONRAW_NULL);
+    if (BSONRAW_LACKS(room, room_len) || BSONRAW_LACKS(key, key_len)) (void)bsonraw_refuse(builder, BSONRAW_NULL);
+    else if (builder->status < 0) (void)bsonraw_refuse(builder, BSONRAW_MISUSE);
+    status = bsonraw_append_begin(builder, bsonraw_some_room(room), room ? room_len : 0, tag, bsonraw_some_bytes(key), key ? key_len : 0, level);
+    if (status == BSONRAW_OK || status == BSONRAW_SMALL_BUFFER) builder->status = BSONRAW_INT32(0u - level->begins);
+    else builder->status = status;
+    return status;
+}
+#define bsonraw_append_begin bsonraw_checked_append_begin
+
+/* A level that is open in another one has no open level of its own. What it refused, its own builder says, too. */
+BSONRAW_INLINE int32_t bsonraw_checked_append_end(struct bsonraw_builder *builder, uint8_t *room, size_t room_len,
+                                                  struct bsonraw_builder *level) {
+    int32_t status;
+    if (!builder) return BSONRAW_NULL;
+    if (!level || BSONRAW_LACKS(room, room_len)) return bsonraw_refuse(builder, BSONRAW_NULL);
+    if (level->status < 0 || !bsonraw_is_open(builder, level)) return bsonraw_refuse(builder, BSONRAW_MISUSE);
+    builder->status = BSONRAW_OK;
+    status = bsonraw_append_end(builder, bsonraw_some_room(room), room_len, level);
+    level->begins = level->len;
+    return status;
+}
+#define bsonraw_append_end bsonraw_checked_append_end
+
+BSONRAW_INLINE int32_t bsonraw_checked_append_iter(struct bsonraw_builder *builder, uint8_t *room, size_t room_len,
+                                                   const struct bsonraw_iter *iter, const uint8_t *bytes, size_t len) {
+    if (!builder) return BSONRAW_NULL;
+    if (!iter || BSONRAW_LACKS(room, room_len) || BSONRAW_LACKS(bytes, len)) return bsonraw_refuse(builder, BSONRAW_NULL);
+    if (builder->status < 0) return bsonraw_refuse(builder, BSONRAW_MISUSE);
+    return bsonraw_append_iter(builder, bsonraw_some_room(room), room_len, iter, bsonraw_some_bytes(bytes), len);
+}
+#define bsonraw_append_iter bsonraw_checked_append_iter
+
+BSONRAW_INLINE int32_t bsonraw_checked_append(struct bsonraw_builder *builder, uint8_t *room, size_t room_len, uint32_t tag,
+                                              const uint8_t *key, size_t key_len, const uint8_t *one, size_t one_len,
+                                              const uint8_t *two, size_t two_len) {
+    if (!builder) return BSONRAW_NULL;
+    if (BSONRAW_LACKS(room, room_len) || BSONRAW_LACKS(key, key_len) || BSONRAW_LACKS(one, one_len) || BSONRAW_LACKS(two, two_len))
+        return bsonraw_refuse(builder, BSONRAW_NULL);
+    if (builder->status < 0) return bsonraw_refuse(builder, BSONRAW_MISUSE);
+    return bsonraw_append(builder, bsonraw_some_room(room), room_len, tag, bsonraw_some_bytes(key), key_len, bsonraw_some_bytes(one),
+                          one_len, bsonraw_some_bytes(two), two_len);
+}
+#define bsonraw_append bsonraw_checked_append
+#endif
+
 /* The bytes of a number, least first. */
 struct bsonraw_number {
     uint8_t bytes[8];
 };
 
-BSONRAW_INLINE struct bsonraw_number bsonraw_number_of(uint64_t number) {
+BSONRAW_LOCAL struct bsonraw_number bsonraw_number_of(uint64_t number) {
     struct bsonraw_number n;
     n.bytes[0] = BSONRAW_BYTE(number & 255);
     n.bytes[1] = BSONRAW_BYTE(number >> 8 & 255);
@@ -692,12 +969,12 @@ BSONRAW_INLINE int32_t bsonraw_append_code_with_scope(struct bsonraw_builder *bu
                           code, code_len, scope, scope_len);
 }
 
-BSONRAW_INLINE int32_t bsonraw_append_document_begin(const struct bsonraw_builder *builder, uint8_t *room, size_t room_len,
+BSONRAW_INLINE int32_t bsonraw_append_document_begin(struct bsonraw_builder *builder, uint8_t *room, size_t room_len,
                                                      const uint8_t *key, size_t key_len, struct bsonraw_builder *level) {
     return bsonraw_append_begin(builder, room, room_len, BSONRAW_TAG_DOCUMENT, key, key_len, level);
 }
 
-BSONRAW_INLINE int32_t bsonraw_append_array_begin(const struct bsonraw_builder *builder, uint8_t *room, size_t room_len,
+BSONRAW_INLINE int32_t bsonraw_append_array_begin(struct bsonraw_builder *builder, uint8_t *room, size_t room_len,
                                                   const uint8_t *key, size_t key_len, struct bsonraw_builder *level) {
     return bsonraw_append_begin(builder, room, room_len, BSONRAW_TAG_ARRAY, key, key_len, level);
 }
@@ -719,11 +996,66 @@ struct bsonraw_reader {
  * len.
  *
  *     struct bsonraw_reader reader = {0, 0, 0, {0, 0, 0, 0, 0}};
- *     int32_t status;
- *     while ((status = bsonraw_reader_read(&reader, bytes, len)) != BSONRAW_NONE)
- *         if (status == BSONRAW_OK) fwrite(bytes + reader.document_at, 1, (size_t)reader.document_len, stdout);
+ *     int32_t status = BSONRAW_OK;
+ *     while (status == BSONRAW_OK || status == BSONRAW_NO_DOCUMENT) {
+ *         status = bsonraw_reader_read(&reader, bytes, len);
+ *         if (status == BSONRAW_OK) fwrite(bytes + reader.document_at, 1, reader.document_len, stdout);
+ *     }
  */
 BSONRAW_USE int32_t bsonraw_reader_read(struct bsonraw_reader *reader, const uint8_t *bytes, size_t len);
+
+#ifndef BSONRAW_UNCHECKED
+BSONRAW_USE BSONRAW_INLINE int32_t bsonraw_checked_reader_read(struct bsonraw_reader *reader, const uint8_t *bytes, size_t len) {
+    if (!reader || BSONRAW_LACKS(bytes, len)) return BSONRAW_NULL;
+    return bsonraw_reader_read(reader, bsonraw_some_bytes(bytes), len);
+}
+#define bsonraw_reader_read bsonraw_checked_reader_read
+#endif
+
+/* What the searches in a buffer cost so far, and what the last one found. All 0 is one that begins. */
+struct bsonraw_resync {
+    uint64_t spent;    /* how many bytes they were charged, at most eight for each byte up to reach */
+    uint64_t reach;    /* the furthest end of what they looked into */
+    uint32_t believed; /* 1 where the length of the damaged document is believed */
+    uint32_t left_out; /* 1 where a place wasn't looked at, which would have taken spent over that */
+};
+
+/* Goes on behind damage, which is the document that the reader is at, or the place of its last fault where it is at none:
+ * BSONRAW_OK, and next is where documents go on. They do where one without damage, of at most max_bytes bytes and max_depth levels,
+ * begins and another is behind it, or the end of the bytes; and at the end. Where the damaged document says a length that it may
+ * have, and so many bytes are there, next is behind these. But next is the first place behind the damage's first byte where documents
+ * go on, if no length is there, or if they go on inside the length and the first of them reaches its end, or if they go on inside
+ * and neither a document without damage nor the end of the bytes is behind it. Where left_out is 1, that is so of the places that
+ * were looked at. Nothing else in reader is changed.
+ * Nothing at all is changed with BSONRAW_BAD_OFFSET, where the damage would be at len or behind, or the searches can't have cost so
+ * much in these bytes; BSONRAW_TOO_MANY_BYTES, where len is over 2 to the power of 60; and BSONRAW_NO_MEMORY.
+ *
+ *     struct bsonraw_reader reader = {0, 0, 0, {0, 0, 0, 0, 0}};
+ *     struct bsonraw_resync resync = {0, 0, 0, 0};
+ *     struct bsonraw_report r;
+ *     uint64_t path[1];
+ *     int32_t status = BSONRAW_OK;
+ *     while (status == BSONRAW_OK) {
+ *         status = bsonraw_reader_read(&reader, bytes, len);
+ *         const uint8_t *document = bytes + reader.document_at;
+ *         if (status == BSONRAW_OK &&
+ *             bsonraw_first_fault(document, reader.document_len, 1 << 24, 500, &r, path, 1) == BSONRAW_OK)
+ *             fwrite(document, 1, reader.document_len, stdout);
+ *         else if (status == BSONRAW_OK || status == BSONRAW_NO_DOCUMENT)
+ *             status = bsonraw_reader_resync(&reader, bytes, len, 1 << 24, 500, &resync);
+ *     }
+ */
+BSONRAW_USE int32_t bsonraw_reader_resync(struct bsonraw_reader *reader, const uint8_t *bytes, size_t len, size_t max_bytes,
+                                          size_t max_depth, struct bsonraw_resync *resync);
+
+#ifndef BSONRAW_UNCHECKED
+BSONRAW_USE BSONRAW_INLINE int32_t bsonraw_checked_reader_resync(struct bsonraw_reader *reader, const uint8_t *bytes, size_t len,
+                                                                 size_t max_bytes, size_t max_depth, struct bsonraw_resync *resync) {
+    if (!reader || !resync || BSONRAW_LACKS(bytes, len)) return BSONRAW_NULL;
+    return bsonraw_reader_resync(reader, bsonraw_some_bytes(bytes), len, max_bytes, max_depth, resync);
+}
+#define bsonraw_reader_resync bsonraw_checked_reader_resync
+#endif
 
 /* ---- whole documents -------------------------------------------------------------------------------------------------
  *
@@ -731,7 +1063,10 @@ BSONRAW_USE int32_t bsonraw_reader_read(struct bsonraw_reader *reader, const uin
  * the first of these: BSONRAW_NO_DOCUMENT, and error says why; BSONRAW_TOO_MANY_BYTES, and no element is read; then what comes
  * first, depth first in byte order, of BSONRAW_FAULT (bsonraw_check: BSONRAW_BREACH) and of BSONRAW_TOO_DEEP, where a level is
  * deeper than max_depth, and nothing inside it is read; then what each call says. Where memory is refused, BSONRAW_NO_MEMORY
- * comes in place of any but the first two, and with a max_depth of 0 in place of none. bsonraw_flatten takes none.
+ * comes in place of any but the first two, and with a max_depth of 0 in place of none. bsonraw_flatten, bsonraw_first_fault and
+ * bsonraw_check take memory for the levels that are open and what is kept of them; bsonraw_canonical and bsonraw_json take it for all of
+ * the form or the text, too, also where the room is smaller. Indented, each line of a text has two bytes for each level that it is in, so
+ * that max_depth bounds the text of a document as well.
  *
  * Each call fills a report, and what isn't said here is 0. Of a fault, a breach, and a level that is too deep, it says the
  * place: error.offset is where the element begins that is at fault or holds the level, or of a stop where the next element
@@ -763,14 +1098,14 @@ struct bsonraw_token {
  * scope has the elements of its scope inside, one level deeper. What a token says needs no second look: texts are UTF-8,
  * numbers have their bytes, a boolean is 0 or 1, the inner length of a binary of subtype 2 is right, a scope is a document.
  * BSONRAW_SMALL_BUFFER where the document has count tokens and the room only the first of them. With BSONRAW_FAULT,
- * BSONRAW_TOO_DEEP and BSONRAW_TOO_MANY_BYTES what is in the room isn't said. Each level takes some 520 bytes of stack.
+ * BSONRAW_TOO_DEEP, BSONRAW_TOO_MANY_BYTES and BSONRAW_NO_MEMORY what is in the room isn't said.
  *
  *     struct bsonraw_token tokens[256];
  *     struct bsonraw_report r;
  *     uint64_t path[16], i;
  *     if (bsonraw_flatten(bytes, len, 1 << 20, 100, tokens, 256, &r, path, 16) == BSONRAW_OK)
  *         for (i = 0; i < r.count; i++)
- *             printf("%*s%.*s\n", (int)tokens[i].depth, "", BSONRAW_TEXT(bytes, tokens[i].key_at, tokens[i].key_len));
+ *             printf("%*s%.*s\n", BSONRAW_INT32(tokens[i].depth), "", BSONRAW_TEXT(bytes, tokens[i].key_at, tokens[i].key_len));
  */
 BSONRAW_USE int32_t bsonraw_flatten(const uint8_t *bytes, size_t len, size_t max_bytes, size_t max_depth,
                                     struct bsonraw_token *tokens, size_t room, struct bsonraw_report *report, uint64_t *path,
@@ -781,7 +1116,7 @@ BSONRAW_USE int32_t bsonraw_flatten(const uint8_t *bytes, size_t len, size_t max
  *     struct bsonraw_report r;
  *     uint64_t path[16];
  *     if (bsonraw_first_fault(bytes, len, 1 << 20, 100, &r, path, 16) == BSONRAW_FAULT)
- *         printf("reason %u at %lu\n", (unsigned)r.error.reason, (unsigned long)r.error.offset);
+ *         printf("reason %u at %lu\n", r.error.reason, r.error.offset);
  */
 BSONRAW_USE int32_t bsonraw_first_fault(const uint8_t *bytes, size_t len, size_t max_bytes, size_t max_depth,
                                         struct bsonraw_report *report, uint64_t *path, size_t path_room);
@@ -793,7 +1128,7 @@ BSONRAW_USE int32_t bsonraw_first_fault(const uint8_t *bytes, size_t len, size_t
  *     struct bsonraw_report r;
  *     uint64_t path[16], level;
  *     if (bsonraw_check(bytes, len, 1 << 20, 16, &r, path, 16) == BSONRAW_BREACH)
- *         for (level = 0; level < r.path_len; level++) printf("%lu ", (unsigned long)path[level]);
+ *         for (level = 0; level < r.path_len; level++) printf("%lu ", path[level]);
  */
 BSONRAW_USE int32_t bsonraw_check(const uint8_t *bytes, size_t len, size_t max_bytes, size_t max_depth,
                                   struct bsonraw_report *report, uint64_t *path, size_t path_room);
@@ -805,36 +1140,294 @@ BSONRAW_USE int32_t bsonraw_check(const uint8_t *bytes, size_t len, size_t max_b
  *     struct bsonraw_report r;
  *     uint64_t path[16];
  *     if (bsonraw_canonical(bytes, len, 1 << 20, 100, form, sizeof form, &r, path, 16) == BSONRAW_OK)
- *         fwrite(form, 1, (size_t)r.count, stdout);
+ *         fwrite(form, 1, r.count, stdout);
  *
  * A document has at most 2147483647 bytes, so SIZE_MAX for max_bytes is no limit; 0 refuses every document. Into memory of the
  * right size, in two calls, where the first one asks for the length:
  *
- *     uint8_t none = 0, *form = NULL;
+ *     uint8_t *form = NULL;
  *     struct bsonraw_report r;
- *     uint64_t path[16];
- *     if (bsonraw_canonical(bytes, len, SIZE_MAX, 100, &none, 0, &r, path, 16) == BSONRAW_SMALL_BUFFER)
- *         form = malloc((size_t)r.count);
- *     if (form != NULL && bsonraw_canonical(bytes, len, SIZE_MAX, 100, form, (size_t)r.count, &r, path, 16) == BSONRAW_OK)
- *         fwrite(form, 1, (size_t)r.count, stdout);
+ *     if (bsonraw_canonical(bytes, len, SIZE_MAX, 100, NULL, 0, &r, NULL, 0) == BSONRAW_SMALL_BUFFER)
+ *         form = malloc(r.count);
+ *     if (form && bsonraw_canonical(bytes, len, SIZE_MAX, 100, form, r.count, &r, NULL, 0) == BSONRAW_OK)
+ *         fwrite(form, 1, r.count, stdout);
  *     free(form);
  */
 BSONRAW_USE int32_t bsonraw_canonical(const uint8_t *bytes, size_t len, size_t max_bytes, size_t max_depth, uint8_t *form,
                                       size_t form_len, struct bsonraw_report *report, uint64_t *path, size_t path_room);
 
 /* The document as MongoDB's Extended JSON v2, relaxed or, where canonical isn't 0, canonical; on one line or, where indented isn't
- * 0, with a line for each member, indented by two spaces a level. Each element is printed as it is: repeated keys in order, an
+ * 0, with a line for each member, indented by two spaces a level, but none within a wrapper, as {"$oid": ..}. Each element is printed as it is: repeated keys in order, an
  * array without its keys. BSONRAW_OK, and the text is at the front of text, with a 0 behind it; count is its bytes without that 0.
  * BSONRAW_SMALL_BUFFER where text_len is less than 1 + count. With any status but BSONRAW_OK nothing is written to text.
+ * A canonical text says all of a canonical document but for the bits of a NaN, a Decimal128 that isn't canonical, and a nested
+ * document with a key as $oid or $date, which is printed as such a value is.
  *
- *     char text[4096];
+ *     uint8_t text[4096];
  *     struct bsonraw_report r;
  *     uint64_t path[16];
- *     if (bsonraw_json(bytes, len, 1 << 20, 100, 0, 0, (uint8_t *)text, sizeof text, &r, path, 16) == BSONRAW_OK) puts(text);
+ *     if (bsonraw_json(bytes, len, 1 << 20, 100, 0, 0, text, sizeof text, &r, path, 16) == BSONRAW_OK)
+ *         fwrite(text, 1, r.count, stdout);
  */
 BSONRAW_USE int32_t bsonraw_json(const uint8_t *bytes, size_t len, size_t max_bytes, size_t max_depth, uint32_t canonical,
                                  uint32_t indented, uint8_t *text, size_t text_len, struct bsonraw_report *report,
                                  uint64_t *path, size_t path_room);
+
+#ifndef BSONRAW_UNCHECKED
+BSONRAW_USE BSONRAW_INLINE int32_t bsonraw_checked_flatten(const uint8_t *bytes, size_t len, size_t max_bytes, size_t max_depth,
+                                                           struct bsonraw_token *tokens, size_t room, struct bsonraw_report *report,
+                                                           uint64_t *path, size_t path_room) {
+    static struct bsonraw_token none;
+    if (BSONRAW_LACKS(bytes, len) || BSONRAW_LACKS(tokens, room) || !report || BSONRAW_LACKS(path, path_room)) return BSONRAW_NULL;
+    return bsonraw_flatten(bsonraw_some_bytes(bytes), len, max_bytes, max_depth, tokens ? tokens : &none, room, report,
+                           bsonraw_some_path(path), path_room);
+}
+#define bsonraw_flatten bsonraw_checked_flatten
+
+BSONRAW_USE BSONRAW_INLINE int32_t bsonraw_checked_first_fault(const uint8_t *bytes, size_t len, size_t max_bytes, size_t max_depth,
+                                                               struct bsonraw_report *report, uint64_t *path, size_t path_room) {
+    if (BSONRAW_LACKS(bytes, len) || !report || BSONRAW_LACKS(path, path_room)) return BSONRAW_NULL;
+    return bsonraw_first_fault(bsonraw_some_bytes(bytes), len, max_bytes, max_depth, report, bsonraw_some_path(path), path_room);
+}
+#define bsonraw_first_fault bsonraw_checked_first_fault
+
+BSONRAW_USE BSONRAW_INLINE int32_t bsonraw_checked_check(const uint8_t *bytes, size_t len, size_t max_bytes, size_t max_depth,
+                                                         struct bsonraw_report *report, uint64_t *path, size_t path_room) {
+    if (BSONRAW_LACKS(bytes, len) || !report || BSONRAW_LACKS(path, path_room)) return BSONRAW_NULL;
+    return bsonraw_check(bsonraw_some_bytes(bytes), len, max_bytes, max_depth, report, bsonraw_some_path(path), path_room);
+}
+#define bsonraw_check bsonraw_checked_check
+
+BSONRAW_USE BSONRAW_INLINE int32_t bsonraw_checked_canonical(const uint8_t *bytes, size_t len, size_t max_bytes, size_t max_depth,
+                                                             uint8_t *form, size_t form_len, struct bsonraw_report *report,
+                                                             uint64_t *path, size_t path_room) {
+    if (BSONRAW_LACKS(bytes, len) || BSONRAW_LACKS(form, form_len) || !report || BSONRAW_LACKS(path, path_room)) return BSONRAW_NULL;
+    return bsonraw_canonical(bsonraw_some_bytes(bytes), len, max_bytes, max_depth, bsonraw_some_room(form), form_len, report,
+                             bsonraw_some_path(path), path_room);
+}
+#define bsonraw_canonical bsonraw_checked_canonical
+
+BSONRAW_USE BSONRAW_INLINE int32_t bsonraw_checked_json(const uint8_t *bytes, size_t len, size_t max_bytes, size_t max_depth,
+                                                        uint32_t canonical, uint32_t indented, uint8_t *text, size_t text_len,
+                                                        struct bsonraw_report *report, uint64_t *path, size_t path_room) {
+    if (BSONRAW_LACKS(bytes, len) || BSONRAW_LACKS(text, text_len) || !report || BSONRAW_LACKS(path, path_room)) return BSONRAW_NULL;
+    return bsonraw_json(bsonraw_some_bytes(bytes), len, max_bytes, max_depth, canonical, indented, bsonraw_some_room(text), text_len,
+                        report, bsonraw_some_path(path), path_room);
+}
+#define bsonraw_json bsonraw_checked_json
+#endif
+
+/* ---- daily use -------------------------------------------------------------------------------------------------------
+ *
+ * What follows is written in C over the calls above, and tested, not proved; elements of the usual kinds with ASCII keys and texts are
+ * looked through by bsonraw_find_many, and put by a buffer, without these calls. Keys, paths and texts are const char *, which a 0
+ * ends; the steps of a path have a dot between them, as "authors.0.name" (see bsonraw_iter_find_descendant).
+ */
+
+/* Texts: what a status, a reason, a cause or a tag says. They are never freed, and never NULL. */
+const char *bsonraw_status_text(int32_t status);
+const char *bsonraw_reason_text(uint32_t reason);
+const char *bsonraw_cause_text(uint32_t cause);
+const char *bsonraw_tag_text(uint32_t tag);
+
+/* What is wrong by an error: the text of its reason, or that a text isn't UTF-8. */
+const char *bsonraw_error_text(const struct bsonraw_error *error);
+
+/* The path of a report as a text, as bsonraw-dump prints it: for each level a slash, the number, and where there is a key a colon and
+ * the key in quotes, as in JSON: /1:"authors"/0:"0". As snprintf it puts as much as there is room for, and a 0 behind it, and returns
+ * how many bytes the text has without that 0; of no document it returns 0.
+ *
+ *     struct bsonraw_report r;
+ *     uint64_t path[16];
+ *     char text[256];
+ *     if (bsonraw_first_fault(bytes, len, 1 << 20, 16, &r, path, 16) == BSONRAW_FAULT) {
+ *         bsonraw_path_text(bytes, len, path, r.path_len, text, sizeof text);
+ *         printf("at %s, byte %lu: %s\n", text, r.error.offset, bsonraw_error_text(&r.error));
+ *     }
+ */
+size_t bsonraw_path_text(const uint8_t *bytes, size_t len, const uint64_t *path, size_t path_len, char *text, size_t room);
+
+/* The element at a path, and its value where it is of the kind that is asked for: BSONRAW_OK; BSONRAW_NO_DOCUMENT, BSONRAW_NONE,
+ * BSONRAW_FAULT and BSONRAW_OTHER_KIND as the calls of a cursor. What is written is then 0, and a pointer NULL. Pointers are into the
+ * bytes; a 0 is behind a text.
+ *
+ *     int32_t born;
+ *     const char *name;
+ *     size_t name_len;
+ *     if (bsonraw_get_int32(bytes, len, "born", &born) == BSONRAW_OK) printf("%d\n", born);
+ *     if (bsonraw_get_utf8(bytes, len, "authors.0.name", &name, &name_len) == BSONRAW_OK) puts(name);
+ */
+BSONRAW_USE int32_t bsonraw_get(const uint8_t *bytes, size_t len, const char *path, struct bsonraw_iter *iter);
+BSONRAW_USE int32_t bsonraw_get_value(const uint8_t *bytes, size_t len, const char *path, struct bsonraw_value *value);
+BSONRAW_USE int32_t bsonraw_get_int32(const uint8_t *bytes, size_t len, const char *path, int32_t *number);
+BSONRAW_USE int32_t bsonraw_get_int64(const uint8_t *bytes, size_t len, const char *path, int64_t *number);
+BSONRAW_USE int32_t bsonraw_get_double(const uint8_t *bytes, size_t len, const char *path, double *number);
+BSONRAW_USE int32_t bsonraw_get_as_int64(const uint8_t *bytes, size_t len, const char *path, int64_t *number);
+BSONRAW_USE int32_t bsonraw_get_as_double(const uint8_t *bytes, size_t len, const char *path, double *number);
+BSONRAW_USE int32_t bsonraw_get_bool(const uint8_t *bytes, size_t len, const char *path, int32_t *is_true);
+BSONRAW_USE int32_t bsonraw_get_date_time(const uint8_t *bytes, size_t len, const char *path, int64_t *millis);
+BSONRAW_USE int32_t bsonraw_get_utf8(const uint8_t *bytes, size_t len, const char *path, const char **text, size_t *text_len);
+BSONRAW_USE int32_t bsonraw_get_oid(const uint8_t *bytes, size_t len, const char *path, const uint8_t **id);
+BSONRAW_USE int32_t bsonraw_get_document(const uint8_t *bytes, size_t len, const char *path, const uint8_t **document,
+                                         size_t *document_len);
+BSONRAW_USE int32_t bsonraw_get_array(const uint8_t *bytes, size_t len, const char *path, const uint8_t **array, size_t *array_len);
+
+/* Several paths in one walk: each field gets the value and the status that bsonraw_get_value gives of its path. BSONRAW_OK where each
+ * has a value; else the status of the first that has none. BSONRAW_FIELD makes a field of a path; the same fields do for each
+ * document. A walk takes 16 fields.
+ *
+ *     struct bsonraw_field f[] = {BSONRAW_FIELD("name"), BSONRAW_FIELD("born")};
+ *     if (bsonraw_find_many(bytes, len, f, 2) == BSONRAW_OK)
+ *         printf("%.*s %ld\n", BSONRAW_TEXT(bytes, f[0].value.text_at, f[0].value.text_len), f[1].value.integer);
+ */
+struct bsonraw_field {
+    const char *path;
+    struct bsonraw_value value;
+    int32_t status;    /* enum bsonraw_status */
+    uint32_t level;    /* of the search, as the others: which level the step is looked for in */
+    uint32_t step;     /* where in the path the step begins */
+    uint32_t step_len;
+    uint64_t mark;     /* its first eight bytes */
+};
+
+#define BSONRAW_FIELD(path) {path, {0, 0, 0, 0, 0, 0, 0, 0, 0, 0, {0, 0, 0, 0, 0}}, 0, 0, 0, 0, 0}
+
+int32_t bsonraw_find_many(const uint8_t *bytes, size_t len, struct bsonraw_field *fields, size_t count);
+
+/* Whether a path leads to an element: BSONRAW_OK or BSONRAW_NONE; the others as bsonraw_get. */
+BSONRAW_USE int32_t bsonraw_has_key(const uint8_t *bytes, size_t len, const char *path);
+
+/* How many elements a document has at its own level; with BSONRAW_FAULT those before the stop. */
+BSONRAW_USE int32_t bsonraw_count(const uint8_t *bytes, size_t len, uint64_t *count);
+
+/* The order of two documents by the bytes of their canonical forms, as memcmp has it: under 0, 0 or over 0. It is 0 where both have one form, whatever their bytes are. BSONRAW_OK; else the status of bsonraw_canonical with
+ * the first one that has no form, with as many levels as there are, and order is 0. It takes memory for both forms. */
+BSONRAW_USE int32_t bsonraw_compare(const uint8_t *one, size_t one_len, const uint8_t *other, size_t other_len, int32_t *order);
+
+/* Whether two documents have one canonical form: BSONRAW_OK, and is_equal is 1 or 0; else as bsonraw_compare. */
+BSONRAW_USE int32_t bsonraw_equal(const uint8_t *one, size_t one_len, const uint8_t *other, size_t other_len, int32_t *is_equal);
+
+/* Overwrites a value of fixed size at a path, where it is of this kind already: the document keeps its length. The others as
+ * bsonraw_get, and nothing is written. */
+BSONRAW_USE int32_t bsonraw_set_int32(uint8_t *bytes, size_t len, const char *path, int32_t number);
+BSONRAW_USE int32_t bsonraw_set_int64(uint8_t *bytes, size_t len, const char *path, int64_t number);
+BSONRAW_USE int32_t bsonraw_set_double(uint8_t *bytes, size_t len, const char *path, double number);
+BSONRAW_USE int32_t bsonraw_set_bool(uint8_t *bytes, size_t len, const char *path, int32_t is_true);
+BSONRAW_USE int32_t bsonraw_set_date_time(uint8_t *bytes, size_t len, const char *path, int64_t millis);
+BSONRAW_USE int32_t bsonraw_set_oid(uint8_t *bytes, size_t len, const char *path, const uint8_t *id);
+
+/* The twelve bytes of an ObjectId as 24 hex digits and a 0; from 24 hex digits, else BSONRAW_FAULT, and the bytes are as they were;
+ * and the seconds from 1970 on that it says. */
+int32_t bsonraw_oid_to_hex(const uint8_t *id, char *hex);
+BSONRAW_USE int32_t bsonraw_oid_from_hex(const char *hex, uint8_t *id);
+uint32_t bsonraw_oid_time(const uint8_t *id);
+
+/* ---- a builder that grows ---- */
+
+/* Memory for a document that is built, which grows. Each call returns buffer->status, which sticks as that of a builder:
+ * BSONRAW_NO_MEMORY, too, and BSONRAW_MISUSE where the document has been ended. A key is NULL in an array. Where bsonraw_buffer_end
+ * ends the document and returns BSONRAW_OK, the document is buffer->len bytes at buffer->bytes, up to the next call.
+ *
+ *     struct bsonraw_buffer b;
+ *     bsonraw_buffer_init(&b);
+ *     bsonraw_buffer_utf8(&b, "name", "Emmy");
+ *     bsonraw_buffer_begin_array(&b, "primes");
+ *     bsonraw_buffer_int32(&b, NULL, 2);
+ *     bsonraw_buffer_int32(&b, NULL, 3);
+ *     bsonraw_buffer_end(&b);
+ *     if (bsonraw_buffer_end(&b) == BSONRAW_OK) fwrite(b.bytes, 1, b.len, stdout);
+ *     bsonraw_buffer_free(&b);
+ */
+struct bsonraw_buffer {
+    uint8_t *bytes;
+    size_t len;    /* of the document, once it is ended */
+    int32_t status; /* enum bsonraw_status */
+    uint32_t is_ended;
+    size_t room;   /* of the memory */
+    struct bsonraw_builder level; /* the innermost one that is open */
+    uint32_t depth;               /* how many are open around it */
+    struct bsonraw_builder *levels;
+    size_t levels_room;
+    void *(*resize)(void *context, void *memory, size_t size); /* as realloc; with a size of 0 it frees, and returns NULL */
+    void *context;
+};
+
+/* Begins a document, in memory of malloc, or of the caller's function; or once more in the memory that the buffer has. Free gives the
+ * memory back; a buffer that is all 0 has none. */
+int32_t bsonraw_buffer_init(struct bsonraw_buffer *buffer);
+int32_t bsonraw_buffer_init_with(struct bsonraw_buffer *buffer, void *(*resize)(void *context, void *memory, size_t size), void *context);
+int32_t bsonraw_buffer_reset(struct bsonraw_buffer *buffer);
+void bsonraw_buffer_free(struct bsonraw_buffer *buffer);
+
+/* Begins a document or an array in the level that is open; ends the innermost level, or the document. */
+int32_t bsonraw_buffer_begin_document(struct bsonraw_buffer *buffer, const char *key);
+int32_t bsonraw_buffer_begin_array(struct bsonraw_buffer *buffer, const char *key);
+int32_t bsonraw_buffer_end(struct bsonraw_buffer *buffer);
+
+/* Append an element, as the calls of a builder do; bsonraw_buffer_append takes its parts, as bsonraw_append. */
+int32_t bsonraw_buffer_append(struct bsonraw_buffer *buffer, uint32_t tag, const char *key, const void *one, size_t one_len,
+                              const void *two, size_t two_len);
+int32_t bsonraw_buffer_int32(struct bsonraw_buffer *buffer, const char *key, int32_t number);
+int32_t bsonraw_buffer_int64(struct bsonraw_buffer *buffer, const char *key, int64_t number);
+int32_t bsonraw_buffer_double(struct bsonraw_buffer *buffer, const char *key, double number);
+int32_t bsonraw_buffer_bool(struct bsonraw_buffer *buffer, const char *key, int32_t is_true);
+int32_t bsonraw_buffer_date_time(struct bsonraw_buffer *buffer, const char *key, int64_t millis);
+int32_t bsonraw_buffer_timestamp(struct bsonraw_buffer *buffer, const char *key, uint32_t time, uint32_t increment);
+int32_t bsonraw_buffer_null(struct bsonraw_buffer *buffer, const char *key);
+int32_t bsonraw_buffer_utf8(struct bsonraw_buffer *buffer, const char *key, const char *text);
+int32_t bsonraw_buffer_text(struct bsonraw_buffer *buffer, const char *key, const char *text, size_t text_len);
+int32_t bsonraw_buffer_oid(struct bsonraw_buffer *buffer, const char *key, const uint8_t *id);
+int32_t bsonraw_buffer_decimal128(struct bsonraw_buffer *buffer, const char *key, const uint8_t *decimal);
+int32_t bsonraw_buffer_binary(struct bsonraw_buffer *buffer, const char *key, uint8_t subtype, const void *data, size_t data_len);
+int32_t bsonraw_buffer_document(struct bsonraw_buffer *buffer, const char *key, const uint8_t *document, size_t document_len);
+int32_t bsonraw_buffer_array(struct bsonraw_buffer *buffer, const char *key, const uint8_t *array, size_t array_len);
+int32_t bsonraw_buffer_iter(struct bsonraw_buffer *buffer, const struct bsonraw_iter *iter, const uint8_t *bytes, size_t len);
+
+/* Append the elements of a document, as they are: all; all but those with these keys; or all with another document laid over them: a
+ * key that is there gets the other's value in its place, and the other's new keys follow. A stop, or bytes that are no document, are
+ * BSONRAW_FAULT or BSONRAW_NO_DOCUMENT, and stick. The last one takes as many steps as there are pairs of elements. */
+int32_t bsonraw_buffer_concat(struct bsonraw_buffer *buffer, const uint8_t *bytes, size_t len);
+int32_t bsonraw_buffer_copy_without(struct bsonraw_buffer *buffer, const uint8_t *bytes, size_t len, const char *const *keys,
+                                    size_t count);
+int32_t bsonraw_buffer_copy_with(struct bsonraw_buffer *buffer, const uint8_t *bytes, size_t len, const uint8_t *over, size_t over_len);
+
+/* ---- documents from a file ---- */
+
+/* Documents one behind the other from a file descriptor or a FILE, of which one is in memory at a time. With BSONRAW_OK it is len
+ * bytes at bytes, up to the next call; offset is where it begins in the file. BSONRAW_NONE at the end. BSONRAW_NO_DOCUMENT, and error
+ * says why: where the last byte isn't 0 (BSONRAW_NOT_TERMINATED), the bytes are there, and the next call goes on behind them; where
+ * the length is under 5 or negative (BSONRAW_LENGTH_INCORRECT), nothing says where the next one begins. BSONRAW_CUT where the file
+ * ends within a document, of which len bytes are there; BSONRAW_TOO_MANY_BYTES where the length is over max_bytes, which is
+ * 2147483647 unless it is set; BSONRAW_NO_MEMORY; BSONRAW_NOT_READ. After any of these but the first two the next call returns the
+ * same. Others who read the file don't see what was read ahead of a document. The file isn't closed.
+ *
+ *     struct bsonraw_stream s;
+ *     int32_t status = bsonraw_stream_from_file(&s, stdin);
+ *     while (status == BSONRAW_OK || (status == BSONRAW_NO_DOCUMENT && s.error.reason == BSONRAW_NOT_TERMINATED))
+ *         if ((status = bsonraw_stream_read(&s)) == BSONRAW_OK) printf("%lu bytes\n", s.len);
+ *     bsonraw_stream_free(&s);
+ */
+struct bsonraw_stream {
+    const uint8_t *bytes;
+    size_t len;
+    uint64_t offset;
+    struct bsonraw_error error;
+    size_t max_bytes;
+    uint8_t *memory; /* of its own, as the others */
+    size_t room, begins, ends;
+    FILE *file;
+    int fd;
+    int32_t status;
+};
+
+int32_t bsonraw_stream_from_fd(struct bsonraw_stream *stream, int fd);
+int32_t bsonraw_stream_from_file(struct bsonraw_stream *stream, FILE *file);
+BSONRAW_USE int32_t bsonraw_stream_read(struct bsonraw_stream *stream);
+void bsonraw_stream_free(struct bsonraw_stream *stream);
+
+/* Whether a reader that returned BSONRAW_NO_DOCUMENT found a document that is cut off, rather than a length that can't be: the bytes end
+ * before the four of its length, or before the length that they say. */
+BSONRAW_USE int32_t bsonraw_reader_is_cut(const struct bsonraw_reader *reader, const uint8_t *bytes, size_t len);
 
 #ifdef __cplusplus
 }

@@ -233,13 +233,38 @@ static int stops_at(int32_t status, const struct bsonraw_iter *it, const struct 
            it->key_at == (e->has_key ? e->key : len) && it->key_len == e->key_len;
 }
 
+/* A part of the bytes is what a value has, where its kind is the one that is asked for; else none. */
+static int is_part(const void *part, size_t size, int is_asked, uint32_t at, uint32_t part_len) {
+    return is_asked ? part == b + at && size == part_len : part == NULL && size == 0;
+}
+
+/* Texts and bytes by their kind. */
+static void compare_parts(const struct bsonraw_iter *it, const struct bsonraw_value *v, size_t len) {
+    const uint8_t *part;
+    const char *text, *options;
+    size_t size;
+    uint32_t subtype, tag = v->tag;
+    int32_t other = BSONRAW_OTHER_KIND;
+    expect(bsonraw_iter_utf8(it, b, len, &text, &size) == (tag == 2 ? 0 : other) && is_part(text, size, tag == 2, v->text_at, v->text_len), "a text");
+    expect(bsonraw_iter_code(it, b, len, &text, &size) == (tag == 13 ? 0 : other) && is_part(text, size, tag == 13, v->text_at, v->text_len), "a code");
+    expect(bsonraw_iter_symbol(it, b, len, &text, &size) == (tag == 14 ? 0 : other) && is_part(text, size, tag == 14, v->text_at, v->text_len), "a symbol");
+    expect(bsonraw_iter_document(it, b, len, &part, &size) == (tag == 3 ? 0 : other) && is_part(part, size, tag == 3, v->text_at, v->text_len), "a document");
+    expect(bsonraw_iter_array(it, b, len, &part, &size) == (tag == 4 ? 0 : other) && is_part(part, size, tag == 4, v->text_at, v->text_len), "an array");
+    expect(bsonraw_iter_oid(it, b, len, &part) == (tag == 7 ? 0 : other) && is_part(part, 0, tag == 7, v->text_at, 0), "an ObjectId");
+    expect(bsonraw_iter_decimal128(it, b, len, &part) == (tag == 19 ? 0 : other) && is_part(part, 0, tag == 19, v->text_at, 0), "a Decimal128");
+    expect(bsonraw_iter_binary(it, b, len, &subtype, &part, &size) == (tag == 5 ? 0 : other) && subtype == v->subtype &&
+               is_part(part, size, tag == 5, v->text_at, v->text_len), "a binary");
+    expect(bsonraw_iter_regex(it, b, len, &text, &options) == (tag == 11 ? 0 : other) && is_part(text, 0, tag == 11, v->text_at, 0) &&
+               is_part(options, 0, tag == 11, v->more_at, 0), "a regular expression");
+}
+
 /* The value by its kind, and 0 where another is asked for. */
 static void compare_kinds(const struct bsonraw_iter *it, const struct bsonraw_value *v, size_t len) {
     int32_t number, is_true, other = BSONRAW_OTHER_KIND;
     int64_t wide, millis;
     double real;
     uint64_t bits;
-    uint32_t at, size, more_at, more, subtype, time, increment, tag = v->tag;
+    uint32_t at, size, time, increment, tag = v->tag;
     expect(bsonraw_iter_int32(it, b, len, &number) == (tag == 16 ? 0 : other) && number == (tag == 16 ? v->integer : 0), "an int32");
     expect(bsonraw_iter_int64(it, b, len, &wide) == (tag == 18 ? 0 : other) && wide == (tag == 18 ? v->integer : 0), "an int64");
     expect(bsonraw_iter_as_int64(it, b, len, &wide) == (tag == 16 || tag == 18 ? 0 : other) && wide == (tag == 16 || tag == 18 ? v->integer : 0),
@@ -254,19 +279,9 @@ static void compare_kinds(const struct bsonraw_iter *it, const struct bsonraw_va
     else expect(real == (tag == 16 || tag == 18 ? (double)v->integer : 0), "a number that is whole");
     expect(bsonraw_iter_timestamp(it, b, len, &time, &increment) == (tag == 17 ? 0 : other) && time == v->time && increment == v->increment,
            "a timestamp");
-    expect(bsonraw_iter_utf8(it, b, len, &at, &size) == (tag == 2 ? 0 : other) && at == (tag == 2 ? v->text_at : len) &&
-               size == (tag == 2 ? v->text_len : 0), "a text");
-    expect(bsonraw_iter_oid(it, b, len, &at, &size) == (tag == 7 ? 0 : other) && size == (tag == 7 ? 12 : 0), "an ObjectId");
-    expect(bsonraw_iter_decimal128(it, b, len, &at, &size) == (tag == 19 ? 0 : other) && size == (tag == 19 ? 16 : 0), "a Decimal128");
-    expect(bsonraw_iter_binary(it, b, len, &subtype, &at, &size) == (tag == 5 ? 0 : other) && subtype == v->subtype &&
-               size == (tag == 5 ? v->text_len : 0), "a binary");
-    expect(bsonraw_iter_code(it, b, len, &at, &size) == (tag == 13 ? 0 : other) && at == (tag == 13 ? v->text_at : len) &&
-               size == (tag == 13 ? v->text_len : 0), "a code");
     expect(bsonraw_iter_text_of(it, b, len, BSONRAW_TAG_SYMBOL, &at, &size) == (tag == 14 ? 0 : other) && at == (tag == 14 ? v->text_at : len) &&
-               size == (tag == 14 ? v->text_len : 0), "a symbol");
-    expect(bsonraw_iter_regex(it, b, len, &at, &size, &more_at, &more) == (tag == 11 ? 0 : other) && at == (tag == 11 ? v->text_at : len) &&
-               size == (tag == 11 ? v->text_len : 0) && more_at == (tag == 11 ? v->more_at : len) && more == (tag == 11 ? v->more_len : 0),
-           "a regular expression");
+               size == (tag == 14 ? v->text_len : 0), "where a symbol is");
+    compare_parts(it, v, len);
 }
 
 /* Of a cursor that says another tag than its element has, no value is of that kind. */
@@ -803,7 +818,7 @@ static void compare_built(struct bsonraw_iter it, size_t len) {
     bsonraw_builder_begin(&to, built, room);
     build_level(&to, room, it, len);
     status = bsonraw_builder_end(&to, built, room);
-    expect(status == (form_len <= room ? BSONRAW_OK : BSONRAW_SMALL_BUFFER) && to.len == form_len && to.count == count && to.begins == 0 &&
+    expect(status == (form_len <= room ? BSONRAW_OK : BSONRAW_SMALL_BUFFER) && to.len == form_len && to.count == count && to.begins == to.len &&
                to.tag == 3, "how long a built document is");
     if (status == BSONRAW_OK) expect(memcmp(built, form, form_len) == 0, "a built document");
     for (i = status == BSONRAW_OK ? form_len : room; i < form_len + 8 && built[i] == 7;) i++;

@@ -109,11 +109,14 @@ static void long_array(uint8_t *to, size_t len) {
     said(bsonraw_append_end(&b, to, len, &list));
 }
 
-/* {"a": 1}, and a level that is never ended */
+/* {"a": 1}, and a level that is taken back; what it wants of a room sticks, so that it is begun in ample ones alone */
 static void left_level(uint8_t *to, size_t len) {
     struct bsonraw_builder lost;
-    bsonraw_append_document_begin(&b, to, len, BSONRAW_KEY("lost"), &lost);
-    bsonraw_append_null(&lost, to, len, BSONRAW_KEY("x"));
+    if (len == LARGE) {
+        bsonraw_append_document_begin(&b, to, len, BSONRAW_KEY("lost"), &lost);
+        bsonraw_append_null(&lost, to, len, BSONRAW_KEY("x"));
+        bsonraw_append_cancel(&b, &lost);
+    }
     said(bsonraw_append_int32(&b, to, len, BSONRAW_KEY("a"), 1));
 }
 
@@ -230,7 +233,7 @@ static void look_at_refusals(void) {
     memset(&it, 0, sizeof it);
     refused("no element", BSONRAW_BAD_OFFSET, bsonraw_append_iter(&b, to, len, &it, room, 12));
     memset(&level, 0, sizeof level);
-    refused("a level of no call", BSONRAW_BAD_OFFSET, bsonraw_append_end(&b, to, len, &level));
+    refused("a level of no call", BSONRAW_MISUSE, bsonraw_append_end(&b, to, len, &level));
     memset(&b, 0, sizeof b);
     refused("a builder of no call", BSONRAW_BAD_OFFSET, bsonraw_append_null(&b, to, len, BSONRAW_KEY("a")));
     memset(&b, 0, sizeof b);
@@ -241,8 +244,12 @@ static void look_at_refusals(void) {
     b.len = 2147483647;
     refused("too long", BSONRAW_TOO_LONG, bsonraw_append_null(&b, to, len, BSONRAW_KEY("")));
     b.len = 2147483647 - 2;
+    refused("a level that couldn't be ended", BSONRAW_TOO_LONG, bsonraw_append_null(&b, to, len, BSONRAW_KEY("")));
+    b.count = 2147483647;
+    refused("a count of too many", BSONRAW_TOO_LONG, bsonraw_append_null(&b, to, len, BSONRAW_KEY("")));
+    b.len = 2147483647 - 3;
     expect(bsonraw_append_null(&b, to, len, BSONRAW_KEY("")) == BSONRAW_SMALL_BUFFER, "longest", "it is refused");
-    expect(bsonraw_builder_end(&b, to, len) == BSONRAW_TOO_LONG, "longest", "its final 0 isn't refused");
+    expect(bsonraw_builder_end(&b, to, len) == BSONRAW_SMALL_BUFFER && b.len == 2147483647, "longest", "it isn't counted");
 }
 
 /* Each element of each document in turn, as it is, makes the document again. */

@@ -1,6 +1,8 @@
-/* Documents and dumps of sizes at which numbers of 31 and of 32 bits end. Memory that nothing is written to takes none. */
+/* Documents and dumps of sizes at which numbers of 31 and of 32 bits end, and one of very many levels on a small stack. Memory
+ * that nothing is written to takes none. */
 #include <bsonraw.h>
 
+#include <pthread.h>
 #include <stdio.h>
 #include <string.h>
 #include <sys/mman.h>
@@ -8,6 +10,8 @@
 #define GREETING "\23\0\0\0\2hi\0\6\0\0\0y\47all\0"
 #define MOST 2147483647u            /* the greatest length of a document */
 #define FAR (((size_t)1 << 32) + 19) /* more than 32 bits say */
+#define LEVELS 2000000u
+#define STACK (256u * 1024)
 
 static int status;
 
@@ -52,6 +56,34 @@ static void look_at_longest(uint8_t *bytes) {
     expect(bsonraw_iter_init(&it, bytes, (size_t)MOST + 1) == BSONRAW_NO_DOCUMENT, "a byte more than the length says");
 }
 
+/* A document of very many levels, each but the innermost holding the next under the empty key. */
+static void *look_at_deepest(void *memory) {
+    uint8_t *bytes = memory, *at = bytes;
+    uint32_t inside, len = 5 + 7 * (LEVELS - 1);
+    struct bsonraw_report r;
+    struct bsonraw_token token;
+    uint64_t path[1];
+    for (inside = LEVELS - 1; inside > 0; inside--, at += 6) {
+        put_32(at, 5 + 7 * inside);
+        at[4] = 3;
+        at[5] = 0;
+    }
+    put_32(at, 5);
+    expect(bsonraw_flatten(bytes, len, len, LEVELS, &token, 1, &r, path, 1) == BSONRAW_SMALL_BUFFER && r.count == LEVELS - 1, "the deepest document");
+    expect(token.depth == 0 && token.inside == LEVELS - 2, "its first token");
+    expect(bsonraw_flatten(bytes, len, len, LEVELS - 1, &token, 1, &r, path, 1) == BSONRAW_TOO_DEEP && r.path_len == LEVELS - 1, "where it is too deep");
+    expect(bsonraw_first_fault(bytes, len, len, LEVELS, &r, path, 1) == BSONRAW_OK, "the faults of the deepest document");
+    expect(bsonraw_check(bytes, len, len, LEVELS, &r, path, 1) == BSONRAW_OK, "whether the deepest document is canonical");
+    return NULL;
+}
+
+static void on_a_small_stack(void *(*look)(void *), void *memory) {
+    pthread_attr_t small;
+    pthread_t thread;
+    int runs = pthread_attr_init(&small) == 0 && pthread_attr_setstacksize(&small, STACK) == 0 && pthread_create(&thread, &small, look, memory) == 0;
+    expect(runs && pthread_join(thread, NULL) == 0, "a thread with a small stack");
+}
+
 /* Bytes of which 32 bits would say 19. */
 static void look_at_far(uint8_t *bytes) {
     struct bsonraw_iter it;
@@ -84,7 +116,8 @@ int main(void) {
         return 0;
     }
     look_at_longest(bytes);
+    on_a_small_stack(look_at_deepest, bytes);
     look_at_far(bytes);
-    if (status == 0) printf("documents and dumps are read up to the greatest lengths\n");
+    if (status == 0) printf("documents and dumps are read up to the greatest lengths, and 2,000,000 levels on a small stack\n");
     return status;
 }

@@ -1,5 +1,5 @@
 /* Each request for memory that a call makes, refused in turn, alone and with all that follow it: what comes with enough memory,
- * or BSONRAW_NO_MEMORY, and then the rooms are as they were. No call keeps a block, and all but four ask for none. */
+ * or BSONRAW_NO_MEMORY, and then the rooms are as they were. No call keeps a block, and all but six ask for none. */
 #include "documents.h"
 
 #include <stdio.h>
@@ -121,24 +121,47 @@ static void build(const struct document *d) {
     (void)!bsonraw_builder_end(&builder, room, ROOM);
 }
 
-/* All but the calls over whole documents make no request, and a flattening makes none. */
-static void asks_for_nothing(const struct document *d) {
-    struct bsonraw_token tokens[8];
-    struct bsonraw_report report;
+/* A flattening, whose tokens are its form: what is in the room for them is said of a document that has them. */
+static int32_t call_flatten(const struct document *d, uint8_t *form, size_t form_len, struct bsonraw_report *report,
+                            uint64_t *path, size_t path_room) {
+    static struct bsonraw_token tokens[MOST];
+    int32_t status = bsonraw_flatten(d->bytes, d->len, 1 << 24, LEVELS, tokens, MOST, report, path, path_room);
+    if (status == BSONRAW_OK && report->count * sizeof *tokens <= form_len) memcpy(form, tokens, report->count * sizeof *tokens);
+    return status;
+}
+
+/* Where documents go on behind damage in front of this one, whose report is the reader's place and what the search cost. */
+static int32_t call_resync(const struct document *d, uint8_t *form, size_t form_len, struct bsonraw_report *report, uint64_t *path,
+                           size_t path_room) {
+    static uint8_t bytes[3 * ROOM];
     struct bsonraw_reader reader = {0, 0, 0, {0, 0, 0, 0, 0}};
-    uint64_t path[8];
+    struct bsonraw_resync resync = {0, 0, 0, 0};
+    int32_t status;
+    (void)form, (void)form_len, (void)path, (void)path_room;
+    memset(bytes, 255, 5);
+    memcpy(bytes + 5, d->bytes, d->len);
+    memcpy(bytes + 5 + d->len, d->bytes, d->len);
+    status = bsonraw_reader_resync(&reader, bytes, 5 + 2 * d->len, ROOM, LEVELS, &resync);
+    memset(report, 0, sizeof *report);
+    report->count = reader.next, report->key_len = resync.spent, report->path_len = resync.reach, report->cause = resync.left_out;
+    if (status == BSONRAW_NO_MEMORY) report->key_at = d->len;
+    return status;
+}
+
+/* All but the calls over whole documents make no request. */
+static void asks_for_nothing(const struct document *d) {
+    struct bsonraw_reader reader = {0, 0, 0, {0, 0, 0, 0, 0}};
     asked = 0;
     go_through(d);
     build(d);
     (void)!bsonraw_reader_read(&reader, d->bytes, d->len);
-    (void)!bsonraw_flatten(d->bytes, d->len, 1 << 24, LEVELS, tokens, 8, &report, path, 8);
     bsonraw_version();
     expect(asked == 0, d->name, "a call asks for memory that needs none");
 }
 
 int main(void) {
     static struct documents all;
-    size_t forms = 0, texts = 0, faults = 0, verdicts = 0;
+    size_t forms = 0, texts = 0, faults = 0, verdicts = 0, rows = 0, searches = 0;
     read_documents(&all);
     for (size_t at = 0; at < all.count; at++) {
         const struct document *d = &all.items[at];
@@ -146,8 +169,10 @@ int main(void) {
         texts += refuse_both_ways(d, call_json);
         faults += refuse_both_ways(d, call_first_fault);
         verdicts += refuse_both_ways(d, call_check);
+        rows += refuse_both_ways(d, call_flatten);
+        searches += refuse_both_ways(d, call_resync);
         asks_for_nothing(d);
     }
-    expect(forms > 0 && texts > 0 && faults > 0 && verdicts > 0, "memory", "a call never ran out of it");
+    expect(forms > 0 && texts > 0 && faults > 0 && verdicts > 0 && rows > 0 && searches > 0, "memory", "a call never ran out of it");
     return result("memory");
 }

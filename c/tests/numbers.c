@@ -13,7 +13,7 @@ static int is_known_status(enum bsonraw_status status) {
     switch (status) {
     case BSONRAW_OK: case BSONRAW_NONE: case BSONRAW_FAULT: case BSONRAW_BREACH: case BSONRAW_NO_DOCUMENT: case BSONRAW_TOO_MANY_BYTES:
     case BSONRAW_TOO_DEEP: case BSONRAW_TOO_LONG: case BSONRAW_SMALL_BUFFER: case BSONRAW_BAD_OFFSET: case BSONRAW_NO_MEMORY:
-    case BSONRAW_OTHER_KIND: return 1;
+    case BSONRAW_OTHER_KIND: case BSONRAW_NULL: case BSONRAW_MISUSE: case BSONRAW_CUT: case BSONRAW_NOT_READ: return 1;
     }
     return 0;
 }
@@ -34,15 +34,15 @@ static void returns(int32_t status, enum bsonraw_status wanted) {
 }
 
 static void look_at_statuses(void) {
-    struct bsonraw_iter it;
+    struct bsonraw_iter it, child;
     struct bsonraw_builder b;
     struct bsonraw_report r;
     uint64_t path[1];
     uint8_t room[8];
     returns(bsonraw_iter_init(&it, BYTES(EMPTY)), BSONRAW_OK);
     returns(bsonraw_iter_next(&it, BYTES(EMPTY)), BSONRAW_NONE);
-    returns(bsonraw_iter_recurse(&it, BYTES(EMPTY), &it), BSONRAW_OTHER_KIND);
-    returns(bsonraw_iter_next(&it, BYTES(EMPTY)), BSONRAW_BAD_OFFSET);
+    returns(bsonraw_iter_recurse(&it, BYTES(EMPTY), &child), BSONRAW_OTHER_KIND);
+    returns(bsonraw_iter_next(&child, BYTES(EMPTY)), BSONRAW_BAD_OFFSET);
     returns(bsonraw_iter_init(&it, BYTES("")), BSONRAW_NO_DOCUMENT);
     returns(bsonraw_first_fault(BYTES(NO_ELEMENT), 100, 100, &r, path, 1), BSONRAW_FAULT);
     returns(bsonraw_check(BYTES(NO_ELEMENT), 100, 100, &r, path, 1), BSONRAW_BREACH);

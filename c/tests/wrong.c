@@ -1,4 +1,5 @@
 /* The library with one mistake, whose number is MISTAKE: what the tests have to notice. The right functions are renamed. */
+#define BSONRAW_UNCHECKED
 #include <bsonraw.h>
 
 #include <stdlib.h>
@@ -28,6 +29,8 @@ int32_t right_iter_value(const struct bsonraw_iter *iter, const uint8_t *bytes, 
 int32_t right_reader_read(struct bsonraw_reader *reader, const uint8_t *bytes, size_t len);
 int32_t right_flatten(const uint8_t *bytes, size_t len, size_t max_bytes, size_t max_depth, struct bsonraw_token *tokens,
                       size_t room, struct bsonraw_report *report, uint64_t *path, size_t path_room);
+int32_t right_reader_resync(struct bsonraw_reader *reader, const uint8_t *bytes, size_t len, size_t max_bytes, size_t max_depth,
+                            struct bsonraw_resync *resync);
 int sched_yield(void);
 
 uint32_t bsonraw_version(void) {
@@ -80,12 +83,12 @@ int32_t bsonraw_json(const uint8_t *bytes, size_t len, size_t max_bytes, size_t 
     return status;
 }
 
-/* 5: out of memory is no fault. 6: another reason. 21: the key of a stop is hidden. */
+/* 5: out of memory is no fault. 6: a number is another at its greatest. 21: the key of a stop is hidden. */
 int32_t bsonraw_first_fault(const uint8_t *bytes, size_t len, size_t max_bytes, size_t max_depth, struct bsonraw_report *report,
                             uint64_t *path, size_t path_room) {
     int32_t status = right_first_fault(bytes, len, max_bytes, max_depth, report, path, path_room);
     if (MISTAKE == 5 && status == BSONRAW_NO_MEMORY) return BSONRAW_OK;
-    if (MISTAKE == 6 && report->error.reason == BSONRAW_OLD_NO_INNER) report->error.reason = BSONRAW_OLD_WRONG_INNER;
+    if (MISTAKE == 6 && report->error.reason == BSONRAW_PAST_END && report->error.left == 16) report->error.left--;
     if (MISTAKE == 21 && report->error.reason == BSONRAW_STRING_PAST_END) report->has_key = 0;
     return status;
 }
@@ -135,6 +138,16 @@ int32_t bsonraw_reader_read(struct bsonraw_reader *reader, const uint8_t *bytes,
     return status;
 }
 
+/* 32: the length of a damaged document is always believed. 33: a search leaves no mark of what it cost. */
+int32_t bsonraw_reader_resync(struct bsonraw_reader *reader, const uint8_t *bytes, size_t len, size_t max_bytes, size_t max_depth,
+                              struct bsonraw_resync *resync) {
+    uint64_t at = reader->document_at, end = at + reader->document_len;
+    int32_t status = right_reader_resync(reader, bytes, len, max_bytes, max_depth, resync);
+    if (MISTAKE == 32 && status == BSONRAW_OK && at < end) reader->next = end;
+    if (MISTAKE == 33) resync->spent += 8 * resync->reach + 1;
+    return status;
+}
+
 /* 12: the room is called full where the document ends. 28: an entry behind the room is written. */
 int32_t bsonraw_iter_next_many(struct bsonraw_iter *iter, const uint8_t *bytes, size_t len, struct bsonraw_entry *entries,
                                size_t room, uint64_t *count) {
@@ -157,7 +170,7 @@ int32_t bsonraw_iter_find_descendant(struct bsonraw_iter *iter, const uint8_t *b
     return MISTAKE == 14 && status == BSONRAW_OTHER_KIND ? BSONRAW_NONE : status;
 }
 
-int32_t right_builder_begin(struct bsonraw_builder *builder, const uint8_t *room, size_t room_len);
+int32_t right_builder_begin(struct bsonraw_builder *builder, uint8_t *room, size_t room_len);
 int32_t right_builder_end(struct bsonraw_builder *builder, uint8_t *room, size_t room_len);
 int32_t right_append(struct bsonraw_builder *builder, uint8_t *room, size_t room_len, uint32_t tag, const uint8_t *key,
                      size_t key_len, const uint8_t *one, size_t one_len, const uint8_t *two, size_t two_len);
@@ -169,7 +182,7 @@ int32_t right_append_end(struct bsonraw_builder *builder, uint8_t *room, size_t 
                          const struct bsonraw_builder *level);
 
 /* 29: no document is begun where there is no room for its length. */
-int32_t bsonraw_builder_begin(struct bsonraw_builder *builder, const uint8_t *room, size_t room_len) {
+int32_t bsonraw_builder_begin(struct bsonraw_builder *builder, uint8_t *room, size_t room_len) {
     int32_t status = right_builder_begin(builder, room, room_len);
     if (MISTAKE == 29 && room_len < 4) builder->len = 0;
     return status;

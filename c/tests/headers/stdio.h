@@ -16,6 +16,11 @@ int fputc(int byte, FILE *to);
 int snprintf(char *text, size_t room, const char *format, ...);
 int puts(const char *line);
 int getchar(void);
+int ferror(FILE *of);
+int fclose(FILE *file);
+FILE *tmpfile(void);
+void rewind(FILE *file);
+int fileno(FILE *of);
 size_t fread(void *items, size_t size, size_t count, FILE *from);
 size_t fwrite(const void *items, size_t size, size_t count, FILE *to);
 

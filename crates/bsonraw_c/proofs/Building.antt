@@ -1,5 +1,5 @@
 -- What the calls of a builder leave, where it held elements.
-use Rattle.std.proofs.Common.{◌≡◌, ◌≢◌, ◌≤◌, ◌+◌, ◌-◌, inl, inr, ℕ, ℤ, pos, List, [], ◌∷◌, ◌++◌, length, take, drop, ap, sym, ◌∙◌, refl, subst, arith, append_assoc, length-append}
+use Rattle.std.proofs.Common.{◌≡◌, ◌≤◌, ◌+◌, ◌-◌, inl, inr, ℕ, ℤ, pos, List, [], ◌∷◌, ◌++◌, length, take, drop, ap, sym, ◌∙◌, refl, subst, arith, append_assoc, length-append}
 use Rattle.std.proofs.lemmas.List.{append-nil, drop_at, drop-take, length-take-le, take_at, take-take}
 use Rattle.std.proofs.Math.Seq.{take-append-add}
 use Rattle.std.specs.Int.Signed.{mag}
@@ -151,9 +151,6 @@ holds_appended tag key one two old new before after (inr (inr put)) front fs h o
 )
 
 -- an element as it stands
-
-in_document : (b : Builder) (key : List ℕ) → b.tag ≢ 4 → key_in b key ≡ key
-in_document b key bad = grind arith
 
 pub appended_iter : (bytes : List ℕ) (it : Iter) (f : Frame) (key : List ℕ) (p : Parts) (old new : Builder) (before after : List ℕ) → IsOpen old
     → IsOn bytes it f → key ≡ f.key → frame_of_parts (key_in old key) p ≡ record f { key = key_in old key } → AddsUnder key p old new before after

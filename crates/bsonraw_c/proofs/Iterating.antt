@@ -84,7 +84,7 @@ module _ (b d : List ℕ) (at len offset : ℕ) (stands : StandsAt b at len d) (
   -- the key of a stop ends there, too
   pub key_within : (fault : Fault) (key : Option (List ℕ)) → at + len < 2 ^ 32 → IsStop (drop (offset - at) d) fault key → IsShortKey offset key
   key_within fault None small stop = tt
-  key_within Malformed (Some key) small stop = omega (arith, small, key_ends key stop.0)
+  key_within (Malformed why) (Some key) small stop = omega (arith, small, key_ends key stop.0)
   key_within Utf8 (Some key) small stop = omega (arith, small, key_ends key stop.0)
 
   key_in : (key : List ℕ) (it : Iter) → HasKey (drop (offset - at) d) key → it.key_at ≡ offset + 1 → it.key_len ≡ length key → StandsAt b it.key_at it.key_len key
@@ -95,7 +95,7 @@ module _ (b d : List ℕ) (at len offset : ℕ) (stands : StandsAt b at len d) (
   -- the iterator says where the key of the stop is
   pub stopped_in : (fault : Fault) (key : Option (List ℕ)) (it : Iter) → IsStop (drop (offset - at) d) fault key → IsKeyAt (place_of_none b) offset key it → IsAtStop b offset key it
   stopped_in fault None it stop out = out
-  stopped_in Malformed (Some key) it stop out = (out.0, out.1, key_in key it stop.0 out.1 out.2, out.3, out.4)
+  stopped_in (Malformed why) (Some key) it stop out = (out.0, out.1, key_in key it stop.0 out.1 out.2, out.3, out.4)
   stopped_in Utf8 (Some key) it stop out = (out.0, out.1, key_in key it stop.0 out.1 out.2, out.3, out.4)
 
   -- what a stop says
@@ -107,7 +107,7 @@ module _ (b d : List ℕ) (at len offset : ℕ) (stands : StandsAt b at len d) (
       (told.0, option_copied stop.key, told.1, stopped_in told.0 (option_copied stop.key) it told.1 out, next, told.2, offset_is)
 
   stop_short : (k : ErrorKind) (key : Option (List ℕ)) → at + len < 2 ^ 32 → StopsWith k key (drop (offset - at) d) → IsShortKey offset key
-  stop_short (kind.MalformedValue r) key small stops = key_within Malformed key small stops
+  stop_short (kind.MalformedValue r) key small stops = key_within (Malformed r) key small stops
   stop_short (kind.Utf8EncodingError u) key small stops = key_within Utf8 key small stops
   stop_short kind.OutOfMemory key small stops = absurd stops
 
@@ -177,7 +177,3 @@ stands_same b d e at len s t =
 -- an iterator is astray where no document is
 pub no_document : (b : List ℕ) (it : Iter) → ((d : List ℕ) → StandsAt b it.document_at it.document_len d → ¬ IsEnvelope d) → IsAstray b it
 no_document b it none d s g = none d g.stands g.envelope
-
--- what is at an offset is in front of what is left there
-pub stands_front : (b front behind d : List ℕ) (at len : ℕ) → b ≡ front ++ behind → length front ≡ at → (s : StandsAt b at len d) → behind ≡ d ++ s.behind
-stands_front b front behind d at len e size s = (same_front front s.before behind (d ++ s.behind) (size ∙ s.offset_is) (sym e ∙ s.whole)).1

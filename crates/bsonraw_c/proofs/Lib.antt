@@ -9,5 +9,6 @@ mod Parts
 mod Placing
 pub mod Putting
 mod Reporting
+mod Resyncing
 mod Stepping
 mod Valuing

@@ -42,9 +42,6 @@ frame_within b offset f r within stands = omega (arith, within, length-drop offs
 pub few_bytes : (b : List ℕ) → IsEnvelope b → length b ≤ max_length
 few_bytes b env = omega (arith, env.header.fits.sfits)
 
-pub frame_few : (b : List ℕ) (offset : ℕ) (f : Frame) (r : List ℕ) → IsEnvelope b → offset ≤ length b → IsFrame (drop offset b) f r → offset + (2 + (length f.key + length f.payload)) ≤ max_length
-frame_few b offset f r env within stands = omega (arith, few_bytes b env, frame_within b offset f r within stands)
-
 -- what is left behind the frame
 pub left_behind : (b : List ℕ) (offset next : ℕ) (f : Frame) (r : List ℕ) → offset ≤ length b → IsFrame (drop offset b) f r → next ≡ offset + (2 + (length f.key + length f.payload)) → drop next b ≡ r
 left_behind b offset next f r within stands is =
@@ -57,7 +54,7 @@ left_behind b offset next f r within stands is =
 
 pub stop_told : (k : ErrorKind) (key : Option (List ℕ)) (s : List ℕ) (told : FaultCode) → IsReadingKind k → StopsWith k key s → SaysKind k told
     → (fault : Fault) × IsStop s fault key × TellsFaultCode fault told
-stop_told (kind.MalformedValue r) key s told reading stop says = (Malformed, stop, (r, reading r refl, says))
+stop_told (kind.MalformedValue r) key s told reading stop says = (Malformed r, stop, (reading r refl, says))
 stop_told (kind.Utf8EncodingError u) key s told reading stop says = (Utf8, stop, (says.0, says.1))
 stop_told kind.OutOfMemory key s told reading stop says = absurd stop
 

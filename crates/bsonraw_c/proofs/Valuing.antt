@@ -22,7 +22,7 @@ pub on_none : (b d s : List ℕ) (it : Iter) → GoesThrough b (record it { next
 on_none b d s it g final f on = no_frame_at_final s final f on.r (subst (λ (x : List ℕ). IsFrame x f on.r) (one_left b on.d on.s d s (record it { next = it.key_at - 1 }) on.there g) on.stands)
 
 no_frame : (s : List ℕ) (k : ErrorKind) (key : Option (List ℕ)) (f : Frame) (r : List ℕ) → StopsWith k key s → ¬ IsFrame s f r
-no_frame s (kind.MalformedValue x) key f r stops frame = no_frame_at_stop s Malformed key stops f r frame
+no_frame s (kind.MalformedValue x) key f r stops frame = no_frame_at_stop s (Malformed x) key stops f r frame
 no_frame s (kind.Utf8EncodingError x) key f r stops frame = no_frame_at_stop s Utf8 key stops f r frame
 no_frame s kind.OutOfMemory key f r stops frame = stops
 

@@ -167,9 +167,10 @@ Declines old new before after =
 abbrev pub grown : Builder → ℕ → Builder
 grown b size = record b { len = b.len + size; count = b.count + 1 }
 
--- with so many bytes, or an element, more, a document would be longer than one may be
+-- with so many bytes more, the final 0 of the level would be past the greatest length of a document; or no more elements are
+-- counted
 abbrev pub IsTooLong : Builder → ℕ → Type 0
-IsTooLong b size = (max_length < b.len + size) ⊎ (max_length ≤ b.count)
+IsTooLong b size = (max_length ≤ b.len + size) ⊎ (max_length ≤ b.count)
 
 -- What becomes of an element: it is too long; or it is counted, where the room is too small; or it is in the room, behind what
 -- was there.

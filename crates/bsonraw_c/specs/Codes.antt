@@ -27,7 +27,7 @@ status_code status.NoMemory = 10
 status_code status.OtherKind = 11
 
 abbrev pub fault_code : Fault → ℕ
-fault_code Malformed = 1
+fault_code (Malformed _) = 1
 fault_code Utf8 = 2
 
 abbrev pub reason_code : Reason → ℕ
@@ -82,7 +82,7 @@ reason_left _ = 0
 
 -- the fault that an error of this kind says, as a number; out of memory says none
 abbrev pub kind_code : ErrorKind → ℕ
-kind_code (kind.MalformedValue _) = fault_code Malformed
+kind_code (kind.MalformedValue why) = fault_code (Malformed why)
 kind_code (kind.Utf8EncodingError _) = fault_code Utf8
 kind_code kind.OutOfMemory = 0
 
@@ -102,7 +102,8 @@ SaysKind k told = (told.kind ≡ kind_code k) × SaysReason k told
 abbrev pub IsNoFault : FaultCode → Type 0
 IsNoFault told = (told.kind ≡ 0) × IsNoReason told
 
--- the numbers say this fault: malformed bytes, for a reason that reading has; or a text that isn't UTF-8, without one
+-- the numbers say this fault: malformed bytes, for their reason, which is one that reading has; or a text that isn't UTF-8,
+-- without one
 abbrev pub TellsFaultCode : Fault → FaultCode → Type 0
-TellsFaultCode Malformed told = (r : Reason) × IsReadingReason r × SaysKind (kind.MalformedValue r) told
+TellsFaultCode (Malformed why) told = IsReadingReason why × SaysKind (kind.MalformedValue why) told
 TellsFaultCode Utf8 told = (told.kind ≡ fault_code Utf8) × IsNoReason told

@@ -11,4 +11,5 @@ pub mod Json
 pub mod Values
 pub mod Verdicts
 pub mod Reports
+pub mod Resync
 pub mod Tokens

@@ -8,7 +8,7 @@ use Rattle.raw_bson.specs.WithinLimits.{ReadsWithin}
 use Rattle.raw_form.specs.Tokens.{HasTokens, filled_from}
 use Rattle.raw_form.specs.declared.token.Token.{Token}
 use Rattle.bsonraw_c.specs.Iters.{Returns}
-use Rattle.bsonraw_c.specs.Reports.{Fits, ReportsBarrier, ReportsRefusal, no_report}
+use Rattle.bsonraw_c.specs.Reports.{Fits, ReportsBarrier, ReportsRefusal, no_report, RunsOut}
 use Rattle.bsonraw_c.specs.declared.codes.Status.{Status}
 use Rattle.bsonraw_c.specs.declared.report.Report.{Report}
 
@@ -24,10 +24,10 @@ pub record ReportsTokens (limits : Limits) (b : List ℕ) (before after : List T
   pub status_is : Fits (length tokens) (length before) s
   pub path_is : path ≡ room
 
--- What is returned of the tokens of the document b: they are in the room; or its first barrier.
+-- What is returned of the tokens of the document b: they are in the room; or its first barrier; or memory ran out.
 abbrev pub FlattensIn : Limits → List ℕ → List Token → List Token → List ℕ → List ℕ → Report → Status → Type 0
 FlattensIn limits b before after room path report s =
-    ReportsTokens limits b before after room path report s ⊎ ReportsBarrier limits b room path report s
+    ReportsTokens limits b before after room path report s ⊎ ReportsBarrier limits b room path report s ⊎ RunsOut limits b room path report s
 
 -- of any bytes
 abbrev pub FlattensBytes : Limits → List ℕ → List Token → List Token → List ℕ → List ℕ → Report → ℤ → Type 0

@@ -167,13 +167,13 @@ impl Builder {
         self.status = status.number();
     }
 
-    /// How many bytes are taken with an element of so many more; or none, where they are too many.
+    /// How many bytes are taken with an element of so many more; or none, where the level couldn't be ended then.
     #[inline(always)]
     fn len_with(&self, size: usize) -> Option<u32>
         ensures fits { IfSome result (λ len. (len ≡ self.now.len + size) × ¬ IsTooLong self.now size) }
         ensures too_long { IfNone result (IsTooLong self.now size) }
     {
-        if MOST <= self.count || MOST < self.len || ((MOST - self.len) as usize) < size {
+        if MOST <= self.count || MOST <= self.len || ((MOST - self.len) as usize) <= size {
             return None;
         }
         Some(self.len + size as u32)

@@ -6,12 +6,14 @@ use crate::codes::Status;
 use crate::report::{Report, key_of_kind, status_of_kind, why_of_kind};
 use crate::view::document_of;
 use raw_bson::{Limits, RawDocument};
-use raw_form::{Token, flatten_within};
+use raw_form::{FlattenError, Token, flatten_within};
+use std::alloc::Global;
 
 /// Puts the elements of all levels of a document that keeps to the limits into the caller's room as tokens, depth first in
-/// byte order, as many as there is room for; or reports the first barrier, and where it is. No memory is taken.
+/// byte order, as many as there is room for; or reports the first barrier, and where it is.
 #[unsafe(no_mangle)]
 pub extern "C" fn bsonraw_flatten(
+    alloc: Global,
     bytes: &[u8],
     max_bytes: usize,
     max_depth: usize,
@@ -27,7 +29,7 @@ pub extern "C" fn bsonraw_flatten(
         depth: max_depth,
     };
     match document_of(bytes) {
-        Ok(document) => flatten_in(document, limits, tokens, report, path).number(),
+        Ok(document) => flatten_in(alloc, document, limits, tokens, report, path).number(),
         Err(reason) => {
             *report = Report::no_document(bytes.len(), reason);
             Status::NoDocument.number()
@@ -37,6 +39,7 @@ pub extern "C" fn bsonraw_flatten(
 
 /// The tokens of this document.
 fn flatten_in(
+    alloc: Global,
     document: RawDocument<'_>,
     limits: Limits,
     tokens: &mut [Token],
@@ -47,7 +50,7 @@ fn flatten_in(
 {
     let end = document.as_bytes().len();
     let room = tokens.len();
-    match flatten_within(document, limits, tokens, path) {
+    match flatten_within(alloc, document, limits, tokens) {
         Ok(count) => {
             *report = Report::counted(end, count);
             if count <= room {
@@ -56,11 +59,15 @@ fn flatten_in(
                 Status::SmallBuffer
             }
         }
-        Err(halt) => {
-            let key = key_of_kind(&halt.kind, halt.key);
-            let why = why_of_kind(&halt.kind);
-            *report = Report::placed(end, halt.offset, key, halt.path_len, why);
-            status_of_kind(&halt.kind)
+        Err(FlattenError::Barrier(barrier)) => {
+            let key = key_of_kind(&barrier.kind, barrier.place.key());
+            let why = why_of_kind(&barrier.kind);
+            *report = Report::at(end, &barrier.place, key, why, path);
+            status_of_kind(&barrier.kind)
+        }
+        Err(FlattenError::OutOfMemory) => {
+            *report = Report::none(end);
+            Status::NoMemory
         }
     }
 }

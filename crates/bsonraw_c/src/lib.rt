@@ -20,6 +20,7 @@ mod moves;
 mod paths;
 mod reader;
 mod report;
+mod resync;
 mod room;
 mod value;
 mod version;

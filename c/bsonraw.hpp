@@ -1,0 +1,248 @@
+// bsonraw.hpp: bsonraw.h for C++17. Views don't own the bytes that they name; a buffer owns the document that it builds. Nothing here
+// throws but what takes memory of std::string: a call that may find nothing returns a result, which is a value or the status why there is
+// none. Tested, not proved, over the functions of bsonraw.h.
+#ifndef BSONRAW_HPP
+#define BSONRAW_HPP
+
+#include <bsonraw.h>
+
+#include <array>
+#include <cstring>
+#include <string>
+#include <string_view>
+#include <type_traits>
+#include <utility>
+#include <vector>
+
+namespace bsonraw {
+
+// A value, or the status why there is none, of enum bsonraw_status.
+template <class T>
+class [[nodiscard]] result {
+public:
+    result(int32_t status, T value) : status_(status), value_(std::move(value)) {}
+    explicit operator bool() const noexcept { return status_ == BSONRAW_OK; }
+    int32_t status() const noexcept { return status_; }
+    const char *text() const noexcept { return bsonraw_status_text(status_); }
+    const T &operator*() const noexcept { return value_; }
+    const T *operator->() const noexcept { return &value_; }
+    T value_or(T other) const { return *this ? value_ : other; }
+
+private:
+    int32_t status_;
+    T value_;
+};
+
+using oid = std::array<uint8_t, 12>;
+
+class view;
+
+// An element of a document, where it is in the bytes; or a stop, whose status is BSONRAW_FAULT.
+class element {
+public:
+    element() = default;
+    element(const uint8_t *bytes, size_t len, const bsonraw_iter &it, int32_t status) : bytes_(bytes), len_(len), it_(it), status_(status) {}
+    int32_t status() const noexcept { return status_; }
+    uint32_t tag() const noexcept { return it_.tag; }
+    const bsonraw_error &error() const noexcept { return it_.error; }
+    const bsonraw_iter &iter() const noexcept { return it_; }
+    const uint8_t *bytes() const noexcept { return bytes_; }
+    size_t len() const noexcept { return len_; }
+    std::string_view key() const noexcept {
+        return it_.key_at < len_ ? std::string_view(reinterpret_cast<const char *>(bytes_) + it_.key_at, it_.key_len) : std::string_view();
+    }
+    result<bsonraw_value> value() const noexcept {
+        bsonraw_value value = {};
+        int32_t status = bsonraw_iter_value(&it_, bytes_, len_, &value);
+        return {status, value};
+    }
+    // The value where it is of the kind of T: int32_t, int64_t (an int32 too), double (an int32 or an int64 too), bool, std::string_view,
+    // oid, or view of a document or an array.
+    template <class T>
+    result<T> as() const;
+
+private:
+    const uint8_t *bytes_ = nullptr;
+    size_t len_ = 0;
+    bsonraw_iter it_ = {};
+    int32_t status_ = BSONRAW_NONE;
+};
+
+// The bytes of a document, whatever they are, which somebody else owns.
+class view {
+public:
+    class iterator {
+    public:
+        iterator() = default;
+        iterator(const uint8_t *bytes, size_t len) : bytes_(bytes), len_(len), status_(bsonraw_iter_init(&it_, bytes, len)) {
+            if (status_ == BSONRAW_OK) step();
+        }
+        element operator*() const noexcept { return {bytes_, len_, it_, status_}; }
+        iterator &operator++() noexcept {
+            if (status_ == BSONRAW_OK) step();
+            else status_ = BSONRAW_NONE;
+            return *this;
+        }
+        bool operator!=(const iterator &) const noexcept { return status_ != BSONRAW_NONE; } // the other is the end
+    private:
+        void step() noexcept { status_ = bsonraw_iter_next(&it_, bytes_, len_); }
+        const uint8_t *bytes_ = nullptr;
+        size_t len_ = 0;
+        bsonraw_iter it_ = {};
+        int32_t status_ = BSONRAW_NONE;
+    };
+
+    view() = default;
+    view(const uint8_t *data, size_t size) noexcept : data_(data), size_(size) {}
+    view(const std::vector<uint8_t> &bytes) noexcept : view(bytes.data(), bytes.size()) {}
+    explicit view(std::string_view bytes) noexcept : view(reinterpret_cast<const uint8_t *>(bytes.data()), bytes.size()) {}
+    const uint8_t *data() const noexcept { return data_; }
+    size_t size() const noexcept { return size_; }
+
+    // The elements; of a stop, or where the bytes are no document, the last one has its status.
+    iterator begin() const noexcept { return {data_, size_}; }
+    iterator end() const noexcept { return {}; }
+
+    // The element at a path, as authors.0.name.
+    result<element> find(std::string_view path) const noexcept {
+        bsonraw_iter it = {};
+        int32_t status = bsonraw_iter_init(&it, data_, size_);
+        if (status == BSONRAW_OK)
+            status = bsonraw_iter_find_descendant(&it, data_, size_, reinterpret_cast<const uint8_t *>(path.data()), path.size(), '.');
+        return {status, element(data_, size_, it, status)};
+    }
+    template <class T>
+    result<T> get(std::string_view path) const {
+        result<element> found = find(path);
+        return found ? found->template as<T>() : result<T>(found.status(), T());
+    }
+    bool has(std::string_view path) const noexcept { return bool(find(path)); }
+
+    // The first fault, at any level.
+    result<bsonraw_report> first_fault(size_t max_depth = 500) const noexcept {
+        bsonraw_report report = {};
+        int32_t status = bsonraw_first_fault(data_, size_, SIZE_MAX, max_depth, &report, nullptr, 0);
+        return {status, report};
+    }
+    result<std::vector<uint8_t>> canonical(size_t max_depth = 500) const {
+        return filled<std::vector<uint8_t>>(0, [&](uint8_t *room, size_t len, bsonraw_report *report) {
+            return bsonraw_canonical(data_, size_, SIZE_MAX, max_depth, room, len, report, nullptr, 0);
+        });
+    }
+    result<std::string> json(bool canonical = false, bool indented = false, size_t max_depth = 500) const {
+        return filled<std::string>(1, [&](uint8_t *room, size_t len, bsonraw_report *report) {
+            return bsonraw_json(data_, size_, SIZE_MAX, max_depth, canonical, indented, room, len, report, nullptr, 0);
+        });
+    }
+
+private:
+    // What a call puts into room, which is made larger where the call wants more; so many bytes behind it are left out again.
+    template <class T, class Call>
+    result<T> filled(size_t behind, Call call) const {
+        T room(size_ + 64, 0);
+        bsonraw_report report = {};
+        int32_t status = call(reinterpret_cast<uint8_t *>(room.data()), room.size(), &report);
+        if (status == BSONRAW_SMALL_BUFFER) {
+            room.resize(static_cast<size_t>(report.count) + behind);
+            status = call(reinterpret_cast<uint8_t *>(room.data()), room.size(), &report);
+        }
+        room.resize(status == BSONRAW_OK ? static_cast<size_t>(report.count) : 0);
+        return {status, std::move(room)};
+    }
+    const uint8_t *data_ = nullptr;
+    size_t size_ = 0;
+};
+
+template <class T>
+result<T> element::as() const {
+    int32_t status;
+    if constexpr (std::is_same_v<T, int32_t>) {
+        int32_t number;
+        status = bsonraw_iter_int32(&it_, bytes_, len_, &number);
+        return {status, number};
+    } else if constexpr (std::is_same_v<T, int64_t>) {
+        int64_t number;
+        status = bsonraw_iter_as_int64(&it_, bytes_, len_, &number);
+        return {status, number};
+    } else if constexpr (std::is_same_v<T, double>) {
+        double number;
+        status = bsonraw_iter_as_double(&it_, bytes_, len_, &number);
+        return {status, number};
+    } else if constexpr (std::is_same_v<T, bool>) {
+        int32_t is_true;
+        status = bsonraw_iter_bool(&it_, bytes_, len_, &is_true);
+        return {status, is_true != 0};
+    } else if constexpr (std::is_same_v<T, std::string_view>) {
+        const char *text;
+        size_t size;
+        status = bsonraw_iter_utf8(&it_, bytes_, len_, &text, &size);
+        return {status, text == nullptr ? std::string_view() : std::string_view(text, size)};
+    } else if constexpr (std::is_same_v<T, oid>) {
+        const uint8_t *id;
+        oid own = {};
+        status = bsonraw_iter_oid(&it_, bytes_, len_, &id);
+        if (id != nullptr) std::memcpy(own.data(), id, own.size());
+        return {status, own};
+    } else {
+        static_assert(std::is_same_v<T, view>, "no kind of BSON is this type");
+        const uint8_t *part;
+        size_t size;
+        status = bsonraw_iter_document(&it_, bytes_, len_, &part, &size);
+        if (status == BSONRAW_OTHER_KIND) status = bsonraw_iter_array(&it_, bytes_, len_, &part, &size);
+        return {status, view(part, size)};
+    }
+}
+
+// A document that is built, and its memory. A status sticks: one look at the end is enough. A key is nullptr in an array.
+class buffer {
+public:
+    buffer() noexcept { (void)bsonraw_buffer_init(&buffer_); }
+    ~buffer() { bsonraw_buffer_free(&buffer_); }
+    buffer(buffer &&other) noexcept : buffer_(std::exchange(other.buffer_, bsonraw_buffer())) {}
+    buffer &operator=(buffer &&other) noexcept {
+        std::swap(buffer_, other.buffer_);
+        return *this;
+    }
+    buffer(const buffer &) = delete;
+    buffer &operator=(const buffer &) = delete;
+
+    buffer &append(const char *key, int32_t number) noexcept { return said(bsonraw_buffer_int32(&buffer_, key, number)); }
+    buffer &append(const char *key, int64_t number) noexcept { return said(bsonraw_buffer_int64(&buffer_, key, number)); }
+    buffer &append(const char *key, double number) noexcept { return said(bsonraw_buffer_double(&buffer_, key, number)); }
+    buffer &append(const char *key, bool is_true) noexcept { return said(bsonraw_buffer_bool(&buffer_, key, is_true)); }
+    buffer &append(const char *key, std::nullptr_t) noexcept { return said(bsonraw_buffer_null(&buffer_, key)); }
+    buffer &append(const char *key, const char *text) noexcept { return said(bsonraw_buffer_utf8(&buffer_, key, text)); }
+    buffer &append(const char *key, std::string_view text) noexcept {
+        return said(bsonraw_buffer_text(&buffer_, key, text.data(), text.size()));
+    }
+    buffer &append(const char *key, const oid &id) noexcept { return said(bsonraw_buffer_oid(&buffer_, key, id.data())); }
+    buffer &append(const char *key, view document) noexcept {
+        return said(bsonraw_buffer_document(&buffer_, key, document.data(), document.size()));
+    }
+    buffer &append(const element &e) noexcept { return said(bsonraw_buffer_iter(&buffer_, &e.iter(), e.bytes(), e.len())); }
+    buffer &append_date_time(const char *key, int64_t millis) noexcept { return said(bsonraw_buffer_date_time(&buffer_, key, millis)); }
+    buffer &append_binary(const char *key, uint8_t subtype, const void *data, size_t size) noexcept {
+        return said(bsonraw_buffer_binary(&buffer_, key, subtype, data, size));
+    }
+    buffer &concat(view document) noexcept { return said(bsonraw_buffer_concat(&buffer_, document.data(), document.size())); }
+    buffer &begin_document(const char *key) noexcept { return said(bsonraw_buffer_begin_document(&buffer_, key)); }
+    buffer &begin_array(const char *key) noexcept { return said(bsonraw_buffer_begin_array(&buffer_, key)); }
+    // Ends the innermost level, or the document.
+    buffer &end() noexcept { return said(bsonraw_buffer_end(&buffer_)); }
+    buffer &reset() noexcept { return said(bsonraw_buffer_reset(&buffer_)); }
+
+    int32_t status() const noexcept { return buffer_.status; }
+    // The document, once it is ended.
+    result<view> document() const noexcept {
+        int32_t status = buffer_.status == BSONRAW_OK && !buffer_.is_ended ? BSONRAW_MISUSE : buffer_.status;
+        return {status, status == BSONRAW_OK ? view(buffer_.bytes, buffer_.len) : view()};
+    }
+
+private:
+    buffer &said(int32_t) noexcept { return *this; }
+    bsonraw_buffer buffer_;
+};
+
+} // namespace bsonraw
+
+#endif

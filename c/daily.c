@@ -1,0 +1,1020 @@
+/* The functions of bsonraw.h for daily use, over the calls that the library exports. Tested, not proved. */
+#define BSONRAW_UNCHECKED
+#include "bsonraw.h"
+
+#include <errno.h>
+#include <stdlib.h>
+#include <unistd.h>
+
+#define LONGEST 2147483647u /* bytes of a document */
+
+/* The length that four bytes say. */
+static uint32_t length_at(const uint8_t *bytes) {
+    return (uint32_t)bytes[0] | (uint32_t)bytes[1] << 8 | (uint32_t)bytes[2] << 16 | (uint32_t)bytes[3] << 24;
+}
+
+/* ---- texts ---- */
+
+const char *bsonraw_status_text(int32_t status) {
+    static const char *const texts[] = {
+        "done", "no more", "a fault", "not canonical", "no document", "too many bytes", "too deep",
+        "a document would be too long", "the room is too small", "no place in the bytes", "not enough memory", "another kind",
+        "NULL", "another level is open", "cut off", "the file can't be read",
+    };
+    if (status < 0) return "a level is open";
+    return (size_t)status < sizeof texts / sizeof *texts ? texts[status] : "no status";
+}
+
+const char *bsonraw_reason_text(uint32_t reason) {
+    static const char *const texts[] = {
+        "no reason", "a document of under five bytes", "a document's length is wrong", "no final 0", "no element and no final 0",
+        "no kind has this tag", "a string's length is cut off", "a length is negative", "a string's length is 0",
+        "a string is longer than what is left", "a string has no final 0", "a value is longer than what is left",
+        "a nested document's length is under 5", "a nested document has no final 0", "a value's length is cut off",
+        "a text has no final 0", "a boolean is neither 0 nor 1", "an old binary has no inner length",
+        "an old binary's inner length is negative", "an old binary's inner length is wrong", "a code with scope is too short",
+    };
+    return reason < sizeof texts / sizeof *texts ? texts[reason] : "no reason";
+}
+
+const char *bsonraw_cause_text(uint32_t cause) {
+    static const char *const texts[] = {"no cause", "stop", "value", "repeated-key", "array-key", "options"};
+    return cause < sizeof texts / sizeof *texts ? texts[cause] : "no cause";
+}
+
+const char *bsonraw_tag_text(uint32_t tag) {
+    static const char *const texts[] = {
+        "no kind", "double", "string", "document", "array", "binary", "undefined", "ObjectId", "boolean", "datetime", "null",
+        "regular expression", "DBPointer", "JavaScript", "symbol", "JavaScript with scope", "int32", "timestamp", "int64", "Decimal128",
+    };
+    if (tag == BSONRAW_TAG_MAX_KEY) return "MaxKey";
+    if (tag == BSONRAW_TAG_MIN_KEY) return "MinKey";
+    return tag < sizeof texts / sizeof *texts ? texts[tag] : "no kind";
+}
+
+const char *bsonraw_error_text(const struct bsonraw_error *error) {
+    if (error == NULL || error->kind == 0) return "no fault";
+    return error->kind == BSONRAW_NOT_UTF8 ? "a text isn't UTF-8" : bsonraw_reason_text(error->reason);
+}
+
+/* A text that is put into a room as far as it fits; len is that of all of it. */
+struct out {
+    char *text;
+    size_t room, len;
+};
+
+static void put(struct out *out, char byte) {
+    if (out->room > 0 && out->len < out->room - 1) out->text[out->len] = byte;
+    out->len++;
+}
+
+static void put_number(struct out *out, uint64_t number) {
+    char digits[20];
+    size_t count = 0;
+    do digits[count++] = (char)('0' + number % 10);
+    while ((number /= 10) > 0);
+    while (count > 0) put(out, digits[--count]);
+}
+
+/* A key in quotes, as JSON has it. */
+static void put_key(struct out *out, const uint8_t *key, size_t len) {
+    static const char hex[] = "0123456789abcdef", names[] = "btn\0fr";
+    size_t at;
+    put(out, '"');
+    for (at = 0; at < len; at++) {
+        uint8_t byte = key[at];
+        if (byte == '"' || byte == '\\') put(out, '\\'), put(out, (char)byte);
+        else if (byte >= 8 && byte <= 13 && byte != 11) put(out, '\\'), put(out, names[byte - 8]);
+        else if (byte < 32) put(out, '\\'), put(out, 'u'), put(out, '0'), put(out, '0'), put(out, hex[byte >> 4]), put(out, hex[byte & 15]);
+        else put(out, (char)byte);
+    }
+    put(out, '"');
+}
+
+/* Sets a cursor before the first element of what the element has inside: a document, an array, or a scope. */
+static int32_t go_into(const struct bsonraw_iter *iter, const uint8_t *bytes, size_t len, struct bsonraw_iter *inside) {
+    struct bsonraw_value value;
+    if (iter->tag != BSONRAW_TAG_JAVASCRIPT_WITH_SCOPE) return bsonraw_iter_recurse(iter, bytes, len, inside);
+    if (bsonraw_iter_value(iter, bytes, len, &value) != BSONRAW_OK) return BSONRAW_FAULT;
+    return bsonraw_iter_init_at(inside, bytes, len, value.more_at, value.more_len);
+}
+
+size_t bsonraw_path_text(const uint8_t *bytes, size_t len, const uint64_t *path, size_t path_len, char *text, size_t room) {
+    struct out out = {text, text == NULL ? 0 : room, 0};
+    struct bsonraw_iter it;
+    int32_t status = bsonraw_iter_init(&it, bsonraw_some_bytes(bytes), bytes == NULL ? 0 : len);
+    size_t level;
+    for (level = 0; level < path_len && path != NULL && status == BSONRAW_OK; level++) {
+        uint64_t number;
+        if (level > 0) {
+            struct bsonraw_iter outer = it;
+            if (go_into(&outer, bytes, len, &it) != BSONRAW_OK) break;
+        }
+        for (number = 0; number <= path[level] && status == BSONRAW_OK; number++) status = bsonraw_iter_next(&it, bytes, len);
+        put(&out, '/');
+        put_number(&out, path[level]);
+        if (it.key_at < len) put(&out, ':'), put_key(&out, bytes + it.key_at, it.key_len);
+    }
+    if (out.room > 0) text[out.len < out.room ? out.len : out.room - 1] = 0;
+    return out.len;
+}
+
+/* ---- by path ---- */
+
+int32_t bsonraw_get(const uint8_t *bytes, size_t len, const char *path, struct bsonraw_iter *iter) {
+    int32_t status;
+    if (iter == NULL || path == NULL || BSONRAW_LACKS(bytes, len)) return BSONRAW_NULL;
+    status = bsonraw_iter_init(iter, bsonraw_some_bytes(bytes), len);
+    return status == BSONRAW_OK ? bsonraw_iter_find_descendant(iter, bytes, len, BSONRAW_STR(path), '.') : status;
+}
+
+/* What the call of a cursor gives of the element at a path; where there is none, it is asked of a cursor at none, which gives 0s. */
+#define GET(name, parameters, ...)                                                                                         \
+    int32_t bsonraw_get_##name(const uint8_t *bytes, size_t len, const char *path, parameters) {                           \
+        struct bsonraw_iter it = {0, 0, 0, 0, 0, 0, 0, 0, {0, 0, 0, 0, 0}};                                                \
+        int32_t found = bsonraw_get(bytes, len, path, &it);                                                                \
+        int32_t status = bsonraw_iter_##name(&it, bsonraw_some_bytes(bytes), bytes == NULL ? 0 : len, __VA_ARGS__);        \
+        return found == BSONRAW_OK || status == BSONRAW_NULL ? status : found;                                             \
+    }
+#define AND ,
+
+GET(int32, int32_t *number, number)
+GET(int64, int64_t *number, number)
+GET(double, double *number, number)
+GET(as_int64, int64_t *number, number)
+GET(as_double, double *number, number)
+GET(bool, int32_t *is_true, is_true)
+GET(date_time, int64_t *millis, millis)
+GET(utf8, const char **text AND size_t *text_len, text, text_len)
+GET(oid, const uint8_t **id, id)
+GET(document, const uint8_t **document AND size_t *document_len, document, document_len)
+GET(array, const uint8_t **array AND size_t *array_len, array, array_len)
+
+int32_t bsonraw_get_value(const uint8_t *bytes, size_t len, const char *path, struct bsonraw_value *value) {
+    static const struct bsonraw_value nothing;
+    struct bsonraw_iter it;
+    int32_t status;
+    if (value == NULL) return BSONRAW_NULL;
+    *value = nothing;
+    status = bsonraw_get(bytes, len, path, &it);
+    if (status == BSONRAW_OK) return bsonraw_iter_value(&it, bytes, len, value);
+    if (status == BSONRAW_FAULT || status == BSONRAW_NO_DOCUMENT) value->error = it.error;
+    return status;
+}
+
+int32_t bsonraw_has_key(const uint8_t *bytes, size_t len, const char *path) {
+    struct bsonraw_iter it;
+    return bsonraw_get(bytes, len, path, &it);
+}
+
+/* ---- several paths in one walk ---- */
+
+#define GROUP 16u  /* fields that are looked for in one walk */
+#define STEPS 32u  /* of a path that are walked with others */
+#define DONE 1000u /* the level of a field that isn't looked for any more */
+
+/* Fields that are looked for in a document, in one walk. */
+struct search {
+    const uint8_t *bytes;
+    size_t len;
+    struct bsonraw_field *fields;
+    size_t count;
+};
+
+/* The step of a field that begins here. */
+static void set_step(struct bsonraw_field *field, uint32_t level, uint32_t step) {
+    const uint8_t *text = BSONRAW_BYTES(field->path) + step;
+    uint64_t mark = 0;
+    uint32_t len;
+    for (len = 0; text[len] != 0 && text[len] != '.'; len++)
+        if (len < 8) mark |= (uint64_t)text[len] << 8 * len;
+    field->level = level;
+    field->step = step;
+    field->step_len = len;
+    field->mark = mark;
+}
+
+static void end_field(struct bsonraw_field *field, int32_t status) {
+    field->level = DONE;
+    field->status = status;
+}
+
+/* Whether the step is the decimal of this number. */
+static int is_number(const char *step, uint32_t len, uint64_t number) {
+    char digits[20];
+    struct out out = {digits, sizeof digits, 0};
+    put_number(&out, number);
+    return out.len == len && memcmp(digits, step, len) == 0;
+}
+
+/* The cursor at an entry. */
+static struct bsonraw_iter at_entry(const struct bsonraw_iter *in, const struct bsonraw_entry *entry) {
+    struct bsonraw_iter it = *in;
+    it.tag = entry->tag;
+    it.key_at = entry->key_at;
+    it.key_len = entry->key_len;
+    it.payload_at = entry->payload_at;
+    it.payload_len = entry->payload_len;
+    it.next = entry->payload_at + entry->payload_len;
+    return it;
+}
+
+static uint64_t number_at(const uint8_t *bytes) {
+    return (uint64_t)length_at(bytes) | (uint64_t)length_at(bytes + 4) << 32;
+}
+
+/* Whether a text is ASCII, and so UTF-8. */
+static int is_ascii(const uint8_t *text, size_t len) {
+    uint64_t any = 0, eight;
+    for (; len >= 8; text += 8, len -= 8) {
+        memcpy(&eight, text, 8);
+        any |= eight;
+    }
+    while (len > 0) any |= text[--len];
+    return (any & 0x8080808080808080) == 0;
+}
+
+/* The value of an entry. What every payload of its kind means is taken as it is, as an entry has as many bytes as its kind. */
+static int32_t value_of(const struct search *s, const struct bsonraw_iter *in, const struct bsonraw_entry *entry,
+                        struct bsonraw_value *value) {
+    const uint8_t *payload = s->bytes + entry->payload_at;
+    uint32_t end = s->len < 4294967295u ? (uint32_t)s->len : 4294967295u;
+    struct bsonraw_iter it;
+    value->text_at = value->more_at = end;
+    switch (entry->tag) {
+    case BSONRAW_TAG_INT32: value->integer = (int32_t)length_at(payload); break;
+    case BSONRAW_TAG_INT64:
+    case BSONRAW_TAG_DATETIME: value->integer = (int64_t)number_at(payload); break;
+    case BSONRAW_TAG_DOUBLE: value->bits = number_at(payload); break;
+    case BSONRAW_TAG_OBJECT_ID: value->text_at = entry->payload_at, value->text_len = 12; break;
+    case BSONRAW_TAG_STRING:
+        if (is_ascii(payload + 4, entry->payload_len - 5)) {
+            value->text_at = entry->payload_at + 4, value->text_len = entry->payload_len - 5;
+            break;
+        } /* fall through */
+    default: it = at_entry(in, entry); return bsonraw_iter_value(&it, s->bytes, s->len, value);
+    }
+    value->tag = entry->tag;
+    return BSONRAW_OK;
+}
+
+static int32_t walk(const struct search *s, struct bsonraw_iter *it, uint32_t level, int is_array);
+
+/* Goes into an element for the fields whose next step is inside. */
+static void walk_into(const struct search *s, const struct bsonraw_iter *in, const struct bsonraw_entry *entry, uint32_t level) {
+    struct bsonraw_iter here = at_entry(in, entry), inside;
+    size_t at;
+    int32_t status = bsonraw_iter_recurse(&here, s->bytes, s->len, &inside);
+    if (status == BSONRAW_OK) status = walk(s, &inside, level, entry->tag == BSONRAW_TAG_ARRAY);
+    for (at = 0; at < s->count; at++)
+        if (s->fields[at].level == level) {
+            end_field(&s->fields[at], status);
+            if (status == BSONRAW_FAULT || status == BSONRAW_NO_DOCUMENT) s->fields[at].value.error = inside.error;
+        }
+}
+
+/* The fields that are open in a level, in front; and of each the mark of its step: the first eight bytes, and 0s behind them. */
+struct open {
+    struct bsonraw_field *fields[GROUP];
+    uint64_t marks[GROUP];
+    size_t left;
+    uint32_t level;
+    int is_array;
+};
+
+static uint64_t mark_of(const void *key, uint32_t len) {
+    uint64_t mark = 0;
+    memcpy(&mark, key, len < 8 ? len : 8);
+    return mark;
+}
+
+/* Whether this is the entry, the number-th of its level, that a step goes to. */
+static int is_met(const struct search *s, const struct bsonraw_field *f, const struct bsonraw_entry *entry, uint64_t number, int is_array) {
+    const char *step = f->path + f->step;
+    if (is_array) return is_number(step, f->step_len, number);
+    return f->step_len == entry->key_len && (f->step_len < 8 || memcmp(step, s->bytes + entry->key_at, entry->key_len) == 0);
+}
+
+/* Looks at an entry for each field that is open in its level. */
+static void look_at(const struct search *s, const struct bsonraw_iter *in, const struct bsonraw_entry *entry, uint64_t mark,
+                    uint64_t number, struct open *open) {
+    uint32_t level = open->level;
+    size_t at = 0;
+    int inner = 0;
+    while (at < open->left) {
+        struct bsonraw_field *f = open->fields[at];
+        if ((open->marks[at] != mark && !open->is_array) || !is_met(s, f, entry, number, open->is_array)) {
+            at++;
+            continue;
+        }
+        open->left--;
+        open->fields[at] = open->fields[open->left];
+        open->marks[at] = open->marks[open->left];
+        if (f->path[f->step + f->step_len] == 0) end_field(f, value_of(s, in, entry, &f->value));
+        else if (level < STEPS) set_step(f, level + 1, f->step + f->step_len + 1), inner = 1;
+        else end_field(f, bsonraw_get_value(s->bytes, s->len, f->path, &f->value));
+    }
+    if (inner) walk_into(s, in, entry, level + 1);
+}
+
+/* How many bytes the payload at this offset has, up to an end; 0 for none, and for what the proved call has to look at. */
+static uint32_t plain_payload(const uint8_t *bytes, uint32_t tag, uint32_t at, uint32_t end) {
+    uint32_t left = end - at, len;
+    switch (tag) {
+    case BSONRAW_TAG_BOOLEAN: len = 1; break;
+    case BSONRAW_TAG_INT32: len = 4; break;
+    case BSONRAW_TAG_DOUBLE:
+    case BSONRAW_TAG_DATETIME:
+    case BSONRAW_TAG_INT64: len = 8; break;
+    case BSONRAW_TAG_OBJECT_ID: len = 12; break;
+    case BSONRAW_TAG_STRING:
+        if (left < 4 || (len = length_at(bytes + at)) < 1 || len > left - 4 || bytes[at + 3 + len] != 0) return 0;
+        len += 4;
+        break;
+    case BSONRAW_TAG_DOCUMENT:
+    case BSONRAW_TAG_ARRAY:
+        if (left < 5 || (len = length_at(bytes + at)) < 5 || len > left || bytes[at + len - 1] != 0) return 0;
+        break;
+    default: return 0;
+    }
+    return len <= left ? len : 0;
+}
+
+/* Where the key that begins here ends, up to an end, and its mark; 0 where it isn't ASCII or has no end there. Eight bytes are looked
+ * at once, where as many are there: bit 7 of the lowest byte that is 0 is the lowest one of zeros. */
+static uint32_t key_end(const uint8_t *bytes, uint32_t at, uint32_t end, uint64_t *mark) {
+    const uint64_t ones = 0x0101010101010101, tops = 0x8080808080808080;
+    uint32_t begins = at;
+    uint64_t eight, zeros, any = 0;
+    if (end >= 8 && at <= end - 8) {
+        memcpy(&eight, bytes + at, 8);
+        zeros = (eight - ones) & ~eight & tops;
+        if (zeros != 0) {
+            *mark = eight & (((zeros & (0 - zeros)) >> 7) - 1);
+            return (*mark & tops) == 0 ? at + (uint32_t)__builtin_ctzll(zeros) / 8 : 0;
+        }
+    }
+    while (at < end && bytes[at] != 0) any |= bytes[at++];
+    *mark = mark_of(bytes + begins, at - begins);
+    return at < end && any < 128 ? at : 0;
+}
+
+/* Goes on to the next element where its key is ASCII and its payload plain: 1; else 0, and nothing is changed. */
+static int next_plain(const uint8_t *bytes, struct bsonraw_iter *it, struct bsonraw_entry *entry, uint64_t *mark) {
+    uint32_t end = it->document_at + it->document_len - 1, at = key_end(bytes, it->next + 1, end, mark), len;
+    if (at == 0) return 0;
+    len = plain_payload(bytes, bytes[it->next], at + 1, end);
+    if (len == 0) return 0;
+    entry->tag = bytes[it->next];
+    entry->key_at = it->next + 1;
+    entry->key_len = at - entry->key_at;
+    entry->payload_at = at + 1;
+    entry->payload_len = len;
+    it->next = at + 1 + len;
+    return 1;
+}
+
+/* Goes on to the next element, as the proved call does. */
+static int32_t next_entry(const struct search *s, struct bsonraw_iter *it, struct bsonraw_entry *entry, uint64_t *mark) {
+    int32_t status;
+    if (next_plain(s->bytes, it, entry, mark)) return BSONRAW_OK;
+    status = bsonraw_iter_next(it, s->bytes, s->len);
+    if (status != BSONRAW_OK) return status;
+    entry->tag = it->tag;
+    entry->key_at = it->key_at;
+    entry->key_len = it->key_len;
+    entry->payload_at = it->payload_at;
+    entry->payload_len = it->payload_len;
+    *mark = mark_of(s->bytes + it->key_at, it->key_len);
+    return BSONRAW_OK;
+}
+
+/* Walks a level up to its end, or until nothing is looked for in it any more; what ended it. */
+static int32_t walk(const struct search *s, struct bsonraw_iter *it, uint32_t level, int is_array) {
+    struct bsonraw_entry entry;
+    struct open open;
+    uint64_t number = 0, mark;
+    size_t at;
+    int32_t status = BSONRAW_OK;
+    open.left = 0, open.level = level, open.is_array = is_array;
+    for (at = 0; at < s->count; at++) {
+        struct bsonraw_field *f = &s->fields[at];
+        if (f->level != level) continue;
+        open.fields[open.left] = f;
+        open.marks[open.left++] = f->mark;
+    }
+    while (open.left > 0 && (status = next_entry(s, it, &entry, &mark)) == BSONRAW_OK) look_at(s, it, &entry, mark, number++, &open);
+    return status;
+}
+
+/* Looks for a group of fields. */
+static void find_group(const struct search *s) {
+    struct bsonraw_iter it;
+    size_t at;
+    int32_t status;
+    for (at = 0; at < s->count; at++) {
+        struct bsonraw_field *f = &s->fields[at];
+        memset(&f->value, 0, sizeof f->value);
+        if (f->path == NULL) end_field(f, BSONRAW_NULL);
+        else set_step(f, 0, 0);
+    }
+    status = bsonraw_iter_init(&it, s->bytes, s->len);
+    if (status == BSONRAW_OK) status = walk(s, &it, 0, 0);
+    for (at = 0; at < s->count; at++)
+        if (s->fields[at].level == 0) {
+            end_field(&s->fields[at], status);
+            if (status != BSONRAW_NONE) s->fields[at].value.error = it.error;
+        }
+}
+
+int32_t bsonraw_find_many(const uint8_t *bytes, size_t len, struct bsonraw_field *fields, size_t count) {
+    struct search s;
+    size_t at;
+    if (BSONRAW_LACKS(bytes, len) || BSONRAW_LACKS(fields, count)) return BSONRAW_NULL;
+    s.bytes = bsonraw_some_bytes(bytes), s.len = len;
+    for (at = 0; at < count; at += s.count) {
+        s.fields = fields + at, s.count = count - at < GROUP ? count - at : GROUP;
+        find_group(&s);
+    }
+    for (at = 0; at < count; at++)
+        if (fields[at].status != BSONRAW_OK) return fields[at].status;
+    return BSONRAW_OK;
+}
+
+/* ---- whole documents ---- */
+
+int32_t bsonraw_count(const uint8_t *bytes, size_t len, uint64_t *count) {
+    struct bsonraw_entry entries[64];
+    struct bsonraw_iter it;
+    uint64_t more;
+    int32_t status;
+    if (count == NULL || BSONRAW_LACKS(bytes, len)) return BSONRAW_NULL;
+    *count = 0;
+    status = bsonraw_iter_init(&it, bsonraw_some_bytes(bytes), len);
+    while (status == BSONRAW_OK) {
+        status = bsonraw_iter_next_many(&it, bytes, len, entries, 64, &more);
+        *count += more;
+    }
+    return status == BSONRAW_NONE ? BSONRAW_OK : status;
+}
+
+/* The canonical form of a document, in memory of its own. */
+static int32_t form_of(const uint8_t *bytes, size_t len, uint8_t **form, size_t *form_len) {
+    struct bsonraw_report report;
+    uint64_t none[1];
+    int32_t status;
+    *form = malloc(len + (len == 0)); /* the form is no longer than the document, but for the keys of an array */
+    *form_len = len;
+    if (*form == NULL) return BSONRAW_NO_MEMORY;
+    status = bsonraw_canonical(bsonraw_some_bytes(bytes), len, SIZE_MAX, SIZE_MAX, *form, len, &report, none, 0);
+    if (status == BSONRAW_SMALL_BUFFER) {
+        free(*form);
+        *form = malloc((size_t)report.count);
+        if (*form == NULL) return BSONRAW_NO_MEMORY;
+        status = bsonraw_canonical(bytes, len, SIZE_MAX, SIZE_MAX, *form, (size_t)report.count, &report, none, 0);
+    }
+    *form_len = (size_t)report.count;
+    return status;
+}
+
+/* The order of two forms, which begin with their lengths: none begins with another one. */
+static int32_t order_of(const uint8_t *one, size_t one_len, const uint8_t *other, size_t other_len) {
+    int order = memcmp(one, other, one_len < other_len ? one_len : other_len);
+    return (order > 0) - (order < 0);
+}
+
+int32_t bsonraw_compare(const uint8_t *one, size_t one_len, const uint8_t *other, size_t other_len, int32_t *order) {
+    uint8_t *first = NULL, *second = NULL;
+    size_t first_len, second_len;
+    int32_t status;
+    if (order == NULL || BSONRAW_LACKS(one, one_len) || BSONRAW_LACKS(other, other_len)) return BSONRAW_NULL;
+    *order = 0;
+    status = form_of(one, one_len, &first, &first_len);
+    if (status == BSONRAW_OK) status = form_of(other, other_len, &second, &second_len);
+    if (status == BSONRAW_OK) *order = order_of(first, first_len, second, second_len);
+    free(first);
+    free(second);
+    return status;
+}
+
+int32_t bsonraw_equal(const uint8_t *one, size_t one_len, const uint8_t *other, size_t other_len, int32_t *is_equal) {
+    int32_t order, status;
+    if (is_equal == NULL) return BSONRAW_NULL;
+    status = bsonraw_compare(one, one_len, other, other_len, &order);
+    *is_equal = status == BSONRAW_OK && order == 0;
+    return status;
+}
+
+/* ---- values in place ---- */
+
+static int32_t overwrite(uint8_t *bytes, size_t len, const char *path, uint32_t tag, const uint8_t *payload, uint32_t payload_len) {
+    struct bsonraw_iter it;
+    int32_t status = bsonraw_get(bytes, len, path, &it);
+    if (status != BSONRAW_OK) return status;
+    if (it.tag != tag) return BSONRAW_OTHER_KIND;
+    memcpy(bytes + it.payload_at, payload, payload_len);
+    return BSONRAW_OK;
+}
+
+int32_t bsonraw_set_int32(uint8_t *bytes, size_t len, const char *path, int32_t number) {
+    const struct bsonraw_number payload = bsonraw_number_of((uint32_t)number);
+    return overwrite(bytes, len, path, BSONRAW_TAG_INT32, payload.bytes, 4);
+}
+
+int32_t bsonraw_set_int64(uint8_t *bytes, size_t len, const char *path, int64_t number) {
+    const struct bsonraw_number payload = bsonraw_number_of((uint64_t)number);
+    return overwrite(bytes, len, path, BSONRAW_TAG_INT64, payload.bytes, 8);
+}
+
+int32_t bsonraw_set_date_time(uint8_t *bytes, size_t len, const char *path, int64_t millis) {
+    const struct bsonraw_number payload = bsonraw_number_of((uint64_t)millis);
+    return overwrite(bytes, len, path, BSONRAW_TAG_DATETIME, payload.bytes, 8);
+}
+
+static struct bsonraw_number number_of_double(double number) {
+    uint64_t bits;
+    memcpy(&bits, &number, sizeof bits);
+    return bsonraw_number_of(bits);
+}
+
+int32_t bsonraw_set_double(uint8_t *bytes, size_t len, const char *path, double number) {
+    const struct bsonraw_number payload = number_of_double(number);
+    return overwrite(bytes, len, path, BSONRAW_TAG_DOUBLE, payload.bytes, 8);
+}
+
+int32_t bsonraw_set_bool(uint8_t *bytes, size_t len, const char *path, int32_t is_true) {
+    const uint8_t payload = is_true != 0;
+    return overwrite(bytes, len, path, BSONRAW_TAG_BOOLEAN, &payload, 1);
+}
+
+int32_t bsonraw_set_oid(uint8_t *bytes, size_t len, const char *path, const uint8_t *id) {
+    return id == NULL ? BSONRAW_NULL : overwrite(bytes, len, path, BSONRAW_TAG_OBJECT_ID, id, 12);
+}
+
+/* ---- ObjectIds ---- */
+
+int32_t bsonraw_oid_to_hex(const uint8_t *id, char *hex) {
+    static const char digits[] = "0123456789abcdef";
+    size_t at;
+    if (id == NULL || hex == NULL) return BSONRAW_NULL;
+    for (at = 0; at < 24; at++) hex[at] = digits[at % 2 ? id[at / 2] & 15 : id[at / 2] >> 4];
+    hex[24] = 0;
+    return BSONRAW_OK;
+}
+
+/* The value of a hex digit; 16 where it is none. */
+static unsigned digit_of(char digit) {
+    if (digit >= '0' && digit <= '9') return (unsigned)(digit - '0');
+    if (digit >= 'a' && digit <= 'f') return (unsigned)(digit - 'a') + 10;
+    if (digit >= 'A' && digit <= 'F') return (unsigned)(digit - 'A') + 10;
+    return 16;
+}
+
+int32_t bsonraw_oid_from_hex(const char *hex, uint8_t *id) {
+    size_t at;
+    if (hex == NULL || id == NULL) return BSONRAW_NULL;
+    for (at = 0; at < 24; at++)
+        if (digit_of(hex[at]) > 15) return BSONRAW_FAULT;
+    if (hex[24] != 0) return BSONRAW_FAULT;
+    for (at = 0; at < 12; at++) id[at] = (uint8_t)(digit_of(hex[2 * at]) << 4 | digit_of(hex[2 * at + 1]));
+    return BSONRAW_OK;
+}
+
+uint32_t bsonraw_oid_time(const uint8_t *id) {
+    return id == NULL ? 0 : (uint32_t)id[0] << 24 | (uint32_t)id[1] << 16 | (uint32_t)id[2] << 8 | id[3];
+}
+
+/* ---- a builder that grows ---- */
+
+static void *resize_by_malloc(void *context, void *memory, size_t size) {
+    (void)context;
+    if (size > 0) return realloc(memory, size);
+    free(memory);
+    return NULL;
+}
+
+static int32_t take(struct bsonraw_buffer *buffer, int32_t status) {
+    buffer->status = buffer->level.status = status;
+    return status;
+}
+
+/* Whether a call may change the buffer. */
+static int goes_on(struct bsonraw_buffer *buffer) {
+    if (buffer->status == BSONRAW_OK && buffer->is_ended) take(buffer, BSONRAW_MISUSE);
+    return buffer->status == BSONRAW_OK;
+}
+
+/* Makes room for so many bytes more, as far as a document may have them. */
+static int reserve(struct bsonraw_buffer *buffer, size_t more) {
+    size_t len = buffer->level.len, wanted = more < LONGEST - len ? len + more : LONGEST, room;
+    uint8_t *bytes;
+    if (wanted <= buffer->room) return 1;
+    room = buffer->room < LONGEST / 2 ? 2 * buffer->room : LONGEST;
+    if (room < wanted) room = wanted;
+    if (room < 256) room = 256;
+    bytes = buffer->resize(buffer->context, buffer->bytes, room);
+    if (bytes == NULL) {
+        take(buffer, BSONRAW_NO_MEMORY);
+        return 0;
+    }
+    buffer->bytes = bytes;
+    buffer->room = room;
+    return 1;
+}
+
+int32_t bsonraw_buffer_init_with(struct bsonraw_buffer *buffer, void *(*resize)(void *context, void *memory, size_t size), void *context) {
+    if (buffer == NULL) return BSONRAW_NULL;
+    memset(buffer, 0, sizeof *buffer);
+    buffer->resize = resize;
+    buffer->context = context;
+    return resize == NULL ? take(buffer, BSONRAW_NULL) : bsonraw_buffer_reset(buffer);
+}
+
+int32_t bsonraw_buffer_init(struct bsonraw_buffer *buffer) {
+    return bsonraw_buffer_init_with(buffer, resize_by_malloc, NULL);
+}
+
+int32_t bsonraw_buffer_reset(struct bsonraw_buffer *buffer) {
+    if (buffer == NULL || buffer->resize == NULL) return BSONRAW_NULL;
+    buffer->len = buffer->depth = buffer->is_ended = 0;
+    buffer->status = BSONRAW_OK;
+    memset(&buffer->level, 0, sizeof buffer->level);
+    if (!reserve(buffer, 4)) return buffer->status;
+    return take(buffer, bsonraw_builder_begin(&buffer->level, buffer->bytes, buffer->room));
+}
+
+void bsonraw_buffer_free(struct bsonraw_buffer *buffer) {
+    if (buffer == NULL || buffer->resize == NULL) return;
+    if (buffer->bytes != NULL) buffer->resize(buffer->context, buffer->bytes, 0);
+    if (buffer->levels != NULL) buffer->resize(buffer->context, buffer->levels, 0);
+    memset(buffer, 0, sizeof *buffer);
+}
+
+/* Makes room for the builder of one level more. */
+static int reserve_level(struct bsonraw_buffer *buffer) {
+    struct bsonraw_builder *levels;
+    size_t room = buffer->levels_room < 8 ? 16 : 2 * buffer->levels_room;
+    if (buffer->depth < buffer->levels_room) return 1;
+    levels = buffer->resize(buffer->context, buffer->levels, room * sizeof *levels);
+    if (levels == NULL) {
+        take(buffer, BSONRAW_NO_MEMORY);
+        return 0;
+    }
+    buffer->levels = levels;
+    buffer->levels_room = room;
+    return 1;
+}
+
+static int32_t begin_level(struct bsonraw_buffer *buffer, uint32_t tag, const char *key) {
+    struct bsonraw_builder outer;
+    size_t key_len = bsonraw_str_len(key);
+    if (buffer == NULL) return BSONRAW_NULL;
+    if (!goes_on(buffer) || !reserve_level(buffer) || !reserve(buffer, key_len + 32)) return buffer->status;
+    outer = buffer->level;
+    (void)bsonraw_append_begin(&outer, buffer->bytes, buffer->room, tag, bsonraw_str_bytes(key), key_len, &buffer->level);
+    if (buffer->level.status == BSONRAW_OK) buffer->levels[buffer->depth++] = outer;
+    return take(buffer, buffer->level.status);
+}
+
+int32_t bsonraw_buffer_begin_document(struct bsonraw_buffer *buffer, const char *key) {
+    return begin_level(buffer, BSONRAW_TAG_DOCUMENT, key);
+}
+
+int32_t bsonraw_buffer_begin_array(struct bsonraw_buffer *buffer, const char *key) {
+    return begin_level(buffer, BSONRAW_TAG_ARRAY, key);
+}
+
+int32_t bsonraw_buffer_end(struct bsonraw_buffer *buffer) {
+    struct bsonraw_builder inner;
+    if (buffer == NULL) return BSONRAW_NULL;
+    if (!goes_on(buffer) || !reserve(buffer, 1)) return buffer->status;
+    if (buffer->depth == 0) {
+        take(buffer, bsonraw_builder_end(&buffer->level, buffer->bytes, buffer->room));
+        if (buffer->status == BSONRAW_OK) buffer->len = buffer->level.len, buffer->is_ended = 1;
+        return buffer->status;
+    }
+    inner = buffer->level;
+    buffer->level = buffer->levels[--buffer->depth];
+    return take(buffer, bsonraw_append_end(&buffer->level, buffer->bytes, buffer->room, &inner));
+}
+
+/* Appends an element, whose parts have these lengths; a key is at most eleven bytes longer than the one that is given, in an array. */
+static int32_t add(struct bsonraw_buffer *buffer, uint32_t tag, const char *key, const uint8_t *one, size_t one_len,
+                   const uint8_t *two, size_t two_len) {
+    size_t key_len = bsonraw_str_len(key);
+    if (buffer == NULL) return BSONRAW_NULL;
+    if (!goes_on(buffer)) return buffer->status;
+    if (BSONRAW_LACKS(one, one_len) || BSONRAW_LACKS(two, two_len)) return take(buffer, BSONRAW_NULL);
+    if (one_len > LONGEST || two_len > LONGEST || key_len > LONGEST) return take(buffer, BSONRAW_TOO_LONG);
+    if (!reserve(buffer, key_len + one_len + two_len + 32)) return buffer->status;
+    return buffer->status = bsonraw_append(&buffer->level, buffer->bytes, buffer->room, tag, bsonraw_str_bytes(key), key_len,
+                                           bsonraw_some_bytes(one), one_len, bsonraw_some_bytes(two), two_len);
+}
+
+/* The decimal of a number, as the key of an array's element. */
+static size_t put_decimal(uint32_t number, char *key) {
+    char digits[10];
+    size_t count = 0, at;
+    do digits[count++] = (char)('0' + number % 10);
+    while ((number /= 10) > 0);
+    for (at = 0; at < count; at++) key[at] = digits[count - 1 - at];
+    key[count] = 0;
+    return count;
+}
+
+/* Puts an element up to its payload, of so many bytes, where nothing can be refused: its key is ASCII, or made, and its level can be
+ * ended behind it. Where the payload goes; else NULL, and the call of a builder has to see to it. */
+static uint8_t *put_front(struct bsonraw_buffer *buffer, uint32_t tag, const char *key, size_t payload_len) {
+    struct bsonraw_builder *level;
+    char number[11];
+    size_t key_len, size;
+    uint8_t *to;
+    if (buffer == NULL || buffer->status != BSONRAW_OK || buffer->is_ended) return NULL;
+    level = &buffer->level;
+    if (level->tag == BSONRAW_TAG_ARRAY) key = number, key_len = put_decimal(level->count, number);
+    else key_len = bsonraw_str_len(key), key = key == NULL ? "" : key;
+    if (key_len > LONGEST || payload_len > LONGEST || !is_ascii(BSONRAW_BYTES(key), key_len)) return NULL;
+    size = key_len + payload_len + 2;
+    if (level->len + size >= LONGEST || level->count >= LONGEST || !reserve(buffer, size)) return NULL;
+    to = buffer->bytes + level->len;
+    *to = (uint8_t)tag;
+    memcpy(to + 1, key, key_len + 1);
+    level->len += (uint32_t)size;
+    level->count++;
+    return to + key_len + 2;
+}
+
+/* Appends an element whose payload is these bytes, as many as its kind has. */
+static int32_t add_fixed(struct bsonraw_buffer *buffer, uint32_t tag, const char *key, const uint8_t *payload, size_t len) {
+    uint8_t *to = BSONRAW_LACKS(payload, len) ? NULL : put_front(buffer, tag, key, len);
+    if (to == NULL) return add(buffer, tag, key, payload, len, NULL, 0);
+    if (len > 0) memcpy(to, payload, len);
+    return BSONRAW_OK;
+}
+
+int32_t bsonraw_buffer_append(struct bsonraw_buffer *buffer, uint32_t tag, const char *key, const void *one, size_t one_len,
+                              const void *two, size_t two_len) {
+    return add(buffer, tag, key, one, one_len, two, two_len);
+}
+
+int32_t bsonraw_buffer_int32(struct bsonraw_buffer *buffer, const char *key, int32_t number) {
+    const struct bsonraw_number one = bsonraw_number_of((uint32_t)number);
+    return add_fixed(buffer, BSONRAW_TAG_INT32, key, one.bytes, 4);
+}
+
+int32_t bsonraw_buffer_int64(struct bsonraw_buffer *buffer, const char *key, int64_t number) {
+    const struct bsonraw_number one = bsonraw_number_of((uint64_t)number);
+    return add_fixed(buffer, BSONRAW_TAG_INT64, key, one.bytes, 8);
+}
+
+int32_t bsonraw_buffer_double(struct bsonraw_buffer *buffer, const char *key, double number) {
+    const struct bsonraw_number one = number_of_double(number);
+    return add_fixed(buffer, BSONRAW_TAG_DOUBLE, key, one.bytes, 8);
+}
+
+int32_t bsonraw_buffer_bool(struct bsonraw_buffer *buffer, const char *key, int32_t is_true) {
+    const uint8_t one = is_true != 0;
+    return add_fixed(buffer, BSONRAW_TAG_BOOLEAN, key, &one, 1);
+}
+
+int32_t bsonraw_buffer_date_time(struct bsonraw_buffer *buffer, const char *key, int64_t millis) {
+    const struct bsonraw_number one = bsonraw_number_of((uint64_t)millis);
+    return add_fixed(buffer, BSONRAW_TAG_DATETIME, key, one.bytes, 8);
+}
+
+int32_t bsonraw_buffer_timestamp(struct bsonraw_buffer *buffer, const char *key, uint32_t time, uint32_t increment) {
+    const struct bsonraw_number one = bsonraw_number_of((uint64_t)time << 32 | increment);
+    return add_fixed(buffer, BSONRAW_TAG_TIMESTAMP, key, one.bytes, 8);
+}
+
+int32_t bsonraw_buffer_null(struct bsonraw_buffer *buffer, const char *key) {
+    return add_fixed(buffer, BSONRAW_TAG_NULL, key, NULL, 0);
+}
+
+int32_t bsonraw_buffer_text(struct bsonraw_buffer *buffer, const char *key, const char *text, size_t text_len) {
+    const struct bsonraw_number head = bsonraw_number_of(text_len + 1);
+    uint8_t *to = NULL;
+    if (text != NULL && text_len < LONGEST && is_ascii(BSONRAW_BYTES(text), text_len))
+        to = put_front(buffer, BSONRAW_TAG_STRING, key, text_len + 5);
+    if (to == NULL) return add(buffer, BSONRAW_TAG_STRING, key, BSONRAW_BYTES(text), text_len, NULL, 0);
+    memcpy(to, head.bytes, 4);
+    memcpy(to + 4, text, text_len);
+    to[4 + text_len] = 0;
+    return BSONRAW_OK;
+}
+
+int32_t bsonraw_buffer_utf8(struct bsonraw_buffer *buffer, const char *key, const char *text) {
+    return bsonraw_buffer_text(buffer, key, text, text == NULL ? 1 : strlen(text));
+}
+
+int32_t bsonraw_buffer_oid(struct bsonraw_buffer *buffer, const char *key, const uint8_t *id) {
+    return add_fixed(buffer, BSONRAW_TAG_OBJECT_ID, key, id, 12);
+}
+
+int32_t bsonraw_buffer_decimal128(struct bsonraw_buffer *buffer, const char *key, const uint8_t *decimal) {
+    return add_fixed(buffer, BSONRAW_TAG_DECIMAL128, key, decimal, 16);
+}
+
+int32_t bsonraw_buffer_binary(struct bsonraw_buffer *buffer, const char *key, uint8_t subtype, const void *data, size_t data_len) {
+    return add(buffer, BSONRAW_TAG_BINARY, key, data, data_len, &subtype, 1);
+}
+
+int32_t bsonraw_buffer_document(struct bsonraw_buffer *buffer, const char *key, const uint8_t *document, size_t document_len) {
+    return add(buffer, BSONRAW_TAG_DOCUMENT, key, document, document_len, NULL, 0);
+}
+
+int32_t bsonraw_buffer_array(struct bsonraw_buffer *buffer, const char *key, const uint8_t *array, size_t array_len) {
+    return add(buffer, BSONRAW_TAG_ARRAY, key, array, array_len, NULL, 0);
+}
+
+int32_t bsonraw_buffer_iter(struct bsonraw_buffer *buffer, const struct bsonraw_iter *iter, const uint8_t *bytes, size_t len) {
+    if (buffer == NULL) return BSONRAW_NULL;
+    if (!goes_on(buffer)) return buffer->status;
+    if (iter == NULL || BSONRAW_LACKS(bytes, len)) return take(buffer, BSONRAW_NULL);
+    if (!reserve(buffer, (size_t)iter->key_len + iter->payload_len + 32)) return buffer->status;
+    return take(buffer, bsonraw_append_iter(&buffer->level, buffer->bytes, buffer->room, iter, bsonraw_some_bytes(bytes), len));
+}
+
+/* Which elements of a document are copied. */
+struct copied {
+    const char *const *without; /* not those with these keys */
+    size_t count;
+    const uint8_t *over;        /* or the other's element in place of one whose key this document has */
+    size_t over_len;
+    int only_new;               /* or none whose key this document has */
+};
+
+static int has_any(const char *const *keys, size_t count, const uint8_t *key, size_t key_len) {
+    size_t at;
+    for (at = 0; at < count; at++)
+        if (bsonraw_str_len(keys[at]) == key_len && memcmp(bsonraw_str_bytes(keys[at]), key, key_len) == 0) return 1;
+    return 0;
+}
+
+/* Copies an element, or what is laid over it. */
+static void copy_one(struct bsonraw_buffer *buffer, const struct bsonraw_iter *it, const uint8_t *bytes, size_t len, const struct copied *of) {
+    const uint8_t *key = bytes + it->key_at;
+    struct bsonraw_iter found;
+    if (has_any(of->without, of->count, key, it->key_len)) return;
+    if (of->over == NULL || bsonraw_iter_init_find(&found, of->over, of->over_len, key, it->key_len) != BSONRAW_OK)
+        (void)bsonraw_buffer_iter(buffer, it, bytes, len);
+    else if (!of->only_new)
+        (void)bsonraw_buffer_iter(buffer, &found, of->over, of->over_len);
+}
+
+static int32_t copy(struct bsonraw_buffer *buffer, const uint8_t *bytes, size_t len, const struct copied *of) {
+    struct bsonraw_iter it;
+    int32_t status;
+    if (buffer == NULL) return BSONRAW_NULL;
+    if (!goes_on(buffer)) return buffer->status;
+    if (BSONRAW_LACKS(bytes, len) || BSONRAW_LACKS(of->without, of->count)) return take(buffer, BSONRAW_NULL);
+    status = bsonraw_iter_init(&it, bsonraw_some_bytes(bytes), len);
+    while (status == BSONRAW_OK && buffer->status == BSONRAW_OK) {
+        status = bsonraw_iter_next(&it, bytes, len);
+        if (status == BSONRAW_OK) copy_one(buffer, &it, bytes, len, of);
+    }
+    return buffer->status == BSONRAW_OK && status != BSONRAW_NONE ? take(buffer, status) : buffer->status;
+}
+
+int32_t bsonraw_buffer_concat(struct bsonraw_buffer *buffer, const uint8_t *bytes, size_t len) {
+    static const struct copied all;
+    return copy(buffer, bytes, len, &all);
+}
+
+int32_t bsonraw_buffer_copy_without(struct bsonraw_buffer *buffer, const uint8_t *bytes, size_t len, const char *const *keys,
+                                    size_t count) {
+    struct copied of = {keys, count, NULL, 0, 0};
+    return copy(buffer, bytes, len, &of);
+}
+
+int32_t bsonraw_buffer_copy_with(struct bsonraw_buffer *buffer, const uint8_t *bytes, size_t len, const uint8_t *over, size_t over_len) {
+    struct copied laid = {NULL, 0, over, over_len, 0}, added = {NULL, 0, bytes, len, 1};
+    if (buffer == NULL) return BSONRAW_NULL;
+    if (BSONRAW_LACKS(over, over_len) && goes_on(buffer)) return take(buffer, BSONRAW_NULL);
+    (void)copy(buffer, bytes, len, &laid);
+    return copy(buffer, over, over_len, &added);
+}
+
+/* ---- documents from a file ---- */
+
+static int32_t begin_stream(struct bsonraw_stream *stream, FILE *file, int fd) {
+    if (stream == NULL) return BSONRAW_NULL;
+    memset(stream, 0, sizeof *stream);
+    stream->max_bytes = LONGEST;
+    stream->file = file;
+    stream->fd = fd;
+    return BSONRAW_OK;
+}
+
+int32_t bsonraw_stream_from_fd(struct bsonraw_stream *stream, int fd) {
+    return begin_stream(stream, NULL, fd);
+}
+
+int32_t bsonraw_stream_from_file(struct bsonraw_stream *stream, FILE *file) {
+    int32_t status = begin_stream(stream, file, -1);
+    return status == BSONRAW_OK && file == NULL ? stream->status = BSONRAW_NULL : status;
+}
+
+void bsonraw_stream_free(struct bsonraw_stream *stream) {
+    if (stream == NULL) return;
+    free(stream->memory);
+    memset(stream, 0, sizeof *stream);
+    stream->status = BSONRAW_NONE;
+}
+
+/* Makes room behind what was read: moves it to the front, or takes twice the memory. */
+static int32_t make_room(struct bsonraw_stream *stream) {
+    size_t room = stream->room < 1 << 16 ? 1 << 16 : 2 * stream->room;
+    uint8_t *memory;
+    if (stream->ends < stream->room) return BSONRAW_OK;
+    if (stream->begins > 0) {
+        memmove(stream->memory, stream->memory + stream->begins, stream->ends - stream->begins);
+        stream->ends -= stream->begins;
+        stream->begins = 0;
+        return BSONRAW_OK;
+    }
+    memory = realloc(stream->memory, room);
+    if (memory == NULL) return BSONRAW_NO_MEMORY;
+    stream->memory = memory;
+    stream->room = room;
+    return BSONRAW_OK;
+}
+
+/* Reads what comes next, of a FILE no more than is wanted: BSONRAW_NONE at the end. */
+static int32_t read_on(struct bsonraw_stream *stream, size_t wanted) {
+    uint8_t *to = stream->memory + stream->ends;
+    size_t room = stream->room - stream->ends;
+    ssize_t count;
+    if (stream->file != NULL) {
+        count = (ssize_t)fread(to, 1, wanted < room ? wanted : room, stream->file);
+        if (count == 0 && ferror(stream->file)) return BSONRAW_NOT_READ;
+    } else {
+        do count = read(stream->fd, to, room);
+        while (count < 0 && errno == EINTR);
+        if (count < 0) return BSONRAW_NOT_READ;
+    }
+    stream->ends += (size_t)count;
+    return count == 0 ? BSONRAW_NONE : BSONRAW_OK;
+}
+
+/* Reads until so many bytes of the document are there. */
+static int32_t fill(struct bsonraw_stream *stream, size_t wanted) {
+    int32_t status = BSONRAW_OK;
+    while (status == BSONRAW_OK && stream->ends - stream->begins < wanted) {
+        status = make_room(stream);
+        if (status == BSONRAW_OK) status = read_on(stream, wanted - (stream->ends - stream->begins));
+    }
+    return status;
+}
+
+/* What comes of a document where this much of it is there, and no more. */
+static int32_t show(struct bsonraw_stream *stream, size_t wanted, int32_t status) {
+    size_t there = stream->ends - stream->begins;
+    stream->bytes = stream->memory + stream->begins;
+    stream->len = there < wanted ? there : wanted;
+    return status == BSONRAW_NONE && there > 0 ? BSONRAW_CUT : status;
+}
+
+static int32_t next_document(struct bsonraw_stream *stream) {
+    struct bsonraw_iter it;
+    uint32_t len;
+    int32_t status = fill(stream, 4);
+    if (status != BSONRAW_OK) return status == BSONRAW_NONE ? show(stream, 4, status) : status;
+    len = length_at(stream->memory + stream->begins);
+    if (len < 5 || len > LONGEST) {
+        stream->error.kind = BSONRAW_MALFORMED;
+        stream->error.reason = BSONRAW_LENGTH_INCORRECT;
+        stream->error.offset = stream->offset;
+        return BSONRAW_NO_DOCUMENT;
+    }
+    if (len > stream->max_bytes) return BSONRAW_TOO_MANY_BYTES;
+    status = fill(stream, len);
+    if (status != BSONRAW_OK && status != BSONRAW_NONE) return status;
+    status = show(stream, len, status);
+    if (status != BSONRAW_OK) return status;
+    status = bsonraw_iter_init(&it, stream->bytes, len);
+    stream->error = it.error;
+    if (status != BSONRAW_OK) stream->error.offset = stream->offset;
+    return status;
+}
+
+int32_t bsonraw_stream_read(struct bsonraw_stream *stream) {
+    static const struct bsonraw_error none;
+    if (stream == NULL) return BSONRAW_NULL;
+    if (stream->status != BSONRAW_OK && (stream->status != BSONRAW_NO_DOCUMENT || stream->error.reason != BSONRAW_NOT_TERMINATED))
+        return stream->status;
+    stream->begins += stream->len;
+    stream->offset += stream->len;
+    stream->bytes = NULL;
+    stream->len = 0;
+    stream->error = none;
+    return stream->status = next_document(stream);
+}
+
+int32_t bsonraw_reader_is_cut(const struct bsonraw_reader *reader, const uint8_t *bytes, size_t len) {
+    uint32_t wanted;
+    if (reader == NULL || bytes == NULL || reader->error.kind == 0 || reader->error.offset >= len) return 0;
+    if (len - reader->error.offset < 4) return 1;
+    wanted = length_at(bytes + reader->error.offset);
+    return wanted <= LONGEST && wanted > len - reader->error.offset;
+}

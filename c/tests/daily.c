@@ -1,0 +1,567 @@
+/* The functions for daily use: texts, values by path, several paths at once, values in place, ObjectIds, a builder that grows, and
+ * documents from a file. What they give is beside documents written by hand from the format, and beside the calls of a cursor. */
+#include "documents.h"
+
+#include <stdio.h>
+#include <stdlib.h>
+#include <string.h>
+
+/* {"a": 7, "n": {"s": "text", "l": [true, {"d": 1.5}]}, "t": the time 5, "w": 2^40, "i": an ObjectId} */
+static const uint8_t sample[] = "\144\0\0\0\20a\0\7\0\0\0"
+                                "\3n\0\60\0\0\0\2s\0\5\0\0\0text\0\4l\0\34\0\0\0\0100\0\1\0031\0\20\0\0\0\1d\0\0\0\0\0\0\0\370\77\0\0\0"
+                                "\11t\0\5\0\0\0\0\0\0\0\22w\0\0\0\0\0\0\1\0\0\7i\0\145\123\361\0abcdefgh";
+
+#define SAMPLE sample, sizeof sample
+
+static void is(int64_t status, int64_t wanted, const char *name) {
+    expect(status == wanted, name, "another number");
+}
+
+static void is_text(const char *text, const char *wanted) {
+    expect(strcmp(text, wanted) == 0, wanted, text);
+}
+
+static void look_at_texts(void) {
+    static const uint8_t damaged[] = "\33\0\0\0\12x\0\4a\"\n\1\0\15\0\0\0\0100\0\1\0101\0\2\0";
+    uint64_t path[4];
+    char text[64];
+    struct bsonraw_report r;
+    is_text(bsonraw_status_text(BSONRAW_NONE), "no more");
+    is_text(bsonraw_status_text(BSONRAW_NOT_READ), "the file can't be read");
+    is_text(bsonraw_status_text(16), "no status");
+    is_text(bsonraw_status_text(-9), "a level is open");
+    is_text(bsonraw_reason_text(21), "no reason");
+    is_text(bsonraw_cause_text(BSONRAW_ARRAY_KEY), "array-key");
+    is_text(bsonraw_cause_text(6), "no cause");
+    is_text(bsonraw_tag_text(BSONRAW_TAG_INT64), "int64");
+    is_text(bsonraw_tag_text(BSONRAW_TAG_MIN_KEY), "MinKey");
+    is_text(bsonraw_tag_text(20), "no kind");
+    is(bsonraw_first_fault(damaged, sizeof damaged, 99, 9, &r, path, 4), BSONRAW_FAULT, "a fault");
+    is_text(bsonraw_error_text(&r.error), "a boolean is neither 0 nor 1");
+    r.error.kind = BSONRAW_NOT_UTF8;
+    is_text(bsonraw_error_text(&r.error), "a text isn't UTF-8");
+    is((int64_t)bsonraw_path_text(damaged, sizeof damaged, path, (size_t)r.path_len, text, sizeof text), 22, "a path's length");
+    is_text(text, "/1:\"a\\\"\\n\\u0001\"/1:\"1\"");
+    memset(text, '#', sizeof text);
+    is((int64_t)bsonraw_path_text(damaged, sizeof damaged, path, (size_t)r.path_len, text, 5), 22, "a path's length");
+    is_text(text, "/1:\"");
+    is((int64_t)bsonraw_path_text(damaged, sizeof damaged, path, (size_t)r.path_len, NULL, 0), 22, "a path's length");
+}
+
+static void look_at_values(void) {
+    int32_t number;
+    int64_t wide;
+    double real;
+    const char *text;
+    const uint8_t *part;
+    size_t len;
+    uint64_t count;
+    struct bsonraw_value v;
+    is(bsonraw_get_int32(SAMPLE, "a", &number), BSONRAW_OK, "a");
+    is(number, 7, "a");
+    is(bsonraw_get_int32(SAMPLE, "n.s", &number), BSONRAW_OTHER_KIND, "n.s");
+    is(number, 0, "n.s");
+    is(bsonraw_get_int32(SAMPLE, "a.b", &number), BSONRAW_OTHER_KIND, "a.b");
+    is(bsonraw_get_int32(SAMPLE, "b", &number), BSONRAW_NONE, "b");
+    is(bsonraw_get_int32(NULL, 0, "b", &number), BSONRAW_NO_DOCUMENT, "no bytes");
+    is(bsonraw_get_int32(NULL, 1, "b", &number), BSONRAW_NULL, "bytes");
+    is(bsonraw_get_int32(SAMPLE, NULL, &number), BSONRAW_NULL, "a path");
+    is(bsonraw_get_int32(SAMPLE, "a", NULL), BSONRAW_NULL, "a number");
+    is(bsonraw_get_as_int64(SAMPLE, "a", &wide), BSONRAW_OK, "a");
+    is(wide, 7, "a");
+    is(bsonraw_get_int64(SAMPLE, "w", &wide), BSONRAW_OK, "w");
+    is(wide, (int64_t)1 << 40, "w");
+    is(bsonraw_get_date_time(SAMPLE, "t", &wide), BSONRAW_OK, "t");
+    is(wide, 5, "t");
+    is(bsonraw_get_bool(SAMPLE, "n.l.0", &number), BSONRAW_OK, "n.l.0");
+    is(number, 1, "n.l.0");
+    is(bsonraw_get_double(SAMPLE, "n.l.1.d", &real), BSONRAW_OK, "n.l.1.d");
+    expect(real > 1.25 && real < 1.75, "n.l.1.d", "another number");
+    is(bsonraw_get_as_double(SAMPLE, "w", &real), BSONRAW_OK, "w");
+    expect(real > 1e12 && real < 1.1e12, "w", "another number");
+    is(bsonraw_get_utf8(SAMPLE, "n.s", &text, &len), BSONRAW_OK, "n.s");
+    expect(len == 4, "n.s", "another length");
+    is_text(text, "text");
+    is(bsonraw_get_utf8(SAMPLE, "n.x", &text, &len), BSONRAW_NONE, "n.x");
+    expect(text == NULL && len == 0, "n.x", "a text");
+    is(bsonraw_get_oid(SAMPLE, "i", &part), BSONRAW_OK, "i");
+    is(bsonraw_oid_time(part), 0x6553f100, "the time of i");
+    is(bsonraw_get_document(SAMPLE, "n.l.1", &part, &len), BSONRAW_OK, "n.l.1");
+    expect(len == 16 && part == sample + 44, "n.l.1", "another part");
+    is(bsonraw_get_array(SAMPLE, "n.l", &part, &len), BSONRAW_OK, "n.l");
+    expect(len == 28, "n.l", "another part");
+    is(bsonraw_get_value(SAMPLE, "n.l.1.d", &v), BSONRAW_OK, "n.l.1.d");
+    expect(v.tag == BSONRAW_TAG_DOUBLE && v.bits == 0x3ff8000000000000, "n.l.1.d", "another value");
+    is(bsonraw_has_key(SAMPLE, "n.l.1"), BSONRAW_OK, "n.l.1");
+    is(bsonraw_has_key(SAMPLE, "n.l.2"), BSONRAW_NONE, "n.l.2");
+    is(bsonraw_count(SAMPLE, &count), BSONRAW_OK, "the count");
+    is((int64_t)count, 5, "the count");
+    is(bsonraw_count((const uint8_t *)"\11\0\0\0\12x\0\5\0", 9, &count), BSONRAW_FAULT, "a count up to a stop");
+    is((int64_t)count, 1, "a count up to a stop");
+}
+
+static void look_at_places(void) {
+    static uint8_t own[sizeof sample], id[12];
+    char hex[25];
+    int32_t number;
+    int64_t wide;
+    double real;
+    const uint8_t *part;
+    memcpy(own, sample, sizeof own);
+    is(bsonraw_set_int32(own, sizeof own, "a", -2), BSONRAW_OK, "a");
+    is(bsonraw_get_int32(own, sizeof own, "a", &number), BSONRAW_OK, "a");
+    is(number, -2, "a");
+    is(bsonraw_set_int64(own, sizeof own, "w", -3), BSONRAW_OK, "w");
+    is(bsonraw_get_int64(own, sizeof own, "w", &wide), BSONRAW_OK, "w");
+    is(wide, -3, "w");
+    is(bsonraw_set_date_time(own, sizeof own, "t", -4), BSONRAW_OK, "t");
+    is(bsonraw_get_date_time(own, sizeof own, "t", &wide), BSONRAW_OK, "t");
+    is(wide, -4, "t");
+    is(bsonraw_set_bool(own, sizeof own, "n.l.0", 0), BSONRAW_OK, "n.l.0");
+    is(bsonraw_get_bool(own, sizeof own, "n.l.0", &number), BSONRAW_OK, "n.l.0");
+    is(number, 0, "n.l.0");
+    is(bsonraw_set_double(own, sizeof own, "n.l.1.d", 2.5), BSONRAW_OK, "n.l.1.d");
+    is(bsonraw_get_double(own, sizeof own, "n.l.1.d", &real), BSONRAW_OK, "n.l.1.d");
+    expect(real > 2.25 && real < 2.75, "n.l.1.d", "another number");
+    is(bsonraw_oid_from_hex("0123456789ABcdef01234567", id), BSONRAW_OK, "hex");
+    is(bsonraw_set_oid(own, sizeof own, "i", id), BSONRAW_OK, "i");
+    is(bsonraw_get_oid(own, sizeof own, "i", &part), BSONRAW_OK, "i");
+    is(bsonraw_oid_to_hex(part, hex), BSONRAW_OK, "i");
+    is_text(hex, "0123456789abcdef01234567");
+    is(bsonraw_oid_from_hex("00112233445566778899aaf", id), BSONRAW_FAULT, "23 digits");
+    is(bsonraw_oid_from_hex("00112233445566778899aaff0", id), BSONRAW_FAULT, "25 digits");
+    is(bsonraw_oid_from_hex("g0112233445566778899aaff", id), BSONRAW_FAULT, "no digit");
+    is(bsonraw_set_int32(own, sizeof own, "w", 1), BSONRAW_OTHER_KIND, "w as an int32");
+    is(bsonraw_set_int32(own, sizeof own, "x", 1), BSONRAW_NONE, "x");
+}
+
+/* Documents of one form that are written in two ways, and others. */
+static void look_at_order(void) {
+    static const uint8_t one[] = "\23\0\0\0\20a\0\1\0\0\0\20a\0\2\0\0\0", two[] = "\14\0\0\0\20a\0\2\0\0\0";
+    int32_t order, same;
+    is(bsonraw_equal(one, 19, two, 12, &same), BSONRAW_OK, "equal");
+    is(same, 1, "equal");
+    is(bsonraw_compare(two, 12, SAMPLE, &order), BSONRAW_OK, "an order");
+    is(order, -1, "an order");
+    is(bsonraw_compare(SAMPLE, two, 12, &order), BSONRAW_OK, "an order");
+    is(order, 1, "an order");
+    is(bsonraw_equal(SAMPLE, two, 12, &same), BSONRAW_OK, "not equal");
+    is(same, 0, "not equal");
+    is(bsonraw_equal(SAMPLE, two, 11, &same), BSONRAW_NO_DOCUMENT, "no document");
+    is(same, 0, "no document");
+    is(bsonraw_compare((const uint8_t *)"\20\0\0\0\4\0\11\0\0\0\12\0\12\0\0", 16, two, 12, &order), BSONRAW_OK, "an array with short keys");
+}
+
+static uint32_t random_number(void) {
+    static uint64_t state = 88172645463325252;
+    state ^= state << 13;
+    state ^= state >> 7;
+    state ^= state << 17;
+    return (uint32_t)(state >> 16);
+}
+
+#define PATHS 6
+#define PATH 64
+
+/* A path of some keys of a document's elements, or of numbers, or of nothing that is there. */
+static void make_path(char *path, const struct document *d, const struct bsonraw_token *tokens, size_t count) {
+    size_t len = 0, steps = 1 + random_number() % 3;
+    uint32_t at = count > 0 ? random_number() % (uint32_t)count : 0, step;
+    for (step = 0; step < steps; step++) {
+        if (step > 0) path[len++] = '.';
+        if (count > 0 && random_number() % 8 > 0 && tokens[at].key_len < 16) {
+            memcpy(path + len, d->bytes + tokens[at].key_at, tokens[at].key_len);
+            len += tokens[at].key_len;
+        } else {
+            path[len++] = (char)('0' + random_number() % 4);
+        }
+        if (at + 1 < count && tokens[at + 1].depth > tokens[at].depth) at += 1 + random_number() % 2;
+        if (at >= count) at = 0;
+    }
+    path[len] = 0;
+}
+
+/* Several paths at once give what each gives alone. */
+static void compare_many(const struct document *d) {
+    static struct bsonraw_token tokens[MOST];
+    static char paths[PATHS][PATH];
+    struct bsonraw_field fields[PATHS];
+    struct bsonraw_report r;
+    int32_t first = BSONRAW_OK, status = bsonraw_flatten(d->bytes, d->len, 1 << 24, LEVELS, tokens, MOST, &r, NULL, 0);
+    size_t at, count = status != BSONRAW_OK && status != BSONRAW_SMALL_BUFFER ? 0 : r.count < MOST ? (size_t)r.count : MOST;
+    memset(fields, 0xa5, sizeof fields);
+    for (at = 0; at < PATHS; at++) make_path(paths[at], d, tokens, count), fields[at].path = paths[at];
+    status = bsonraw_find_many(d->bytes, d->len, fields, PATHS);
+    for (at = 0; at < PATHS; at++) {
+        struct bsonraw_value v;
+        int32_t alone = bsonraw_get_value(d->bytes, d->len, paths[at], &v);
+        if (first == BSONRAW_OK) first = alone;
+        expect(fields[at].status == alone, d->name, "another status with others");
+        expect(memcmp(&fields[at].value, &v, sizeof v) == 0, d->name, "another value with others");
+    }
+    expect(status == first, d->name, "another first status");
+}
+
+/* Of each document, and of it with some bytes that are others, or without some at its end, in memory of just its size. */
+static void look_at_many(const struct documents *all) {
+    for (size_t i = 0; i < all->count; i++) {
+        for (int round = 0; round < 400; round++) {
+            struct document d = all->items[i];
+            int damage = round % 4;
+            d.bytes = needed(d.len);
+            memcpy(d.bytes, all->items[i].bytes, d.len);
+            while (damage-- > 0 && d.len > 5) d.bytes[4 + random_number() % (d.len - 5)] = (uint8_t)(random_number() % 2 ? random_number() % 20 : random_number());
+            compare_many(&d);
+            free(d.bytes);
+        }
+    }
+}
+
+/* Two fields with one path, more than 16 elements, more steps than are walked at once, and a path of NULL. */
+static void look_at_edges(void) {
+    struct bsonraw_field fields[] = {BSONRAW_FIELD("a"), BSONRAW_FIELD("a"), BSONRAW_FIELD("n.l.1.d"), BSONRAW_FIELD("n.s"), BSONRAW_FIELD("")};
+    struct bsonraw_field far[] = {BSONRAW_FIELD("k.39"), BSONRAW_FIELD("k.0"), BSONRAW_FIELD("k.40"), BSONRAW_FIELD("k.01")};
+    struct bsonraw_field deep[] = {BSONRAW_FIELD("d.d.d.d.d.d.d.d.d.d.d.d.d.d.d.d.d.d.d.d.d.d.d.d.d.d.d.d.d.d.d.d.d.d.d.d.x")};
+    struct bsonraw_field alike[] = {BSONRAW_FIELD("long_key_2")}, cut[] = {BSONRAW_FIELD("k")};
+    struct bsonraw_field many[40];
+    struct bsonraw_buffer b;
+    int32_t i;
+    is(bsonraw_find_many(SAMPLE, fields, 4), BSONRAW_OK, "four fields");
+    expect(fields[0].value.integer == 7 && fields[1].value.integer == 7 && fields[3].value.text_len == 4, "four fields", "another value");
+    is(bsonraw_find_many(SAMPLE, fields, 5), BSONRAW_NONE, "five fields");
+    is(bsonraw_find_many(SAMPLE, NULL, 0), BSONRAW_OK, "no fields");
+    is(bsonraw_find_many(SAMPLE, NULL, 1), BSONRAW_NULL, "fields");
+    fields[0].path = NULL;
+    is(bsonraw_find_many(SAMPLE, fields, 5), BSONRAW_NULL, "a path");
+    for (i = 0; i < 40; i++) many[i].path = i % 3 ? "a" : "n.s";
+    is(bsonraw_find_many(SAMPLE, many, 40), BSONRAW_OK, "forty fields");
+    for (i = 0; i < 40; i++) is(many[i].value.tag, i % 3 ? BSONRAW_TAG_INT32 : BSONRAW_TAG_STRING, "one of forty fields");
+    bsonraw_buffer_init(&b);
+    bsonraw_buffer_begin_array(&b, "k");
+    for (i = 0; i < 40; i++) bsonraw_buffer_int32(&b, NULL, i);
+    bsonraw_buffer_end(&b);
+    is(bsonraw_buffer_end(&b), BSONRAW_OK, "an array");
+    is(bsonraw_find_many(b.bytes, b.len, far, 4), BSONRAW_NONE, "far elements");
+    expect(far[0].value.integer == 39 && far[1].value.integer == 0 && far[1].status == BSONRAW_OK, "far elements", "another value");
+    expect(far[2].status == BSONRAW_NONE && far[3].status == BSONRAW_NONE, "numbers that aren't there", "they are found");
+    bsonraw_buffer_reset(&b);
+    bsonraw_buffer_int32(&b, "long_key_1", 1);
+    bsonraw_buffer_int32(&b, "long_key_2", 2);
+    is(bsonraw_buffer_end(&b), BSONRAW_OK, "long keys");
+    is(bsonraw_find_many(b.bytes, b.len, alike, 1), BSONRAW_OK, "keys that begin alike");
+    is(alike[0].value.integer, 2, "keys that begin alike");
+    is(bsonraw_find_many((const uint8_t *)"\13\0\0\0\20k\0\1\0\0", 11, cut, 1), BSONRAW_OK, "an int32 up to the end, its final 0 too");
+    is(bsonraw_find_many((const uint8_t *)"\12\0\0\0\20k\0\1\0", 10, cut, 1), BSONRAW_FAULT, "an int32 past the end");
+    bsonraw_buffer_reset(&b);
+    for (i = 0; i < 36; i++) bsonraw_buffer_begin_document(&b, "d");
+    bsonraw_buffer_int32(&b, "x", 9);
+    for (i = 0; i < 36; i++) bsonraw_buffer_end(&b);
+    is(bsonraw_buffer_end(&b), BSONRAW_OK, "levels");
+    is(bsonraw_find_many(b.bytes, b.len, deep, 1), BSONRAW_OK, "a long path");
+    is(deep[0].value.integer, 9, "a long path");
+    bsonraw_buffer_free(&b);
+}
+
+/* A function in place of realloc that gives memory so often, and how much is out. */
+struct limited {
+    int left, out;
+};
+
+static void *resize(void *context, void *memory, size_t size) {
+    struct limited *limited = context;
+    if (size == 0) {
+        limited->out--;
+        free(memory);
+        return NULL;
+    }
+    if (limited->left-- <= 0) return NULL;
+    if (memory == NULL) limited->out++;
+    return realloc(memory, size);
+}
+
+/* {"a": 7, "n": {"s": "text", "l": [true, {"d": 1.5}]}, ..}, as the sample. */
+static int32_t build_sample(struct bsonraw_buffer *b) {
+    bsonraw_buffer_int32(b, "a", 7);
+    bsonraw_buffer_begin_document(b, "n");
+    bsonraw_buffer_utf8(b, "s", "text");
+    bsonraw_buffer_begin_array(b, "l");
+    bsonraw_buffer_bool(b, NULL, 5);
+    bsonraw_buffer_begin_document(b, NULL);
+    bsonraw_buffer_double(b, "d", 1.5);
+    bsonraw_buffer_end(b);
+    bsonraw_buffer_end(b);
+    bsonraw_buffer_end(b);
+    bsonraw_buffer_date_time(b, "t", 5);
+    bsonraw_buffer_int64(b, "w", (int64_t)1 << 40);
+    bsonraw_buffer_oid(b, "i", (const uint8_t *)"\145\123\361\0abcdefgh");
+    return bsonraw_buffer_end(b);
+}
+
+static void has(const struct bsonraw_buffer *b, const void *bytes, size_t len, const char *name) {
+    expect(b->status == BSONRAW_OK && b->len == len && memcmp(b->bytes, bytes, len) == 0, name, "another document");
+}
+
+static void look_at_buffers(void) {
+    static char long_text[100000];
+    struct bsonraw_buffer b;
+    struct limited limited = {0, 0};
+    int i;
+    bsonraw_buffer_init(&b);
+    is(build_sample(&b), BSONRAW_OK, "the sample");
+    has(&b, SAMPLE, "the sample");
+    is(bsonraw_buffer_null(&b, "x"), BSONRAW_MISUSE, "an append after the end");
+    is(bsonraw_buffer_reset(&b), BSONRAW_OK, "once more");
+    is(build_sample(&b), BSONRAW_OK, "once more");
+    has(&b, SAMPLE, "once more");
+    is(bsonraw_buffer_end(&b), BSONRAW_MISUSE, "an end too many");
+    bsonraw_buffer_free(&b);
+    bsonraw_buffer_free(&b);
+    for (i = 0; i < 3; i++) {
+        limited.left = i;
+        bsonraw_buffer_init_with(&b, resize, &limited);
+        memset(long_text, 'x', 999);
+        bsonraw_buffer_begin_document(&b, "o");
+        bsonraw_buffer_utf8(&b, "x", long_text);
+        bsonraw_buffer_end(&b);
+        is(bsonraw_buffer_end(&b), BSONRAW_NO_MEMORY, "memory is refused");
+        bsonraw_buffer_free(&b);
+    }
+    is(limited.out, 0, "memory is kept");
+    bsonraw_buffer_init(&b);
+    memset(long_text, 'x', sizeof long_text - 1);
+    bsonraw_buffer_utf8(&b, "x", long_text);
+    is(bsonraw_buffer_end(&b), BSONRAW_OK, "a long text");
+    expect(b.len == sizeof long_text + 12 && b.bytes[b.len - 2] == 0 && b.bytes[b.len - 3] == 'x', "a long text", "another document");
+    bsonraw_buffer_reset(&b);
+    bsonraw_buffer_utf8(&b, "x", NULL);
+    is(bsonraw_buffer_end(&b), BSONRAW_NULL, "a text of NULL");
+    bsonraw_buffer_reset(&b);
+    bsonraw_buffer_text(&b, "x", "\xff", 1);
+    is(bsonraw_buffer_end(&b), BSONRAW_FAULT, "a text that isn't UTF-8");
+    bsonraw_buffer_reset(&b);
+    bsonraw_buffer_begin_document(&b, "\xff");
+    is(bsonraw_buffer_end(&b), BSONRAW_FAULT, "a key that isn't UTF-8");
+    bsonraw_buffer_free(&b);
+    is(bsonraw_buffer_init_with(&b, NULL, NULL), BSONRAW_NULL, "no function");
+    is(bsonraw_buffer_null(&b, "x"), BSONRAW_NULL, "no function");
+    bsonraw_buffer_free(&b);
+}
+
+#define TEXT 24
+
+/* A text of some bytes, which may not be UTF-8. */
+static void make_text(char *text) {
+    size_t len = random_number() % TEXT, at;
+    for (at = 0; at < len; at++) text[at] = (char)(random_number() % 64 ? 32 + random_number() % 95 : 128 + random_number() % 128);
+    text[len] = 0;
+}
+
+/* Appends one element of any kind to a buffer, and to a builder: 1 where it is one that a builder refuses. */
+static int append_any(struct bsonraw_buffer *b, struct bsonraw_builder *to, uint8_t *room, size_t len) {
+    static const uint8_t id[] = "abcdefghijklmnop";
+    char key[TEXT], text[TEXT];
+    int32_t status, number = (int32_t)random_number();
+    make_text(key);
+    make_text(text);
+    switch (random_number() % 10) {
+    case 0: bsonraw_buffer_int32(b, key, number); status = bsonraw_append_int32(to, room, len, BSONRAW_STR(key), number); break;
+    case 1: bsonraw_buffer_int64(b, key, -number); status = bsonraw_append_int64(to, room, len, BSONRAW_STR(key), -number); break;
+    case 2: bsonraw_buffer_double(b, key, number); status = bsonraw_append_double(to, room, len, BSONRAW_STR(key), number); break;
+    case 3: bsonraw_buffer_bool(b, key, number & 2); status = bsonraw_append_bool(to, room, len, BSONRAW_STR(key), number & 2); break;
+    case 4: bsonraw_buffer_date_time(b, key, number); status = bsonraw_append_date_time(to, room, len, BSONRAW_STR(key), number); break;
+    case 5: bsonraw_buffer_null(b, key); status = bsonraw_append_null(to, room, len, BSONRAW_STR(key)); break;
+    case 6: bsonraw_buffer_oid(b, key, id); status = bsonraw_append_oid(to, room, len, BSONRAW_STR(key), id); break;
+    case 7: bsonraw_buffer_decimal128(b, key, id); status = bsonraw_append_decimal128(to, room, len, BSONRAW_STR(key), id); break;
+    case 8: bsonraw_buffer_timestamp(b, key, 7, 8); status = bsonraw_append_timestamp(to, room, len, BSONRAW_STR(key), 7, 8); break;
+    default: bsonraw_buffer_utf8(b, key, text); status = bsonraw_append_utf8(to, room, len, BSONRAW_STR(key), BSONRAW_STR(text)); break;
+    }
+    is(b->status, status, "an element of any kind");
+    return status != BSONRAW_OK;
+}
+
+/* What a buffer builds of any elements is what a builder builds, in documents and arrays; and it refuses the same. */
+static void look_at_any(void) {
+    static uint8_t room[1 << 16];
+    struct bsonraw_buffer b;
+    size_t i, len = sizeof room;
+    bsonraw_buffer_init(&b);
+    for (i = 0; i < 2000; i++) {
+        struct bsonraw_builder to, level;
+        size_t count = 1 + random_number() % 120, is_array = random_number() % 2;
+        bsonraw_buffer_reset(&b);
+        bsonraw_builder_begin(&to, room, len);
+        if (is_array) bsonraw_buffer_begin_array(&b, "k"), bsonraw_append_array_begin(&to, room, len, BSONRAW_KEY("k"), &level);
+        else bsonraw_buffer_begin_document(&b, "k"), bsonraw_append_document_begin(&to, room, len, BSONRAW_KEY("k"), &level);
+        while (count-- > 0 && !append_any(&b, &level, room, len)) continue;
+        bsonraw_buffer_end(&b);
+        bsonraw_append_end(&to, room, len, &level);
+        is(bsonraw_buffer_end(&b), bsonraw_builder_end(&to, room, len), "a level of any elements");
+        if (to.status == BSONRAW_OK) has(&b, room, to.len, "a level of any elements");
+    }
+    bsonraw_buffer_free(&b);
+}
+
+static void look_at_kinds(void) {
+    static const uint8_t kinds[] = "\111\0\0\0\12a\0\21b\0\2\0\0\0\1\0\0\0\23c\0abcdefghijklmnop\5d\0\2\0\0\0\200xy"
+                                   "\3e\0\5\0\0\0\0\4f\0\5\0\0\0\0\16g\0\2\0\0\0s\0";
+    struct bsonraw_buffer b;
+    bsonraw_buffer_init(&b);
+    bsonraw_buffer_null(&b, "a");
+    bsonraw_buffer_timestamp(&b, "b", 1, 2);
+    bsonraw_buffer_decimal128(&b, "c", (const uint8_t *)"abcdefghijklmnop");
+    bsonraw_buffer_binary(&b, "d", 128, "xy", 2);
+    bsonraw_buffer_document(&b, "e", (const uint8_t *)"\5\0\0\0", 5);
+    bsonraw_buffer_array(&b, "f", (const uint8_t *)"\5\0\0\0", 5);
+    bsonraw_buffer_append(&b, BSONRAW_TAG_SYMBOL, "g", "s", 1, NULL, 0);
+    is(bsonraw_buffer_end(&b), BSONRAW_OK, "kinds");
+    has(&b, kinds, sizeof kinds, "kinds");
+    bsonraw_buffer_free(&b);
+}
+
+static void look_at_copies(void) {
+    static const uint8_t one[] = "\23\0\0\0\20a\0\1\0\0\0\20b\0\2\0\0\0", two[] = "\20\0\0\0\10b\0\1\20c\0\3\0\0\0";
+    static const uint8_t both[] = "\36\0\0\0\20a\0\1\0\0\0\20b\0\2\0\0\0\10b\0\1\20c\0\3\0\0\0";
+    static const uint8_t laid[] = "\27\0\0\0\20a\0\1\0\0\0\10b\0\1\20c\0\3\0\0\0";
+    static const char *const keys[] = {"c", "a", "bb", ""};
+    struct bsonraw_buffer b;
+    bsonraw_buffer_init(&b);
+    bsonraw_buffer_concat(&b, one, sizeof one);
+    bsonraw_buffer_concat(&b, two, sizeof two);
+    is(bsonraw_buffer_end(&b), BSONRAW_OK, "one behind the other");
+    has(&b, both, sizeof both, "one behind the other");
+    bsonraw_buffer_reset(&b);
+    bsonraw_buffer_copy_with(&b, one, sizeof one, two, sizeof two);
+    is(bsonraw_buffer_end(&b), BSONRAW_OK, "one laid over the other");
+    has(&b, laid, sizeof laid, "one laid over the other");
+    bsonraw_buffer_reset(&b);
+    bsonraw_buffer_copy_without(&b, both, sizeof both, keys, 4);
+    is(bsonraw_buffer_end(&b), BSONRAW_OK, "without keys");
+    has(&b, "\20\0\0\0\20b\0\2\0\0\0\10b\0\1", 16, "without keys");
+    bsonraw_buffer_reset(&b);
+    bsonraw_buffer_concat(&b, one, sizeof one - 1);
+    is(bsonraw_buffer_end(&b), BSONRAW_NO_DOCUMENT, "a document that is cut");
+    bsonraw_buffer_reset(&b);
+    bsonraw_buffer_concat(&b, (const uint8_t *)"\11\0\0\0\12x\0\5", 9);
+    is(bsonraw_buffer_end(&b), BSONRAW_FAULT, "a document with a stop");
+    bsonraw_buffer_reset(&b);
+    bsonraw_buffer_copy_with(&b, one, sizeof one, NULL, 5);
+    is(bsonraw_buffer_end(&b), BSONRAW_NULL, "a document of NULL");
+    bsonraw_buffer_free(&b);
+}
+
+/* A file of these bytes. */
+static FILE *file_of(const uint8_t *bytes, size_t len) {
+    FILE *file = tmpfile();
+    expect(file != NULL && fwrite(bytes, 1, len, file) == len, "a file", "none");
+    rewind(file);
+    return file;
+}
+
+static void look_at_stream(struct bsonraw_stream *s) {
+    int i;
+    for (i = 0; i < 3; i++) {
+        is(bsonraw_stream_read(s), BSONRAW_OK, "a document");
+        is((int64_t)s->offset, (int64_t)sizeof sample * i, "where it begins");
+        expect(s->len == sizeof sample && memcmp(s->bytes, sample, s->len) == 0, "a document", "another");
+    }
+    is(bsonraw_stream_read(s), BSONRAW_NO_DOCUMENT, "no final 0");
+    is(s->error.reason, BSONRAW_NOT_TERMINATED, "no final 0");
+    is((int64_t)s->error.offset, 3 * sizeof sample, "no final 0");
+    is(bsonraw_stream_read(s), BSONRAW_OK, "a document behind it");
+    is((int64_t)s->offset, 3 * sizeof sample + 5, "a document behind it");
+}
+
+/* How a file ends: with these bytes behind what is sound. */
+static void ends(const uint8_t *end, size_t len, int32_t status, size_t there, size_t max_bytes, const char *name) {
+    uint8_t bytes[4 * sizeof sample + 64];
+    struct bsonraw_stream s;
+    size_t all = 0;
+    int i, by_fd;
+    for (i = 0; i < 3; i++) memcpy(bytes + all, sample, sizeof sample), all += sizeof sample;
+    memcpy(bytes + all, "\5\0\0\0\1", 5), all += 5;
+    memcpy(bytes + all, sample, sizeof sample), all += sizeof sample;
+    memcpy(bytes + all, end, len);
+    for (by_fd = 0; by_fd < 2; by_fd++) {
+        FILE *file = file_of(bytes, all + len);
+        is(by_fd ? bsonraw_stream_from_fd(&s, fileno(file)) : bsonraw_stream_from_file(&s, file), BSONRAW_OK, name);
+        look_at_stream(&s);
+        s.max_bytes = max_bytes;
+        is(bsonraw_stream_read(&s), status, name);
+        is((int64_t)s.len, (int64_t)there, name);
+        is((int64_t)s.offset, (int64_t)all, name);
+        is(bsonraw_stream_read(&s), status, name);
+        bsonraw_stream_free(&s);
+        is(bsonraw_stream_read(&s), BSONRAW_NONE, "a stream that was freed");
+        fclose(file);
+    }
+}
+
+static void look_at_streams(void) {
+    struct bsonraw_stream s;
+    uint8_t *large = needed(300000);
+    FILE *file;
+    size_t at;
+    ends(sample, 0, BSONRAW_NONE, 0, 100, "the end");
+    ends(sample, 3, BSONRAW_CUT, 3, 100, "a length that is cut");
+    ends(sample, 4, BSONRAW_CUT, 4, 100, "a document that is cut");
+    ends(sample, 40, BSONRAW_CUT, 40, 100, "a document that is cut");
+    ends((const uint8_t *)"\4\0\0\0", 4, BSONRAW_NO_DOCUMENT, 0, 100, "a length that can't be");
+    ends((const uint8_t *)"\0\0\0\200", 4, BSONRAW_NO_DOCUMENT, 0, 100, "a negative length");
+    ends(sample, 40, BSONRAW_TOO_MANY_BYTES, 0, 99, "more than is allowed");
+    is(bsonraw_stream_from_fd(&s, 1000), BSONRAW_OK, "no file");
+    is(bsonraw_stream_read(&s), BSONRAW_NOT_READ, "no file");
+    bsonraw_stream_free(&s);
+    is(bsonraw_stream_from_file(&s, NULL), BSONRAW_NULL, "a file of NULL");
+    is(bsonraw_stream_read(&s), BSONRAW_NULL, "a file of NULL");
+    /* 300000 bytes of which each is x, as a binary, behind sixteen small documents */
+    memset(large, 'x', 300000);
+    memcpy(large, "\340\223\4\0\5\0\324\223\4\0\0", 11), large[299999] = 0;
+    file = tmpfile();
+    for (at = 0; at < 16; at++) fwrite(sample, 1, sizeof sample, file);
+    for (at = 0; at < 2; at++) fwrite(large, 1, 300000, file);
+    rewind(file);
+    is(bsonraw_stream_from_fd(&s, fileno(file)), BSONRAW_OK, "a large document");
+    for (at = 0; at < 16; at++) is(bsonraw_stream_read(&s), BSONRAW_OK, "a document before it");
+    for (at = 0; at < 2; at++) {
+        is(bsonraw_stream_read(&s), BSONRAW_OK, "a large document");
+        expect(s.len == 300000 && memcmp(s.bytes, large, 300000) == 0, "a large document", "another");
+    }
+    is(bsonraw_stream_read(&s), BSONRAW_NONE, "the end");
+    bsonraw_stream_free(&s);
+    fclose(file);
+    free(large);
+}
+
+static void look_at_cuts(void) {
+    size_t len;
+    for (len = 1; len < sizeof sample; len++) {
+        struct bsonraw_reader reader = {0, 0, 0, {0, 0, 0, 0, 0}};
+        is(bsonraw_reader_read(&reader, sample, len), BSONRAW_NO_DOCUMENT, "a cut");
+        is(bsonraw_reader_is_cut(&reader, sample, len), 1, "a cut");
+    }
+    for (len = 0; len < 5; len++) {
+        uint8_t bytes[9] = {0, 0, 0, 0, 0, 0, 0, 0, 0};
+        struct bsonraw_reader reader = {0, 0, 0, {0, 0, 0, 0, 0}};
+        bytes[0] = (uint8_t)len;
+        is(bsonraw_reader_read(&reader, bytes, 9), BSONRAW_NO_DOCUMENT, "a length that can't be");
+        is(bsonraw_reader_is_cut(&reader, bytes, 9), 0, "a length that can't be");
+    }
+}
+
+int main(void) {
+    static struct documents all;
+    read_documents(&all);
+    look_at_texts();
+    look_at_values();
+    look_at_places();
+    look_at_order();
+    look_at_many(&all);
+    look_at_edges();
+    look_at_buffers();
+    look_at_kinds();
+    look_at_any();
+    look_at_copies();
+    look_at_streams();
+    look_at_cuts();
+    return result("daily");
+}

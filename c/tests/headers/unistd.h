@@ -1,0 +1,10 @@
+#ifndef UNISTD_H
+#define UNISTD_H
+
+#include <stddef.h>
+
+typedef long ssize_t;
+
+ssize_t read(int fd, void *to, size_t len);
+
+#endif

@@ -1,0 +1,57 @@
+// bsonraw.hpp: views, elements, results and the buffer, beside a document written by hand.
+#include <bsonraw.hpp>
+
+#include <cstdio>
+
+static int wrong;
+
+static void expect(bool is_so, const char *what) {
+    if (!is_so) wrong++, std::fprintf(stderr, "hpp: %s\n", what);
+}
+
+// {"a": 7, "l": [true, "x"], "n": {"i": an ObjectId}}
+static const unsigned char sample[] = "\70\0\0\0\20a\0\7\0\0\0\4l\0\22\0\0\0\0100\0\1\0021\0\2\0\0\0x\0\0\3n\0\24\0\0\0\7i\0abcdefghijkl\0";
+
+int main() {
+    const bsonraw::oid id = {'a', 'b', 'c', 'd', 'e', 'f', 'g', 'h', 'i', 'j', 'k', 'l'};
+    bsonraw::buffer b;
+    b.append("a", 7).begin_array("l").append(nullptr, true).append(nullptr, "x").end().begin_document("n").append("i", id).end();
+    expect(b.document().status() == BSONRAW_MISUSE, "a document that isn't ended");
+    b.end();
+    auto built = b.document();
+    expect(built && built->size() == sizeof sample && std::memcmp(built->data(), sample, sizeof sample) == 0, "another document is built");
+    bsonraw::view doc(sample, sizeof sample);
+    std::string keys;
+    for (auto e : doc) keys += e.key(), expect(e.status() == BSONRAW_OK, "an element");
+    expect(keys == "aln", "other keys");
+    expect(doc.get<int32_t>("a").value_or(0) == 7 && doc.get<int64_t>("a").value_or(0) == 7, "a");
+    expect(doc.get<double>("a").value_or(0) > 6, "a as a double");
+    expect(doc.get<bool>("l.0").value_or(false), "l.0");
+    expect(doc.get<std::string_view>("l.1").value_or("") == "x", "l.1");
+    expect(doc.get<std::string_view>("a").status() == BSONRAW_OTHER_KIND, "a as a text");
+    expect(doc.get<bsonraw::oid>("n.i").value_or({}) == id, "n.i");
+    auto list = doc.get<bsonraw::view>("l");
+    expect(list && (*(*list).begin()).tag() == BSONRAW_TAG_BOOLEAN && !doc.get<bsonraw::view>("a"), "l");
+    expect(doc.get<bool>("x").status() == BSONRAW_NONE && !doc.has("x") && doc.has("n"), "x");
+    expect((*doc.find("n")).value()->text_len == 20, "the value of n");
+    expect(*doc.json() == "{\"a\":7,\"l\":[true,\"x\"],\"n\":{\"i\":{\"$oid\":\"6162636465666768696a6b6c\"}}}", "a text");
+    expect(doc.json(true, true)->size() > 80, "a long text");
+    expect(*doc.canonical() == std::vector<uint8_t>(sample, sample + sizeof sample), "a form");
+    int stops = 0, steps = 0;
+    for (auto e : bsonraw::view(reinterpret_cast<const uint8_t *>("\11\0\0\0\12x\0\5"), 9))
+        steps++, stops += e.status() == BSONRAW_FAULT && e.error().kind == BSONRAW_MALFORMED && e.error().offset == 7;
+    expect(steps == 2 && stops == 1, "a stop");
+    for (auto e : bsonraw::view()) expect(e.status() == BSONRAW_NO_DOCUMENT, "no document"), steps++;
+    expect(steps == 3, "no document");
+    expect(bsonraw::view(sample, 5).first_fault().status() == BSONRAW_NO_DOCUMENT, "a fault");
+    bsonraw::buffer copy;
+    for (auto e : doc) copy.append(e);
+    copy.end();
+    bsonraw::buffer moved(std::move(copy));
+    expect(moved.document() && moved.document()->size() == sizeof sample, "a copy");
+    copy = std::move(moved);
+    copy.reset().append("x", std::string_view("\xff")).end();
+    expect(copy.status() == BSONRAW_FAULT && std::string_view(copy.document().text()) == "a fault", "a text that isn't UTF-8");
+    std::printf("hpp: %d wrong\n", wrong);
+    return wrong != 0;
+}

@@ -1,0 +1,254 @@
+ghost use Rattle.std.specs.Prelude.{◌≡◌, ◌<◌, ◌+◌, ◌^◌, IfNone, IfOk, IfSome, IsTrue, ◌↔◌, drop, length, true};
+ghost use Rattle.raw_resync.specs.Charge.{IsBounded};
+ghost use Rattle.raw_resync.specs.Resync.{EndsOrBegins};
+ghost use Rattle.raw_resync.specs.Seeking.{IsWork, LacksPiece};
+ghost use Rattle.bsonraw_c.specs.Resync.{BeginsPiece, FindsFirst, GoesOnward, IsBehind, IsInput, LeavesWork, Resyncs, damage_of, work_of};
+
+use crate::codes::Status;
+use crate::reader::Reader;
+use raw_bson::Limits;
+use raw_resync::{Check, Part, Places, Sought, Work, check_behind, seek};
+use std::alloc::{AllocError, Global};
+
+/// What the searches in a buffer cost so far, and what the last one found.
+#[repr(C)]
+#[derive(Clone, Copy)]
+pub struct Resync {
+    /// how many bytes were charged
+    pub spent: u64,
+    /// the furthest end of what was looked into
+    pub reach: u64,
+    /// 1 where the length of the damaged document is believed; else 0
+    pub is_believed: u32,
+    /// 1 where a place wasn't looked at, since that could cost too much; else 0
+    pub left_out: u32,
+}
+
+/// A buffer has at most so many bytes, so that eight times as many can be counted.
+const MOST_BYTES: usize = 1 << 60;
+
+/// Says where documents go on behind the damaged one that a reader is at, or where it found none.
+#[unsafe(no_mangle)]
+pub extern "C" fn bsonraw_reader_resync(
+    alloc: Global,
+    reader: &mut Reader,
+    bytes: &[u8],
+    max_bytes: usize,
+    max_depth: usize,
+    resync: &mut Resync,
+) -> i32
+    ensures { Resyncs (record { bytes = max_bytes; depth = max_depth })
+        bytes.now reader.old reader.new resync.old resync.new result }
+{
+    let damage = reader.damage() as usize;
+    if bytes.len() <= damage || !resync.is_of(bytes) {
+        return Status::BadOffset.number();
+    }
+    if MOST_BYTES < bytes.len() {
+        return Status::TooManyBytes.number();
+    }
+    let part = Part {
+        bytes: bytes.split_at(damage).1,
+        is_last: true,
+        at: damage as u64,
+        limits: Limits {
+            bytes: max_bytes,
+            depth: max_depth,
+        },
+    };
+    let mut work = resync.work();
+    match go_on(alloc, part, &mut work) {
+        Ok(onward) => {
+            reader.next = (damage + onward.count) as u64;
+            *resync = Resync::told(onward, work);
+            Status::Done.number()
+        }
+        Err(AllocError) => Status::NoMemory.number(),
+    }
+}
+
+impl Reader {
+    /// Where the document that it is at begins; without one, where the last fault is.
+    fn damage(&self) -> u64
+        ensures { result ≡ damage_of self.now }
+    {
+        if self.document_len == 0 {
+            self.fault.offset
+        } else {
+            self.document_at
+        }
+    }
+}
+
+impl Resync {
+    /// Whether searches in these bytes can have cost so much.
+    fn is_of(&self, bytes: &[u8]) -> bool
+        ensures { IsTrue result ↔ IsBounded (length bytes.now) (work_of self.now) }
+    {
+        self.spent as u128 <= 8 * self.reach as u128 && self.reach <= bytes.len() as u64
+    }
+
+    /// What the searches cost so far.
+    fn work(&self) -> Work
+        ensures { result ≡ work_of self.now }
+    {
+        Work {
+            spent: self.spent as u128,
+            reach: self.reach as u128,
+        }
+    }
+
+    /// What a search found, and what it cost with those before.
+    fn told(onward: Onward, work: Work) -> Resync
+        requires { work.spent < 2 ^ 64 × (work.reach < 2 ^ 64) }
+        ensures { LeavesWork onward work result }
+    {
+        Resync {
+            spent: work.spent as u64,
+            reach: work.reach as u64,
+            is_believed: u32::from(onward.is_believed),
+            left_out: u32::from(!onward.all),
+        }
+    }
+}
+
+/// Where documents go on behind a damaged one.
+#[derive(Clone, Copy)]
+pub struct Onward {
+    /// so many bytes behind its first
+    pub count: usize,
+    /// whether that is where its length ends
+    pub is_believed: bool,
+    /// whether all that this rests on was looked at
+    pub all: bool,
+}
+
+/// Where documents go on behind the damaged one in front of these bytes, the last of the input.
+fn go_on(alloc: Global, part: Part<'_>, work: &mut Work) -> Result<Onward, AllocError>
+    requires { IsInput part × IsWork work.old }
+    ensures work { IsWork work.new }
+    ensures onward { IfOk result (GoesOnward part.entry.limits part.entry.at part.entry.bytes.now work.old work.new) }
+{
+    match len_in_front(part) {
+        Some(len) => behind_piece(alloc, part, len, work),
+        None => first_place(alloc, part, work),
+    }
+}
+
+/// The first place behind the first byte where documents go on.
+fn first_place(alloc: Global, part: Part<'_>, work: &mut Work) -> Result<Onward, AllocError>
+    requires { IsInput part × IsWork work.old }
+    ensures work { IsWork work.new }
+    ensures place { IfOk result (FindsFirst part.entry.limits part.entry.at part.entry.bytes.now work.old work.new) }
+{
+    let places = Places {
+        from: 1,
+        until: usize::MAX,
+        end: 0,
+    };
+    match seek(alloc, part, places, work)? {
+        Sought::Found { place, all } => Ok(Onward {
+            count: place,
+            is_believed: false,
+            all,
+        }),
+        Sought::Nowhere { all: _ } => unreachable!(),
+        Sought::Wants { .. } => unreachable!(),
+    }
+}
+
+/// Where documents go on behind a damaged one of so many bytes.
+fn behind_piece(
+    alloc: Global,
+    part: Part<'_>,
+    len: usize,
+    work: &mut Work,
+) -> Result<Onward, AllocError>
+    requires { IsInput part × IsWork work.old × BeginsPiece part.limits.bytes part.bytes.now len }
+    ensures work { IsWork work.new }
+    ensures onward { IfOk result (GoesOnward part.entry.limits part.entry.at part.entry.bytes.now work.old work.new) }
+{
+    match check_behind(alloc, part, len, work)? {
+        Check::GoesOn => behind_or_reaching(alloc, part, len, true, work),
+        Check::Stops => inside_or_behind(alloc, part, len, work),
+        Check::LeftOut => behind_or_reaching(alloc, part, len, false, work),
+        Check::Wants(_) => unreachable!(),
+    }
+}
+
+/// Where documents go on, where none does behind the damaged one of so many bytes: at the first place inside it, else behind.
+fn inside_or_behind(
+    alloc: Global,
+    part: Part<'_>,
+    len: usize,
+    work: &mut Work,
+) -> Result<Onward, AllocError>
+    requires input { IsInput part × IsWork work.old × BeginsPiece part.limits.bytes part.bytes.now len }
+    requires stops { ¬ EndsOrBegins part.limits (drop len part.bytes.now) }
+    ensures work { IsWork work.new }
+    ensures onward { IfOk result (GoesOnward part.entry.limits part.entry.at part.entry.bytes.now work.old work.new) }
+{
+    let places = Places {
+        from: 1,
+        until: len,
+        end: 0,
+    };
+    match seek(alloc, part, places, work)? {
+        Sought::Found { place, all } => Ok(Onward {
+            count: place,
+            is_believed: false,
+            all,
+        }),
+        Sought::Nowhere { all } => Ok(Onward {
+            count: len,
+            is_believed: true,
+            all,
+        }),
+        Sought::Wants { .. } => unreachable!(),
+    }
+}
+
+/// Where documents go on, where one does behind the damaged one of so many bytes, or where that isn't known: behind it, but where
+/// they go on inside it with one that reaches as far.
+fn behind_or_reaching(
+    alloc: Global,
+    part: Part<'_>,
+    len: usize,
+    is_known: bool,
+    work: &mut Work,
+) -> Result<Onward, AllocError>
+    requires input { IsInput part × IsWork work.old × BeginsPiece part.limits.bytes part.bytes.now len }
+    requires behind { IsBehind part.limits (part.at + length part.bytes.now) (drop len part.bytes.now) work.old is_known }
+    ensures work { IsWork work.new }
+    ensures onward { IfOk result (GoesOnward part.entry.limits part.entry.at part.entry.bytes.now work.old work.new) }
+{
+    let places = Places {
+        from: 1,
+        until: len,
+        end: len,
+    };
+    match seek(alloc, part, places, work)? {
+        Sought::Found { .. } => first_place(alloc, part, work),
+        Sought::Nowhere { all } => Ok(Onward {
+            count: len,
+            is_believed: true,
+            all: is_known && all,
+        }),
+        Sought::Wants { .. } => unreachable!(),
+    }
+}
+
+/// How many bytes a document in front of these says it has, where it may have so many and they are there.
+fn len_in_front(part: Part<'_>) -> Option<usize>
+    requires { IsInput part }
+    ensures found { IfSome result (BeginsPiece part.entry.limits.bytes part.entry.bytes.now) }
+    ensures none { IfNone result (LacksPiece part.entry.limits.bytes true part.entry.bytes.now) }
+{
+    let head = part.bytes.first_chunk::<4>()?;
+    let len = u32::from_le_bytes(*head) as usize;
+    if len < 5 || part.limits.bytes < len || part.bytes.len() < len {
+        None
+    } else {
+        Some(len)
+    }
+}
