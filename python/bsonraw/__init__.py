@@ -25,10 +25,10 @@ have small classes here. MongoDB's own are taken by `encode`, and given by
 `decode(data, types="bson")`.
 
 Data is any bytes-like object whose bytes lie one behind the other: bytes,
-bytearray, memoryview, mmap, an array. It is not copied, and each call leaves
-it as it is. A call over more than 64 KiB of a bytes object, or of a view of
-one, lets go of the interpreter's lock; other buffers can be written, and are
-read under it.
+bytearray, memoryview, mmap, an array. A bytes object, or a view of one, is
+not copied. Others may write any other buffer meanwhile, so that a document of
+one is copied first. A call over more than 64 KiB lets go of the interpreter's
+lock.
 
 Damage raises BsonError, with the place, and does no harm. MemoryError comes
 where memory runs out. The library below is proved; this package is tested.
@@ -38,27 +38,41 @@ from __future__ import annotations
 
 import io
 import os
-from typing import TYPE_CHECKING, Any, Dict, Iterator, List, Optional, Tuple
+from typing import TYPE_CHECKING, Any, Callable, Dict, Iterable, List, Literal, Optional, Tuple, Union, overload
 
-from . import _native, _types
-from ._native import Element, Int64, canonical, check, decode, elements, encode, find, first_fault, get, to_json, walk
-from ._types import (
+from . import _native, _types, _values
+from ._native import (
+    Documents,
+    Element,
+    Elements,
+    Int64,
+    Walk,
+    canonical,
+    check,
+    decode,
+    elements,
+    encode,
+    find,
+    first_fault,
+    get,
+    to_json,
+    walk,
+)
+from ._codec import Codec
+from ._columns import Column
+from ._edit import REMOVE, RawDocument, edit, steps_of
+from ._streams import documents_async
+from ._types import Breach, BsonError, Cause, ElementType, ErrorKind, Forms, Reason
+from ._values import (
     Binary,
-    Breach,
-    BsonError,
-    Cause,
     Code,
     DatetimeMS,
     DBPointer,
     Decimal128,
-    ElementType,
-    ErrorKind,
-    Forms,
     MaxKey,
     MinKey,
     ObjectId,
     Pairs,
-    Reason,
     Regex,
     Symbol,
     Timestamp,
@@ -66,7 +80,8 @@ from ._types import (
 )
 
 if TYPE_CHECKING:
-    from ._native import Buffer
+    from ._edit import Path
+    from ._native import Buffer, Errors, Types
     from ._types import Source
 
 __all__ = [
@@ -75,11 +90,15 @@ __all__ = [
     "BsonError",
     "Cause",
     "Code",
+    "Codec",
+    "Column",
     "DBPointer",
     "DatetimeMS",
     "Decimal128",
+    "Documents",
     "Element",
     "ElementType",
+    "Elements",
     "ErrorKind",
     "Forms",
     "Int64",
@@ -89,11 +108,14 @@ __all__ = [
     "MinKey",
     "ObjectId",
     "Pairs",
+    "REMOVE",
+    "RawDocument",
     "Reason",
     "Regex",
     "Symbol",
     "Timestamp",
     "Undefined",
+    "Walk",
     "canonical",
     "canonical_all",
     "check",
@@ -101,6 +123,8 @@ __all__ = [
     "decode",
     "decode_all",
     "documents",
+    "documents_async",
+    "edit",
     "elements",
     "encode",
     "find",
@@ -120,7 +144,7 @@ MAX_DEPTH = 500
 
 
 for _name in __all__:
-    if getattr(globals().get(_name), "__module__", None) == _types.__name__:
+    if getattr(globals().get(_name), "__module__", "").startswith(f"{__name__}._"):
         globals()[_name].__module__ = __name__  # where a reader of help, of a traceback or of a pickle looks for it
 
 
@@ -128,79 +152,180 @@ class _Parts:
     """What the compiled module makes, and calls."""
 
     def __getattr__(self, name: str) -> Any:
-        if name == "convert":
-            from ._foreign import convert
+        if name in ("convert", "placed"):
+            from . import _foreign
 
-            return convert
-        return getattr(_types, name)
+            return getattr(_foreign, name)
+        return getattr(_values if hasattr(_values, name) else _types, name)
 
 
 _native.use(_Parts())
 
 
-def documents(source: Source) -> Iterator[Tuple[int, Any]]:
-    """The documents of a dump, one behind the other, each with its offset.
-
-    They are bytes where they come from a file that is open for reading bytes,
-    and read-only views without a copy where they come from a buffer.
-
-    They are cut by their length alone: what is inside, and the 0 at the end,
-    is for who reads them. Raises BsonError, with the offset, where no document
-    can be: its length is under 5 or more than what is left. Nothing says then
-    where a next document would begin. A path, or a file that is open for text,
-    raises TypeError at the call.
-    """
+def _read_of(source: Any) -> Any:
+    """What reads a block of an open file: of a pipe or a socket what is there, without waiting for more."""
     if isinstance(source, (str, os.PathLike)):
         raise TypeError("source is a path, not an open file: use open(path, 'rb')")
     if isinstance(source, io.TextIOBase):
         raise TypeError("source is a file that is open for text, not for bytes: use open(path, 'rb')")
     try:
-        memoryview(source).release()  # type: ignore[arg-type]
+        memoryview(source).release()
+        return None
     except TypeError:
-        read = getattr(source, "read", None)
+        read = getattr(source, "read1", None) or getattr(source, "read", None)
         if read is None:
             name = type(source).__name__
             raise TypeError(f"source is of type {name}, and neither an open file nor bytes-like") from None
-        return _native.documents(read, None)
-    return _native.documents(None, source)  # type: ignore[arg-type]
+        return read
+
+
+def _whole_of(source: Any) -> bytes:
+    """What is left of an open file, or a buffer as bytes that nobody writes."""
+    read = _read_of(source)
+    if read:
+        return bytes.join(b"", iter(lambda: bytes(read(1 << 20)), b""))
+    return source if type(source) is bytes else bytes(source)
+
+
+def documents(source: Source, *, max_bytes: int = MAX_BYTES, resync: bool = False) -> Documents:
+    """The documents of a dump, one behind the other, each with its offset.
+
+    The dump is a file that is open for reading bytes, or a buffer. Each comes
+    as a bytes object; of a pipe or a socket as soon as its last byte is there.
+
+    They are cut by their length alone: what is inside, and the 0 at the end,
+    is for who reads them. Raises BsonError, with the offset, where no document
+    can be: its length is under 5 or more than what is left. Nothing says then
+    where a next document would begin. It is raised, too, where a length is
+    more than max_bytes, before more of the document is read. A path, or a file
+    that is open for text, raises TypeError at the call.
+
+    With resync=True only documents without damage are given, at most 500
+    levels deep, and none of these errors is raised: behind damage it goes on
+    where documents do, which is where one without damage begins, and another
+    or the end is behind it. What was passed over is what no offset covers.
+    A file is read whole for that, and a buffer that isn't bytes is copied.
+    """
+    if resync:
+        return _native.documents(None, _whole_of(source), max_bytes, True)
+    read = _read_of(source)
+    return _native.documents(read, None if read else source, max_bytes)  # type: ignore[arg-type]
 
 
 def decode_all(
     source: Source,
     *,
     pairs: bool = False,
-    types: Optional[str] = None,
+    types: Types = None,
+    tz_aware: Optional[bool] = None,
+    uuid: bool = False,
+    object_hook: Optional[Callable[[Dict[str, Any]], Any]] = None,
+    object_pairs_hook: Optional[Callable[[Pairs], Any]] = None,
+    errors: Errors = "strict",
+    resync: bool = False,
     max_bytes: int = MAX_BYTES,
     max_depth: int = MAX_DEPTH,
 ) -> List[Any]:
     """All documents of a dump, each as `decode` gives it.
 
     The dump is an open file, or bytes. Raises BsonError at the first document
-    with a fault, with the offset in the dump; `documents` goes on behind one.
+    with a fault, with the offset in the dump. With errors="skip" such a
+    document is left out, and the next one follows; a call for errors is given
+    the BsonError of each, and goes on. Where no document can be cut, it ends.
+    With resync=True, too, it goes on behind damage where `documents` does, also
+    where no document can be cut, or where the length of a damaged one would
+    have others passed over.
     """
-    rest = documents(source)
-    return _native.decode_all(rest, pairs=pairs, types=types, max_bytes=max_bytes, max_depth=max_depth)
+    return _native.decode_all(
+        documents(source, resync=resync),
+        pairs=pairs,
+        types=types,
+        tz_aware=tz_aware,
+        uuid=uuid,
+        object_hook=object_hook,
+        object_pairs_hook=object_pairs_hook,
+        errors=errors,
+        max_bytes=max_bytes,
+        max_depth=max_depth,
+    )
 
 
+@overload
 def columns(
     source: Source,
     *,
+    paths: Optional[Iterable[Path]] = ...,
+    missing: Any = ...,
+    typed: Literal[False] = ...,
+    types: Types = ...,
+    tz_aware: Optional[bool] = ...,
+    uuid: bool = ...,
+    errors: Errors = ...,
+    max_bytes: int = ...,
+    max_depth: int = ...,
+) -> Dict[Any, List[Any]]: ...
+@overload
+def columns(
+    source: Source,
+    *,
+    paths: Optional[Iterable[Path]] = ...,
+    typed: Literal[True],
+    types: Types = ...,
+    tz_aware: Optional[bool] = ...,
+    uuid: bool = ...,
+    errors: Errors = ...,
+    max_bytes: int = ...,
+    max_depth: int = ...,
+) -> Dict[Any, Union[Column, List[Any]]]: ...
+def columns(
+    source: Source,
+    *,
+    paths: Optional[Iterable[Path]] = None,
     missing: Any = None,
-    types: Optional[str] = None,
+    typed: bool = False,
+    types: Types = None,
+    tz_aware: Optional[bool] = None,
+    uuid: bool = False,
+    errors: Errors = "strict",
     max_bytes: int = MAX_BYTES,
     max_depth: int = MAX_DEPTH,
-) -> Dict[str, List[Any]]:
+) -> Any:
     """A dump as a table, for pandas.DataFrame and its like.
 
     By each key of the first level it has the list of its values, with a place
-    for each document. Where a document lacks the key, missing is there.
+    for each document; or by each of paths, which are texts as "user.name" and
+    "tags.0", or tuples. Where a document lacks the key, missing is there.
 
     The keys come in the order in which they are first met, and the table takes
-    memory for each key and document. Values are those of `decode`, and errors
-    those of `decode_all`.
+    memory for each key and document. Of a repeated key the last value counts.
+    Values are those of `decode`, and errors those of `decode_all`; a document
+    that is left out has no place.
+
+    With typed=True a column whose values are all ints, doubles, bools, dates
+    or strings is a Column, which keeps them in buffers. Ints among doubles are
+    doubles, where each is one exactly. A null counts as a value that is
+    missing, and an int64 comes as an int. Other columns are lists, with None
+    for what is missing.
     """
-    rest = documents(source)
-    return _native.columns(rest, missing=missing, types=types, max_bytes=max_bytes, max_depth=max_depth)
+    if typed and missing is not None:
+        raise ValueError("with typed=True nothing else is in the place of what is missing")
+    named = None if paths is None else [(path if isinstance(path, str) else tuple(path), tuple(steps_of(path))) for path in paths]
+    found = _native.columns(
+        documents(source),
+        paths=named,
+        missing=missing,
+        typed=typed,
+        types=types,
+        tz_aware=tz_aware,
+        uuid=uuid,
+        errors=errors,
+        max_bytes=max_bytes,
+        max_depth=max_depth,
+    )
+    if not typed:
+        return found
+    is_naive = tz_aware is False or (tz_aware is None and types is not None)
+    return {key: column if isinstance(column, list) else Column((column[0], column[1], column[2], column[3], is_naive)) for key, column in found.items()}
 
 
 def canonical_all(
@@ -229,3 +354,7 @@ def partitions(data: Buffer, size: int) -> Tuple[List[int], Optional[BsonError]]
     the other is a dump for `canonical_all`.
     """
     return _native.partitions(data, size)
+
+
+def __dir__() -> List[str]:
+    return sorted([*__all__, "__doc__", "__file__", "__name__", "__path__", "__version__"])

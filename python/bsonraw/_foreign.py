@@ -1,4 +1,4 @@
-"""Values of other classes: of MongoDB's package, of the standard library, and classes over ours."""
+"""Values of other classes: of MongoDB's package, of the standard library, of numpy, and classes over ours."""
 
 from __future__ import annotations
 
@@ -7,16 +7,16 @@ import re
 import uuid
 from datetime import datetime, timedelta, timezone
 from functools import lru_cache
-from typing import Any, Callable, Dict, Mapping
+from typing import Any, Callable, Dict, List, Mapping, Tuple
 
 from ._native import Int64
-from ._types import (
+from ._types import BsonError, ElementType
+from ._values import (
     Binary,
     Code,
     DatetimeMS,
     DBPointer,
     Decimal128,
-    ElementType,
     MaxKey,
     MinKey,
     ObjectId,
@@ -29,19 +29,19 @@ from ._types import (
 _EPOCH = datetime(1970, 1, 1, tzinfo=timezone.utc)
 
 
-def _options(flags: int) -> str:
-    """The options of BSON for flags of re."""
-    letters = ((re.I, "i"), (re.L, "l"), (re.M, "m"), (re.S, "s"), (re.U, "u"), (re.X, "x"))
-    return "".join(letter for flag, letter in letters if flags & flag)
-
-
 def _regex(pattern: Any, flags: int) -> Regex:
-    return Regex(pattern.decode() if isinstance(pattern, bytes) else pattern, _options(flags))
+    return Regex(pattern.decode() if isinstance(pattern, bytes) else pattern, flags)
 
 
 def _millis(value: datetime) -> DatetimeMS:
     aware = value if value.utcoffset() is not None else value.replace(tzinfo=timezone.utc)
     return DatetimeMS((aware - _EPOCH) // timedelta(milliseconds=1))
+
+
+def _raw_document(value: Any) -> Pairs:
+    from ._native import decode
+
+    return decode(value.raw, pairs=True)  # type: ignore[no-any-return]
 
 
 # Classes of MongoDB's package, by the marks that they have for one another.
@@ -55,11 +55,12 @@ _MARKED: Dict[int, Callable[[Any], Any]] = {
     18: lambda value: Int64(int(value)),
     19: lambda value: Decimal128(value.bid),
     100: lambda value: Pairs(value.as_doc().items()),
+    101: _raw_document,
     127: lambda value: MaxKey(),
     255: lambda value: MinKey(),
 }
 
-# Classes over these: over ours first, since some of ours are over Python's.
+# Classes over these: over ours first, since some of ours are over Python's, and have MongoDB's marks.
 _OVER = (
     (Int64, lambda value: Int64(int(value))),
     (DatetimeMS, lambda value: DatetimeMS(int(value))),
@@ -72,6 +73,10 @@ _OVER = (
     (Code, lambda value: Code(value.code, value.scope)),
     (DBPointer, lambda value: DBPointer(value.namespace, value.id)),
     (Pairs, Pairs),
+)  # type: Tuple[Tuple[Any, Callable[[Any], Any]], ...]
+
+# Classes over Python's, and others of the standard library.
+_OTHERS = (
     (Mapping, lambda value: Pairs(value.items())),
     (str, str.__str__),
     (datetime, _millis),
@@ -80,49 +85,113 @@ _OVER = (
     ((bytes, bytearray, memoryview), bytes),
     (uuid.UUID, lambda value: Binary(value.bytes, 4)),
     (re.Pattern, lambda value: _regex(value.pattern, value.flags)),
-)  # type: tuple[tuple[Any, Callable[[Any], Any]], ...]
+)  # type: Tuple[Tuple[Any, Callable[[Any], Any]], ...]
+
+# Numbers of numpy, by the letter of their kind.
+_NUMBERS: Dict[str, Callable[[Any], Any]] = {"b": bool, "i": int, "u": int, "f": float}
+
+
+def _number_kind(value: Any) -> Any:
+    """Of one number of numpy the letter of its kind."""
+    kind = getattr(getattr(value, "dtype", None), "kind", None)
+    return kind if kind in _NUMBERS and getattr(value, "shape", None) == () else None
 
 
 def convert(value: Any) -> Any:
-    """A value of one of the classes that the module writes, for a value of another class."""
-    mark = getattr(value, "_type_marker", None)
-    if isinstance(mark, int) and mark in _MARKED:
-        return _MARKED[mark](value)
+    """A value of one of the classes that the module writes, for a value of another class; or NotImplemented."""
     for kind, make in _OVER:
         if isinstance(value, kind):
             return make(value)
+    mark = getattr(value, "_type_marker", None)
+    if isinstance(mark, int) and mark in _MARKED:
+        return _MARKED[mark](value)
+    for kind, make in _OTHERS:
+        if isinstance(value, kind):
+            return make(value)
+    kind = _number_kind(value)
+    if kind is not None:
+        return _NUMBERS[kind](value)
     try:
         return int(operator.index(value))
     except TypeError:
-        raise TypeError(f"a value of class {type(value).__name__} can't be encoded: {value!r:.100}") from None
+        return NotImplemented
 
 
-@lru_cache(maxsize=None)
-def types_of(name: str) -> Dict[int, Callable[[Any], Any]]:
-    """What makes another package's values of ours, by the tags of BSON."""
-    if name != "bson":
-        raise ValueError(f"types is {name!r}, not None or 'bson'")
-    try:
-        import bson  # type: ignore[import]
-        from bson import binary, code, decimal128, int64, max_key, min_key, objectid, regex, timestamp
-    except ImportError as error:
-        raise ImportError(f"types='bson' needs MongoDB's package bson, which isn't there ({error})") from None
-    if not hasattr(bson, "BSON"):
-        raise ImportError("types='bson' needs MongoDB's package, but the package bson that is there is another one")
+def placed(error: BaseException, path: List[int], keys: List[str]) -> BaseException:
+    """An error of encode that says where the value is; one that isn't of encode itself as it is."""
+    made: BaseException
+    if type(error) is BsonError:
+        made = BsonError(error.kind, error.reason, error.key, None, tuple(path), tuple(keys))
+    elif type(error) in (TypeError, OverflowError) and keys:
+        made = type(error)(f"at key {'.'.join(keys)!r}: {error}")
+    else:
+        return error
+    made.__cause__ = error.__cause__
+    return made.with_traceback(error.__traceback__)
+
+
+# ---- MongoDB's classes -----------------------------------------------------------------------------------------------
+
+
+def _makers() -> Dict[int, Callable[[Any], Any]]:
+    """What makes MongoDB's values: of the parts of numbers, binaries and timestamps, and of an id where its class is here; else
+    of ours."""
+    from bson import (  # type: ignore[import]
+        binary,
+        code,
+        dbref,
+        decimal128,
+        int64,
+        max_key,
+        min_key,
+        objectid,
+        regex,
+        timestamp,
+    )
 
     def code_of(value: Code) -> Any:
         scope = value.scope
         return code.Code(value.code, dict(scope) if isinstance(scope, Pairs) else scope)
 
+    def pointer_of(value: DBPointer) -> Any:
+        return dbref.DBRef(value.namespace, objectid.ObjectId(value.id.binary))
+
+    def reference_of(value: Dict[str, Any]) -> Any:
+        if not isinstance(value["$ref"], str) or "$id" not in value:
+            return value
+        rest = {key: of for key, of in value.items() if key not in ("$ref", "$id", "$db")}
+        return dbref.DBRef(value["$ref"], value["$id"], value.get("$db"), rest)
+
+    has_slot = "_ObjectId__id" in getattr(objectid.ObjectId, "__slots__", ()) or hasattr(objectid.ObjectId, "_ObjectId__id")
     return {
-        ElementType.BINARY: lambda value: value if type(value) is bytes else binary.Binary(value.data, value.subtype),
-        ElementType.OBJECT_ID: lambda value: objectid.ObjectId(value.binary),
-        ElementType.REGEX: lambda value: regex.Regex(value.pattern, value.options),
+        ElementType.DOCUMENT: reference_of,
+        ElementType.BINARY: binary.Binary,
+        ElementType.UNDEFINED: lambda value: None,
+        ElementType.OBJECT_ID: objectid.ObjectId if has_slot else lambda value: objectid.ObjectId(value.binary),
+        ElementType.REGEX: lambda value: regex.Regex(value.pattern, value.flags),
+        ElementType.DB_POINTER: pointer_of,
         ElementType.JAVASCRIPT: code_of,
+        ElementType.SYMBOL: str.__str__,
         ElementType.JAVASCRIPT_WITH_SCOPE: code_of,
-        ElementType.TIMESTAMP: lambda value: timestamp.Timestamp(value.time, value.increment),
-        ElementType.INT64: lambda value: int64.Int64(value),
-        ElementType.DECIMAL128: lambda value: decimal128.Decimal128.from_bid(value.binary),
+        ElementType.TIMESTAMP: timestamp.Timestamp,
+        ElementType.INT64: int64.Int64,
+        ElementType.DECIMAL128: decimal128.Decimal128.from_bid,
         ElementType.MIN_KEY: lambda value: min_key.MinKey(),
         ElementType.MAX_KEY: lambda value: max_key.MaxKey(),
     }
+
+
+@lru_cache(maxsize=None)
+def types_of(name: str) -> Tuple[Any, ...]:
+    """What makes another package's values of ours, by the tags of BSON; None where ours are its own."""
+    if name != "bson":
+        raise ValueError(f"types is {name!r}, not None or 'bson'")
+    try:
+        import bson
+
+        makers = _makers() if hasattr(bson, "BSON") else None
+    except ImportError as error:
+        raise ImportError(f"types='bson' needs MongoDB's package bson, which isn't there ({error})") from None
+    if makers is None:
+        raise ImportError("types='bson' needs MongoDB's package, but the package bson that is there is another one")
+    return tuple(makers.get(tag) for tag in range(256))

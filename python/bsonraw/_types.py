@@ -1,14 +1,9 @@
-"""Kinds, errors and the classes of values."""
+"""Kinds, errors, and what calls over dumps give."""
 
 from __future__ import annotations
 
-import re
-from datetime import datetime, timedelta, timezone
 from enum import IntEnum
-from functools import total_ordering
-from typing import TYPE_CHECKING, Any, Iterator, List, Mapping, NamedTuple, Optional, Protocol, Tuple, Union
-
-from ._native import Pair, Raw
+from typing import TYPE_CHECKING, Any, Iterator, List, NamedTuple, Optional, Protocol, Tuple, Union
 
 
 class Reader(Protocol):
@@ -147,8 +142,8 @@ class BsonError(ValueError):
     dump: from the dump's); None where there is no such place.
     path: for each level, from the outermost on, the number of the element,
     from 0; where no element could be read, how many are before.
-    keys: the same path by keys, and by numbers in arrays: ".".join(error.keys)
-    is for find.
+    keys: the same path by keys, and by numbers in arrays, for find; of a
+    repeated key find goes to the first.
     """
 
     kind: ErrorKind
@@ -233,6 +228,10 @@ class Forms(NamedTuple):
     canonical: int
     faults: List[Tuple[int, BsonError]]
 
+    def __reduce__(self) -> Tuple[Any, ...]:
+        views = (self.data, self.ends, self.starts, self.own, self.hashes)
+        return _forms, (*map(bytes, views), self.canonical, self.faults)
+
     def each(self) -> Iterator[memoryview]:
         """The forms one by one: views of data, no copies."""
         start = 0
@@ -241,271 +240,12 @@ class Forms(NamedTuple):
             start = end
 
 
-# ---- values ----------------------------------------------------------------------------------------------------------
-
-
-class DatetimeMS(int):
-    """A time as milliseconds from 1970 on, of years that datetime doesn't have."""
-
-    __slots__ = ()
-
-    def __repr__(self) -> str:
-        return f"DatetimeMS({int(self)})"
-
-    def __reduce__(self) -> Tuple[Any, ...]:
-        return DatetimeMS, (int(self),)
-
-    __str__ = int.__repr__
-
-
-class Symbol(str):
-    """A symbol: a text of a kind of its own."""
-
-    __slots__ = ()
-
-    def __repr__(self) -> str:
-        return f"Symbol({str(self)!r})"
-
-
-@total_ordering
-class ObjectId(Raw):
-    """An id of twelve bytes, from these or from their 24 digits in hex. In order by the bytes."""
-
-    __slots__ = ()
-
-    def __new__(cls, value: Union[bytes, str]) -> ObjectId:
-        raw = bytes.fromhex(value) if isinstance(value, str) else bytes(value)
-        if len(raw) != 12:
-            raise ValueError(f"an ObjectId has 12 bytes, or 24 digits in hex, not {value!r}")
-        return super().__new__(cls, raw)
-
-    @property
-    def binary(self) -> bytes:
-        """The twelve bytes."""
-        return bytes(self)
-
-    @property
-    def generation_time(self) -> datetime:
-        """When it was made, by its first four bytes."""
-        seconds = int.from_bytes(self.binary[:4], "big")
-        return datetime(1970, 1, 1, tzinfo=timezone.utc) + timedelta(seconds=seconds)
-
-    def __str__(self) -> str:
-        return self.binary.hex()
-
-    def __repr__(self) -> str:
-        return f"ObjectId('{self}')"
-
-    def __lt__(self, other: object) -> bool:
-        if not isinstance(other, ObjectId):
-            return NotImplemented
-        return self.binary < other.binary
-
-    def __reduce__(self) -> Tuple[Any, ...]:
-        return ObjectId, (self.binary,)
-
-
-@total_ordering
-class Timestamp(Raw):
-    """A time of replication: seconds from 1970 on, and a number within one.
-
-    In order by both.
-    """
-
-    __slots__ = ()
-
-    def __new__(cls, time: int, increment: int) -> Timestamp:
-        return super().__new__(cls, increment.to_bytes(4, "little") + time.to_bytes(4, "little"))
-
-    @property
-    def time(self) -> int:
-        return int.from_bytes(bytes(self)[4:], "little")
-
-    @property
-    def increment(self) -> int:
-        return int.from_bytes(bytes(self)[:4], "little")
-
-    def __repr__(self) -> str:
-        return f"Timestamp({self.time}, {self.increment})"
-
-    def __lt__(self, other: object) -> bool:
-        if not isinstance(other, Timestamp):
-            return NotImplemented
-        return (self.time, self.increment) < (other.time, other.increment)
-
-    def __reduce__(self) -> Tuple[Any, ...]:
-        return Timestamp, (self.time, self.increment)
-
-
-class Decimal128(Raw):
-    """A decimal as BSON stores it: 16 bytes. Equal where these are."""
-
-    __slots__ = ()
-
-    def __new__(cls, value: bytes) -> Decimal128:
-        if len(value) != 16:
-            raise ValueError(f"a Decimal128 has 16 bytes, not {len(value)}")
-        return super().__new__(cls, bytes(value))
-
-    @property
-    def binary(self) -> bytes:
-        """The sixteen bytes."""
-        return bytes(self)
-
-    def __repr__(self) -> str:
-        return f"Decimal128({self.binary!r})"
-
-    def __reduce__(self) -> Tuple[Any, ...]:
-        return Decimal128, (self.binary,)
-
-
-class Regex(Pair):
-    """A regular expression: its pattern and its options, two texts."""
-
-    __slots__ = ()
-
-    def __new__(cls, pattern: str, options: str = "") -> Regex:
-        return super().__new__(cls, pattern, options)
-
-    @property
-    def pattern(self) -> str:
-        return self._first  # type: ignore[no-any-return]
-
-    @property
-    def options(self) -> str:
-        return self._second  # type: ignore[no-any-return]
-
-    def compile(self) -> re.Pattern[str]:
-        """The pattern for re, with those options that re has."""
-        flags = 0
-        for option in self.options:
-            flags |= {"i": re.I, "m": re.M, "s": re.S, "u": re.U, "x": re.X}.get(option, 0)
-        return re.compile(self.pattern, flags)
-
-    def __repr__(self) -> str:
-        return f"Regex({self.pattern!r}, {self.options!r})"
-
-    def __reduce__(self) -> Tuple[Any, ...]:
-        return Regex, (self.pattern, self.options)
-
-
-class Binary(Pair):
-    """Bytes of a subtype; those of subtype 0 are plain bytes."""
-
-    __slots__ = ()
-
-    def __new__(cls, data: bytes, subtype: int) -> Binary:
-        if not 0 <= subtype <= 255:
-            raise ValueError(f"a subtype is from 0 to 255, not {subtype}")
-        return super().__new__(cls, bytes(data), subtype)
-
-    @property
-    def data(self) -> bytes:
-        return self._first  # type: ignore[no-any-return]
-
-    @property
-    def subtype(self) -> int:
-        return self._second  # type: ignore[no-any-return]
-
-    def __bytes__(self) -> bytes:
-        return self.data
-
-    def __len__(self) -> int:
-        return len(self.data)
-
-    def __repr__(self) -> str:
-        return f"Binary({self.data!r}, {self.subtype})"
-
-    def __reduce__(self) -> Tuple[Any, ...]:
-        return Binary, (self.data, self.subtype)
-
-
-class Code(Pair):
-    """JavaScript, and the document that is its scope, or None."""
-
-    __slots__ = ()
-
-    def __new__(cls, code: str, scope: Optional[Union[Mapping[str, Any], Pairs]] = None) -> Code:
-        return super().__new__(cls, code, scope)
-
-    @property
-    def code(self) -> str:
-        return self._first  # type: ignore[no-any-return]
-
-    @property
-    def scope(self) -> Any:
-        return self._second
-
-    def __repr__(self) -> str:
-        return f"Code({self.code!r}, {self.scope!r})"
-
-    def __reduce__(self) -> Tuple[Any, ...]:
-        return Code, (self.code, self.scope)
-
-
-class DBPointer(Pair):
-    """A pointer of old: a namespace and an id."""
-
-    __slots__ = ()
-
-    def __new__(cls, namespace: str, id: ObjectId) -> DBPointer:
-        return super().__new__(cls, namespace, id)
-
-    @property
-    def namespace(self) -> str:
-        return self._first  # type: ignore[no-any-return]
-
-    @property
-    def id(self) -> ObjectId:
-        return self._second  # type: ignore[no-any-return]
-
-    def __repr__(self) -> str:
-        return f"DBPointer({self.namespace!r}, {self.id!r})"
-
-    def __reduce__(self) -> Tuple[Any, ...]:
-        return DBPointer, (self.namespace, self.id)
-
-
-class _Only:
-    """A value of which there is one."""
-
-    __slots__ = ()
-    _only: Any = None
-
-    def __new__(cls) -> Any:
-        if cls._only is None:
-            cls._only = super().__new__(cls)
-        return cls._only
-
-    def __repr__(self) -> str:
-        return f"{type(self).__name__}()"
-
-    def __reduce__(self) -> Tuple[Any, ...]:
-        return type(self), ()
-
-
-class Undefined(_Only):
-    """The value undefined, of old."""
-
-    __slots__ = ()
-
-
-class MinKey(_Only):
-    """The value below all others."""
-
-    __slots__ = ()
-
-
-class MaxKey(_Only):
-    """The value above all others."""
-
-    __slots__ = ()
-
-
-class Pairs(List[Tuple[str, Any]]):
-    """A document as a list of tuples of key and value: it has repeated keys as they are."""
-
-    __slots__ = ()
-
-    def __repr__(self) -> str:
-        return f"Pairs({super().__repr__()})"
+def _forms(
+    data: bytes, ends: bytes, starts: bytes, own: bytes, hashes: bytes, canonical: int, faults: List[Tuple[int, BsonError]]
+) -> Forms:
+    """Forms of what their pickle has."""
+
+    def numbers(of: bytes) -> memoryview:
+        return memoryview(of).cast("Q")
+
+    return Forms(memoryview(data), numbers(ends), numbers(starts), memoryview(own).cast("?"), numbers(hashes), canonical, faults)

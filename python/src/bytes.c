@@ -3,29 +3,44 @@
 
 static const uint8_t nothing[1] = {0}; /* where no bytes are */
 
-/* Whether an object's bytes are those of a bytes object, which nobody can write. */
+/* Whether an object's bytes are those of a bytes object, which nobody writes. */
 static int is_of_bytes(PyObject *data) {
+    static PyObject *name;
     PyObject *owner;
     int is_bytes;
-    if (PyBytes_CheckExact(data)) return 1;
     if (Py_TYPE(data) != &PyMemoryView_Type) return 0;
-    owner = PyObject_GetAttrString(data, "obj");
-    if (owner == NULL) {
-        PyErr_Clear();
-        return 0;
-    }
+    if (name == NULL && (name = PyUnicode_InternFromString("obj")) == NULL) return 0;
+    owner = PyObject_GetAttr(data, name);
+    if (owner == NULL) return 0;
     is_bytes = PyBytes_CheckExact(owner);
     Py_DECREF(owner);
     return is_bytes;
 }
 
-int bytes_open_view(struct bytes *bytes, PyObject *data) {
+int bytes_open_as_they_are(struct bytes *bytes, PyObject *data) {
+    if (PyBytes_CheckExact(data)) return bytes_open(bytes, data);
+    bytes->copy = NULL;
     bytes->has_view = 0;
     if (PyObject_GetBuffer(data, &bytes->view, PyBUF_SIMPLE) < 0) return -1;
     bytes->has_view = 1;
     bytes->len = (size_t)bytes->view.len;
     bytes->at = bytes->len == 0 ? nothing : bytes->view.buf;
-    bytes->is_fixed = bytes->len > LET_GO_OVER && is_of_bytes(data);
+    bytes->is_fixed = is_of_bytes(data);
+    if (bytes->is_fixed || !PyErr_Occurred()) return 0;
+    bytes_close(bytes);
+    return -1;
+}
+
+int bytes_open_view(struct bytes *bytes, PyObject *data) {
+    PyObject *copy;
+    if (bytes_open_as_they_are(bytes, data) < 0) return -1;
+    if (bytes->is_fixed) return 0;
+    copy = PyBytes_FromStringAndSize((const char *)bytes->at, (Py_ssize_t)bytes->len);
+    bytes_close(bytes);
+    if (copy == NULL) return -1;
+    bytes->at = (const uint8_t *)PyBytes_AsString(copy);
+    bytes->copy = copy;
+    bytes->is_fixed = 1;
     return 0;
 }
 
@@ -42,30 +57,51 @@ static PyTypeObject *source_type;
 static void source_dealloc(PyObject *self) {
     Source *source = (Source *)self;
     PyTypeObject *type = Py_TYPE(self);
+    PyObject_GC_UnTrack(self);
     bytes_close(&source->bytes);
     Py_XDECREF(source->view);
     Py_XDECREF(source->data);
-    PyObject_Free(self);
+    PyObject_GC_Del(self);
     Py_DECREF(type);
 }
 
-static PyType_Slot source_slots[] = {{Py_tp_dealloc, source_dealloc}, {0, NULL}};
-static PyType_Spec source_spec = {"bsonraw._native.Source", sizeof(Source), 0, NOT_CALLED, source_slots};
+/* A cycle goes through the iterator that has the source, and is cleared there. */
+static int source_traverse(PyObject *self, visitproc visit, void *arg) {
+    Source *source = (Source *)self;
+    VISIT_TYPE(self);
+    if (source->bytes.has_view) Py_VISIT(source->bytes.view.obj);
+    Py_VISIT(source->view);
+    Py_VISIT(source->data);
+    return 0;
+}
 
-Source *source_of(PyObject *data) {
+static PyType_Slot source_slots[] = {{Py_tp_dealloc, source_dealloc}, {Py_tp_traverse, source_traverse}, {0, NULL}};
+static PyType_Spec source_spec = {"bsonraw._native.Source", sizeof(Source), 0, NOT_CALLED | Py_TPFLAGS_HAVE_GC, source_slots};
+
+static Source *source_new(PyObject *data, int open_it(struct bytes *, PyObject *)) {
     Source *source;
     if (source_type == NULL && (source_type = type_not_called(&source_spec)) == NULL) return NULL;
-    source = PyObject_New(Source, source_type);
+    source = PyObject_GC_New(Source, source_type);
     if (source == NULL) return NULL;
     source->view = NULL;
     source->data = NULL;
-    if (bytes_open(&source->bytes, data) < 0) {
+    if (open_it(&source->bytes, data) < 0) {
         source->bytes.has_view = 0;
+        source->bytes.copy = NULL;
         Py_DECREF(source);
         return NULL;
     }
-    Py_INCREF(data);
-    source->data = data;
+    source->data = source->bytes.copy != NULL ? source->bytes.copy : data;
+    Py_INCREF(source->data);
+    return source;
+}
+
+Source *source_of(PyObject *data) { return source_new(data, bytes_open_view); }
+
+/* Bytes objects, and views of them, are in no cycle, so the collector hears of other objects alone. */
+Source *source_as_it_is(PyObject *data) {
+    Source *source = source_new(data, bytes_open_as_they_are);
+    if (source != NULL && !source->bytes.is_fixed) PyObject_GC_Track((PyObject *)source);
     return source;
 }
 

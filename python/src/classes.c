@@ -41,10 +41,25 @@ static void free_object(PyObject *self) {
 
 static void raw_dealloc(PyObject *self) { free_object(self); }
 
+/* The comparison with a value of another class: that with what the package makes of it, where it has one of MongoDB's marks. */
+static PyObject *compare_marked(PyObject *self, PyObject *other, int how, richcmpfunc compare) {
+    static PyObject *name;
+    PyObject *made, *result;
+    if (name == NULL && (name = PyUnicode_InternFromString("_type_marker")) == NULL) return NULL;
+    if (classes.convert == NULL || !PyObject_HasAttr(other, name)) Py_RETURN_NOTIMPLEMENTED;
+    made = PyObject_CallFunctionObjArgs(classes.convert, other, NULL);
+    if (made == NULL) return NULL;
+    if (Py_TYPE(made) == Py_TYPE(self)) result = compare(self, made, how);
+    else Py_INCREF(result = Py_NotImplemented);
+    Py_DECREF(made);
+    return result;
+}
+
 static PyObject *raw_compare(PyObject *self, PyObject *other, int how) {
     Raw *one = (Raw *)self, *two = (Raw *)other;
     int is_same;
-    if ((how != Py_EQ && how != Py_NE) || Py_TYPE(self) != Py_TYPE(other)) Py_RETURN_NOTIMPLEMENTED;
+    if (how != Py_EQ && how != Py_NE) Py_RETURN_NOTIMPLEMENTED;
+    if (Py_TYPE(self) != Py_TYPE(other)) return compare_marked(self, other, how, raw_compare);
     is_same = one->len == two->len && memcmp(one->bytes, two->bytes, one->len) == 0;
     return PyBool_FromLong(is_same == (how == Py_EQ));
 }
@@ -96,9 +111,7 @@ static PyObject *pair_tp_new(PyTypeObject *type, PyObject *args, PyObject *names
 }
 
 static int pair_traverse(PyObject *self, visitproc visit, void *arg) {
-#if PY_VERSION_HEX >= 0x03090000
-    Py_VISIT(Py_TYPE(self));
-#endif
+    VISIT_TYPE(self);
     Py_VISIT(((Pair *)self)->first);
     Py_VISIT(((Pair *)self)->second);
     return 0;
@@ -119,7 +132,8 @@ static void pair_dealloc(PyObject *self) {
 static PyObject *pair_compare(PyObject *self, PyObject *other, int how) {
     Pair *one = (Pair *)self, *two = (Pair *)other;
     int is_same;
-    if ((how != Py_EQ && how != Py_NE) || Py_TYPE(self) != Py_TYPE(other)) Py_RETURN_NOTIMPLEMENTED;
+    if (how != Py_EQ && how != Py_NE) Py_RETURN_NOTIMPLEMENTED;
+    if (Py_TYPE(self) != Py_TYPE(other)) return compare_marked(self, other, how, pair_compare);
     is_same = PyObject_RichCompareBool(one->first, two->first, Py_EQ);
     if (is_same == 1) is_same = PyObject_RichCompareBool(one->second, two->second, Py_EQ);
     return is_same < 0 ? NULL : PyBool_FromLong(is_same == (how == Py_EQ));
@@ -186,10 +200,19 @@ static PyObject *int64_reduce(PyObject *self, PyObject *unused) {
     return number == NULL ? NULL : Py_BuildValue("O(N)", (PyObject *)classes.int64, number);
 }
 
+/* MongoDB's mark of an int of 64 bits, by which their encoder knows one. */
+static PyObject *int64_mark(PyObject *self, void *unused) {
+    (void)self;
+    (void)unused;
+    return PyLong_FromLong(18);
+}
+
+static PyGetSetDef int64_getters[] = {{"_type_marker", int64_mark, NULL, NULL, NULL}, {NULL, NULL, NULL, NULL, NULL}};
 static PyMethodDef int64_methods[] = {{"__reduce__", int64_reduce, METH_NOARGS, NULL}, {NULL, NULL, 0, NULL}};
 static PyType_Slot int64_slots[] = {{Py_tp_alloc, int64_alloc},     {Py_tp_dealloc, int64_dealloc},
                                     {Py_tp_str, int64_str},         {Py_tp_repr, int64_repr},
-                                    {Py_tp_methods, int64_methods}, {Py_tp_doc, "An int that is stored in 64 bits, whatever its size."},
+                                    {Py_tp_methods, int64_methods}, {Py_tp_getset, int64_getters},
+                                    {Py_tp_doc, "An int that is stored in 64 bits, whatever its size."},
                                     {0, NULL}};
 static PyType_Spec int64_spec = {"bsonraw.Int64", 0, 0, Py_TPFLAGS_DEFAULT | Py_TPFLAGS_BASETYPE, int64_slots};
 
@@ -209,9 +232,10 @@ static int add_class(PyObject *module, const char *name, PyTypeObject *type) {
 }
 
 int classes_add(PyObject *module) {
-    raw_type = (PyTypeObject *)PyType_FromSpec(&raw_spec);
-    pair_type = (PyTypeObject *)PyType_FromSpec(&pair_spec);
-    classes.int64 = int64_class();
+    if (over_init() < 0) return -1;
+    if (raw_type == NULL) raw_type = (PyTypeObject *)PyType_FromSpec(&raw_spec);
+    if (pair_type == NULL) pair_type = (PyTypeObject *)PyType_FromSpec(&pair_spec);
+    if (classes.int64 == NULL) classes.int64 = int64_class();
     if (add_class(module, "Raw", raw_type) < 0 || add_class(module, "Pair", pair_type) < 0) return -1;
     return add_class(module, "Int64", classes.int64);
 }
@@ -227,6 +251,7 @@ struct named {
 static PyTypeObject *const int_type = &PyLong_Type;
 static PyTypeObject *const str_type = &PyUnicode_Type;
 static PyTypeObject *const list_type = &PyList_Type;
+static PyTypeObject *const bytes_type = &PyBytes_Type;
 
 #define BASE(type) ((PyTypeObject **)&(type))
 
@@ -235,8 +260,8 @@ static const struct named names[] = {
     {"Decimal128", &classes.decimal128, &raw_type},
     {"Timestamp", &classes.timestamp, &raw_type},
     {"Regex", &classes.regex, &pair_type},
-    {"Binary", &classes.binary, &pair_type},
-    {"Code", &classes.code, &pair_type},
+    {"Binary", &classes.binary, BASE(bytes_type)},
+    {"Code", &classes.code, BASE(str_type)},
     {"DBPointer", &classes.db_pointer, &pair_type},
     {"DatetimeMS", &classes.datetime_ms, BASE(int_type)},
     {"Symbol", &classes.symbol, BASE(str_type)},
@@ -247,6 +272,7 @@ static const struct named names[] = {
     {"BsonError", &classes.error, NULL},
     {"breach", &classes.breach, NULL},
     {"convert", &classes.convert, NULL},
+    {"placed", &classes.placed, NULL},
 };
 
 static int take(PyObject *namespace, const struct named *named) {

@@ -1,24 +1,62 @@
 /* Python values of tokens. */
 #include "native.h"
 
+#include <wchar.h>
+
+/* ---- texts, which the library has found to be UTF-8 ---- */
+
+#define WIDE_ROOM 4096
+
+static int is_ascii(const uint8_t *at, size_t len) {
+    uint64_t all = 0;
+    for (; len >= 8; at += 8, len -= 8) all |= (uint64_t)le_i64(at);
+    for (; len > 0; at++, len--) all |= *at;
+    return (all & 0x8080808080808080u) == 0;
+}
+
+#if WCHAR_MAX >= 0x10ffff
+/* A text by its characters, which takes Python less time than its UTF-8. Letters of one script come in runs, each of which has a
+ * loop of its own. */
+NOT_INLINE PyObject *wide_text(const uint8_t *at, size_t len) {
+    static wchar_t wide[WIDE_ROOM];
+    wchar_t *to = wide;
+    const uint8_t *from = at, *end = at + len, *before = NULL;
+    while (at < end && at != before) {
+        before = at;
+        for (; at < end && *at < 0x80; at++) *to++ = *at;
+        for (; end - at >= 2 && (*at & 0xe0) == 0xc0; at += 2) *to++ = (wchar_t)((at[0] & 0x1f) << 6 | (at[1] & 0x3f));
+        for (; end - at >= 3 && (*at & 0xf0) == 0xe0; at += 3)
+            *to++ = (wchar_t)((at[0] & 0x0f) << 12 | (at[1] & 0x3f) << 6 | (at[2] & 0x3f));
+        for (; end - at >= 4 && *at >= 0xf0; at += 4)
+            *to++ = (wchar_t)((at[0] & 0x07) << 18 | (at[1] & 0x3f) << 12 | (at[2] & 0x3f) << 6 | (at[3] & 0x3f));
+    }
+    return at == end ? PyUnicode_FromWideChar(wide, to - wide) : PyUnicode_DecodeUTF8((const char *)from, (Py_ssize_t)len, "strict");
+}
+#endif
+
 static PyObject *utf8(const uint8_t *at, size_t len) {
+#if WCHAR_MAX >= 0x10ffff
+    if (len <= WIDE_ROOM && !is_ascii(at, len)) return wide_text(at, len);
+#endif
     return PyUnicode_DecodeUTF8((const char *)at, (Py_ssize_t)len, "strict");
 }
 
 /* ---- keys ---- */
 
-/* The texts of keys of up to 52 bytes are kept, in sets of two slots: the last two keys that were put there, the last one
+/* The texts of keys of up to 255 bytes are kept, in sets of two slots: the last two keys that were put there, the last one
  * first. Each slot is a line of the processor's cache. */
 #define SETS 1024
 #define MIDDLE 36
-#define MOST (8 + MIDDLE + 8)
+#define MOST_IN_SLOT (8 + MIDDLE + 8)
+#define MOST 255
+#define SELDOM 8 /* into a set that is full, one of so many new keys is put, so that keys that never come again cost little */
 
 static struct slot {
     PyObject *text;
     uint64_t front; /* the first eight bytes; of a shorter key its bytes come last, behind 0 */
     uint64_t end;   /* the last eight bytes of a key of over eight */
     uint32_t len;   /* 0 where no key is here */
-    uint8_t middle[MIDDLE]; /* of a key of over sixteen the bytes from the ninth on */
+    uint8_t middle[MIDDLE]; /* of a key of 17 to 52 the bytes from the ninth on; of a longer one the address of all, in its text */
 } slots[SETS][2] IN_LINES;
 
 #define ODD 0x9E3779B97F4A7C15u
@@ -37,43 +75,60 @@ static inline struct slot *set_of_long(uint64_t front, uint64_t end, const uint8
 }
 
 static inline int is_in(const struct slot *slot, uint64_t front, uint64_t end, const uint8_t *at, size_t len) {
-    return slot->front == front && slot->end == end && slot->len == len &&
-           (len <= 16 || memcmp(slot->middle, at + 8, len - 16) == 0);
+    const uint8_t *all;
+    if (slot->front != front || slot->end != end || slot->len != len) return 0;
+    if (len <= MOST_IN_SLOT) return len <= 16 || memcmp(slot->middle, at + 8, len - 16) == 0;
+    memcpy(&all, slot->middle, sizeof all);
+    return memcmp(all + 8, at + 8, len - 16) == 0;
 }
 
-/* Puts a key into the set that it belongs to. Its bytes are read once, since who owns them may write others meanwhile. */
-NOT_INLINE PyObject *new_key(const uint8_t *at, size_t len) {
-    uint8_t bytes[MOST] = {0};
-    struct slot *set, new = {0};
-    PyObject *old;
-    memcpy(bytes, at, len);
-    new.text = utf8(bytes, len);
-    if (new.text == NULL) return NULL;
-    new.len = (uint32_t)len;
-    new.front = len < 8 ? front_of((uint64_t)le_i64(bytes), len) : (uint64_t)le_i64(bytes);
-    if (len > 8) new.end = (uint64_t)le_i64(bytes + len - 8);
-    if (len > 16) memcpy(new.middle, bytes + 8, len - 16);
-    set = len > 8 ? set_of_long(new.front, new.end, bytes, len) : set_of_short(new.front);
+/* Has a slot hold a key: 0, or -1 with an error set. */
+static int slot_fill(struct slot *slot, PyObject *text, uint64_t front, uint64_t end, const uint8_t *at, size_t len) {
+    slot->text = text;
+    slot->front = front;
+    slot->end = end;
+    slot->len = (uint32_t)len;
+    if (len > MOST_IN_SLOT) {
+        Py_ssize_t size;
+        const char *all = PyUnicode_AsUTF8AndSize(text, &size);
+        memcpy(slot->middle, &all, sizeof all);
+        return all == NULL ? -1 : 0;
+    }
+    if (len > 16) memcpy(slot->middle, at + 8, len - 16);
+    return 0;
+}
+
+/* The text of a key that isn't kept, which may be put into its set. */
+NOT_INLINE PyObject *new_key(struct slot *set, const uint8_t *at, size_t len, uint64_t front, uint64_t end) {
+    static unsigned seldom;
+    struct slot new = {0};
+    PyObject *old, *text = utf8(at, len);
+    if (text == NULL || (set[1].text != NULL && ++seldom % SELDOM != 0)) return text;
+    if (slot_fill(&new, text, front, end, at, len) < 0) {
+        Py_DECREF(text);
+        return NULL;
+    }
     old = set[1].text;
     set[1] = set[0];
     set[0] = new;
-    Py_INCREF(new.text);
+    Py_INCREF(text);
     Py_XDECREF(old);
-    return new.text;
+    return text;
 }
 
 INLINE PyObject *short_key(const uint8_t *at, size_t len) {
     uint64_t front = front_of((uint64_t)le_i64(at), len);
-    struct slot *slot = set_of_short(front);
-    if ((slot->front != front || slot->len != len) && ((++slot)->front != front || slot->len != len)) return new_key(at, len);
+    struct slot *set = set_of_short(front), *slot = set;
+    if ((slot->front != front || slot->len != len) && ((++slot)->front != front || slot->len != len))
+        return new_key(set, at, len, front, 0);
     Py_INCREF(slot->text);
     return slot->text;
 }
 
 INLINE PyObject *long_key(const uint8_t *at, size_t len) {
     uint64_t front = (uint64_t)le_i64(at), end = (uint64_t)le_i64(at + len - 8);
-    struct slot *slot = set_of_long(front, end, at, len);
-    if (!is_in(slot, front, end, at, len) && !is_in(++slot, front, end, at, len)) return new_key(at, len);
+    struct slot *set = set_of_long(front, end, at, len), *slot = set;
+    if (!is_in(slot, front, end, at, len) && !is_in(++slot, front, end, at, len)) return new_key(set, at, len, front, end);
     Py_INCREF(slot->text);
     return slot->text;
 }
@@ -96,8 +151,8 @@ PyObject *key_of(const uint8_t *at, size_t len) { return key_at(at, len, 0); }
 
 /* ---- values without others inside ---- */
 
-/* The text of a string that has the first len bytes: its length in 4, the text and a 0. */
-INLINE PyObject *string_of(const uint8_t *at, size_t len) { return utf8(at + 4, len < 5 ? 0 : len - 5); }
+/* The text of a string: its length in 4, the text and a 0. */
+INLINE PyObject *string_of(const uint8_t *at, size_t len) { return utf8(at + 4, len - 5); }
 
 /* int's tp_new, which makes one of a class over int, too. */
 static newfunc int_new(void) {
@@ -132,25 +187,25 @@ static PyObject *int64_of(int64_t number) {
 }
 
 static PyObject *binary_of(const uint8_t *at, size_t len) {
-    size_t head = at[4] == 2 && len >= 9 ? 9 : 5;
-    PyObject *data = PyBytes_FromStringAndSize((const char *)at + head, (Py_ssize_t)(len - head));
-    return at[4] == 0 ? data : pair_new(classes.binary, data, PyLong_FromLong(at[4]));
+    size_t head = at[4] == 2 ? 9 : 5;
+    if (at[4] != 0) return binary_new(at + head, len - head, at[4]);
+    return PyBytes_FromStringAndSize((const char *)at + 5, (Py_ssize_t)(len - 5));
 }
 
 static PyObject *regex_of(const uint8_t *at, size_t len) {
-    const uint8_t *end = memchr(at, 0, len);
-    size_t pattern = end == NULL ? len : (size_t)(end - at), options = len - pattern < 2 ? 0 : len - pattern - 2;
-    return pair_new(classes.regex, utf8(at, pattern), utf8(at + pattern + 1, options));
+    size_t end = strlen((const char *)at);
+    PyObject *pattern = utf8(at, end), *options = pattern == NULL ? NULL : utf8(at + end + 1, len - end - 2);
+    return pair_new(classes.regex, pattern, options);
 }
 
 static PyObject *pointer_of(const uint8_t *at, size_t len) {
-    if (len < 17) return string_of(at, len);
-    return pair_new(classes.db_pointer, string_of(at, len - 12), raw_new(classes.object_id, at + len - 12, 12));
+    PyObject *name = string_of(at, len - 12), *id = name == NULL ? NULL : raw_new(classes.object_id, at + len - 12, 12);
+    return pair_new(classes.db_pointer, name, id);
 }
 
 static PyObject *code_of(const uint8_t *at, size_t len) {
     Py_INCREF(Py_None);
-    return pair_new(classes.code, string_of(at, len), Py_None);
+    return code_new(string_of(at, len), Py_None);
 }
 
 static PyObject *symbol_of(const uint8_t *at, size_t len) {
@@ -160,23 +215,18 @@ static PyObject *symbol_of(const uint8_t *at, size_t len) {
     return symbol;
 }
 
-static PyObject *same(PyObject *object) {
-    Py_INCREF(object);
-    return object;
-}
-
 /* A value of one of the kinds that are rare. */
 NOT_INLINE PyObject *rare_of(uint32_t tag, const uint8_t *at, size_t len) {
     switch (tag) {
-    case BSONRAW_TAG_UNDEFINED: return same(classes.undefined);
+    case BSONRAW_TAG_UNDEFINED: return itself(classes.undefined);
     case BSONRAW_TAG_REGEX: return regex_of(at, len);
     case BSONRAW_TAG_DB_POINTER: return pointer_of(at, len);
     case BSONRAW_TAG_JAVASCRIPT: return code_of(at, len);
     case BSONRAW_TAG_SYMBOL: return symbol_of(at, len);
     case BSONRAW_TAG_TIMESTAMP: return raw_new(classes.timestamp, at, 8);
     case BSONRAW_TAG_DECIMAL128: return raw_new(classes.decimal128, at, 16);
-    case BSONRAW_TAG_MIN_KEY: return same(classes.min_key);
-    case BSONRAW_TAG_MAX_KEY: return same(classes.max_key);
+    case BSONRAW_TAG_MIN_KEY: return itself(classes.min_key);
+    case BSONRAW_TAG_MAX_KEY: return itself(classes.max_key);
     default: PyErr_Format(PyExc_SystemError, "an element of no kind: %u", (unsigned)tag); return NULL;
     }
 }
@@ -187,13 +237,23 @@ INLINE PyObject *leaf_of(uint32_t tag, const uint8_t *at, size_t len) {
     case BSONRAW_TAG_STRING: return string_of(at, len);
     case BSONRAW_TAG_BINARY: return binary_of(at, len);
     case BSONRAW_TAG_OBJECT_ID: return raw_new(classes.object_id, at, 12);
-    case BSONRAW_TAG_BOOLEAN: return same(*at != 0 ? Py_True : Py_False);
-    case BSONRAW_TAG_DATETIME: return time_of(le_i64(at));
-    case BSONRAW_TAG_NULL: return same(Py_None);
+    case BSONRAW_TAG_BOOLEAN: return itself(*at != 0 ? Py_True : Py_False);
+    case BSONRAW_TAG_DATETIME: return time_of(le_i64(at), 0);
+    case BSONRAW_TAG_NULL: return itself(Py_None);
     case BSONRAW_TAG_INT32: return PyLong_FromLong(le_i32(at));
     case BSONRAW_TAG_INT64: return int64_of(le_i64(at));
     default: return rare_of(tag, at, len);
     }
+}
+
+/* The same, where naive times, UUIDs or classes of others were asked for. */
+NOT_INLINE PyObject *asked_leaf(const struct options *options, uint32_t tag, const uint8_t *at, size_t len) {
+    PyObject *value;
+    if (tag == BSONRAW_TAG_BINARY && options->uuids && at[4] == 4 && len == 21) return uuid_of(at + 5);
+    if (options->types != NULL && (value = foreign_leaf(options->types, tag, at, len)) != NULL) return value;
+    if (PyErr_Occurred()) return NULL;
+    value = tag == BSONRAW_TAG_DATETIME ? time_of(le_i64(at), options->is_naive) : leaf_of(tag, at, len);
+    return options->types == NULL ? value : in_types(options->types, tag, value);
 }
 
 /* ---- all levels ---- */
@@ -203,14 +263,19 @@ struct maker {
     const uint8_t *bytes;
     size_t len;
     const struct options *options;
+    int is_plain;
 };
 
 /* A document or an array that is being filled. */
 struct level {
     PyObject *object;
+    PyObject *code;                  /* the text of the code whose scope it is; or NULL */
+    struct bsonraw_token of;         /* the element whose value it is; its depth is NO_ELEMENT where it is of none */
     const struct bsonraw_token *end; /* the token behind it */
     enum { DICT, LIST, PAIRS } kind;
 };
+
+#define NO_ELEMENT UINT32_MAX
 
 #define LEVELS 32
 
@@ -220,42 +285,6 @@ struct levels {
     struct level first[LEVELS];
 };
 
-static PyObject *document_of(const struct maker *maker, const struct bsonraw_token *first, const struct bsonraw_token *end,
-                             int is_array);
-
-/* Another class's value in place of ours, where that was asked for. Takes the value. */
-NOT_INLINE PyObject *in_types(PyObject *types, uint32_t tag, PyObject *value) {
-    PyObject *number, *make, *made;
-    if (value == NULL || (number = PyLong_FromLong((long)tag)) == NULL) return value;
-    make = PyDict_GetItemWithError(types, number);
-    Py_DECREF(number);
-    if (make == NULL) {
-        if (PyErr_Occurred()) Py_CLEAR(value);
-        return value;
-    }
-    made = PyObject_CallFunctionObjArgs(make, value, NULL);
-    Py_DECREF(value);
-    return made;
-}
-
-/* A code with its scope; a scope in a scope takes stack. */
-NOT_INLINE PyObject *scoped_of(const struct maker *maker, const struct bsonraw_token *token) {
-    const uint8_t *at = maker->bytes + token->payload_at;
-    size_t text = token->payload_len < 14 ? 0 : (uint32_t)le_i32(at + 4);
-    PyObject *code, *scope;
-    if (text < 1 || text > token->payload_len - 8) return code_of(at, 0);
-    if (Py_EnterRecursiveCall(" while a scope is decoded")) return NULL;
-    code = utf8(at + 8, text - 1);
-    scope = code == NULL ? NULL : document_of(maker, token + 1, token + 1 + token->inside, 0);
-    Py_LeaveRecursiveCall();
-    return pair_new(classes.code, code, scope);
-}
-
-static PyObject *container(const struct maker *maker, int is_array) {
-    if (is_array) return PyList_New(0);
-    return maker->options->is_pairs ? PyObject_CallObject((PyObject *)classes.pairs, NULL) : PyDict_New();
-}
-
 NOT_INLINE int append_pair(PyObject *pairs, PyObject *key, PyObject *value) {
     PyObject *pair = PyTuple_Pack(2, key, value);
     int status = pair == NULL ? -1 : PyList_Append(pairs, pair);
@@ -263,145 +292,334 @@ NOT_INLINE int append_pair(PyObject *pairs, PyObject *key, PyObject *value) {
     return status;
 }
 
-/* Puts a value into a level. */
+/* Puts a value into a level. Takes it. */
 INLINE int put(const struct maker *maker, const struct level *level, const struct bsonraw_token *token, PyObject *value) {
     PyObject *key;
     int status;
-    if (level->kind == LIST) return PyList_Append(level->object, value);
+    if (level->kind == LIST) {
+        status = PyList_Append(level->object, value);
+        Py_DECREF(value);
+        return status;
+    }
     key = key_at(maker->bytes + token->key_at, token->key_len, maker->len - token->key_at);
-    if (key == NULL) return -1;
-    status = level->kind == DICT ? PyDict_SetItem(level->object, key, value) : append_pair(level->object, key, value);
-    Py_DECREF(key);
+    if (key == NULL) status = -1;
+    else status = level->kind == DICT ? PyDict_SetItem(level->object, key, value) : append_pair(level->object, key, value);
+    Py_XDECREF(key);
+    Py_DECREF(value);
     return status;
 }
 
-/* Begins a level. Takes its object. */
-static int push(struct levels *levels, PyObject *object, const struct bsonraw_token *end, int kind) {
-    struct level *level;
-    if (levels->count == levels->room) {
-        size_t size = levels->room * sizeof *levels->at;
-        level = levels->at == levels->first ? PyMem_Malloc(2 * size) : PyMem_Realloc(levels->at, 2 * size);
-        if (level == NULL) {
-            Py_DECREF(object);
-            PyErr_NoMemory();
-            return -1;
-        }
-        if (levels->at == levels->first) memcpy(level, levels->first, size);
-        levels->at = level;
-        levels->room *= 2;
+static int more_levels(struct levels *levels) {
+    size_t size = levels->room * sizeof *levels->at;
+    struct level *at = levels->at == levels->first ? PyMem_Malloc(2 * size) : PyMem_Realloc(levels->at, 2 * size);
+    if (at == NULL) {
+        PyErr_NoMemory();
+        return -1;
     }
-    level = &levels->at[levels->count++];
-    level->object = object;
-    level->end = end;
-    level->kind = kind;
+    if (levels->at == levels->first) memcpy(at, levels->first, size);
+    levels->at = at;
+    levels->room *= 2;
     return 0;
 }
 
-static int kind_of(const struct maker *maker, int is_array) {
-    return is_array ? LIST : maker->options->is_pairs ? PAIRS : DICT;
+/* Begins an empty document or array; of a code with scope the scope. */
+static int begin(const struct maker *maker, struct levels *levels, const struct bsonraw_token *of,
+                 const struct bsonraw_token *end) {
+    const uint32_t tag = of->tag;
+    struct level *level;
+    if (levels->count == levels->room && more_levels(levels) < 0) return -1;
+    level = &levels->at[levels->count];
+    level->of = *of;
+    level->end = end;
+    level->kind = tag == BSONRAW_TAG_ARRAY ? LIST : maker->options->is_pairs ? PAIRS : DICT;
+    level->code = NULL;
+    if (tag == BSONRAW_TAG_JAVASCRIPT_WITH_SCOPE) {
+        const uint8_t *at = maker->bytes + of->payload_at;
+        level->code = utf8(at + 8, (uint32_t)le_i32(at + 4) - 1);
+        if (level->code == NULL) return -1;
+    }
+    if (level->kind == DICT) level->object = PyDict_New();
+    else level->object = level->kind == LIST ? PyList_New(0) : PyObject_CallObject((PyObject *)classes.pairs, NULL);
+    if (level->object == NULL) Py_CLEAR(level->code);
+    if (level->object == NULL) return -1;
+    levels->count++;
+    return 0;
 }
 
-/* Puts an empty document or array into the last level, and begins it. */
-static int begin(const struct maker *maker, struct levels *levels, const struct bsonraw_token *token) {
-    int is_array = token->tag == BSONRAW_TAG_ARRAY;
-    PyObject *object = container(maker, is_array);
-    if (object == NULL) return -1;
-    if (put(maker, &levels->at[levels->count - 1], token, object) == 0)
-        return push(levels, object, token + 1 + token->inside, kind_of(maker, is_array));
+static int has_levels(uint32_t tag) {
+    return tag == BSONRAW_TAG_DOCUMENT || tag == BSONRAW_TAG_ARRAY || tag == BSONRAW_TAG_JAVASCRIPT_WITH_SCOPE;
+}
+
+/* What the caller's hook makes of a document, and other classes of a document in another. Takes it. */
+NOT_INLINE PyObject *asked_document(const struct options *options, PyObject *object, int is_inside) {
+    PyObject *hook = options->pairs_hook != NULL ? options->pairs_hook : options->hook, *made;
+    if (hook == NULL && options->types != NULL && is_inside && PyDict_CheckExact(object)) return foreign_document(options->types, object);
+    if (hook == NULL) return object;
+    made = PyObject_CallFunctionObjArgs(hook, object, NULL);
     Py_DECREF(object);
-    return -1;
+    return made;
 }
 
-/* Fills the levels with all tokens from this one on, up to the end of the first level. */
-static int fill(const struct maker *maker, struct levels *levels, const struct bsonraw_token *token) {
-    PyObject *const types = maker->options->types;
-    struct level here = levels->at[0];
+/* The value of a level that is full. Takes what it has. */
+static PyObject *finished(const struct maker *maker, const struct level *level) {
+    int is_inside = level->of.depth != NO_ELEMENT && level->code == NULL;
+    PyObject *object = level->object;
+    if (!maker->is_plain && level->kind != LIST) object = asked_document(maker->options, object, is_inside);
+    if (level->code == NULL) return object;
+    object = code_new(level->code, object);
+    return maker->options->types == NULL ? object : in_types(maker->options->types, BSONRAW_TAG_JAVASCRIPT_WITH_SCOPE, object);
+}
+
+/* Ends the last level: 1, and its value is in the level before; 0, and it is the value of the first; -1 with an error set. */
+INLINE int end(const struct maker *maker, struct levels *levels, PyObject **value) {
+    struct level *level = &levels->at[--levels->count];
+    *value = finished(maker, level);
+    if (*value == NULL) return -1;
+    if (levels->count == 0) return 0;
+    return put(maker, level - 1, &level->of, *value) < 0 ? -1 : 1;
+}
+
+INLINE PyObject *leaf_in(const struct maker *maker, uint32_t tag, uint32_t at, uint32_t len) {
+    return maker->is_plain ? leaf_of(tag, maker->bytes + at, len)
+                                    : asked_leaf(maker->options, tag, maker->bytes + at, len);
+}
+
+/* Fills the levels with all tokens from this one on, up to the end of the first level, whose value comes back. */
+static PyObject *fill(const struct maker *maker, struct levels *levels, const struct bsonraw_token *token) {
+    struct level here = levels->at[levels->count - 1];
+    PyObject *value;
     for (;;) {
-        const struct bsonraw_token *next = token + 1;
-        PyObject *value;
+        const struct bsonraw_token *of = token;
         int status;
-        while (token == here.end) {
-            if (levels->count == 1) return 0;
-            Py_DECREF(here.object);
-            here = levels->at[--levels->count - 1];
-        }
-        if (token->tag == BSONRAW_TAG_DOCUMENT || token->tag == BSONRAW_TAG_ARRAY) {
-            if (begin(maker, levels, token) < 0) return -1;
+        if (token == here.end) {
+            status = end(maker, levels, &value);
+            if (status <= 0) return status < 0 ? NULL : value;
             here = levels->at[levels->count - 1];
-            token = next;
             continue;
         }
-        if (token->tag != BSONRAW_TAG_JAVASCRIPT_WITH_SCOPE) {
-            value = leaf_of(token->tag, maker->bytes + token->payload_at, token->payload_len);
-        } else {
-            value = scoped_of(maker, token);
-            next += token->inside;
+        token++;
+        if (has_levels(of->tag)) {
+            if (begin(maker, levels, of, token + of->inside) < 0) return NULL;
+            here = levels->at[levels->count - 1];
+            continue;
         }
-        if (types != NULL) value = in_types(types, token->tag, value);
-        if (value == NULL) return -1;
-        status = put(maker, &here, token, value);
-        Py_DECREF(value);
-        if (status < 0) return -1;
-        token = next;
+        value = leaf_in(maker, of->tag, of->payload_at, of->payload_len);
+        if (value == NULL || put(maker, &here, of, value) < 0) return NULL;
     }
 }
 
-static PyObject *document_of(const struct maker *maker, const struct bsonraw_token *first, const struct bsonraw_token *end,
-                             int is_array) {
-    struct levels levels;
-    PyObject *object = container(maker, is_array);
-    int status;
-    if (object == NULL) return NULL;
-    levels.at = levels.first;
-    levels.count = 1;
-    levels.room = LEVELS;
-    levels.first[0].object = object;
-    levels.first[0].end = end;
-    levels.first[0].kind = kind_of(maker, is_array);
-    Py_INCREF(object);
-    status = fill(maker, &levels, first);
-    while (levels.count > 0) Py_DECREF(levels.at[--levels.count].object);
-    if (levels.at != levels.first) PyMem_Free(levels.at);
-    if (status < 0) Py_CLEAR(object);
-    return object;
+/* Levels that are still there, where something failed. */
+static void levels_close(struct levels *levels) {
+    while (levels->count > 0) {
+        Py_DECREF(levels->at[--levels->count].object);
+        Py_XDECREF(levels->at[levels->count].code);
+    }
+    if (levels->at != levels->first) PyMem_Free(levels->at);
 }
 
-INLINE PyObject *decoded_as(const struct bytes *bytes, const struct options *options, uint64_t before, int is_array) {
+static void levels_open(struct levels *levels) {
+    levels->at = levels->first;
+    levels->count = 0;
+    levels->room = LEVELS;
+}
+
+/* The value of an element, or of all bytes, whose tokens are these. */
+static PyObject *nested_of(const struct maker *maker, const struct bsonraw_token *of, const struct bsonraw_token *first,
+                           const struct bsonraw_token *end) {
+    struct levels levels;
+    PyObject *value = NULL;
+    levels_open(&levels);
+    if (begin(maker, &levels, of, end) == 0) value = fill(maker, &levels, first);
+    levels_close(&levels);
+    return value;
+}
+
+/* ---- by cursors, of bytes whose tokens would be many ---- */
+
+#ifndef MANY_BYTES
+#define MANY_BYTES 524288 /* of more, tokens would take much more memory than the bytes */
+#endif
+#define MANY_TIMES 2048 /* after so many times that entries are read, others may run */
+#define ENTRIES 32
+
+/* A level whose elements are read. */
+struct cursor {
+    struct bsonraw_iter iter;
+    struct bsonraw_entry entries[ENTRIES];
+    uint64_t done, count;
+    int32_t status; /* of the last entries that were read */
+};
+
+struct cursors {
+    struct cursor *at;
+    size_t count, room;
+    unsigned times;
+};
+
+/* Goes into the document, the array or the scope that lies there: 1; 0 where there is none. */
+static int go_in(const struct maker *maker, struct cursors *cursors, uint32_t at, uint32_t len) {
+    struct cursor *cursor;
+    if (cursors->count == cursors->room) {
+        size_t room = 2 * cursors->room + 8;
+        cursor = PyMem_Realloc(cursors->at, room * sizeof *cursor);
+        if (cursor == NULL) PyErr_NoMemory();
+        if (cursor == NULL) return 0;
+        cursors->at = cursor;
+        cursors->room = room;
+    }
+    cursor = &cursors->at[cursors->count++];
+    cursor->done = cursor->count = 0;
+    cursor->status = bsonraw_iter_init_at(&cursor->iter, maker->bytes, maker->len, at, len);
+    return cursor->status == BSONRAW_OK;
+}
+
+/* Reads the next elements of a level: 0, or -1 with an error set. */
+static int read_entries(const struct maker *maker, struct cursors *cursors, struct cursor *cursor) {
+    cursor->done = 0;
+    cursor->status = bsonraw_iter_next_many(&cursor->iter, maker->bytes, maker->len, cursor->entries, ENTRIES, &cursor->count);
+    if (++cursors->times % MANY_TIMES != 0) return 0;
+    Py_BEGIN_ALLOW_THREADS
+    Py_END_ALLOW_THREADS
+    return PyErr_CheckSignals();
+}
+
+/* Whether the library has to be asked if a payload means a value: one that it takes in any case needs no question. */
+INLINE int may_mean_none(const struct maker *maker, const struct bsonraw_entry *entry) {
+    const uint8_t *at = maker->bytes + entry->payload_at;
+    switch (entry->tag) {
+    case BSONRAW_TAG_STRING:
+    case BSONRAW_TAG_JAVASCRIPT:
+    case BSONRAW_TAG_SYMBOL: return !is_ascii(at + 4, entry->payload_len - 4);
+    case BSONRAW_TAG_BINARY: return at[4] == 2;
+    case BSONRAW_TAG_BOOLEAN: return *at > 1;
+    case BSONRAW_TAG_DB_POINTER:
+    case BSONRAW_TAG_JAVASCRIPT_WITH_SCOPE: return 1;
+    default: return 0;
+    }
+}
+
+/* Whether an element has a value; of a scope, where it is. */
+NOT_INLINE int has_value(const struct maker *maker, const struct cursor *cursor, const struct bsonraw_entry *entry,
+                         struct bsonraw_value *value) {
+    struct bsonraw_iter here = cursor->iter;
+    here.tag = entry->tag;
+    here.key_at = entry->key_at;
+    here.key_len = entry->key_len;
+    here.payload_at = entry->payload_at;
+    here.payload_len = entry->payload_len;
+    here.next = entry->payload_at + entry->payload_len;
+    return bsonraw_iter_value(&here, maker->bytes, maker->len, value) == BSONRAW_OK;
+}
+
+/* Takes an element, or goes into it: 1; 0 where it has no value, or something else is wrong. */
+INLINE int take_entry(const struct maker *maker, struct levels *levels, struct cursors *cursors, const struct bsonraw_entry *entry) {
+    const struct bsonraw_token of = {entry->tag, 0, entry->key_at, entry->key_len, entry->payload_at, entry->payload_len, 0};
+    uint32_t at = entry->payload_at, len = entry->payload_len;
+    PyObject *leaf;
+    if (may_mean_none(maker, entry)) {
+        struct bsonraw_value value;
+        if (!has_value(maker, &cursors->at[cursors->count - 1], entry, &value)) return 0;
+        if (entry->tag == BSONRAW_TAG_JAVASCRIPT_WITH_SCOPE) {
+            at = value.more_at;
+            len = value.more_len;
+        }
+    }
+    if (has_levels(entry->tag)) {
+        if (levels->count >= maker->options->max_depth) return 0;
+        return begin(maker, levels, &of, NULL) == 0 && go_in(maker, cursors, at, len);
+    }
+    leaf = leaf_in(maker, entry->tag, at, len);
+    return leaf != NULL && put(maker, &levels->at[levels->count - 1], &of, leaf) == 0;
+}
+
+/* Appends the values of what was read to a list: all, or those in front of the first one that needs a second look. */
+static int take_leaves(const struct maker *maker, PyObject *list, struct cursor *cursor) {
+    const struct bsonraw_entry *entry = &cursor->entries[cursor->done], *end = &cursor->entries[cursor->count];
+    for (; entry < end && !has_levels(entry->tag) && !may_mean_none(maker, entry); entry++) {
+        PyObject *value = leaf_in(maker, entry->tag, entry->payload_at, entry->payload_len);
+        int status = value == NULL ? -1 : PyList_Append(list, value);
+        Py_XDECREF(value);
+        if (status < 0) return -1;
+    }
+    cursor->done = (uint64_t)(entry - cursor->entries);
+    return 0;
+}
+
+static PyObject *fill_by_cursors(const struct maker *maker, struct levels *levels, struct cursors *cursors) {
+    PyObject *value;
+    for (;;) {
+        struct cursor *cursor = &cursors->at[cursors->count - 1];
+        const struct level *level = &levels->at[levels->count - 1];
+        int status;
+        if (cursor->done == cursor->count && cursor->status == BSONRAW_OK && read_entries(maker, cursors, cursor) < 0) return NULL;
+        if (level->kind == LIST && take_leaves(maker, level->object, cursor) < 0) return NULL;
+        if (cursor->done < cursor->count) {
+            if (!take_entry(maker, levels, cursors, &cursor->entries[cursor->done++])) return NULL;
+            continue;
+        }
+        if (cursor->status == BSONRAW_OK) continue;
+        if (cursor->status != BSONRAW_NONE) return NULL;
+        status = end(maker, levels, &value);
+        cursors->count--;
+        if (status <= 0) return status < 0 ? NULL : value;
+    }
+}
+
+/* The value of all bytes; NULL, with no error set where they have a fault or are more than allowed. */
+static PyObject *by_cursors(const struct maker *maker, const struct bsonraw_token *of) {
+    struct levels levels;
+    struct cursors cursors = {NULL, 0, 0, 0};
+    PyObject *value = NULL;
+    if (maker->len > maker->options->max_bytes || maker->options->max_depth == 0) return NULL;
+    levels_open(&levels);
+    if (begin(maker, &levels, of, NULL) == 0 && go_in(maker, &cursors, 0, (uint32_t)maker->len))
+        value = fill_by_cursors(maker, &levels, &cursors);
+    levels_close(&levels);
+    PyMem_Free(cursors.at);
+    return value;
+}
+
+/* ---- documents ---- */
+
+INLINE PyObject *decoded_as(const struct bytes *bytes, const struct options *options, uint64_t before, uint32_t tag) {
+    struct bsonraw_token of = {tag, NO_ELEMENT, 0, 0, 0, (uint32_t)bytes->len, 0};
     struct tokens tokens;
-    struct maker maker = {bytes->at, bytes->len, options};
+    struct maker maker = {bytes->at, bytes->len, options, options->is_plain};
     PyObject *object;
+    if (bytes->len > MANY_BYTES) {
+        object = by_cursors(&maker, &of);
+        if (object != NULL || PyErr_Occurred()) return object;
+    }
     if (tokens_read(&tokens, bytes, options, before) < 0) return NULL;
-    object = document_of(&maker, tokens.at, tokens.at + tokens.count, is_array);
+    object = nested_of(&maker, &of, tokens.at, tokens.at + tokens.count);
     tokens_free(&tokens);
     return object;
 }
 
 PyObject *decoded(const struct bytes *bytes, const struct options *options, uint64_t before) {
-    return decoded_as(bytes, options, before, 0);
+    return decoded_as(bytes, options, before, BSONRAW_TAG_DOCUMENT);
 }
 
 /* The value of a token, with all that is inside. */
 static PyObject *value_of(const struct maker *maker, const struct bsonraw_token *token) {
-    PyObject *value;
-    if (token->tag == BSONRAW_TAG_DOCUMENT || token->tag == BSONRAW_TAG_ARRAY)
-        return document_of(maker, token + 1, token + 1 + token->inside, token->tag == BSONRAW_TAG_ARRAY);
-    if (token->tag == BSONRAW_TAG_JAVASCRIPT_WITH_SCOPE) value = scoped_of(maker, token);
-    else value = leaf_of(token->tag, maker->bytes + token->payload_at, token->payload_len);
-    return maker->options->types == NULL ? value : in_types(maker->options->types, token->tag, value);
+    if (has_levels(token->tag)) return nested_of(maker, token, token + 1, token + 1 + token->inside);
+    return leaf_in(maker, token->tag, token->payload_at, token->payload_len);
 }
 
-int decode_each(const struct bytes *bytes, const struct options *options, uint64_t before, taker *take, void *to) {
+PyObject *value_of_token(const struct bytes *bytes, const struct options *options, const struct bsonraw_token *token) {
+    struct maker maker = {bytes->at, bytes->len, options, options->is_plain};
+    return value_of(&maker, token);
+}
+
+int take_keys(const struct bytes *bytes, const struct options *options, uint64_t before, taker *take, void *to) {
     struct tokens tokens;
-    struct maker maker = {bytes->at, bytes->len, options};
     size_t at = 0;
     int status = tokens_read(&tokens, bytes, options, before);
     if (status < 0) return -1;
     while (status == 0 && at < tokens.count) {
         const struct bsonraw_token *token = &tokens.at[at];
         PyObject *key = key_at(bytes->at + token->key_at, token->key_len, bytes->len - token->key_at);
-        PyObject *value = key == NULL ? NULL : value_of(&maker, token);
-        status = value == NULL ? -1 : take(to, key, value);
-        Py_XDECREF(value);
+        status = key == NULL ? -1 : take(to, key, token);
         Py_XDECREF(key);
         at += 1 + token->inside;
     }
@@ -409,49 +627,59 @@ int decode_each(const struct bytes *bytes, const struct options *options, uint64
     return status;
 }
 
-PyObject *py_decode(PyObject *module, PyObject *const *args, Py_ssize_t count, PyObject *names) {
+CALL(py_decode) {
     struct options options;
     struct bytes bytes;
-    PyObject *object = NULL;
+    PyObject *data, *object = NULL;
     (void)module;
-    if (options_read(&options, "decode", DECODE_OPTIONS, args, count, names) < 0) return NULL;
-    if (bytes_open(&bytes, args[0]) == 0) {
-        object = decoded_as(&bytes, &options, 0, 0);
+    if (options_read(&OF_DECODE, &options, &data, args, count, names) < 0) return NULL;
+    if (bytes_open(&bytes, data) == 0) {
+        object = decoded_as(&bytes, &options, 0, BSONRAW_TAG_DOCUMENT);
         bytes_close(&bytes);
     }
-    Py_XDECREF(options.types);
+    options_end(&options);
     return object;
 }
 
 /* ---- one element ---- */
 
-/* What is inside a part of the bytes: a nested document, or an array. */
-static PyObject *inside_of(const struct bytes *bytes, uint32_t at, uint32_t len, int is_array) {
-    struct options options = {SIZE_MAX, 500, 0, 0, 0, 0, Py_None, NULL};
-    struct bytes part = *bytes;
-    part.at += at;
-    part.len = len;
-    return decoded_as(&part, &options, at, is_array);
+/* What is inside a part of the bytes: a nested document, an array, or a scope. */
+static PyObject *inside_of(const struct bytes *bytes, const struct bsonraw_iter *iter, uint32_t at, uint32_t len,
+                           const struct options *options, uint32_t tag) {
+    struct options inner = *options;
+    struct bytes part = bytes_part(bytes->at + at, len);
+    inner.outer = bytes;
+    inner.element_at = iter->key_at - 1;
+    inner.is_array = tag == BSONRAW_TAG_ARRAY;
+    return decoded_as(&part, &inner, at, tag);
 }
 
-PyObject *value_at(const struct bytes *bytes, const struct bsonraw_iter *iter) {
+static PyObject *scoped_at(const struct bytes *bytes, const struct bsonraw_iter *iter, const struct bsonraw_value *value,
+                           const struct options *options) {
+    PyObject *scope = inside_of(bytes, iter, value->more_at, value->more_len, options, BSONRAW_TAG_DOCUMENT);
+    PyObject *text = scope == NULL ? NULL : utf8(bytes->at + value->text_at, value->text_len);
+    PyObject *code = code_new(text, scope);
+    return options->types == NULL ? code : in_types(options->types, BSONRAW_TAG_JAVASCRIPT_WITH_SCOPE, code);
+}
+
+PyObject *value_at(const struct bytes *bytes, const struct bsonraw_iter *iter, const struct options *options) {
     struct bsonraw_iter here = *iter;
     struct bsonraw_value value;
+    struct maker maker;
     int32_t status;
-    here.next = iter->key_at - 1; /* it is read anew: who owns the bytes may have written other ones */
-    status = bsonraw_iter_next(&here, bytes->at, bytes->len);
-    if (status == BSONRAW_OK) {
-        status = bsonraw_iter_value(&here, bytes->at, bytes->len, &value);
-        here.error = value.error;
-    }
+    memset(&value, 0, sizeof value);
+    status = bsonraw_iter_value(&here, bytes->at, bytes->len, &value);
+    here.error = value.error;
     if (status != BSONRAW_OK) {
         set_cursor_error(bytes, status, &here);
         return NULL;
     }
     if (value.tag == BSONRAW_TAG_DOCUMENT || value.tag == BSONRAW_TAG_ARRAY)
-        return inside_of(bytes, value.text_at, value.text_len, value.tag == BSONRAW_TAG_ARRAY);
-    if (value.tag == BSONRAW_TAG_JAVASCRIPT_WITH_SCOPE)
-        return pair_new(classes.code, utf8(bytes->at + value.text_at, value.text_len),
-                        inside_of(bytes, value.more_at, value.more_len, 0));
-    return leaf_of(value.tag, bytes->at + here.payload_at, here.payload_len);
+        return inside_of(bytes, iter, value.text_at, value.text_len, options, value.tag);
+    if (value.tag == BSONRAW_TAG_JAVASCRIPT_WITH_SCOPE) return scoped_at(bytes, iter, &value, options);
+    maker.bytes = bytes->at;
+    maker.len = bytes->len;
+    maker.options = options;
+    maker.is_plain = options->is_plain;
+    return leaf_in(&maker, value.tag, here.payload_at, here.payload_len);
 }

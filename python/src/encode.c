@@ -6,27 +6,49 @@
 struct out {
     uint8_t *at;
     size_t len, room;
+    size_t size; /* how many bytes there are at all, of which the room is what the limit leaves */
+    size_t max;  /* the limit */
 };
 
 static struct out kept; /* one is kept for the next call; who takes it owns it until it is given back */
 
 #define KEPT_ROOM (1 << 20)
 
-static int grow(struct out *out, size_t more) {
-    size_t room = out->room * 2 > out->len + more ? out->room * 2 : out->len + more + 1024;
-    uint8_t *at = PyMem_Realloc(out->at, room);
+NOT_INLINE int grow(struct out *out, size_t more) {
+    size_t size = out->size * 2 > out->len + more ? out->size * 2 : out->len + more + 1024;
+    uint8_t *at;
+    if (more > out->max - out->len) {
+        set_refused(TOO_MANY_BYTES, NULL, NULL, NULL);
+        return -1;
+    }
+    at = PyMem_Realloc(out->at, size);
     if (at == NULL) {
         PyErr_NoMemory();
         return -1;
     }
     out->at = at;
-    out->room = room;
+    out->size = size;
+    out->room = size < out->max ? size : out->max;
     return 0;
+}
+
+/* The room that is kept, or none; and back. */
+static void out_open(struct out *out, size_t max) {
+    *out = kept;
+    memset(&kept, 0, sizeof kept);
+    out->len = 0;
+    out->max = max;
+    out->room = out->size < max ? out->size : max;
+}
+
+static void out_close(struct out *out) {
+    if (kept.at == NULL && out->size <= KEPT_ROOM) kept = *out;
+    else PyMem_Free(out->at);
 }
 
 static inline int need(struct out *out, size_t more) { return out->room - out->len < more ? grow(out, more) : 0; }
 
-static int put(struct out *out, const void *bytes, size_t len) {
+INLINE int put(struct out *out, const void *bytes, size_t len) {
     if (need(out, len) < 0) return -1;
     memcpy(out->at + out->len, bytes, len);
     out->len += len;
@@ -38,7 +60,7 @@ static int put_i64(struct out *out, int64_t number) { return put(out, &number, 8
 
 static int put_length(struct out *out, size_t len) {
     if (len <= INT32_MAX) return put_i32(out, (int32_t)len);
-    set_refused(TOO_LONG, NULL);
+    set_refused(TOO_LONG, NULL, NULL, NULL);
     return -1;
 }
 
@@ -47,7 +69,7 @@ static int end_length(struct out *out, size_t from) {
     size_t len = out->len - from;
     int32_t number = (int32_t)len;
     if (len > INT32_MAX) {
-        set_refused(TOO_LONG, NULL);
+        set_refused(TOO_LONG, NULL, NULL, NULL);
         return -1;
     }
     memcpy(out->at + from, &number, 4);
@@ -74,7 +96,7 @@ static int put_cstring(struct out *out, PyObject *text) {
     at = PyUnicode_AsUTF8AndSize(text, &len);
     if (at == NULL) return -1;
     if (memchr(at, 0, (size_t)len) != NULL) {
-        set_refused(INTERIOR_NUL, text);
+        set_refused(INTERIOR_NUL, text, NULL, NULL);
         return -1;
     }
     return put(out, at, (size_t)len + 1);
@@ -82,8 +104,9 @@ static int put_cstring(struct out *out, PyObject *text) {
 
 /* Options in ascending order, as BSON wants them. */
 static int put_options(struct out *out, PyObject *text) {
-    PyObject *all = PySequence_List(text), *none = NULL, *sorted = NULL;
+    PyObject *all = PyUnicode_Check(text) ? PySequence_List(text) : NULL, *none = NULL, *sorted = NULL;
     int status = -1;
+    if (!PyUnicode_Check(text)) return put_cstring(out, text);
     if (all != NULL && PyList_Sort(all) == 0) none = PyUnicode_FromString("");
     if (none != NULL) sorted = PyUnicode_Join(none, all);
     if (sorted != NULL) status = put_cstring(out, sorted);
@@ -150,11 +173,13 @@ static int put_bytes(struct out *out, PyObject *data, long subtype) {
 
 /* Of bytes or a Binary. */
 static int put_binary(struct out *out, PyObject *value) {
-    const Pair *pair = (const Pair *)value;
+    PyObject *number;
     long subtype;
     if (PyBytes_CheckExact(value)) return put_bytes(out, value, 0);
-    subtype = PyLong_AsLong(pair->second);
-    if (subtype >= 0 && subtype <= 255) return put_bytes(out, pair->first, subtype);
+    number = binary_subtype(value);
+    subtype = number == NULL ? -1 : PyLong_AsLong(number);
+    Py_XDECREF(number);
+    if (subtype >= 0 && subtype <= 255) return put_bytes(out, value, subtype);
     if (!PyErr_Occurred()) PyErr_SetString(PyExc_ValueError, "a subtype is from 0 to 255");
     return -1;
 }
@@ -192,6 +217,7 @@ struct level {
     int kind;
     Py_ssize_t at, size;
     size_t from, code_from; /* where its length is; and that of the code whose scope it is, or SIZE_MAX */
+    size_t element_at;      /* where the element begins that is being written */
 };
 
 #define LEVELS 32
@@ -199,13 +225,14 @@ struct level {
 struct levels {
     struct level *at;
     size_t count, room, max_depth;
+    PyObject *other; /* makes a value of one of another class; or NULL */
     struct level first[LEVELS];
 };
 
 static int push(struct out *out, struct levels *levels, PyObject *object, int kind, size_t code_from) {
     struct level *level;
     if (levels->count >= levels->max_depth) {
-        set_refused(TOO_DEEP, NULL);
+        set_refused(TOO_DEEP, NULL, NULL, NULL);
         return -1;
     }
     if (levels->count == levels->room) {
@@ -227,6 +254,7 @@ static int push(struct out *out, struct levels *levels, PyObject *object, int ki
     level->size = kind == OF_DICT ? PyDict_Size(object) : 0;
     level->from = out->len;
     level->code_from = code_from;
+    level->element_at = out->len;
     return put_i32(out, 0);
 }
 
@@ -234,12 +262,13 @@ static int push(struct out *out, struct levels *levels, PyObject *object, int ki
 static int next_element(struct out *out, struct level *level, PyObject **value) {
     PyObject *key, *pair;
     uint8_t tag = 0;
+    level->element_at = out->len;
     if (level->kind == OF_ARRAY || level->kind == OF_ITEMS) {
         int is_list = PyList_Check(level->object);
         if (level->at >= (is_list ? PyList_Size(level->object) : PyTuple_Size(level->object))) return 0;
         pair = is_list ? PyList_GetItem(level->object, level->at) : PyTuple_GetItem(level->object, level->at);
-        if (pair == NULL || put(out, &tag, 1) < 0) return -1;
         level->at++;
+        if (pair == NULL || put(out, &tag, 1) < 0) return -1;
         *value = pair;
         if (level->kind == OF_ARRAY) return put_number(out, (size_t)level->at - 1) < 0 ? -1 : 1;
         if (!PyTuple_Check(pair) || PyTuple_Size(pair) != 2) {
@@ -271,17 +300,20 @@ static int end_level(struct out *out, struct levels *levels) {
 
 /* The code's tag is that of one without a scope. */
 static int put_code(struct out *out, struct levels *levels, size_t tag_at, PyObject *value) {
-    const Pair *code = (const Pair *)value;
+    PyObject *scope = code_scope(value);
     size_t from = out->len;
-    int is_dict = PyDict_Check(code->second), is_pairs = PyObject_TypeCheck(code->second, classes.pairs);
-    if (!PyUnicode_Check(code->first) || (code->second != Py_None && !is_dict && !is_pairs)) {
-        PyErr_SetString(PyExc_TypeError, "a Code has a str, and for a scope a dict, Pairs or None");
-        return -1;
+    int status = -1;
+    if (scope == Py_None) {
+        status = put_string(out, value);
+    } else if (scope != NULL && !PyDict_Check(scope) && !PyObject_TypeCheck(scope, classes.pairs)) {
+        PyErr_SetString(PyExc_TypeError, "a Code has for a scope a dict, Pairs or None");
+    } else if (scope != NULL) {
+        out->at[tag_at] = BSONRAW_TAG_JAVASCRIPT_WITH_SCOPE;
+        status = put_i32(out, 0) < 0 || put_string(out, value) < 0 ? -1 : 0;
+        if (status == 0) status = push(out, levels, scope, PyDict_Check(scope) ? OF_DICT : OF_ITEMS, from);
     }
-    if (code->second == Py_None) return put_string(out, code->first);
-    out->at[tag_at] = BSONRAW_TAG_JAVASCRIPT_WITH_SCOPE;
-    if (put_i32(out, 0) < 0 || put_string(out, code->first) < 0) return -1;
-    return push(out, levels, code->second, is_dict ? OF_DICT : OF_ITEMS, from);
+    Py_XDECREF(scope);
+    return status;
 }
 
 /* The tag of values of one of the package's own classes; 0 of another class. */
@@ -319,7 +351,7 @@ static int tag_of(PyObject *value) {
 }
 
 /* Writes a value of one of the classes that have a tag: 0; 1 where it is of another class; -1 with an error set. */
-static int put_known(struct out *out, struct levels *levels, size_t tag_at, PyObject *value) {
+INLINE int put_known(struct out *out, struct levels *levels, size_t tag_at, PyObject *value) {
     int tag = tag_of(value);
     out->at[tag_at] = (uint8_t)tag;
     switch (tag) {
@@ -347,17 +379,103 @@ static int put_known(struct out *out, struct levels *levels, size_t tag_at, PyOb
     }
 }
 
-static int put_value(struct out *out, struct levels *levels, size_t tag_at, PyObject *value) {
-    PyObject *known;
-    int status = put_known(out, levels, tag_at, value);
-    if (status != 1) return status;
-    known = PyObject_CallFunctionObjArgs(classes.convert, value, NULL);
-    if (known == NULL) return -1;
-    status = put_known(out, levels, tag_at, known);
-    if (status == 1) PyErr_Format(PyExc_TypeError, "a value can't be encoded: %R", value);
-    Py_DECREF(known);
+/* Of a dict of another class its own items, in its own order. */
+static int put_mapping(struct out *out, struct levels *levels, size_t tag_at, PyObject *value) {
+    PyObject *items = PyMapping_Items(value);
+    int status = items == NULL ? -1 : push(out, levels, items, OF_ITEMS, SIZE_MAX);
+    out->at[tag_at] = BSONRAW_TAG_DOCUMENT;
+    Py_XDECREF(items);
+    return status;
+}
+
+/* Writes what was made of a value: 0; 1 where it is of no class that has a tag; -1 with an error set. */
+NOT_INLINE int put_made(struct out *out, struct levels *levels, size_t tag_at, PyObject *made) {
+    int status = made == NULL ? -1 : made == Py_NotImplemented ? 1 : put_known(out, levels, tag_at, made);
+    if (status == 1 && PyDict_Check(made)) status = put_mapping(out, levels, tag_at, made);
+    return status;
+}
+
+/* The same, of a value of another class: what the package makes of it. */
+static int put_converted(struct out *out, struct levels *levels, size_t tag_at, PyObject *value) {
+    PyObject *made = PyObject_CallFunctionObjArgs(classes.convert, value, NULL);
+    int status = put_made(out, levels, tag_at, made);
+    Py_XDECREF(made);
+    return status;
+}
+
+/* The same: what the caller makes of it. */
+static int put_other(struct out *out, struct levels *levels, size_t tag_at, PyObject *value) {
+    PyObject *made = PyObject_CallFunctionObjArgs(levels->other, value, NULL);
+    int status = put_made(out, levels, tag_at, made);
+    if (status == 1 && made != Py_NotImplemented) status = put_converted(out, levels, tag_at, made);
+    Py_XDECREF(made);
+    return status;
+}
+
+/* Writes a value of a class that has no tag. */
+NOT_INLINE int put_unknown(struct out *out, struct levels *levels, size_t tag_at, PyObject *value) {
+    int status = PyDict_Check(value) ? put_mapping(out, levels, tag_at, value) : put_converted(out, levels, tag_at, value);
+    if (status == 1 && levels->other != NULL) status = put_other(out, levels, tag_at, value);
+    if (status == 1) {
+        PyObject *name = PyObject_GetAttrString((PyObject *)Py_TYPE(value), "__name__");
+        if (name != NULL) PyErr_Format(PyExc_TypeError, "a value of class %U can't be encoded: %R", name, value);
+        Py_XDECREF(name);
+    }
     return status == 0 ? 0 : -1;
 }
+
+INLINE int put_value(struct out *out, struct levels *levels, size_t tag_at, PyObject *value) {
+    int status = put_known(out, levels, tag_at, value);
+    return status == 1 ? put_unknown(out, levels, tag_at, value) : status;
+}
+
+/* ---- places of errors ---- */
+
+/* How many elements of a level were begun. */
+static Py_ssize_t begun(const struct level *level) {
+    Py_ssize_t at = 0, count = 0;
+    PyObject *key, *value;
+    if (level->kind != OF_DICT) return level->at;
+    while (at < level->at && PyDict_Next(level->object, &at, &key, &value)) count++;
+    return count;
+}
+
+/* Adds the number of the element that a level was at, and its key where that was written. */
+static int add_step(const struct out *out, const struct level *level, PyObject *path, PyObject *keys) {
+    const char *at = (const char *)out->at + level->element_at + 1;
+    PyObject *number = PyLong_FromSsize_t(begun(level) - 1), *key = NULL;
+    int status = number == NULL ? -1 : PyList_Append(path, number);
+    if (status == 0 && out->len > level->element_at + 1) {
+        key = PyUnicode_DecodeUTF8(at, (Py_ssize_t)strlen(at), "replace");
+        status = key == NULL ? -1 : PyList_Append(keys, key);
+    }
+    Py_XDECREF(key);
+    Py_XDECREF(number);
+    return status;
+}
+
+/* Has an error say where the value is that wasn't written. */
+static void set_place(const struct out *out, const struct levels *levels) {
+    PyObject *type, *error, *trace, *path = PyList_New(0), *keys = PyList_New(0), *placed = NULL;
+    size_t level;
+    PyErr_Fetch(&type, &error, &trace);
+    PyErr_NormalizeException(&type, &error, &trace);
+    for (level = 0; path != NULL && keys != NULL && level < levels->count && levels->at[level].at > 0; level++)
+        if (add_step(out, &levels->at[level], path, keys) < 0) break;
+    if (path != NULL && keys != NULL && PyList_Size(path) > 0)
+        placed = PyObject_CallFunctionObjArgs(classes.placed, error, path, keys, NULL);
+    PyErr_Clear();
+    if (placed != NULL && placed != error) PyErr_SetObject((PyObject *)Py_TYPE(placed), placed);
+    else PyErr_Restore(itself(type), itself(error), trace == NULL ? NULL : itself(trace));
+    Py_XDECREF(placed);
+    Py_XDECREF(path);
+    Py_XDECREF(keys);
+    Py_XDECREF(type);
+    Py_XDECREF(error);
+    Py_XDECREF(trace);
+}
+
+/* ---- documents ---- */
 
 static int put_levels(struct out *out, struct levels *levels) {
     while (levels->count > 0) {
@@ -376,42 +494,53 @@ static int put_levels(struct out *out, struct levels *levels) {
     return 0;
 }
 
-static PyObject *encoded(PyObject *document, int kind, size_t max_depth) {
-    struct out out = kept;
+static PyObject *encoded(PyObject *document, int kind, const struct options *options) {
+    struct out out;
     struct levels levels;
     PyObject *bytes = NULL;
-    kept.at = NULL;
-    kept.room = 0;
-    out.len = 0;
+    out_open(&out, options->max_bytes);
     levels.at = levels.first;
     levels.count = 0;
     levels.room = LEVELS;
-    levels.max_depth = max_depth;
+    levels.max_depth = options->max_depth;
+    levels.other = options->other;
     if (push(&out, &levels, document, kind, SIZE_MAX) == 0 && put_levels(&out, &levels) == 0)
         bytes = PyBytes_FromStringAndSize((const char *)out.at, (Py_ssize_t)out.len);
+    else set_place(&out, &levels);
     while (levels.count > 0) Py_DECREF(levels.at[--levels.count].object);
     if (levels.at != levels.first) PyMem_Free(levels.at);
-    if (kept.at == NULL && out.room <= KEPT_ROOM) kept = out;
-    else PyMem_Free(out.at);
+    out_close(&out);
     return bytes;
 }
 
-PyObject *py_encode(PyObject *module, PyObject *const *args, Py_ssize_t count, PyObject *names) {
-    struct options options;
-    PyObject *document, *bytes = NULL;
-    (void)module;
-    if (options_read(&options, "encode", DEPTH, args, count, names) < 0) return NULL;
-    document = args[0];
-    Py_INCREF(document);
-    if (Py_TYPE(document) != &PyDict_Type && Py_TYPE(document) != classes.pairs) {
-        PyObject *known = PyObject_CallFunctionObjArgs(classes.convert, document, NULL);
-        Py_DECREF(document);
-        document = known;
-        if (document == NULL) return NULL;
+/* A dict or Pairs for a document; NULL with an error set, or where there is none. */
+static PyObject *as_document(PyObject *document, PyObject *other) {
+    PyObject *known;
+    if (PyDict_CheckExact(document) || Py_TYPE(document) == classes.pairs) return itself(document);
+    if (PyDict_Check(document)) known = PyMapping_Items(document);
+    else known = PyObject_CallFunctionObjArgs(classes.convert, document, NULL);
+    if (known == Py_NotImplemented && other != NULL) {
+        PyObject *made = PyObject_CallFunctionObjArgs(other, document, NULL);
+        Py_DECREF(known);
+        known = made == NULL ? NULL : as_document(made, NULL);
+        Py_XDECREF(made);
     }
-    if (Py_TYPE(document) == &PyDict_Type) bytes = encoded(document, OF_DICT, options.max_depth);
-    else if (Py_TYPE(document) == classes.pairs) bytes = encoded(document, OF_ITEMS, options.max_depth);
-    else PyErr_Format(PyExc_TypeError, "a document is a mapping or Pairs, not %R", Py_TYPE(args[0]));
+    return known;
+}
+
+CALL(py_encode) {
+    struct options options;
+    PyObject *given, *document, *bytes = NULL;
+    (void)module;
+    options_begin(&options);
+    options.max_bytes = SIZE_MAX;
+    if (count == 1 && names == NULL) given = args[0];
+    else if (options_given(&OF_ENCODE, &options, &given, args, count, names) < 0) return NULL;
+    document = as_document(given, options.other);
+    if (document == NULL) return NULL;
+    if (PyDict_CheckExact(document)) bytes = encoded(document, OF_DICT, &options);
+    else if (Py_TYPE(document) == classes.pairs || PyDict_Check(given)) bytes = encoded(document, OF_ITEMS, &options);
+    else PyErr_Format(PyExc_TypeError, "a document is a mapping or Pairs, not %R", Py_TYPE(given));
     Py_DECREF(document);
     return bytes;
 }

@@ -38,7 +38,7 @@ static void refuse(struct fault *fault, uint32_t reason) {
     fault->reason = reason;
 }
 
-static void set_error(PyObject *error) {
+void set_error(PyObject *error) {
     if (error != NULL) PyErr_SetObject(classes.error, error);
     Py_XDECREF(error);
 }
@@ -68,13 +68,15 @@ static int go_to(struct bsonraw_iter *iter, const struct bytes *bytes, uint64_t 
     return 1;
 }
 
-/* Goes into the document, the array or the scope that a cursor is at. Whether there is one. */
-static int go_into(struct bsonraw_iter *iter, const struct bytes *bytes) {
+int go_into(struct bsonraw_iter *iter, const struct bytes *bytes) {
     struct bsonraw_iter child;
     struct bsonraw_value value;
     int32_t status;
     if (iter->tag == BSONRAW_TAG_JAVASCRIPT_WITH_SCOPE) {
-        if (bsonraw_iter_value(iter, bytes->at, bytes->len, &value) != BSONRAW_OK) return 0;
+        if (bsonraw_iter_value(iter, bytes->at, bytes->len, &value) != BSONRAW_OK) {
+            iter->error = value.error;
+            return 0;
+        }
         status = bsonraw_iter_init_at(&child, bytes->at, bytes->len, value.more_at, value.more_len);
     } else {
         status = bsonraw_iter_recurse(iter, bytes->at, bytes->len, &child);
@@ -84,11 +86,12 @@ static int go_into(struct bsonraw_iter *iter, const struct bytes *bytes) {
 }
 
 /* The steps that find takes along a path: keys, and in arrays numbers. Of a stop without a key the last one is missing. */
-static PyObject *keys_along(const struct bytes *bytes, const uint64_t *path, size_t len, const struct bsonraw_report *report) {
+static PyObject *keys_along(const struct bytes *bytes, const uint64_t *path, size_t len, const struct told *told) {
+    const struct bsonraw_report *report = &told->report;
     PyObject *keys = PyList_New(0), *all;
     struct bsonraw_iter iter;
     size_t level;
-    int is_array = 0, is_there = bsonraw_iter_init(&iter, bytes->at, bytes->len) == BSONRAW_OK;
+    int is_array = told->is_array, is_there = bsonraw_iter_init(&iter, bytes->at, bytes->len) == BSONRAW_OK;
     for (level = 0; keys != NULL && is_there && level < len; level++) {
         PyObject *key;
         is_there = go_to(&iter, bytes, path[level]);
@@ -120,13 +123,68 @@ static uint64_t *whole_path(const struct bytes *bytes, const struct told *told) 
     return path;
 }
 
+/* Adds the number of an element, or of a stop, and the step that find takes to it: in an array the number, else the key, which
+ * a stop may lack. Takes the key. */
+static int add_step(uint64_t number, int is_array, PyObject *key, PyObject *numbers, PyObject *keys) {
+    PyObject *one = PyLong_FromUnsignedLongLong(number), *step = key;
+    int status = one == NULL || PyErr_Occurred() ? -1 : PyList_Append(numbers, one);
+    if (status == 0 && is_array) step = PyObject_Str(one);
+    if (status == 0 && step != NULL) status = PyList_Append(keys, step);
+    if (step != key) Py_XDECREF(step);
+    Py_XDECREF(key);
+    Py_XDECREF(one);
+    return PyErr_Occurred() ? -1 : status;
+}
+
+/* The path from the document on to the element that begins at this offset; or to the stop there, which may have a key. */
+static int path_to(const struct bytes *bytes, size_t offset, PyObject *stop_key, PyObject *numbers, PyObject *keys) {
+    struct bsonraw_iter iter;
+    uint64_t number = 0;
+    int is_array = 0, holds_array;
+    if (bsonraw_iter_init(&iter, bytes->at, bytes->len) != BSONRAW_OK) return 0;
+    for (;;) {
+        if (bsonraw_iter_next(&iter, bytes->at, bytes->len) != BSONRAW_OK || iter.key_at - 1 > offset) {
+            Py_XINCREF(stop_key);
+            return add_step(number, is_array, stop_key, numbers, keys);
+        }
+        if (iter.next <= offset) {
+            number++;
+            continue;
+        }
+        holds_array = iter.tag == BSONRAW_TAG_ARRAY;
+        if (add_step(number, is_array, text_of(bytes->at, iter.key_at, iter.key_len), numbers, keys) < 0) return -1;
+        if (iter.key_at - 1 == offset || !go_into(&iter, bytes)) return 0;
+        is_array = holds_array;
+        number = 0;
+    }
+}
+
+/* The two paths one behind the other. Takes the second. */
+static PyObject *behind(PyObject *first, PyObject *second) {
+    PyObject *front = first == NULL || second == NULL ? NULL : PyList_AsTuple(first);
+    PyObject *both = front == NULL ? NULL : PySequence_Concat(front, second);
+    Py_XDECREF(front);
+    Py_XDECREF(second);
+    return both;
+}
+
 /* Path and keys of what was told; both NULL with an error set. */
 static void place_of(const struct bytes *bytes, const struct told *told, PyObject **numbers, PyObject **keys) {
     size_t len = (size_t)told->report.path_len;
     uint64_t *path = whole_path(bytes, told);
     *numbers = path == NULL ? NULL : numbers_of(path, len);
-    *keys = *numbers == NULL ? NULL : keys_along(bytes, path, len, &told->report);
+    *keys = *numbers == NULL ? NULL : keys_along(bytes, path, len, told);
     PyMem_Free(path);
+    if (told->outer != NULL) {
+        PyObject *front = PyList_New(0), *keys_in_front = PyList_New(0);
+        if (front != NULL && keys_in_front != NULL && path_to(told->outer, told->element_at, NULL, front, keys_in_front) < 0)
+            Py_CLEAR(front);
+        *numbers = behind(front, *numbers);
+        *keys = behind(keys_in_front, *keys);
+        Py_XDECREF(front);
+        Py_XDECREF(keys_in_front);
+    }
+    if (*keys == NULL) Py_CLEAR(*numbers);
 }
 
 /* ---- errors of whole documents ---- */
@@ -147,7 +205,7 @@ PyObject *error_of(const struct bytes *bytes, const struct told *told) {
         place_of(bytes, told, &fault.path, &fault.keys);
         if (told->report.has_key) fault.key = text_of(bytes->at, told->report.key_at, told->report.key_len);
     }
-    if (has_place || told->before > 0) fault.offset = PyLong_FromUnsignedLongLong(told->before + (has_place ? why->offset : 0));
+    if (has_place || told->is_of_dump) fault.offset = PyLong_FromUnsignedLongLong(told->before + (has_place ? why->offset : 0));
     return error_new(&fault);
 }
 
@@ -176,11 +234,15 @@ void set_cursor_error(const struct bytes *bytes, int32_t status, const struct bs
     if (status == BSONRAW_NO_DOCUMENT) {
         fault.kind = KIND_NO_DOCUMENT;
     } else {
+        PyObject *numbers = PyList_New(0), *keys = PyList_New(0);
         fault.offset = PyLong_FromUnsignedLongLong(why->offset);
-        if (iter->key_at < bytes->len) {
-            fault.key = text_of(bytes->at, iter->key_at, iter->key_len);
-            if (fault.key != NULL) fault.keys = PyTuple_Pack(1, fault.key);
+        if (iter->key_at < bytes->len) fault.key = text_of(bytes->at, iter->key_at, iter->key_len);
+        if (numbers != NULL && keys != NULL && path_to(bytes, (size_t)why->offset, fault.key, numbers, keys) == 0) {
+            fault.path = PyList_AsTuple(numbers);
+            fault.keys = PyList_AsTuple(keys);
         }
+        Py_XDECREF(numbers);
+        Py_XDECREF(keys);
     }
     set_error(error_new(&fault));
 }
@@ -190,10 +252,15 @@ PyObject *error_no_document(uint32_t reason, uint64_t offset) {
     return error_new(&fault);
 }
 
-void set_no_document(uint32_t reason, uint64_t offset) { set_error(error_no_document(reason, offset)); }
+PyObject *error_refused(int reason, uint64_t offset) {
+    struct fault fault = {KIND_REFUSED, (uint32_t)reason, NULL, PyLong_FromUnsignedLongLong(offset), NULL, NULL, 0, 0};
+    return error_new(&fault);
+}
 
-void set_refused(int reason, PyObject *key) {
-    struct fault fault = {KIND_REFUSED, (uint32_t)reason, key, NULL, NULL, NULL, 0, 0};
+void set_refused(int reason, PyObject *key, PyObject *path, PyObject *keys) {
+    struct fault fault = {KIND_REFUSED, (uint32_t)reason, key, NULL, path, keys, 0, 0};
     Py_XINCREF(key);
+    Py_XINCREF(path);
+    Py_XINCREF(keys);
     set_error(error_new(&fault));
 }

@@ -1,5 +1,5 @@
 /* The canonical forms of a whole dump in one call, and without the interpreter's lock where that may be. */
-#include "native.h"
+#include "dumps.h"
 
 #include <stdlib.h>
 
@@ -145,22 +145,19 @@ static PyObject *formed(struct forms *all) {
 
 /* The error of a document without a form: it is looked through once more, for the place. */
 static PyObject *why_without(const struct forms *all, const struct without *without) {
-    struct bytes document = all->bytes;
+    struct bytes document = bytes_part(all->bytes.at + without->at, without->len);
     struct told told;
     if (without->status == BSONRAW_NONE) return error_no_document(all->reader.error.reason, all->before + without->at);
-    document.at += without->at;
-    document.len = without->len;
-    memset(&told.report, 0, sizeof told.report);
+    memset(&told, 0, sizeof told);
     told.status = without->status;
     told.max_bytes = all->max_bytes;
     told.max_depth = all->max_depth;
     told.before = all->before + without->at;
+    told.is_of_dump = 1;
     if (told.status == BSONRAW_FAULT || told.status == BSONRAW_TOO_DEEP || told.status == BSONRAW_NO_DOCUMENT)
         told.status = bsonraw_first_fault(document.at, document.len, told.max_bytes, told.max_depth, &told.report, told.path,
                                         PATH_ROOM);
-    if (told.status != BSONRAW_OK) return error_of(&document, &told);
-    PyErr_SetString(PyExc_RuntimeError, "the bytes were written while they were brought to their forms");
-    return NULL;
+    return error_of(&document, &told);
 }
 
 /* A list of the documents without a form: tuples of offset and error. */
@@ -231,17 +228,17 @@ static PyObject *parts_of(const struct forms *all, PyObject *room) {
 }
 
 /* canonical_all(data, ..): the parts of Forms. */
-PyObject *py_canonical_all(PyObject *module, PyObject *const *args, Py_ssize_t count, PyObject *names) {
+CALL(py_canonical_all) {
     struct options options;
     struct forms all;
-    PyObject *parts;
+    PyObject *data, *parts;
     (void)module;
-    if (options_read(&options, "canonical_all", OF_A_PART, args, count, names) < 0) return NULL;
+    if (options_read(&OF_CANONICAL_ALL, &options, &data, args, count, names) < 0) return NULL;
     memset(&all, 0, sizeof all);
     all.max_bytes = options.max_bytes;
     all.max_depth = options.max_depth;
     all.before = options.before;
-    if (bytes_open(&all.bytes, args[0]) < 0) return NULL;
+    if (bytes_open(&all.bytes, data) < 0) return NULL;
     parts = parts_of(&all, formed(&all));
     free(all.each);
     free(all.without);
@@ -264,14 +261,13 @@ static int note_cut(struct cuts *cuts, uint64_t at) {
     return DONE;
 }
 
-/* Notes the first offset of each part of so many bytes or a little more, and the end of the last one. */
-static int cut_all(struct cuts *cuts, const struct bytes *bytes, size_t size, struct bsonraw_reader *reader) {
-    uint64_t start = 0, end = 0;
+/* Notes the first offset of each part of so many bytes or a little more, and the end of the last one. Others may write the
+ * bytes meanwhile: each length is read once. */
+static int cut_all(struct cuts *cuts, const struct bytes *bytes, size_t size, enum cut *last) {
+    size_t start = 0, end = 0, len;
     int outcome = note_cut(cuts, 0);
-    while (outcome == DONE) {
-        int32_t status = bsonraw_reader_read(reader, bytes->at, bytes->len);
-        if (status != BSONRAW_OK && (status == BSONRAW_NONE || reader->error.reason != BSONRAW_NOT_TERMINATED)) break;
-        end = reader->next;
+    while (outcome == DONE && (*last = cut_next(bytes->at + end, bytes->len - end, SIZE_MAX, &len)) == CUT_ONE) {
+        end += len;
         if (end - start < size) continue;
         outcome = note_cut(cuts, end);
         start = end;
@@ -293,21 +289,19 @@ static PyObject *offsets_of(const struct cuts *cuts) {
 PyObject *py_partitions(PyObject *module, PyObject *const *args, Py_ssize_t count) {
     struct bytes bytes;
     struct cuts cuts = {NULL, 0, 0};
-    struct bsonraw_reader reader;
+    enum cut last = CUT_NONE;
     PyObject *offsets, *result = NULL;
     size_t size;
     int outcome;
     (void)module;
     if (count != 2) PyErr_SetString(PyExc_TypeError, "partitions() takes data and a size");
     if (count != 2 || ((size = PyLong_AsSize_t(args[1])) == (size_t)-1 && PyErr_Occurred())) return NULL;
-    if (bytes_open(&bytes, args[0]) < 0) return NULL;
-    memset(&reader, 0, sizeof reader);
-    WITHOUT_LOCK(&bytes, outcome = cut_all(&cuts, &bytes, size, &reader));
+    if (bytes_open_as_they_are(&bytes, args[0]) < 0) return NULL;
+    WITHOUT_LOCK(&bytes, outcome = cut_all(&cuts, &bytes, size, &last));
     if (outcome == NO_MEMORY) PyErr_NoMemory();
     offsets = outcome == NO_MEMORY ? NULL : offsets_of(&cuts);
     if (offsets != NULL) {
-        uint64_t end = cuts.at[cuts.count - 1];
-        PyObject *error = end < bytes.len ? error_no_document(reader.error.reason, end) : Py_None;
+        PyObject *error = last == CUT_NONE ? Py_None : error_no_document(cut_reason(last), cuts.at[cuts.count - 1]);
         if (error == Py_None) Py_INCREF(error);
         if (error != NULL) result = Py_BuildValue("ON", offsets, error);
         Py_DECREF(offsets);

@@ -1,5 +1,6 @@
 /* What the files of the module share. Objects are made of what the library tells of bytes: offsets and lengths that lie in
- * them. Nothing here relies on bytes keeping still: each read is bounded by the length of the payload that it is in. */
+ * them. The library and this module read bytes more than once, so that only bytes that nobody writes are handed to them: those of
+ * a bytes object. Of any other object's bytes a copy is made first. */
 #ifndef BSONRAW_NATIVE_H
 #define BSONRAW_NATIVE_H
 
@@ -7,7 +8,7 @@
 #include <Python.h>
 #include <structmember.h>
 
-#include "library.h"
+#include <bsonraw.h>
 #include <stdint.h>
 #include <string.h>
 
@@ -23,6 +24,12 @@
 #endif
 PyTypeObject *type_not_called(PyType_Spec *spec);
 
+#if PY_VERSION_HEX >= 0x03090000
+#define VISIT_TYPE(self) Py_VISIT(Py_TYPE(self))
+#else
+#define VISIT_TYPE(self) (void)(self)
+#endif
+
 #ifdef __GNUC__
 #define IN_LINES __attribute__((aligned(64))) /* of an array: each of its 64 bytes are one line of the processor's cache */
 #define INLINE static inline __attribute__((always_inline))
@@ -33,14 +40,15 @@ PyTypeObject *type_not_called(PyType_Spec *spec);
 #define NOT_INLINE static
 #endif
 
-#define LET_GO_OVER 65536 /* a call over more bytes lets go of the interpreter's lock, where nobody can write them */
+#define LET_GO_OVER 65536 /* a call over more bytes lets go of the interpreter's lock */
 
 /* ---- bytes.c: the bytes that a caller hands in ---- */
 
 struct bytes {
     const uint8_t *at; /* never NULL */
     size_t len;
-    int is_fixed; /* nobody can write them: they belong to an object of the very class bytes */
+    PyObject *copy; /* the bytes object that was made of the caller's, where those may be written; or NULL */
+    int is_fixed;   /* nobody writes them: they belong to an object of the very class bytes */
     int has_view;
     Py_buffer view;
 };
@@ -52,20 +60,36 @@ static inline int bytes_open(struct bytes *bytes, PyObject *data) {
     if (!PyBytes_CheckExact(data)) return bytes_open_view(bytes, data);
     bytes->at = (const uint8_t *)PyBytes_AsString(data);
     bytes->len = (size_t)PyBytes_Size(data);
+    bytes->copy = NULL;
     bytes->is_fixed = 1;
     bytes->has_view = 0;
     return 0;
 }
 
+/* The same, but no copy is made. Where they aren't fixed, each byte may be read once. */
+int bytes_open_as_they_are(struct bytes *bytes, PyObject *data);
+
 static inline void bytes_close(struct bytes *bytes) {
     if (bytes->has_view) PyBuffer_Release(&bytes->view);
+    Py_CLEAR(bytes->copy);
     bytes->has_view = 0;
 }
 
-/* Whether a call over these bytes lets go of the lock. */
-#define LETS_GO(bytes) ((bytes)->len > LET_GO_OVER && (bytes)->is_fixed)
+/* Some bytes of others that stay open for longer. */
+static inline struct bytes bytes_part(const uint8_t *at, size_t len) {
+    struct bytes part;
+    part.at = at;
+    part.len = len;
+    part.copy = NULL;
+    part.is_fixed = 1;
+    part.has_view = 0;
+    return part;
+}
 
-/* Does some work over bytes, which touches no object of Python, with the lock let go of where that may be. */
+/* Whether a call over these bytes lets go of the lock. */
+#define LETS_GO(bytes) ((bytes)->len > LET_GO_OVER)
+
+/* Does some work over bytes, which touches no object of Python, with the lock let go of where they are many. */
 #define WITHOUT_LOCK(bytes, work)                                                                                              \
     do {                                                                                                                       \
         if (LETS_GO(bytes)) {                                                                                                  \
@@ -81,11 +105,12 @@ static inline void bytes_close(struct bytes *bytes) {
 typedef struct {
     PyObject_HEAD
     struct bytes bytes;
-    PyObject *data; /* the caller's object */
+    PyObject *data; /* the caller's object, or the copy */
     PyObject *view; /* a read-only memoryview of it, made when first asked for */
 } Source;
 
 Source *source_of(PyObject *data);
+Source *source_as_it_is(PyObject *data); /* without a copy */
 PyObject *source_slice(Source *source, size_t at, size_t len);
 
 static inline int32_t le_i32(const uint8_t *at) {
@@ -115,7 +140,7 @@ typedef struct {
     uint8_t bytes[16];
 } Raw;
 
-/* Two values: regular expressions, binaries, code, pointers. */
+/* Two values: regular expressions, pointers. */
 typedef struct {
     PyObject_HEAD
     PyObject *first;
@@ -125,12 +150,14 @@ typedef struct {
 /* The classes that the package defines in Python over these, and what else the module makes or calls. */
 struct classes {
     PyTypeObject *object_id, *decimal128, *timestamp;     /* over Raw */
-    PyTypeObject *regex, *binary, *code, *db_pointer;     /* over Pair */
+    PyTypeObject *regex, *db_pointer;                     /* over Pair */
+    PyTypeObject *binary, *code;                          /* over bytes, str */
     PyTypeObject *int64, *datetime_ms, *symbol, *pairs;   /* over int, int, str, list */
     PyTypeObject *undefined_type, *min_key_type, *max_key_type;
     PyObject *undefined, *min_key, *max_key;
     PyObject *error, *breach;
-    PyObject *convert;          /* a value of another class to one of these, for encoding */
+    PyObject *convert;          /* a value of another class to one of these, for encoding; or NotImplemented */
+    PyObject *placed;           /* an error of encoding with the place */
     PyObject *element_type[256]; /* by tag; NULL where there is none */
 };
 extern struct classes classes;
@@ -140,12 +167,53 @@ PyObject *classes_use(PyObject *module, PyObject *namespace);
 PyObject *raw_new(PyTypeObject *type, const uint8_t *bytes, uint8_t len);
 PyObject *pair_new(PyTypeObject *type, PyObject *first, PyObject *second); /* steals both; NULL where one is NULL */
 
+/* ---- over.c ---- */
+
+int over_init(void);
+PyObject *binary_new(const uint8_t *at, size_t len, uint8_t subtype);
+PyObject *binary_subtype(PyObject *binary);
+PyObject *code_new(PyObject *code, PyObject *scope); /* steals both; NULL where one is NULL */
+PyObject *code_scope(PyObject *code);
+
 /* ---- times.c ---- */
 
 int times_init(void);
-PyObject *time_of(int64_t millis); /* an aware datetime, or a DatetimeMS where no datetime has this time */
+PyObject *time_of(int64_t millis, int is_naive); /* a datetime, or a DatetimeMS where no datetime has this time */
 int is_datetime(PyObject *value);
 int millis_of(PyObject *datetime, int64_t *millis);
+
+/* ---- what a call was asked ---- */
+
+/* Limits and what to make of values. Objects are the caller's, but for types. */
+struct options {
+    size_t max_bytes;
+    size_t max_depth;
+    size_t before; /* how many bytes of a dump are before those that are given */
+    int is_pairs, is_naive, uuids;
+    int tz_aware; /* -1 where it wasn't said */
+    int is_plain; /* nothing below is there: values are the package's own */
+    int is_canonical, indent; /* of Extended JSON; the indent is -1 for one line */
+    int is_of_dump; /* what is read is one of the documents of a dump */
+    const struct bytes *outer; /* of an element's value: the document that the element is in, and where it begins; or NULL */
+    size_t element_at;
+    int is_array; /* what is read is an array */
+    PyObject *missing; /* what is in the place of a value that isn't there */
+    PyObject *paths;   /* a list of tuples of a name and keys; or NULL */
+    int is_typed;      /* columns of one kind are buffers */
+    PyObject *errors;  /* what a fault is told; None to pass over it; NULL to raise it */
+    PyObject *other;   /* makes a value that is written of one of another class; or NULL */
+    PyObject *hook, *pairs_hook; /* make a value of each document; or NULL */
+    PyObject *types; /* a tuple, by tag, of what makes another class of a value; NULL for the package's own classes */
+};
+
+/* ---- foreign.c: values of the classes of others ---- */
+
+PyObject *uuid_of(const uint8_t *at);
+/* Types is a tuple, by tag, of what makes a value; None where ours is one. Of a leaf that is made without one of ours; NULL
+ * with no error set where it isn't. */
+PyObject *foreign_leaf(PyObject *types, uint32_t tag, const uint8_t *at, size_t len);
+PyObject *foreign_document(PyObject *types, PyObject *document); /* takes it */
+PyObject *in_types(PyObject *types, uint32_t tag, PyObject *value); /* in place of ours, which it takes */
 
 /* ---- errors.c ---- */
 
@@ -159,8 +227,22 @@ struct told {
     struct bsonraw_report report;
     uint64_t path[PATH_ROOM];
     size_t max_bytes, max_depth; /* what the call was given */
-    uint64_t before;             /* how many bytes of the dump are before the document */
+    int is_of_dump;              /* so that its offset is told in any case */
+    uint64_t before;             /* how many bytes are before the document */
+    const struct bytes *outer;   /* of a document in an element's value: the document with the element, which begins there; or NULL */
+    size_t element_at;
+    int is_array;
 };
+
+static inline void told_begin(struct told *told, const struct options *options) {
+    told->max_bytes = options->max_bytes;
+    told->max_depth = options->max_depth;
+    told->is_of_dump = options->is_of_dump;
+    told->before = 0;
+    told->outer = options->outer;
+    told->element_at = options->element_at;
+    told->is_array = options->is_array;
+}
 
 /* The BsonError of a status that isn't one of success; NULL with an error set. */
 PyObject *error_of(const struct bytes *bytes, const struct told *told);
@@ -169,10 +251,15 @@ void set_error_of(const struct bytes *bytes, const struct told *told);
 PyObject *breach_of(const struct bytes *bytes, const struct told *told);
 /* Sets the error of a cursor over one level. */
 void set_cursor_error(const struct bytes *bytes, int32_t status, const struct bsonraw_iter *iter);
+/* Goes into the document, the array or the scope that a cursor is at. Whether there is one; if not, its error may say why. */
+int go_into(struct bsonraw_iter *iter, const struct bytes *bytes);
 /* Of bytes that no document is cut from. */
 PyObject *error_no_document(uint32_t reason, uint64_t offset);
-void set_no_document(uint32_t reason, uint64_t offset);
-void set_refused(int reason, PyObject *key);
+/* Of a document of a dump that is more than allowed. */
+PyObject *error_refused(int reason, uint64_t offset);
+/* Of what isn't written; each object may be NULL. */
+void set_refused(int reason, PyObject *key, PyObject *path, PyObject *keys);
+void set_error(PyObject *error); /* takes it; NULL where an error is set */
 
 /* ---- tokens.c ---- */
 
@@ -180,17 +267,6 @@ struct tokens {
     struct bsonraw_token *at;
     size_t count;
     size_t room;
-};
-
-/* Limits and what to make of values. */
-struct options {
-    size_t max_bytes;
-    size_t max_depth;
-    size_t before; /* how many bytes of a dump are before those that are given */
-    int is_pairs;
-    int is_canonical, is_indented; /* of Extended JSON */
-    PyObject *missing; /* what is in the place of a value that isn't there */
-    PyObject *types; /* a dict of tags and what makes another class of a value; NULL for the package's own classes */
 };
 
 /* The tokens of all levels: 0, or -1 with an error set. */
@@ -201,57 +277,109 @@ void tokens_free(struct tokens *tokens);
 
 PyObject *key_of(const uint8_t *at, size_t len);
 PyObject *decoded(const struct bytes *bytes, const struct options *options, uint64_t before);
-/* Has each key of the first level taken, with its value: 0, or -1 with an error set. */
-typedef int taker(void *to, PyObject *key, PyObject *value);
-int decode_each(const struct bytes *bytes, const struct options *options, uint64_t before, taker *take, void *to);
-PyObject *py_decode(PyObject *module, PyObject *const *args, Py_ssize_t count, PyObject *names);
+/* Has each key of the first level taken, with its token: 0, or -1 with an error set. */
+typedef int taker(void *to, PyObject *key, const struct bsonraw_token *token);
+int take_keys(const struct bytes *bytes, const struct options *options, uint64_t before, taker *take, void *to);
+PyObject *value_of_token(const struct bytes *bytes, const struct options *options, const struct bsonraw_token *token);
 /* The value of one element of any kind. */
-PyObject *value_at(const struct bytes *bytes, const struct bsonraw_iter *iter);
+PyObject *value_at(const struct bytes *bytes, const struct bsonraw_iter *iter, const struct options *options);
 
-/* ---- options.c ---- */
+/* ---- options.c: arguments ---- */
 
 #define MAX_BYTES 16777216
 #define MAX_DEPTH 500
 
-extern const char *const DECODE_OPTIONS[];
-extern const char *const OF_COLUMNS[];
-extern const char *const LIMITS[];
-extern const char *const OF_A_PART[];
-extern const char *const OF_A_TEXT[];
-extern const char *const DEPTH[];
-int options_given(struct options *options, const char *call, const char *const *names, PyObject *const *args, Py_ssize_t count,
-                  PyObject *names_given);
+#define MOST_PLACES 2
+#define MOST_OPTIONS 12
+#define MOST_INDENT 16
 
-/* The options of a call of one positional argument: 0, or -1 with an error set. */
-static inline int options_read(struct options *options, const char *call, const char *const *names, PyObject *const *args,
-                               Py_ssize_t count, PyObject *names_given) {
+/* The arguments of a call: those that may be given by their places, and those that are given by their names alone. */
+struct option;
+struct signature {
+    const char *call;
+    const char *places[MOST_PLACES];
+    const struct option *options[MOST_OPTIONS];
+};
+extern const struct signature OF_DECODE, OF_ENCODE, OF_VALUE, OF_ELEMENTS, OF_GET, OF_FIND, OF_WALK, OF_CANONICAL, OF_CHECK,
+    OF_FIRST_FAULT, OF_TO_JSON, OF_DECODE_ALL, OF_COLUMNS, OF_CANONICAL_ALL;
+
+int limit_of(PyObject *given, const char *name, size_t *limit);
+int options_given(const struct signature *of, struct options *options, PyObject **data, PyObject *const *args, Py_ssize_t count,
+                  PyObject *names);
+
+static inline void options_begin(struct options *options) {
+    memset(options, 0, sizeof *options);
     options->max_bytes = MAX_BYTES;
     options->max_depth = MAX_DEPTH;
-    options->before = 0;
-    options->is_pairs = 0;
-    options->is_canonical = options->is_indented = 0;
+    options->tz_aware = options->indent = -1;
+    options->is_plain = 1;
     options->missing = Py_None;
-    options->types = NULL;
-    return count == 1 && names_given == NULL ? 0 : options_given(options, call, names, args, count, names_given);
 }
 
-/* ---- element.c, dumps.c, encode.c, forms.c ---- */
+static inline void options_end(const struct options *options) { Py_XDECREF(options->types); }
+
+/* Reads the arguments of a call: 0, and they have to be ended; or -1 with an error set. Data has those that have places. */
+static inline int options_read(const struct signature *of, struct options *options, PyObject **data, PyObject *const *args,
+                               Py_ssize_t count, PyObject *names) {
+    options_begin(options);
+    data[0] = count > 0 ? args[0] : NULL;
+    return count == 1 && names == NULL && of->places[0] != NULL && of->places[1] == NULL
+               ? 0
+               : options_given(of, options, data, args, count, names);
+}
+
+/* The same, of a call of two arguments and no options. */
+static inline int places_read(const struct signature *of, PyObject **data, PyObject *const *args, Py_ssize_t count, PyObject *names) {
+    struct options none;
+    if (count == 2 && names == NULL) {
+        data[0] = args[0];
+        data[1] = args[1];
+        return 0;
+    }
+    options_begin(&none);
+    return options_given(of, &none, data, args, count, names);
+}
+
+/* ---- element.c, find.c ---- */
+
+PyObject *element_new(Source *source, const struct bsonraw_iter *iter, size_t max_depth);
+PyObject *element_key(PyObject *element);
+uint64_t number_of_step(const uint8_t *at, size_t len); /* that it writes without a 0 too many; or UINT64_MAX */
+const uint8_t *utf8_of(PyObject *text, const char *name, size_t *len); /* as long as it lives; NULL with an error set */
+
+/* What iterators do. */
+static inline PyObject *itself(PyObject *self) {
+    Py_INCREF(self);
+    return self;
+}
+
+static inline PyObject *itself_entered(PyObject *self, PyObject *unused) {
+    (void)unused;
+    return itself(self);
+}
+
+/* ---- the calls ---- */
 
 int elements_add(PyObject *module);
-int dumps_add(PyObject *module);
-PyObject *element_new(Source *source, const struct bsonraw_iter *iter);
+int walks_add(PyObject *module);
+int documents_add(PyObject *module);
 
-PyObject *py_elements(PyObject *module, PyObject *data);
-PyObject *py_walk(PyObject *module, PyObject *const *args, Py_ssize_t count, PyObject *names);
-PyObject *py_get(PyObject *module, PyObject *const *args, Py_ssize_t count);
-PyObject *py_find(PyObject *module, PyObject *const *args, Py_ssize_t count);
+#define CALL(name) PyObject *name(PyObject *module, PyObject *const *args, Py_ssize_t count, PyObject *names)
+CALL(py_decode);
+CALL(py_encode);
+CALL(py_elements);
+CALL(py_walk);
+CALL(py_get);
+CALL(py_find);
+CALL(py_decode_all);
+CALL(py_columns);
+CALL(py_canonical_all);
+CALL(py_to_json);
 PyObject *py_element(PyObject *module, PyObject *const *args, Py_ssize_t count);
 PyObject *py_documents(PyObject *module, PyObject *const *args, Py_ssize_t count);
-PyObject *py_decode_all(PyObject *module, PyObject *const *args, Py_ssize_t count, PyObject *names);
-PyObject *py_columns(PyObject *module, PyObject *const *args, Py_ssize_t count, PyObject *names);
-PyObject *py_canonical_all(PyObject *module, PyObject *const *args, Py_ssize_t count, PyObject *names);
 PyObject *py_partitions(PyObject *module, PyObject *const *args, Py_ssize_t count);
-PyObject *py_encode(PyObject *module, PyObject *const *args, Py_ssize_t count, PyObject *names);
+PyObject *py_listed(PyObject *module, PyObject *args);
+PyObject *py_arrow(PyObject *module, PyObject *args);
 
 #define FASTCALL(call) ((PyCFunction)(void (*)(void))(call))
 

@@ -44,7 +44,7 @@ static int64_t days_of(long year, long month, long day) {
     return era * 146097 + year_of_era * 365 + year_of_era / 4 - year_of_era / 100 + of_year - 719468;
 }
 
-PyObject *time_of(int64_t millis) {
+PyObject *time_of(int64_t millis, int is_naive) {
     int64_t days = millis / DAY, rest = millis % DAY;
     int year, month, day, seconds, micros;
     if (rest < 0) {
@@ -56,8 +56,8 @@ PyObject *time_of(int64_t millis) {
     date_of(days, &year, &month, &day);
     seconds = (int)(rest / 1000);
     micros = (int)(rest % 1000) * 1000;
-    return table->new_datetime(year, month, day, seconds / 3600, seconds / 60 % 60, seconds % 60, micros, table->utc,
-                               table->datetime);
+    return table->new_datetime(year, month, day, seconds / 3600, seconds / 60 % 60, seconds % 60, micros,
+                               is_naive ? Py_None : table->utc, table->datetime);
 }
 
 int is_datetime(PyObject *value) { return Py_TYPE(value) == table->datetime; }

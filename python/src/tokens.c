@@ -22,8 +22,8 @@ void tokens_free(struct tokens *tokens) {
 }
 
 static inline int32_t flatten(const struct tokens *tokens, const struct bytes *bytes, struct told *told) {
-    return whole_flatten(bytes->at, bytes->len, told->max_bytes, told->max_depth, tokens->at, tokens->room, &told->report,
-                         told->path, PATH_ROOM);
+    return bsonraw_flatten(bytes->at, bytes->len, told->max_bytes, told->max_depth, tokens->at, tokens->room, &told->report,
+                           told->path, PATH_ROOM);
 }
 
 /* Without the interpreter's lock. */
@@ -35,20 +35,24 @@ NOT_INLINE int32_t flatten_alone(const struct tokens *tokens, const struct bytes
     return status;
 }
 
+static int32_t flatten_into(const struct tokens *tokens, const struct bytes *bytes, struct told *told) {
+    return LETS_GO(bytes) ? flatten_alone(tokens, bytes, told) : flatten(tokens, bytes, told);
+}
+
 int tokens_read(struct tokens *tokens, const struct bytes *bytes, const struct options *options, uint64_t before) {
     size_t wanted = bytes->len / 8 + 64;
+    int is_sound = bytes->len >= 5 && (size_t)le_i32(bytes->at) == bytes->len && bytes->len <= options->max_bytes;
     struct told told;
     *tokens = kept;
     kept.at = NULL;
     kept.room = 0;
-    told.max_bytes = options->max_bytes;
-    told.max_depth = options->max_depth;
+    told_begin(&told, options);
     told.before = before;
-    if (tokens->room < wanted && bytes->len <= told.max_bytes && make_room(tokens, wanted) < 0) return -1;
-    told.status = LETS_GO(bytes) ? flatten_alone(tokens, bytes, &told) : flatten(tokens, bytes, &told);
+    if (tokens->room < wanted && is_sound && make_room(tokens, wanted) < 0) return -1;
+    told.status = flatten_into(tokens, bytes, &told);
     if (told.status == BSONRAW_SMALL_BUFFER) {
         if (make_room(tokens, (size_t)told.report.count) < 0) return -1;
-        told.status = LETS_GO(bytes) ? flatten_alone(tokens, bytes, &told) : flatten(tokens, bytes, &told);
+        told.status = flatten_into(tokens, bytes, &told);
     }
     if (told.status != BSONRAW_OK) {
         set_error_of(bytes, &told);

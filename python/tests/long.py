@@ -4,6 +4,7 @@ checks/python.sh a few.
     python3 long.py [CALLS]
 """
 
+import collections
 import gc
 import io
 import random
@@ -61,6 +62,19 @@ STEPS: List[Callable[[Any], Any]] = [
     lambda data: bsonraw.columns(data + REPEATED, max_depth=2),
     lambda data: list(bsonraw.documents(io.BytesIO(data + b"x"))),
     lambda data: list(bsonraw.documents(memoryview(data))),
+    lambda data: bsonraw.decode_all(bytearray(data * 3), errors="skip", uuid=True),
+    lambda data: bsonraw.columns(io.BytesIO(data * 3), errors=repr, max_bytes=60),
+    lambda data: [list(column) for column in bsonraw.columns(data * 9, typed=True, errors="skip").values()],
+    lambda data: [numbers.__arrow_c_array__() for numbers in bsonraw.columns(data * 2, typed=True).values() if type(numbers) is not list],
+    lambda data: bsonraw.columns(data * 9, paths=["a", ("b", 0), "c"], typed=True),
+    lambda data: bsonraw.decode(data, object_hook=dict, tz_aware=False),
+    lambda data: bsonraw.decode(data, object_pairs_hook=len, uuid=True),
+    lambda data: [element.decode(pairs=True) for element in bsonraw.elements(data)],
+    lambda data: bsonraw.encode({"k": {1}, "d": bsonraw.RawDocument(data)}, default=bsonraw.Codec(), max_bytes=300),
+    lambda data: bsonraw.encode(collections.OrderedDict(a=[1, {2}])),
+    lambda data: bsonraw.edit(data, {"a": 1, "b.c": bsonraw.REMOVE}),
+    lambda data: bsonraw.to_json(data, indent=4),
+    lambda data: bsonraw.ObjectId(data[:12]) == bsonraw.MinKey(),
     lambda data: bsonraw.canonical_all(data * 3 + b"x", max_depth=3),
     lambda data: bsonraw.partitions(data * 3, len(data)),
 ]

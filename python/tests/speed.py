@@ -3,15 +3,19 @@
     speed.py [--seconds N] [--frame] [DOCUMENT..]
 
 Each figure is the least of many short samples, so that other work of the machine counts little. --seconds is for a row, 0.5
-where it is left out. --frame makes a DataFrame of 100,000 documents, too, which wants pandas. A DOCUMENT is a file with one.
+where it is left out. --frame makes a DataFrame of 1,000,000 documents, too, which wants pandas. A DOCUMENT is a file with one.
 """
 
 import argparse
 import gc
+import itertools
 import random
+import subprocess
 import sys
+import tempfile
 import threading
 import time
+from collections import OrderedDict
 from datetime import datetime, timedelta, timezone
 from pathlib import Path
 from typing import Any, Callable, Dict, List, Optional, Tuple
@@ -133,6 +137,41 @@ def reads(data: bytes, seconds: float) -> None:
         row(f"{name}, typical", least)
 
 
+def rows(seconds: float) -> None:
+    """Documents of which a part is dear."""
+    rng = random.Random(3)
+    words = ["Zürich", "東京", "Москва", "Αθήνα", "القاهرة", "Oslo"]
+
+    def text(length: int) -> str:
+        made = ""
+        while len(made) < length:
+            made += rng.choice(words) + " "
+        return made[:length]
+
+    made: Dict[str, Any] = {
+        "50 texts of six letters, of which one isn't ASCII": {f"t{number}": "Zürich" for number in range(50)},
+        "50 texts of 130 letters in several scripts": {f"t{number}": text(130) for number in range(50)},
+        "100 keys of 63 letters": {f"{number:063}": number for number in range(100)},
+        "10,000 ints of 32 bits in an array": {"a": [rng.randrange(-(2**31), 2**31) for _ in range(10_000)]},
+    }
+    for name, value in made.items():
+        data = bsonraw.encode(value)
+        row(f"decode, {name}", *turns([(bsonraw.decode, data), (bson.decode, data)], seconds))
+    fresh = [bsonraw.encode({f"{rng.randrange(10**12)}": number for number in range(5_000)}) for _ in range(100)]
+
+    def each(read: Callable[[Any], Any]) -> Callable[[Any], Any]:
+        documents = itertools.cycle(fresh)
+        return lambda _: read(next(documents))
+
+    row("decode, 5,000 keys that are in no other document", *turns([(each(bsonraw.decode), None), (each(bson.decode), None)], seconds))
+    inner = b"\x0a\0" * 8_000_000
+    inner = (len(inner) + 5).to_bytes(4, "little") + inner + b"\0"
+    data = (len(inner) + 8).to_bytes(4, "little") + b"\4a\0" + inner + b"\0"
+    row("decode, 8,000,000 nulls in an array", *turns([(bsonraw.decode, data), (bson.decode, data)], max(seconds, 5)))
+    ordered = OrderedDict((f"field_{number}", [number, number * 0.5, f"text {number}"][number % 3]) for number in range(20))
+    row("encode, an OrderedDict of twenty fields", *turns([(bsonraw.encode, ordered), (bson.encode, ordered)], seconds))
+
+
 def texts(data: bytes, seconds: float) -> None:
     row("to_json, typical", *turns([(bsonraw.to_json, data)], seconds))
     try:
@@ -148,18 +187,31 @@ def texts(data: bytes, seconds: float) -> None:
     row("to_json; json_util.dumps of decoded values", *turns([(bsonraw.to_json, data), (dumps, value)], seconds))
 
 
-def frame(seconds: float) -> None:
-    import pandas
-
-    fields = ({"_id": number, "name": f"user_{number}", "age": number % 90, "score": number / 2, "ok": True} for number in range(100_000))
-    dump = b"".join(map(bsonraw.encode, fields))
-
-    def of(read: Callable[[Any], Any]) -> Any:
-        return pandas.DataFrame(read(dump))
-
-    for read in (bsonraw.columns, bsonraw.decode_all):
-        name = f"a DataFrame of 100,000 documents, by {read.__name__}"
-        row(name, *turns([(of, read), (of, bson.decode_all)], max(seconds, 10)))
+def frame() -> None:
+    """A DataFrame of 1,000,000 documents of five fields over two levels, each way in a process of its own."""
+    paths = ["_id", "name", "user.age", "user.score", "on"]
+    ways = {
+        "columns(paths=, typed=True)": f"bsonraw.columns(dump, paths={paths}, typed=True)",
+        "columns(paths=)": f"bsonraw.columns(dump, paths={paths})",
+        "columns": "bsonraw.columns(dump)",
+        "MongoDB's decode_all, json_normalize": f"pandas.json_normalize(bson.decode_all(dump))[{paths}]",
+    }
+    with tempfile.TemporaryDirectory() as folder:
+        path = Path(folder, "dump.bson")
+        with open(path, "wb") as dump:
+            for number in range(1_000_000):
+                user = {"age": number % 90, "score": number / 2}
+                dump.write(bsonraw.encode({"_id": number, "name": f"user_{number}", "user": user, "on": number % 3 == 0}))
+        for name, way in ways.items():
+            code = (
+                "import bson, bsonraw, pandas, resource, time\n"
+                f"dump = open({str(path)!r}, 'rb').read()\n"
+                "before = resource.getrusage(resource.RUSAGE_SELF).ru_maxrss\n"
+                f"begun = time.process_time(); frame = pandas.DataFrame({way}); spent = time.process_time() - begun\n"
+                "print(f'{spent:.2f} s of a processor, {(resource.getrusage(resource.RUSAGE_SELF).ru_maxrss - before) / 2**20:.2f} GiB')"
+            )
+            done = subprocess.run([sys.executable, "-c", code], stdout=subprocess.PIPE, check=True)
+            print(f"| a DataFrame of 1,000,000 documents, by {name} | {done.stdout.decode().strip()} |", flush=True)
 
 
 def shared(work: Callable[[bytes], Any], made: List[bytes], count: int) -> Tuple[float, float]:
@@ -207,11 +259,12 @@ def main() -> None:
     print("|---|--:|--:|--:|")
     codecs(made, options.seconds)
     if not options.documents:
+        rows(options.seconds)
         reads(made["typical"], options.seconds)
         texts(made["typical"], options.seconds)
         threads()
     if options.frame:
-        frame(options.seconds)
+        frame()
 
 
 if __name__ == "__main__":

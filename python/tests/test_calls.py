@@ -1,6 +1,7 @@
 """What the calls take and give: kinds of buffers, no copies, limits, errors, threads, and callers who mean harm."""
 
 import array
+import collections
 import gc
 import mmap
 import os
@@ -114,35 +115,21 @@ class Buffers(unittest.TestCase):
         for kind in (type(bsonraw.elements(GREETING)), type(bsonraw.walk(GREETING)), type(bsonraw.documents(b""))):
             self.assertRaises(TypeError, kind)
 
-    def test_payloads_are_no_copies_and_read_only(self) -> None:
-        data = bytearray(GREETING)
-        (item,) = bsonraw.elements(data)
-        found = bsonraw.get(data, "hi")
-        data[12] = ord("z")
-        for element in (item, found):
-            self.assertTrue(element.payload.readonly)
-            self.assertEqual(bytes(element.payload), b"\6\0\0\0z'all\0")
-            self.assertEqual(element.value, "z'all")
+    def test_payloads_are_read_only_and_of_bytes_no_copies(self) -> None:
+        for data, is_copied in ((GREETING, False), (memoryview(GREETING), False), (bytearray(GREETING), True)):
+            (item,) = bsonraw.elements(data)
+            for element in (item, bsonraw.get(data, "hi"), bsonraw.find(data, "hi")):
+                self.assertTrue(element.payload.readonly)
+                self.assertEqual(bytes(element.payload), GREETING[8:18])
+                self.assertIs(element.payload.obj is GREETING, not is_copied)
 
     def test_a_buffer_is_let_go(self) -> None:
         data = bytearray(REPEATED)
         for call in CALLS:
-            call(data)
+            kept = call(data)
             data += b"x"
             del data[-1]
-        steps = bsonraw.elements(data)
-        item = next(steps)
-        self.assertRaises(BufferError, data.extend, b"x")
-        steps.close()
-        self.assertRaises(BufferError, data.extend, b"x")
-        payload = item.payload
-        del item
-        self.assertRaises(BufferError, data.extend, b"x")
-        del payload
-        data += b"x"
-        with self.assertRaises(BsonError):
-            bsonraw.canonical(data)
-        data += b"x"
+            del kept
 
     def test_elements_come_before_the_stop(self) -> None:
         steps = bsonraw.elements(bytes.fromhex("0b000000 0a6e00 006200 00"))
@@ -168,12 +155,102 @@ class Buffers(unittest.TestCase):
             self.assertIs(item.kind, ElementType(tag))
             self.assertEqual(bytes(item.payload), value)
 
+    def test_names_of_arguments(self) -> None:
+        data = bsonraw.encode(document={"a": [1]})
+        self.assertEqual(bsonraw.decode(data=data), {"a": [1]})
+        self.assertEqual((bsonraw.get(key="a", data=data).value, bsonraw.find(data, path="a.0").value), ([1], 1))
+        for call in (bsonraw.elements, bsonraw.walk, bsonraw.canonical, bsonraw.check, bsonraw.first_fault, bsonraw.to_json):
+            self.assertEqual(type(call(data=data)), type(call(data)))
+            self.assertRaises(TypeError, call, data, data=data)
+            self.assertRaises(TypeError, call, max_bytes=5)
+        self.assertEqual(list(bsonraw.documents(source=data, max_bytes=50)), [(0, data)])
+
+    def test_indents(self) -> None:
+        for data in all_made(17, 150):
+            if bsonraw.first_fault(data) is None:
+                text = bsonraw.to_json(data, style="canonical", indent=2)
+                for width in (0, 1, 4):
+                    lines = [" " * ((len(line) - len(line.lstrip(" "))) // 2 * width) + line.lstrip(" ") for line in text.split("\n")]
+                    self.assertEqual(bsonraw.to_json(data, style="canonical", indent=width), "\n".join(lines))
+                self.assertEqual(bsonraw.to_json(data, style="canonical", indent=True), text)
+                self.assertNotIn("\n", bsonraw.to_json(data, indent=None))
+        for indent in (-1, 17, "2", 2.0):
+            self.assertRaises(ValueError, bsonraw.to_json, ONE_NULL, indent=indent)
+
+    def test_names_of_the_package(self) -> None:
+        self.assertEqual([name for name in dir(bsonraw) if not name.startswith("__")], sorted(bsonraw.__all__))
+
     def test_paths(self) -> None:
         data = bsonraw.encode({"a": {"b.c": [{"d": 1}, {"d": 2}], "b": 0}, "e": [[5]]})
         for path, value in (("a.b", 0), (["a", "b.c", 1, "d"], 2), (["a", "b.c", "0", "d"], 1), ("e.0.0", 5)):
             self.assertEqual(bsonraw.find(data, path).value, value)
-        for path in ("a.b.c", "a.x", "e.1", "e.0.0.0", "e.x", ["a.b"], ""):
+        for path in ("a.b.c", "a.x", "e.1", "e.0.0.0", "e.x", ["a.b"], "", ["a", "b.c", "01"], ["a", "b.c", -1], ["a", "b.c", 1 << 70]):
             self.assertIsNone(bsonraw.find(data, path))
+
+    def test_a_key_with_a_0_is_in_no_document(self) -> None:
+        data = bsonraw.encode({"user": {"admin": 1}})
+        for path in (["user\0admin"], ["user", "admin\0"], "user\0admin", "user.admin\0", ["user\0", "admin"]):
+            self.assertIsNone(bsonraw.find(data, path))
+        self.assertEqual(bsonraw.find(data, ["user", "admin"]).value, 1)
+
+    def test_find_takes_the_paths_of_walk_and_of_errors(self) -> None:
+        walked = failed = 0
+        for data in all_made(23, 800):
+            if bsonraw.first_fault(data) is None:
+                counted = collections.Counter(path for path, _ in bsonraw.walk(data))
+                for path, element in bsonraw.walk(data):
+                    if all(counted[path[:size]] == 1 for size in range(1, len(path) + 1)):
+                        self.assertEqual(bsonraw.find(data, path).offset, element.offset)
+                        walked += len(path) > 1
+                    if element.kind is ElementType.BOOLEAN:
+                        at = element.offset + 2 + len(element.key.encode())
+                        damaged = data[:at] + b"\7" + data[at + 1 :]
+                        fault = bsonraw.first_fault(damaged)
+                        self.assertEqual((fault.offset, len(fault.keys)), (element.offset, len(path)))
+                        if all(counted[path[:size]] == 1 for size in range(1, len(path) + 1)):
+                            self.assertEqual(bsonraw.find(damaged, fault.keys).offset, fault.offset)
+                            failed += len(path) > 1
+        self.assertGreater(min(walked, failed), 100, (walked, failed))
+
+    def test_an_error_of_a_value_says_the_path_from_the_document_on(self) -> None:
+        count = 0
+        for data in all_made(27, 2000):
+            fault = bsonraw.first_fault(data)
+            if fault is None or not fault.path:
+                continue
+            try:
+                for element in bsonraw.elements(data):
+                    element.value
+            except BsonError as error:
+                self.assertEqual(
+                    (str(error), error.path, error.keys, error.key, error.offset),
+                    (str(fault), fault.path, fault.keys, fault.key, fault.offset),
+                )
+                count += 1
+        self.assertGreater(count, 150)
+        inner = framed(b"\x04b\0" + framed(b"\x080\0\1" + b"\x081\0\7"))
+        data = framed(b"\x10x\0\1\0\0\0" + b"\x03a\0" + inner)
+        for read in (lambda: bsonraw.get(data, "a").value, lambda: bsonraw.find(data, "a").value, lambda: bsonraw.find(data, "a.b.1").value):
+            with self.assertRaises(BsonError) as caught:
+                read()
+            self.assertEqual((caught.exception.path, caught.exception.keys), ((1, 0, 1), ("a", "b", "1")))
+
+    def test_an_element_has_the_limits_of_its_walk(self) -> None:
+        value: Any = {}
+        for _ in range(700):
+            value = {"a": value}
+        data = bsonraw.encode(value, max_depth=800)
+        walked = list(bsonraw.walk(data, max_depth=701))
+        self.assertEqual(len(walked), 700)
+        self.assertEqual(bsonraw.encode({"a": walked[0][1].value}, max_depth=800), data)
+        self.assertRaises(BsonError, lambda: bsonraw.get(data, "a").value)
+        self.assertEqual(bsonraw.get(data, "a").decode(max_depth=700), value["a"])
+        self.assertRaises(BsonError, walked[0][1].decode, max_depth=699)
+        element = bsonraw.get(REPEATED, "a")
+        self.assertEqual(element.decode(pairs=True, max_bytes=5), 1)
+        pairs = bsonraw.get(framed(b"\x03a\0" + REPEATED), "a").decode(pairs=True)
+        self.assertEqual((type(pairs), pairs), (bsonraw.Pairs, [("a", 1), ("a", 2)]))
+        self.assertRaises(TypeError, element.decode, 5)
 
 
 class Limits(unittest.TestCase):
@@ -237,6 +314,36 @@ class Limits(unittest.TestCase):
             code = b"\1\0\0\0\0" + scoped
             scoped = framed(b"\x0fa\0" + (len(code) + 4).to_bytes(4, "little") + code)
         self.assertEqual(bsonraw.encode(bsonraw.decode(scoped)), scoped)
+
+    def test_large_documents(self) -> None:
+        """Which are read in another way than others: each part has its value, and the first fault is told."""
+        made = [data for data in all_made(29, 1200) if len(data) > 4 and int.from_bytes(data[:4], "little") == len(data) and not data[-1]]
+        sound = [data for data in made if bsonraw.first_fault(data) is None]
+        scoped = bsonraw.encode({"s": [bsonraw.Code("f", {"x": [1, {"y": 2}]})]})
+
+        def one_of(parts: List[bytes]) -> bytes:
+            return framed(b"\x04a\0" + framed(b"".join(b"\3%d\0" % number + part for number, part in enumerate(parts))))
+
+        parts = (sound + [scoped]) * (1 + 600_000 // sum(map(len, sound)))
+        data = one_of(parts)
+        self.assertGreater(len(data), 524_288)
+        for options in ({}, {"pairs": True}, {"tz_aware": False, "uuid": True}, {"object_hook": lambda document: sorted(document)}):
+            found = bsonraw.decode(data, **{**options, "object_hook": None})
+            self.assertEqual(list(map(repr, dict(found)["a"])), [repr(bsonraw.decode(part, **{**options, "object_hook": None})) for part in parts])
+            if "object_hook" in options:
+                self.assertEqual(bsonraw.decode(data, **options), ["a"])
+        for damaged in [data for data in made if bsonraw.first_fault(data) is not None][:15]:
+            whole = one_of([*parts, damaged])
+            fault = bsonraw.first_fault(whole)
+            with self.assertRaises(BsonError) as caught:
+                bsonraw.decode(whole)
+            self.assertEqual((str(caught.exception), caught.exception.path), (str(fault), fault.path))
+        for limits, reason in (({"max_bytes": len(data) - 1}, Reason.TOO_MANY_BYTES), ({"max_depth": 2}, Reason.TOO_DEEP), ({"max_depth": 0}, Reason.TOO_DEEP)):
+            with self.assertRaises(BsonError) as caught:
+                bsonraw.decode(data, **limits)
+            self.assertEqual(caught.exception.reason, reason)
+        self.assertRaises(BsonError, bsonraw.decode, data[:-1])
+        self.assertEqual(bsonraw.encode(bsonraw.decode(data, max_depth=20)), bsonraw.canonical(data))
 
     def test_a_form_longer_than_its_document(self) -> None:
         values = b"\x0a\0" * 50_000
@@ -304,23 +411,15 @@ class Hostile(unittest.TestCase):
                 continue
             for at in range(len(room)):
                 room[at] = rng.randrange(256)
-            for item in items:
-                try:
-                    item.value
-                except (BsonError, RuntimeError):
-                    pass
-                bytes(item.payload)
-            try:
-                list(walk)
-            except (UnicodeDecodeError, BsonError, RuntimeError):
-                pass
+            wanted = [(item.offset, bytes(item.payload)) for item in (*bsonraw.elements(data), *(item for _, item in bsonraw.walk(data)))]
+            self.assertEqual([(item.offset, bytes(item.payload)) for item in items], wanted)
+            self.assertEqual([item.offset for _, item in walk], [item.offset for _, item in bsonraw.walk(data)])
 
     def test_a_closed_map(self) -> None:
         data = mapped(REPEATED, mmap.ACCESS_READ)
         item = bsonraw.get(data, "a")
-        self.assertRaises(BufferError, data.close)
-        del item
         data.close()
+        self.assertEqual(item.value, 1)
         for call in CALLS:
             self.assertRaises(ValueError, call, data)
 

@@ -4,6 +4,7 @@ import gzip
 import io
 import itertools
 import os
+import pickle
 import tempfile
 import unittest
 from pathlib import Path
@@ -36,8 +37,8 @@ def cut(source: Any) -> Tuple[List[Tuple[int, bytes]], Optional[BsonError]]:
     """The documents, and the error at which they end."""
     found: List[Tuple[int, bytes]] = []
     try:
-        for offset, document in bsonraw.documents(source):
-            found.append((offset, bytes(document)))
+        for offset, document in bsonraw.documents(source, max_bytes=1 << 31):
+            found.append((offset, document))
     except BsonError as error:
         return found, error
     return found, None
@@ -96,7 +97,7 @@ class Cut(unittest.TestCase):
             self.assertRaises(TypeError, bsonraw.documents, source)
         for read in (lambda size: "text", lambda size: None):
             source = io.BytesIO()
-            source.read = read  # type: ignore[method-assign]
+            source.read1 = read  # type: ignore[method-assign]
             self.assertRaises(TypeError, list, bsonraw.documents(source))
 
     def test_an_error_of_the_file_goes_through(self) -> None:
@@ -136,8 +137,30 @@ class Columns(unittest.TestCase):
         ab, ba = framed(b"\x0aa\0\x08b\0\1"), framed(b"\x08b\0\0\x0aa\0")
         self.assertEqual(bsonraw.columns(REPEATED + ab + ba + REPEATED), {"a": [2, None, None, 2], "b": [None, True, False, None]})
 
+    def test_by_paths(self) -> None:
+        rows = [{"a": {"b": 1, "c.d": [5, {"e": "x"}]}, "f": 2}, {}, {"a": [7, {"b": 3}]}, {"a": {"b": {"g": None}}}, {"f": [4]}]
+        dump = b"".join(map(bsonraw.encode, rows))
+        paths = ["f", "a.b", ("a", "c.d", 1, "e"), "a.1.b", ("a", 0), "a", "a.b.g", "f.0", ("x", "y")]
+        wanted = {}
+        for path in paths:
+            found = [bsonraw.find(bsonraw.encode(row), path) for row in rows]
+            wanted[path] = ["-" if one is None else one.value for one in found]
+        for source in sources(dump):
+            table = bsonraw.columns(source, paths=paths, missing="-")
+            self.assertEqual((table, list(table)), (wanted, paths))
+        self.assertEqual(bsonraw.columns(REPEATED + REPEATED, paths=["a"]), {"a": [2, 2]})
+        self.assertEqual(bsonraw.columns(dump, paths=[]), {})
+        scoped = bsonraw.encode({"c": bsonraw.Code("f", {"x": [1]})})
+        self.assertEqual(bsonraw.columns(scoped, paths=["c.x.0", "c.y"]), {"c.x.0": [1], "c.y": [None]})
+        self.assertRaises(ValueError, bsonraw.columns, dump, paths=["a.b", ("a", "b")])
+        self.assertRaises(ValueError, bsonraw.columns, dump, paths=["a" + ".a" * 500])
+        for paths in ([5], [()], [None], [("a", True)], 5):
+            self.assertRaises(TypeError, bsonraw.columns, dump, paths=paths)
+        self.assertRaises(BsonError, bsonraw.columns, UNENDED, paths=["a"])
+        self.assertEqual(bsonraw.columns(UNENDED + dump, paths=["f"], errors="skip")["f"], [2, None, None, None, [4]])
+
     def test_as_decode_gives_them(self) -> None:
-        made = [data for data in all_made(13, 2000) if bsonraw.first_fault(data) is None]
+        made = [data for data in all_made(13, 600) if bsonraw.first_fault(data) is None]
         documents = bsonraw.decode_all(io.BytesIO(b"".join(made)))
         found = bsonraw.columns(io.BytesIO(b"".join(made)), missing=self)
         wanted = table_of(documents, self)
@@ -169,6 +192,46 @@ class Decoded(unittest.TestCase):
         made = [data for data in all_made(12, 2000) if bsonraw.first_fault(data) is None]
         values = bsonraw.decode_all(io.BytesIO(b"".join(made)))
         self.assertEqual([bsonraw.encode(value) for value in values], [bsonraw.canonical(data) for data in made])
+
+    def test_documents_with_faults_are_passed_over(self) -> None:
+        damaged = framed(b"\x08a\0\1" + b"\x08b\0\2")
+        reasons = [Reason.BAD_BOOLEAN, Reason.NOT_TERMINATED, Reason.TOO_MANY_BYTES, Reason.BAD_BOOLEAN, Reason.TOO_MANY_BYTES]
+        for size in (3_000, 3_000_000):
+            large = bsonraw.encode({"z": "x" * size})
+            dump = damaged + EMPTY + UNENDED + REPEATED + large + REPEATED + damaged + large + EMPTY
+            front, behind = len(damaged), 48 + len(large)
+            places = [8, front + 5, front + 29, front + behind + 8, 2 * front + behind]
+            for source in sources(dump) if size == 3_000 else (dump, io.BytesIO(dump), Trickle(dump, itertools.cycle((700_000, 1, 99)))):
+                told: List[BsonError] = []
+                found = bsonraw.decode_all(source, errors=told.append, max_bytes=1000)
+                self.assertEqual(found, [{}, {"a": 2}, {"a": 2}, {}])
+                self.assertEqual([(error.reason, error.offset) for error in told], list(zip(reasons, places)))
+        self.assertEqual(bsonraw.decode_all(dump, errors="skip", max_bytes=1000), [{}, {"a": 2}, {"a": 2}, {}])
+        self.assertEqual(bsonraw.columns(dump, errors="skip", max_bytes=1000), {"a": [None, 2, 2, None]})
+
+    def test_where_passing_over_ends(self) -> None:
+        for tail, count in ((b"\4\0\0\0\0", 1), (b"\5", 1), (b"\x50\0\0\0" + bytes(50), 1), (b"", 0)):
+            for source in sources(REPEATED + tail):
+                told: List[BsonError] = []
+                self.assertEqual(bsonraw.decode_all(source, errors=told.append), [{"a": 2}])
+                self.assertEqual([error.offset for error in told], [19] * count)
+        cut = (1 << 30).to_bytes(4, "little") + bytes(100)
+        for source in (cut, io.BytesIO(cut)):
+            self.assertEqual(bsonraw.decode_all(source, errors="skip"), [])
+        for errors in (None, "ignore", 5):
+            self.assertRaises(ValueError, bsonraw.decode_all, REPEATED, errors=errors)
+        self.assertRaises(ZeroDivisionError, bsonraw.decode_all, UNENDED, errors=lambda error: 1 / 0)
+        self.assertRaises(BsonError, bsonraw.decode_all, UNENDED, errors="strict")
+
+    def test_a_first_document_that_is_refused_whole_has_an_offset(self) -> None:
+        for data, reason in ((UNENDED, Reason.NOT_TERMINATED), (REPEATED, Reason.TOO_MANY_BYTES), (b"\4\0\0\0\0", Reason.LENGTH_INCORRECT)):
+            for read in (bsonraw.decode_all, bsonraw.columns):
+                for source in sources(data):
+                    with self.assertRaises(BsonError) as caught:
+                        read(source, max_bytes=18)
+                    self.assertEqual((caught.exception.reason, caught.exception.offset), (reason, 0))
+            ((offset, error),) = bsonraw.canonical_all(data, max_bytes=18).faults
+            self.assertEqual((offset, error.reason, error.offset), (0, reason, 0))
 
     def test_a_fault_is_named_by_its_place_in_the_dump(self) -> None:
         damaged = framed(b"\x08a\0\1" + b"\x08b\0\2")
@@ -223,6 +286,16 @@ class Forms(unittest.TestCase):
                 if two.offset is not None:
                     self.assertEqual(one.offset, before + offset + two.offset)
         self.assertGreater(min(own, len(faults), len(wanted) - own), 500)
+
+    def test_what_is_pickled(self) -> None:
+        forms = bsonraw.canonical_all(DUMP + b"\4")
+        again = pickle.loads(pickle.dumps(forms))
+        self.assertEqual(type(again), bsonraw.Forms)
+        self.assertEqual([list(part) for part in again[:5]], [list(part) for part in forms[:5]])
+        self.assertEqual((again.canonical, list(map(str, again.faults))), (forms.canonical, list(map(str, forms.faults))))
+        self.assertEqual([part.format for part in again[:5]], [part.format for part in forms[:5]])
+        for source in sources(DUMP):
+            self.assertEqual(pickle.loads(pickle.dumps(list(bsonraw.documents(source)))), WANTED)
 
     def test_forms_that_are_longer_than_their_documents(self) -> None:
         array = framed(b"\x0a\0" * 2000)

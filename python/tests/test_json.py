@@ -159,7 +159,7 @@ class Texts(unittest.TestCase):
     def test_arguments_that_are_none(self) -> None:
         for style in ("Relaxed", "", None, 1, b"relaxed"):
             self.assertRaises(ValueError, bsonraw.to_json, NESTED, style=style)
-        for indent in (0, 1, 3, -1, 1 << 70, "", "  ", 2.0):
+        for indent in (-1, 17, 1 << 70, "", "  ", 2.0):
             self.assertRaises(ValueError, bsonraw.to_json, NESTED, indent=indent)
         self.assertRaises(TypeError, bsonraw.to_json, NESTED, "relaxed")
         self.assertRaises(TypeError, bsonraw.to_json, NESTED, sort_keys=True)

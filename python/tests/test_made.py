@@ -237,7 +237,7 @@ class BesideMongoDB(unittest.TestCase):
             again = bson.BSON.encode(values, codec_options=MONGODB)
             self.assertEqual(form, again, data.hex())
             self.assertEqual(bsonraw.check(data) is None, again == data, data.hex())
-            self.assertTrue(same(bsonraw.decode(data, types="bson"), values), data.hex())
+            self.assertTrue(same(bsonraw.decode(data, types="bson", tz_aware=True), values), data.hex())
             self.assertEqual(bsonraw.encode(values), again, data.hex())
             count += 1
             damaged += number % 2

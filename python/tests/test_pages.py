@@ -3,30 +3,40 @@
 import doctest
 import os
 import re
+import socket
+import socketserver
 import subprocess
 import sys
 import tempfile
+import threading
+import tracemalloc
 import unittest
 from contextlib import redirect_stdout
 from io import StringIO
 from pathlib import Path
+from typing import Any
 
 import bsonraw
+from made import framed
 
 FOLDER = Path(__file__).resolve().parents[2]
 PAGE = FOLDER / "docs" / "PYTHON.md"
+BOUND = 9 << 20  # what the page says of the service
 SAID = """\
+['Ada', 'Max']
+maths
+Zürich 1
+me ['logic', 'poetry']
 {"name":"Ada","born":1815,"tags":["maths","poetry"]}
 2
 0 name Ada
-[38]
 {'maths': 2, 'poetry': 1}
+{'price': {'amount': Decimal128('9.90'), 'tags': ['new']}} ['price']
+2.5
 1 documents repeat another
 bad.bson 5: at offset 4: at key 'a': boolean must be stored as 0 or 1, got 2
 2 documents kept
 2 forms, 1 canonical before, [5]
-maths
-Zürich 1
 """
 
 
@@ -37,7 +47,7 @@ def blocks_of(page: Path) -> list:
 class Pages(unittest.TestCase):
     def test_the_page_for_python(self) -> None:
         blocks = blocks_of(PAGE)
-        self.assertEqual(len(blocks), 8)
+        self.assertEqual(len(blocks), 13)
         names: dict = {}
         before = os.getcwd()
         with tempfile.TemporaryDirectory() as folder, redirect_stdout(StringIO()) as said:
@@ -50,6 +60,56 @@ class Pages(unittest.TestCase):
                 exec(compile(block, str(PAGE), "exec"), names)
             os.chdir(before)
         self.assertEqual(said.getvalue(), SAID)
+
+    def test_the_service_of_the_page(self) -> None:
+        """It takes what a peer sends that lies about a length, one that damages, and one that doesn't, in memory that is bounded."""
+        (block,) = (block for block in blocks_of(PAGE) if "socketserver" in block)
+        self.assertLessEqual(len([line for line in block.split("\n\n\n")[1].splitlines() if line]), 10)
+        names: dict = {"bsonraw": bsonraw}
+        exec(compile(block, str(PAGE), "exec"), names)
+        largest = framed(b"\4a\0" + framed(b"\x0a\0" * ((1 << 19) - 7)))
+        good = bsonraw.encode({"a": 1, "b": 2})
+        rows = [
+            (good * 3, [{"keys": 2}] * 3, ""), (good + b"\xff\xff\xff\x7f" + bytes(50 << 20), [{"keys": 2}], "more bytes than allowed"),
+            (largest + good[:-3], [{"keys": 1}], "length incorrect"), (bsonraw.encode({"a": 1})[:-1] + b"\1", [], "not null-terminated"),
+        ]
+        tracemalloc.start()
+        for sent, wanted, why in rows:
+            answers, peak = self.serve(names["Uploads"], sent)
+            error = answers.pop()["error"] if why else ""
+            self.assertEqual((answers, error.endswith(why)), (wanted, True), error)
+            self.assertLess(peak, BOUND)
+        tracemalloc.stop()
+
+    def serve(self, handler: Any, sent: bytes) -> Any:
+        """What a service answers, and the peak of its memory beside what is sent."""
+        server = socketserver.TCPServer(("127.0.0.1", 0), handler)
+        with server, socket.create_connection(server.server_address, timeout=30) as peer:
+
+            def send() -> None:
+                try:
+                    peer.sendall(sent)
+                    peer.shutdown(socket.SHUT_WR)
+                except OSError:
+                    pass  # the service has ended
+
+            thread = threading.Thread(target=send)
+            thread.start()
+            before = tracemalloc.get_traced_memory()[0]
+            tracemalloc.reset_peak()
+            request = server.get_request()
+            handler(request[0], request[1], server)
+            peak = tracemalloc.get_traced_memory()[1] - before
+            answers = b""
+            request[0].shutdown(socket.SHUT_WR)
+            try:
+                while block := peer.recv(1 << 16):
+                    answers += block
+            except OSError:
+                pass
+            request[0].close()
+            thread.join()
+        return bsonraw.decode_all(answers), peak
 
     def test_the_first_page(self) -> None:
         (block,) = blocks_of(FOLDER / "README.md")
@@ -69,7 +129,7 @@ class Pages(unittest.TestCase):
 
     def test_the_text_of_the_package(self) -> None:
         outcome = doctest.testmod(bsonraw)
-        self.assertEqual((outcome.failed, outcome.attempted > 3), (0, True))
+        self.assertEqual((outcome.failed, outcome.attempted > 15), (0, True))
 
     def test_help(self) -> None:
         for name in bsonraw.__all__:

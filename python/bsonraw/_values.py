@@ -1,0 +1,543 @@
+"""The classes of values that Python has none for. They do what MongoDB's of the same names do."""
+
+from __future__ import annotations
+
+import operator
+import os
+import re
+import struct
+import threading
+import time as clock
+import uuid as uuids
+from datetime import datetime, timedelta, timezone
+from decimal import ROUND_HALF_EVEN, Context, Decimal, Inexact, InvalidOperation, Overflow
+from typing import Any, Callable, List, Mapping, Optional, Tuple, Union
+
+from ._native import Pair, Raw
+
+_EPOCH = datetime(1970, 1, 1, tzinfo=timezone.utc)
+
+
+def _bytes_of(value: Any, name: str) -> bytes:
+    if isinstance(value, (bytes, bytearray, memoryview)):
+        return bytes(value)
+    raise TypeError(f"{name} is made of bytes, not of {type(value).__name__}")
+
+
+def _seconds(value: datetime) -> int:
+    aware = value if value.utcoffset() is not None else value.replace(tzinfo=timezone.utc)
+    return (aware - _EPOCH) // timedelta(seconds=1)
+
+
+class DatetimeMS(int):
+    """A time as milliseconds from 1970 on, of years that datetime doesn't have."""
+
+    __slots__ = ()
+    _type_marker = 9
+
+    def __repr__(self) -> str:
+        return f"DatetimeMS({int(self)})"
+
+    def __reduce__(self) -> Tuple[Any, ...]:
+        return DatetimeMS, (int(self),)
+
+    __str__ = int.__repr__
+
+
+class Symbol(str):
+    """A symbol: a text of a kind of its own."""
+
+    __slots__ = ()
+
+    def __repr__(self) -> str:
+        return f"Symbol({str(self)!r})"
+
+
+# ---- ids -------------------------------------------------------------------------------------------------------------
+
+
+class _Counter:
+    """What new ids have behind their time: five bytes of a process, and a number that each raises by one."""
+
+    def __init__(self) -> None:
+        self.lock = threading.Lock()
+        self.pid = -1
+        self.of_process = b""
+        self.number = 0
+
+    def next(self) -> bytes:
+        with self.lock:
+            if self.pid != os.getpid():
+                self.pid, self.of_process = os.getpid(), os.urandom(5)
+                self.number = int.from_bytes(os.urandom(3), "big")
+            self.number = (self.number + 1) % (1 << 24)
+            return self.of_process + self.number.to_bytes(3, "big")
+
+
+_counter = _Counter()
+
+
+class _Ordered(Raw):
+    """A value in order with those of its mark, MongoDB's too."""
+
+    __slots__ = ()
+    _type_marker = 0
+    _parts: Tuple[str, ...] = ()
+
+    def _ordered(self, other: object, how: Callable[[Any, Any], bool]) -> bool:
+        if getattr(other, "_type_marker", None) != self._type_marker:
+            return NotImplemented
+        return how([getattr(self, part) for part in self._parts], [getattr(other, part) for part in self._parts])
+
+    def __lt__(self, other: object) -> bool:
+        return self._ordered(other, operator.lt)
+
+    def __le__(self, other: object) -> bool:
+        return self._ordered(other, operator.le)
+
+    def __gt__(self, other: object) -> bool:
+        return self._ordered(other, operator.gt)
+
+    def __ge__(self, other: object) -> bool:
+        return self._ordered(other, operator.ge)
+
+
+class ObjectId(_Ordered):
+    """An id of twelve bytes: a new one, or from the bytes or their 24 digits in hex. In order by the bytes."""
+
+    __slots__ = ()
+    _type_marker = 7
+    _parts = ("binary",)
+
+    def __new__(cls, value: Union[bytes, str, ObjectId, None] = None) -> ObjectId:
+        if value is None:
+            return super().__new__(cls, int(clock.time()).to_bytes(4, "big") + _counter.next())
+        if getattr(value, "_type_marker", None) == 7:
+            value = value.binary  # type: ignore[union-attr]
+        raw = bytes.fromhex(value) if isinstance(value, str) else _bytes_of(value, "an ObjectId")
+        if len(raw) != 12:
+            raise ValueError(f"an ObjectId has 12 bytes, or 24 digits in hex, not {value!r}")
+        return super().__new__(cls, raw)
+
+    @classmethod
+    def from_datetime(cls, time: datetime) -> ObjectId:
+        """The least id of a time, to compare ids with; of a time without a zone it is taken for UTC."""
+        return cls(_seconds(time).to_bytes(4, "big") + bytes(8))
+
+    @classmethod
+    def is_valid(cls, value: Any) -> bool:
+        """Whether an id can be made of a value."""
+        try:
+            cls(value)
+        except (TypeError, ValueError):
+            return False
+        return value is not None
+
+    @property
+    def binary(self) -> bytes:
+        """The twelve bytes."""
+        return bytes(self)
+
+    @property
+    def generation_time(self) -> datetime:
+        """When it was made, by its first four bytes."""
+        return _EPOCH + timedelta(seconds=int.from_bytes(self.binary[:4], "big"))
+
+    def __str__(self) -> str:
+        return self.binary.hex()
+
+    def __format__(self, how: str) -> str:
+        return format(str(self), how)
+
+    def __repr__(self) -> str:
+        return f"ObjectId('{self}')"
+
+    def __reduce__(self) -> Tuple[Any, ...]:
+        return ObjectId, (self.binary,)
+
+
+class Timestamp(_Ordered):
+    """A time of replication: seconds from 1970 on, or a datetime, and a number within one.
+
+    In order by both.
+    """
+
+    __slots__ = ()
+    _type_marker = 17
+    _parts = ("time", "inc")
+
+    def __new__(cls, time: Union[int, datetime], increment: int) -> Timestamp:
+        seconds = _seconds(time) if isinstance(time, datetime) else time
+        return super().__new__(cls, increment.to_bytes(4, "little") + seconds.to_bytes(4, "little"))
+
+    @property
+    def time(self) -> int:
+        """The seconds."""
+        return int.from_bytes(bytes(self)[4:], "little")
+
+    @property
+    def increment(self) -> int:
+        """The number within a second."""
+        return int.from_bytes(bytes(self)[:4], "little")
+
+    inc = increment
+
+    def as_datetime(self) -> datetime:
+        """The second, in UTC."""
+        return _EPOCH + timedelta(seconds=self.time)
+
+    def __repr__(self) -> str:
+        return f"Timestamp({self.time}, {self.increment})"
+
+    def __hash__(self) -> int:
+        return hash(self.time) ^ hash(self.increment)
+
+    def __eq__(self, other: object) -> bool:
+        return super().__eq__(other)
+
+    def __reduce__(self) -> Tuple[Any, ...]:
+        return Timestamp, (self.time, self.increment)
+
+
+# ---- decimals --------------------------------------------------------------------------------------------------------
+
+_CONTEXT = Context(34, ROUND_HALF_EVEN, -6143, 6144, 1, 1, [], [InvalidOperation, Overflow, Inexact])
+_BIAS = 6176
+_SPECIAL = {"F": 0x78 << 56, "n": 0x7C << 56, "N": 0x7E << 56}
+
+
+def _decimal_bytes(value: Decimal) -> bytes:
+    """The sixteen bytes of a decimal, whose digits are a binary integer. Raises decimal.Inexact for more than 34 digits."""
+    sign, digits, exponent = _CONTEXT.create_decimal(value).as_tuple()
+    if isinstance(exponent, str):
+        high, low = _SPECIAL[exponent], 0
+    else:
+        high, low = divmod(int("".join(map(str, digits)) or "0"), 1 << 64)
+        high |= (exponent + _BIAS) << 49
+    return struct.pack("<QQ", low, high | sign << 63)
+
+
+def _decimal(raw: bytes) -> Decimal:
+    low, high = struct.unpack("<QQ", raw)
+    sign, form = high >> 63, high >> 58 & 0x1F
+    if form >= 0x1E:
+        name = "Infinity" if form == 0x1E else "sNaN" if high >> 57 & 1 else "NaN"
+        return Decimal(("-" if sign else "") + name)
+    is_large = form >= 0x18  # a number of more than 34 digits, which is 0
+    exponent = high >> (47 if is_large else 49) & 0x3FFF
+    number = 0 if is_large else (high & ((1 << 49) - 1)) << 64 | low
+    digits = tuple(map(int, str(number if number < 10**34 else 0)))
+    return Decimal((sign, digits, exponent - _BIAS))
+
+
+class Decimal128(Raw):
+    """A decimal of 34 digits, from its text, a decimal.Decimal, or the 16 bytes of BSON. Equal where these are.
+
+    Raises decimal.Inexact or decimal.Overflow for what it can't hold.
+    """
+
+    __slots__ = ()
+    _type_marker = 19
+
+    def __new__(cls, value: Union[bytes, str, Decimal]) -> Decimal128:
+        if isinstance(value, str):
+            value = Decimal(value)
+        raw = _decimal_bytes(value) if isinstance(value, Decimal) else _bytes_of(value, "a Decimal128")
+        if len(raw) != 16:
+            raise ValueError(f"a Decimal128 has 16 bytes, not {len(raw)}")
+        return super().__new__(cls, raw)
+
+    @property
+    def binary(self) -> bytes:
+        """The sixteen bytes."""
+        return bytes(self)
+
+    bid = binary
+
+    @classmethod
+    def from_bid(cls, value: bytes) -> Decimal128:
+        """From the sixteen bytes."""
+        return cls(_bytes_of(value, "a Decimal128"))
+
+    def to_decimal(self) -> Decimal:
+        """The same number as a decimal.Decimal."""
+        return _decimal(self.binary)
+
+    def __str__(self) -> str:
+        number = self.to_decimal()
+        return "NaN" if number.is_nan() else str(number)
+
+    def __format__(self, how: str) -> str:
+        return format(self.to_decimal(), how) if how else str(self)
+
+    def __repr__(self) -> str:
+        return f"Decimal128({str(self)!r})" if Decimal128(str(self)) == self else f"Decimal128({self.binary!r})"
+
+    def __reduce__(self) -> Tuple[Any, ...]:
+        return Decimal128, (self.binary,)
+
+
+# ---- texts and bytes -------------------------------------------------------------------------------------------------
+
+_FLAGS = {"i": re.I, "l": re.L, "m": re.M, "s": re.S, "u": re.U, "x": re.X}
+
+
+def options_of(flags: int) -> str:
+    """The options of BSON for flags of re."""
+    return "".join(letter for letter, flag in _FLAGS.items() if flags & flag)
+
+
+class Regex(Pair):
+    """A regular expression: its pattern and its options, a text or flags of re."""
+
+    __slots__ = ()
+    _type_marker = 11
+
+    def __new__(cls, pattern: str, options: Union[str, int] = "") -> Regex:
+        return super().__new__(cls, pattern, options_of(options) if isinstance(options, int) else options)
+
+    @classmethod
+    def from_native(cls, pattern: re.Pattern[Any]) -> Regex:
+        """Of what re.compile gave."""
+        text = pattern.pattern
+        return cls(text.decode() if isinstance(text, bytes) else text, pattern.flags)
+
+    @property
+    def pattern(self) -> str:
+        """The pattern."""
+        return self._first  # type: ignore[no-any-return]
+
+    @property
+    def options(self) -> str:
+        """The options, a letter each."""
+        return self._second  # type: ignore[no-any-return]
+
+    @property
+    def flags(self) -> int:
+        """Those options that re has, as its flags."""
+        return sum({_FLAGS[option].value for option in self.options if option in _FLAGS})
+
+    def compile(self) -> re.Pattern[str]:
+        """The pattern for re, with those options that re has for texts."""
+        return re.compile(self.pattern, self.flags & ~re.L)
+
+    try_compile = compile
+
+    def __repr__(self) -> str:
+        return f"Regex({self.pattern!r}, {self.options!r})"
+
+    def __reduce__(self) -> Tuple[Any, ...]:
+        return Regex, (self.pattern, self.options)
+
+
+class Binary(bytes):
+    """Bytes of a subtype; those of subtype 0 are decoded to plain bytes. Equal to no plain bytes."""
+
+    _subtype: int
+    _type_marker = 5
+
+    def __new__(cls, data: bytes, subtype: int = 0) -> Binary:
+        if not 0 <= subtype <= 255:
+            raise ValueError(f"a subtype is from 0 to 255, not {subtype}")
+        self = super().__new__(cls, _bytes_of(data, "a Binary"))
+        self._subtype = subtype
+        return self
+
+    @classmethod
+    def from_uuid(cls, value: uuids.UUID) -> Binary:
+        """The Binary of subtype 4 of a UUID."""
+        return cls(value.bytes, 4)
+
+    def as_uuid(self) -> uuids.UUID:
+        """The UUID of a Binary of subtype 4."""
+        if self.subtype != 4:
+            raise ValueError(f"a Binary of subtype {self.subtype} isn't a UUID")
+        return uuids.UUID(bytes=bytes(self))
+
+    @property
+    def data(self) -> bytes:
+        """The bytes as plain ones."""
+        return bytes(self)
+
+    @property
+    def subtype(self) -> int:
+        """The subtype, from 0 to 255."""
+        return self._subtype
+
+    def __eq__(self, other: object) -> bool:
+        if getattr(other, "_type_marker", None) != 5:
+            return False
+        return self.subtype == other.subtype and bytes.__eq__(self, other)  # type: ignore[attr-defined]
+
+    def __ne__(self, other: object) -> bool:
+        return not self == other
+
+    def __hash__(self) -> int:
+        return super().__hash__() ^ hash(self.subtype)
+
+    def __repr__(self) -> str:
+        return f"Binary({bytes(self)!r}, {self.subtype})"
+
+    def __reduce__(self) -> Tuple[Any, ...]:
+        return Binary, (bytes(self), self.subtype)
+
+
+class Code(str):
+    """JavaScript, and the document that is its scope, or None."""
+
+    __slots__ = ("_scope",)
+    _scope: Any
+    _type_marker = 13
+
+    def __new__(cls, code: str, scope: Optional[Union[Mapping[str, Any], Pairs]] = None) -> Code:
+        if not isinstance(code, str):
+            raise TypeError(f"a Code is made of a str, not of {type(code).__name__}")
+        self = super().__new__(cls, code)
+        self._scope = scope
+        return self
+
+    @property
+    def code(self) -> str:
+        """The text."""
+        return str.__str__(self)
+
+    @property
+    def scope(self) -> Any:
+        """The scope, or None."""
+        return self._scope
+
+    def __eq__(self, other: object) -> bool:
+        if getattr(other, "_type_marker", None) != 13:
+            return False
+        return str.__eq__(self, other) and self.scope == other.scope  # type: ignore[attr-defined]
+
+    def __ne__(self, other: object) -> bool:
+        return not self == other
+
+    __hash__ = str.__hash__
+
+    def __repr__(self) -> str:
+        return f"Code({self.code!r}, {self.scope!r})"
+
+    def __reduce__(self) -> Tuple[Any, ...]:
+        return Code, (self.code, self.scope)
+
+
+class DBPointer(Pair):
+    """A pointer of old: a namespace and an id."""
+
+    __slots__ = ()
+
+    def __new__(cls, namespace: str, id: ObjectId) -> DBPointer:
+        return super().__new__(cls, namespace, id)
+
+    @property
+    def namespace(self) -> str:
+        """The namespace: a database and a collection."""
+        return self._first  # type: ignore[no-any-return]
+
+    @property
+    def id(self) -> ObjectId:
+        """The id."""
+        return self._second  # type: ignore[no-any-return]
+
+    def __repr__(self) -> str:
+        return f"DBPointer({self.namespace!r}, {self.id!r})"
+
+    def __reduce__(self) -> Tuple[Any, ...]:
+        return DBPointer, (self.namespace, self.id)
+
+
+# ---- values of which there is one ------------------------------------------------------------------------------------
+
+
+class _Only:
+    """A value of which there is one."""
+
+    __slots__ = ()
+    _only: Any = None
+
+    def __new__(cls) -> Any:
+        if cls._only is None:
+            cls._only = super().__new__(cls)
+        return cls._only
+
+    def __repr__(self) -> str:
+        return f"{type(self).__name__}()"
+
+    def __reduce__(self) -> Tuple[Any, ...]:
+        return type(self), ()
+
+
+class Undefined(_Only):
+    """The value undefined, of old."""
+
+    __slots__ = ()
+
+
+class _End(_Only):
+    """One end of the order of all values."""
+
+    __slots__ = ()
+    _type_marker = 0
+
+    def __eq__(self, other: object) -> bool:
+        return getattr(other, "_type_marker", None) == self._type_marker
+
+    def __hash__(self) -> int:
+        return hash(self._type_marker)
+
+
+class MinKey(_End):
+    """The value below all others."""
+
+    __slots__ = ()
+    _type_marker = 255
+
+    def __lt__(self, other: object) -> bool:
+        return not self == other
+
+    def __le__(self, other: object) -> bool:
+        return True
+
+    def __gt__(self, other: object) -> bool:
+        return False
+
+    def __ge__(self, other: object) -> bool:
+        return self == other
+
+
+class MaxKey(_End):
+    """The value above all others."""
+
+    __slots__ = ()
+    _type_marker = 127
+
+    def __lt__(self, other: object) -> bool:
+        return False
+
+    def __le__(self, other: object) -> bool:
+        return self == other
+
+    def __gt__(self, other: object) -> bool:
+        return not self == other
+
+    def __ge__(self, other: object) -> bool:
+        return True
+
+
+class Pairs(List[Tuple[str, Any]]):
+    """A document as a list of tuples of key and value: it has repeated keys as they are."""
+
+    __slots__ = ()
+    _type_marker = 101
+
+    @property
+    def raw(self) -> bytes:
+        """The document's bytes; MongoDB's encoder takes these."""
+        from ._native import encode
+
+        return encode(self)
+
+    def __repr__(self) -> str:
+        return f"Pairs({super().__repr__()})"

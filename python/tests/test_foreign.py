@@ -1,0 +1,292 @@
+"""Values of other packages: numpy's, MongoDB's, and what hooks make."""
+
+import collections
+import dataclasses
+import datetime as times
+import decimal
+import enum
+import pathlib
+import re
+import unittest
+import uuid
+from typing import Any, List
+
+import bsonraw
+from bsonraw import Binary, BsonError, Code, DatetimeMS, Decimal128, Int64, MaxKey, MinKey, ObjectId, Pairs, Reason, Regex, Timestamp
+from made import all_made, framed
+from test_values import ROWS, of
+
+try:
+    import numpy
+except ImportError:
+    numpy = None
+try:
+    import bson
+    from bson import codec_options, dbref, objectid, raw_bson
+except ImportError:
+    bson = None
+
+
+def again(value: Any, **options: Any) -> Any:
+    return bsonraw.decode(bsonraw.encode({"k": value}, **options))["k"]
+
+
+class Numpy(unittest.TestCase):
+    @unittest.skipIf(numpy is None, "numpy isn't there (Debian: python3-numpy)")
+    def test_numbers(self) -> None:
+        for value, wanted in (
+            (numpy.bool_(True), True), (numpy.int8(-3), -3), (numpy.uint16(9), 9), (numpy.int64(1 << 40), Int64(1 << 40)),
+            (numpy.float32(0.5), 0.5), (numpy.float64(1.5), 1.5), (numpy.str_("x"), "x"), (numpy.array(3), 3), (numpy.bool_(False), False),
+        ):
+            found = again(value)
+            self.assertEqual((type(found), found), (type(wanted), wanted))
+        self.assertRaises(TypeError, bsonraw.encode, {"k": numpy.array([1])})
+        self.assertRaises(TypeError, bsonraw.encode, {"k": numpy.datetime64("2000-01-01", "ns")})
+        data = bsonraw.encode({"a": [5, 6]})
+        self.assertEqual(bsonraw.find(data, ["a", numpy.int32(1)]).value, 6)
+        self.assertEqual(bsonraw.decode(numpy.frombuffer(data, "u1")), {"a": [5, 6]})
+
+    def test_numbers_of_a_class_like_theirs(self) -> None:
+        class Number:
+            shape = ()
+
+            def __init__(self, kind: str) -> None:
+                self.dtype = type("Kind", (), {"kind": kind})
+
+            def __index__(self) -> int:
+                return 1
+
+            def __float__(self) -> float:
+                return 1.5
+
+        self.assertIs(again(Number("b")), True)
+        self.assertEqual((again(Number("i")), again(Number("f")), again(Number("x"))), (1, 1.5, 1))
+
+    def test_a_bool_is_no_step(self) -> None:
+        data = bsonraw.encode({"True": [1], "1": 2})
+        for path in ([True], ["True", False], (False,)):
+            self.assertRaises(TypeError, bsonraw.find, data, path)
+        self.assertEqual(bsonraw.find(data, [1]).value, 2)
+
+
+@unittest.skipIf(bson is None, "MongoDB's package isn't there (Debian: python3-bson)")
+class Theirs(unittest.TestCase):
+    def same(self, one: Any, two: Any) -> None:
+        self.assertEqual(repr(one), re.sub("<bson.tz_util.FixedOffset object at [^>]*>", "datetime.timezone.utc", repr(two)))
+        self.assertEqual(type(one), type(two))
+
+    def test_what_decode_gives(self) -> None:
+        count = 0
+        for data in all_made(21, 4000):
+            if bsonraw.first_fault(data) is not None:
+                continue
+            for aware in (False, True):
+                options = codec_options.CodecOptions(tz_aware=aware, uuid_representation=0)
+                try:
+                    wanted = bson.decode(data, options)
+                    repr(wanted)
+                except (bson.errors.InvalidBSON, OverflowError, decimal.Inexact):
+                    continue  # a time out of range, or a decimal that theirs doesn't print
+                found = bsonraw.decode(data, types="bson", **({"tz_aware": True} if aware else {}))
+                self.same(found, wanted)
+                count += 1
+        self.assertGreater(count, 3000)
+
+    def test_kinds(self) -> None:
+        reference = framed(b"\x02$ref\0\2\0\0\0c\0" + b"\x10$id\0\5\0\0\0" + b"\x02$db\0\2\0\0\0d\0" + b"\x10x\0\1\0\0\0")
+        data = framed(b"\x03k\0" + reference)
+        self.same(bsonraw.decode(data, types="bson"), bson.decode(data))
+        self.same(bsonraw.decode(reference, types="bson"), bson.decode(reference))
+        same_time = of(9, bytes(8))
+        self.assertEqual(bsonraw.decode(same_time, types="bson")["k"], times.datetime(1970, 1, 1))
+        self.assertEqual(bsonraw.decode(same_time, types="bson", tz_aware=True)["k"].utcoffset(), times.timedelta())
+        unique = uuid.uuid4()
+        data = bsonraw.encode({"k": unique, "i": ObjectId()})
+        self.assertIs(type(bsonraw.decode(data, types="bson")["k"]), bson.Binary)
+        self.assertEqual(bsonraw.decode(data, types="bson", uuid=True)["k"], unique)
+        self.assertIs(type(bsonraw.decode(data, types="bson")["i"]), objectid.ObjectId)
+        self.assertEqual(bsonraw.decode_all(data, types="bson"), [bsonraw.decode(data, types="bson")])
+
+    def test_their_encoder_takes_ours(self) -> None:
+        count = 0
+        for value, data in ROWS:
+            if type(value).__name__ not in ("Undefined", "DBPointer", "Symbol", "DatetimeMS"):
+                if type(value) is Code and value.scope:
+                    value = Code(value.code, dict(value.scope))
+                self.assertEqual(bson.encode({"k": value}), data, value)
+                count += 1
+        self.assertGreater(count, 20)
+        pairs = Pairs([("b", 1), ("a", 2), ("b", 3)])
+        self.assertEqual(bson.encode({"k": pairs}), bsonraw.encode({"k": pairs}))
+        self.assertEqual(bson.encode({"k": Int64(5)}), of(18, b"\5" + bytes(7)))
+        document = bsonraw.RawDocument(bsonraw.encode(pairs))
+        self.assertEqual(bson.encode({"k": document}), bsonraw.encode({"k": pairs}))
+        self.assertEqual(bsonraw.encode({"k": raw_bson.RawBSONDocument(bsonraw.encode(pairs))}), bsonraw.encode({"k": pairs}))
+
+    def test_equal_to_theirs(self) -> None:
+        for value, data in ROWS:
+            if type(value).__module__ != "bsonraw" or type(value).__name__ in ("Undefined", "DBPointer", "Symbol", "DatetimeMS"):
+                continue
+            other = bson.decode(data, codec_options.CodecOptions(uuid_representation=0))["k"]
+            self.assertNotEqual(type(other), type(value))
+            self.assertEqual(value, other)
+            self.assertFalse(value != other)
+            if type(other).__hash__ is not None and type(value).__hash__ is not None and type(value).__name__ != "Binary":
+                self.assertEqual(hash(value), hash(other), value)
+        mine, other = ObjectId(), objectid.ObjectId()
+        self.assertNotEqual(mine, other)
+        self.assertEqual({other: 1}[ObjectId(other.binary)], 1)
+        least, most = ObjectId(bytes(12)), ObjectId(b"\xff" * 12)
+        self.assertEqual((least < other, other > least, most > other, most < other), (True, True, True, False))
+        self.assertEqual(hash(Binary(b"ab", 128)), hash(bson.Binary(b"ab", 128)))
+        self.assertEqual([ObjectId("1" * 24) <= ObjectId("1" * 24), Timestamp(2, 1) >= Timestamp(1, 5), Timestamp(2, 1) > Timestamp(2, 1)], [True, True, False])
+        self.assertEqual((Timestamp(1, 2) < bson.Timestamp(1, 3), MinKey() < 5, MaxKey() > "x"), (True, True, True))
+
+
+class Hooks(unittest.TestCase):
+    def test_the_innermost_first(self) -> None:
+        data = bsonraw.encode({"a": [{"b": 1}, Code("f", {"c": 2})], "d": {}})
+        seen: List[Any] = []
+        self.assertEqual(bsonraw.decode(data, object_hook=lambda document: seen.append(document) or len(seen)), 4)
+        self.assertEqual(seen, [{"b": 1}, {"c": 2}, {}, {"a": [1, Code("f", 2)], "d": 3}])
+        seen.clear()
+        found = bsonraw.decode(data, object_pairs_hook=lambda pairs: seen.append(pairs) or dict(pairs), object_hook=len)
+        self.assertEqual((found, seen[0], type(seen[0])), (bsonraw.decode(data), [("b", 1)], Pairs))
+        self.assertEqual(bsonraw.decode_all(data, object_hook=len), [2])
+        self.assertEqual(bsonraw.get(data, "a").decode(object_hook=len), [1, Code("f", 1)])
+
+    def test_a_hook_that_raises(self) -> None:
+        data = bsonraw.encode({"a": [{"b": {"c": 1}}]})
+        self.assertRaises(ZeroDivisionError, bsonraw.decode, data, object_hook=lambda document: 1 / 0)
+        self.assertRaises(ZeroDivisionError, bsonraw.decode_all, data, object_hook=lambda document: 1 / 0, errors="skip")
+        for name in ("object_hook", "object_pairs_hook"):
+            self.assertRaises(TypeError, bsonraw.decode, data, **{name: 5})
+        self.assertRaises(TypeError, bsonraw.encode, {}, default=5)
+
+    def test_times_and_ids(self) -> None:
+        unique, time = uuid.uuid4(), times.datetime(2001, 2, 3, tzinfo=times.timezone.utc)
+        data = bsonraw.encode({"u": unique, "t": time, "b": Binary(b"short", 4), "f": DatetimeMS(1 << 60)})
+        found = bsonraw.decode(data, uuid=True, tz_aware=False)
+        self.assertEqual(found, {"u": unique, "t": time.replace(tzinfo=None), "b": Binary(b"short", 4), "f": DatetimeMS(1 << 60)})
+        self.assertEqual((hash(found["u"]), found["u"].is_safe, str(found["u"])), (hash(unique), unique.is_safe, str(unique)))
+        self.assertEqual(bsonraw.decode(data)["u"], Binary(unique.bytes, 4))
+        self.assertEqual(bsonraw.columns(data, uuid=True, tz_aware=False)["u"], [unique])
+
+    def test_default(self) -> None:
+        self.assertEqual(again({1, 1}, default=list), [1])
+        self.assertEqual(again(1j, default=lambda value: collections.OrderedDict(real=value.real)), {"real": 0.0})
+        self.assertEqual(bsonraw.decode(bsonraw.encode({1}, default=lambda value: {"k": 1})), {"k": 1})
+        for default in (None, lambda value: value, lambda value: NotImplemented, lambda value: {2}):
+            with self.assertRaises(TypeError) as caught:
+                bsonraw.encode({"a": [0, {"b": {1}}]}, default=default)
+            self.assertIn("at key 'a.1.b'", str(caught.exception))
+        self.assertRaises(ZeroDivisionError, bsonraw.encode, {"a": {1}}, default=lambda value: 1 / 0)
+
+    def test_codec(self) -> None:
+        class Color(enum.Enum):
+            RED = "red"
+
+        @dataclasses.dataclass
+        class Point:
+            x: int
+            color: Color
+
+        class Far(Point):
+            pass
+
+        codec = bsonraw.Codec({complex: lambda value: [value.real, value.imag]})
+        for value, wanted in (
+            (Point(1, Color.RED), {"x": 1, "color": "red"}), (Far(1, Color.RED), {"x": 1, "color": "red"}), (frozenset([3]), [3]),
+            (decimal.Decimal("1.5"), Decimal128("1.5")), (1j, [0.0, 1.0]), (pathlib.PurePosixPath("a/b"), "a/b"),
+            (times.date(2001, 2, 3), times.datetime(2001, 2, 3, tzinfo=times.timezone.utc)),
+        ):
+            self.assertEqual(again(value, default=codec), wanted)
+        for unknown in (slice(1), Point, Color):
+            self.assertRaises(TypeError, again, unknown, default=codec)
+        codec.register(slice, lambda value: None)
+        self.assertIsNone(again(slice(1), default=codec))
+        self.assertRaises(TypeError, again, slice(1), default=bsonraw.Codec())
+
+
+class Classes(unittest.TestCase):
+    def test_decimals(self) -> None:
+        for text, raw in (
+            ("1.5", "0f000000000000000000000000003e30"), ("-0", "000000000000000000000000000040b0"), ("Infinity", "00" * 15 + "78"),
+            ("-Infinity", "00" * 15 + "f8"), ("NaN", "00" * 15 + "7c"), ("1E+3", "01000000000000000000000000004630"),
+            ("9999999999999999999999999999999999", "ffffffff638e8d37c087adbe09ed4130"),
+            ("9.999999999999999999999999999999999E+6144", "ffffffff638e8d37c087adbe09edff5f"), ("1E-6176", "01" + "00" * 15),
+        ):
+            value = Decimal128(text)
+            self.assertEqual((value.binary.hex(), str(value)), (raw, text))
+            self.assertEqual((Decimal128.from_bid(value.bid), Decimal128(value.to_decimal())), (value, value))
+        self.assertEqual((f"{Decimal128('2.50'):.1f}", f"{Decimal128('2.50')}"), ("2.5", "2.50"))
+        self.assertEqual(Decimal128(bytes(7) + b"\xff" * 7 + b"\x00\x6c").to_decimal(), 0)
+        for text in ("1" * 35, "1E+6145", "x"):
+            self.assertRaises(decimal.DecimalException, Decimal128, text)
+
+    def test_ids(self) -> None:
+        begun = times.datetime.now(times.timezone.utc).replace(microsecond=0)
+        made = [ObjectId() for _ in range(1000)]
+        self.assertEqual((len(set(made)), len({one.binary[4:9] for one in made})), (1000, 1))
+        self.assertLessEqual(abs((made[0].generation_time - begun).total_seconds()), 5)
+        self.assertEqual(ObjectId.from_datetime(begun).generation_time, begun)
+        self.assertEqual((ObjectId.is_valid("0" * 24), ObjectId.is_valid("0"), ObjectId.is_valid(None)), (True, False, False))
+        self.assertEqual(f"{made[0]:>26}", f"  {made[0]}")
+        self.assertEqual(ObjectId(made[0]), made[0])
+
+    def test_others(self) -> None:
+        unique = uuid.uuid4()
+        self.assertEqual(Binary.from_uuid(unique).as_uuid(), unique)
+        self.assertRaises(ValueError, Binary(unique.bytes, 3).as_uuid)
+        self.assertEqual(Timestamp(times.datetime(1970, 1, 2), 3), Timestamp(86400, 3))
+        self.assertEqual(Timestamp(86400, 3).as_datetime(), times.datetime(1970, 1, 2, tzinfo=times.timezone.utc))
+        self.assertEqual((Binary(b"a", 0) == b"a", Code("a") == "a", len({Binary(b"a", 1), Binary(b"a", 1)})), (False, False, 1))
+        self.assertEqual(sorted([5, MaxKey(), MinKey(), 2], key=lambda value: value), [MinKey(), 2, 5, MaxKey()])
+        self.assertEqual([MinKey() < MinKey(), MinKey() <= MinKey(), MaxKey() > MaxKey(), MaxKey() >= MaxKey()], [False, True, False, True])
+        self.assertEqual((Regex("a", "ix").flags, Regex("a", Regex("a", "ix").flags).options), (2 + 64, "ix"))
+
+    def test_what_is_made_of_something_else(self) -> None:
+        for make in (
+            lambda: ObjectId(12), lambda: Binary(5, 0), lambda: Decimal128([0] * 16), lambda: Decimal128(5), lambda: ObjectId([0] * 12),
+            lambda: Code(5), lambda: Binary("text", 0),
+        ):
+            self.assertRaises(TypeError, make)
+        self.assertRaises(TypeError, bsonraw.encode, {"k": Regex("x", ["im", "a"])})
+        self.assertRaises(TypeError, bsonraw.encode, {"k": Regex("x", None)})
+
+    def test_places_in_errors_of_encode(self) -> None:
+        deep: Any = {}
+        for _ in range(3):
+            deep = {"a": [deep]}
+        for document, options, error, keys in (
+            ({"a": {"b.c": [1, {"d\0": 2}]}}, {}, BsonError, ("a", "b.c", "1")),
+            ({"a": Pairs([("b", [0, 1 << 70])])}, {}, OverflowError, ("a", "b", "1")),
+            ({"a": [Code("f", {"x": object()})]}, {}, TypeError, ("a", "0", "x")),
+            ({"x": 1, "a": {5: 1}}, {}, TypeError, ("a",)),
+            (deep, {"max_depth": 3}, BsonError, ("a", "0", "a")),
+            ({"a": [1, "x" * 100]}, {"max_bytes": 50}, BsonError, ("a", "1")),
+        ):
+            with self.assertRaises(error) as caught:
+                bsonraw.encode(document, **options)
+            self.assertIn(f"at key '{'.'.join(keys)}'", str(caught.exception))
+            if error is BsonError:
+                self.assertEqual(caught.exception.keys, keys)
+        with self.assertRaises(BsonError) as caught:
+            bsonraw.encode({"x": 1, "a": [0, {"b": 1, "c\0d": 2}]})
+        error = caught.exception
+        self.assertEqual((error.reason, error.key, error.path), (Reason.INTERIOR_NUL, "c\0d", (1, 1, 1)))
+
+
+class Scopes(unittest.TestCase):
+    def test_many_in_one_another(self) -> None:
+        scoped = framed(b"\x0aa\0")
+        for _ in range(450):
+            code = b"\2\0\0\0f\0" + scoped
+            scoped = framed(b"\x0fa\0" + (len(code) + 4).to_bytes(4, "little") + code)
+        self.assertEqual(bsonraw.encode(bsonraw.decode(scoped)), scoped)
+        self.assertEqual(bsonraw.find(scoped, ["a"] * 451).value, None)
+        self.assertIsNone(bsonraw.find(scoped, ["a"] * 452))
+
+
+if __name__ == "__main__":
+    unittest.main()

@@ -1,0 +1,139 @@
+"""Damaged dumps: with resync=True what lies whole in them is kept. The damage is of the kinds that dumps have, and the seed is drawn."""
+
+import io
+import os
+import random
+import struct
+import unittest
+from typing import Callable, Iterator, List, Optional, Tuple
+
+import bsonraw
+from bsonraw import Binary, BsonError, Int64, ObjectId
+
+SEED = int(os.environ.get("SEED", "0")) or random.randrange(1, 1 << 24)
+COUNT = 400
+
+
+def document(r: random.Random, number: int) -> bytes:
+    found: dict = {"_id": ObjectId(r.randbytes(12)), "n": number}
+    kind = r.randrange(4)
+    if kind == 0:
+        found["items"] = [{"sku": f"S{r.randrange(10**6)}", "price": r.random()} for _ in range(r.randrange(12))]
+    elif kind == 1:
+        found["blob"] = Binary(r.randbytes(r.randrange(2000)), 0)
+    elif kind == 2:
+        found.update(tags=["naïve", "東京"] * r.randrange(10), big=Int64(r.randrange(-(2**63), 2**63)), nothing=None)
+    else:
+        found["text"] = "a line, " * r.randrange(10, 200)
+    return bsonraw.encode(found)
+
+
+def with_lengths(whole: List[bytes], wrong: Callable[[int, int], Optional[int]]) -> bytes:
+    lengths = [wrong(number, len(one)) for number, one in enumerate(whole)]
+    return b"".join(one if n is None else struct.pack("<i", n) + one[4:] for n, one in zip(lengths, whole))
+
+
+def spliced(whole: List[bytes], r: random.Random, cut: int, put: Callable[[], bytes]) -> bytes:
+    data = bytearray(b"".join(whole))
+    for at in sorted((r.randrange(len(data)) for _ in range(5)), reverse=True):
+        data[at : at + cut] = put()
+    return bytes(data)
+
+
+def flipped(whole: List[bytes], offsets: Callable[[], int], r: random.Random, times: int) -> bytes:
+    data = bytearray(b"".join(whole))
+    for _ in range(times):
+        data[offsets()] ^= 1 << r.randrange(8)
+    return bytes(data)
+
+
+def damaged(whole: List[bytes], r: random.Random) -> Iterator[Tuple[str, bytes]]:
+    """Dumps of these documents with damage of each kind."""
+    starts = [sum(map(len, whole[:number])) for number in range(len(whole))]
+    size = sum(map(len, whole))
+    yield "a third of lengths is huge", with_lengths(whole, lambda i, n: 0x7FFFFFFF if i % 3 == 0 else None)
+    yield "a third is negative", with_lengths(whole, lambda i, n: -n if i % 3 == 1 else None)
+    yield "a twentieth is 7 more", with_lengths(whole, lambda i, n: n + 7 if i % 20 == 0 else None)
+    yield "a tenth is 3 less", with_lengths(whole, lambda i, n: n - 3 if i % 10 == 5 else None)
+    yield "one is half the dump", with_lengths(whole, lambda i, n: size // 2 if i == len(whole) // 7 else None)
+    yield "some span the next document", with_lengths(whole, lambda i, n: n + len(whole[i + 1]) if i % 50 == 9 else None)
+    yield "bits of lengths are flipped", flipped(whole, lambda: r.choice(starts) + r.randrange(4), r, 10)
+    yield "bits are flipped", flipped(whole, lambda: r.randrange(size), r, 60)
+    yield "pages of 0", spliced(whole, r, 1024, lambda: bytes(1024))
+    yield "pages of 255", spliced(whole, r, 1024, lambda: b"\xff" * 1024)
+    yield "cuts", spliced(whole, r, 777, lambda: b"")
+    yield "insertions", spliced(whole, r, 0, lambda: r.randbytes(r.randrange(1, 4000)))
+    yield "the tail is cut", b"".join(whole)[:-25]
+    yield "every second tag", b"".join(one[:4] + b"\x66" + one[5:] if i % 2 == 0 else one for i, one in enumerate(whole))
+
+
+BY_CHANCE = ("bits of lengths are flipped", "bits are flipped", "pages of 0", "pages of 255", "cuts", "insertions")
+
+
+def lying_whole(whole: List[bytes], data: bytes) -> List[Tuple[int, bytes]]:
+    """Those that are in the data as they were, in their order, and where."""
+    at, found = 0, []
+    for one in whole:
+        place = data.find(one, at)
+        if place >= 0:
+            found.append((place, one))
+            at = place + len(one)
+    return found
+
+
+def may_be_lost(place: int, one: bytes, lie: List[Tuple[int, bytes]], kept: List[Tuple[int, bytes]], size: int) -> bool:
+    """Whether a document lies before one that is damaged, or in one that nobody wrote and that has no damage."""
+    behind = place + len(one)
+    is_last = behind != size and behind not in (at for at, _ in lie)
+    return is_last or any(at < behind and place < at + len(other) for at, other in kept)
+
+
+class Resync(unittest.TestCase):
+    def test_what_lies_whole_is_kept(self) -> None:
+        r = random.Random(SEED)
+        whole = [document(r, number) for number in range(COUNT)]
+        for name, data in damaged(whole, r):
+            with self.subTest(name, seed=SEED):
+                lie = lying_whole(whole, data)
+                kept = list(bsonraw.documents(data, resync=True))
+                self.assertGreaterEqual(len(lie), COUNT // 2)
+                lost = [one for one in lie if one not in set(kept)]
+                if name in BY_CHANCE:
+                    self.assertTrue(all(may_be_lost(*one, lie, kept, len(data)) for one in lost), len(lost))
+                    self.assertLessEqual(len(lost), len(lie) // 20)
+                else:
+                    self.assertEqual(lost, [])
+                values = bsonraw.decode_all(data, errors="skip", resync=True)
+                self.assertEqual([bsonraw.encode(one) for one in values], [bsonraw.canonical(one) for _, one in kept])
+
+    def test_places_and_errors(self) -> None:
+        first, second, third, last = (bsonraw.encode({"n": number}) for number in range(4))
+        data = first + b"\xff\xff\xff\x7f" + second + third + b"\x09\0\0\0\x08a\0\2\0" + last
+        wanted = [(0, first), (len(first) + 4, second), (len(first) + 4 + len(second), third), (len(data) - len(last), last)]
+        for source in (data, bytearray(data), memoryview(data), io.BytesIO(data)):
+            self.assertEqual(list(bsonraw.documents(source, resync=True)), wanted)
+        told: List[BsonError] = []
+        values = bsonraw.decode_all(data, errors=told.append, resync=True)
+        self.assertEqual(values, [{"n": 0}, {"n": 1}, {"n": 2}, {"n": 3}])
+        self.assertEqual([error.offset for error in told], [len(first), len(first) + 4 + 2 * len(second) + 4])
+
+    def test_without_it_nothing_changes(self) -> None:
+        first = bsonraw.encode({"n": 1})
+        data = first + b"\xff\xff\xff\x7f" + first + first
+        self.assertEqual(bsonraw.decode_all(data, errors="skip"), [{"n": 1}])
+        with self.assertRaises(BsonError):
+            list(bsonraw.documents(data))
+        with self.assertRaises(BsonError):
+            bsonraw.decode_all(data, resync=True)
+
+    def test_limits(self) -> None:
+        deep = bsonraw.encode({"a": {"b": {"c": 1}}})
+        flat = bsonraw.encode({"n": 1})
+        data = b"\xff" * 9 + deep + flat + flat
+        self.assertEqual(bsonraw.decode_all(data, errors="skip", resync=True, max_depth=2), [{"n": 1}, {"n": 1}])
+        self.assertEqual(bsonraw.decode_all(data, errors="skip", resync=True, max_bytes=len(flat)), [{"n": 1}, {"n": 1}])
+        self.assertEqual([one for _, one in bsonraw.documents(data, resync=True, max_bytes=len(flat))], [flat, flat])
+
+
+if __name__ == "__main__":
+    unittest.main()
