@@ -1,0 +1,476 @@
+//! The one file with unsafe code: each call into C, and the three casts of bytes. What a call has to be given is said at the
+//! head of `bsonraw.h`, and every call here keeps it in the same way:
+//!
+//! - A pointer with its length is that of a slice, which is never null, lives for the call, and is initialised. What is written
+//!   is behind a `&mut`, so that it overlaps nothing else and no other thread touches it.
+//! - A pointer to a struct or to a number is that of a reference, so it is aligned, and points to a `repr(C)` struct whose fields
+//!   are those of the header (`tests/suite/header.rs`). Any fields may be handed over.
+//!
+//! What the library returns is used without a second look where [`text`] shows what it judged to be UTF-8, and where [`append`] lets a
+//! buffer grow over what it wrote. All other offsets are used to slice, which is checked.
+
+#![allow(unsafe_code)]
+
+use alloc::vec;
+use alloc::vec::Vec;
+use core::str;
+
+use crate::raw::{RawArray, RawDocument};
+use crate::sys::*;
+
+/// How many elements are read in a block.
+const BLOCK: usize = 8;
+
+/// How many bytes a document has at most.
+pub(crate) const MOST: usize = i32::MAX as usize;
+
+/// How many numbers of a path are asked for at first.
+const PATH_ROOM: usize = 32;
+
+/// Shows bytes as a document.
+#[inline]
+pub(crate) fn document(bytes: &[u8]) -> &RawDocument {
+    // SAFETY: RawDocument is a transparent struct over [u8], so it has its layout, and any bytes may be in it.
+    unsafe { &*(bytes as *const [u8] as *const RawDocument) }
+}
+
+/// Shows a document as an array.
+#[inline]
+pub(crate) fn array(document: &RawDocument) -> &RawArray {
+    // SAFETY: RawArray is a transparent struct over RawDocument, so it has its layout, and any document may be in it.
+    unsafe { &*(document as *const RawDocument as *const RawArray) }
+}
+
+/// Shows bytes as the text that they are.
+///
+/// # Safety
+///
+/// A call of the library has said that these bytes are a key or a text: it is proved that they are UTF-8 then.
+#[inline]
+unsafe fn text(bytes: &[u8], at: u32, len: u32) -> &str {
+    let bytes = &bytes[at as usize..][..len as usize];
+    debug_assert!(str::from_utf8(bytes).is_ok());
+    // SAFETY: the bytes are UTF-8, as the caller says.
+    unsafe { str::from_utf8_unchecked(bytes) }
+}
+
+/// The version of the library.
+pub(crate) fn version() -> u32 {
+    // SAFETY: nothing is handed over.
+    unsafe { bsonraw_version() }
+}
+
+/// Whether the bytes have a document's envelope; else why not. Each call over a document looks at that itself, too, so bytes that
+/// plainly have one are left to these.
+#[inline]
+pub(crate) fn envelope(bytes: &[u8]) -> Result<(), bsonraw_error> {
+    match bytes {
+        [a, b, c, d, .., 0] if u32::from_le_bytes([*a, *b, *c, *d]) as usize == bytes.len() && bytes.len() <= MOST => {
+            Ok(())
+        }
+        _ => judged_envelope(bytes),
+    }
+}
+
+#[cold]
+fn judged_envelope(bytes: &[u8]) -> Result<(), bsonraw_error> {
+    let mut iter = bsonraw_iter::default();
+    // SAFETY: as said at the head of this file.
+    let status = unsafe { bsonraw_iter_init(&mut iter, bytes.as_ptr(), bytes.len()) };
+    if status == BSONRAW_OK {
+        Ok(())
+    } else {
+        Err(iter.error)
+    }
+}
+
+/// Why there is no element, where none is and not the end either.
+pub(crate) struct Stop<'a> {
+    pub(crate) error: bsonraw_error,
+    pub(crate) key: Option<&'a [u8]>,
+}
+
+impl<'a> Stop<'a> {
+    /// The stop at which a cursor is.
+    #[cold]
+    fn of(document: &'a [u8], cursor: &bsonraw_iter) -> Stop<'a> {
+        let key_at = cursor.key_at as usize;
+        Stop {
+            error: cursor.error,
+            key: (key_at < document.len()).then(|| &document[key_at..][..cursor.key_len as usize]),
+        }
+    }
+}
+
+/// An element of a document. The library has made the entry of these very bytes.
+#[derive(Clone, Copy)]
+pub(crate) struct Frame<'a> {
+    document: &'a [u8],
+    entry: bsonraw_entry,
+}
+
+impl<'a> Frame<'a> {
+    #[inline]
+    pub(crate) fn tag(&self) -> u8 {
+        self.entry.tag as u8
+    }
+
+    #[inline]
+    pub(crate) fn key(&self) -> &'a str {
+        // SAFETY: the library made the entry of these bytes.
+        unsafe { text(self.document, self.entry.key_at, self.entry.key_len) }
+    }
+
+    #[inline]
+    pub(crate) fn payload(&self) -> &'a [u8] {
+        &self.document[self.entry.payload_at as usize..][..self.entry.payload_len as usize]
+    }
+
+    #[inline]
+    pub(crate) fn payload_len(&self) -> usize {
+        self.entry.payload_len as usize
+    }
+
+    /// The document that the element is of.
+    pub(crate) fn document(&self) -> &'a [u8] {
+        self.document
+    }
+
+    /// The value, or why there is none.
+    #[inline]
+    pub(crate) fn value(&self) -> Result<Value<'a>, bsonraw_error> {
+        let iter = bsonraw_iter {
+            tag: self.entry.tag,
+            key_at: self.entry.key_at,
+            key_len: self.entry.key_len,
+            payload_at: self.entry.payload_at,
+            payload_len: self.entry.payload_len,
+            ..whole(self.document)
+        };
+        let mut value = bsonraw_value::default();
+        // SAFETY: as said at the head of this file.
+        let status = unsafe { bsonraw_iter_value(&iter, self.document.as_ptr(), self.document.len(), &mut value) };
+        if status == BSONRAW_OK {
+            Ok(Value { document: self.document, value })
+        } else {
+            Err(value.error)
+        }
+    }
+}
+
+/// A value of an element. The library has made it of these very bytes.
+pub(crate) struct Value<'a> {
+    document: &'a [u8],
+    value: bsonraw_value,
+}
+
+impl<'a> Value<'a> {
+    /// The text of a value, which has to be of a kind with a text.
+    #[inline]
+    pub(crate) fn text(&self) -> &'a str {
+        debug_assert!((self.value.tag < 32) && 1 << self.value.tag & WITH_TEXT != 0);
+        let is_text = self.value.tag < 32 && 1 << self.value.tag & WITH_TEXT != 0;
+        let len = if is_text { self.value.text_len } else { 0 };
+        // SAFETY: the library made the value of these bytes; no bytes are UTF-8, too.
+        unsafe { text(self.document, self.value.text_at, len) }
+    }
+
+    /// The options of a regular expression, which the value has to be.
+    #[inline]
+    pub(crate) fn options(&self) -> &'a str {
+        debug_assert_eq!(self.value.tag, BSONRAW_TAG_REGEX);
+        let is_regex = self.value.tag == BSONRAW_TAG_REGEX;
+        let len = if is_regex { self.value.more_len } else { 0 };
+        // SAFETY: as above.
+        unsafe { text(self.document, self.value.more_at, len) }
+    }
+
+    /// The bytes of a binary value.
+    #[inline]
+    pub(crate) fn data(&self) -> &'a [u8] {
+        &self.document[self.value.text_at as usize..][..self.value.text_len as usize]
+    }
+
+    /// The second part: a scope, or the id behind a namespace.
+    #[inline]
+    pub(crate) fn more(&self) -> &'a [u8] {
+        &self.document[self.value.more_at as usize..][..self.value.more_len as usize]
+    }
+
+    #[inline]
+    pub(crate) fn subtype(&self) -> u8 {
+        self.value.subtype as u8
+    }
+}
+
+/// The kinds whose value has a text, as bits.
+const WITH_TEXT: u32 = 1 << BSONRAW_TAG_STRING
+    | 1 << BSONRAW_TAG_REGEX
+    | 1 << BSONRAW_TAG_DB_POINTER
+    | 1 << BSONRAW_TAG_JAVASCRIPT
+    | 1 << BSONRAW_TAG_SYMBOL
+    | 1 << BSONRAW_TAG_JAVASCRIPT_WITH_SCOPE;
+
+/// A cursor before the first element of a document.
+#[inline]
+fn whole(document: &[u8]) -> bsonraw_iter {
+    bsonraw_iter { next: 4, document_len: document.len() as u32, ..bsonraw_iter::default() }
+}
+
+/// The elements of a document in order, read in blocks.
+#[derive(Clone)]
+pub(crate) struct Steps<'a> {
+    document: &'a [u8],
+    cursor: bsonraw_iter,
+    /// Where it goes on: with the block that is there, or as the library said behind it.
+    status: i32,
+    taken: usize,
+    count: usize,
+    block: [bsonraw_entry; BLOCK],
+}
+
+impl<'a> Steps<'a> {
+    #[inline]
+    pub(crate) fn new(document: &'a [u8]) -> Steps<'a> {
+        Steps {
+            document,
+            cursor: whole(document),
+            status: BSONRAW_OK,
+            taken: 0,
+            count: 0,
+            block: [bsonraw_entry::default(); BLOCK],
+        }
+    }
+
+    pub(crate) fn document(&self) -> &'a [u8] {
+        self.document
+    }
+
+    /// The next element, if there is one.
+    #[inline]
+    pub(crate) fn next(&mut self) -> Option<Frame<'a>> {
+        if self.taken == self.count && !self.fill() {
+            return None;
+        }
+        let entry = self.block[self.taken];
+        self.taken += 1;
+        Some(Frame { document: self.document, entry })
+    }
+
+    /// Reads the next block. Whether it has an element.
+    fn fill(&mut self) -> bool {
+        if self.status != BSONRAW_OK {
+            return false;
+        }
+        let (at, len) = (self.document.as_ptr(), self.document.len());
+        let (block, room) = (self.block.as_mut_ptr(), self.block.len());
+        let mut count = 0;
+        // SAFETY: as said at the head of this file.
+        self.status = unsafe { bsonraw_iter_next_many(&mut self.cursor, at, len, block, room, &mut count) };
+        self.taken = 0;
+        self.count = count as usize;
+        self.count != 0
+    }
+
+    /// Where there is no next element, why not, if that isn't the end; said once.
+    #[inline]
+    pub(crate) fn stop(&mut self) -> Option<Stop<'a>> {
+        if self.status != BSONRAW_FAULT {
+            return None;
+        }
+        self.status = BSONRAW_NONE;
+        Some(Stop::of(self.document, &self.cursor))
+    }
+}
+
+/// The first element with this key; or why it isn't known, where none has it up to a stop.
+#[inline]
+pub(crate) fn find<'a>(document: &'a [u8], key: &str) -> Option<Result<Frame<'a>, Stop<'a>>> {
+    let mut cursor = whole(document);
+    // SAFETY: as said at the head of this file.
+    let status = unsafe { bsonraw_iter_find(&mut cursor, document.as_ptr(), document.len(), key.as_ptr(), key.len()) };
+    match status {
+        BSONRAW_OK => Some(Ok(Frame {
+            document,
+            entry: bsonraw_entry {
+                tag: cursor.tag,
+                key_at: cursor.key_at,
+                key_len: cursor.key_len,
+                payload_at: cursor.payload_at,
+                payload_len: cursor.payload_len,
+            },
+        })),
+        BSONRAW_FAULT => Some(Err(Stop::of(document, &cursor))),
+        _ => None,
+    }
+}
+
+/// Appends an element by its parts to the document that the bytes are, or the array, for which the library is given room for so many
+/// more. With any status but `BSONRAW_OK` nothing is changed.
+#[inline]
+pub(crate) fn append(
+    data: &mut Vec<u8>,
+    more: usize,
+    mut builder: bsonraw_builder,
+    tag: u32,
+    key: &[u8],
+    one: &[u8],
+    two: &[u8],
+) -> i32 {
+    data.reserve(more);
+    let (at, room) = (data.as_mut_ptr(), data.capacity());
+    let (key, key_len) = (key.as_ptr(), key.len());
+    let (one, one_len) = (one.as_ptr(), one.len());
+    let (two, two_len) = (two.as_ptr(), two.len());
+    // SAFETY: as said at the head of this file, but that the room behind the bytes isn't initialised: it is written alone. With
+    // BSONRAW_OK it has the document, builder.len bytes of it.
+    unsafe {
+        bsonraw_append(&mut builder, at, room, tag, key, key_len, one, one_len, two, two_len);
+        let status = bsonraw_builder_end(&mut builder, at, room);
+        if status == BSONRAW_OK {
+            data.set_len(builder.len as usize);
+        }
+        status
+    }
+}
+
+/// Goes on to the next document.
+pub(crate) fn read(reader: &mut bsonraw_reader, bytes: &[u8]) -> i32 {
+    // SAFETY: as said at the head of this file.
+    unsafe { bsonraw_reader_read(reader, bytes.as_ptr(), bytes.len()) }
+}
+
+/// Goes on behind damage.
+pub(crate) fn resync(
+    reader: &mut bsonraw_reader,
+    bytes: &[u8],
+    max_bytes: usize,
+    max_depth: usize,
+    work: &mut bsonraw_resync,
+) -> i32 {
+    // SAFETY: as said at the head of this file.
+    unsafe { bsonraw_reader_resync(reader, bytes.as_ptr(), bytes.len(), max_bytes, max_depth, work) }
+}
+
+/// What a call over a whole document said.
+pub(crate) struct Report {
+    pub(crate) status: i32,
+    pub(crate) said: bsonraw_report,
+    pub(crate) path: Vec<u64>,
+}
+
+/// Makes a call over a whole document, and makes it again where the path is longer than was asked for.
+fn reported(mut call: impl FnMut(&mut bsonraw_report, &mut [u64]) -> i32) -> Report {
+    let mut said = bsonraw_report::default();
+    let mut first = [0; PATH_ROOM];
+    let mut status = call(&mut said, &mut first);
+    let len = said.path_len as usize;
+    let path = if len <= PATH_ROOM {
+        first[..len].to_vec()
+    } else {
+        let mut path = vec![0; len];
+        status = call(&mut said, &mut path);
+        path
+    };
+    Report { status, said, path }
+}
+
+/// Makes a call that fills a room, and makes it again where more room is wanted, with some behind it. The room has what the call
+/// put there.
+fn filled<T: Clone>(
+    room: usize,
+    behind: usize,
+    blank: T,
+    mut call: impl FnMut(&mut [T], &mut bsonraw_report, &mut [u64]) -> i32,
+) -> (Report, Vec<T>) {
+    let mut made = vec![blank.clone(); room];
+    let mut report = reported(|said, path| call(&mut made, said, path));
+    if report.status == BSONRAW_SMALL_BUFFER {
+        made = vec![blank; report.said.count as usize + behind];
+        report = reported(|said, path| call(&mut made, said, path));
+    }
+    made.truncate(report.said.count as usize);
+    (report, made)
+}
+
+/// `bsonraw_first_fault`.
+pub(crate) fn first_fault(bytes: &[u8], max_bytes: usize, max_depth: usize) -> Report {
+    let (at, len) = (bytes.as_ptr(), bytes.len());
+    reported(|said, path| {
+        // SAFETY: as said at the head of this file.
+        unsafe { bsonraw_first_fault(at, len, max_bytes, max_depth, said, path.as_mut_ptr(), path.len()) }
+    })
+}
+
+/// `bsonraw_check`.
+pub(crate) fn check(bytes: &[u8], max_bytes: usize, max_depth: usize) -> Report {
+    let (at, len) = (bytes.as_ptr(), bytes.len());
+    reported(|said, path| {
+        // SAFETY: as said at the head of this file.
+        unsafe { bsonraw_check(at, len, max_bytes, max_depth, said, path.as_mut_ptr(), path.len()) }
+    })
+}
+
+/// `bsonraw_canonical`, and the form.
+pub(crate) fn canonical(bytes: &[u8], max_bytes: usize, max_depth: usize) -> (Report, Vec<u8>) {
+    let (at, len) = (bytes.as_ptr(), bytes.len());
+    filled(len, 0, 0, |form, said, path| {
+        let (to, room) = (form.as_mut_ptr(), form.len());
+        // SAFETY: as said at the head of this file.
+        unsafe { bsonraw_canonical(at, len, max_bytes, max_depth, to, room, said, path.as_mut_ptr(), path.len()) }
+    })
+}
+
+/// An element of any level, in the bytes of the whole document.
+pub(crate) struct Flat<'a> {
+    pub(crate) frame: Frame<'a>,
+    pub(crate) depth: usize,
+    pub(crate) inside: usize,
+}
+
+impl<'a> Flat<'a> {
+    /// What the library said of these bytes.
+    fn of(document: &'a [u8], token: &bsonraw_token) -> Flat<'a> {
+        let entry = bsonraw_entry {
+            tag: token.tag,
+            key_at: token.key_at,
+            key_len: token.key_len,
+            payload_at: token.payload_at,
+            payload_len: token.payload_len,
+        };
+        Flat { frame: Frame { document, entry }, depth: token.depth as usize, inside: token.inside as usize }
+    }
+}
+
+/// `bsonraw_flatten`, and the tokens, of which there are none where it fails.
+pub(crate) fn flatten(bytes: &[u8], max_bytes: usize, max_depth: usize) -> (Report, Vec<Flat<'_>>) {
+    let (at, len) = (bytes.as_ptr(), bytes.len());
+    let (report, mut tokens) = filled(len / 16 + 8, 0, bsonraw_token::default(), |tokens, said, path| {
+        let (to, room) = (tokens.as_mut_ptr(), tokens.len());
+        // SAFETY: as said at the head of this file.
+        unsafe { bsonraw_flatten(at, len, max_bytes, max_depth, to, room, said, path.as_mut_ptr(), path.len()) }
+    });
+    if report.status != BSONRAW_OK {
+        tokens.clear();
+    }
+    let tokens = tokens.iter().map(|token| Flat::of(bytes, token)).collect();
+    (report, tokens)
+}
+
+/// `bsonraw_json`, and the text without the 0 behind it.
+pub(crate) fn json(
+    bytes: &[u8],
+    max_bytes: usize,
+    max_depth: usize,
+    canonical: bool,
+    indented: bool,
+) -> (Report, Vec<u8>) {
+    let (at, len) = (bytes.as_ptr(), bytes.len());
+    let (canonical, indented) = (u32::from(canonical), u32::from(indented));
+    filled(2 * len + 64, 1, 0, |text, said, path| {
+        let (to, room) = (text.as_mut_ptr(), text.len());
+        let (path, steps) = (path.as_mut_ptr(), path.len());
+        // SAFETY: as said at the head of this file.
+        unsafe { bsonraw_json(at, len, max_bytes, max_depth, canonical, indented, to, room, said, path, steps) }
+    })
+}

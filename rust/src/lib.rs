@@ -1,0 +1,44 @@
+//! Raw BSON documents, read as they lie in memory, over a library whose calls are proved to return what a short definition of the
+//! format says, on any bytes.
+//!
+//! [`raw`] has the names of the module `raw` of the crate `bson`, and does what they do there; [`whole`] has calls over all levels
+//! of a document: the first fault, whether it is canonical, its canonical form, and its text as Extended JSON.
+//!
+//! ```
+//! use bsonraw::{raw::RawDocument, whole::Limits};
+//!
+//! let document = RawDocument::from_bytes(b"\x13\0\0\0\x10a\0\x01\0\0\0\x10a\0\x02\0\0\0\0")?;
+//! assert_eq!(document.get_i32("a")?, 1);
+//! let form = document.canonical(Limits::default())?;
+//! assert_eq!(form.get_i32("a")?, 2);
+//! assert_eq!(form.to_json(Limits::default(), Default::default())?, r#"{"a":2}"#);
+//! # Ok::<(), Box<dyn std::error::Error>>(())
+//! ```
+//!
+//! The library is linked in; `build.rs` says where it is looked for. All calls into it, and all that is `unsafe`, is in one file.
+
+#![no_std]
+#![deny(unsafe_code)]
+#![warn(missing_docs)]
+
+extern crate alloc;
+
+mod ffi;
+mod macros;
+pub mod oid;
+pub mod raw;
+pub mod spec;
+pub mod sys;
+mod values;
+pub mod whole;
+
+pub use raw::{
+    RawArray, RawArrayBuf, RawBinaryRef, RawBson, RawBsonRef, RawDbPointerRef, RawDocument, RawDocumentBuf,
+    RawJavaScriptCodeWithScope, RawJavaScriptCodeWithScopeRef, RawRegexRef,
+};
+pub use values::{Binary, DateTime, DbPointer, Decimal128, Regex, Timestamp};
+
+/// The version of the library that is linked in: 20000 for 2.0.0.
+pub fn version() -> u32 {
+    ffi::version()
+}

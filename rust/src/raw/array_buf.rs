@@ -1,0 +1,128 @@
+//! Arrays that own their bytes.
+
+use core::borrow::Borrow;
+use core::fmt;
+use core::ops::Deref;
+
+use alloc::borrow::Cow;
+
+use super::{Error, ErrorKind, Hex, RawArray, RawArrayIter, RawBson, RawBsonRef, RawDocumentBuf, Result};
+use crate::ffi;
+use crate::sys::BSONRAW_TAG_ARRAY;
+
+/// An array that owns its bytes. What a [`RawArray`] can do it can do, too.
+///
+/// ```
+/// use bsonraw::raw::RawArrayBuf;
+///
+/// let mut array = RawArrayBuf::new();
+/// array.push("a string")?;
+/// array.push(12_i32)?;
+/// assert_eq!(array.get_str(0)?, "a string");
+/// assert_eq!(array.get_i32(1)?, 12);
+/// # Ok::<(), Box<dyn std::error::Error>>(())
+/// ```
+#[derive(Clone, PartialEq)]
+pub struct RawArrayBuf {
+    inner: RawDocumentBuf,
+    len: usize,
+}
+
+impl RawArrayBuf {
+    /// An empty array.
+    pub fn new() -> RawArrayBuf {
+        RawArrayBuf { inner: RawDocumentBuf::new(), len: 0 }
+    }
+
+    /// Takes a document as an array, and counts its values; a fault is counted, too.
+    pub(crate) fn of_document(document: RawDocumentBuf) -> RawArrayBuf {
+        let len = document.iter_elements().count();
+        RawArrayBuf { inner: document, len }
+    }
+
+    /// The array of these values; the error is that of the first that can't be pushed.
+    pub fn try_from_iter<T: Into<RawBson>>(values: impl IntoIterator<Item = T>) -> Result<RawArrayBuf> {
+        let mut array = RawArrayBuf::new();
+        for value in values {
+            array.push(value)?;
+        }
+        Ok(array)
+    }
+
+    /// Appends a value. It fails, and changes nothing, where a 0 is in a regular expression, and where the array would have more than
+    /// 2147483647 bytes.
+    pub fn push(&mut self, value: impl Into<RawBson>) -> Result<()> {
+        self.push_ref(value.into().as_raw_bson_ref())
+    }
+
+    /// The same of a borrowed value.
+    pub fn push_ref<'a>(&mut self, value: impl Into<RawBsonRef<'a>>) -> Result<()> {
+        let count = u32::try_from(self.len).map_err(|_| Error::new(ErrorKind::malformed("document too long")))?;
+        self.inner.put(BSONRAW_TAG_ARRAY, count, "", value.into())?;
+        self.len += 1;
+        Ok(())
+    }
+}
+
+impl Default for RawArrayBuf {
+    fn default() -> RawArrayBuf {
+        RawArrayBuf::new()
+    }
+}
+
+impl fmt::Debug for RawArrayBuf {
+    fn fmt(&self, f: &mut fmt::Formatter<'_>) -> fmt::Result {
+        f.debug_struct("RawArrayBuf").field("data", &Hex(self.as_bytes())).field("len", &self.len).finish()
+    }
+}
+
+impl Deref for RawArrayBuf {
+    type Target = RawArray;
+
+    #[inline]
+    fn deref(&self) -> &RawArray {
+        ffi::array(&self.inner)
+    }
+}
+
+impl AsRef<RawArray> for RawArrayBuf {
+    fn as_ref(&self) -> &RawArray {
+        self
+    }
+}
+
+impl Borrow<RawArray> for RawArrayBuf {
+    fn borrow(&self) -> &RawArray {
+        self
+    }
+}
+
+impl<'a> IntoIterator for &'a RawArrayBuf {
+    type IntoIter = RawArrayIter<'a>;
+    type Item = Result<RawBsonRef<'a>>;
+
+    fn into_iter(self) -> RawArrayIter<'a> {
+        RawArrayIter::new(self)
+    }
+}
+
+impl From<RawArrayBuf> for Cow<'_, RawArray> {
+    fn from(array: RawArrayBuf) -> Self {
+        Cow::Owned(array)
+    }
+}
+
+impl<'a> From<&'a RawArrayBuf> for Cow<'a, RawArray> {
+    fn from(array: &'a RawArrayBuf) -> Self {
+        Cow::Borrowed(array)
+    }
+}
+
+/// # Panics
+///
+/// Where a value can't be pushed, as a regular expression has a 0; [`try_from_iter`](RawArrayBuf::try_from_iter) returns the error.
+impl<T: Into<RawBson>> FromIterator<T> for RawArrayBuf {
+    fn from_iter<I: IntoIterator<Item = T>>(values: I) -> RawArrayBuf {
+        RawArrayBuf::try_from_iter(values).expect("a value can't be pushed")
+    }
+}

@@ -1,0 +1,7 @@
+//! The tests of the crate; examples in its comments are others.
+
+mod header;
+mod made;
+mod maker;
+mod plain;
+mod rows;
