@@ -132,40 +132,95 @@ build() {
     done
 }
 
-# make_proved CRATE..: proves and builds these crates, in one run; the log is shown where that fails
-make_proved() {
-    need_rt "the build of $*"
-    work=$(mktemp -d) || return 1
+# make_proved CRATE..: proves and builds these crates, in one run; the log is shown where that fails. It is a shell of its own, with
+# a folder and traps of its own.
+make_proved() (
+    work=$(mktemp -d) || exit 1
+    trap 'rm -rf "$work"' EXIT
+    trap 'exit 1' HUP INT TERM
     touch "$work/begun"
-    build "$work" "$@"
-    status=$?
-    if [ "$status" = 0 ]; then
-        for crate in "$@"; do touch -r "$work/begun" "$root/crates/$crate/out/built"; done
-    else
+    if ! build "$work" "$@"; then
         cat "$work/log" >&2
         say "the build of $* failed: see above; bin/bsonraw --unproved, and bin/bsonraw-dump --unproved, run without a proof"
+        exit 1
     fi
-    rm -rf "$work"
-    return "$status"
+    for crate in "$@"; do touch -r "$work/begun" "$root/crates/$crate/out/built"; done
+)
+
+most_input=67108864 # bytes of standard input that a run without a proof may have
+most_seconds=600    # how long it may take, once it is compiled
+
+unproved_fails() {
+    say "$*"
+    exit 125
 }
 
-# run_unproved CRATE ARGUMENT..: runs the program as it is, with no proof
+# take_input FILE: puts standard input into a file, as `rt try` takes a pipe that is silent for two seconds for one that has ended
+take_input() {
+    head -c $((most_input + 1)) >"$1" || exit 125
+    [ "$(wc -c <"$1")" -le "$most_input" ] || unproved_fails "without a proof standard input has at most 64 MiB; name a FILE, or leave out --unproved"
+}
+
+# is_copied WORD: whether it names a file of which a run without a proof gets a copy under the same name, in a folder of its own
+is_copied() {
+    [ -f "$1" ] || return 1
+    case $1 in
+    /* | ../* | */../*) return 1 ;;
+    *=*) unproved_fails "without a proof a FILE's name can't have an = in it: $1" ;;
+    esac
+}
+
+# seen_as WORD: the word as the program is given it there
+seen_as() {
+    case $1 in
+    ../* | */../*) [ -f "$1" ] && realpath -- "$1" && return ;;
+    esac
+    printf '%s\n' "$1"
+}
+
+# run_unproved CRATE COMMAND ARGUMENT..: runs the program as it is, with no proof: `rt try` compiles it for this one run
 run_unproved() {
     need_rt "a run without a proof"
-    say "nothing is proved in this run"
     crate=$1
     shift
-    said=$(mktemp) || exit 125
-    trap 'rm -f "$said"' EXIT
-    (cd "$root/crates/$crate" && rt try -- "$@") 2>"$said"
-    status=$(sed -n 's/^run=ended status=\([0-9]*\) .*/\1/p' "$said")
-    if [ -n "$status" ]; then
-        sed '/^checked: ended /,$d' "$said" >&2 # what the program itself says there
-        exit "$status"
+    work=$(mktemp -d) || exit 125
+    trap 'rm -rf "$work"' EXIT
+    touch "$work/stdin"
+    takes_input=
+    files=0
+    count=$#
+    for word in "$@"; do # what is named is put behind these words, and then they themselves
+        case $word in
+        -o* | --output*) unproved_fails "without a proof nothing is written to an OUTPUT; redirect standard output" ;;
+        -) takes_input=yes ;;
+        -h | --help | -V | --version) files=2 ;; # nothing is read
+        -*) ;;
+        *) files=$((files + 1)) ;; # the command is one of them
+        esac
+        ! is_copied "$word" || set -- "$@" --data "$word=$(realpath -- "$word")"
+    done
+    [ "$count" = 0 ] || { [ -z "$takes_input" ] && [ "$files" -gt 1 ]; } || take_input "$work/stdin"
+    set -- "$@" --
+    while [ "$count" -gt 0 ]; do
+        set -- "$@" "$(seen_as "$1")"
+        shift
+        count=$((count - 1))
+    done
+    say "nothing is proved in this run; the program is compiled for it, which takes half a minute to four"
+    (cd "$root/crates/$crate" && rt try --steps 1 --seconds "$most_seconds" "$@") <"$work/stdin" >"$work/stdout" 2>"$work/stderr"
+    end_unproved
+}
+
+# end_unproved: passes on what a run without a proof wrote and its status, where it came to its end and all of it is there
+end_unproved() {
+    status=$(sed -n 's/^run=ended status=\([0-9]*\) .*/\1/p' "$work/stderr")
+    if [ -z "$status" ]; then
+        cat "$work/stderr" >&2
+        unproved_fails "this run has no result: see above. Without a proof it may take $most_seconds seconds, and write 1 MiB"
     fi
-    cat "$said" >&2
-    say "the program didn't run: see above what rt says"
-    exit 125
+    sed '/^interpreter: /,$d' "$work/stderr" >&2 # what the program itself says there
+    cat "$work/stdout"
+    exit "$status"
 }
 
 # run_program CRATE ARGUMENT..: runs a crate's program, built first where it is out of date; without a proof where the
@@ -180,6 +235,7 @@ run_program() {
     fi
     if is_stale "$crate" "$program"; then
         say "building the proved program; for a first look without a proof: $me --unproved COMMAND"
+        need_rt "the build of $crate"
         make_proved "$crate" || exit 125
     fi
     exec "$program" "$@"

@@ -4,93 +4,168 @@
 version=$(cat "$root/VERSION") || exit 1
 soname=libbsonraw.so.${version%%.*}
 archive=$root/crates/bsonraw_c/out/libbsonraw_c.a
+baseline=$root/crates/bsonraw_c/out/baseline/libbsonraw_c.a
+arm=$root/crates/bsonraw_c/out/aarch64/libbsonraw_c.a
+machine=x86_64 # the processors that are built for
 programs=bsonraw # the crates of the programs; what is installed has a - for each _
 [ ! -d "$root/crates/bsonraw_dump" ] || programs="$programs bsonraw_dump"
+record= # at the end of the names of what bin/test and bin/install note of these
+
+# for_machine NAME: what is built for from here on: x86_64, as at first, or aarch64, for which there is the C library, and no program
+for_machine() {
+    case $1 in
+    x86_64) ;;
+    aarch64)
+        machine=aarch64
+        programs=
+        record=-aarch64
+        ;;
+    *) return 1 ;;
+    esac
+}
 
 # program_of CRATE: the program that its build leaves
 program_of() {
     echo "$root/crates/$1/out/$1"
 }
 
-# The commit that the crates are of, as `--version` shows it; or "unreleased", where something of them is in no commit, and in
-# bin/test, which sets BSONRAW_COMMIT to that: it proves nothing a second time.
+# The commit that the crates are of, in ten digits, as `--version` shows it; or "unreleased", where something of them is in no commit.
 crates_commit() {
-    if [ "${BSONRAW_COMMIT-}" != unreleased ] && [ "$(git -C "$root" rev-parse --show-toplevel 2>/dev/null)" = "$(realpath "$root")" ] &&
+    if [ "$(git -C "$root" rev-parse --show-toplevel 2>/dev/null)" = "$(realpath "$root")" ] &&
         [ -z "$(git -C "$root" status --porcelain -- crates crates.txt)" ]; then
-        git -C "$root" rev-parse HEAD | cut -c 1-12
+        git -C "$root" rev-parse HEAD | cut -c 1-10
     else
         echo unreleased
     fi
 }
 
-# released CRATE: the program that is installed: the one that its build leaves; or where src/version.rt has a version, and the
-# crates are of a commit, the one that build_released makes
-released() {
-    if [ -e "$root/crates/$1/src/version.rt" ] && [ "$(crates_commit)" != unreleased ]; then
-        echo "$root/crates/$1/out/released/$1"
-    else
-        program_of "$1"
-    fi
+# put_commit PROGRAM: writes the commit into a program whose version has a place for it, which is as long: "unreleased"
+put_commit() {
+    case $(LC_ALL=C grep -ao "$version (unreleased)" "$1" | wc -l) in
+    0) ;;
+    1) LC_ALL=C sed -i "s/$version (unreleased)/$version ($(crates_commit))/" "$1" ;;
+    *) say "$1 has more than one place for its commit" && return 1 ;;
+    esac
 }
 
-# released_from CRATE: what its program is made from that is installed: the commit, and the program that its build leaves
-released_from() {
-    echo "$(crates_commit) $(sha256sum <"$(program_of "$1")")"
-}
-
-# build_released: builds each program with the commit in its version once more, unless that was done. Only what reads the version
-# is proved again, where the crate's work was kept.
-build_released() (
-    for program in $programs; do
-        made=$(released "$program")
-        from=${made%/*}/from
-        [ "$made" != "$(program_of "$program")" ] && [ "$(cat "$from" 2>/dev/null)" != "$(released_from "$program")" ] || continue
-        say "$program is built once more, with its commit"
-        room=$(mktemp -d) || exit 1
-        trap 'rm -rf "$room"' EXIT
-        mkdir -p "${made%/*}" "$room/crate" && build_with_commit "$program" "$room/crate" >"$room/said" 2>&1 &&
-            cp "$room/crate/out/program" "$made" && released_from "$program" >"$from" || { cat "$room/said" >&2; exit 1; }
-        rm -rf "$room"
-    done
-)
-
-# build_with_commit CRATE FOLDER: builds a copy of a crate in this folder with the commit in place of "unreleased"
-build_with_commit() {
-    cp -a "$root/crates/$1/src" "$root/crates/$1/specs" "$root/crates/$1/proofs" "$2" && mkdir "$2/out" &&
-        sed -i "s/(unreleased)/($(crates_commit))/" "$2/src/version.rt" || return 1
-    if [ -d "$root/crates/$1/out/incremental" ]; then cp -a "$root/crates/$1/out/incremental" "$2/out" || return 1; fi
-    kit=$(dirname "$(rt doc)")
-    build_over "$1" "$2" src/main.rt --incremental out/incremental -o out/program.o &&
-        "$kit/bin/rattle-link" --target x86_64-unknown-linux-gnu --toolchain "$kit/toolchain" -o "$2/out/program" "$2/out/program.o" \
-            "$kit/c/libos_c.a" "$kit/c/liblibc_c.a"
-}
-
-# The checksums of all that is built, which an installation is made of, but for programs that are built with their commit.
+# The checksums of all that is built, which an installation is made of.
 checksums() {
     for name in $programs; do
         (cd "$root" && sha256sum "crates/$name/out/$name") || return 1
     done
-    (cd "$root" && sha256sum "${archive#"$root/"}")
+    case $machine in
+    x86_64) (cd "$root" && sha256sum "${archive#"$root/"}" "${baseline#"$root/"}") ;;
+    aarch64) (cd "$root" && sha256sum "${arm#"$root/"}") ;;
+    esac
 }
 
-# put_programs TOOL FOLDER: the programs without the names that only a debugger reads
+# put_programs TOOL FOLDER: the programs, if there are any, without the names that only a debugger reads and with their commit, and
+# their manual pages
 put_programs() {
+    [ -n "$programs" ] || return 0
+    mkdir -p "$2/bin" "$2/share/man/man1" && install -m 644 "$root"/man/*.1 "$2/share/man/man1" || return 1
     for name in $programs; do
-        put=$2/$(echo "$name" | tr _ -)
-        "$1" --strip-all "$(released "$name")" "$put" && chmod 755 "$put" || return 1
+        put=$2/bin/$(echo "$name" | tr _ -)
+        "$1" --strip-all "$(program_of "$name")" "$put" && put_commit "$put" && chmod 755 "$put" || return 1
     done
 }
 
-# Links the archive, and the part of the kit's C code that it calls, into one object whose only names are the header's;
-# makes both libraries of it, in this folder.
+# build_again FILE WHAT FLAG..: builds the library once more, with these flags, over the proofs that its own build kept, unless that was done
+build_again() (
+    made=$1
+    what=$2
+    from=${made%/*}/from
+    shift 2
+    [ ! -e "$made" ] || [ "$(cat "$from" 2>/dev/null)" != "$(sha256sum <"$archive")" ] || exit 0
+    say "the C library is built once more, for $what"
+    room=$(mktemp -d) || exit 1
+    trap 'rm -rf "$room"' EXIT
+    trap 'exit 1' HUP INT TERM
+    kept=$root/crates/bsonraw_c/out/incremental
+    [ ! -d "$kept" ] || cp -a "$kept" "$room/kept" || exit 1
+    mkdir -p "${made%/*}" && build_over bsonraw_c "$root/crates/bsonraw_c" src/lib.rt --crate-type staticlib "$@" \
+        --incremental "$room/kept" -o "$made" >"$room/said" 2>&1 && sha256sum <"$archive" >"$from" || { cat "$room/said" >&2; exit 1; }
+)
+
+# Builds the library a second time, for each x86-64, or for ARM. The first build is for processors from x86-64-v2 on, and so is the
+# time of most of what is measured.
+build_others() {
+    case $machine in
+    x86_64) build_again "$baseline" "processors without SSE4.1" --cpu x86-64 ;;
+    aarch64) build_again "$arm" ARM --target aarch64-unknown-linux-gnu ;;
+    esac
+}
+
+# choose: C code in which each call of standard input goes to the library that the processor can run, decided as a program is loaded
+choose() {
+    cat <<'END'
+static int is_v2(void) {
+    unsigned a = 1, b, c = 0, d, leaf = 0x80000001u, more = 0;
+    __asm__("cpuid" : "+a"(a), "=b"(b), "+c"(c), "=d"(d));
+    __asm__("cpuid" : "+a"(leaf), "=b"(b), "+c"(more), "=d"(d));
+    /* SSE3, SSSE3, CMPXCHG16B, SSE4.1, SSE4.2 and POPCNT; LAHF in 64 bits */
+    return (c & 0x982201u) == 0x982201u && (more & 1) == 1;
+}
+END
+    while read -r call; do
+        echo "extern char ${call}_v1[] __attribute__((visibility(\"hidden\"))), ${call}_v2[] __attribute__((visibility(\"hidden\")));"
+        echo "static void *choose_$call(void) { return is_v2() ? ${call}_v2 : ${call}_v1; }"
+        echo "void $call(void) __attribute__((ifunc(\"choose_$call\")));"
+    done
+}
+
+# link_build ARCHIVE FOLDER NAME: links an archive and the part of the kit's C code that it calls into one object, FOLDER/NAME.o, in
+# which the header's calls have names that end in _NAME, and nothing else has a name
+link_build() {
+    "$toolchain/bin/ld.lld" -r -o "$2/$3.o" --whole-archive "$1" --no-whole-archive "$toolchain/../c/liblibc_c.a" &&
+        "$2/llvm-nm" --defined-only --extern-only --just-symbol-name "$2/$3.o" | grep '^bsonraw_' | sort >"$2/calls" &&
+        sed "s/.*/& &_$3/" "$2/calls" >"$2/renamed" &&
+        "$2/llvm-objcopy" --wildcard --keep-global-symbol='bsonraw_*' "$2/$3.o" && "$2/llvm-objcopy" --redefine-syms="$2/renamed" "$2/$3.o"
+}
+
+# compile_c FILE FOLDER: compiles a file of C for the machine, FOLDER/NAME.o
+compile_c() {
+    "$toolchain/bin/clang" "--target=$machine-unknown-linux-gnu" -nostdinc -isystem "$root/c/tests/headers" -std=gnu99 -O2 -fPIC -c \
+        -o "$2/$(basename "$1" .c).o" "$1"
+}
+
+# compile_rest FOLDER: compiles what of the library is written in C, which no proof covers: the functions for daily use, and the
+# header's inline functions as functions that are exported
+compile_rest() {
+    compile_c "$root/c/daily.c" "$1" && compile_c "$root/c/exported.c" "$1"
+}
+
+# link_x86_64 FOLDER: links both builds into one object
+link_x86_64() {
+    ln -s "$toolchain/lib/libc.so.6" "$1/libc.so.6" && link_build "$baseline" "$1" v1 && link_build "$archive" "$1" v2 &&
+        choose <"$1/calls" >"$1/choose.c" &&
+        "$toolchain/bin/clang" -O2 -fPIC -ffreestanding -c -o "$1/choose.o" "$1/choose.c" &&
+        "$toolchain/bin/ld.lld" -r -o "$1/bsonraw.o" "$1/v1.o" "$1/v2.o" "$1/choose.o" &&
+        "$1/llvm-objcopy" --keep-global-symbols="$1/calls" "$1/bsonraw.o"
+}
+
+# link_aarch64 FOLDER: links the build for ARM and its heap into one object. The kit has no C library for ARM: one of names alone stands
+# for it, those that are called. Their version is that of the first C library for ARM.
+link_aarch64() {
+    compile_c "$root/release/heap.c" "$1" &&
+        "$toolchain/bin/ld.lld" -r -o "$1/bsonraw.o" --whole-archive "$arm" --no-whole-archive "$1/heap.o" &&
+        "$1/llvm-objcopy" --wildcard --keep-global-symbol='bsonraw_*' "$1/bsonraw.o" || return 1
+    "$1/llvm-nm" --undefined-only --just-symbol-name "$1/bsonraw.o" "$1/daily.o" "$1/exported.o" | grep -x '[a-z0-9_][a-z0-9_]*' | grep -v '^bsonraw_' |
+        sort -u | sed 's/.*/void &(void) {}/' >"$1/names.c"
+    echo 'GLIBC_2.17 { global: *; };' >"$1/versions"
+    "$toolchain/bin/clang" --target=aarch64-unknown-linux-gnu -ffreestanding -fno-builtin -fPIC -c -o "$1/names.o" "$1/names.c" &&
+        "$toolchain/bin/ld.lld" -shared -soname libc.so.6 --version-script "$1/versions" -o "$1/libc.so.6" "$1/names.o"
+}
+
+# Links what was built into one object whose only names are those of the exported calls, and makes both libraries of it and of what is
+# written in C, in this folder.
 link_libraries() {
-    kit=$(dirname "$(rt doc)")/toolchain
-    ln -s "$kit/bin/clang" "$1/llvm-objcopy" || return 1
-    "$kit/bin/ld.lld" -r -o "$1/bsonraw.o" --whole-archive "$archive" --no-whole-archive "$kit/../c/liblibc_c.a" &&
-        "$1/llvm-objcopy" --wildcard --keep-global-symbol='bsonraw_*' "$1/bsonraw.o" &&
-        "$kit/bin/llvm-ar" rcsD "$1/libbsonraw.a" "$1/bsonraw.o" &&
-        "$kit/bin/ld.lld" -shared -s -soname "$soname" --gc-sections -z defs -z relro -z now -z noexecstack \
-            -o "$1/libbsonraw.so.$version" "$1/bsonraw.o" "$kit/lib/libc.so.6"
+    toolchain=$(dirname "$(rt doc)")/toolchain
+    for tool in llvm-objcopy llvm-nm; do ln -s "$toolchain/bin/clang" "$1/$tool" || return 1; done
+    compile_rest "$1" && "link_$machine" "$1" &&
+        "$toolchain/bin/llvm-ar" rcsD "$1/libbsonraw.a" "$1/bsonraw.o" "$1/daily.o" "$1/exported.o" &&
+        "$toolchain/bin/ld.lld" -shared -s -soname "$soname" --build-id=sha1 --gc-sections -z defs -z relro -z now -z noexecstack \
+            -o "$1/libbsonraw.so.$version" "$1/bsonraw.o" "$1/daily.o" "$1/exported.o" "$1/libc.so.6"
 }
 
 # pkg_config PREFIX LIB: the pkg-config file of a prefix, whose libraries are in its folder LIB
@@ -111,19 +186,35 @@ link_pages() {
 # lay_out FOLDER PREFIX LIB: what an installation has, in this new folder, as it has to be under the prefix
 lay_out() {
     link_folder=$1.link
-    mkdir -p "$link_folder" "$1/bin" "$1/include" "$1/$3/pkgconfig" "$1/share/man/man1" "$1/share/man/man3" || return 1
+    mkdir -p "$link_folder" "$1/include" "$1/$3/pkgconfig" "$1/share/man/man3" || return 1
     link_libraries "$link_folder" &&
-        put_programs "$link_folder/llvm-objcopy" "$1/bin" &&
-        install -m 644 "$root/c/bsonraw.h" "$1/include" &&
+        put_programs "$link_folder/llvm-objcopy" "$1" &&
+        install -m 644 "$root/c/bsonraw.h" "$root/c/bsonraw.hpp" "$1/include" &&
         install -m 644 "$link_folder/libbsonraw.a" "$1/$3" &&
         install -m 644 "$link_folder/libbsonraw.so.$version" "$1/$3" &&
         ln -s "libbsonraw.so.$version" "$1/$3/$soname" &&
         ln -s "$soname" "$1/$3/libbsonraw.so" &&
         pkg_config "$2" "$3" >"$1/$3/pkgconfig/bsonraw.pc" &&
-        install -m 644 "$root"/man/*.1 "$1/share/man/man1" &&
         install -m 644 "$root"/man/*.3 "$1/share/man/man3" &&
         link_pages "$1/share/man/man3"
     status=$?
     rm -rf "$link_folder"
     return "$status"
+}
+
+# for_python FOLDER COMMAND..: runs a command of Python so that what it compiles is for the machine; the folder is one that is there, for a
+# header. On ARM Python's header of settings may not be installed: that of x86-64 takes its place. In these two Debian's settings differ
+# in four names, which no module of the stable interface reads.
+for_python() {
+    headers=$1
+    shift
+    if [ "$machine" = x86_64 ]; then
+        "$@"
+        return
+    fi
+    cc=$machine-linux-gnu-gcc
+    settings=$("$1" -c 'import sysconfig; print(sysconfig.get_path("include").rpartition("/")[2] + "/pyconfig.h")') &&
+        mkdir -p "$headers/$machine-linux-gnu/${settings%/*}" &&
+        echo "#include <x86_64-linux-gnu/$settings>" >"$headers/$machine-linux-gnu/$settings" || return 1
+    CC=$cc LDSHARED="$cc -shared" CFLAGS="-idirafter $headers" _PYTHON_HOST_PLATFORM=linux-$machine "$@"
 }

@@ -15,4 +15,4 @@ if [ -e ../raw_bson/out/rlib/stamp ]; then
     exit
 fi
 
-build_over bsonraw_c . src/lib.rt --crate-type staticlib -o out/libbsonraw_c.a
+build_over bsonraw_c . src/lib.rt --crate-type staticlib --incremental out/incremental -o out/libbsonraw_c.a

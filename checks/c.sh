@@ -50,9 +50,14 @@ link() {
         "$kit/lib/libc.so.6" "$kit/lib/libc_nonshared.a" "$kit/lib/crtendS.o" "$kit/lib/crtn.o"
 }
 
-# The functions that the header declares and the library has, one a line.
+# The functions that the header declares before daily use and that are proved, one a line.
+proved() {
+    sed -n '/---- daily use/q; /BSONRAW_\(INLINE\|LOCAL\)/!s/^[A-Za-z].* \(bsonraw_[a-z_]*\)(.*/\1/p' c/bsonraw.h | sort
+}
+
+# All functions of the header, one a line: these, those for daily use, and the inline ones, which the library exports, too.
 declared() {
-    sed -n '/BSONRAW_INLINE/!s/^[A-Za-z].* \(bsonraw_[a-z_]*\)(.*/\1/p' c/bsonraw.h | sort
+    sed -n '/BSONRAW_LOCAL/!s/^[A-Za-z].*[ *]\(bsonraw_[a-z0-9_]*\)(.*/\1/p' c/bsonraw.h | sort
 }
 
 # exports FILE DYNAMIC: the names that a library defines for others; DYNAMIC is -D for the shared one
@@ -63,7 +68,7 @@ exports() {
 look_at_libraries() {
     ln -s "$kit/bin/clang" "$work/llvm-nm" && ln -s "$kit/bin/clang" "$work/llvm-readelf" || return 1
     declared >"$work/declared"
-    [ "$(wc -l <"$work/declared")" = 22 ] || fails "the header doesn't declare twenty-two functions"
+    [ "$(proved | wc -l)" = 23 ] || fails "the header doesn't declare twenty-three functions that are proved"
     exports libbsonraw.a "" | diff "$work/declared" - >&2 || fails "the static library has other names than the header"
     exports libbsonraw.so -D | diff "$work/declared" - >&2 || fails "the shared library has other names than the header"
     needed=$("$work/llvm-readelf" -d "$prefix/lib/libbsonraw.so" | sed -n 's/.*(NEEDED).*\[\(.*\)\]/\1/p')
@@ -74,10 +79,10 @@ look_at_libraries() {
 header_compiles() {
     printf '#include "%s"\n' "$1" >"$work/includes.c"
     for standard in c89 c99 c11 c17 c23; do
-        compile -std=$standard -Weverything -Wno-pre-c23-compat -Werror -fsyntax-only "$work/includes.c" || return 1
+        compile -std=$standard -Weverything -Wno-unsafe-buffer-usage -Wno-pre-c23-compat -Werror -fsyntax-only "$work/includes.c" || return 1
     done
     for standard in c++98 c++11 c++17 c++20 c++23; do
-        compile -x c++ -std=$standard -Weverything -Wno-c++98-compat-pedantic -Werror -fsyntax-only "$work/includes.c" || return 1
+        compile -x c++ -std=$standard -Weverything -Wno-unsafe-buffer-usage -Wno-c++98-compat-pedantic -Werror -fsyntax-only "$work/includes.c" || return 1
     done
     if [ -n "$has_cc" ]; then
         cc -std=c99 "-I$prefix/include" -Wall -Wextra -Wpedantic -Werror -fsyntax-only "$work/includes.c" || return 1
@@ -163,9 +168,9 @@ page() {
 
 look_at_examples() {
     examples c/bsonraw.h >"$work/examples.c"
-    [ "$(grep -c '^void example_.*{$' "$work/examples.c")" = 20 ] || fails "the header doesn't have an example of each group of calls"
+    [ "$(grep -c '^void example_.*{$' "$work/examples.c")" = 26 ] || fails "the header doesn't have an example of each group of calls"
     # shellcheck disable=SC2086
-    compile -std=c99 $warnings -Wno-unused-variable -Wno-shadow -O1 -fPIE -c -o "$work/examples.o" "$work/examples.c" &&
+    compile -std=c99 $warnings -O1 -fPIE -c -o "$work/examples.o" "$work/examples.c" &&
         run_examples || fails "an example of the header doesn't do what it says"
 
     printf '\23\0\0\0\2hi\0\6\0\0\0y\47all\0\0' >"$work/greeting"
@@ -189,7 +194,7 @@ says() {
 }
 
 run_programs() {
-    for name in json json_text merge path; do
+    for name in fields json json_text merge orders path unique validate; do
         # shellcheck disable=SC2086
         compile -std=c99 $warnings -O1 -fPIE -c -o "$work/$name.o" "examples/c/$name.c" &&
             link libbsonraw.a "$work/$name" "$work/$name.o" || return 1
@@ -197,6 +202,8 @@ run_programs() {
     says "{\"hi\": \"y'all\"}" "$work/json"
     says "{\"hi\":\"y'all\"}" "$work/json_text"
     says "y'all" "$work/path" hi
+    says sound "$work/validate"
+    says "{\"hi\":\"y'all\"}" sh -c "cat - $work/greeting | $work/unique | $work/json_text"
     says "" "$work/path" ho
     # {"hi": "y'all"} with {"hi": 1, "ho": 2} laid over it
     printf '\25\0\0\0\20hi\0\1\0\0\0\20ho\0\2\0\0\0\0' >"$work/over"
@@ -257,7 +264,7 @@ build() {
         # shellcheck disable=SC2086
         compile -std=c99 $warnings -O1 -fPIE -c -o "$work/$name.o" "c/tests/$name.c" || return 1
     done
-    for name in agree buffers build large memory numbers reasons texts threads; do
+    for name in agree buffers build daily large memory numbers reasons resync slips texts threads; do
         link libbsonraw.a "$work/$name" "$work/$name.o" "$work/documents.o" || return 1
         link libbsonraw.so "$work/$name.shared" "$work/$name.o" "$work/documents.o" || return 1
     done
@@ -267,11 +274,11 @@ build() {
 # The tests notice each mistake of c/tests/wrong.c, which calls the right functions under other names.
 notices_mistakes() {
     ln -s "$kit/bin/clang" "$work/llvm-objcopy" && cp "$prefix/lib/libbsonraw.a" "$prefix/lib/wrong.a" || return 1
-    for name in $(declared); do
+    for name in $(proved); do
         "$work/llvm-objcopy" --redefine-sym "$name=right_${name#bsonraw_}" "$prefix/lib/wrong.a" || return 1
     done
     mistake=0
-    for name in buffers threads buffers buffers memory reasons memory agree agree agree agree agree agree agree build build build agree buffers agree agree agree buffers texts texts threads agree agree build agree agree; do
+    for name in buffers threads buffers buffers memory reasons memory agree agree agree agree agree agree agree build build build agree buffers agree agree agree buffers texts texts threads agree agree build agree agree resync resync; do
         mistake=$((mistake + 1))
         # shellcheck disable=SC2086
         compile -std=c99 $warnings -DMISTAKE=$mistake -O1 -fPIE -c -o "$work/wrong.o" c/tests/wrong.c &&
@@ -282,11 +289,60 @@ notices_mistakes() {
     rm "$prefix/lib/wrong.a"
 }
 
+# And each mistake of c/tests/mistakes.txt: a file of c, the test that has to notice it, and what sed makes of the file.
+notices_edits() {
+    mkdir "$work/edited"
+    while read -r file name edit; do
+        cp c/bsonraw.h c/daily.c "$work/edited" && sed -i "$edit" "$work/edited/$file" || return 1
+        cmp -s "c/$file" "$work/edited/$file" && fails "this changes nothing in c/$file: $edit"
+        for source in "c/tests/$name.c" "$work/edited/daily.c"; do
+            "$kit/bin/clang" -nostdinc -isystem c/tests/headers "-I$work/edited" -Ic/tests -std=gnu99 -O1 -w -fPIE -c \
+                -o "$work/edited/$(echo "$source" | sed 's|.*/\([a-z]*/[a-z]*\)\.c|\1|; s|/|_|').o" "$source" || {
+                fails "this doesn't compile in c/$file: $edit"
+                continue 2
+            }
+        done
+        [ "$name" = agree ] && fewer=20000 || fewer=
+        link libbsonraw.a "$work/edited/test" "$work/edited/tests_$name.o" "$work/edited/edited_daily.o" "$work/documents.o" || return 1
+        timeout 60 "$work/edited/test" ${fewer:+"$fewer"} <"$work/documents" >/dev/null 2>&1 && fails "$name doesn't notice this in c/$file: $edit"
+    done <c/tests/mistakes.txt
+    echo "$(wc -l <c/tests/mistakes.txt) mistakes in what is written in C are noticed"
+}
+
+# Reasons and causes have the words of bsonraw-dump.
+look_at_words() {
+    {
+        printf '#include <bsonraw.h>\nint main(void) {\n'
+        printf 'for (unsigned n = 1; n <= 20; n++) puts(bsonraw_reason_text(n));\nfor (unsigned n = 1; n <= 5; n++) puts(bsonraw_cause_text(n));\n'
+        printf 'return 0;\n}\n'
+    } >"$work/words.c"
+    compile -std=c99 -O1 -fPIE -c -o "$work/words.o" "$work/words.c" && link libbsonraw.a "$work/words" "$work/words.o" || return 1
+    {
+        sed -n 's/.*Reason::.* => "\(.*\)",/\1/p' crates/bsonraw_dump/src/reason.rt
+        sed -n 's/.*Some(Cause::.* => "\(.*\)",/\1/p' crates/bsonraw_dump/src/find.rt
+    } >"$work/wanted"
+    [ "$(wc -l <"$work/wanted")" = 25 ] || return 1
+    "$work/words" | diff "$work/wanted" - >&2
+}
+
 run_tests() {
-    for name in agree buffers build large memory numbers reasons texts threads; do
+    for name in agree buffers build daily large memory numbers reasons resync slips texts threads; do
         for program in "$name" "$name.shared"; do
             "$work/$program" <"$work/documents" >"$work/said" || fails "$program ends with status $?"
             cat "$work/said"
+        done
+    done
+}
+
+# Where an emulator is there, a part of the comparison on processors that lack SSSE3 and SSE4.1, for which there is a build of its own.
+look_at_old_processors() {
+    if ! command -v qemu-x86_64 >/dev/null; then
+        skip "processors without SSE4.1, since qemu-x86_64 isn't there"
+        return
+    fi
+    for processor in qemu64 core2duo; do
+        for program in agree agree.shared; do
+            qemu-x86_64 -cpu $processor "$work/$program" 2000 <"$work/documents" >"$work/said" 2>&1 || fails "$program on $processor: $(tail -n 1 "$work/said")"
         done
     done
 }
@@ -299,16 +355,18 @@ look_at_memory() {
         return
     fi
     valgrind -q --error-exitcode=9 "$work/agree" 4000 >"$work/said" 2>&1 || fails "valgrind: $(head -5 "$work/said")"
+    valgrind -q --error-exitcode=9 "$work/resync" few >"$work/said" 2>&1 || fails "valgrind: $(head -5 "$work/said")"
     valgrind -q --tool=helgrind --error-exitcode=9 "$work/threads" once <"$work/documents" >"$work/said" 2>&1 || fails "helgrind: $(head -9 "$work/said")"
 }
 
-# The lines by which README compiles its first block of C make programs that run, with the prefix in place of ~/.local.
+# The lines by which README and the page on C compile README's first block of C make programs that run, with the prefix in place of
+# ~/.local.
 compile_as_shown() {
     command -v pkg-config >/dev/null || return 0
     blocks README.md
     cp "$work/blocks/readme_1.c" "$work/keys.c"
-    sed -n "s|~/.local|$prefix|g; /^cc keys\.c/p" README.md >"$work/lines"
-    [ "$(wc -l <"$work/lines")" = 2 ] || fails "README doesn't have two lines that compile keys.c"
+    sed -n "s|~/.local|$prefix|g; /^cc keys\.c/p" README.md docs/C.md >"$work/lines"
+    [ "$(wc -l <"$work/lines")" = 3 ] || fails "README and docs/C.md don't have three lines that compile keys.c"
     while read -r line; do
         rm -f "$work/a.out"
         (cd "$work" && PKG_CONFIG_PATH=$prefix/lib/pkgconfig sh -c "$line" </dev/null) || fails "this doesn't compile: $line"
@@ -341,6 +399,18 @@ as_values() {
 for line in sys.stdin: print(json.loads(line, object_pairs_hook=list))' <"$1" >"$work/values" && mv "$work/values" "$1"
 }
 
+# people: documents of which some have the four fields that examples/c/fields.c prints
+people() {
+    python3 -c 'import struct, sys
+def doc(*parts): return struct.pack("<i", 5 + sum(map(len, parts))) + b"".join(parts) + b"\0"
+def text(key, value): return b"\2" + key + b"\0" + struct.pack("<i", len(value) + 1) + value + b"\0"
+identifier, born = b"\7_id\0" + bytes(range(12)), b"\x10born\0" + struct.pack("<i", 1882)
+home = b"\3address\0" + doc(text(b"street", b"Hauptstr. 1"), text(b"city", b"Erlangen"))
+for parts in [(identifier, text(b"name", b"Emmy"), born, home), (born, home, text(b"name", b"Ada"), identifier), (identifier, born),
+              (identifier, text(b"name", b"Emmy"), b"\x12born\0" + bytes(8), home), (identifier, text(b"name", b"Max"), home, born)]:
+    sys.stdout.buffer.write(doc(*parts))'
+}
+
 # twin NAME WORD..: whether a program of examples/c and the one with libbson end alike and print the same of this input
 twin() {
     name=$1
@@ -355,10 +425,10 @@ twin() {
     [ "$ended" = "$theirs" ] && cmp -s "$work/ours" "$work/theirs" || fails "$name and the one with libbson differ on $(od -An -tx1 "$work/input" | tr -d ' \n')"
 }
 
-# Each program of examples/c does what one with libbson does, in at most one and a half times its lines.
+# Each program of examples/c does what one with libbson does, in at most its lines.
 run_twins() {
-    for name in json json_text merge path; do
-        [ "$((2 * $(lines_of "examples/c/$name.c")))" -le "$((3 * $(lines_of "c/tests/twins/$name.c")))" ] || fails "examples/c/$name.c has too many lines"
+    for name in fields json json_text merge orders path unique validate; do
+        [ "$(lines_of "examples/c/$name.c")" -le "$(lines_of "c/tests/twins/$name.c")" ] || fails "examples/c/$name.c has too many lines"
         # shellcheck disable=SC2046 # a list of flags
         cc -std=c99 -O1 -o "$work/twin_$name" "c/tests/twins/$name.c" $(pkg-config --cflags --libs libbson-1.0) || return 1
     done
@@ -368,7 +438,14 @@ run_twins() {
         # an element of tag 0 ends a document for libbson
         [ "$document" = examples/tag-zero.hex ] || twin json_text
     done
+    twin orders 120
+    "$work/orders" 120 >"$work/built"
+    people >"$work/input"
+    twin fields
+    cat "$work/greeting" "$work/over" "$work/greeting" "$work/built" "$work/over" >"$work/input"
+    twin unique
     cp "$work/greeting" "$work/input"
+    twin validate
     twin path hi
     twin path ho
     cat "$work/greeting" "$work/over" >"$work/input"
@@ -388,6 +465,9 @@ use_machine() {
     else
         skip pkg-config
     fi
+    try_examples
+    try_others
+    run_sanitized
     # shellcheck disable=SC2086
     cc -std=c99 -o "$work/machine" c/tests/reasons.c c/tests/documents.c $flags || fails "the tests don't compile with the machine's headers"
     "$work/machine" <"$work/documents" || fails "the tests don't pass as the machine's compiler builds them"
@@ -396,15 +476,76 @@ use_machine() {
     # shellcheck disable=SC2086
     c++ -x c++ -o "$work/machine" c/tests/greeting.c -x none $flags || fails "the greeting doesn't compile as C++"
     [ "$("$work/machine" <"$work/greeting")" = "02 hi" ] || fails "the greeting's elements aren't printed from C++"
+    for standard in c++17 c++20; do
+        # shellcheck disable=SC2086
+        c++ -std=$standard -Wall -Wextra -Wconversion -Wold-style-cast -Werror -O1 -o "$work/machine" c/tests/hpp.cpp $flags &&
+            "$work/machine" || fails "bsonraw.hpp: its test doesn't pass as $standard"
+    done
+}
+
+# The examples of the header by each compiler and standard, with all warnings that users turn on. C++ has no malloc without a cast.
+try_examples() {
+    awk '/^void example_.*;$/ { print; next } /^void example_/ { text = $0 "\n"; inside = 1; next }
+        inside { text = text $0 "\n"; if ($0 != "}") next; inside = 0
+            if (text ~ /malloc/) sub(/\{.*/, "{ (void)bytes, (void)len; }\n", text)
+            printf "%s", text; next }
+        { print }' "$work/examples.c" >"$work/examples.cpp"
+    for compiler in gcc clang; do
+        command -v $compiler >/dev/null || { skip "$compiler"; continue; }
+        for standard in c89 c99 c11 c17 c2x; do
+            $compiler -std=$standard "-I$prefix/include" -Wall -Wextra -Wconversion -Werror -O2 -c -o "$work/example.o" "$work/examples.c" ||
+                fails "the examples of the header don't compile by $compiler as $standard"
+        done
+    done
+    for compiler in g++ clang++; do
+        command -v $compiler >/dev/null || { skip "$compiler"; continue; }
+        for standard in c++11 c++14 c++17 c++20; do
+            $compiler -x c++ -std=$standard "-I$prefix/include" -Wall -Wextra -Wconversion -Wold-style-cast -Werror -O2 -c \
+                -o "$work/example.o" "$work/examples.cpp" || fails "the examples of the header don't compile by $compiler as $standard"
+        done
+        printf '#include <bsonraw.h>\nint32_t get(const char *k, struct bsonraw_iter *it);\n%s\n' \
+            'int32_t get(const char *k, struct bsonraw_iter *it) { return bsonraw_iter_find(it, nullptr, 0, BSONRAW_KEY(k)); }' >"$work/key.cpp"
+        $compiler -std=c++17 "-I$prefix/include" -fsyntax-only "$work/key.cpp" 2>/dev/null && fails "BSONRAW_KEY takes a pointer by $compiler"
+        sed 's/BSONRAW_KEY/BSONRAW_STR/' "$work/key.cpp" >"$work/str.cpp"
+        $compiler -std=c++17 "-I$prefix/include" -Wall -Wextra -Wold-style-cast -Werror -fsyntax-only "$work/str.cpp" || fails "BSONRAW_STR takes no pointer by $compiler"
+    done
+}
+
+# Other languages, where their tools are there: the example in Go, and the declarations that bindgen makes by the line of the page.
+try_others() {
+    if command -v go >/dev/null && command -v pkg-config >/dev/null; then
+        cp examples/go/keys.go "$work" && (cd "$work" && PKG_CONFIG_PATH=$prefix/lib/pkgconfig GO111MODULE=off GOCACHE=$work/go go build -o keys_go keys.go) &&
+            says "02 hi" "$work/keys_go"
+    else
+        skip Go
+    fi
+    if command -v bindgen >/dev/null; then
+        line=$(sed -n "s|^    bindgen bsonraw.h|bindgen $prefix/include/bsonraw.h|p" examples/c/README.md)
+        sh -c "$line" 2>/dev/null | grep -o 'pub fn bsonraw_[a-z0-9_]*' | sed 's/pub fn //' | sort | diff "$work/declared" - >&2 || fails "bindgen doesn't declare what the library has"
+    else
+        skip bindgen
+    fi
+}
+
+# Some tests under AddressSanitizer and UndefinedBehaviorSanitizer.
+run_sanitized() {
+    if ! cc -fsanitize=address,undefined -o "$work/probe" "$work/probe.c" 2>/dev/null; then
+        skip "AddressSanitizer"
+        return
+    fi
+    for name in daily slips build; do
+        cc -std=gnu99 -g -O1 -fsanitize=address,undefined -fno-sanitize-recover=all -Ic -o "$work/sanitized" "c/tests/$name.c" c/tests/documents.c \
+            c/daily.c "$prefix/lib/libbsonraw.a" && "$work/sanitized" <"$work/documents" >"$work/said" 2>&1 || fails "$name with sanitizers: $(head -5 "$work/said")"
+    done
 }
 
 look_at_manual() {
-    for name in $(declared); do
-        grep -q "$name(" man/*.3 || fails "no manual page has $name"
-    done
-    # those of the header alone, too
-    for name in $(declared) $(sed -n 's/^BSONRAW.* int32_t \(bsonraw_[a-z0-9_]*\)(.*/\1/p' c/bsonraw.h); do
+    for name in $(declared | grep -v '^bsonraw_checked_'); do
+        grep -Eq "^\.BI? .*[ *]$name\(" man/*.3 || fails "no manual page has the prototype of $name"
         [ -e "$prefix/share/man/man3/$name.3" ] || fails "no manual page is found by the name $name"
+    done
+    for name in $(sed -n '/^enum/,/^}/s/^    \(BSONRAW_[A-Z0-9_]*\) =.*/\1/p' c/bsonraw.h) BSONRAW_NO_KEY BSONRAW_TEXT BSONRAW_KEY BSONRAW_STR BSONRAW_FIELD; do
+        grep -q "$name" man/*.3 || fails "no manual page has $name"
     done
     if ! command -v groff >/dev/null; then
         skip "groff for the manual pages"
@@ -427,10 +568,13 @@ look_at_libraries
 look_at_header
 look_at_examples
 run_programs || fails "the programs of examples/c don't compile"
-if build documents agree buffers build large memory numbers reasons texts threads print; then
+if build documents agree buffers build daily large memory numbers reasons resync slips texts threads print; then
     look_at_output
     notices_mistakes || fails "the tests don't compile with a mistake"
+    notices_edits || fails "the tests don't compile with an edit"
+    look_at_words || fails "a reason or a cause has other words than in bsonraw-dump"
     run_tests
+    look_at_old_processors
     look_at_memory
     use_machine
 else

@@ -1,7 +1,8 @@
 """Writes docs/CONTRACTS.md: a row for each public item of the crates that a user names, with the line where it is.
 
     contracts.py FOLDER           prints the page for the crates below FOLDER/crates
-    contracts.py --words FOLDER   prints each file of specs/ whose words clauses of these items cite
+    contracts.py --words FOLDER   prints each file of specs/ whose words clauses of these items, of the programs and of the
+                                  exported functions for C cite, or the definitions of such words
 
 It relies on the layout that `rt fmt` gives. An item that a crate passes on and that is nowhere is an error.
 """
@@ -13,6 +14,8 @@ from typing import Dict, Iterator, List, NamedTuple, Optional, Set
 
 USED = ["raw_bson", "raw_form", "raw_shelf", "bson_json", "bson_from_json"]
 CRATES = ["bson_model", "raw_view", "raw_tree", *USED]
+# the calls of the programs that PROMISES.md names
+PROGRAMS = {"bsonraw/src/answer.rt": ["answer"], "bsonraw/src/run.rt": ["run"], "bsonraw_dump/src/run.rt": ["run", "put_summary"]}
 KINDS = "fn|struct|enum|type|const|trait"
 
 
@@ -100,24 +103,87 @@ def passed_on(text: str) -> List[str]:
     return [name for uses in lists for name in re.findall(r"\w+", re.sub(r".*\{|.*::", "", " ".join(uses.split())))]
 
 
-def file_of(crates: Path, crate: str, path: str) -> str:
-    """The file of specs/ that a dotted path leads into, in a folder or not, or that a folder's file of the first name is."""
-    parts = path.split(".")
-    files = [f"{crate}/specs/{'/'.join(parts[:count])}.antt" for count in range(len(parts), 0, -1)]
-    files += [str(file.relative_to(crates)) for file in (crates / crate / "specs").glob(f"*/{parts[0]}.antt")]
-    return next((file for file in files if (crates / file).exists()), files[-1])
+class Words:
+    """The words of specs/: where each is defined, and which others its definition cites."""
+
+    def __init__(self, crates: Path) -> None:
+        self.crates = crates
+        self.definitions: Dict[str, Dict[str, str]] = {}
+        self.names: Dict[str, Dict[str, "tuple[str, str]"]] = {}
+
+    def module(self, crate: str, path: str) -> str:
+        """The file of a dotted path of a crate's specs/, which may pass on a file of a crate below, or of a folder."""
+        name = path.split(".")[-1]
+        file = f"{crate}/specs/{path.replace('.', '/')}.antt"
+        if (self.crates / file).exists() or not (self.crates / crate / "specs/Lib.antt").exists():
+            return file
+        lib = (self.crates / crate / "specs/Lib.antt").read_text(encoding="utf-8")
+        for below, target in re.findall(rf"^pub use Rattle\.(\w+)\.specs\.((?:\w+\.)*{name})$", lib, re.M):
+            if (below, target) != (crate, path):
+                return self.module(below, target)
+        return file
+
+    def uses(self, text: str) -> Dict[str, "tuple[str, str]"]:
+        """The file and the word that each name stands for which a source or a file of specs/ takes from specs/; no word where
+        the name is a whole file's."""
+        names = {}
+        for crate, path, words, alias in re.findall(
+            r"^(?: *ghost |pub )?use Rattle\.(\w+)\.specs\.(\w+(?:\.\w+)*)(?:\.\{([^}]*)\}| as (\w+))?;?$", text, re.M
+        ):
+            file = self.module(crate, path)
+            for word in words.split(", ") if words else []:
+                names[word.split(" as ")[-1]] = (file, word.split(" as ")[0])
+            if not words:
+                names[alias or path.split(".")[-1]] = (file, "")
+        return names
+
+    def read(self, file: str) -> Dict[str, str]:
+        """The words of a file, each with its lines."""
+        if file not in self.definitions:
+            words: Dict[str, str] = {}
+            word = edge = ""
+            for line in (self.crates / file).read_text(encoding="utf-8").splitlines():
+                if re.match(r"\S", line) and not line.startswith("--"):
+                    edge = "  " if line.startswith("module ") else ""
+                begun = re.match(rf"{edge}(?:abbrev |unfoldable |pub |data |record )*([^\s({{:-][^\s({{:]*)", line)
+                if begun and begun[1] not in ("use", "mod", "module", "infixr", "infixl", "unfolding"):
+                    word = begun[1]
+                words[word] = words.get(word, "") + line + "\n"
+            self.definitions[file] = words
+        return self.definitions[file]
+
+    def all_uses(self, file: str) -> Dict[str, "tuple[str, str]"]:
+        """What each name of a file of specs/ stands for, its own words included."""
+        if file not in self.names:
+            own = {word: (file, word) for word in self.read(file) if word}
+            self.names[file] = {**self.uses((self.crates / file).read_text(encoding="utf-8")), **own}
+        return self.names[file]
+
+    def reach(self, text: str, uses: Dict[str, "tuple[str, str]"], found: "Set[tuple[str, str]]") -> None:
+        """Adds the words that a text cites, by what its file uses, and those that their definitions cite."""
+        text = re.sub(r"--.*", "", text)
+        for qualifier, name in re.findall(r"(?<![\w.])(?:(\w+)\.)?([^\s(){}.,;λ×→⊎≡]+)", text):
+            if qualifier in uses and not uses[qualifier][1]:
+                target = (uses[qualifier][0], name)
+            elif name in uses and uses[name][1]:
+                target = uses[name]
+            else:
+                continue
+            if target in found or not (self.crates / target[0]).exists():
+                continue
+            found.add(target)
+            self.reach(self.read(target[0]).get(target[1], ""), self.all_uses(target[0]), found)
 
 
-def cited(crates: Path, name: str, items: List[Item]) -> Set[str]:
-    """The files of specs/ whose words the clauses of these items of a file cite."""
-    uses = {}
-    for crate, path, names, alias in re.findall(
-        r"^ *ghost use Rattle\.(\w+)\.specs\.(\w+(?:\.\w+)*)(?:\.\{([^}]*)\}| as (\w+));", (crates / name).read_text(encoding="utf-8"), re.M
-    ):
-        for word in (names or alias).split(", "):
-            uses[word] = file_of(crates, crate, path)
-    words = {word for item in items for word in re.findall(r"[A-Za-z_]\w*", item.clauses)}
-    return {uses[word] for word in words & uses.keys() if (crates / uses[word]).exists()}
+def of_programs(crates: Path) -> Iterator["tuple[str, str]"]:
+    """Each file of the programs and of the library for C with clauses of a call that PROMISES.md names, and these."""
+    for path in sorted(crates.glob("bsonraw*/src/**/*.rt")):
+        name = str(path.relative_to(crates))
+        lines = path.read_text(encoding="utf-8").splitlines()
+        for number, line in enumerate(lines, 1):
+            found = re.match(r'pub (extern "C" )?fn (\w+)', line)
+            if found and (found[1] or found[2] in PROGRAMS.get(name, [])):
+                yield name, clauses_of(lines, number)
 
 
 class Crates:
@@ -208,11 +274,12 @@ def page(crates: Crates) -> Iterator[str]:
 def main(arguments: List[str]) -> int:
     crates = Crates(Path(arguments[-1]))
     if arguments[0] == "--words":
-        files = {
-            file
-            for name, items in crates.items.items()
-            for file in cited(crates.crates, name, [item for item in items if crates.is_shown(item)])
-        }
+        words = Words(crates.crates)
+        found: "Set[tuple[str, str]]" = set()
+        shown = [(name, item.clauses) for name, items in crates.items.items() for item in items if crates.is_shown(item)]
+        for name, clauses in [*shown, *of_programs(crates.crates)]:
+            words.reach(clauses, words.uses((crates.crates / name).read_text(encoding="utf-8")), found)
+        files = {file for file, _ in found}
         print("\n".join(sorted(files)))
     else:
         print("\n".join(page(crates)))

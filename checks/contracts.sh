@@ -1,6 +1,7 @@
 #!/bin/sh
 # docs/CONTRACTS.md has a row for each public item, with the line where it is, and DEFINITIONS.md names each file of
-# specs/ whose words their clauses cite. contracts.py takes both from the sources.
+# specs/ whose words their clauses cite, or those of the programs and of the library for C, or a definition that one of
+# these stands on. contracts.py takes both from the sources.
 #
 #   checks/contracts.sh           compares the pages with the sources
 #   checks/contracts.sh --write   writes CONTRACTS.md anew
@@ -58,13 +59,17 @@ if ! cmp -s "$work/page" "$page"; then
     echo "contracts: $page is out of date; checks/contracts.sh --write writes it" >&2
     failed=1
 fi
-grep -v 'specs/Errors/Answers\.antt' docs/DEFINITIONS.md >"$work/definitions"
-if [ -z "$(undefined "$work/definitions")" ]; then
-    echo "contracts: a file of specs/ that DEFINITIONS.md doesn't name isn't seen" >&2
-    failed=1
-fi
+# A file that is named no longer is seen: one that a clause cites, one of the library for C, and one that only a definition
+# cites.
+for file in raw_view/specs/Errors/Answers bsonraw_c/specs/Json bsonraw_dump/specs/Unique; do
+    sed "s|(../crates/$file.antt)||" docs/DEFINITIONS.md >"$work/definitions"
+    if [ "$(undefined "$work/definitions")" != "$file.antt" ]; then
+        echo "contracts: it isn't seen that DEFINITIONS.md doesn't name $file.antt" >&2
+        failed=1
+    fi
+done
 for file in $(undefined docs/DEFINITIONS.md); do
-    echo "contracts: a public clause cites words of crates/$file, and DEFINITIONS.md doesn't name it" >&2
+    echo "contracts: a public clause stands on words of crates/$file, and DEFINITIONS.md doesn't name it" >&2
     failed=1
 done
 echo "$(grep -c '^| \[' "$work/page") rows are in $page"

@@ -1,6 +1,6 @@
 #!/bin/sh
-# dumps.sh [PROGRAM]: tries bsonraw-dump on real files, pipes, devices and closed streams. PROGRAM is the proved one of
-# crates/bsonraw_dump unless it is given. What it has to print is written by hand from docs/DUMPS.md. The bytes of each
+# dumps.sh [USING]: tries bsonraw-dump on real files, pipes, devices and closed streams. PROGRAM is the proved one of
+# crates/bsonraw_dump unless it is given. What it has to print is written by hand from docs/USING.md. The bytes of each
 # document are in the table below.
 set -u
 
@@ -67,6 +67,9 @@ made["costly"] = made["under"] + bytes(costly)
 made["million"] = made["one"] * 1000000
 made["many"] = b'{"a":1}\n' * 1000000
 made["distinct"] = b"".join(b"\x0c\0\0\0\x10a\0" + i.to_bytes(4, "little") + b"\0" for i in range(200000))
+made["wrong"] = made["one"] + b"\x20" + made["one"][1:] + made["one"] * 3
+made["spans"] = made["one"] + b"\x18" + made["one"][1:] + made["one"] * 3
+made["holds"] = b"\x29\0\0\0\x05b\0\x18\0\0\0\0" + made["one"] * 2 + b"\x08t\0\2\0" + made["one"]
 dumps = {
     "sound.bson": "one empty one",
     "mixed.bson": "one repeated boolean nested unended one",
@@ -115,14 +118,64 @@ wants() {
     printf '%s' "${2:-}" >wanted.err
 }
 
+# counted DOCUMENTS BYTES NOT_CANONICAL DAMAGED TOO_DEEP PASSED_OVER NOT_READ FILES: the last line of check
+counted() {
+    printf 'documents: %s, bytes: %s, not canonical: %s, damaged: %s, too deep: %s, bytes passed over: %s, bytes not read: %s, files not read to the end: %s\n' "$@"
+}
+
+# of NAME NUMBERS..: the line of one FILE of several; one: that of the only FILE, and the last line
+of() {
+    printf '"%s": ' "$1"
+    shift
+    counted "$@"
+}
+one() {
+    of "$@"
+    shift
+    counted "$@"
+}
+
+# wrote DOCUMENTS BYTES KEPT LEFT_OUT DAMAGED TOO_DEEP PASSED_OVER NOT_READ FILES: the last line of sound, unique and json; formed
+# DOCUMENTS BYTES KEPT LEFT_OUT NOT_CANONICAL DAMAGED ..: that of canon
+wrote() {
+    printf 'documents: %s, bytes: %s, kept: %s, left out: %s, damaged: %s, too deep: %s, bytes passed over: %s, bytes not read: %s, files not read to the end: %s\n' "$@"
+}
+formed() {
+    printf 'documents: %s, bytes: %s, kept: %s, left out: %s, not canonical: %s, damaged: %s, too deep: %s, bytes passed over: %s, bytes not read: %s, files not read to the end: %s\n' "$@"
+}
+
+# the same as objects of JSON
+counted_json() {
+    printf '"documents":%s,"bytes":%s,"not canonical":%s,"damaged":%s,"too deep":%s,"bytes passed over":%s,"bytes not read":%s,"files not read to the end":%s}\n' "$@"
+}
+of_json() {
+    printf '{"file":"%s",' "$1"
+    shift
+    counted_json "$@"
+}
+all_json() {
+    printf '{'
+    counted_json "$@"
+}
+one_json() {
+    of_json "$@"
+    shift
+    all_json "$@"
+}
+wrote_json() {
+    printf '{"documents":%s,"bytes":%s,"kept":%s,"left out":%s,"damaged":%s,"too deep":%s,"bytes passed over":%s,"bytes not read":%s,"files not read to the end":%s}\n' "$@"
+}
+
 # -- check
 
-wants 'documents: 0, bytes: 0, not canonical: 0, damaged: 0
-'
+wants "$(one - 0 0 0 0 0 0 0 0)
+"
 run 'nothing on standard input' 0 check </dev/null
-wants 'documents: 3, bytes: 29, not canonical: 0, damaged: 0
-'
+wants "$(one sound.bson 3 29 0 0 0 0 0 0)
+"
 run 'a sound dump' 0 check sound.bson
+wants "$(one - 3 29 0 0 0 0 0 0)
+"
 run 'a sound dump on standard input' 0 check - <sound.bson
 cat sound.bson | run 'a sound dump through a pipe' 0 check || failed=1
 gzip -c sound.bson | gzip -dc | run 'a gzip pipe' 0 check || failed=1
@@ -130,7 +183,7 @@ wants '"breaches.bson":0: repeated-key at /1:"a", byte 11
 "breaches.bson":19: repeated-key at /0:"d"/1:"c", byte 18
 "breaches.bson":46: array-key at /0:"a"/0:"x", byte 11
 "breaches.bson":65: options at /0:"r", byte 4
-documents: 4, bytes: 78, not canonical: 4, damaged: 0
+'"$(one breaches.bson 4 78 4 0 0 0 0 0)"'
 '
 run 'breaches' 1 check breaches.bson
 wants '"damage.bson":0: damaged at /0:"a", byte 4: a boolean is neither 0 nor 1
@@ -140,64 +193,73 @@ wants '"damage.bson":0: damaged at /0:"a", byte 4: a boolean is neither 0 nor 1
 "damage.bson":49: damaged at /0, byte 4: no kind has this tag
 "damage.bson":57: damaged: no final 0
 '"$(python3 -c 'print("\"damage.bson\":%d: too deep at %s, byte %d" % (62 + 8 * 499 + 5, "/0:\"d\"" * 500, 4 + 499 * 7))')"'
-'"$(python3 -c 'print("documents: 8, bytes: %d, not canonical: 0, damaged: 7" % (62 + 8 * 499 + 5 + 8 * 500 + 5))')"'
+'"$(one damage.bson 8 $((62 + 8 * 499 + 5 + 8 * 500 + 5)) 0 6 1 0 0 0)"'
 '
 run 'damage' 1 check damage.bson
 wants '"mixed.bson":12: repeated-key at /1:"a", byte 11
 "mixed.bson":31: damaged at /0:"a", byte 4: a boolean is neither 0 nor 1
 "mixed.bson":40: repeated-key at /0:"d"/1:"c", byte 18
 "mixed.bson":67: damaged: no final 0
-documents: 6, bytes: 84, not canonical: 2, damaged: 2
+'"$(one mixed.bson 6 84 2 2 0 0 0 0)"'
 '
 run 'damage in the middle' 1 check mixed.bson
-wants '"cut.bson":12: cut off: only 6 bytes of a document
-"cut3":0: cut off: only 3 bytes of a document
+wants '"cut.bson":12: cut off: only 6 bytes of a document: 6 bytes not read, --resync goes on
+'"$(of cut.bson 1 12 0 0 0 0 6 1)"'
+"cut3":0: cut off: only 3 bytes of a document: 3 bytes not read, --resync goes on
+'"$(of cut3 0 0 0 0 0 0 3 1)"'
 "under.bson":0: repeated-key at /1:"a", byte 11
-"under.bson":19: unsound length
-"negative":0: unsound length
-"over":0: unsound length
-documents: 2, bytes: 31, not canonical: 1, damaged: 0
+"under.bson":19: unsound length 4: 17 bytes not read, --resync goes on
+'"$(of under.bson 1 19 1 0 0 0 17 1)"'
+"negative":0: unsound length -1: 5 bytes not read, --resync goes on
+'"$(of negative 0 0 0 0 0 0 5 1)"'
+"over":0: unsound length 16793601: 5 bytes not read, --resync goes on
+'"$(of over 0 0 0 0 0 0 5 1)"'
+'"$(counted 2 31 1 0 0 0 36 5)"'
 '
 run 'lengths that are unsound' 3 check cut.bson cut3 under.bson negative over
-wants 'documents: 1, bytes: 16793600, not canonical: 0, damaged: 0
-'
+wants "$(one most 1 16793600 0 0 0 0 0 0)
+"
 run 'the longest document' 0 check most
-wants 'documents: 1000000, bytes: 12000000, not canonical: 0, damaged: 0
-'
+wants "$(one million 1000000 12000000 0 0 0 0 0 0)
+"
 run 'a million documents' 0 check million
 
 mkdir folder
 
 # -- --resync
 
-wants '"lost":12: unsound length: 5 bytes passed over
-"last":12: unsound length: 5 bytes passed over
-"none":12: unsound length: 5 bytes passed over
+wants '"lost":12: unsound length 4: 5 bytes passed over
+'"$(of lost 3 36 0 0 0 5 0 0)"'
+"last":12: unsound length 4: 5 bytes passed over
+'"$(of last 2 24 0 0 0 5 0 0)"'
+"none":12: unsound length -1: 5 bytes passed over
+'"$(of none 1 12 0 0 0 5 0 0)"'
 "claims":12: cut off: only 28 bytes of a document: 4 bytes passed over
-documents: 9, bytes: 108, not canonical: 0, damaged: 0
+'"$(of claims 3 36 0 0 0 4 0 0)"'
+'"$(counted 9 108 0 0 0 19 0 0)"'
 '
 run 'documents that go on' 3 check --resync lost last none claims
-wants '"alone":12: unsound length: 23 bytes passed over
-documents: 3, bytes: 36, not canonical: 0, damaged: 0
+wants '"alone":12: unsound length 4: 23 bytes passed over
+'"$(one alone 3 36 0 0 0 23 0 0)"'
 '
 run 'one document is no place' 3 check --resync alone
-wants '{"file":"gaps","offset":0,"finding":"unsound length","passed over":5}
+wants '{"file":"gaps","offset":0,"finding":"unsound length","length":4,"passed over":5}
 {"file":"gaps","offset":5,"finding":"repeated-key","path":[1],"keys":["a"],"byte":11}
-{"file":"gaps","offset":36,"finding":"unsound length","passed over":5}
+{"file":"gaps","offset":36,"finding":"unsound length","length":-1,"passed over":5}
 {"file":"gaps","offset":41,"finding":"repeated-key","path":[0,1],"keys":["d","c"],"byte":18}
 {"file":"gaps","offset":73,"finding":"cut off","bytes":6,"passed over":6}
-{"documents":4,"bytes":63,"not canonical":2,"damaged":0}
+'"$(one_json gaps 4 63 2 0 0 16 0 0)"'
 '
 run 'gaps as JSON' 3 check --resync --json gaps
 sed -i 's/"gaps"/"-"/' wanted.out
 cat gaps | run 'gaps through a pipe' 3 check --resync --json || failed=1
-wants '"gaps":0: unsound length: 5 bytes passed over
+wants '"gaps":0: unsound length 4: 5 bytes passed over
 "gaps":5: 19 bytes: repeated-key at /1:"a", byte 11
   "a": Int32: 1
   "a": Int32: 2
 "gaps":24: 12 bytes
   "a": Int32: 1
-"gaps":36: unsound length: 5 bytes passed over
+"gaps":36: unsound length -1: 5 bytes passed over
 "gaps":41: 27 bytes: repeated-key at /0:"d"/1:"c", byte 18
   "d": EmbeddedDocument, 19 bytes
     "c": Int32: 1
@@ -206,40 +268,66 @@ wants '"gaps":0: unsound length: 5 bytes passed over
 "gaps":73: cut off: only 6 bytes of a document: 6 bytes passed over
 '
 run 'gaps, listed' 3 list --resync gaps
-wants '' '"gaps":0: unsound length: 5 bytes passed over
-"gaps":36: unsound length: 5 bytes passed over
+wants '' '"gaps":0: unsound length 4: 5 bytes passed over
+"gaps":36: unsound length -1: 5 bytes passed over
 "gaps":73: cut off: only 6 bytes of a document: 6 bytes passed over
 '
+cp wanted.err gaps.err
+wrote 4 63 4 0 0 0 16 0 0 >>wanted.err
 cat repeated one nested empty >wanted.out
 run 'sound documents between gaps' 3 sound --resync gaps
 cat repeated.form one nested.form empty >wanted.out
+{ cat gaps.err && formed 4 63 4 0 2 0 0 16 0 0; } >wanted.err
 run 'canonical forms between gaps' 3 canon --resync gaps
+{ cat gaps.err && wrote 4 63 4 0 0 0 16 0 0; } >wanted.err
 run 'each form between gaps once' 3 unique --resync gaps
 printf '%s\n' '{"a":1,"a":2}' '{"a":1}' '{"d":{"c":1,"c":2}}' '{}' >wanted.out
 run 'Extended JSON of what is between gaps' 3 json --resync gaps
-wants '' '{"file":"gaps","offset":0,"finding":"unsound length","passed over":5}
-{"file":"gaps","offset":36,"finding":"unsound length","passed over":5}
+wants '' '{"file":"gaps","offset":0,"finding":"unsound length","length":4,"passed over":5}
+{"file":"gaps","offset":36,"finding":"unsound length","length":-1,"passed over":5}
 {"file":"gaps","offset":73,"finding":"cut off","bytes":6,"passed over":6}
+'"$(wrote_json 4 63 4 0 0 0 16 0 0)"'
 '
 rm -f output
 run 'an output beside gaps' 3 sound --resync --json -o output gaps
 cat repeated one nested empty | cmp -s - output || { echo "dumps.sh: -o and gaps" >&2 && failed=1; }
-wants '' '"gaps":0: unsound length
+wants '' '"gaps":0: unsound length 4: 79 bytes not read, --resync goes on
+'"$(wrote 0 0 0 0 0 0 0 79 1)"'
+"output": not written: "gaps" wasn'"'"'t read to its end; --resync goes on
 '
 run 'an output, and gaps that end the file' 3 sound -o output gaps
 cat repeated one nested empty | cmp -s - output || { echo "dumps.sh: -o that stays" >&2 && failed=1; }
-wants '"-":0: unsound length: 8 bytes passed over
-documents: 999999, bytes: 11999988, not canonical: 0, damaged: 0
+wants '"-":0: unsound length -1: 8 bytes passed over
+'"$(one - 999999 11999988 0 0 0 8 0 0)"'
 '
 { printf '\377\377\377\377'; tail -c +9 million; } | run 'a million documents behind damage' 3 check --resync || failed=1
 
+wants '"wrong":12: wrong length 32: 12 bytes passed over
+'"$(of wrong 4 48 0 0 0 12 0 0)"'
+"spans":12: wrong length 24: 12 bytes passed over
+'"$(of spans 4 48 0 0 0 12 0 0)"'
+"holds":0: damaged at /1:"t", byte 36: a boolean is neither 0 nor 1
+'"$(of holds 2 53 0 1 0 0 0 0)"'
+'"$(counted 10 149 0 1 0 24 0 0)"'
+'
+run 'wrong lengths, and a damaged document that holds a dump' 3 check --resync wrong spans holds
+wants '{"file":"wrong","offset":12,"finding":"wrong length","length":32,"passed over":12}
+'"$(one_json wrong 4 48 0 0 0 12 0 0)"'
+'
+run 'a wrong length as JSON' 3 check --resync --json wrong
+wants '"wrong":12: damaged: no final 0
+"wrong":44: unsound length 0: 16 bytes not read, --resync goes on
+'"$(one wrong 2 44 0 1 0 0 16 1)"'
+'
+run 'a wrong length that is believed' 3 check wrong
+
 # each 11 bytes of it begin a document that goes on to the end and is damaged there
-wants '"costly":0: unsound length: 1000005 bytes passed over, not each place checked
-documents: 0, bytes: 0, not canonical: 0, damaged: 0
+wants '"costly":0: unsound length 4: 1000005 bytes passed over, not each place checked
+'"$(one costly 0 0 0 0 0 1000005 0 0)"'
 '
 run 'a search that would cost too much' 3 check --resync costly
-wants '{"file":"costly","offset":0,"finding":"unsound length","passed over":1000005,"checked":"not each place"}
-{"documents":0,"bytes":0,"not canonical":0,"damaged":0}
+wants '{"file":"costly","offset":0,"finding":"unsound length","length":4,"passed over":1000005,"checked":"not each place"}
+'"$(one_json costly 0 0 0 0 0 1000005 0 0)"'
 '
 run 'a search that would cost too much, as JSON' 3 check --resync --json costly
 
@@ -294,13 +382,13 @@ wants '"long":0: 150 bytes
   "t": String, 65 bytes
 '
 run 'a text that is not short' 0 list long
-wants '"cut6":0: cut off: only 6 bytes of a document
+wants '"cut6":0: cut off: only 6 bytes of a document: 6 bytes not read, --resync goes on
 '
 run 'a file that is cut off, listed' 3 list cut6
 wants '"-":0: 12 bytes
   "a": Int32: 1
 ' 'bsonraw-dump: "missing": No such file or directory (os error 2)
-bsonraw-dump: "folder": Is a directory (os error 21)
+bsonraw-dump: "folder":0: Is a directory (os error 21)
 '
 gzip -c one | gzip -dc | run 'a gzip pipe and files that cannot be read, listed' 3 list missing folder - || failed=1
 wants '"two\nlines":0: 12 bytes
@@ -330,25 +418,31 @@ wants '{"file":"breaches.bson","offset":0,"finding":"repeated-key","path":[1],"k
 {"file":"breaches.bson","offset":19,"finding":"repeated-key","path":[0,1],"keys":["d","c"],"byte":18}
 {"file":"breaches.bson","offset":46,"finding":"array-key","path":[0,0],"keys":["a","x"],"byte":11}
 {"file":"breaches.bson","offset":65,"finding":"options","path":[0],"keys":["r"],"byte":4}
+'"$(of_json breaches.bson 4 78 4 0 0 0 0 0)"'
 {"file":"few.bson","offset":0,"finding":"repeated-key","path":[1],"keys":["a"],"byte":11}
 {"file":"few.bson","offset":19,"finding":"damaged","path":[0],"keys":["a"],"byte":4,"reason":"a boolean is neither 0 nor 1"}
 {"file":"few.bson","offset":28,"finding":"damaged","path":[0],"keys":[null],"byte":4,"reason":"a value is longer than what is left"}
 {"file":"few.bson","offset":34,"finding":"damaged","path":[0],"keys":[null],"byte":4,"reason":"no kind has this tag"}
 {"file":"few.bson","offset":42,"finding":"damaged","reason":"no final 0"}
 {"file":"few.bson","offset":47,"finding":"damaged","path":[2],"keys":["b"],"byte":18,"reason":"a boolean is neither 0 nor 1"}
-{"documents":10,"bytes":148,"not canonical":5,"damaged":5}
+'"$(of_json few.bson 6 70 1 5 0 0 0 0)"'
+'"$(all_json 10 148 5 5 0 0 0 0)"'
 '
 run 'breaches and damage as JSON' 1 check --json breaches.bson few.bson
-wants '{"file":"cut.bson","offset":12,"finding":"cut off","bytes":6}
-{"file":"cut3","offset":0,"finding":"cut off","bytes":3}
+wants '{"file":"cut.bson","offset":12,"finding":"cut off","bytes":6,"not read":6}
+'"$(of_json cut.bson 1 12 0 0 0 0 6 1)"'
+{"file":"cut3","offset":0,"finding":"cut off","bytes":3,"not read":3}
+'"$(of_json cut3 0 0 0 0 0 0 3 1)"'
+'"$(of_json missing 0 0 0 0 0 0 0 1)"'
 {"file":"under.bson","offset":0,"finding":"repeated-key","path":[1],"keys":["a"],"byte":11}
-{"file":"under.bson","offset":19,"finding":"unsound length"}
-{"documents":2,"bytes":31,"not canonical":1,"damaged":0}
+{"file":"under.bson","offset":19,"finding":"unsound length","length":4,"not read":17}
+'"$(of_json under.bson 1 19 1 0 0 0 17 1)"'
+'"$(all_json 2 31 1 0 0 0 26 4)"'
 ' '{"file":"missing","error":"No such file or directory (os error 2)"}
 '
 run 'what ends files, as JSON' 3 check --json cut.bson cut3 missing under.bson
 wants '{"file":"two\n\"lines\"","offset":0,"finding":"damaged","path":[0],"keys":["\n\"\\"],"byte":4,"reason":"a boolean is neither 0 nor 1"}
-{"documents":1,"bytes":11,"not canonical":0,"damaged":1}
+'"$(one_json 'two\n\"lines\"' 1 11 0 1 0 0 0 0)"'
 '
 cp key 'two
 "lines"'
@@ -356,6 +450,7 @@ run 'names and keys as JSON' 1 check --json 'two
 "lines"'
 wants '' '{"file":"mixed.bson","offset":31,"finding":"damaged","path":[0],"keys":["a"],"byte":4,"reason":"a boolean is neither 0 nor 1"}
 {"file":"mixed.bson","offset":67,"finding":"damaged","reason":"no final 0"}
+'"$(wrote_json 6 84 4 2 2 0 0 0 0)"'
 '
 cat mixed.sound >wanted.out
 run 'sound documents, damage as JSON' 1 sound --json mixed.bson
@@ -372,20 +467,25 @@ run 'a folder that is missing, as JSON' 5 canon --json -o nowhere/output sound.b
 "lines"' levels501 | python3 -c '
 import json, sys
 lines = [json.loads(line) for line in sys.stdin]
-assert len(lines) == 17, len(lines)
+assert len(lines) == 23, len(lines)
 assert all(len(line["path"]) == len(line["keys"]) for line in lines if "path" in line)
 ' || { echo "dumps.sh: a line of check --json isn't read as JSON" >&2 && failed=1; }
 
 # -- files that can't be read, and their names
 
-wants 'documents: 3, bytes: 29, not canonical: 0, damaged: 0
-' 'bsonraw-dump: "missing": No such file or directory (os error 2)
-bsonraw-dump: "folder": Is a directory (os error 21)
+wants "$(of missing 0 0 0 0 0 0 0 1)
+$(of folder 0 0 0 0 0 0 0 1)
+$(of sound.bson 3 29 0 0 0 0 0 0)
+$(counted 3 29 0 0 0 0 0 2)
+" 'bsonraw-dump: "missing": No such file or directory (os error 2)
+bsonraw-dump: "folder":0: Is a directory (os error 21)
 '
 run 'files that cannot be read' 3 check missing folder sound.bson
-wants '"two\nlines":12: cut off: only 6 bytes of a document
+wants '"two\nlines":12: cut off: only 6 bytes of a document: 6 bytes not read, --resync goes on
+'"$(of 'two\nlines' 1 12 0 0 0 0 6 1)"'
 "a \"quoted\"":0: repeated-key at /1:"a", byte 11
-documents: 2, bytes: 31, not canonical: 1, damaged: 0
+'"$(of 'a \"quoted\"' 1 19 1 0 0 0 0 0)"'
+'"$(counted 2 31 1 0 0 0 6 1)"'
 '
 cp cut.bson 'two
 lines'
@@ -396,6 +496,7 @@ mkfifo pipe
 cat mixed.bson >pipe &
 wants '' '"pipe":31: damaged at /0:"a", byte 4: a boolean is neither 0 nor 1
 "pipe":67: damaged: no final 0
+'"$(wrote 6 84 4 2 2 0 0 0 0)"'
 '
 cat mixed.sound >wanted.out
 run 'a FIFO' 1 sound pipe
@@ -405,26 +506,37 @@ run 'a FIFO' 1 sound pipe
 wants '' '"mixed.bson":31: damaged at /0:"a", byte 4: a boolean is neither 0 nor 1
 "mixed.bson":67: damaged: no final 0
 '
+cp wanted.err mixed.err
+formed 6 84 4 2 2 2 0 0 0 0 >>wanted.err
 cat mixed.canon >wanted.out
 run 'canonical forms' 1 canon mixed.bson
+{ cat mixed.err && wrote 6 84 4 2 2 0 0 0 0; } >wanted.err
 cat mixed.sound >wanted.out
 run 'sound documents' 1 sound mixed.bson
-wants ''
+wants '' "$(formed 4 78 4 0 4 0 0 0 0 0)
+"
 cat breaches.canon >wanted.out
 run 'canonical forms of each breach' 0 canon breaches.bson
+wrote 4 78 4 0 0 0 0 0 0 >wanted.err
 cat breaches.bson >wanted.out
 run 'sound documents with breaches' 0 sound breaches.bson
 
 wants '' '"twice.bson":70: damaged at /0:"a", byte 4: a boolean is neither 0 nor 1
+'"$(wrote 9 128 4 5 1 0 0 0 0)"'
 '
 cat twice.unique >wanted.out
 run 'each form once' 1 unique twice.bson
+wants '' '"twice.bson":70: damaged at /0:"a", byte 4: a boolean is neither 0 nor 1
+'"$(wrote 15 201 6 9 1 0 0 0 0)"'
+'
 cat twice.both >wanted.out
 run 'each form once over files' 1 unique twice.bson twice.later sound.bson
-wants ''
+wants '' "$(wrote 1000000 12000000 1 999999 0 0 0 0 0)
+"
 cat one >wanted.out
 run 'one form of a million' 0 unique million
 gzip -c million | gzip -dc | run 'one form of a gzip pipe' 0 unique || failed=1
+wrote 200000 2400000 200000 0 0 0 0 0 0 >wanted.err
 cat distinct >wanted.out
 run 'forms that are all new' 0 unique distinct
 
@@ -432,11 +544,13 @@ run 'forms that are all new' 0 unique distinct
 
 wants '{"d":1.5,"e":{"$numberDouble":"NaN"},"s":"hello","o":{},"a":[1],"b":{"$binary":{"base64":"AQID","subType":"80"}},"u":{"$undefined":true},"i":{"$oid":"000102030405060708090a0b"},"t":true,"z":{"$date":"1970-01-01T00:00:01Z"},"n":null,"r":{"$regularExpression":{"pattern":"a","options":"i"}},"p":{"$dbPointer":{"$ref":"n","$id":{"$oid":"000102030405060708090a0b"}}},"j":{"$code":"x"},"y":{"$symbol":"y"},"w":{"$code":"x","$scope":{}},"k":-1,"m":{"$timestamp":{"t":1,"i":2}},"l":-1,"q":{"$numberDecimal":"2.64625479264658496900423911342336E-4217"},"x":{"$maxKey":1},"v":{"$minKey":1}}
 {"a":1}
-'
+' "$(wrote 2 $(($(stat -c %s kinds) + 12)) 2 0 0 0 0 0 0)
+"
 run 'each kind as Extended JSON' 0 json kinds one
 wants '{"d":{"$numberDouble":"1.5"},"e":{"$numberDouble":"NaN"},"s":"hello","o":{},"a":[{"$numberInt":"1"}],"b":{"$binary":{"base64":"AQID","subType":"80"}},"u":{"$undefined":true},"i":{"$oid":"000102030405060708090a0b"},"t":true,"z":{"$date":{"$numberLong":"1000"}},"n":null,"r":{"$regularExpression":{"pattern":"a","options":"i"}},"p":{"$dbPointer":{"$ref":"n","$id":{"$oid":"000102030405060708090a0b"}}},"j":{"$code":"x"},"y":{"$symbol":"y"},"w":{"$code":"x","$scope":{}},"k":{"$numberInt":"-1"},"m":{"$timestamp":{"t":1,"i":2}},"l":{"$numberLong":"-1"},"q":{"$numberDecimal":"2.64625479264658496900423911342336E-4217"},"x":{"$maxKey":1},"v":{"$minKey":1}}
 {"a":{"$numberInt":"1"}}
-'
+' "$(wrote 2 $(($(stat -c %s kinds) + 12)) 2 0 0 0 0 0 0)
+"
 run 'each kind as canonical Extended JSON' 0 json --canonical kinds one
 wants '{}
 {"a":1,"a":2}
@@ -444,7 +558,8 @@ wants '{}
 {"a":[null,null]}
 {"r":{"$regularExpression":{"pattern":"p","options":"xi"}}}
 {"\nk":"\"\\\n\u0001é"}
-'
+' "$(wrote 6 103 6 0 0 0 0 0 0)
+"
 run 'what is not canonical, and texts, as Extended JSON' 0 json empty breaches.bson texts
 wants '{
   "d": {
@@ -459,12 +574,14 @@ wants '{
   ]
 }
 {}
-'
+' "$(wrote 3 51 3 0 0 0 0 0 0)
+"
 run 'Extended JSON with two blanks a level' 0 json --indent nested array empty
 wants '{
   "a": {"$numberInt":"1"}
 }
-'
+' "$(wrote 1 12 1 0 0 0 0 0 0)
+"
 run 'canonical Extended JSON with two blanks a level' 0 json --canonical --indent one
 wants '{"a":1}
 {"a":1,"a":2}
@@ -472,20 +589,24 @@ wants '{"a":1}
 {"a":1}
 ' '"mixed.bson":31: damaged at /0:"a", byte 4: a boolean is neither 0 nor 1
 "mixed.bson":67: damaged: no final 0
+'"$(wrote 6 84 4 2 2 0 0 0 0)"'
 '
 run 'damage beside Extended JSON' 1 json mixed.bson
 cp out mixed.json
 wants '' '{"file":"mixed.bson","offset":31,"finding":"damaged","path":[0],"keys":["a"],"byte":4,"reason":"a boolean is neither 0 nor 1"}
 {"file":"mixed.bson","offset":67,"finding":"damaged","reason":"no final 0"}
+'"$(wrote_json 6 84 4 2 2 0 0 0 0)"'
 '
 cat mixed.json >wanted.out
 run 'damage as JSON beside Extended JSON' 1 json --json mixed.bson
 wants '{"a":1}
-' '"cut.bson":12: cut off: only 6 bytes of a document
-"negative":0: unsound length
+' '"cut.bson":12: cut off: only 6 bytes of a document: 6 bytes not read, --resync goes on
+"negative":0: unsound length -1: 5 bytes not read, --resync goes on
+'"$(wrote 1 12 1 0 0 0 0 11 2)"'
 '
 run 'lengths that are unsound beside Extended JSON' 3 json cut.bson negative
-wants ''
+wants '' "$(wrote 1 $(stat -c %s levels500) 1 0 0 0 0 0 0)
+"
 python3 -c 'print("{\"d\":" * 499 + "{}" + "}" * 499)' >wanted.out
 run '500 levels as Extended JSON' 0 json levels500
 gzip -c million | gzip -dc | "$program" json 2>err | cmp -s - many || { echo "dumps.sh: a million documents as Extended JSON" >&2 && failed=1; }
@@ -499,36 +620,52 @@ kept() {
     echo "dumps.sh: $1: the file isn't as it has to be" >&2
 }
 
-wants ''
+wants '' "$(formed 4 78 4 0 4 0 0 0 0 0)
+"
 run 'a new file' 0 canon -o output breaches.bson
 kept 'a new file' breaches.canon
 chmod 640 output
 wants '' '"mixed.bson":31: damaged at /0:"a", byte 4: a boolean is neither 0 nor 1
 "mixed.bson":67: damaged: no final 0
+'"$(wrote 6 84 4 2 2 0 0 0 0)"'
 '
 run 'a file that is there' 1 sound --output output mixed.bson
 kept 'a file that is there' mixed.sound
 [ "$(stat -c %a output)" = 640 ] || { echo "dumps.sh: the mode isn't kept" >&2 && failed=1; }
-wants '' '"cut.bson":12: cut off: only 6 bytes of a document
+wants '' '"cut.bson":12: cut off: only 6 bytes of a document: 6 bytes not read, --resync goes on
+'"$(wrote 4 41 4 0 0 0 0 6 1)"'
+"output": not written: "cut.bson" wasn'"'"'t read to its end; --resync goes on
 '
 run 'a run that fails' 3 sound -o output sound.bson cut.bson
 kept 'a run that fails' mixed.sound
+wants '' '{"file":"missing","error":"No such file or directory (os error 2)"}
+{"file":"cut.bson","offset":12,"finding":"cut off","bytes":6,"not read":6}
+'"$(wrote_json 1 12 1 0 0 0 0 6 2)"'
+{"file":"output","error":"not written: missing wasn'"'"'t read to its end"}
+'
+run 'a run that fails, as JSON' 3 sound --json -o output missing cut.bson
+kept 'a run that fails, as JSON' mixed.sound
 ln -s output link
-wants ''
+wants '' "$(wrote 3 29 3 0 0 0 0 0 0)
+"
 run 'a link' 0 sound -o link sound.bson
 kept 'a link' sound.bson
 [ -L link ] || { echo "dumps.sh: the link is replaced" >&2 && failed=1; }
+formed 3 29 3 0 0 0 0 0 0 0 >wanted.err
 run 'one file read and written' 0 canon -o output output
+wrote 3 29 2 1 0 0 0 0 0 >wanted.err
 run 'one file read and written, each form once' 0 unique -o output output
 [ "$(stat -c %s output)" = 17 ] || { echo "dumps.sh: unique -o" >&2 && failed=1; }
 cp sound.bson output
 chmod 640 output
+formed 3 29 3 0 0 0 0 0 0 0 >wanted.err
 run 'one file read and written again' 0 canon -o output output
 kept 'one file read and written' sound.bson
 run 'a device' 0 canon -o /dev/null sound.bson
 [ -c /dev/null ] || { echo "dumps.sh: /dev/null is replaced" >&2 && failed=1; }
 wants '' '"mixed.bson":31: damaged at /0:"a", byte 4: a boolean is neither 0 nor 1
 "mixed.bson":67: damaged: no final 0
+'"$(wrote 6 84 4 2 2 0 0 0 0)"'
 '
 run 'Extended JSON in a file' 1 json -o output mixed.bson
 kept 'Extended JSON in a file' mixed.json
@@ -568,8 +705,10 @@ tried 'closed standard output' 5
 "$program" list mixed.bson >&- 2>err
 status=$?
 tried 'list with closed standard output' 5
-wants 'documents: 3, bytes: 29, not canonical: 0, damaged: 0
-' 'bsonraw-dump: "-": Bad file descriptor (os error 9)
+wants "$(of - 0 0 0 0 0 0 0 1)
+$(of sound.bson 3 29 0 0 0 0 0 0)
+$(counted 3 29 0 0 0 0 0 1)
+" 'bsonraw-dump: "-":0: Bad file descriptor (os error 9)
 '
 "$program" check - sound.bson <&- >out 2>err
 status=$?
@@ -582,7 +721,7 @@ tried 'closed standard error' 5
 kept 'closed standard error' sound.bson
 "$program" sound -o output sound.bson <&- >&- 2>&-
 status=$?
-tried 'all streams closed' 0
+tried 'all streams closed' 5
 kept 'all streams closed' sound.bson
 : >out
 { "$program" check million repeated 2>err; echo $? >left; } | head -c 10 >/dev/null
@@ -601,6 +740,42 @@ for command in canon unique list json; do
     tried "a reader that leaves a FIFO of $command" 0
 done
 
+# -- a terminal on standard input gives bytes, and then an error
+
+# ends_in_error BYTES.. WORDS..: runs the program on a terminal whose other side writes the files before --, and is gone then
+ends_in_error() {
+    python3 - "$program" "$@" >out 2>err <<'END'
+import os, pty, subprocess, sys, tty
+at = sys.argv.index("--")
+terminal, side = pty.openpty()
+tty.setraw(side)
+for name in sys.argv[2:at]:
+    with open(name, "rb") as file:
+        os.write(side, file.read())
+os.close(side)
+sys.exit(subprocess.run([sys.argv[1], *sys.argv[at + 1:]], stdin=terminal).returncode)
+END
+    status=$?
+}
+wants '"-":12: repeated-key at /1:"a", byte 11
+'"$(one - 2 31 1 0 0 0 6 1)"'
+' 'bsonraw-dump: "-":37: Input/output error (os error 5)
+'
+ends_in_error one repeated cut6 -- check
+tried 'an error behind bytes' 3
+wants ''
+cat one >wanted.out
+printf '%s\n' '{"file":"-","offset":29,"error":"Input/output error (os error 5)"}' >wanted.err
+wrote_json 1 12 1 0 0 0 0 17 1 >>wanted.err
+ends_in_error one under one -- sound --resync --json
+tried 'an error while bytes are passed over' 3
+wants '"-":0: unsound length 4: 17 bytes not read, --resync goes on
+'"$(one - 0 0 0 0 0 0 17 1)"'
+' 'bsonraw-dump: "-":17: Input/output error (os error 5)
+'
+ends_in_error under one -- check
+tried 'an error behind a length that is unsound' 3
+
 # -- a terminal on standard error shows how far the run has come
 
 python3 - "$program" <<'END' || { echo "dumps.sh: progress isn't shown as it has to be" >&2 && failed=1; }
@@ -611,7 +786,8 @@ os.close(side)
 said = run.stdout.read()
 run.wait()
 shown = os.read(terminal, 4096)
-sys.exit(said != b"documents: 1000000, bytes: 12000000, not canonical: 0, damaged: 0\n" or shown != b"\x1b[K8 MB\r\x1b[K")
+counts = b"documents: 1000000, bytes: 12000000, not canonical: 0, damaged: 0, too deep: 0, bytes passed over: 0, bytes not read: 0, files not read to the end: 0\n"
+sys.exit(said != b'"million": ' + counts + counts or shown != b"\x1b[K8 MB\r\x1b[K")
 END
 
 # -- arguments

@@ -3,8 +3,8 @@
 # lie beside it, as is what it prints of the greeting given with blanks between the bytes.
 #
 # examples.sh             runs the proved program
-# examples.sh --unproved  compiles the program once, without a proof, and runs it on each document; then the same for
-#                         one document by `bin/bsonraw --unproved`
+# examples.sh --unproved  compiles the program once, without a proof, and runs it on each document; then
+#                         `bin/bsonraw-dump --unproved` on a pipe that pauses and on a file
 set -u
 cd "$(dirname "$(realpath "$0")")/.." || exit 1
 work=$(mktemp -d) || exit 1
@@ -49,16 +49,26 @@ run_unproved() {
     done
 }
 
-# A run of bin/bsonraw without a proof gives output and status, and says on standard error that nothing was proved.
+# A run without a proof gives output and status, and says on standard error that nothing was proved: of a pipe that pauses for
+# longer than `rt try` waits, and of a file that is named from where the run begins. It refuses what it can't do.
 run_one_unproved() {
+    dump=$PWD/bin/bsonraw-dump
+    printf '\23\0\0\0\2hi\0\6\0\0\0y\47all\0\0' >"$work/greeting.bson"
+    { printf '{"hi":"y'\''all"}\n%.0s' 1 2; echo "status 0"; } >"$work/wanted"
     {
-        bin/bsonraw --unproved canon <examples/tag-zero.hex 2>"$work/said"
+        (cd "$work" && { sleep 3; cat greeting.bson; } | "$dump" --unproved json greeting.bson - 2>"$work/said")
         echo "status $?"
     } >"$work/output"
-    diff examples/tag-zero.canon "$work/output" && grep -q 'nothing is proved' "$work/said" && return
-    cat "$work/said" >&2
-    echo "examples: bin/bsonraw --unproved goes wrong" >&2
-    failed=1
+    if ! diff "$work/wanted" "$work/output" || ! grep -q 'nothing is proved' "$work/said"; then
+        cat "$work/said" >&2
+        echo "examples: bin/bsonraw-dump --unproved goes wrong" >&2
+        failed=1
+    fi
+    "$dump" --unproved canon -o "$work/none" "$work/greeting.bson" >"$work/output" 2>"$work/said"
+    if [ $? != 125 ] || [ -s "$work/output" ] || [ -e "$work/none" ]; then
+        echo "examples: bin/bsonraw-dump --unproved takes an OUTPUT" >&2
+        failed=1
+    fi
 }
 
 run_proved() {

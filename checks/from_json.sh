@@ -1,15 +1,15 @@
 #!/bin/sh
 # from_json.sh: documents come back from their text. 2,000 made documents are printed as Extended JSON and read again, in a program
 # that is compiled without a proof: checks/comes_back.rt.txt says what has to be the same. The documents are those whose text has all
-# of them: canonical ones, none of which begins with a wrapper's key, whose NaNs are the default one and whose decimals are
-# canonical. One behind them has another NaN, and has to be told.
+# of them: canonical ones, whose nested documents have no wrapper's key, whose NaNs are the default one and whose decimals are
+# canonical. One behind them has another NaN, and has to be told. The seed is drawn, and said; SEED sets it.
 set -u
 
 cd "$(dirname "$(realpath "$0")")/.." || exit 1
 work=$(mktemp -d) || exit 1
 trap 'rm -rf "$work"' EXIT
 count=2000
-seed=${SEED:-1}
+seed=${SEED:-$(od -An -N3 -tu4 /dev/urandom | tr -d " ")}
 
 crate=$work/copy/crates/comes_back
 mkdir -p "$crate/src" || exit 1

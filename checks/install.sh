@@ -1,7 +1,7 @@
 #!/bin/sh
 # bin/install, tried on what is built: a prefix with blanks, `&` and `|` is named rightly in all that names it, and what it
-# says to try works; where it can't write, and where a step of it fails, it says so in its last line and leaves the prefix
-# as it was. Where the machine has no C compiler or no pkg-config, the lines for these are left out, and that is said.
+# says to try works; where it can't write, and where a step of it or a proof fails or is interrupted, it says so in its last line and
+# leaves the prefix as it was, and no temporary folder. Where the machine has no C compiler or no pkg-config, the lines for these are left out, and that is said.
 set -u
 cd "$(dirname "$(realpath "$0")")/.." || exit 1
 work=$(mktemp -d) || exit 1
@@ -28,6 +28,7 @@ try_prefix() {
     done <<END
 bin/bsonraw
 include/bsonraw.h
+include/bsonraw.hpp
 lib/libbsonraw.a
 lib/libbsonraw.so
 lib/libbsonraw.so.${version%%.*}
@@ -79,11 +80,39 @@ END
     chmod +x "$work/tools/$1"
 }
 
-# refused PREFIX WHY: whether bin/install fails with this prefix, says so in its last line, and leaves what was there
+# unbuilt COMMAND: a copy of the repository in which nothing is built, and in front of PATH an rt that runs COMMAND for a proof
+unbuilt() {
+    [ -d "$work/unbuilt" ] || { mkdir "$work/unbuilt" && git ls-files -z | xargs -0 cp -P --parents -t "$work/unbuilt"; } || exit 1
+    rm -rf "$work/tools" && mkdir "$work/tools" || exit 1
+    cat >"$work/tools/rt" <<END
+#!/bin/sh
+case \$1 in doc | version | help) exec $(command -v rt) "\$@" ;; esac
+echo >>"$work/tools/runs"
+$1
+END
+    chmod +x "$work/tools/rt"
+}
+
+# interrupted PREFIX: as refused, of an installation whose proof is under way when it is ended, with all that it started
+interrupted() {
+    state "$work/before" >"$work/state"
+    PATH=$work/tools:$PATH TMPDIR=$work/temporary setsid "$work/unbuilt/bin/install" "$1" >"$work/output" 2>"$work/error" &
+    group=$!
+    for _ in $(seq 100); do
+        [ ! -e "$work/tools/runs" ] || break
+        sleep 0.1
+    done
+    [ -e "$work/tools/runs" ] || fails "the installation that is to be interrupted begins no proof"
+    kill -TERM "-$group"
+    ! wait "$group" || fails "an installation that is interrupted ends well"
+    state "$work/before" | diff "$work/state" - >&2 || fails "an installation that is interrupted doesn't leave what was there"
+}
+
+# refused PREFIX WHY [INSTALL]: whether bin/install fails with this prefix, says so in its last line, and leaves what was there
 refused() {
     state "$work/before" >"$work/state"
     rm -f "$work/tools/runs"
-    if bin/install "$1" >"$work/output" 2>"$work/error" || [ -s "$work/output" ]; then
+    if TMPDIR=$work/temporary "${3-bin/install}" "$1" >"$work/output" 2>"$work/error" || [ -s "$work/output" ]; then
         fails "it installs in $1 though $2"
     fi
     [ "$(tail -n 1 "$work/error" | grep -c '^bin/install: nothing is installed: ')" = 1 ] || fails "$2, and it says: $(cat "$work/error")"
@@ -91,7 +120,7 @@ refused() {
 }
 
 # What was there: an older installation, with one file that isn't its own and one that is missing.
-mkdir "$work/before"
+mkdir "$work/before" "$work/temporary"
 try_prefix
 try_compilers
 old=$work/before/old
@@ -104,12 +133,17 @@ for step in 'install 2' 'cp 1' 'cp 5' 'cp 9' 'mv 1' 'mv 5' 'mv 9'; do
 done
 failing cp 5
 PATH=$work/tools:$PATH refused "$work/before/new" "a copy to a new prefix fails"
+unbuilt 'exit 1'
+PATH=$work/tools:$PATH refused "$work/before/new" "a proof fails" "$work/unbuilt/bin/install"
+unbuilt 'sleep 10; exit 1'
+interrupted "$work/before/new"
 echo file >"$work/before/file"
 refused "$work/before/file/prefix" "a file is in the way"
 mkdir -p "$work/before/folder/share/man/man3/bsonraw.3"
 refused "$work/before/folder" "a folder is in the way"
 [ "$(wc -l <"$work/error")" = 1 ] || fails "it says more than a line where it can't write: $(cat "$work/error")"
 refused "$work/before/it\"s" "bsonraw.pc can't name the prefix"
+[ -z "$(ls -A "$work/temporary")" ] || fails "temporary files are left: $(ls -A "$work/temporary")"
 bin/install >"$work/output" 2>&1
 [ "$?" = 2 ] || fails "without a prefix it ends with another status than 2"
 bin/install --help >"$work/output" 2>&1

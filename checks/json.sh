@@ -1,6 +1,7 @@
 #!/bin/sh
-# json.sh [PROGRAM]: compares what `bsonraw-dump json` prints of 20,000 made documents with what libbson prints of them, as
-# values, relaxed and canonical, and says how long both take for a typical document. PROGRAM is the proved one of
+# json.sh [USING]: compares what `bsonraw-dump json` prints of 20,000 made documents with what libbson prints of them, as
+# values, relaxed and canonical, and says how long both take for a typical document. The seed of the documents is drawn, and said;
+# SEED sets it. PROGRAM is the proved one of
 # crates/bsonraw_dump unless it is given. checks/json_documents.py makes the documents and names each kind of difference with the
 # rule that settles it; any other is a failure. Debian's libbson-dev has libbson; where it isn't, nothing is compared.
 # json_util.dumps is measured, too, where PYTHON, python3 unless it is given, has MongoDB's package.
@@ -14,7 +15,7 @@ if ! pkg-config --exists libbson-1.0 || ! command -v cc >/dev/null; then
 fi
 work=$(mktemp -d) || exit 1
 trap 'rm -rf "$work"' EXIT
-seed=${SEED:-1}
+seed=${SEED:-$(od -An -N3 -tu4 /dev/urandom | tr -d " ")}
 
 documents() {
     "${PYTHON:-python3}" "$root/checks/json_documents.py" "$@"
@@ -35,15 +36,15 @@ for format in relaxed canonical; do
     cat "$work/said"
 done
 
-# One document that is changed has to be told.
-sed '1s/"/"x/' "$work/ours" >"$work/changed"
+# One document that is changed has to be told: the first that has a key.
+sed '0,/"/s/"/"x/' "$work/ours" >"$work/changed"
 if documents compare "$work/changed" "$work/theirs" >"$work/said"; then
-    echo "json.sh: a document with another key is taken for the same" >&2
+    echo "json.sh: a document with another key is taken for the same, seed $seed" >&2
     failed=1
 fi
 
 documents typical 20000 >"$work/typical" || exit 1
 documents times "$work/typical" 20000 "$program" json "$work/typical" , "$work/libbson_json" relaxed "$work/typical" || failed=1
 
-[ "$failed" = 0 ] && echo "json.sh: all passed"
+[ "$failed" = 0 ] && echo "json.sh: all passed, seed $seed"
 exit "$failed"

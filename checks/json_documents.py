@@ -161,8 +161,8 @@ class Maker:
 
 
 class Whole(Maker):
-    """Makes documents whose canonical text has all of them: canonical ones, none of which begins with a wrapper's key, whose NaNs are
-    the default one, and whose decimals are canonical."""
+    """Makes documents whose canonical text has all of them: canonical ones, whose nested documents have no wrapper's key, whose NaNs
+    are the default one, and whose decimals are canonical."""
 
     def double(self) -> bytes:
         value = super().double()
@@ -184,9 +184,8 @@ class Whole(Maker):
         return body([(tag, str(place), value) for place, (tag, value) in enumerate(values)])
 
     def document(self, depth: int = 0) -> bytes:
-        keys = list(dict.fromkeys(self.key() for _ in range(self.rng.choice([0, 1, 2, 3, 6, 12]))))
-        if keys and keys[0] in ("$oid", "$date"):
-            keys[0] = "$gt"
+        names = [self.key() for _ in range(self.rng.choice([0, 1, 2, 3, 6, 12]))]
+        keys = list(dict.fromkeys("$gt" if depth and name in ("$oid", "$date") else name for name in names))
         return body([(tag, key, value) for key, (tag, value) in ((key, self.value(depth)) for key in keys)])
 
 
@@ -407,6 +406,7 @@ def times(dump: str, count: int, ours: List[str], theirs: List[str]) -> None:
 
 
 def main(words: List[str]) -> int:
+    sys.setrecursionlimit(20000)  # documents nest 200 levels, each some frames
     if words[:1] == ["made"] and len(words) == 3:
         sys.stdout.buffer.write(made(int(words[1]), int(words[2])))
         return 0

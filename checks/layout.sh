@@ -1,7 +1,7 @@
 #!/bin/sh
 # Whether each file is laid out as `rt fmt` writes it, whether each edit of must-fail/ and edits/ applies to its file,
-# whether tests alone may end the process, and whether specs and proofs keep to the columns and premises of proofs.py: what
-# the gate would refuse only after minutes, and the last `rt check` never.
+# whether tests alone may end the process, and whether specs and proofs keep to what proofs.py asks: what the gate would
+# refuse only after minutes, and the last `rt check` never.
 # It works on a copy of the sources, and first sees that what it looks for is found. It prints what isn't right, and gives
 # 0 where all is.
 set -u
@@ -42,12 +42,14 @@ echo 'use std::process::Abort;' >"$work/tried/crates/bson_uses/src/tried.rt"
 mkdir -p "$work/tried/crates/tried/proofs"
 {
     printf 'lemma : (a : A) → B → B → B → B\n    → B → B → (b : B) → B → C b → B → C b\nlemma a = refl\n'
+    printf 'module _ (a b : A) where\n  thirteen : {c d : A} (e f g h i j k l : A) → A → (m n : A) → A\n  thirteen e = lemma e\n'
     printf '%0200d\n' 0
     printf '%0201d\n' 0
 } >"$work/tried/crates/tried/proofs/Tried.antt"
 tried=$(said "$work/tried" && aborting "$work/tried")$(checks/proofs.py "$work/tried/crates")
 for word in 'formatted src/lib.rt' 'tried.edit cannot be applied' 'src/tried.rt may end the process' \
-    'Tried.antt:5: 201 columns' 'Tried.antt:1: lemma has 9 premises'; do
+    'Tried.antt:8: 201 columns' 'Tried.antt:1: lemma has 9 premises' 'Tried.antt:5: thirteen has 13 explicit arguments' \
+    'Tried.antt:5: nothing cites thirteen'; do
     case $tried in
     *"$word"*) ;;
     *)

@@ -1,19 +1,26 @@
 #!/bin/sh
-# What bin/package makes, tried as a new user would: each of the archive, the Debian packages and the wheel is installed
+# What bin/package makes, tried as a new user would: each of the archive, the Debian packages and the wheels is installed
 # where nothing of this repository is, and prints the worked rows of examples/; a C program is compiled by pkg-config, and
-# Python has the module. lintian has nothing against the packages. One commit gives the same bytes twice, and where bin/test
-# hasn't passed for the very commit and what is built, nothing is made.
+# Python has the module. release/verify finds a changed byte in each file, and each part that is compiled in has its licence there.
+# lintian has nothing against the packages. One commit gives the same bytes twice, and where bin/test hasn't passed for the very
+# commit and what is built, nothing is made. On a processor that they aren't built for the programs say so in a line.
 #
 #   checks/packages.sh --short   for the gate: each in a folder of its own, with the machine's compiler and Python
-#   checks/packages.sh           in a fresh Debian by debootstrap, too: some three minutes, as root, with the net
+#   checks/packages.sh           in fresh Debians, too, from 11 to 13, and for ARM in those from 12 on: for a release, as root, with the net
+#
+# In a fresh Debian each is installed, programs in C are compiled, Python has the module, and what is removed leaves nothing. The Python
+# package is built there from its source, over the library's packages. Debian 11 has an older C library than the programs need, and
+# an older Python than the wheel.
 #
 # What was left out since a tool is missing is said in the last line.
 set -u
 cd "$(dirname "$(realpath "$0")")/.." || exit 1
+. checks/debian.sh
 work=$(mktemp -d) || exit 1
 trap 'rm -rf "$work"' EXIT
 try="$work/new user"
 made=$work/made
+made_for_arm=$work/made_for_arm
 skipped=
 failed=0
 
@@ -29,86 +36,193 @@ skip() {
 # copy FOLDER: this repository as it is here, and what was built, in one commit of a repository of its own
 copy() {
     mkdir -p "$1" && git ls-files -z --cached --others --exclude-standard | xargs -0 cp -P --parents -t "$1" &&
-        for built in crates/bsonraw/out/bsonraw crates/bsonraw_dump/out/bsonraw_dump crates/bsonraw_c/out/*.a crates/*/out/built; do
+        for built in crates/bsonraw/out/bsonraw crates/bsonraw_dump/out/bsonraw_dump crates/bsonraw_c/out/*.a crates/bsonraw_c/out/baseline/* crates/*/out/built; do
             [ ! -e "$built" ] || cp -p --parents "$built" "$1" || return 1
         done && git -C "$1" init -q && git -C "$1" add -A &&
-        git -C "$1" -c user.name=checks -c user.email=checks@localhost commit -qm "What is tried" && put_released "$1"
+        git -C "$1" -c user.name=checks -c user.email=checks@localhost commit -qm "What is tried"
 }
 
-# put_released FOLDER: the programs that are built, as those with their commit: a copy has no libraries to build these over
-put_released() {
-    (
-        root=$1
-        . bin/release.sh
-        for name in $programs; do
-            to=$(released "$name")
-            [ -e "$to" ] || { mkdir -p "${to%/*}" && cp "$(program_of "$name")" "$to" && released_from "$name" >"${to%/*}/from"; }
-        done
-    )
-}
-
-# record FOLDER: what bin/test would note there
+# record FOLDER RECORD LINE: what bin/test or bin/install would note there, and this line of what passed
 record() {
     (
         cd "$1" && mkdir -p out && {
             echo "commit $(git rev-parse HEAD)"
+            echo "$3"
             (root=$PWD && . bin/release.sh && checksums) | sed 's/^/built /'
-        } >out/passed
+        } >"out/$2"
     )
 }
 
-# refuses WHY: whether nothing is made in the copy, for this reason
+# refuses WHY [FLAGS]: whether nothing is made in the copy, for this reason
 refuses() {
-    if "$work/copy/bin/package" "$work/none" >/dev/null 2>"$work/said" || [ -e "$work/none" ]; then
+    # shellcheck disable=SC2086 # flags or none
+    if "$work/copy/bin/package" ${2-} "$work/none" >/dev/null 2>"$work/said" || [ -e "$work/none" ]; then
         fails "something is made though $1"
     fi
     [ "$(wc -l <"$work/said")" = 1 ] || fails "more or less than a line is said where $1: $(cat "$work/said")"
 }
 
-try_record() {
-    copy "$work/copy" || exit 1
-    refuses "nothing says that bin/test passed"
-    record "$work/copy"
-    sed -i 's/^commit ./commit x/' "$work/copy/out/passed"
-    refuses "bin/test passed for another commit"
-    record "$work/copy"
-    echo >>"$work/copy/crates/bsonraw_c/out/libbsonraw_c.a"
-    refuses "another library is built than bin/test built"
-    cp -p crates/bsonraw_c/out/libbsonraw_c.a "$work/copy/crates/bsonraw_c/out" && record "$work/copy"
-    echo >>"$work/copy/README.md"
-    refuses "a file was changed since"
-    (cd "$work/copy" && git checkout -q README.md)
-    "$work/copy/bin/package" "$work/proved" >/dev/null || fails "nothing is made of what bin/test passed"
-    for file in "$work"/proved/*; do
-        case $file in *unproved*) fails "of what bin/test passed this is made: $file" ;; esac
+# makes WHAT [FLAG]: whether it is made in the copy, without a name that says unproved
+makes() {
+    # shellcheck disable=SC2086 # a flag or none
+    "$work/copy/bin/package" ${2-} "$work/$1" >/dev/null || fails "nothing is made of what is $1"
+    for file in "$work/$1"/*; do
+        case $file in *unproved*) fails "of what is $1 this is made: $file" ;; esac
     done
 }
 
-# Twice the same bytes, of which the names say that they are unproved where they are.
+try_record() {
+    well='bin/test 5 passed, 0 failed'
+    copy "$work/copy" || exit 1
+    refuses "nothing says that bin/test passed"
+    refuses "nothing says that checks/arm.sh passed" "--target aarch64"
+    record "$work/copy" passed "$well"
+    sed -i 's/^commit ./commit x/' "$work/copy/out/passed"
+    refuses "bin/test passed for another commit"
+    record "$work/copy" passed 'bin/test 5 passed, 1 failed'
+    refuses "one of bin/test's parts failed"
+    record "$work/copy" passed 'bin/test'
+    refuses "bin/test has no result"
+    record "$work/copy" passed "$well"
+    echo >>"$work/copy/crates/bsonraw_dump/out/bsonraw_dump"
+    refuses "another program is built than bin/test built"
+    cp -p crates/bsonraw_dump/out/bsonraw_dump "$work/copy/crates/bsonraw_dump/out" && record "$work/copy" passed "$well"
+    echo >>"$work/copy/README.md"
+    refuses "a file was changed since"
+    (cd "$work/copy" && git checkout -q README.md)
+    makes proved
+    refuses "nothing says that bin/install proved it" --untested
+    record "$work/copy" proved 'proved: 9 crates; tests not run'
+    makes untested --untested
+    tar -xOf "$work"/untested/*untested*-linux.tar.gz --wildcards '*/PROVED' | grep -qx 'proved: 9 crates; tests not run' ||
+        fails "PROVED doesn't say that tests weren't run"
+}
+
+# make_all FOLDER [FLAG..]: makes twice the same bytes, of which the names say that they are unproved where they are
 make_all() {
-    bin/package --unproved "$made" >/dev/null && sleep 1 && bin/package --unproved "$work/again" >/dev/null || exit 1
-    diff -r "$made" "$work/again" >&2 || fails "one commit gives other bytes the second time"
-    for file in "$made"/*.*; do
+    folder=$1
+    shift
+    bin/package "$@" --unproved "$folder" >/dev/null && sleep 1 && bin/package "$@" --unproved "$work/again" >/dev/null || exit 1
+    diff -r "$folder" "$work/again" >&2 || fails "one commit gives other bytes the second time"
+    rm -r "$work/again"
+    for file in "$folder"/*.*; do
         case $file in *unproved*) ;; *) fails "a name doesn't say that it is unproved: $file" ;; esac
     done
-    (cd "$made" && sha256sum --check --quiet --strict SHA256SUMS) || fails "SHA256SUMS isn't right"
+    (cd "$folder" && sha256sum --check --quiet --strict SHA256SUMS) || fails "SHA256SUMS isn't right"
 }
 
 # prepare FOLDER: what a new user has there besides
 prepare() {
-    mkdir -p "$1" && cp -r examples c/tests/greeting.c checks/try-release.sh "$1" || exit 1
+    mkdir -p "$1" && cp -r examples c/tests/greeting.c c/tests/print.c checks/try-release.sh "$1" || exit 1
+}
+
+# finds_changes FOLDER PROVED: whether release/verify has nothing against the files below the folder, and finds each that is changed
+finds_changes() {
+    release/verify "$2" "$1" >&2 || fails "verify has something against $2 as it was made"
+    sed '1,/^sha256 of what is shipped:$/d; s/^[^ ]*  //' "$2" >"$work/shipped"
+    [ -s "$work/shipped" ] || fails "$2 lists no file"
+    while IFS= read -r file; do
+        cp -p "$1/$file" "$work/kept" && printf x | dd of="$1/$file" bs=1 seek=3 conv=notrunc 2>/dev/null
+        ! release/verify "$2" "$1" >/dev/null 2>&1 || fails "verify doesn't see that $file is changed"
+        cp -p "$work/kept" "$1/$file"
+    done <"$work/shipped"
+}
+
+# has_licences FILE: whether each part that is compiled in is named there, with the text of its licence
+has_licences() {
+    python3 -B release/parts.py "$(dirname "$(rt doc)")" bsonraw bsonraw_dump bsonraw_c >"$work/parts" || fails "the parts can't be listed"
+    while read -r part licence; do
+        case $licence in
+        NOASSERTION) grep -q "\b$part\b" "$1" ;;
+        *) grep -q "^ *$part: LICENSE" "$1" ;;
+        esac || fails "$1 has no licence of $part"
+    done <"$work/parts"
+}
+
+# lists_all FOLDER PROVED: whether it lists each file below the folder but itself
+lists_all() {
+    (cd "$1" && find . -type f | sed 's|^\./||' | grep -vx PROVED | LC_ALL=C sort) >"$work/there"
+    sed '1,/^sha256 of what is shipped:$/d; s/^[^ ]*  //' "$2" | LC_ALL=C sort | diff - "$work/there" >&2 || fails "$2 doesn't list each file"
 }
 
 try_archive() {
-    prepare "$try" && tar -C "$try" -xf "$made"/*.tar.gz || exit 1
+    prepare "$try" && tar -C "$try" -xf "$made"/*-linux.tar.gz || exit 1
     archive=$(echo "$try"/bsonraw-*-linux)
+    lists_all "$archive" "$archive/PROVED"
+    finds_changes "$archive" "$archive/PROVED"
+    has_licences "$archive/LICENCES"
     case "$said" in
     *unreleased*) ;;
-    *"($(sed -n 's/^commit \(............\).*/\1/p' "$archive/PROVED"))") ;;
+    *"($(sed -n 's/^commit \(..........\).*/\1/p' "$archive/PROVED"))") ;;
     *) fails "PROVED names another commit than $said" ;;
     esac
     env -i PATH=/usr/bin:/bin $has_compiler PKG_CONFIG_PATH="$archive/lib/pkgconfig" LD_LIBRARY_PATH="$archive/lib" \
         sh "$try/try-release.sh" "$archive/bin" "$said" || fails "the archive doesn't do"
+}
+
+# Where an emulator is there: on a processor that lacks SSE4.1 each program says why it doesn't run, in one line.
+try_old_processors() {
+    if ! command -v qemu-x86_64 >/dev/null; then
+        skip "processors without SSE4.1, since qemu-x86_64 isn't there"
+        return
+    fi
+    for processor in qemu64 core2duo; do
+        for program in "$archive"/bin/*; do
+            qemu-x86_64 -cpu $processor "$program" --version </dev/null >"$work/output" 2>"$work/said"
+            [ "$?" = 127 ] && [ ! -s "$work/output" ] && [ "$(wc -l <"$work/said")" = 1 ] && grep -q 'this machine lacks a feature of x86-64-v2' "$work/said" ||
+                fails "$program doesn't say in one line why it doesn't run on $processor"
+        done
+    done
+}
+
+# The Python package as source.
+try_source() {
+    for source in "$made"/*.tar.gz; do
+        case $source in *-linux.tar.gz) ;; *) break ;; esac
+    done
+    tar -C "$work" -xf "$source" || exit 1
+    folder=$work/$(basename "$source" .tar.gz)
+    lists_all "$folder" "$folder/PROVED"
+    finds_changes "$folder" "$folder/PROVED"
+}
+
+# What is made for ARM, but for what needs a machine that runs it.
+try_arm() {
+    mkdir "$work/arm" && tar -C "$work/arm" -xf "$made_for_arm"/*.tar.gz || exit 1
+    arm_archive=$(echo "$work"/arm/bsonraw-*-aarch64-linux)
+    lists_all "$arm_archive" "$arm_archive/PROVED"
+    finds_changes "$arm_archive" "$arm_archive/PROVED"
+    has_licences "$arm_archive/LICENCES"
+    [ ! -e "$arm_archive/bin" ] && ! grep -q 'bin/bsonraw' "$arm_archive/README" || fails "there are programs for ARM"
+    for package in "$made_for_arm"/*.deb; do
+        dpkg-deb -x "$package" "$work/arm_root" || exit 1
+    done
+    for package in "$work"/arm_root/usr/share/doc/*; do
+        finds_changes "$work/arm_root" "$package/PROVED.arm64"
+        has_licences "$package/copyright"
+    done
+    (cd "$work/arm_root" && find . -type f) | while IFS= read -r file; do
+        [ ! -e "$work/root/$file" ] || cmp "$work/root/$file" "$work/arm_root/$file" || exit 1
+    done || fails "packages of both machines have one file in two forms, so that they can't be installed together"
+    ! command -v lintian >/dev/null || lintian --allow-root --fail-on error,warning "$made_for_arm"/*.deb >&2 ||
+        fails "lintian has something against the Debian packages for ARM"
+}
+
+# The archive's crate in one of the new user, which cargo builds over the archive's library, and no other.
+try_crate() {
+    if ! command -v cargo >/dev/null || [ -z "$has_compiler" ]; then
+        skip "the crate for Rust"
+        return
+    fi
+    cargo new --quiet --vcs none "$work/user" 2>"$work/said" && (
+        unset BSONRAW_PREFIX PKG_CONFIG_PATH
+        export CARGO_NET_OFFLINE=true CARGO_TARGET_DIR="$work/user/target"
+        cd "$work/user" && cargo add --quiet --path "$archive/rust" &&
+            echo 'fn main() { println!("{:?}", bsonraw::rawdoc! { "hi": "ho" }.get("hi")) }' >src/main.rs &&
+            cargo run --quiet >output
+    ) 2>"$work/said" || fails "the archive's crate isn't built: $(cat "$work/said")"
+    [ "$(cat "$work/user/output")" = 'Ok(Some(String("ho")))' ] || fails "the archive's crate reads something else"
+    [ ! -e "$archive/rust/target" ] || fails "the archive's crate is built in its own folder"
 }
 
 try_packages() {
@@ -117,6 +231,10 @@ try_packages() {
         return
     fi
     for package in "$made"/*.deb; do dpkg-deb -x "$package" "$work/root" || exit 1; done
+    for package in "$work"/root/usr/share/doc/*; do
+        finds_changes "$work/root" "$package/PROVED.amd64"
+        has_licences "$package/copyright"
+    done
     library=$work/root/usr/lib/x86_64-linux-gnu
     env -i PATH=/usr/bin:/bin $has_compiler PKG_CONFIG_PATH="$library/pkgconfig" PKG_CONFIG_SYSROOT_DIR="$work/root" \
         LD_LIBRARY_PATH="$library" sh "$try/try-release.sh" "$work/root/usr/bin" "$said" || fails "the Debian packages don't do"
@@ -127,45 +245,74 @@ try_packages() {
     lintian --allow-root --fail-on error,warning "$made"/*.deb >&2 || fails "lintian has something against the Debian packages"
 }
 
-try_wheel() {
+try_wheels() {
     python3 -B checks/wheel_test.py >"$work/said" 2>&1 || fails "$(cat "$work/said")"
-    wheel=$(echo "$made"/*.whl)
-    if [ ! -e "$wheel" ]; then
-        skip "the wheel"
-        return
-    fi
     python=/usr/bin/python3
     if ! "$python" -m venv "$work/venv" 2>/dev/null; then
         skip "Python's venv"
         return
     fi
-    env -i PATH=/usr/bin:/bin "$work/venv/bin/pip" install --quiet --no-index --disable-pip-version-check "$wheel" || fails "pip doesn't install the wheel"
-    env -i PATH=/usr/bin:/bin PYTHON="$work/venv/bin/python" sh "$try/try-release.sh" "$work/venv/bin" "$said" || fails "the wheel doesn't do"
+    env -i PATH=/usr/bin:/bin "$work/venv/bin/pip" install --quiet --no-index --disable-pip-version-check "$made"/*.whl || fails "pip doesn't install the wheels"
+    env -i PATH=/usr/bin:/bin PYTHON="$work/venv/bin/python" sh "$try/try-release.sh" "$work/venv/bin" "$said" || fails "the wheels don't do"
+    for info in "$work"/venv/lib/python3*/site-packages/bsonraw*.dist-info; do
+        finds_changes "$(dirname "$info")" "$info/PROVED"
+        has_licences "$info/licenses/LICENCES"
+    done
 }
 
-# A Debian that has never seen this repository: each of the three is installed there, used, and removed.
+# files: all that is there, but for what is written as programs run and packages are installed
+files() {
+    (cd "$there" && find . -xdev \( -path ./proc -o -path ./sys -o -path ./dev -o -path ./try -o -path ./tmp -o -path ./run -o -path ./var/cache \
+        -o -path ./var/log -o -path './var/lib/dpkg/*-old' \) -prune -o -print) | LC_ALL=C sort
+}
+
+# try_debian RELEASE MACHINE FOLDER: a Debian that has never seen this repository: each that was made is installed there, used, and removed
 try_debian() {
-    root=$work/debian
-    if ! debootstrap --variant=minbase --include=gcc,libc6-dev,pkgconf,python3-venv bookworm "$root" >"$work/said" 2>&1; then
+    there=$work/debian
+    where="Debian $1 on $2"
+    if ! debian "$there" "$1" "$2" >"$work/said" 2>&1; then
         tail -n 3 "$work/said" >&2
-        skip "a fresh Debian (debootstrap as root)"
+        skip "$where"
         return
     fi
-    prepare "$root/try" && cp "$made"/* "$root/try" || exit 1
-    in_debian 'tar -C /opt -xf *.tar.gz && mv /opt/bsonraw* /opt/bsonraw &&
-        PKG_CONFIG=yes PKG_CONFIG_PATH=/opt/bsonraw/lib/pkgconfig LD_LIBRARY_PATH=/opt/bsonraw/lib sh try-release.sh /opt/bsonraw/bin "$SAID" &&
-        rm -r /opt/bsonraw' || fails "the archive doesn't do in a fresh Debian"
-    in_debian 'dpkg -i *.deb >/dev/null && PKG_CONFIG=yes sh try-release.sh /usr/bin "$SAID" && test -e /usr/share/doc/bsonraw/PROVED &&
-        dpkg -P libbsonraw-dev bsonraw libbsonraw2 >/dev/null && ! find /usr -name "*bsonraw*" | grep .' ||
-        fails "the Debian packages don't do in a fresh Debian"
-    [ ! -e "$wheel" ] || in_debian 'python3 -m venv /opt/venv && /opt/venv/bin/pip install --quiet --no-index *.whl &&
-        PYTHON=/opt/venv/bin/python sh try-release.sh /opt/venv/bin "$SAID"' || fails "the wheel doesn't do in a fresh Debian"
-    echo "packages: each was used in a fresh Debian"
+    prepare "$there/try" && cp "$3"/* release/verify "$there/try" && cp "$source" "$there/try/source.tar.gz" || exit 1
+    programs=yes wheels=yes
+    [ "$2" = amd64 ] || programs=
+    [ "$1" != bullseye ] || programs='' wheels=''
+    files >"$work/before"
+    does 'the archive' 'tar -C /opt -xf *-linux.tar.gz && mv /opt/bsonraw* /opt/bsonraw && /opt/bsonraw/verify /opt/bsonraw/PROVED &&
+        export PKG_CONFIG=yes PKG_CONFIG_PATH=/opt/bsonraw/lib/pkgconfig LD_LIBRARY_PATH=/opt/bsonraw/lib &&
+        sh try-release.sh "${PROGRAMS:+/opt/bsonraw/bin}" "$SAID"; status=$?; rm -r /opt/bsonraw; exit $status'
+    does 'the Debian packages' '[ -n "$PROGRAMS" ] || rm -f bsonraw_*.deb; dpkg -i *.deb >/dev/null &&
+        for proved in /usr/share/doc/*bsonraw*/PROVED.*; do sh verify "$proved" / || exit; done &&
+        PKG_CONFIG=yes sh try-release.sh "${PROGRAMS:+/usr/bin}" "$SAID"'
+    does 'the Python package as source' 'python3 -m venv --system-site-packages /opt/venv &&
+        /opt/venv/bin/pip install --quiet --no-index --no-build-isolation --disable-pip-version-check ./source.tar.gz &&
+        PYTHON=/opt/venv/bin/python sh try-release.sh "" "$SAID"; status=$?; rm -r /opt/venv; exit $status'
+    does 'the packages that are removed' 'dpkg -P $(dpkg-query -W -f "\${Package}\n" "*bsonraw*") >/dev/null'
+    [ -z "$wheels" ] || does 'the wheels' 'python3 -m venv /opt/venv && /opt/venv/bin/pip install --quiet --no-index --disable-pip-version-check *.whl &&
+        for info in /opt/venv/lib/python3*/site-packages/bsonraw*.dist-info; do sh verify $info/PROVED $info/.. || exit; done &&
+        PYTHON=/opt/venv/bin/python sh try-release.sh "${PROGRAMS:+/opt/venv/bin}" "$SAID" &&
+        /opt/venv/bin/pip uninstall --quiet --yes bsonraw ${PROGRAMS:+bsonraw-programs} && ! find /opt/venv -name "*bsonraw*" | grep .; status=$?
+        rm -r /opt/venv; exit $status'
+    files | diff "$work/before" - >&2 || fails "something is left in $where"
+    rm -rf "$there"
+    echo "packages: tried in $where"
 }
 
-# in_debian COMMANDS: runs them there, in the folder of the new user
-in_debian() {
-    chroot "$root" /usr/bin/env -i PATH=/usr/sbin:/usr/bin:/sbin:/bin HOME=/root SAID="$said" sh -c "cd /try && $1"
+# does WHAT COMMANDS: whether this does in the Debian that is tried
+does() {
+    in_debian "$there" "$2" SAID="$said" PROGRAMS="$programs" || fails "in $where $1: see above"
+}
+
+try_debians() {
+    make_all "$made_for_arm" --target aarch64
+    try_arm
+    try_debian bullseye amd64 "$made"
+    try_debian bookworm amd64 "$made"
+    try_debian trixie amd64 "$made"
+    try_debian bookworm arm64 "$made_for_arm"
+    try_debian trixie arm64 "$made_for_arm"
 }
 
 has_compiler=
@@ -175,11 +322,14 @@ else
     skip "C programs, since there is no compiler or no pkg-config"
 fi
 said=$(root=$PWD && . bin/release.sh && echo "bsonraw-dump $version ($(crates_commit))")
-make_all
+make_all "$made"
 try_record
 try_archive
+try_old_processors
+try_source
+try_crate
 try_packages
-try_wheel
-[ "${1-}" = --short ] || try_debian
+try_wheels
+[ "${1-}" = --short ] || try_debians
 echo "packages: left out: ${skipped:-nothing}"
 exit "$failed"

@@ -1,21 +1,40 @@
 #!/usr/bin/env python3
-"""proofs.py FOLDER: what is too long to read in the specs and proofs of the crates in FOLDER.
+"""proofs.py FOLDER: what is too long to read in the specs and proofs of the crates in FOLDER, and what nothing cites.
 
-That is a line of more than 200 columns, imports left out, and a lemma of more than eight premises: a record with named
-fields holds those that belong together. A premise is what an arrow of the statement follows, unless it binds names alone.
+That is a line of more than 200 columns, imports left out, a lemma of more than eight premises or of more than twelve
+explicit arguments, and a lemma that nothing cites: no proof, no face, no code and no comment of specs. A premise is what an
+arrow of the statement follows, unless it binds names alone: a record with named fields holds those that belong together.
+The explicit arguments are the premises and the names in parentheses, those of the modules around the lemma included.
 It prints a line for each, and gives 0 where there is none.
 """
 
 import re
 import sys
+from collections import Counter
 from pathlib import Path
 
 COLUMNS = 200
 PREMISES = 8
+ARGUMENTS = 12
+# the most in crates where a lemma has more; these numbers only fall
+MOST_ARGUMENTS = {
+    "bson_json": 21,
+    "bson_model": 13,
+    "bson_uses": 17,
+    "bsonraw_c": 22,
+    "bsonraw_dump": 37,
+    "raw_bson": 16,
+    "raw_form": 27,
+    "raw_resync": 17,
+    "raw_tree": 20,
+    "raw_view": 18,
+}
 
 IMPORT = re.compile(r"(pub )?use ")
 STATEMENT = re.compile(r"( *)(?:pub )?([^\s:=(]+) : (.*)")
-BINDER = re.compile(r"\([^():]+ : ")
+MODULE = re.compile(r"( *)module [^\s]+ (.*)where")
+BINDER = re.compile(r"[({]([^(){}:]+) : ")
+WORD = re.compile(r"[^\s(){}\[\],;.`]+")
 
 
 def parts(statement):
@@ -30,50 +49,96 @@ def parts(statement):
     return [part.strip() for part in found]
 
 
-def behind_binders(part):
-    """What is left of a part of a statement once the groups that bind names are taken off its front."""
-    while BINDER.match(part):
+def split_binders(part):
+    """How many names the groups at the front of a part bind in parentheses, and what is left behind the groups."""
+    names = 0
+    while found := BINDER.match(part):
+        if part[0] == "(":
+            names += len(found[1].split())
         depth = 0
         for at, letter in enumerate(part):
-            depth += (letter == "(") - (letter == ")")
+            depth += (letter in "({") - (letter in ")}")
             if depth == 0:
                 break
         part = part[at + 1 :].lstrip()
-    return part
+    return names, part
 
 
-def premises(statement):
-    return sum(1 for part in parts(statement)[:-1] if behind_binders(part))
+def counted(statement):
+    """The premises of a statement, and its explicit arguments."""
+    split = [split_binders(part) for part in parts(statement)[:-1]]
+    premises = sum(1 for _, rest in split if rest)
+    return premises, premises + sum(names for names, _ in split)
+
+
+def whole(lines, at, indent):
+    """The end of what begins at a line: the first line behind it that isn't further in."""
+    behind = at + 1
+    while behind < len(lines) and re.match(indent + " +[^ ]", lines[behind]):
+        behind += 1
+    return behind
 
 
 def lemmas(lines):
-    """Yields the number of each lemma's line, its name and its statement: a name that is defined behind its statement."""
+    """Yields each name that is defined behind its statement: its first line and the line behind its last, the name, the
+    statement, and how many arguments the modules around it add."""
+    around = []
     for at, line in enumerate(lines):
+        if line.strip():
+            here = len(line) - len(line.lstrip())
+            around = [(indent, names) for indent, names in around if indent < here]
+        statement_end = whole(lines, at, " " * here) if line.strip() else at
+        text = " ".join(part.strip() for part in lines[at:statement_end])
+        if found := MODULE.match(" " * here + text if line.strip() else ""):
+            around.append((here, split_binders(found[2])[0]))
+            continue
         found = STATEMENT.fullmatch(line)
         if not found:
             continue
-        indent, name, statement = found.groups()
-        behind = at + 1
-        while behind < len(lines) and re.match(indent + " +[^ ]", lines[behind]):
-            statement += " " + lines[behind].strip()
-            behind += 1
-        if behind < len(lines) and re.match(f"{indent}{re.escape(name)}[ =]", lines[behind]):
-            yield at + 1, name, statement
+        indent, name, _ = found.groups()
+        statement = text.split(" : ", 1)[1]
+        clause = re.compile(f"{indent}{re.escape(name)}[ =]")
+        behind = statement_end
+        while behind < len(lines) and clause.match(lines[behind]):
+            behind = whole(lines, behind, indent)
+        if behind > statement_end:
+            yield at, behind, name, statement, sum(names for _, names in around)
 
 
-def too_long(path):
-    lines = path.read_text(encoding="utf-8").split("\n")
+def too_long(crate, path, lines):
+    most = MOST_ARGUMENTS.get(crate, ARGUMENTS)
     for number, line in enumerate(lines, 1):
         if len(line) > COLUMNS and not IMPORT.match(line):
             yield f"{path}:{number}: {len(line)} columns; {COLUMNS} at most"
-    for number, name, statement in lemmas(lines):
-        if (count := premises(statement)) > PREMISES:
-            yield f"{path}:{number}: {name} has {count} premises; {PREMISES} at most"
+    for at, _, name, statement, around in lemmas(lines):
+        premises, arguments = counted(statement)
+        if premises > PREMISES:
+            yield f"{path}:{at + 1}: {name} has {premises} premises; {PREMISES} at most"
+        if arguments + around > most:
+            yield f"{path}:{at + 1}: {name} has {arguments + around} explicit arguments; {most} at most in {crate}"
+
+
+def words(lines, comments=False):
+    return Counter(word for line in lines for word in WORD.findall(line if comments else line.split("--")[0]))
 
 
 def main():
-    files = sorted(path for kind in ("specs", "proofs") for path in Path(sys.argv[1]).glob(f"*/{kind}/**/*.antt"))
-    found = [line for path in files for line in too_long(path)]
+    folder = Path(sys.argv[1])
+    files = {path: path.read_text(encoding="utf-8").split("\n") for path in sorted(path for kind in ("specs", "proofs") for path in folder.glob(f"*/{kind}/**/*.antt"))}
+    code = words(line for path in folder.glob("*/src/**/*.rt") for line in re.sub("::", " ", path.read_text(encoding="utf-8")).split("\n"))
+    found = []
+    everywhere = sum((words((line for line in lines if not re.match("use ", line)), "specs" in path.parts) for path, lines in files.items()), Counter())
+    for path, lines in files.items():
+        crate, kind = path.relative_to(folder).parts[:2]
+        found += too_long(crate, path, lines)
+        if kind != "proofs":
+            continue
+        for at, behind, name, statement, _ in lemmas(lines):
+            if re.match(r"goal\.", statement) or re.match("(invariant|decreases)-", name):
+                continue
+            own = words(lines[at:behind])[name]
+            if everywhere[name] + code[name] == own:
+                found.append(f"{path}:{at + 1}: nothing cites {name}")
     print("\n".join(found), end="\n" if found else "")
     return 1 if found else 0
 

@@ -71,6 +71,22 @@ if find "$work/package" -name '_native*.so' -exec nm -D --defined-only {} + 2>/d
     echo "python: the module exports names of the library" >&2
     exit 1
 fi
+# Another library, though its file is older, is linked anew into what is built already.
+cp -r "$work/python" "$work/again" && mkdir -p "$work/other/include" "$work/other/lib" &&
+    cp "$BSONRAW_PREFIX/include/bsonraw.h" "$work/other/include" && cp "$BSONRAW_PREFIX/lib/libbsonraw.a" "$work/other/lib" &&
+    echo 'int bsonraw_of_another_build;' >"$work/mark.c" && cc -c -o "$work/mark.o" "$work/mark.c" &&
+    ar q "$work/other/lib/libbsonraw.a" "$work/mark.o" && find "$work/other" -exec touch -d 2001-01-01 {} + || exit 1
+relinked() {
+    (cd "$work/again" && BSONRAW_PREFIX=$1 BSONRAW_CFLAGS=-O0 "$python" setup.py build --build-lib "$work/relinked") >"$work/said" 2>&1 || {
+        cat "$work/said" >&2
+        exit 1
+    }
+    grep -q "^building 'bsonraw._native' extension" "$work/said"
+}
+if ! relinked "$BSONRAW_PREFIX" || relinked "$BSONRAW_PREFIX" || ! relinked "$work/other"; then
+    echo "python: a build keeps the module of another library, or makes one anew where nothing changed" >&2
+    exit 1
+fi
 if "$python" -m pip --version >/dev/null 2>&1; then
     if ! "$python" -m pip install --no-build-isolation --no-index --no-deps --no-compile --target "$work/site" "$work/python" \
         >"$work/said" 2>&1 || ! "$python" -S -c 'import sys; sys.path.insert(0, sys.argv[1]); import bsonraw' "$work/site"; then
@@ -81,7 +97,7 @@ if "$python" -m pip --version >/dev/null 2>&1; then
 else
     echo "python: pip isn't there, so it isn't tried"
 fi
-if grep -rn ctypes python --include='*.py' --include='*.c' --include='*.toml' >&2; then
+if grep -rn ctypes python/bsonraw python/src python/setup.py python/pyproject.toml >&2; then
     echo "python: ctypes is back" >&2
     exit 1
 fi

@@ -1,6 +1,6 @@
 #!/bin/sh
 # VERSION has the version, and all that names it besides names the same: the header and the number that the C library is
-# proved to give, the programs, the Python package, the manual pages, CHANGELOG.md, and each page or program that names the shared
+# proved to give, the programs, the Python package, the crate for Rust, the manual pages, CHANGELOG.md, and each page or program that names the shared
 # library with its number. bin/install and bin/package take it from there.
 set -u
 cd "$(dirname "$(realpath "$0")")/.." || exit 1
@@ -12,6 +12,7 @@ named() {
     sed -n 's/^#define BSONRAW_VERSION \([0-9]*\).*/\1/p' c/bsonraw.h | as_version c/bsonraw.h
     sed -n 's/^    \([0-9][0-9]*\)$/\1/p' crates/bsonraw_c/src/version.rt | as_version crates/bsonraw_c/src/version.rt
     sed -n 's/^version = "\(.*\)"/\1/p' python/pyproject.toml | sed 's|^|python/pyproject.toml |'
+    sed -n 's/^version = "\(.*\)"/\1/p' rust/Cargo.toml | sed 's|^|rust/Cargo.toml |'
     grep -rE --include='*.py' '^__version__ = "' python | sed 's/:__version__ = "/ /; s/".*//'
     sed -n 's/^pub const VERSION: &str = "\(.*\) (unreleased)";/\1/p' crates/bsonraw_dump/src/version.rt | sed 's|^|crates/bsonraw_dump/src/version.rt |'
     grep -E '^\.TH ' man/*.[13] | sed 's/:.*"[a-z][a-z-]* \([0-9][0-9.]*\)".*/ \1/'
@@ -32,7 +33,7 @@ differing() {
     version=$(cat VERSION)
     named >"$work/named"
     awk -v version="$version" '$2 != version' "$work/named"
-    for place in c/bsonraw.h crates/bsonraw_c/src/version.rt crates/bsonraw_dump/src/version.rt man/bsonraw.1 man/bsonraw.3 CHANGELOG.md; do
+    for place in c/bsonraw.h crates/bsonraw_c/src/version.rt crates/bsonraw_dump/src/version.rt rust/Cargo.toml man/bsonraw.1 man/bsonraw.3 CHANGELOG.md; do
         grep -q "^$place " "$work/named" || echo "$place names no version"
     done
 }

@@ -1,13 +1,16 @@
 #!/usr/bin/env python3
 """Makes the pictures of the pages from what they show: the documents of examples/, crates.txt, the tables of docs/SPEED.md.
 
-    docs/pictures/make.py [FOLDER]    writes bytes.svg, crates.svg and speed.svg there, or beside this file
+    docs/pictures/make.py [FOLDER]    writes bytes.svg, crates.svg, rescue.svg and speed.svg there, or beside this file
 
-Their colours are readable on a light and on a dark page. checks/pictures.sh sees that they are up to date.
+Their colours are readable on a light and on a dark page. Graphviz's dot draws crates.svg. checks/pictures.sh sees that they are up to
+date, and that nothing in them runs over an edge.
 """
 
 import re
+import shutil
 import struct
+import subprocess
 import sys
 from pathlib import Path
 from xml.sax.saxutils import escape
@@ -118,6 +121,48 @@ def bytes_picture():
     return picture
 
 
+# ---- a damaged dump ------------------------------------------------------------------------------------------------------
+
+SEARCHED = "behind a length that can't be, each place is looked at, up to where documents go on"
+
+
+def rescue_picture():
+    """A dump of three documents, the length of the second damaged, and what is kept of it."""
+    picture = Picture("What is kept of a dump with a damaged length", 900)
+    whole = bytes.fromhex((ROOT / "examples/greeting.hex").read_text())
+    dump = [whole, struct.pack("<i", 2**31 - 1) + whole[4:], whole]
+    cell, left, size = 14, 24, len(whole)
+
+    def put(document, at, y):
+        for place, byte in enumerate(document):
+            wrong = document != whole
+            colour = RED if wrong and place < 4 else LIGHT_RED if wrong else GREY if place < 4 else GREEN
+            picture.box(at + place * cell, y, cell - 1, 26, colour, 2)
+            picture.text(at + place * cell + (cell - 1) / 2, y + 17, f"{byte:02x}", "#ffffff", 9, "middle", mono=True)
+
+    picture.text(left, 30, "three.bson: the length of the second document is damaged", size=15, bold=True)
+    for number, document in enumerate(dump):
+        at = left + number * size * cell
+        put(document, at, 44)
+        said = struct.unpack("<i", document[:4])[0]
+        picture.text(at, 88, f"at {number * size}: {said:,} bytes long", LIGHT_RED if said != size else TEXT, 13)
+    lines = [
+        ("check:", f'"three.bson":{size}: unsound length {2**31 - 1}: {2 * size} bytes not read, --resync goes on'),
+        ("check --resync:", f'"three.bson":{size}: unsound length {2**31 - 1}: {size} bytes passed over'),
+    ]
+    for number, (command, line) in enumerate(lines):
+        picture.text(left, 158 + 22 * number, command, size=13, bold=True)
+        picture.text(left + 120, 158 + 22 * number, line, size=13, mono=True)
+    begin = left + size * cell
+    picture.line([(begin, 104), (begin + size * cell - 4, 104)], arrow=True)
+    picture.text(begin, 124, SEARCHED, size=13)
+    picture.text(left, 216, "sound --resync -o good.bson three.bson", size=15, bold=True)
+    for number in range(2):
+        put(whole, left + number * size * cell, 230)
+    picture.height = 274
+    return picture
+
+
 # ---- the crates ----------------------------------------------------------------------------------------------------------
 
 GIVES = {
@@ -125,11 +170,13 @@ GIVES = {
     "raw_view": "views, elements, values, faults",
     "raw_tree": "trees, encodings, limits, breaches",
     "raw_form": "first faults, verdicts, forms; no tree",
+    "raw_resync": "where documents go on in a damaged dump",
     "raw_bson": "buffers, owned values, canonical forms",
     "raw_shelf": "canonical documents, each once",
     "bson_json": "documents as Extended JSON",
     "bson_from_json": "documents from Extended JSON",
-    "bsonraw": "the program",
+    "bsonraw": "the program for one document in hex",
+    "bsonraw_dump": "the program for dumps",
     "bsonraw_c": "the library for C, and so for Python",
     "bson_uses": "proved callers, to copy from",
     "wire_message": "prints a message of the wire protocol",
@@ -165,43 +212,46 @@ def edges_of(crates):
     }
 
 
-def crates_picture():
+def colour_of(name):
+    return BLUE if name.startswith("bsonraw") else GREY if name in ("bson_uses", "wire_message") else GREEN
+
+
+def label_of(name, kit):
+    """What a crate's box says: its name, what it gives, and the libraries of the kit that it uses."""
+    lines = [f'<b><font face="DejaVu Sans Mono" point-size="14">{name}</font></b>', f'<font point-size="12">{escape(GIVES[name])}</font>']
+    rows = [", ".join(kit[number : number + 5]) for number in range(0, len(kit), 5)]
+    if rows:
+        rows[0] = f"with the kit's {rows[0]}"
+        lines.append(f'<font point-size="10">{",<br/>".join(rows)}</font>')
+    return "<br/>".join(lines)
+
+
+CRATES_LABEL = "An arrow goes to the crate that uses the one where it begins."
+
+
+def crates_graph():
+    """The crates as dot reads them; an edge goes from a crate to one that uses it."""
     crates = crates_of()
-    edges = edges_of(crates)
-    level = {}
-    for name in crates:
-        level[name] = max((level[below] + 1 for below in crates[name] if below in crates), default=0)
-    picture = Picture("The crates, and what each gives to those above it", 900)
-    width, height, gap = 262, 62, 46
-    top = max(level.values())
-    place = {}
-    for number in range(top + 1):
-        row = [name for name in crates if level[name] == number]
-        for index, name in enumerate(row):
-            x = 450 + (index - (len(row) - 1) / 2) * (width + 24) - width / 2
-            place[name] = (x, 20 + (top - number) * (height + gap))
+    lines = [
+        "digraph crates {",
+        f'graph [rankdir=BT, bgcolor=transparent, nodesep=0.25, ranksep=0.45, margin=0.1, label="{CRATES_LABEL}", labelloc=b, '
+        f'fontname="DejaVu Sans", fontsize=12, fontcolor="{TEXT}"]',
+        'node [shape=box, style=filled, color=transparent, fontname="DejaVu Sans", fontcolor=white, margin="0.16,0.09"]',
+        f'edge [color="{TEXT}", arrowsize=0.7]',
+    ]
+    for name, below in crates.items():
+        kit = [it for it in below if it not in crates]
+        lines.append(f'{name} [fillcolor="{colour_of(name)}", label=<{label_of(name, kit)}>]')
+    lines += [f"{below} -> {name}" for name, below in sorted(edges_of(crates))]
+    return "\n".join([*lines, "}", ""])
 
-    def port(of, ends, end):
-        """Where on a side of a crate the edge to this end is: the edges are spread in the order of their ends."""
-        in_order = sorted(ends, key=lambda name: place[name][0])
-        return round(place[of][0] + width * (in_order.index(end) + 1) / (len(ends) + 1))
 
-    for name, below in sorted(edges):
-        start = port(below, [upper for upper, lower in edges if lower == below], name)
-        end = port(name, [lower for upper, lower in edges if upper == name], below)
-        picture.line([(start, place[below][1]), (end, place[name][1] + height + 2)], arrow=True)
-    for name, (x, y) in place.items():
-        colour = BLUE if name.startswith("bsonraw") else GREY if name in ("bson_uses", "wire_message") else GREEN
-        picture.box(x, y, width, height, colour, 6)
-        kit = [below for below in crates[name] if below not in crates]
-        picture.text(x + width / 2, y + 22, name, "#ffffff", 15, "middle", bold=True, mono=True)
-        picture.text(x + width / 2, y + (39 if kit else 44), GIVES.get(name, ""), "#ffffff", 12, "middle")
-        if kit:
-            picture.text(x + width / 2, y + 55, "with " + ", ".join(kit) + " of the kit", "#ffffff", 11, "middle")
-    bottom = 20 + top * (height + gap) + height
-    picture.text(450, bottom + 24, "An arrow goes up to the crate that uses what the one below gives.", size=13, anchor="middle")
-    picture.height = bottom + 40
-    return picture
+def crates_picture():
+    drawn = subprocess.run(["dot", "-Tsvg"], input=crates_graph(), stdout=subprocess.PIPE, check=True, text=True).stdout
+    drawn = re.sub(r"<!--.*?-->\n|<\?xml.*?\?>\n|<!DOCTYPE.*?>\n", "", drawn, flags=re.DOTALL)
+    # (Verdana is as wide as DejaVu Sans, which sizes the boxes)
+    drawn = drawn.replace('"DejaVu Sans"', '"DejaVu Sans, Verdana, sans-serif"').replace('"DejaVu Sans Mono"', '"DejaVu Sans Mono, Menlo, monospace"')
+    return drawn.replace("<title>crates</title>", "<title>The crates, and what each gives to those above it</title>", 1)
 
 
 # ---- speed ---------------------------------------------------------------------------------------------------------------
@@ -230,27 +280,30 @@ def figures(section, row, columns):
     sys.exit(f"make.py: docs/SPEED.md has no row {row!r} with {columns} in {section!r}")
 
 
+PEER = "libbson, 1"  # a row that is a share of libbson's figure
 READERS = ["This library", "Rust crate", "libbson", "C by hand"]
 BARS = [
-    ("Elements of a typical document", "instructions an element", "Reading", "elements of a typical document", READERS),
+    ("Elements of a typical document, in Rattle", "instructions an element", "Reading", "elements of a typical document", READERS),
+    ("Elements from C, a call for each", "share of libbson's instructions", "From C", "`bsonraw_iter_next` of", ["instructions", PEER]),
     ("Keys and values of a typical document", "instructions an element", "Reading", "keys and values, typical", READERS),
     ("Look-up of the last of 1,000 keys", "instructions an element", "Reading", "look-up of the last of 1,000 keys", READERS),
     ("Append of 1,000,000 int32", "instructions an element", "Writing", "append of 1,000,000 int32", READERS),
     ("Tree from bytes, typical", "instructions an element", "Writing", "tree from bytes, typical", READERS[:2]),
-    ("Validation of a typical document", "instructions a call", "Verdicts", "typical", ["`validate`", "libbson"]),
+    ("All levels of 499", "instructions an element", "Reading", "all levels, 499 of them", READERS),
+    ("Validation of a typical document", "instructions a call", "Validation", "typical", ["`validate`", "libbson"]),
     ("Decoding of a typical document, from Python", "microseconds a call", "From Python", "`decode`, typical", ["`bsonraw`", "MongoDB's package"]),
 ]
-NAMES = {"`validate`": "This library", "`bsonraw`": "This library"}
+NAMES = {"`validate`": "This library", "`bsonraw`": "This library", "instructions": "This library", PEER: "libbson"}
 COLOURS = {"This library": BLUE, "Rust crate": BROWN, "libbson": GREEN, "C by hand": GREY, "MongoDB's package": GREEN}
 
 
 def speed_picture():
     picture = Picture("Speed beside the Rust crate, libbson, C by hand and MongoDB's package for Python: shorter is faster", 900)
     left, right, y = 190, 800, 30
-    picture.text(24, y, "Shorter is faster. libbson judges no key of elements and look-up as UTF-8, and validates less;", size=12)
+    picture.text(24, y, "Shorter is faster. Of elements and look-up libbson judges no key as UTF-8; bson_validate looks for no repeated key.", size=12)
     y += 30
     for title, unit, section, row, columns in BARS:
-        values = figures(section, row, columns)
+        values = [1.0 if column == PEER else figures(section, row, [column])[0] for column in columns]
         picture.text(24, y, title, size=14, bold=True)
         picture.text(right + 76, y, unit, size=12, anchor="end")
         for column, value in zip(columns, values):
@@ -265,10 +318,17 @@ def speed_picture():
     return picture
 
 
+DRAWN = {"bytes": bytes_picture, "rescue": rescue_picture, "speed": speed_picture}
+
+
 def main():
     folder = Path(sys.argv[1]) if len(sys.argv) == 2 else Path(__file__).resolve().parent
-    for name, make in [("bytes", bytes_picture), ("crates", crates_picture), ("speed", speed_picture)]:
+    for name, make in DRAWN.items():
         (folder / f"{name}.svg").write_text(make().svg(), encoding="utf-8")
+    if shutil.which("dot"):
+        (folder / "crates.svg").write_text(crates_picture(), encoding="utf-8")
+    else:
+        print("make.py: crates.svg isn't made, since graphviz's dot isn't there", file=sys.stderr)
 
 
 if __name__ == "__main__":

@@ -18,26 +18,24 @@ static void value(const struct bsonraw_token *t);
 
 /* The tokens inside one, or all. */
 static void level(const struct bsonraw_token *t, uint64_t inside, int is_array) {
-    const struct bsonraw_token *end = t + inside;
+    const struct bsonraw_token *end = t + inside, *first = t;
     putchar(is_array ? '[' : '{');
-    while (t < end) {
+    for (; t < end; t += 1 + t->inside) {
+        if (t > first) printf(", ");
         if (!is_array) text(t->key_at, t->key_len), printf(": ");
         value(t);
-        t += 1 + t->inside;
-        if (t < end) printf(", ");
     }
     putchar(is_array ? ']' : '}');
 }
 
 static void value(const struct bsonraw_token *t) {
     const uint8_t *payload = bytes + t->payload_at;
-    double number;
-    int64_t wide;
-    int32_t small;
+    double real;
+    int64_t number = 0;
     switch (t->tag) {
-    case BSONRAW_TAG_DOUBLE: memcpy(&number, payload, sizeof number); printf("%.17g", number); break;
-    case BSONRAW_TAG_INT32: memcpy(&small, payload, sizeof small); printf("%ld", (long)small); break;
-    case BSONRAW_TAG_INT64: memcpy(&wide, payload, sizeof wide); printf("%lld", (long long)wide); break;
+    case BSONRAW_TAG_DOUBLE: memcpy(&real, payload, sizeof real); printf("%.17g", real); break;
+    case BSONRAW_TAG_INT32: memcpy(&number, payload, 4); printf("%d", (int32_t)number); break;
+    case BSONRAW_TAG_INT64: memcpy(&number, payload, 8); printf("%lld", (long long)number); break;
     case BSONRAW_TAG_BOOLEAN: printf(*payload ? "true" : "false"); break;
     case BSONRAW_TAG_STRING: text(t->payload_at + 4, t->payload_len - 5); break;
     case BSONRAW_TAG_NULL: printf("null"); break;
@@ -49,9 +47,8 @@ static void value(const struct bsonraw_token *t) {
 
 int main(void) {
     struct bsonraw_report r;
-    uint64_t path[1];
     size_t len = fread(bytes, 1, sizeof bytes, stdin);
-    if (bsonraw_flatten(bytes, len, sizeof bytes, 100, tokens, 1 << 18, &r, path, 0) != BSONRAW_OK) return 1;
+    if (bsonraw_flatten(bytes, len, sizeof bytes, 100, tokens, 1 << 18, &r, NULL, 0) != BSONRAW_OK) return 1;
     level(tokens, r.count, 0);
     putchar('\n');
     return 0;

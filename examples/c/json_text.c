@@ -6,8 +6,7 @@ static uint8_t bytes[1 << 20], text[1 << 24];
 
 int main(void) {
     struct bsonraw_report r;
-    uint64_t path[1];
     size_t len = fread(bytes, 1, sizeof bytes, stdin);
-    if (bsonraw_json(bytes, len, sizeof bytes, 100, 0, 0, text, sizeof text, &r, path, 0) != BSONRAW_OK) return 1;
+    if (bsonraw_json(bytes, len, sizeof bytes, 100, 0, 0, text, sizeof text, &r, NULL, 0) != BSONRAW_OK) return 1;
     return puts((char *)text) < 0;
 }

@@ -1,17 +1,13 @@
 /* Prints the text at a dotted path of the document on standard input, as authors.0.name. */
 #include <bsonraw.h>
 #include <stdio.h>
-#include <string.h>
 
 int main(int count, char **arguments) {
     static uint8_t bytes[1 << 20];
-    size_t len = fread(bytes, 1, sizeof bytes, stdin);
-    const char *path = count == 2 ? arguments[1] : "";
-    struct bsonraw_iter it;
-    struct bsonraw_value v;
-    if (bsonraw_iter_init(&it, bytes, len) != BSONRAW_OK) return 2;
-    if (bsonraw_iter_find_descendant(&it, bytes, len, (const uint8_t *)path, strlen(path), '.') != BSONRAW_OK) return 1;
-    if (bsonraw_iter_value(&it, bytes, len, &v) != BSONRAW_OK || v.tag != BSONRAW_TAG_STRING) return 1;
-    printf("%.*s\n", BSONRAW_TEXT(bytes, v.text_at, v.text_len));
+    size_t len = fread(bytes, 1, sizeof bytes, stdin), text_len;
+    const char *text;
+    int32_t status = bsonraw_get_utf8(bytes, len, count == 2 ? arguments[1] : "", &text, &text_len);
+    if (status != BSONRAW_OK) return status == BSONRAW_NO_DOCUMENT ? 2 : 1;
+    printf("%s\n", text);
     return 0;
 }
