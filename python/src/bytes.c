@@ -1,6 +1,8 @@
 /* The bytes that a caller hands in: of any object that has a buffer whose bytes lie one behind the other. */
 #include "native.h"
 
+#include <time.h>
+
 static const uint8_t nothing[1] = {0}; /* where no bytes are */
 
 /* Whether an object's bytes are those of a bytes object, which nobody writes. */
@@ -42,6 +44,25 @@ int bytes_open_view(struct bytes *bytes, PyObject *data) {
     bytes->copy = copy;
     bytes->is_fixed = 1;
     return 0;
+}
+
+#define BREATHS 10000000 /* nanoseconds */
+
+int breathe(struct breath *breath, size_t len) {
+    struct timespec time;
+    int64_t now;
+    breath->unheard += len;
+    if (breath->unheard <= LET_GO_OVER) return 0;
+    breath->unheard = 0;
+    if (clock_gettime(CLOCK_MONOTONIC, &time) != 0) return PyErr_CheckSignals();
+    now = (int64_t)time.tv_sec * 1000000000 + time.tv_nsec;
+    if (breath->at == 0) breath->at = now;
+    if (now - breath->at >= BREATHS) {
+        breath->at = now;
+        Py_BEGIN_ALLOW_THREADS
+        Py_END_ALLOW_THREADS
+    }
+    return PyErr_CheckSignals();
 }
 
 PyTypeObject *type_not_called(PyType_Spec *spec) {

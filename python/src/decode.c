@@ -439,7 +439,6 @@ static PyObject *nested_of(const struct maker *maker, const struct bsonraw_token
 #ifndef MANY_BYTES
 #define MANY_BYTES 524288 /* of more, tokens would take much more memory than the bytes */
 #endif
-#define MANY_TIMES 2048 /* after so many times that entries are read, others may run */
 #define ENTRIES 32
 
 /* A level whose elements are read. */
@@ -453,7 +452,7 @@ struct cursor {
 struct cursors {
     struct cursor *at;
     size_t count, room;
-    unsigned times;
+    struct breath breath;
 };
 
 /* Goes into the document, the array or the scope that lies there: 1; 0 where there is none. */
@@ -477,10 +476,7 @@ static int go_in(const struct maker *maker, struct cursors *cursors, uint32_t at
 static int read_entries(const struct maker *maker, struct cursors *cursors, struct cursor *cursor) {
     cursor->done = 0;
     cursor->status = bsonraw_iter_next_many(&cursor->iter, maker->bytes, maker->len, cursor->entries, ENTRIES, &cursor->count);
-    if (++cursors->times % MANY_TIMES != 0) return 0;
-    Py_BEGIN_ALLOW_THREADS
-    Py_END_ALLOW_THREADS
-    return PyErr_CheckSignals();
+    return breathe(&cursors->breath, ENTRIES * sizeof *cursor->entries);
 }
 
 /* Whether the library has to be asked if a payload means a value: one that it takes in any case needs no question. */
@@ -568,7 +564,7 @@ static PyObject *fill_by_cursors(const struct maker *maker, struct levels *level
 /* The value of all bytes; NULL, with no error set where they have a fault or are more than allowed. */
 static PyObject *by_cursors(const struct maker *maker, const struct bsonraw_token *of) {
     struct levels levels;
-    struct cursors cursors = {NULL, 0, 0, 0};
+    struct cursors cursors = {NULL, 0, 0, {0, 0}};
     PyObject *value = NULL;
     if (maker->len > maker->options->max_bytes || maker->options->max_depth == 0) return NULL;
     levels_open(&levels);

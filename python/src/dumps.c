@@ -20,16 +20,6 @@ static int to_read(Documents *all, size_t at, size_t len, struct bytes *document
     return 0;
 }
 
-/* Lets other threads run and signals be heard, once for so many bytes that were read. */
-static int breathe(size_t *since, size_t len) {
-    *since += len;
-    if (*since <= LET_GO_OVER) return 0;
-    *since = 0;
-    Py_BEGIN_ALLOW_THREADS
-    Py_END_ALLOW_THREADS
-    return PyErr_CheckSignals();
-}
-
 /* With errors="skip", or a call for errors, a document that raised BsonError is passed over: 0; else -1 with the error set. */
 static int passed_over(const struct options *options) {
     PyObject *type, *error, *trace, *result;
@@ -56,7 +46,8 @@ static int without_document(Documents *all, const struct options *options, enum 
 }
 
 int take_each(Documents *all, const struct options *options, document_taker *take, void *to) {
-    size_t at, len, since = 0;
+    size_t at, len;
+    struct breath breath = {0, 0};
     for (;;) {
         enum cut cut = next_cut(all, &at, &len);
         struct bytes document;
@@ -70,7 +61,7 @@ int take_each(Documents *all, const struct options *options, document_taker *tak
             if (passed_over(options) < 0) return -1;
             if (all->resyncs && documents_resync(all, at, options->max_depth) < 0) return -1;
         }
-        if (breathe(&since, len) < 0) return -1;
+        if (breathe(&breath, len) < 0) return -1;
     }
 }
 

@@ -101,6 +101,17 @@ static inline struct bytes bytes_part(const uint8_t *at, size_t len) {
         }                                                                                                                      \
     } while (0)
 
+/* How much a long call has read, and when it last let others run. */
+struct breath {
+    size_t unheard; /* bytes since signals were looked for */
+    int64_t at;     /* in nanoseconds; 0: not yet */
+};
+
+/* Lets signals be heard once in LET_GO_OVER bytes, and other threads run once in ten milliseconds: 0, or -1 with an error set. A thread
+ * asks for the interpreter's lock once nobody has let go of it for sys.getswitchinterval(), five milliseconds; who lets go more often,
+ * each time for a moment, may never be asked. */
+int breathe(struct breath *breath, size_t len);
+
 /* Bytes that elements and iterators keep open. */
 typedef struct {
     PyObject_HEAD

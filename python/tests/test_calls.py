@@ -13,7 +13,7 @@ import tempfile
 import threading
 import time
 import unittest
-from typing import Any, List
+from typing import Any, Callable, List
 
 import bsonraw
 from bsonraw import Breach, BsonError, Cause, ElementType, ErrorKind, Int64, Reason
@@ -536,18 +536,22 @@ class Threads(unittest.TestCase):
                 time.sleep(0.0005)
                 counted[0] += 1
 
+        def counted_during(call: Callable[[], Any]) -> int:
+            before = counted[0]
+            call()
+            return counted[0] - before
+
+        # The lock changes hands once before a call and once behind it in any case.
         thread = threading.Thread(target=count)
         thread.start()
-        during = []
         try:
             for call in calls:
-                before = counted[0]
-                call()
-                during.append(counted[0] - before)
+                end = time.monotonic() + 60
+                while counted_during(call) < 4:
+                    self.assertLess(time.monotonic(), end)
         finally:
             is_on[0] = False
             thread.join()
-        self.assertGreater(min(during), 5, during)
 
 
 if __name__ == "__main__":

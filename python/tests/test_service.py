@@ -254,7 +254,7 @@ class Held(unittest.TestCase):
             self.assertLess(time.process_time() - begun, 0.3)
 
     def test_others_run_between_documents(self) -> None:
-        dump = many(300_000)
+        dump = many(1_000_000)
         counted = [0]
         is_on = [True]
 
@@ -263,19 +263,23 @@ class Held(unittest.TestCase):
                 time.sleep(0.0005)
                 counted[0] += 1
 
+        def counted_during(read: Callable[[Any], Any], source: Any) -> int:
+            before = counted[0]
+            read(source)
+            return counted[0] - before
+
+        # The lock changes hands once before a call and once behind it in any case.
         thread = threading.Thread(target=count)
         thread.start()
-        during = []
         try:
             for read in (bsonraw.decode_all, bsonraw.columns):
                 for source in (dump, bytearray(dump)):
-                    before = counted[0]
-                    read(source)
-                    during.append(counted[0] - before)
+                    end = time.monotonic() + 60
+                    while counted_during(read, source) < 4:
+                        self.assertLess(time.monotonic(), end)
         finally:
             is_on[0] = False
             thread.join()
-        self.assertGreater(min(during), 5, during)
 
     def test_the_collector_is_on_again(self) -> None:
         for was_on in (True, False):
