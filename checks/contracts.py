@@ -15,7 +15,12 @@ from typing import Dict, Iterator, List, NamedTuple, Optional, Set
 USED = ["raw_bson", "raw_form", "raw_shelf", "bson_json", "bson_from_json"]
 CRATES = ["bson_model", "raw_view", "raw_tree", *USED]
 # the calls of the programs that PROMISES.md names
-PROGRAMS = {"bsonraw/src/answer.rt": ["answer"], "bsonraw/src/run.rt": ["run"], "bsonraw_dump/src/run.rt": ["run", "put_summary"]}
+PROGRAMS = {
+    "bsonraw/src/answer.rt": ["answer"],
+    "bsonraw/src/run.rt": ["run"],
+    "bsonraw_dump/src/batch.rt": ["status_of"],
+    "bsonraw_dump/src/run.rt": ["run", "put_summary"],
+}
 KINDS = "fn|struct|enum|type|const|trait"
 
 
@@ -143,8 +148,10 @@ class Words:
             words: Dict[str, str] = {}
             word = edge = ""
             for line in (self.crates / file).read_text(encoding="utf-8").splitlines():
-                if re.match(r"\S", line) and not line.startswith("--"):
-                    edge = "  " if line.startswith("module ") else ""
+                if line.strip() and not line.strip().startswith("--"):
+                    edge = edge[: len(line) - len(line.lstrip())]
+                if re.match(r" *(module |(\w+ )?mutual$)", line):
+                    edge += "  "
                 begun = re.match(rf"{edge}(?:abbrev |unfoldable |pub |data |record )*([^\s({{:-][^\s({{:]*)", line)
                 if begun and begun[1] not in ("use", "mod", "module", "infixr", "infixl", "unfolding"):
                     word = begun[1]
@@ -180,10 +187,14 @@ def of_programs(crates: Path) -> Iterator["tuple[str, str]"]:
     for path in sorted(crates.glob("bsonraw*/src/**/*.rt")):
         name = str(path.relative_to(crates))
         lines = path.read_text(encoding="utf-8").splitlines()
+        lost = set(PROGRAMS.get(name, []))
         for number, line in enumerate(lines, 1):
             found = re.match(r'pub (extern "C" )?fn (\w+)', line)
             if found and (found[1] or found[2] in PROGRAMS.get(name, [])):
+                lost.discard(found[2])
                 yield name, clauses_of(lines, number)
+        if lost:
+            raise SystemExit(f"contracts: {name} has no call {', '.join(sorted(lost))}")
 
 
 class Crates:
@@ -245,9 +256,10 @@ def families(calls: List[Item]) -> Iterator["tuple[list[Item], str]"]:
 def page(crates: Crates) -> Iterator[str]:
     """The lines of the page."""
     yield "# Contracts\n"
-    yield "Every public item of `raw_bson`, `raw_form` and `raw_shelf`, by the first sentence of its comment. The contract is where the"
-    yield "link leads, in the source: the whole comment, the signature and its clauses. [DEFINITIONS.md](DEFINITIONS.md) says how a clause"
-    yield "reads and what its words mean. `checks/contracts.sh --write` writes this page; don't edit it."
+    yield "Every public item of `raw_bson`, `raw_form`, `raw_shelf`, `bson_json` and `bson_from_json`, by the first sentence of its comment."
+    yield "The contract is where the link leads, in the source: the whole comment, the signature and its clauses."
+    yield "[DEFINITIONS.md](DEFINITIONS.md) says how a clause reads and what its words mean. `checks/contracts.sh --write` writes this page;"
+    yield "don't edit it."
     shown = [item for item in crates.all() if crates.is_shown(item)]
     for group, names in crates.lists.items():
         found = {name: [item for item in shown if name in (item.owner or item.name, item.owner)] for name in names}
