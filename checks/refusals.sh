@@ -1,8 +1,8 @@
 #!/bin/sh
-# refusals.sh FILE: runs each scenario of the file (checks/refusals.txt says how they are written) with its first,
-# second, third, .. request for memory refused, until a run meets no refusal. It takes the program and the tests as they
-# were built last, by bin/test or by `rt run` and `rt test`, and goes through as many scenarios at a time as there are
-# processors.
+# refusals.sh FILE [CRATE..]: runs each scenario of the file (checks/refusals.txt says how they are written), or those of
+# these crates, with its first, second, third, .. request for memory refused, until a run meets no refusal. It takes the
+# program and the tests as they were built last, by bin/test or by `rt run` and `rt test`, and goes through as many
+# scenarios at a time as there are processors.
 #
 # A program gives the result of ample memory, or status 4 or 5 and nothing: 5 where memory ran out for what is read, 4 where
 # it was wanted for anything else, which comes at least once. The run that meets no refusal gives that result. A
@@ -10,7 +10,16 @@
 # and none twice.
 set -u
 script=$(realpath "$0")
-case $1 in --one) ;; *) list=$(realpath "$1") ;; esac
+crates=
+case $1 in
+--one) ;;
+*)
+    list=$(realpath "$1")
+    shift
+    crates=$*
+    set -- "$list"
+    ;;
+esac
 cd "$(dirname "$script")/.." || exit 1
 
 ulimit -c 0 # a test that fails aborts, and leaves no core file
@@ -145,6 +154,7 @@ unlisted() {
     for program in crates/*/out/*_tests; do
         crate=${program#crates/}
         crate=${crate%%/*}
+        case " ${crates:-$crate} " in *" $crate "*) ;; *) continue ;; esac
         grep -rqs '^#\[cfg(test)\]' "crates/$crate/src" || continue
         to_be_refused "$crate" | while IFS= read -r name; do
             grep -Eq "^(test $crate $name( [0-9]+)?|refused $crate $name)\$" "$1" || echo "$crate $name"
@@ -168,11 +178,13 @@ trap 'rm -rf "$folder"' EXIT
 # The kit's own clang, so that no other compiler is needed.
 kit=$(dirname "$(rt doc)")
 "$kit/toolchain/bin/clang" -shared -fPIC -O1 -nostdlib -fuse-ld=lld -o "$folder/refuse.so" checks/refuse.c || exit 1
-sed '/^#/d; /^$/d' "$list" >"$folder/scenarios"
+sed '/^#/d; /^$/d' "$list" |
+    awk -v crates=" $crates " 'crates == "  " || index(crates, $1 == "program" ? " bsonraw " : " " $2 " ")' >"$folder/scenarios"
 [ -s "$folder/scenarios" ] || exit 1
 
 # No test that is there to be refused is left out. First: one that is left out is seen, of each sort of crate.
 for sort in 'memory_tests [^ ]*' '[^ ]* memory::[^ ]*'; do
+    [ -z "$crates" ] || break
     gone=$(sed -n "s/^test \($sort\).*/\1/p" "$folder/scenarios" | head -n 1)
     grep -v "^test $gone\( \|\$\)" "$folder/scenarios" >"$folder/shortened"
     if [ -z "$gone" ] || ! unlisted "$folder/shortened" | grep -qx "$gone"; then
