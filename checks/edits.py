@@ -22,9 +22,10 @@ What each edit came to:
 
 The first is well, the second is told, so that somebody mends the edit, and the others fail the run. Each verdict but bad is
 kept at once in ~/.cache/foyeranise, by a checksum of all that it rests on, and --anew ignores these. The proofs that edits
-are tried over go on from what `rt check` left in the crates' out/, but with --from-nothing. Two flags prove nothing, and
-look at the edits of must-fail/ too: --applies sees that each edit applies, and --compiles that each edited text compiles,
-many edits in a copy, over the libraries that `rt check` built.
+are tried over go on from what `rt check` left in the crates' out/, but with --from-nothing; --leave leaves what the proof of
+a crate as it is kept, for the crate's build. Two flags prove nothing, and look at the edits of must-fail/ too: --applies sees
+that each edit applies, and --compiles that each edited text compiles, many edits in a copy, over the libraries that
+`rt check` built.
 """
 
 import argparse
@@ -212,8 +213,8 @@ def share_work(from_top, to_top, crate, *parts):
 class Prover:
     """Checks copies of the repository, each crate over what the check of the crate as it is left."""
 
-    def __init__(self, top, jobs, keep, from_nothing):
-        self.top, self.jobs, self.keep, self.checks = top, jobs, keep, 0
+    def __init__(self, top, jobs, keep, from_nothing, leave=None):
+        self.top, self.jobs, self.keep, self.leave, self.checks = top, jobs, keep, leave, 0
         self.counting = threading.Lock()
         self.room = pathlib.Path(tempfile.mkdtemp(prefix="edits-"))
         self.proved = self.copy("proved")
@@ -255,6 +256,8 @@ class Prover:
             return False
         # (a check of a crate above goes on with this work, too)
         share_work(self.proved, self.room / "kept", crate, "incremental")
+        if self.leave and self.leave[0] == crate:
+            shutil.copytree(self.proved / "crates" / crate / "out" / "incremental", self.leave[1], copy_function=os.link)
         return True
 
     def check_edited(self, crate, texts, *flags):
@@ -450,9 +453,9 @@ def compile_all(top, edits, jobs):
     return prover.checks
 
 
-def try_all(top, edits, jobs, at_once, keep, from_nothing):
+def try_all(top, edits, jobs, at_once, keep, from_nothing, leave):
     """Proves each crate that has edits to try, and those below, and tries the edits as soon as their crate is proved."""
-    prover = Prover(top, jobs, keep, from_nothing)
+    prover = Prover(top, jobs, keep, from_nothing, leave)
     try:
         prove_and_try(prover, edits, at_once)
     finally:
@@ -483,6 +486,7 @@ def main():
     words.add_argument("crates", nargs="*", metavar="CRATE", help="only the edits of these crates")
     words.add_argument("--anew", action="store_true", help="try each edit, whatever earlier runs kept")
     words.add_argument("--from-nothing", action="store_true", help="take nothing that rt check left in the crates' out/")
+    words.add_argument("--leave", nargs=2, metavar=("CRATE", "FOLDER"), help="leave in this new folder what the proof of the crate kept")
     words.add_argument("--applies", action="store_true", help="prove nothing, and see that each edit applies")
     words.add_argument("--compiles", action="store_true", help="prove nothing, and see that each edited text compiles")
     words.add_argument("--jobs", type=int, default=1, help="what rt check is given (default: 1)")
@@ -505,7 +509,7 @@ def main():
         left = [it for it in edits if not it.verdict]
         print(f"edits: {len(edits)}, of which {len(edits) - len(left)} were settled before", flush=True)
         if left:
-            checks = try_all(given.top, left, given.jobs, given.at_once, store.keep, given.from_nothing)
+            checks = try_all(given.top, left, given.jobs, given.at_once, store.keep, given.from_nothing, given.leave)
     wrong = [it for it in edits if it.verdict in (NOT_REFUSED, BAD)]
     spent = resource.getrusage(resource.RUSAGE_CHILDREN)
     print(

@@ -66,8 +66,9 @@ class Edits(unittest.TestCase):
             "next_is_wrong": edit(NEXT_IS_WRONG, functions="next"),
             "after_next_is_wrong": edit(("next(x) + 1", "next(x) + 2"), functions="after_next"),
             "the_file_is_wrong": edit(NEXT_IS_WRONG),
-        })
+        }, "--leave", "tiny", str(self.top / "kept"))
         self.assertEqual(status, 0, printed)
+        self.assertTrue(any((self.top / "kept").iterdir()))
         self.assertIn("edits: 3 of 3 are refused", printed)
 
     def test_borrows_that_wait_for_a_callee_are_no_verdict(self):
