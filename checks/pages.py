@@ -2,7 +2,10 @@
 
     pages.py blocks KIND FOLDER PAGE..   writes each block of this kind into a file, such as FOLDER/docs_calling_1.rt
     pages.py shown PAGE..                says each block that nothing looks at, and each link that leads nowhere
-    pages.py run PAGE..                  runs the commands of each page, and compares their output with what it shows
+    pages.py run [--as-typed] PAGE..     runs the commands of each page, and compares their output with what it shows
+    pages.py script [--as-typed] TEXTS PAGE..
+                                         prints the commands without an output as a script: those of the first page, then those of each
+                                         other one in a shell of its own; without the lines that have one of these texts, with commas
     pages.py tests FOLDER FILE..         writes the examples in doc comments of each file of Rust as tests, such as
                                          FOLDER/raw_view_array.rt with a test line_25, and says how many they are
 
@@ -146,22 +149,35 @@ class Example(NamedTuple):
     output: Optional[str]
 
 
-def examples(page: str) -> List[Example]:
-    """The commands that a page shows. `--unproved` is left away: checks/examples.sh tries that."""
+def examples(page: str, as_typed: bool = False) -> List[Example]:
+    """The commands that a page shows. `--unproved` is left away unless they are to be as they are typed."""
     found = []
     shown = blocks(page)
     for block, behind in zip(shown, [*shown[1:], None]):
         if block.kind == "sh":
             output = behind.text if behind and behind.kind == "text" and behind.follows else None
-            found.append(Example(re.sub(r"^(.*?) --unproved", r"\1", block.text, flags=re.M), output))
+            commands = block.text if as_typed else re.sub(r"^(.*?) --unproved", r"\1", block.text, flags=re.M)
+            found.append(Example(commands, output))
     return found
 
 
-def run(page: str) -> "tuple[int, list[str]]":
+def script(pages: "List[tuple[str, str]]", without: List[str], as_typed: bool = False) -> str:
+    """The commands of these pages, each with its name, that show no output: see above."""
+    parts = ["set -e\n"]
+    for number, (name, page) in enumerate(pages):
+        texts = [example.commands for example in examples(page, as_typed) if example.output is None]
+        lines = [line for text in texts for line in text.splitlines() if not any(word in line for word in without)]
+        if lines:
+            body = f"echo '{name}: {len(lines)} lines are typed'\n" + "".join(line + "\n" for line in lines)
+            parts.append(body if number == 0 else f"(\n{body})\n")
+    return "".join(parts)
+
+
+def run(page: str, as_typed: bool = False) -> "tuple[int, list[str]]":
     """How many examples of a page were run, and what is wrong with them."""
     wrong = []
     count = 0
-    for example in examples(page):
+    for example in examples(page, as_typed):
         if example.output is None:
             if "bin/bsonraw" in example.commands:
                 wrong.append(f"it doesn't show what comes of: {example.commands}")
@@ -237,14 +253,22 @@ def main(command: str, *arguments: str) -> int:
     if command == "tests":
         print(write_tests(Path(arguments[0]), list(arguments[1:])))
         return 0
+    names = list(arguments)
+    as_typed = names[:1] == ["--as-typed"]
+    del names[:as_typed]
+    if command == "script":
+        texts, *names = names
+        read = [(name, Path(name).read_text(encoding="utf-8")) for name in names]
+        print(script(read, [text for text in texts.split(",") if text], as_typed), end="")
+        return 0
     failed = False
-    texts = sources() if command == "shown" else []
-    for name in arguments:
+    standing = sources() if command == "shown" else []
+    for name in names:
         page = Path(name).read_text(encoding="utf-8")
         if command == "shown":
-            wrong = [*strange_blocks(page, texts), *lost_links(page, Path(name).parent)]
+            wrong = [*strange_blocks(page, standing), *lost_links(page, Path(name).parent)]
         else:
-            count, wrong = run(page)
+            count, wrong = run(page, as_typed)
             if count == 0 and name in MUST_RUN:
                 wrong.append("it shows no output")
             elif count > 0:

@@ -134,8 +134,14 @@ class Run(unittest.TestCase):
         self.assertEqual(pages.run(fenced("sh", "echo b\n")), (0, []))
 
     def test_unproved_is_left_away(self) -> None:
-        ((commands, output),) = pages.examples(fenced("sh", "bin/bsonraw --unproved list\n") + fenced("text", "b\n"))
-        self.assertEqual((commands, output), ("bin/bsonraw list\n", "b\n"))
+        page = fenced("sh", "bin/bsonraw --unproved list\n") + fenced("text", "b\n")
+        self.assertEqual(pages.examples(page), [("bin/bsonraw list\n", "b\n")])
+        self.assertEqual(pages.examples(page, True), [("bin/bsonraw --unproved list\n", "b\n")])
+
+    def test_a_script_of_what_shows_no_output(self) -> None:
+        shown = [("one", fenced("sh", "cd a\n")), ("two", fenced("sh", "b\n") + fenced("text", "c\n")), ("three", fenced("sh", "d\njq e\n"))]
+        wanted = "set -e\necho 'one: 1 lines are typed'\ncd a\n(\necho 'three: 1 lines are typed'\nd\n)\n"
+        self.assertEqual(pages.script(shown, ["jq"]), wanted)
 
 
 if __name__ == "__main__":

@@ -7,7 +7,7 @@ cd "$(dirname "$(realpath "$0")")/.." || exit 1
 command -v python3 >/dev/null || exit 0
 work=$(mktemp -d) || exit 1
 trap 'rm -rf "$work"' EXIT
-compared="bytes speed"
+compared="bytes rescue speed"
 
 # differs FOLDER: says each picture that isn't what the sources of this folder give
 differs() {

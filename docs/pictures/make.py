@@ -77,7 +77,7 @@ def parts_of(data):
             left = len(data) - payload - 4
             parts.append((payload, 4, f"length {text}", GREEN))
             if text > left:
-                return parts + [(payload + 4, left, "final 0", GREY)], (at, f"a stop: the text claims {text} bytes, {left} is left")
+                return parts + [(payload + 4, left, "final 0", GREY)], (at, f"the text claims {text} bytes, {left} is left")
             parts.append((payload + 4, text, data[payload + 4 : payload + 3 + text].decode(), GREEN))
             size = 4 + text
         else:
@@ -92,7 +92,7 @@ def bytes_picture():
     for name, heading, remark in [
         ("greeting", "A sound document", ""),
         ("truncated", "A document that stops", ""),
-        ("boolean-two", "A document with a faulty value", "; a fault of the value: a boolean is 0 or 1; its frame is sound"),
+        ("boolean-two", "A document with a damaged value", "; its value is damaged, since a boolean is 0 or 1"),
     ]:
         data = bytes.fromhex((ROOT / f"examples/{name}.hex").read_text())
         parts, stop = parts_of(data)
@@ -113,7 +113,7 @@ def bytes_picture():
         y += 70
         begin, end = left + 4 * cell, left + (len(data) - 1) * cell - 2
         picture.line([(begin, y), (begin, y + 6), (end, y + 6), (end, y)], LIGHT_RED if stop else TEXT)
-        label = f"no frame at offset {stop[0]}, {stop[1]}" if stop else f"a frame at offset 4{remark}"
+        label = f"no element at offset {stop[0]}: {stop[1]}" if stop else f"an element at offset 4{remark}"
         picture.text(begin, y + 24, label, LIGHT_RED if stop or remark else TEXT, 13)
         picture.text(begin, y + 42, f"list prints: {printed}", size=13, mono=True)
         y += 84
@@ -123,7 +123,7 @@ def bytes_picture():
 
 # ---- a damaged dump ------------------------------------------------------------------------------------------------------
 
-SEARCHED = "behind a length that can't be, each place is looked at, up to where documents go on"
+SEARCHED = "behind a length that can't be right, each place is looked at until documents go on"
 
 
 def rescue_picture():
@@ -177,7 +177,7 @@ GIVES = {
     "bson_from_json": "documents from Extended JSON",
     "bsonraw": "the program for one document in hex",
     "bsonraw_dump": "the program for dumps",
-    "bsonraw_c": "the library for C, and so for Python",
+    "bsonraw_c": "the library for C, and so for Python and Rust",
     "bson_uses": "proved callers, to copy from",
     "wire_message": "prints a message of the wire protocol",
 }
@@ -300,7 +300,7 @@ COLOURS = {"This library": BLUE, "Rust crate": BROWN, "libbson": GREEN, "C by ha
 def speed_picture():
     picture = Picture("Speed beside the Rust crate, libbson, C by hand and MongoDB's package for Python: shorter is faster", 900)
     left, right, y = 190, 800, 30
-    picture.text(24, y, "Shorter is faster. Of elements and look-up libbson judges no key as UTF-8; bson_validate looks for no repeated key.", size=12)
+    picture.text(24, y, "Shorter is faster. Going over elements and looking up, libbson judges no key as UTF-8; bson_validate looks for no repeated key.", size=12)
     y += 30
     for title, unit, section, row, columns in BARS:
         values = [1.0 if column == PEER else figures(section, row, [column])[0] for column in columns]
@@ -312,7 +312,7 @@ def speed_picture():
             length = max(2, round((right - left) * value / max(values)))
             picture.text(left - 10, y + 4, name, size=13, anchor="end", bold=name == "This library")
             picture.box(left, y - 7, length, 14, COLOURS[name], 2)
-            picture.text(left + length + 8, y + 4, f"{value:,.0f}" if value >= 10 else f"{value:g}", size=13)
+            picture.text(left + length + 8, y + 4, f"{value:,.0f}" if value >= 100 else f"{value:g}", size=13)
         y += 31
     picture.height = y - 8
     return picture
