@@ -1,4 +1,4 @@
-"""Writes docs/CONTRACTS.md: a row for each public item of the crates that a user names, with the line where it is.
+"""Writes docs/CONTRACTS.md: a row for each public item of the crates that a user names, with a link to its file.
 
     contracts.py FOLDER           prints the page for the crates below FOLDER/crates
     contracts.py --words FOLDER   prints each file of specs/ whose words clauses of these items, of the programs and of the
@@ -32,7 +32,6 @@ class Item(NamedTuple):
     kind: str  # the word before its name; `impl` of a trait, `call` of a call, `hidden` of a trait that isn't public
     comment: str
     file: str
-    line: int
     clauses: str
 
 
@@ -73,16 +72,16 @@ def items_of(path: Path, name: str) -> Iterator[Item]:
         found = re.match(rf"pub (?:const )?({KINDS}) (\w+)", line)
         call = re.match(r"    (pub )?(?:const )?fn (\w+)", line)
         if found:
-            yield Item("", found[2], found[1], comment, name, number, clauses_of(lines, number))
+            yield Item("", found[2], found[1], comment, name, clauses_of(lines, number))
             owner, trait = (found[2], "") if found[1] == "trait" else ("", "")
         elif re.match(r"(pub\(crate\) )?trait \w", line):
-            yield Item("", line.split("trait ")[1].split()[0].split("<")[0].rstrip(":"), "hidden", comment, name, number, "")
+            yield Item("", line.split("trait ")[1].split()[0].split("<")[0].rstrip(":"), "hidden", comment, name, "")
         elif re.match(r"impl[ <]", line):
             owner, trait = impl_of(line)
             if trait:
-                yield Item(owner, trait, "impl", comment, name, number, "")
+                yield Item(owner, trait, "impl", comment, name, "")
         elif call and owner and not trait and (call[1] or lines_open_trait(lines, number)):
-            yield Item(owner, call[2], "call", comment, name, number, clauses_of(lines, number))
+            yield Item(owner, call[2], "call", comment, name, clauses_of(lines, number))
         if line.startswith("}"):
             owner = trait = ""
         comment = ""
@@ -232,7 +231,7 @@ class Crates:
 
 
 def link(item: Item, text: Optional[str] = None) -> str:
-    return f"[`{text or item.name}`](../crates/{item.file}#L{item.line})"
+    return f"[`{text or item.name}`](../crates/{item.file})"
 
 
 def row(items: List[Item], text: str) -> str:
@@ -257,7 +256,7 @@ def page(crates: Crates) -> Iterator[str]:
     """The lines of the page."""
     yield "# Contracts\n"
     yield "Every public item of `raw_bson`, `raw_form`, `raw_shelf`, `bson_json` and `bson_from_json`, by the first sentence of its comment."
-    yield "The contract is where the link leads, in the source: the whole comment, the signature and its clauses."
+    yield "The contract is in the source to which the link leads: the whole comment, the signature and its clauses."
     yield "[DEFINITIONS.md](DEFINITIONS.md) says how a clause reads and what its words mean. `checks/contracts.sh --write` writes this page;"
     yield "don't edit it."
     shown = [item for item in crates.all() if crates.is_shown(item)]

@@ -1,5 +1,5 @@
 #!/bin/sh
-# docs/CONTRACTS.md has a row for each public item, with the line where it is, and DEFINITIONS.md names each file of
+# docs/CONTRACTS.md has a row for each public item, with a link to its file, and DEFINITIONS.md names each file of
 # specs/ whose words their clauses cite, or those of the programs and of the library for C, or a definition that one of
 # these stands on. contracts.py takes both from the sources.
 #
@@ -40,7 +40,7 @@ if [ "${1-}" = --write ]; then
     exit
 fi
 
-# A call that is new or has another name shows in the page, and so does another comment, another line, a trait that a type
+# A call that is new or has another name shows in the page, and so does another comment, a trait that a type
 # has no longer, a name that is passed on no longer, and one that is passed on and is nowhere.
 mkdir "$work/crates"
 git ls-files -z crates | grep -zE '^crates/[a-z_]*/(src|specs)/' | xargs -0 cp --parents -t "$work"
@@ -52,7 +52,6 @@ differs '/^impl From<NoMemory> for AnyError/,/^}/d' raw_bson/src/any_error.rt
 differs 's/^impl std::error::Error for AnyError/impl Eq for AnyError/' raw_bson/src/any_error.rt
 differs '/^    Breach, Cause/s/Cause, //' raw_bson/src/lib.rt
 differs 's/^pub struct Limits/pub struct Bounds/' raw_tree/src/reader/limits.rt
-differs '1s/^/\/\/! Another line.\n/' bson_model/src/times.rt
 
 if ! cmp -s "$work/page" "$page"; then
     diff "$page" "$work/page" | head -40 >&2
