@@ -6,8 +6,9 @@
 #
 # A program gives the result of ample memory, or status 4 or 5 and nothing: 5 where memory ran out for what is read, 4 where
 # it was wanted for anything else, which comes at least once. The run that meets no refusal gives that result. A
-# test passes in each run. Whatever was refused, each block of memory that a run was given has been released at its end,
-# and none twice.
+# test passes in each run. The program for dumps gives the result of ample memory, or a front of it and status 4, or 2 where
+# memory ran out for the arguments. Whatever was refused, each block of memory that a run was given has been released at its
+# end, and none twice.
 set -u
 script=$(realpath "$0")
 crates=
@@ -44,6 +45,16 @@ program_answered() {
     "status 5") ;;
     *) false ;;
     esac
+}
+
+# Whether the last run of the program for dumps gave the result of ample memory, or gave up behind a front of it.
+dump_answered() {
+    cmp -s "$wanted" "$work/output" && return
+    [ "$requests" -ge "$n" ] && case $status in
+    4) wanted_memory=yes ;;
+    2) ;;
+    *) false ;;
+    esac && cmp -s -n "$(($(wc -c <"$work/output") - 9))" "$wanted" "$work/output"
 }
 
 # A test says by its own status whether it passed.
@@ -101,14 +112,24 @@ in_runs() {
 run_scenario() {
     wanted_requests=
     case $1 in
-    program)
-        input=examples/$3.hex
-        wanted=examples/$3.$2
+    program | dump)
         wanted_memory=no
-        each_refused program_answered crates/bsonraw/out/bsonraw "$2" || return 1
-        shift 3
+        if [ "$1" = program ]; then
+            input=examples/$3.hex
+            wanted=examples/$3.$2
+            each_refused program_answered crates/bsonraw/out/bsonraw "$2" || return 1
+        else
+            input=/dev/null
+            wanted=$work/wanted
+            python3 -c 'import sys; sys.stdout.buffer.write(bytes.fromhex(sys.stdin.read()))' <"examples/$3.hex" >"$work/dump" || return 1
+            crates/bsonraw_dump/out/bsonraw_dump "$2" "$work/dump" >"$wanted" 2>/dev/null
+            echo "status $?" >>"$wanted"
+            each_refused dump_answered crates/bsonraw_dump/out/bsonraw_dump "$2" "$work/dump" || return 1
+        fi
         # shellcheck disable=SC2086 # a word each
         given=$(in_runs $statuses)
+        [ "$1" = program ] || given=$(echo "$given" | sed 's/x[0-9]*//g')
+        shift 3
         if [ -z "$given" ] || [ "$given" != "$*" ]; then
             echo "$scenario: the requests refused gave the statuses $given" >&2
             return 1
