@@ -1,7 +1,69 @@
 #!/bin/sh
-# The commands that the pages show print what the pages show: of each block `sh` with a block `text` behind it, the first
-# is run at the top of the repository, and its output is the second. It takes the proved program; `--unproved` is left
-# away, since examples.sh tries that. A block `sh` that calls bin/bsonraw has its output behind it. pages.py runs them.
+# The commands that the pages show do what the pages say, in a copy of this repository. A block `sh` with a block `text` behind it prints
+# that; a block that calls bin/bsonraw has one. Any other command has to end well, behind those of README, which install everything.
+# pages.py says how. What was left out, since a tool is missing, is said in the last line.
+#
+#   checks/pages.sh            with what is built here, and `--unproved` left away, since checks/examples.sh tries that
+#   checks/pages.sh --fresh    with nothing built, as a newcomer types them: for a release; half an hour to an hour
+#
+# What pages name beside their blocks is run by others: `rt try` and `rt run` by compiles.sh and must-fail edits, `cargo` by rust.sh,
+# `apt` by packages.sh, `--target aarch64` by arm.sh.
 set -u
 cd "$(dirname "$(realpath "$0")")/.." || exit 1
-exec python3 -B checks/pages.py run README.md CONTRIBUTING.md docs/*.md examples/README.md
+case "$*" in "") as_typed= ;; --fresh) as_typed=--as-typed ;; *) echo "usage: checks/pages.sh [--fresh]" >&2 && exit 2 ;; esac
+work=$(mktemp -d) || exit 1
+trap 'rm -rf "$work"' EXIT
+clone=$work/clone
+home=$HOME
+mkdir "$clone" "$work/home" || exit 1
+git ls-files -z --cached --others --exclude-standard | xargs -0 cp -P --parents -t "$clone" || exit 1
+if [ -z "$as_typed" ]; then
+    for built in crates/bsonraw/out/bsonraw crates/bsonraw_dump/out/bsonraw_dump crates/bsonraw_c/out/libbsonraw_c.a; do
+        cp -p --parents "$built" "$clone" || exit 1
+        touch "$clone/$(dirname "$built")/built"
+    done
+    [ ! -d crates/bsonraw_c/out/baseline ] || cp -rp --parents crates/bsonraw_c/out/baseline "$clone" || exit 1
+fi
+cd "$clone" || exit 1
+pages='README.md examples/README.md CONTRIBUTING.md docs/*.md'
+failed=0
+
+# The files that the commands name.
+python3 -B checks/pages.py blocks c "$work" README.md && cp "$work/readme_1.c" keys.c && mkdir -p dump/shop || exit 1
+for name in greeting nested; do xxd -r -p "examples/$name.hex" >"dump/shop/$name.bson" || exit 1; done
+cat dump/shop/*.bson | gzip >orders.bson.gz || exit 1
+
+without=
+skipped=
+
+# skip WHAT TEXT: leaves out the lines that have this text
+skip() {
+    skipped="$skipped${skipped:+, }$1"
+    without="$without${without:+,}$2"
+}
+
+# A Python that can build the package stands in front.
+mkdir "$work/bin" || exit 1
+for python in python3 /usr/bin/python3; do
+    "$python" -c 'import ensurepip, setuptools, wheel' 2>/dev/null && ln -sf "$(command -v "$python")" "$work/bin/python3" && break
+done
+[ -e "$work/bin/python3" ] || skip "the Python package, without setuptools or wheel" "bsonraw/bin/,venv"
+"$work/bin/python3" -c 'import dask.distributed' 2>/dev/null || skip Dask "--workers 4"
+command -v jq >/dev/null || skip jq jq
+minor=$(cargo --version 2>/dev/null | sed -n 's/^cargo 1\.\([0-9]*\)\..*/\1/p')
+[ "${minor:-0}" -ge 81 ] || skip cargo "cargo"
+
+export HOME="$work/home" PATH="$work/home/.local/bin:$work/bin:$PATH" CARGO_NET_OFFLINE=true
+export CARGO_HOME="${CARGO_HOME-$home/.cargo}" RUSTUP_HOME="${RUSTUP_HOME-$home/.rustup}"
+# shellcheck disable=SC2086 # a list of pages, and a flag or none
+python3 -B checks/pages.py script $as_typed "$without" $pages >"$work/script" || exit 1
+if ! sh "$work/script" >"$work/said" 2>&1 </dev/null; then
+    cat "$work/said" >&2
+    echo "pages: a command of this page doesn't end well" >&2
+    failed=1
+fi
+grep ': [0-9]* lines are typed$' "$work/said"
+# shellcheck disable=SC2086
+python3 -B checks/pages.py run $as_typed $pages || failed=1
+[ -z "$skipped" ] || echo "pages: left out: $skipped"
+exit "$failed"
