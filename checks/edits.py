@@ -257,7 +257,7 @@ class Prover:
         # (a check of a crate above goes on with this work, too)
         share_work(self.proved, self.room / "kept", crate, "incremental")
         if self.leave and self.leave[0] == crate:
-            shutil.copytree(self.proved / "crates" / crate / "out" / "incremental", self.leave[1], copy_function=os.link)
+            shutil.copytree(self.proved / "crates" / crate / "out" / "incremental", self.leave[1])
         return True
 
     def check_edited(self, crate, texts, *flags):
