@@ -3,7 +3,7 @@
 # that; a block that calls bin/bsonraw has one. Any other command has to end well, behind those of README, which install everything.
 # pages.py says how. What was left out, since a tool is missing, is said in the last line.
 #
-#   checks/pages.sh            with what is built here, and `--unproved` left away, since checks/examples.sh tries that
+#   checks/pages.sh            with what bin/install built here, and `--unproved` left away, since checks/examples.sh tries that
 #   checks/pages.sh --fresh    with nothing built, as a newcomer types them: for a release; half an hour to an hour
 #
 # What pages name beside their blocks is run by others: `rt try` and `rt run` by compiles.sh and must-fail edits, `cargo` by rust.sh,
@@ -18,11 +18,12 @@ home=$HOME
 mkdir "$clone" "$work/home" || exit 1
 git ls-files -z --cached --others --exclude-standard | xargs -0 cp -P --parents -t "$clone" || exit 1
 if [ -z "$as_typed" ]; then
-    for built in crates/bsonraw/out/bsonraw crates/bsonraw_dump/out/bsonraw_dump crates/bsonraw_c/out/libbsonraw_c.a; do
-        cp -p --parents "$built" "$clone" || exit 1
-        touch "$clone/$(dirname "$built")/built"
+    for built in bsonraw/out/bsonraw bsonraw_dump/out/bsonraw_dump bsonraw_c/out/libbsonraw_c.a bsonraw_c/out/baseline; do
+        built=crates/$built
+        [ -e "$built" ] || { echo "pages: $built isn't there, which bin/install builds" >&2 && exit 1; }
+        cp -rp --parents "$built" "$clone" || exit 1
     done
-    [ ! -d crates/bsonraw_c/out/baseline ] || cp -rp --parents crates/bsonraw_c/out/baseline "$clone" || exit 1
+    for crate in bsonraw bsonraw_dump bsonraw_c; do touch "$clone/crates/$crate/out/built"; done
 fi
 cd "$clone" || exit 1
 pages='README.md examples/README.md CONTRIBUTING.md docs/*.md'
