@@ -113,7 +113,7 @@ try:
     subprocess.run(command, env={**os.environ, "LD_PRELOAD": "./passes.so"}, stdout=subprocess.DEVNULL, stderr=subprocess.DEVNULL, timeout=60)
     with open("blocks") as blocks:
         ways = sum(int(line.split()[1]) for line in blocks) * 4096 / os.path.getsize("costly")
-    wants("places", 4 < ways <= 9, f"{ways:.1f} ways through the input")
+    wants("places", 1 < ways <= 9, f"{ways:.1f} ways through the input")
 except subprocess.TimeoutExpired:
     wants("places", False, "no end within 60 seconds")
 sys.exit(failed)
