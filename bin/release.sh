@@ -6,6 +6,7 @@ soname=libbsonraw.so.${version%%.*}
 archive=$root/crates/bsonraw_c/out/libbsonraw_c.a
 baseline=$root/crates/bsonraw_c/out/baseline/libbsonraw_c.a
 arm=$root/crates/bsonraw_c/out/aarch64/libbsonraw_c.a
+heap=$root/release/heap.c # which the library for ARM has
 machine=x86_64 # the processors that are built for
 programs=bsonraw # the crates of the programs; what is installed has a - for each _
 [ ! -d "$root/crates/bsonraw_dump" ] || programs="$programs bsonraw_dump"
@@ -147,7 +148,7 @@ link_x86_64() {
 # link_aarch64 FOLDER: links the build for ARM and its heap into one object. The kit has no C library for ARM: one of names alone stands
 # for it, those that are called. Their version is that of the first C library for ARM.
 link_aarch64() {
-    compile_c "$root/release/heap.c" "$1" &&
+    compile_c "$heap" "$1" &&
         "$toolchain/bin/ld.lld" -r -o "$1/bsonraw.o" --whole-archive "$arm" --no-whole-archive "$1/heap.o" &&
         "$1/llvm-objcopy" --wildcard --keep-global-symbol='bsonraw_*' "$1/bsonraw.o" || return 1
     "$1/llvm-nm" --undefined-only --just-symbol-name "$1/bsonraw.o" "$1/daily.o" "$1/exported.o" | grep -x '[a-z0-9_][a-z0-9_]*' | grep -v '^bsonraw_' |

@@ -5,8 +5,8 @@
 #   checks/arm.sh
 #
 #   - the programs of c/tests with both libraries: every buffer at its edges, each request for memory refused, the builder, threads, texts,
-#     reasons, numbers, and what is written in C for daily use; what a reader written from the format alone says of 20,000 made and damaged documents; and with a mistake
-#     in the library that is noticed;
+#     reasons, numbers, and what is written in C for daily use; what a reader written from the format alone says of 20,000 made and
+#     damaged documents; and with a mistake in the library, or in its heap, that is noticed;
 #   - c/tests/print.c prints of each document of the tests what bsonraw prints on x86-64; the programs of examples/c;
 #   - in a Debian of ARM, as root and with the net, the tests of the Python package, with 20,000 made documents beside a slow reader.
 #
@@ -77,6 +77,19 @@ notices_a_mistake() {
     ! run wrong <"$work/documents" >/dev/null 2>&1 || fails "a test doesn't notice a mistake"
 }
 
+# With a heap that tells no refusal, whose blocks are too small, that loses what is in them as they grow, or that keeps them, a test
+# fails.
+notices_a_wrong_heap() {
+    for change in 's/{start != 0, /{1, /' 's/malloc(size == 0 ? align : size)/malloc(size \/ 2)/' 's/realloc(old, size == 0 ? align : size)/malloc(size)/' \
+        's/^    free(block);/    (void)block;/'; do
+        rm -rf "$work/linked" && mkdir "$work/linked" && sed "$change" release/heap.c >"$work/linked/heap.c" || exit 1
+        ! cmp -s release/heap.c "$work/linked/heap.c" || fails "this changes nothing in the heap: $change"
+        (heap=$work/linked/heap.c && link_libraries "$work/linked") >"$work/said" 2>&1 && cp "$work/linked/libbsonraw.a" "$prefix/lib/wrong.a" &&
+            compile wrong wrong.a c/tests/memory.c c/tests/documents.c || { fails "a library with another heap isn't built: $change" && continue; }
+        ! run wrong <"$work/documents" >/dev/null 2>&1 || fails "a test doesn't notice a heap that is changed so: $change"
+    done
+}
+
 # prints COMMAND HEX: what the library prints on ARM is what the program prints on x86-64
 prints() {
     { echo "$2" | crates/bsonraw/out/bsonraw "$1"; echo "status $?"; } >"$work/wanted"
@@ -141,6 +154,7 @@ bin/install --target aarch64 "$prefix" || exit 1
 documents >"$work/documents"
 try_c
 notices_a_mistake
+notices_a_wrong_heap
 look_at_output
 try_python
 [ "$failed" = 1 ] || note_passed
