@@ -3,6 +3,7 @@ pub mod Charging
 pub mod Fronts
 pub mod Costing
 pub mod Looking
+pub mod Tops
 pub mod Passing
 pub mod Joining
 pub mod Believing

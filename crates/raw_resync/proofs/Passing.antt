@@ -1,15 +1,17 @@
 -- Places that are passed, one after the other.
 use Rattle.std.proofs.Common.{◌≡◌, ℕ, ◌+◌, ◌-◌, ◌<◌, ◌≤◌, List, [], ◌++◌, Bool, true, false, arith, length, drop, sym, subst, refl, inl, inr}
 use Rattle.std.proofs.Math.Nat.{eq-or-lt_of_le}
+use Rattle.std.proofs.lemmas.Bool.{cases_lt}
 use Rattle.raw_tree.specs.declared.reader.limits.Limits.{Limits}
-use Rattle.raw_resync.specs.Resync.{GoesOnWith}
+use Rattle.raw_resync.specs.Resync.{EndsOrBegins, GoesOnWith}
 use Rattle.raw_resync.specs.Charge.{IsLeftOut}
-use Rattle.raw_resync.specs.Seeking.{Checks, MayFollow, PassesOver, Seeks, Works}
+use Rattle.raw_resync.specs.Seeking.{Checks, LacksPieces, MayFollow, PassesOver, Seeks, Works}
 use Rattle.raw_resync.specs.declared.search.Places.{Places}
 use Rattle.raw_resync.specs.declared.search.Sought.TheVariants as sought
 use Rattle.raw_resync.specs.declared.check.Check.TheVariants as check
 use Rattle.raw_resync.specs.declared.work.Work.{Work}
 use Rattle.raw_resync.proofs.Costing.{left_on, works_more, works_on}
+use Rattle.raw_resync.proofs.Fronts.{lacks_behind}
 
 -- no place is passed yet
 pub passes_none : (limits : Limits) (total : ℕ) (s : List ℕ) (from end : ℕ) (w : Work) → PassesOver limits total s from from end w true
@@ -58,6 +60,21 @@ passes_left limits total s from to end w all start left p = record {
   some = λ not. (to, start, omega arith, left);
 }
 
+-- they go on at none of the next places
+passes_none_of : (limits : Limits) (total : ℕ) (s : List ℕ) (from mid to end : ℕ) (w : Work) (all : Bool) → mid ≤ to
+    → ((j : ℕ) → mid ≤ j → j < to → ¬ GoesOnWith limits (end - j) (drop j s)) → PassesOver limits total s from mid end w all → PassesOver limits total s from to end w all
+passes_none_of limits total s from mid to end w all more none p = record {
+  each = λ j low high. elim (cases_lt j mid) [
+    | inl before ↦ p.each j low before
+    | inr behind ↦ inl (none j behind high)
+  ];
+  whole = λ is j low high. elim (cases_lt j mid) [
+    | inl before ↦ p.whole is j low before
+    | inr behind ↦ none j behind high
+  ];
+  some = λ not. let (j, low, high, left) = p.some not in (j, low, omega (arith, high, more), left);
+}
+
 -- what the loop keeps
 pub record HasPassed (limits : Limits) (bytes : List ℕ) (is_last : Bool) (at from to end : ℕ) (old new : Work) (all : Bool) : Type 0 where
   pub low : from ≤ to
@@ -72,6 +89,24 @@ has_passed_none limits bytes last at from end w within works = record {
   within = within;
   works = works;
   over = λ rest may. passes_none limits (at + length (bytes ++ rest)) (bytes ++ rest) from end w;
+}
+
+goes_begins : (limits : Limits) (least : ℕ) (s : List ℕ) → GoesOnWith limits least s → EndsOrBegins limits s
+goes_begins limits least s (inl none) = inl none
+goes_begins limits least s (inr (b, rest, sound, split, long, next)) = inr (rest, (b, sound, split))
+
+-- no piece is in front of the places up to the next one
+pub has_passed_lacking : (limits : Limits) (bytes : List ℕ) (last : Bool) (at from place next end : ℕ) (old new : Work) (all : Bool) → place < next → next ≤ length bytes
+    → LacksPieces limits.bytes last bytes place next → HasPassed limits bytes last at from (place + 1) end old new all → HasPassed limits bytes last at from next end old new all
+has_passed_lacking limits bytes last at from place next end old new all more within none p = record {
+  low = omega (arith, p.low, more);
+  within = within;
+  works = p.works;
+  over = λ rest may.
+      passes_none_of limits (at + length (bytes ++ rest)) (bytes ++ rest) from (place + 1) next end new all (omega (arith, more))
+      (λ j low high goes.
+      lacks_behind limits last j bytes rest (omega (arith, within, high)) (none j (omega (arith, low)) high) may (goes_begins limits (end - j) (drop j (bytes ++ rest)) goes))
+      (p.over rest may);
 }
 
 module _ (limits : Limits) (bytes : List ℕ) (last : Bool) (at from to end least : ℕ) (old mid new : Work) (all : Bool) (p : HasPassed limits bytes last at from to end old mid all)
@@ -105,6 +140,13 @@ module _ (limits : Limits) (bytes : List ℕ) (last : Bool) (at from to end leas
         over = λ rest may.
             passes_left limits (at + length (bytes ++ rest)) (bytes ++ rest) from to end new all p.low ((c.tells rest may).1) (since c.works rest may);
       }
+
+-- a place at which they don't go on, or that is left out, has bytes behind it
+pub stops_within : (limits : Limits) (bytes : List ℕ) (last : Bool) (at place least : ℕ) (old new : Work) → Checks limits bytes last at place least old new check.Stops → place < length bytes
+stops_within limits bytes last at place least old new c = (c.tells [] (λ ends. refl)).0
+
+pub left_within : (limits : Limits) (bytes : List ℕ) (last : Bool) (at place least : ℕ) (old new : Work) → Checks limits bytes last at place least old new check.LeftOut → place < length bytes
+left_within limits bytes last at place least old new c = (c.tells [] (λ ends. refl)).0
 
 -- what a search tells, where it stops at a place
 module _ (limits : Limits) (bytes : List ℕ) (last : Bool) (at : ℕ) (q : Places) (to least : ℕ) (old mid new : Work) (all : Bool)

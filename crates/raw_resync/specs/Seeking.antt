@@ -37,6 +37,10 @@ abbrev pub LacksPiece : ℕ → Bool → List ℕ → Type 0
 LacksPiece most is_last t =
     ((is_last ≡ true) × (0 < length t) × ((length t < 4) ⊎ (length t < said_len t))) ⊎ ((4 ≤ length t) × ((said_len t < 5) ⊎ (most < said_len t)))
 
+-- no piece is in front of what is between two places
+abbrev pub LacksPieces : ℕ → Bool → List ℕ → (place next : ℕ) → Type 0
+LacksPieces most is_last bytes place next = (j : ℕ) → place < j → j < next → LacksPiece most is_last (drop j bytes)
+
 -- what is in front behind so many bytes
 abbrev pub TellsFront : ℕ → List ℕ → Bool → ℕ → Front → Type 0
 TellsFront most bytes is_last place front.End = (is_last ≡ true) × (drop place bytes ≡ [])

@@ -1,57 +1,77 @@
-use Rattle.std.proofs.Common.{◌≡◌, ◌-◌, ◌≤◌, ◌<◌, ◌+◌, rules, arith, subst}
+use Rattle.std.proofs.Common.{◌≡◌, ◌-◌, ◌<◌, rules, arith, length, subst, false}
 use Rattle.raw_resync.specs.Seeking.{Checks}
-use Rattle.raw_resync.proofs.Passing.{has_passed_left, has_passed_stop, sought_found, sought_nowhere, sought_wants}
+use Rattle.raw_resync.proofs.Passing.{has_passed_lacking, has_passed_left, has_passed_stop, left_within, sought_found, sought_nowhere, sought_wants, stops_within}
 use Rattle.raw_resync.proofs.search.seek.Goals as goal
 use Rattle.raw_resync.proofs.search.seek.Goals.{in-Stops, in-LeftOut}
 
 pub returns-in-GoesOn-clause-sought : goal.returns-in-GoesOn-clause-sought
 returns-in-GoesOn-clause-sought c =
     let p = c.args.part in
-    let l = c.loop-place in
+    let l = c.looks in
     let least : c.saturating_sub-least.result ≡ c.args.places.end - l.place = search rules in
-    let high : l.place < c.args.places.until = omega (arith, c.loop-place-test.true) in
+    let high : l.place < c.args.places.until = omega (arith, c.looks-test.true) in
     let told = subst (Checks p.limits p.bytes.now p.is_last p.at l.place c.saturating_sub-least.result l.work c.check_at.new.work) c.in-GoesOn.is c.in_ok-check_at.ensures.checked in
     sought_found p.limits p.bytes.now p.is_last p.at c.args.places l.place c.saturating_sub-least.result c.args.work.now l.work c.check_at.new.work l.all l.invariant.2 least high told
 
 pub returns-in-Wants-clause-sought : goal.returns-in-Wants-clause-sought
 returns-in-Wants-clause-sought c =
     let p = c.args.part in
-    let l = c.loop-place in
+    let l = c.looks in
     let least : c.saturating_sub-least.result ≡ c.args.places.end - l.place = search rules in
-    let high : l.place < c.args.places.until = omega (arith, c.loop-place-test.true) in
+    let high : l.place < c.args.places.until = omega (arith, c.looks-test.true) in
     let told = subst (Checks p.limits p.bytes.now p.is_last p.at l.place c.saturating_sub-least.result l.work c.check_at.new.work) c.in-Wants.is c.in_ok-check_at.ensures.checked in
     sought_wants p.limits p.bytes.now p.is_last p.at c.args.places l.place c.saturating_sub-least.result c.args.work.now l.work c.check_at.new.work l.all l.invariant.2 least high
     c.in-Wants.count told
 
-pub loop-place-preserved : goal.loop-place-preserved
-loop-place-preserved c =
+pub next_place-place-requires : goal.next_place-place-requires
+next_place-place-requires c =
     let p = c.args.part in
-    let l = c.loop-place in
+    let l = c.looks in
+    let checked = c.in_ok-check_at.ensures.checked in
+    let within : l.place < length p.bytes.now =
+    elim c.match-branch-2.branch [
+      | in-Stops w ↦
+          stops_within p.limits p.bytes.now p.is_last p.at l.place c.saturating_sub-least.result l.work c.check_at.new.work
+          (subst (Checks p.limits p.bytes.now p.is_last p.at l.place c.saturating_sub-least.result l.work c.check_at.new.work) w.in-Stops.is checked)
+      | in-LeftOut w ↦
+          left_within p.limits p.bytes.now p.is_last p.at l.place c.saturating_sub-least.result l.work c.check_at.new.work
+          (subst (Checks p.limits p.bytes.now p.is_last p.at l.place c.saturating_sub-least.result l.work c.check_at.new.work) w.in-LeftOut.is checked)
+    ] in
+    (within, c.looks-test.true)
+
+pub looks-preserved : goal.looks-preserved
+looks-preserved c =
+    let p = c.args.part in
+    let l = c.looks in
     let least : c.saturating_sub-least.result ≡ c.args.places.end - l.place = search rules in
-    let high : l.place + 1 ≤ c.args.places.until = omega (arith, c.loop-place-test.true) in
+    let next = c.next_place-place.result in
     let checked = c.in_ok-check_at.ensures.checked in
     elim c.match-branch-2.branch [
       | in-Stops w ↦
           rw w.all-is (
             c.check_at.ensures.work,
-            high,
-            has_passed_stop p.limits p.bytes.now p.is_last p.at c.args.places.from l.place c.args.places.end c.saturating_sub-least.result c.args.work.now l.work
+            c.next_place-place.ensures.within,
+            has_passed_lacking p.limits p.bytes.now p.is_last p.at c.args.places.from l.place next c.args.places.end c.args.work.now c.check_at.new.work l.all
+                c.next_place-place.ensures.next c.next_place-place.ensures.inside c.next_place-place.ensures.none
+                (has_passed_stop p.limits p.bytes.now p.is_last p.at c.args.places.from l.place c.args.places.end c.saturating_sub-least.result c.args.work.now l.work
                 c.check_at.new.work l.all l.invariant.2 least
-                (subst (Checks p.limits p.bytes.now p.is_last p.at l.place c.saturating_sub-least.result l.work c.check_at.new.work) w.in-Stops.is checked),
+                (subst (Checks p.limits p.bytes.now p.is_last p.at l.place c.saturating_sub-least.result l.work c.check_at.new.work) w.in-Stops.is checked)),
           )
       | in-LeftOut w ↦
           rw w.all-is (
             c.check_at.ensures.work,
-            high,
-            has_passed_left p.limits p.bytes.now p.is_last p.at c.args.places.from l.place c.args.places.end c.saturating_sub-least.result c.args.work.now l.work
+            c.next_place-place.ensures.within,
+            has_passed_lacking p.limits p.bytes.now p.is_last p.at c.args.places.from l.place next c.args.places.end c.args.work.now c.check_at.new.work false
+                c.next_place-place.ensures.next c.next_place-place.ensures.inside c.next_place-place.ensures.none
+                (has_passed_left p.limits p.bytes.now p.is_last p.at c.args.places.from l.place c.args.places.end c.saturating_sub-least.result c.args.work.now l.work
                 c.check_at.new.work l.all l.invariant.2 least
-                (subst (Checks p.limits p.bytes.now p.is_last p.at l.place c.saturating_sub-least.result l.work c.check_at.new.work) w.in-LeftOut.is checked),
+                (subst (Checks p.limits p.bytes.now p.is_last p.at l.place c.saturating_sub-least.result l.work c.check_at.new.work) w.in-LeftOut.is checked)),
           )
     ]
 
 pub returns-clause-sought : goal.returns-clause-sought
 returns-clause-sought c =
     let p = c.args.part in
-    let l = c.loop-place in
-    let at : l.place ≡ c.args.places.until = omega (arith, c.loop-place-test.false, l.invariant.1) in
+    let l = c.looks in
+    let at : l.place ≡ c.args.places.until = omega (arith, c.looks-test.false, l.invariant.1) in
     sought_nowhere p.limits p.bytes.now p.is_last p.at c.args.places l.place c.args.work.now l.work l.all l.invariant.2 at
