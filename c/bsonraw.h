@@ -1217,6 +1217,94 @@ BSONRAW_USE BSONRAW_INLINE int32_t bsonraw_checked_json(const uint8_t *bytes, si
 #define bsonraw_json bsonraw_checked_json
 #endif
 
+/* ---- documents from text --------------------------------------------------------------------------------------------- */
+
+/* Why a text isn't read. */
+enum bsonraw_json_reason {
+    BSONRAW_JSON_END_OF_TEXT = 1,       /* the text ends inside the document */
+    BSONRAW_JSON_BYTE_ORDER_MARK = 2,   /* a byte order mark is in front */
+    BSONRAW_JSON_EXPECTED_DOCUMENT = 3, /* another value than a document */
+    BSONRAW_JSON_EXPECTED_KEY = 4,      /* no key in quotes is where one has to be */
+    BSONRAW_JSON_EXPECTED_COLON = 5,
+    BSONRAW_JSON_EXPECTED_COMMA = 6,    /* no comma, nor the end of the object or array */
+    BSONRAW_JSON_EXPECTED_VALUE = 7,
+    BSONRAW_JSON_TEXT_BEHIND = 8,       /* the text goes on behind the document */
+    BSONRAW_JSON_BAD_NUMBER = 9,        /* no number as JSON writes them */
+    BSONRAW_JSON_INTEGER_TOO_LARGE = 10,/* an integer of more than 64 bits */
+    BSONRAW_JSON_NUMBER_TOO_LARGE = 11, /* a number beyond the greatest double */
+    BSONRAW_JSON_CONTROL_CHARACTER = 12,/* a control character in a string, which has to be escaped */
+    BSONRAW_JSON_BAD_ESCAPE = 13,       /* no escape of JSON */
+    BSONRAW_JSON_LONE_SURROGATE = 14,   /* half a surrogate pair */
+    BSONRAW_JSON_INTERIOR_NUL = 15,     /* U+0000 in a key, a pattern or options */
+    BSONRAW_JSON_MALFORMED = 16,        /* a wrapper's key, and no value of that wrapper */
+    BSONRAW_JSON_INEXACT_DECIMAL = 17,  /* no Decimal128 is exactly this decimal */
+    BSONRAW_JSON_NOT_UTF8 = 18,         /* the text isn't UTF-8 */
+    BSONRAW_JSON_UNSOUND = 19           /* the document has no sound envelope; no text is known to give this */
+};
+
+/* The objects that write a value which JSON has no words for, by their keys. */
+enum bsonraw_json_wrapper {
+    BSONRAW_JSON_OID = 1,                /* $oid */
+    BSONRAW_JSON_NUMBER_INT = 2,         /* $numberInt */
+    BSONRAW_JSON_NUMBER_LONG = 3,        /* $numberLong */
+    BSONRAW_JSON_NUMBER_DOUBLE = 4,      /* $numberDouble */
+    BSONRAW_JSON_NUMBER_DECIMAL = 5,     /* $numberDecimal */
+    BSONRAW_JSON_BINARY = 6,             /* $binary */
+    BSONRAW_JSON_UUID = 7,               /* $uuid */
+    BSONRAW_JSON_DATE = 8,               /* $date */
+    BSONRAW_JSON_REGULAR_EXPRESSION = 9, /* $regularExpression */
+    BSONRAW_JSON_TIMESTAMP = 10,         /* $timestamp */
+    BSONRAW_JSON_CODE = 11,              /* $code */
+    BSONRAW_JSON_SCOPE = 12,             /* $scope, before $code */
+    BSONRAW_JSON_DB_POINTER = 13,        /* $dbPointer */
+    BSONRAW_JSON_SYMBOL = 14,            /* $symbol */
+    BSONRAW_JSON_UNDEFINED = 15,         /* $undefined */
+    BSONRAW_JSON_MIN_KEY = 16,           /* $minKey */
+    BSONRAW_JSON_MAX_KEY = 17            /* $maxKey */
+};
+
+struct bsonraw_json_report {
+    uint64_t count;   /* with BSONRAW_OK and BSONRAW_SMALL_BUFFER: how many bytes the document has */
+    uint64_t offset;  /* with any other: how many bytes of the text are before the place of the error, */
+    uint64_t line;    /* the number of its line, from 1, */
+    uint64_t column;  /* and that of its character in the line, from 1 */
+    uint32_t reason;  /* with BSONRAW_FAULT: enum bsonraw_json_reason */
+    uint32_t wrapper; /* with BSONRAW_JSON_MALFORMED: enum bsonraw_json_wrapper */
+};
+
+/* The document that a text of MongoDB's Extended JSON v2 writes, canonical or relaxed: BSONRAW_OK, and its count bytes are at the
+ * front of document; BSONRAW_SMALL_BUFFER where document_len is less. Else BSONRAW_FAULT, BSONRAW_TOO_MANY_BYTES, BSONRAW_TOO_DEEP
+ * or BSONRAW_NO_MEMORY, and the report says where the text isn't read. With any status but BSONRAW_OK nothing is written to
+ * document. What isn't said of the report is 0. The text is UTF-8, and needs no 0 behind it.
+ * A number without a wrapper is an int32 or else an int64 where it is an integer, and else the nearest double. An object with a
+ * wrapper's key is its value, or an error; only the whole text and a scope are documents whatever their keys. Keys that repeat
+ * are kept, in order.
+ *
+ *     uint8_t document[4096];
+ *     struct bsonraw_json_report r;
+ *     int32_t status = bsonraw_from_json(BSONRAW_KEY("{\"a\": [1, true],\n \"b\": tru}"), 1 << 20, 100, document, sizeof document, &r);
+ *     if (status == BSONRAW_OK)
+ *         fwrite(document, 1, r.count, stdout);
+ *     else if (status == BSONRAW_FAULT)
+ *         printf("line %lu, column %lu: reason %u\n", r.line, r.column, r.reason);
+ */
+BSONRAW_USE int32_t bsonraw_from_json(const uint8_t *text, size_t len, size_t max_bytes, size_t max_depth, uint8_t *document,
+                                      size_t document_len, struct bsonraw_json_report *report);
+
+#ifndef BSONRAW_UNCHECKED
+BSONRAW_USE BSONRAW_INLINE int32_t bsonraw_checked_from_json(const uint8_t *text, size_t len, size_t max_bytes, size_t max_depth,
+                                                             uint8_t *document, size_t document_len,
+                                                             struct bsonraw_json_report *report) {
+    if (BSONRAW_LACKS(text, len) || BSONRAW_LACKS(document, document_len) || !report) return BSONRAW_NULL;
+    return bsonraw_from_json(bsonraw_some_bytes(text), len, max_bytes, max_depth, bsonraw_some_room(document), document_len, report);
+}
+#define bsonraw_from_json bsonraw_checked_from_json
+#endif
+
+/* Of a literal, into an array: BSONRAW_FROM_JSON("{\"a\": 1}", document, &r). */
+#define BSONRAW_FROM_JSON(literal, array, report) \
+    bsonraw_from_json(BSONRAW_KEY(literal), 2147483647, 500, array, sizeof(array), report)
+
 /* ---- daily use -------------------------------------------------------------------------------------------------------
  *
  * What follows is written in C over the calls above, and tested, not proved; elements of the usual kinds with ASCII keys and texts are

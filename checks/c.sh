@@ -68,7 +68,7 @@ exports() {
 look_at_libraries() {
     ln -s "$kit/bin/clang" "$work/llvm-nm" && ln -s "$kit/bin/clang" "$work/llvm-readelf" || return 1
     declared >"$work/declared"
-    [ "$(proved | wc -l)" = 23 ] || fails "the header doesn't declare twenty-three functions that are proved"
+    [ "$(proved | wc -l)" = 24 ] || fails "the header doesn't declare twenty-four functions that are proved"
     exports libbsonraw.a "" | diff "$work/declared" - >&2 || fails "the static library has other names than the header"
     exports libbsonraw.so -D | diff "$work/declared" - >&2 || fails "the shared library has other names than the header"
     needed=$("$work/llvm-readelf" -d "$prefix/lib/libbsonraw.so" | sed -n 's/.*(NEEDED).*\[\(.*\)\]/\1/p')
@@ -168,7 +168,7 @@ page() {
 
 look_at_examples() {
     examples c/bsonraw.h >"$work/examples.c"
-    [ "$(grep -c '^void example_.*{$' "$work/examples.c")" = 26 ] || fails "the header doesn't have an example of each group of calls"
+    [ "$(grep -c '^void example_.*{$' "$work/examples.c")" = 27 ] || fails "the header doesn't have an example of each group of calls"
     # shellcheck disable=SC2086
     compile -std=c99 $warnings -O1 -fPIE -c -o "$work/examples.o" "$work/examples.c" &&
         run_examples || fails "an example of the header doesn't do what it says"
@@ -264,7 +264,7 @@ build() {
         # shellcheck disable=SC2086
         compile -std=c99 $warnings -O1 -fPIE -c -o "$work/$name.o" "c/tests/$name.c" || return 1
     done
-    for name in agree buffers build daily large memory numbers reasons resync slips texts threads; do
+    for name in agree buffers build daily from_json large memory numbers reasons resync slips texts threads; do
         link libbsonraw.a "$work/$name" "$work/$name.o" "$work/documents.o" || return 1
         link libbsonraw.so "$work/$name.shared" "$work/$name.o" "$work/documents.o" || return 1
     done
@@ -278,7 +278,7 @@ notices_mistakes() {
         "$work/llvm-objcopy" --redefine-sym "$name=right_${name#bsonraw_}" "$prefix/lib/wrong.a" || return 1
     done
     mistake=0
-    for name in buffers threads buffers buffers memory reasons memory agree agree agree agree agree agree agree build build build agree buffers agree agree agree buffers texts texts threads agree agree build agree agree resync resync; do
+    for name in buffers threads buffers buffers memory reasons memory agree agree agree agree agree agree agree build build build agree buffers agree agree agree buffers texts texts threads agree agree build agree agree resync resync from_json from_json memory; do
         mistake=$((mistake + 1))
         # shellcheck disable=SC2086
         compile -std=c99 $warnings -DMISTAKE=$mistake -O1 -fPIE -c -o "$work/wrong.o" c/tests/wrong.c &&
@@ -326,7 +326,7 @@ look_at_words() {
 }
 
 run_tests() {
-    for name in agree buffers build daily large memory numbers reasons resync slips texts threads; do
+    for name in agree buffers build daily from_json large memory numbers reasons resync slips texts threads; do
         for program in "$name" "$name.shared"; do
             "$work/$program" <"$work/documents" >"$work/said" || fails "$program ends with status $?"
             cat "$work/said"
@@ -355,8 +355,26 @@ look_at_memory() {
         return
     fi
     valgrind -q --error-exitcode=9 "$work/agree" 4000 >"$work/said" 2>&1 || fails "valgrind: $(head -5 "$work/said")"
+    valgrind -q --error-exitcode=9 "$work/from_json" >"$work/said" 2>&1 || fails "valgrind: $(head -5 "$work/said")"
     valgrind -q --error-exitcode=9 "$work/resync" few >"$work/said" 2>&1 || fails "valgrind: $(head -5 "$work/said")"
     valgrind -q --tool=helgrind --error-exitcode=9 "$work/threads" once <"$work/documents" >"$work/said" 2>&1 || fails "helgrind: $(head -9 "$work/said")"
+}
+
+# Where clang has libFuzzer, c/tests/fuzz/from_json.c for FUZZ_SECONDS, from the texts that are beside it.
+fuzz() {
+    for clang in clang-14 clang; do
+        "$clang" -fsanitize=fuzzer,address -g -O1 "-I$prefix/include" -o "$work/fuzzer" c/tests/fuzz/from_json.c "$prefix/lib/libbsonraw.a" \
+            2>/dev/null && break
+    done
+    if [ ! -x "$work/fuzzer" ]; then
+        skip "the fuzzer, since no clang has libFuzzer"
+        return
+    fi
+    mkdir "$work/texts" && (cd "$work/texts" && split -l 1 -a 3 - text) <c/tests/fuzz/texts.txt
+    seed=${SEED:-$(od -An -N3 -tu4 /dev/urandom | tr -d " ")}
+    "$work/fuzzer" -seed="$seed" -max_total_time="${FUZZ_SECONDS:-10}" -max_len=600 -dict=c/tests/fuzz/words.dict -artifact_prefix="$work/" \
+        -verbosity=0 -print_final_stats=1 "$work/texts" >"$work/said" 2>&1 || fails "the fuzzer of seed $seed: $(tail -n 40 "$work/said")"
+    echo "the fuzzer of seed $seed ran $(sed -n 's/^stat::number_of_executed_units: *//p' "$work/said") texts"
 }
 
 # The lines by which README and the page on C compile README's first block of C make programs that run, with the prefix in place of
@@ -568,7 +586,7 @@ look_at_libraries
 look_at_header
 look_at_examples
 run_programs || fails "the programs of examples/c don't compile"
-if build documents agree buffers build daily large memory numbers reasons resync slips texts threads print; then
+if build documents agree buffers build daily from_json large memory numbers reasons resync slips texts threads print; then
     look_at_output
     notices_mistakes || fails "the tests don't compile with a mistake"
     notices_edits || fails "the tests don't compile with an edit"
@@ -576,6 +594,7 @@ if build documents agree buffers build daily large memory numbers reasons resync
     run_tests
     look_at_old_processors
     look_at_memory
+    fuzz
     use_machine
 else
     fails "the tests don't compile"

@@ -1,5 +1,5 @@
 /* Each request for memory that a call makes, refused in turn, alone and with all that follow it: what comes with enough memory,
- * or BSONRAW_NO_MEMORY, and then the rooms are as they were. No call keeps a block, and all but six ask for none. */
+ * or BSONRAW_NO_MEMORY, and then the rooms are as they were. No call keeps a block, and all but seven ask for none. */
 #include "documents.h"
 
 #include <stdio.h>
@@ -148,6 +148,29 @@ static int32_t call_resync(const struct document *d, uint8_t *form, size_t form_
     return status;
 }
 
+/* The document that the text of this one writes, whose report is that of a whole document by its place alone. */
+static int32_t call_from_json(const struct document *d, uint8_t *form, size_t form_len, struct bsonraw_report *report, uint64_t *path,
+                              size_t path_room) {
+    static uint8_t text[ROOM];
+    struct bsonraw_json_report r;
+    size_t number = refused;
+    int32_t status;
+    refused = 0;
+    status = bsonraw_json(d->bytes, d->len, 1 << 24, LEVELS, 1, 0, text, ROOM, report, path, path_room);
+    if (status != BSONRAW_OK) return status;
+    asked = 0, refused = number;
+    status = bsonraw_from_json(text, (size_t)report->count, 1 << 24, LEVELS, form, form_len, &r);
+    memset(report, 0, sizeof *report);
+    if (status == BSONRAW_NO_MEMORY) {
+        expect(r.count == 0 && r.line > 0 && r.column > 0 && r.offset <= ROOM && r.reason == 0 && r.wrapper == 0, d->name, "out of memory has no place");
+        report->key_at = d->len;
+    } else {
+        expect(status == BSONRAW_OK, d->name, "its text isn't read");
+        report->count = r.count, report->error.offset = r.offset;
+    }
+    return status;
+}
+
 /* All but the calls over whole documents make no request. */
 static void asks_for_nothing(const struct document *d) {
     struct bsonraw_reader reader = {0, 0, 0, {0, 0, 0, 0, 0}};
@@ -161,7 +184,7 @@ static void asks_for_nothing(const struct document *d) {
 
 int main(void) {
     static struct documents all;
-    size_t forms = 0, texts = 0, faults = 0, verdicts = 0, rows = 0, searches = 0;
+    size_t forms = 0, texts = 0, faults = 0, verdicts = 0, rows = 0, reads = 0, searches = 0;
     read_documents(&all);
     for (size_t at = 0; at < all.count; at++) {
         const struct document *d = &all.items[at];
@@ -170,9 +193,11 @@ int main(void) {
         faults += refuse_both_ways(d, call_first_fault);
         verdicts += refuse_both_ways(d, call_check);
         rows += refuse_both_ways(d, call_flatten);
+        reads += refuse_both_ways(d, call_from_json);
         searches += refuse_both_ways(d, call_resync);
         asks_for_nothing(d);
     }
-    expect(forms > 0 && texts > 0 && faults > 0 && verdicts > 0 && rows > 0 && searches > 0, "memory", "a call never ran out of it");
+    expect(forms > 0 && texts > 0 && faults > 0 && verdicts > 0 && rows > 0 && reads > 0 && searches > 0,
+           "memory", "a call never ran out of it");
     return result("memory");
 }

@@ -31,6 +31,8 @@ int32_t right_flatten(const uint8_t *bytes, size_t len, size_t max_bytes, size_t
                       size_t room, struct bsonraw_report *report, uint64_t *path, size_t path_room);
 int32_t right_reader_resync(struct bsonraw_reader *reader, const uint8_t *bytes, size_t len, size_t max_bytes, size_t max_depth,
                             struct bsonraw_resync *resync);
+int32_t right_from_json(const uint8_t *text, size_t len, size_t max_bytes, size_t max_depth, uint8_t *document, size_t document_len,
+                        struct bsonraw_json_report *report);
 int sched_yield(void);
 
 uint32_t bsonraw_version(void) {
@@ -145,6 +147,16 @@ int32_t bsonraw_reader_resync(struct bsonraw_reader *reader, const uint8_t *byte
     int32_t status = right_reader_resync(reader, bytes, len, max_bytes, max_depth, resync);
     if (MISTAKE == 32 && status == BSONRAW_OK && at < end) reader->next = end;
     if (MISTAKE == 33) resync->spent += 8 * resync->reach + 1;
+    return status;
+}
+
+/* 34: a byte behind the document is written. 35: columns are counted from 0. 36: out of memory is a fault. */
+int32_t bsonraw_from_json(const uint8_t *text, size_t len, size_t max_bytes, size_t max_depth, uint8_t *document, size_t document_len,
+                          struct bsonraw_json_report *report) {
+    int32_t status = right_from_json(text, len, max_bytes, max_depth, document, document_len, report);
+    if (MISTAKE == 34 && status == BSONRAW_OK) document[report->count] = 0;
+    if (MISTAKE == 35 && report->column > 0) report->column--;
+    if (MISTAKE == 36 && status == BSONRAW_NO_MEMORY) status = BSONRAW_FAULT;
     return status;
 }
 

@@ -6,6 +6,7 @@ pub mod Places
 pub mod Dumps
 pub mod Entries
 pub mod Forms
+pub mod FromJson
 pub mod Iters
 pub mod Json
 pub mod Values
