@@ -12,7 +12,7 @@
     True
 
 Whole documents: `decode` and `encode`; `canonical`, `check` and `first_fault`;
-`to_json`. Parts of one: `find` by a path, `get` by a key, `elements` of one
+`to_json`, `from_json` and `loads`. Parts of one: `find` by a path, `get` by a key, `elements` of one
 level, `walk` of all. Dumps, which are documents one behind the other:
 `documents` cuts them, `decode_all` reads them, `columns` has them as a table,
 `canonical_all` brings them to their forms, and `partitions` says where to cut
@@ -61,6 +61,7 @@ from ._native import (
 from ._codec import Codec
 from ._columns import Column
 from ._edit import REMOVE, RawDocument, edit, steps_of
+from ._json import from_json, loads
 from ._streams import documents_async
 from ._types import Breach, BsonError, Cause, ElementType, ErrorKind, Forms, Reason
 from ._values import (
@@ -129,7 +130,9 @@ __all__ = [
     "encode",
     "find",
     "first_fault",
+    "from_json",
     "get",
+    "loads",
     "partitions",
     "to_json",
     "walk",

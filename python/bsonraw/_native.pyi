@@ -116,6 +116,7 @@ def to_json(
 def documents(
     read: Optional[Callable[[int], Any]], data: Optional[Buffer], max_bytes: int, resync: bool = ..., /
 ) -> Documents: ...
+def from_json(text: Buffer, max_bytes: int, max_depth: int, /) -> Union[bytes, Tuple[str, int]]: ...
 def decode_all(
     source: Documents,
     *,

@@ -107,6 +107,7 @@ static PyMethodDef calls[] = {
     {"check", FASTCALL(py_check), METH_FASTCALL | METH_KEYWORDS, check_doc},
     {"first_fault", FASTCALL(py_first_fault), METH_FASTCALL | METH_KEYWORDS, first_fault_doc},
     {"to_json", FASTCALL(py_to_json), METH_FASTCALL | METH_KEYWORDS, to_json_doc},
+    {"from_json", FASTCALL(py_from_json), METH_FASTCALL, NULL},
     {"documents", FASTCALL(py_documents), METH_FASTCALL, NULL},
     {"decode_all", FASTCALL(py_decode_all), METH_FASTCALL | METH_KEYWORDS, NULL},
     {"columns", FASTCALL(py_columns), METH_FASTCALL | METH_KEYWORDS, NULL},

@@ -386,6 +386,7 @@ CALL(py_decode_all);
 CALL(py_columns);
 CALL(py_canonical_all);
 CALL(py_to_json);
+PyObject *py_from_json(PyObject *module, PyObject *const *args, Py_ssize_t count);
 PyObject *py_element(PyObject *module, PyObject *const *args, Py_ssize_t count);
 PyObject *py_documents(PyObject *module, PyObject *const *args, Py_ssize_t count);
 PyObject *py_partitions(PyObject *module, PyObject *const *args, Py_ssize_t count);

@@ -186,6 +186,13 @@ def texts(data: bytes, seconds: float) -> None:
     value = bson.decode(data)
     row("to_json; json_util.dumps of decoded values", *turns([(bsonraw.to_json, data), (dumps, value)], seconds))
 
+    def loads(text: str) -> Any:
+        return bson.encode(json_util.loads(text))
+
+    text = bsonraw.to_json(data)
+    row("from_json; json_util.loads, and its encoding", *turns([(bsonraw.from_json, text), (loads, text)], seconds))
+    row("loads; json_util.loads", *turns([(bsonraw.loads, text), (json_util.loads, text)], seconds))
+
 
 def frame() -> None:
     """A DataFrame of 1,000,000 documents of five fields over two levels, each way in a process of its own."""

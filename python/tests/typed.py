@@ -35,6 +35,11 @@ def buffers_of(path: str) -> Dict[str, List[int]]:
     return {key: column.values.tolist() for key, column in columns.items() if isinstance(column, bsonraw.Column)}
 
 
+def texts(text: str) -> List[bytes]:
+    values = bsonraw.loads(text, pairs=True, tz_aware=True)
+    return [bsonraw.from_json(text), bsonraw.from_json(text.encode(), max_depth=10), bsonraw.encode(values)]
+
+
 def whole(data: bytes) -> List[Any]:
     return bsonraw.decode_all(io.BytesIO(data), pairs=True) + bsonraw.decode_all(bytearray(data))
 
