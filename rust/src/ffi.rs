@@ -474,3 +474,20 @@ pub(crate) fn json(
         unsafe { bsonraw_json(at, len, max_bytes, max_depth, canonical, indented, to, room, said, path, steps) }
     })
 }
+
+/// `bsonraw_from_json`, and the document.
+pub(crate) fn from_json(text: &[u8], max_bytes: usize, max_depth: usize) -> (i32, bsonraw_json_report, Vec<u8>) {
+    let (at, len) = (text.as_ptr(), text.len());
+    let mut said = bsonraw_json_report::default();
+    let mut made = vec![0; 2 * len + 64];
+    loop {
+        let (to, room) = (made.as_mut_ptr(), made.len());
+        // SAFETY: as said at the head of this file.
+        let status = unsafe { bsonraw_from_json(at, len, max_bytes, max_depth, to, room, &mut said) };
+        if status != BSONRAW_SMALL_BUFFER {
+            made.truncate(said.count as usize);
+            return (status, said, made);
+        }
+        made = vec![0; said.count as usize];
+    }
+}

@@ -29,6 +29,7 @@ pub mod oid;
 pub mod raw;
 pub mod spec;
 pub mod sys;
+mod texts;
 mod values;
 pub mod whole;
 

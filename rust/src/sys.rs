@@ -109,6 +109,52 @@ numbers! {
     BSONRAW_OPTIONS = 5,
 }
 
+numbers! {
+    "Why a text isn't read, of `enum bsonraw_json_reason`."
+    JSON_REASONS: u32:
+    BSONRAW_JSON_END_OF_TEXT = 1,
+    BSONRAW_JSON_BYTE_ORDER_MARK = 2,
+    BSONRAW_JSON_EXPECTED_DOCUMENT = 3,
+    BSONRAW_JSON_EXPECTED_KEY = 4,
+    BSONRAW_JSON_EXPECTED_COLON = 5,
+    BSONRAW_JSON_EXPECTED_COMMA = 6,
+    BSONRAW_JSON_EXPECTED_VALUE = 7,
+    BSONRAW_JSON_TEXT_BEHIND = 8,
+    BSONRAW_JSON_BAD_NUMBER = 9,
+    BSONRAW_JSON_INTEGER_TOO_LARGE = 10,
+    BSONRAW_JSON_NUMBER_TOO_LARGE = 11,
+    BSONRAW_JSON_CONTROL_CHARACTER = 12,
+    BSONRAW_JSON_BAD_ESCAPE = 13,
+    BSONRAW_JSON_LONE_SURROGATE = 14,
+    BSONRAW_JSON_INTERIOR_NUL = 15,
+    BSONRAW_JSON_MALFORMED = 16,
+    BSONRAW_JSON_INEXACT_DECIMAL = 17,
+    BSONRAW_JSON_NOT_UTF8 = 18,
+    BSONRAW_JSON_UNSOUND = 19,
+}
+
+numbers! {
+    "A wrapper of Extended JSON, of `enum bsonraw_json_wrapper`."
+    JSON_WRAPPERS: u32:
+    BSONRAW_JSON_OID = 1,
+    BSONRAW_JSON_NUMBER_INT = 2,
+    BSONRAW_JSON_NUMBER_LONG = 3,
+    BSONRAW_JSON_NUMBER_DOUBLE = 4,
+    BSONRAW_JSON_NUMBER_DECIMAL = 5,
+    BSONRAW_JSON_BINARY = 6,
+    BSONRAW_JSON_UUID = 7,
+    BSONRAW_JSON_DATE = 8,
+    BSONRAW_JSON_REGULAR_EXPRESSION = 9,
+    BSONRAW_JSON_TIMESTAMP = 10,
+    BSONRAW_JSON_CODE = 11,
+    BSONRAW_JSON_SCOPE = 12,
+    BSONRAW_JSON_DB_POINTER = 13,
+    BSONRAW_JSON_SYMBOL = 14,
+    BSONRAW_JSON_UNDEFINED = 15,
+    BSONRAW_JSON_MIN_KEY = 16,
+    BSONRAW_JSON_MAX_KEY = 17,
+}
+
 /// Declares a struct of the header, and what a test compares with it: its fields, how large it is, and where each field is.
 macro_rules! layout {
     ($(#[$what:meta])* struct $name:ident { $($field:ident: $of:ty,)* }) => {
@@ -212,6 +258,18 @@ layout! {
         reach: u64,
         believed: u32,
         left_out: u32,
+    }
+}
+
+layout! {
+    /// What is said of a text.
+    struct bsonraw_json_report {
+        count: u64,
+        offset: u64,
+        line: u64,
+        column: u64,
+        reason: u32,
+        wrapper: u32,
     }
 }
 
@@ -323,5 +381,9 @@ functions! {
     fn bsonraw_json(
         bytes: *const u8, len: usize, max_bytes: usize, max_depth: usize, canonical: u32, indented: u32, text: *mut u8,
         text_len: usize, report: *mut bsonraw_report, path: *mut u64, path_room: usize
+    ) -> i32;
+    fn bsonraw_from_json(
+        text: *const u8, len: usize, max_bytes: usize, max_depth: usize, document: *mut u8, document_len: usize,
+        report: *mut bsonraw_json_report
     ) -> i32;
 }

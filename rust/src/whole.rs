@@ -28,6 +28,8 @@ use crate::ffi::{self, Flat, Report};
 use crate::raw::{Error, ErrorKind, RawDocument, RawDocumentBuf, RawElement};
 use crate::sys::*;
 
+pub use crate::texts::{JsonError, JsonReason};
+
 /// How large a document may be: a call over all levels refuses a larger one.
 #[derive(Clone, Copy, Debug, Eq, PartialEq)]
 pub struct Limits {

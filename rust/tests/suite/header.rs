@@ -62,6 +62,8 @@ fn numbers_are_those_of_the_header() {
         ("bsonraw_kind", whole(sys::KINDS)),
         ("bsonraw_reason", whole(sys::REASONS)),
         ("bsonraw_cause", whole(sys::CAUSES)),
+        ("bsonraw_json_reason", whole(sys::JSON_REASONS)),
+        ("bsonraw_json_wrapper", whole(sys::JSON_WRAPPERS)),
     ];
     let said: Vec<(String, Vec<(String, i64)>)> = braced("enum ")
         .into_iter()
@@ -117,7 +119,7 @@ fn declaration(text: &str) -> (String, String) {
 #[test]
 fn structs_are_those_of_the_header() {
     type Fields = &'static [(&'static str, &'static str, usize)];
-    let declared: [(&str, usize, Fields); 9] = [
+    let declared: [(&str, usize, Fields); 10] = [
         ("bsonraw_error", size_of::<sys::bsonraw_error>(), sys::bsonraw_error::FIELDS),
         ("bsonraw_iter", size_of::<sys::bsonraw_iter>(), sys::bsonraw_iter::FIELDS),
         ("bsonraw_entry", size_of::<sys::bsonraw_entry>(), sys::bsonraw_entry::FIELDS),
@@ -125,6 +127,7 @@ fn structs_are_those_of_the_header() {
         ("bsonraw_builder", size_of::<sys::bsonraw_builder>(), sys::bsonraw_builder::FIELDS),
         ("bsonraw_reader", size_of::<sys::bsonraw_reader>(), sys::bsonraw_reader::FIELDS),
         ("bsonraw_resync", size_of::<sys::bsonraw_resync>(), sys::bsonraw_resync::FIELDS),
+        ("bsonraw_json_report", size_of::<sys::bsonraw_json_report>(), sys::bsonraw_json_report::FIELDS),
         ("bsonraw_report", size_of::<sys::bsonraw_report>(), sys::bsonraw_report::FIELDS),
         ("bsonraw_token", size_of::<sys::bsonraw_token>(), sys::bsonraw_token::FIELDS),
     ];
@@ -173,7 +176,7 @@ fn functions_are_those_of_the_header() {
             (name.to_string(), text(result), arguments)
         })
         .collect();
-    assert_eq!(declared.len(), 23);
+    assert_eq!(declared.len(), 24);
     for one in declared {
         assert!(said.contains(&one), "the header has no {one:?}");
     }

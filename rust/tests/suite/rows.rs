@@ -592,6 +592,36 @@ fn json_has_its_styles() {
 }
 
 #[test]
+fn documents_come_from_json() {
+    use bsonraw::whole::JsonReason;
+    let limits = Limits::default();
+    let read = |text: &str| RawDocumentBuf::from_json(text, limits);
+    let wanted = rawdoc! { "a": 1, "b": [true, RawBson::Null], "c": RawBson::Double(-0.0), "d": i64::MAX };
+    assert_eq!(
+        read(r#"{"a":1,"b":[true,null],"c":-0.0,"d":{"$numberLong":"9223372036854775807"}}"#),
+        Ok(wanted.clone())
+    );
+    let style = bsonraw::whole::JsonStyle { canonical: true, indented: true };
+    assert_eq!(read(&wanted.to_json(limits, style).unwrap()), Ok(wanted));
+    let items = "0,".repeat(99_999) + "0";
+    let long = read(&format!("{{\"a\":[{items}]}}")).unwrap();
+    assert_eq!(long.get_array("a").unwrap().into_iter().count(), 100_000);
+
+    let error = read("{\"a\": 1,\n \"é\": tru}").unwrap_err();
+    assert_eq!((error.reason, error.offset, error.line, error.column), (JsonReason::ExpectedValue, 16, 2, 7));
+    assert_eq!(error.to_string(), "line 2, column 7: expected a value");
+    let error = read(r#"{"a": {"$oid": "5f2b"}}"#).unwrap_err();
+    assert_eq!(
+        (error.reason, error.to_string().as_str()),
+        (JsonReason::Malformed("$oid"), "line 1, column 16: a malformed $oid")
+    );
+    let error = RawDocumentBuf::from_json(r#"{"a": 1}"#, Limits { max_bytes: 11, ..limits }).unwrap_err();
+    assert_eq!(error.reason, JsonReason::TooManyBytes);
+    let error = RawDocumentBuf::from_json(r#"{"a": {}}"#, Limits { max_depth: 1, ..limits }).unwrap_err();
+    assert_eq!(error.reason, JsonReason::TooDeep);
+}
+
+#[test]
 fn documents_lie_one_behind_the_other() {
     use bsonraw::whole::Documents;
     let dump = bytes("0500000000 0600000001 01 0500000000");
