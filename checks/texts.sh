@@ -1,0 +1,44 @@
+#!/bin/sh
+# texts.sh [PREFIX]: what bsonraw_from_json reads of 100,000 made texts of Extended JSON beside libbson and MongoDB's package for
+# Python: the same documents, byte for byte, and none of the same texts, but for what the rules of checks/json_texts.py say. PREFIX is
+# where bin/install put the library; without it, that is done first. The seed is drawn, and said; SEED sets it, and COUNT how many texts
+# there are. Debian's libbson-dev has libbson; where it isn't, nothing is compared. Debian's python3-bson has the package; where that
+# isn't, it is left out.
+set -u
+cd "$(dirname "$(realpath "$0")")/.." || exit 1
+if ! pkg-config --exists libbson-1.0 || ! command -v cc >/dev/null; then
+    echo "texts.sh: nothing is compared, since libbson-dev or cc isn't there"
+    exit 0
+fi
+work=$(mktemp -d) || exit 1
+trap 'rm -rf "$work"' EXIT
+seed=${SEED:-$(od -An -N3 -tu4 /dev/urandom | tr -d " ")}
+prefix=${1-$work/prefix}
+[ $# = 1 ] || bin/install "$prefix" || exit 1
+
+python=python3
+for candidate in python3 /usr/bin/python3; do
+    "$candidate" -c 'import bson.json_util' 2>/dev/null && python=$candidate && package=$work/package && break
+done
+
+# shellcheck disable=SC2046 # words
+cc -O2 -Wall -Wextra -o "$work/texts" "-I$prefix/include" checks/texts.c "$prefix/lib/libbsonraw.a" $(pkg-config --cflags --libs libbson-1.0) || exit 1
+"$python" -B checks/json_texts.py made "${COUNT:-100000}" "$seed" >"$work/made" || exit 1
+"$work/texts" ours "$work/made" >"$work/ours" && "$work/texts" libbson "$work/made" >"$work/libbson" || exit 1
+if [ -n "${package-}" ]; then
+    "$python" -B checks/json_texts.py package "$work/made" >"$package" || exit 1
+else
+    echo "texts.sh: MongoDB's package is left out, since it isn't there"
+fi
+if ! "$python" -B checks/json_texts.py compare "$work/made" "$work/ours" "$work/libbson" ${package:+"$package"}; then
+    echo "texts.sh: a reader differs, seed $seed" >&2
+    exit 1
+fi
+
+# A document with another byte has to be told.
+sed '0,/^0C/s//0D/' "$work/ours" >"$work/changed"
+if "$python" -B checks/json_texts.py compare "$work/made" "$work/changed" "$work/libbson" >/dev/null; then
+    echo "texts.sh: another document is taken for the same, seed $seed" >&2
+    exit 1
+fi
+echo "texts.sh: all passed, seed $seed"
