@@ -179,7 +179,6 @@ GIVES = {
     "bsonraw_dump": "the program for dumps",
     "bsonraw_c": "the library for C, and so for Python and Rust",
     "bson_uses": "proved callers, to copy from",
-    "wire_message": "prints a message of the wire protocol",
 }
 
 
@@ -213,7 +212,7 @@ def edges_of(crates):
 
 
 def colour_of(name):
-    return BLUE if name.startswith("bsonraw") else GREY if name in ("bson_uses", "wire_message") else GREEN
+    return BLUE if name.startswith("bsonraw") else GREY if name == "bson_uses" else GREEN
 
 
 def label_of(name, kit):

@@ -5,4 +5,6 @@ pub mod Messages
 pub mod Nulls
 pub mod Outside
 pub mod Path
+pub mod Tallies
+pub mod Users
 pub mod Without

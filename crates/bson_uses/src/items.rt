@@ -1,21 +1,31 @@
-ghost use Rattle.std.specs.Prelude.{IfOk, IfErr};
-ghost use Rattle.bson_uses.specs.Nulls.{HasNulls, RefusesCount};
+ghost use Rattle.std.specs.Prelude.{◌≡◌, ◌<◌, ◌+◌, ◌^◌};
+ghost use Rattle.raw_bson.specs.Document.{bytes_of};
+ghost use Rattle.raw_bson.specs.Folds.{FoldsEach};
+ghost use Rattle.raw_bson.specs.Value.{value_of};
+ghost use Rattle.bson_uses.specs.Nulls.{CountsNull, with_null};
 
-use raw_bson::{RawDocument, Result};
+use raw_bson::{RawBsonRef, RawDocument, Result};
 use std::alloc::Global;
 
-/// How many values of the document are null; or its first fault, nested documents aside.
-pub fn count_nulls(alloc: Global, bytes: &[u8]) -> Result<usize>
-    ensures counted { IfOk result (HasNulls bytes.now) }
-    ensures refused { IfErr result (RefusesCount bytes.now) }
+/// The count, one greater where the value is null.
+fn plus_null(nulls: usize, value: RawBsonRef<'_>) -> usize
+    requires { nulls + 1 < 2 ^ 64 }
+    ensures { result ≡ with_null nulls (value_of value.entry) }
 {
-    let document = RawDocument::from_bytes(bytes)?;
+    match value {
+        RawBsonRef::Null => nulls + 1,
+        _ => nulls,
+    }
+}
+
+/// How many values of the document are null; or its first fault, nested documents aside.
+pub fn count_nulls(alloc: Global, document: RawDocument<'_>) -> Result<usize>
+    ensures { FoldsEach (λ e. e) CountsNull 0 (bytes_of document.entry) result }
+{
     let mut nulls = 0;
     for item in document.iter(alloc) {
         let (_, value) = item?;
-        if value.as_null().is_some() {
-            nulls += 1;
-        }
+        nulls = plus_null(nulls, value);
     }
     Ok(nulls)
 }

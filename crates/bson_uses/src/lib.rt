@@ -9,6 +9,8 @@ mod kept;
 mod op_msg;
 mod outside;
 mod path;
+mod tally;
+mod user;
 mod without;
 
 pub use compare::{are_equal, normalised_twice};
@@ -19,4 +21,6 @@ pub use kept::keep;
 pub use op_msg::{Message, MessageError, Section, message_of, read_message};
 pub use outside::{MOST, received};
 pub use path::find_path;
+pub use tally::{Tally, TallyError, tally_of};
+pub use user::{Field, Fields, NotUser, check_user};
 pub use without::copy_without;

@@ -111,7 +111,7 @@ module _ {X : Type 0} (Tells : Result X Error → Item → Type 0) where
 
 -- what is told of an item
 
-told_pair : (p : Bor (List ℕ) × RawBsonRef) (item : Item) → TellsItem (Ok p) item → item ≡ entry p.0.now (value (value_of p.1))
+pub told_pair : (p : Bor (List ℕ) × RawBsonRef) (item : Item) → TellsItem (Ok p) item → item ≡ entry p.0.now (value (value_of p.1))
 told_pair p (entry key (value v)) t = let keys = sym t.0 in let values = sym t.1 in λ i. entry (keys i) (value (values i))
 told_pair p (entry key (faulty fault)) t = absurd t
 told_pair p (stopped fault) t = absurd t
@@ -122,10 +122,10 @@ told_value v (entry key (faulty fault)) t = absurd t
 told_value v (stopped fault) t = absurd t
 
 -- a fault of a value, or the stop
-abbrev IsFaultOf : KeyedFault → Item → Type 0
+abbrev pub IsFaultOf : KeyedFault → Item → Type 0
 IsFaultOf fault item = ((key : List ℕ) × (item ≡ entry key (faulty fault))) ⊎ (item ≡ stopped fault)
 
-told_pair_fault : (e : Error) (item : Item) → TellsItem (Err e) item → (fault : KeyedFault) × IsFaultOf fault item × Says e fault
+pub told_pair_fault : (e : Error) (item : Item) → TellsItem (Err e) item → (fault : KeyedFault) × IsFaultOf fault item × Says e fault
 told_pair_fault e (entry key (value v)) t = absurd t
 told_pair_fault e (entry key (faulty fault)) t = (fault, inl (key, refl), t)
 told_pair_fault e (stopped fault) t = (fault, inr refl, t)

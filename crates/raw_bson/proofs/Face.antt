@@ -1,16 +1,22 @@
 -- The lemmas that crates above may cite, also of the crates below; they cite no other.
 
 -- loops over elements
-pub use Rattle.raw_view.proofs.Face.{LeadsTo-walk, LeadsTo-more, LeadsTo-bound, IsFrame-shorter, HasRead-more, HasRead-end, HasRead-stop, HasRead-bound}
+pub use Rattle.raw_view.proofs.Face.{LeadsTo-walk, LeadsTo-more, LeadsTo-bound, IsFrame-shorter, HasRead-end, HasRead-bound}
+pub use Rattle.raw_bson.proofs.LoopSteps.{HasRead-more, HasRead-stop}
 -- loops over keys and values, and over the values of arrays
-pub use Rattle.raw_view.proofs.Face.{HasReadItems-none, HasReadItems-bound, HasReadItems-pair, HasReadItems-value, HasReadItems-end, HasReadItems-pair_fault, HasReadItems-value_fault}
+pub use Rattle.raw_view.proofs.Face.{HasReadItems-none, HasReadItems-bound, HasReadItems-end}
+pub use Rattle.raw_bson.proofs.LoopSteps.{HasReadItems-pair, HasReadItems-value, HasReadItems-pair_fault, HasReadItems-value_fault}
 -- the items read so far begin every list of items, and the next is behind them
 pub use Rattle.raw_bson.proofs.EachItems.{LeadsTo-begins, HasReadItems-begins, HasReadItems-next}
 -- loops that ask something of each item, also where they are left early
 pub use Rattle.raw_bson.proofs.EachItems.{HasReadEach-none, HasReadEach-pair, HasReadEach-comes, HasReadEach-fault, HasReadEach-value, HasReadEach-comes_value, HasReadEach-value_fault, HasReadEach-end}
 pub use Rattle.raw_bson.proofs.EachItems.{HasTried, HasTried-more, HasTried-error, HasTried-fault, HasTried-end, HasSought, HasSought-more, HasSought-found, HasSought-fault, HasSought-end}
--- a look-up, and then what is asked of the value
+-- loops that take a state from item to item, or from document to document of a dump
+pub use Rattle.raw_bson.proofs.Folds.{HasFolded, HasFolded-none, HasFolded-more, HasFolded-error, HasFolded-fault, HasFolded-end, HasFolded-grows}
+pub use Rattle.raw_bson.proofs.Folds.{ReadsDump-none, ReadsDump-more, ReadsDump-length, ReadsDump-grows}
+-- a look-up, and then what is asked of the value: how it comes, and what follows
 pub use Rattle.raw_bson.proofs.EachItems.{AsksUnder-found, AsksUnder-fault}
+pub use Rattle.raw_bson.proofs.LookUps.{AsksUnder-ok, AsksUnder-error, GetsByKey-found, GetsByKey-none, one_look_up}
 pub use Rattle.raw_bson.proofs.EachItems.{EachItem-more, EachItem-at, OneItem-at, OneItem-none, ComesTo-not_each, ComesTo-one, HoldsOfEach-not_one}
 -- `==` of borrowed values
 pub use Rattle.raw_bson.proofs.SameViews.{same_view, view_same, view_differs}
@@ -18,6 +24,11 @@ pub use Rattle.raw_bson.proofs.SameViews.{same_view, view_same, view_differs}
 pub use Rattle.raw_bson.proofs.HeldFrames.{HoldsFrames-empty, HoldsFrames-value, HoldsFrames-element, HaveNoShortScope-more, HaveNoShortScope-last, value_is_long, value_means, frame_again}
 -- rows of appends of keys and values, and where one fails
 pub use Rattle.raw_bson.proofs.Rows.{HoldsRow-empty, HoldsRow-more, RefusesRow-at}
+-- copies of a document, element by element
+pub use Rattle.raw_bson.proofs.Copying.{HasCopied, HasCopied-none, HasCopied-skip, HasCopied-element, HasCopied-value, HasCopied-stop, HasCopied-end}
+pub use Rattle.raw_bson.proofs.Copying.{IsNoLonger, IsNoLonger-none, IsNoLonger-skip, IsNoLonger-element, IsNoLonger-refused}
+-- how long elements are, what is left behind them, and a document with one more
+pub use Rattle.raw_bson.proofs.Lengths.{length_left, length_left-step, length-frame_bytes, length-appended_bytes, RefusesLength-bound}
 -- there is one walk alone, and one meaning of a frame
 pub use Rattle.raw_view.proofs.Face.{one_frame, one_walk, one_meaning}
 -- the document at the front of bytes, and the length that they begin with: four bytes read one

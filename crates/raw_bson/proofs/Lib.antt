@@ -8,5 +8,10 @@ pub mod Appended
 pub mod EachItems
 pub mod SameViews
 pub mod Rows
+pub mod LoopSteps
+pub mod Lengths
+pub mod LookUps
+pub mod Folds
+pub mod Copying
 pub mod SmallerValues
 pub mod Face

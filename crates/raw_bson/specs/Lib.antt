@@ -2,10 +2,12 @@ pub mod AnyErrors
 pub mod Append
 pub mod Conversion
 pub mod Copies
+pub mod Copying
 pub mod Count
 pub mod Cows
 pub mod EachItem
 pub mod Fills
+pub mod Folds
 pub mod Lending
 pub mod Owned
 pub mod Rows

@@ -216,11 +216,18 @@ fn is_fault_at(answer: Result<usize>, key: &str) -> bool {
 }
 
 #[test]
-fn nulls_are_counted_up_to_a_fault(rt: HostRuntime) {
+fn nulls_are_counted_up_to_a_fault(rt: HostRuntime) -> std::result::Result<(), Fail> {
     let alloc = rt.alloc();
-    assert!(rt; is_count(count_nulls(alloc, b"\x0B\0\0\0\x0Aa\0\x0Ab\0\0"), 2));
-    assert!(rt; is_count(count_nulls(alloc, NESTED), 0));
-    assert!(rt; is_fault_at(count_nulls(alloc, BOOLEAN_TWO), "0"));
+    let two = RawDocument::from_bytes(b"\x0B\0\0\0\x0Aa\0\x0Ab\0\0")?;
+    assert!(rt; is_count(count_nulls(alloc, two), 2));
+    assert!(rt; is_count(count_nulls(alloc, RawDocument::from_bytes(NESTED)?), 0));
+    assert!(rt;
+        is_fault_at(
+            count_nulls(alloc, RawDocument::from_bytes(BOOLEAN_TWO)?),
+            "0"
+        )
+    );
+    Ok(())
 }
 
 /// Whether the copy has these bytes.

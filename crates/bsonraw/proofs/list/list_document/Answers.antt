@@ -1,8 +1,6 @@
-use Rattle.std.proofs.Common.{[], ◌∷◌, ◌++◌, Some, Result, Ok, Err, subst, ap, refl, sym, ◌∙◌}
+use Rattle.std.proofs.Common.{[], ◌∷◌, ◌++◌, ap, refl, sym, ◌∙◌}
 use Rattle.raw_bson.specs.Frame.{Done, Stopped}
-use Rattle.raw_bson.specs.ElementSteps.{StepsElement, frame_of}
-use Rattle.raw_bson.specs.RawElement.{RawElement}
-use Rattle.raw_bson.specs.Error.{Error}
+use Rattle.raw_bson.specs.ElementSteps.{frame_of}
 use Rattle.raw_bson.proofs.Face.{HasRead-more, HasRead-end, HasRead-stop}
 use Rattle.bsonraw.specs.Print.{end_line, frame_line}
 use Rattle.bsonraw.proofs.Lines.{frame_lines-more}
@@ -11,21 +9,16 @@ use Rattle.bsonraw.proofs.list.list_document.Goals as goal
 pub loop-item-preserved : goal.loop-item-preserved
 loop-item-preserved c =
     let frames = c.loop-item.invariant.0 in
-    let element = c.in-Ok.element in
-    let step : StepsElement c.loop-item.item-iterator (Some (Ok element)) c.next.new.self =
-    subst (λ (x : Result RawElement Error). StepsElement c.loop-item.item-iterator (Some x) c.next.new.self) c.in-Ok.is c.in-Some.ensures.steps in (
+    let element = c.in-Ok.element in (
       frames ++ frame_of element ∷ [],
-      HasRead-more _ frames c.loop-item.item-iterator c.next.new.self element c.loop-item.invariant.1 step,
+      HasRead-more _ frames c.loop-item.item-iterator c.next.new.self c.loop-item.invariant.1 c.in-Some.ensures.steps c.in-Ok.is,
       c.in_ok-push_element-in-Ok.ensures ∙ ap (λ lines. lines ++ frame_line (frame_of element)) c.loop-item.invariant.2 ∙ sym (frame_lines-more frames (frame_of element)),
     )
 
 pub returns-in-Err : goal.returns-in-Err
 returns-in-Err c =
     let frames = c.loop-item.invariant.0 in
-    let error = c.in-Err.error in
-    let step : StepsElement c.loop-item.item-iterator (Some (Err error)) c.next.new.self =
-    subst (λ (x : Result RawElement Error). StepsElement c.loop-item.item-iterator (Some x) c.next.new.self) c.in-Err.is c.in-Some.ensures.steps in
-    let stop = HasRead-stop _ frames c.loop-item.item-iterator c.next.new.self error c.loop-item.invariant.1 step in
+    let stop = HasRead-stop _ frames c.loop-item.item-iterator c.next.new.self c.loop-item.invariant.1 c.in-Some.ensures.steps c.in-Err.is in
     record {
       frames = frames;
       end = Stopped stop.0 stop.1;
