@@ -16,8 +16,8 @@ trap 'rm -rf "$work"' EXIT
 crate=$work/copy/crates/shown
 mkdir -p "$crate" || exit 1
 git ls-files -z crates crates.txt HANDLES | xargs -0 cp --parents -t "$work/copy" || exit 1
-mkdir -p "$work/copy/crates/reader/src" "$work/programs" || exit 1
-printf 'shown: raw_bson raw_form raw_shelf bson_json bson_from_json\nreader: raw_bson\n' >>"$work/copy/crates.txt"
+mkdir -p "$work/programs" || exit 1
+printf 'shown: raw_bson raw_form raw_shelf bson_json bson_from_json\n' >>"$work/copy/crates.txt"
 pages='README.md CONTRIBUTING.md docs/*.md examples/*.md'
 documented=$(git ls-files crates/bson_model/src crates/raw_view/src crates/raw_tree/src crates/raw_form/src crates/raw_bson/src crates/raw_shelf/src crates/bson_json/src crates/bson_from_json/src)
 sed '/^#/d; /^$/d' "$list" >"$work/cases"
@@ -74,6 +74,10 @@ for page in $pages; do
     for program in "$work/programs/$page"/*.rt; do
         [ -e "$program" ] || continue
         programs=$((programs + 1))
+        if [ "$page" = README.md ] && ! cmp -s "$program" crates/reader/src/main.rt; then
+            echo "README.md: its program isn't crates/reader/src/main.rt" >&2
+            failed=1
+        fi
         cp "$program" "$crate/../reader/src/main.rt" || exit 1
         said=$(printf '\23\0\0\0\2hi\0\6\0\0\0y\47all\0\0' | (cd "$crate/../reader" && rt try) 2>"$work/said")
         [ -n "$said" ] && grep -qF "prints \`$said\`" "$page" && continue

@@ -179,6 +179,7 @@ GIVES = {
     "bsonraw_dump": "the program for dumps",
     "bsonraw_c": "the library for C, and so for Python and Rust",
     "bson_uses": "proved callers, to copy from",
+    "reader": "the program of README, to copy",
 }
 
 
@@ -212,7 +213,7 @@ def edges_of(crates):
 
 
 def colour_of(name):
-    return BLUE if name.startswith("bsonraw") else GREY if name == "bson_uses" else GREEN
+    return BLUE if name.startswith("bsonraw") else GREY if name in ("bson_uses", "reader") else GREEN
 
 
 def label_of(name, kit):
