@@ -7,7 +7,7 @@
 
 enum { ROOM = 1 << 16, TEXT = 1 << 20, LEVELS = 50, TOKENS = 4096, NEWS = 1 << 14 };
 
-__attribute__((section("__libfuzzer_extra_counters"))) static uint8_t news[NEWS];
+__attribute__((section("__libfuzzer_extra_counters"), used)) static volatile uint8_t news[NEWS];
 
 static void is_new(unsigned sort, uint64_t number) {
     news[(sort * 1021 + number * 31) % NEWS] = 1;
