@@ -18,7 +18,12 @@ pub struct Task<'a> {
     pub output: Option<&'a str>,
     /// what is read; nothing and `-` are standard input
     pub inputs: Vec<&'a str>,
+    /// what can't be read, since its name isn't UTF-8
+    pub left_out: Vec<&'a str>,
 }
+
+/// How findings are printed.
+const FORMS: &[&str] = &["words", "json"];
 
 fn files<'a>(alloc: Global) -> Arg<'a> {
     Arg::new(alloc, "FILE")
@@ -32,15 +37,23 @@ fn output<'a>(alloc: Global) -> Arg<'a> {
         .short('o')
         .long("output")
         .value_name("OUTPUT")
-        .help("Written in place of standard output, at the end and as a whole")
+        .help("Written in place of standard output, at the end and as a whole; -: standard output")
         .action(ArgAction::Set)
 }
 
-fn json<'a>(alloc: Global) -> Arg<'a> {
-    Arg::new(alloc, "json")
-        .long("json")
-        .help("Prints what is found as objects of JSON, a line each")
-        .action(ArgAction::SetTrue)
+/// How findings are printed, and the short form of one of the ways.
+fn findings<'a>(
+    alloc: Global,
+    command: clap::Command<'a>,
+) -> Result<clap::Command<'a>, AllocError> {
+    let form = Arg::new(alloc, "findings")
+        .long("findings")
+        .value_name("FORM")
+        .value_parser(FORMS)
+        .help("Prints what is found as words, or as objects of JSON, a line each")
+        .action(ArgAction::Set);
+    let json = switch(alloc, "json", "As --findings=json");
+    command.arg(form)?.arg(json)
 }
 
 fn switch<'a>(alloc: Global, name: &'a str, help: &'a str) -> Arg<'a> {
@@ -61,7 +74,7 @@ fn reading<'a>(alloc: Global, command: clap::Command<'a>) -> Result<clap::Comman
 
 /// A command that writes documents.
 fn writing<'a>(alloc: Global, command: clap::Command<'a>) -> Result<clap::Command<'a>, AllocError> {
-    reading(alloc, command.arg(json(alloc))?.arg(output(alloc))?)
+    reading(alloc, findings(alloc, command)?.arg(output(alloc))?)
 }
 
 fn documents_as_json<'a>(alloc: Global) -> Result<clap::Command<'a>, AllocError> {
@@ -101,7 +114,7 @@ pub fn command_line<'a>(alloc: Global) -> Result<clap::Command<'a>, AllocError> 
         .version(VERSION)
         .about("Checks dumps: BSON documents one behind the other")
         .subcommand_required(true)
-        .subcommand(reading(alloc, check.arg(json(alloc))?)?)?
+        .subcommand(reading(alloc, findings(alloc, check)?)?)?
         .subcommand(reading(alloc, list)?)?
         .subcommand(writing(alloc, canon)?)?
         .subcommand(writing(alloc, sound)?)?
@@ -110,7 +123,7 @@ pub fn command_line<'a>(alloc: Global) -> Result<clap::Command<'a>, AllocError> 
 }
 
 fn style_of(matches: &ArgMatches<'_>) -> Style {
-    if matches.get_flag("json") {
+    if matches.get_flag("json") || matches.get_str("findings") == Some("json") {
         Style::Json
     } else {
         Style::Words
@@ -141,7 +154,7 @@ fn task_of<'a>(
     let output = match command {
         Command::Check | Command::List => None,
         Command::Canon | Command::Sound | Command::Unique | Command::Json(_) => {
-            matches.get_str("output")
+            matches.get_str("output").filter(|name| *name != "-")
         }
     };
     let style = match command {
@@ -155,9 +168,6 @@ fn task_of<'a>(
             inputs.push(*name)?;
         }
     }
-    if inputs.is_empty() {
-        inputs.push("-")?;
-    }
     Ok(Task {
         job: Job {
             command,
@@ -166,6 +176,7 @@ fn task_of<'a>(
         },
         output,
         inputs,
+        left_out: Vec::new(alloc),
     })
 }
 

@@ -56,6 +56,12 @@ impl<'a> Totals<'a> {
         }
     }
 
+    /// An input that wasn't opened.
+    pub fn leave_out(&mut self, name: &'a str) -> Result<(), Failure> {
+        let counts = in_range(Counts::new().with_left(0))?;
+        self.add(name, counts, false)
+    }
+
     /// So many were read of one input more.
     fn add(&mut self, name: &'a str, counts: Counts, goes_on: bool) -> Result<(), Failure> {
         if counts.files > 0 && self.cut.is_none() {

@@ -6,14 +6,18 @@ use crate::batch::{Cut, Totals, run_all, status_of};
 use crate::command::Command;
 use crate::failure::Failure;
 use crate::inputs::Inputs;
+use crate::names::{Words, expanded, given_words};
 use crate::output::into_file;
+use crate::prompt::Prompt;
 use crate::status::Status;
 use crate::style::Style;
 use crate::tell::{tell, tell_words};
-use crate::watch::Watched;
+use crate::watch::{About, Watched};
+use std::alloc::AllocError;
 use std::fs::File;
-use std::io::{BufWriter, ErrorKind, Read, Stdin, Write};
-use std::{env, io};
+use std::io::{BufWriter, ErrorKind, IsTerminal, Read, Stdin, Write};
+use std::os::unix::fs::MetadataExt;
+use std::{fs, io};
 
 /// How many bytes are written at a time.
 pub const BLOCK: usize = 1 << 18;
@@ -41,17 +45,49 @@ impl Read for Source<'_> {
 pub struct Files<'a> {
     rt: &'a HostRuntime,
     style: Style,
+    /// whether it is shown how far the reading has come
+    shows: bool,
+    /// the file that is written by redirection, if it is one, which isn't read
+    written: Option<Node>,
+}
+
+/// What makes two names those of one file: its device and its number there.
+type Node = (u64, u64);
+
+fn node_of(rt: &HostRuntime, name: &str) -> Option<Node> {
+    let about = fs::metadata(rt, name).ok()?;
+    about.is_file().then_some((about.dev(), about.ino()))
+}
+
+impl<'a> Files<'a> {
+    fn about(&self, name: &str, place: &str) -> io::Result<About> {
+        let size = match fs::metadata(self.rt, place) {
+            Ok(about) if about.is_file() => Some(about.len()),
+            _ => None,
+        };
+        Ok(About {
+            name: String::from_str(self.rt.alloc(), name)?,
+            size,
+            style: self.style,
+            shows: self.shows,
+        })
+    }
 }
 
 impl<'a> Inputs for Files<'a> {
     type Input = Source<'a>;
 
     fn open(&self, name: &str) -> io::Result<Source<'a>> {
+        let place = if name == "-" { "/dev/stdin" } else { name };
+        if self.written.is_some() && node_of(self.rt, place) == self.written {
+            return Err(io::Error::other("this file is the output as well"));
+        }
+        let about = self.about(name, place)?;
         if name == "-" {
-            return Ok(Source::Input(Watched::new(self.rt, self.rt.stdin())));
+            return Ok(Source::Input(Watched::new(self.rt, self.rt.stdin(), about)));
         }
         let file = File::open(self.rt, name)?;
-        Ok(Source::File(Watched::new(self.rt, file)))
+        Ok(Source::File(Watched::new(self.rt, file, about)))
     }
 
     fn tell(&self, name: &str, at: Option<u64>, error: &io::Error) {
@@ -61,18 +97,22 @@ impl<'a> Inputs for Files<'a> {
 
 /// Does what the arguments ask for.
 pub fn all(rt: &HostRuntime) -> Status {
-    let words: Vec<String> = match env::args(rt) {
-        Ok(words) => match words.collect(rt.alloc()) {
-            Ok(words) => words,
-            Err(_) => return Status::Memory,
-        },
-        Err(error) => {
-            tell(rt, Style::Words, "the arguments", None, &error);
-            return Status::Usage;
-        }
+    let Ok(words) = given_words(rt) else {
+        tell_words(rt, Style::Words, "not enough memory");
+        return Status::Memory;
     };
-    match parsed(rt.alloc(), &words) {
-        Ok(Some(task)) => start(rt, &task),
+    if let Some(wrong) = &words.wrong {
+        tell(
+            rt,
+            Style::Words,
+            wrong.as_str(),
+            None,
+            &io::Error::other("an argument here has to be UTF-8"),
+        );
+        return Status::Usage;
+    }
+    match parsed(rt.alloc(), &words.words) {
+        Ok(Some(task)) => with_names(rt, &task, &words).unwrap_or(Status::Memory),
         Ok(None) => Status::Usage,
         Err(error) => explained(rt, &error),
     }
@@ -91,17 +131,56 @@ fn explained(rt: &HostRuntime, error: &clap::Error) -> Status {
     }
 }
 
+/// Does a task whose inputs are named as on the command line.
+fn with_names<'a>(
+    rt: &HostRuntime,
+    task: &Task<'a>,
+    words: &'a Words,
+) -> Result<Status, AllocError> {
+    let names = expanded(rt, &task.inputs)?;
+    let mut inputs = Vec::new(rt.alloc());
+    for name in &names {
+        inputs.push(name.as_str())?;
+    }
+    let mut left_out = Vec::new(rt.alloc());
+    for name in &words.left_out {
+        left_out.push(name.as_str())?;
+    }
+    if inputs.is_empty() && left_out.is_empty() {
+        inputs.push("-")?;
+    }
+    Ok(start(
+        rt,
+        &Task {
+            job: task.job,
+            output: task.output,
+            inputs,
+            left_out,
+        },
+    ))
+}
+
 /// Does a task.
 fn start(rt: &HostRuntime, task: &Task<'_>) -> Status {
     if let Some(name) = task.output {
         return into_file(rt, task, name);
+    }
+    if is_binary(task.job.command) && rt.stdout().is_terminal() {
+        let words = "standard output is a terminal; redirect it, or name an OUTPUT by -o";
+        tell_words(rt, task.job.style, words);
+        return Status::Usage;
     }
     let Ok(mut out) = BufWriter::with_capacity(rt.alloc(), BLOCK, rt.stdout()) else {
         tell_words(rt, task.job.style, "not enough memory");
         return Status::Memory;
     };
     match task.job.command {
-        Command::Check | Command::List => each(rt, task, &mut io::sink(), &mut out).status,
+        Command::Check => {
+            let is_file = node_of(rt, "/dev/stdout").is_some();
+            let mut out = Prompt::new(rt, out, !is_file);
+            each(rt, task, &mut io::sink(), &mut out).status
+        }
+        Command::List => each(rt, task, &mut io::sink(), &mut out).status,
         Command::Canon | Command::Sound | Command::Unique | Command::Json(_) => each(
             rt,
             task,
@@ -109,6 +188,11 @@ fn start(rt: &HostRuntime, task: &Task<'_>) -> Status {
             &mut rt.stderr(),
         ).status,
     }
+}
+
+/// Whether a command writes documents.
+fn is_binary(command: Command) -> bool {
+    matches!(command, Command::Canon | Command::Sound | Command::Unique)
 }
 
 /// Why not all was written.
@@ -138,20 +222,9 @@ pub fn each<'a, D: Write, W: Write>(
     data: &mut D,
     report: &mut W,
 ) -> Done<'a> {
-    let inputs = Files {
-        rt,
-        style: task.job.style,
-    };
+    let inputs = files_of(rt, task);
     let mut totals = Totals::new(rt.alloc());
-    let result = run_all(
-        rt.alloc(),
-        task.job,
-        &inputs,
-        &task.inputs,
-        data,
-        report,
-        &mut totals,
-    );
+    let result = run_each(rt, task, &inputs, data, report, &mut totals);
     let status = status_of(task.job.command, totals.counts);
     match result {
         Ok(()) => Done {
@@ -160,6 +233,47 @@ pub fn each<'a, D: Write, W: Write>(
         },
         Err(failure) => failed(rt, task, status, failure),
     }
+}
+
+fn files_of<'a>(rt: &'a HostRuntime, task: &Task<'_>) -> Files<'a> {
+    let is_redirected = task.output.is_none();
+    let is_apart = matches!(task.job.command, Command::Check)
+        || !is_redirected
+        || !rt.stdout().is_terminal();
+    Files {
+        rt,
+        style: task.job.style,
+        shows: is_apart && rt.stderr().is_terminal(),
+        written: if is_redirected {
+            node_of(rt, "/dev/stdout")
+        } else {
+            None
+        },
+    }
+}
+
+/// Tells which names were left out, and runs the command over the others.
+fn run_each<'a, D: Write, W: Write>(
+    rt: &HostRuntime,
+    task: &Task<'a>,
+    inputs: &Files<'_>,
+    data: &mut D,
+    report: &mut W,
+    totals: &mut Totals<'a>,
+) -> Result<(), Failure> {
+    for name in &task.left_out {
+        inputs.tell(name, None, &io::Error::other("a name here has to be UTF-8"));
+        totals.leave_out(name)?;
+    }
+    run_all(
+        rt.alloc(),
+        task.job,
+        inputs,
+        &task.inputs,
+        data,
+        report,
+        totals,
+    )
 }
 
 /// Tells a failure in a run whose status would be this. A pipe whose reader is gone ends it quietly.

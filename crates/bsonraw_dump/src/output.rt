@@ -5,10 +5,15 @@ use crate::args::Task;
 use crate::files::{BLOCK, Done, each};
 use crate::status::Status;
 use crate::tell::{tell, tell_lack};
-use std::fs::{File, OpenOptions, Permissions};
+use std::alloc::AllocError;
+use std::fs::{File, Metadata, OpenOptions};
 use std::io::BufWriter;
 use std::os::fd::AsRawFd;
+use std::os::unix::fs::{MetadataExt, fchown};
 use std::{fs, io, process};
+
+/// The most bytes of a file's name.
+const LONGEST: usize = 255;
 
 /// Does a task whose output goes into this file. What is there and isn't a file, as a device or a pipe, is written as it is.
 pub fn into_file(rt: &HostRuntime, task: &Task<'_>, name: &str) -> Status {
@@ -17,7 +22,7 @@ pub fn into_file(rt: &HostRuntime, task: &Task<'_>, name: &str) -> Status {
         Err(error) => return without(rt, task, "/dev/null", &error),
     };
     let result = match fs::metadata(rt, name) {
-        Ok(old) if old.is_file() => replaced(rt, task, name, Some(old.permissions())),
+        Ok(old) if old.is_file() => replaced(rt, task, name, Some(old)),
         Ok(_) => written(rt, task, name),
         Err(_) => replaced(rt, task, name, None),
     };
@@ -57,21 +62,23 @@ fn written(rt: &HostRuntime, task: &Task<'_>, name: &str) -> io::Result<Status> 
     Ok(each(rt, task, &mut data, &mut rt.stderr()).status)
 }
 
-/// Writes into a file beside it, with the same mode, which takes its place where all went well but for damage.
+/// Writes into a file beside it, with the same mode, owner and group, which takes its place where all went well but for damage.
 fn replaced(
     rt: &HostRuntime,
     task: &Task<'_>,
     name: &str,
-    mode: Option<Permissions>,
+    old: Option<Metadata>,
 ) -> io::Result<Status> {
+    if old.is_some() {
+        let _may_be_written = OpenOptions::new().write(true).open(rt, name)?;
+    }
     let place = match fs::canonicalize(rt, name) {
         Ok(place) => format!(in rt.alloc(); "{}", place.display())?,
         Err(_) => String::from_str(rt.alloc(), name)?,
     };
-    let number = process::id(rt.process());
-    let beside = format!(in rt.alloc(); "{place}.{number}.tmp")?;
+    let beside = beside(rt, place.as_str())?;
     let file = File::create_new(rt, beside.as_str())?;
-    let result = match filled(rt, task, file, mode) {
+    let result = match filled(rt, task, name, file, old) {
         Ok(done) if done.lack.is_none() => {
             fs::rename(rt, beside.as_str(), place.as_str())?;
             return Ok(done.status);
@@ -86,15 +93,49 @@ fn replaced(
     Ok(done.status)
 }
 
+/// The name of the file that takes a place at the end: that of the place, cut if it is too long, with a number and `.tmp`.
+fn beside(rt: &HostRuntime, place: &str) -> Result<String, AllocError> {
+    let number = process::id(rt.process());
+    let end = format!(in rt.alloc(); ".{number}.tmp")?;
+    let begins = place.rfind('/').map_or(0, |at| at + 1);
+    let most = LONGEST.saturating_sub(end.len());
+    let len = place.len().min(begins.saturating_add(most));
+    let front = &place[..place.floor_char_boundary(len)];
+    format!(in rt.alloc(); "{front}{end}")
+}
+
+/// Writes all into the file, which is on the disk at the end.
 fn filled<'a>(
     rt: &HostRuntime,
     task: &Task<'a>,
+    name: &str,
     file: File,
-    mode: Option<Permissions>,
+    old: Option<Metadata>,
 ) -> io::Result<Done<'a>> {
-    if let Some(mode) = mode {
-        file.set_permissions(mode)?;
+    if let Some(old) = old {
+        keep_owner(rt, task, name, &file, &old);
+        file.set_permissions(old.permissions())?;
     }
     let mut data = BufWriter::with_capacity(rt.alloc(), BLOCK, file)?;
-    Ok(each(rt, task, &mut data, &mut rt.stderr()))
+    let done = each(rt, task, &mut data, &mut rt.stderr());
+    if done.lack.is_none() {
+        data.get_ref().sync_all()?;
+    }
+    Ok(done)
+}
+
+/// Gives a file the owner and the group of the one whose place it takes, and tells where it can't.
+fn keep_owner(rt: &HostRuntime, task: &Task<'_>, name: &str, file: &File, old: &Metadata) {
+    let kept = fchown(file, None, Some(old.gid())).and_then(|()| fchown(
+        file,
+        Some(old.uid()),
+        None,
+    ));
+    if let Err(error) = kept {
+        let text: Result<_, _> = format!(in rt.alloc(); "its owner or group isn't kept: {error}");
+        let words = text
+            .as_ref()
+            .map_or("its owner or group isn't kept", |text| text.as_str());
+        tell(rt, task.job.style, name, None, &io::Error::other(words));
+    }
 }

@@ -1,57 +1,124 @@
-//! Shows on standard error how far the reading of an input has come, where that is a terminal.
+//! Shows on standard error how far the reading of an input has come, where that is a terminal, and tells once what an input looks
+//! like that isn't a dump.
 #![tactic(auto)]
 
 ghost use Rattle.std.specs.Prelude.{◌≡◌};
 
+use crate::guess::hint;
+use crate::style::Style;
+use crate::tell::tell;
 use std::io;
-use std::io::{IsTerminal, Read, Write};
+use std::io::{Read, Write};
+use std::time::Instant;
 
 /// It is shown after each 8 MiB.
 const STEP: u64 = 1 << 23;
+
+/// What is known of an input before it is read.
+#[derive(Drop)]
+pub struct About {
+    /// its name
+    pub name: String,
+    /// how many bytes it has, if that is known
+    pub size: Option<u64>,
+    /// how it is told what it looks like
+    pub style: Style,
+    /// whether it is shown how far the reading has come
+    pub shows: bool,
+}
 
 /// A reader that shows how many bytes it gave.
 #[derive(Drop)]
 pub struct Watched<'a, R> {
     rt: &'a HostRuntime,
     reader: R,
+    about: About,
     /// how many bytes it gave
     count: u64,
-    /// how many it gives before the next are shown; `None` where nobody watches
-    next: Option<u64>,
+    /// how many it gives before the next are shown
+    next: u64,
+    /// when its first bytes came
+    begun: Option<Instant>,
 }
 
 impl<'a, R> Watched<'a, R> {
-    /// The reader, watched where standard error is a terminal.
-    pub fn new(rt: &'a HostRuntime, reader: R) -> Watched<'a, R> {
-        let next = if rt.stderr().is_terminal() {
-            Some(STEP)
-        } else {
-            None
-        };
+    /// The reader of an input of which nothing was read.
+    pub fn new(rt: &'a HostRuntime, reader: R, about: About) -> Watched<'a, R> {
         Watched {
             rt,
             reader,
+            about,
             count: 0,
-            next,
+            next: STEP,
+            begun: None,
         }
     }
 
-    /// Shows how many bytes came, in a line that the next one overwrites; at the end of the input takes it away.
-    fn show(&mut self, len: usize)
+    /// Looks at what was read: tells what the first bytes look like, and shows how many came, at the end of the input nothing.
+    fn look(&mut self, read: &[u8])
         ensures { self.new.reader ≡ self.old.reader }
     {
-        self.count = self.count.saturating_add(len as u64);
-        let Some(next) = self.next else {
+        if self.count == 0 {
+            self.begin(read);
+        }
+        self.count = self.count.saturating_add(read.len() as u64);
+        if !self.about.shows {
             return;
-        };
-        if len == 0 {
+        }
+        if read.is_empty() {
             let _shown = self.rt.stderr().write_all(b"\x1b[K");
-        } else if self.count >= next {
-            let megabytes = self.count / 1_000_000;
-            let _shown = eprint!(self.rt; "\x1b[K{megabytes} MB\r");
-            self.next = Some(self.count.saturating_add(STEP));
+        } else if self.count >= self.next {
+            self.show();
+            self.next = self.count.saturating_add(STEP);
         }
     }
+
+    fn begin(&mut self, read: &[u8])
+        ensures { self.new.reader ≡ self.old.reader }
+    {
+        if let Some(words) = hint(read) {
+            let error = io::Error::other(words);
+            tell(
+                self.rt,
+                self.about.style,
+                self.about.name.as_str(),
+                None,
+                &error,
+            );
+        }
+        if self.about.shows {
+            self.begun = Instant::now(self.rt).ok();
+        }
+    }
+
+    /// Shows the name, how much was read, how fast and, if that can be told, how long it will take, in a line that the next overwrites.
+    fn show(&self) {
+        let name = self.about.name.as_str();
+        let millis = match self.begun.map(|begun| begun.elapsed(self.rt)) {
+            Some(Ok(elapsed)) => u64::try_from(elapsed.as_millis()).unwrap_or(u64::MAX),
+            _ => 0,
+        };
+        let rate = per_second(self.count, millis);
+        let megabytes = self.count / 1_000_000;
+        let _shown = match self.about.size {
+            Some(size) if size >= self.count && rate > 0 => {
+                let percent = u128::from(self.count) * 100 / u128::from(size.max(1));
+                let left = (size - self.count) / rate;
+                let (minutes, seconds) = (left / 60, left % 60);
+                let speed = rate / 1_000_000;
+                eprint!(self.rt;
+                    "\x1b[K{name}: {percent} %, {speed} MB/s, {minutes}:{seconds:02} left\r"
+                )
+            }
+            _ => eprint!(self.rt; "\x1b[K{name}: {megabytes} MB\r"),
+        };
+    }
+}
+
+/// How many bytes come in a second, where so many came in this time.
+fn per_second(count: u64, millis: u64) -> u64 {
+    let rate = u128::from(count) * 1000 / u128::from(millis.max(1));
+    u64::try_from(rate).unwrap_or(u64::MAX)
 }
 
 impl<R: Read> Read for Watched<'_, R> {
@@ -59,7 +126,7 @@ impl<R: Read> Read for Watched<'_, R> {
 
     fn read(&mut self, buf: &mut [u8]) -> io::Result<usize> {
         let len = self.reader.read(buf)?;
-        self.show(len);
+        self.look(&buf[..len]);
         Ok(len)
     }
 }

@@ -1,0 +1,246 @@
+"""Tries what a program does with files and terminals that it writes, names that it is given, and signals: outputs.py PROGRAM."""
+
+import os
+import pty
+import shutil
+import signal
+import subprocess
+import sys
+import tempfile
+from typing import IO, Any, Dict, List, Optional, Tuple, Union
+
+ONE = bytes.fromhex("0c0000001061000100000000")
+TWICE = bytes.fromhex("13000000106100010000001061000200000000")
+FORM = bytes.fromhex("0c0000001061000200000000")
+EMPTY = b"\5\0\0\0\0"
+NOBODY = 65534
+
+failed = False
+left_out: List[str] = []
+
+
+def fails(what: str, *seen: Any) -> None:
+    global failed
+    failed = True
+    print("outputs:", what, *seen, file=sys.stderr)
+
+
+class Runs:
+    """Runs of the program in a folder."""
+
+    def __init__(self, program: str, folder: str) -> None:
+        self.program = os.path.join(folder, "bsonraw-dump")
+        shutil.copy(program, self.program)
+        self.folder = os.path.join(folder, "work")
+        os.mkdir(self.folder)
+
+    def path(self, name: Union[str, bytes]) -> str:
+        return os.path.join(self.folder, os.fsdecode(name))
+
+    def put(self, name: str, data: bytes) -> None:
+        with open(self.path(name), "wb") as file:
+            file.write(data)
+
+    def get(self, name: str) -> bytes:
+        with open(self.path(name), "rb") as file:
+            return file.read()
+
+    def run(self, *words: Union[str, bytes], input: bytes = b"", out: Optional[IO[bytes]] = None, user: Optional[int] = None,
+            stdin: Union[IO[bytes], int, None] = None) -> Tuple[int, bytes, str]:
+        given: Dict[str, Any] = {"stdin": stdin} if stdin is not None else {"input": input}
+        if user is not None:
+            given.update(user=user, group=user, extra_groups=[])
+        done = subprocess.run([self.program, *words], cwd=self.folder, stdout=out or subprocess.PIPE, stderr=subprocess.PIPE, **given)
+        return done.returncode, done.stdout or b"", done.stderr.decode()
+
+    def beside(self) -> List[str]:
+        return [name for name in os.listdir(self.folder) if name.endswith(".tmp")]
+
+
+def try_names(runs: Runs) -> None:
+    runs.put("one", ONE)
+    wrong = b"\xff.bson"
+    status, out, err = runs.run("check", "one", wrong)
+    wanted = 'bsonraw-dump: "argument 3": a name here has to be UTF-8\n'
+    if (status, err) != (3, wanted) or b"files not read to the end: 1\n" not in out or b"documents: 1," not in out:
+        fails("a name that isn't UTF-8", status, out, err)
+    if runs.run("check", wrong, stdin=subprocess.DEVNULL)[0] != 3:
+        fails("a name that isn't UTF-8, alone")
+    for words in (("sound", "-o", wrong, "one"), ("sound", b"--output=\xff", "one"), (b"\xff", "one")):
+        status, out, err = runs.run(*words)
+        if status != 2 or out or "has to be UTF-8" not in err or os.path.exists(runs.path(wrong)):
+            fails("an OUTPUT or a command that isn't UTF-8", status, out, err)
+    os.mkdir(runs.path("dumps"))
+    for name, data in (("b.bson", TWICE), ("a.bson", ONE), ("c.txt", EMPTY), ("d.bson", EMPTY)):
+        runs.put("dumps/" + name, data)
+    if runs.run("sound", "dumps", "one")[:2] != (0, ONE + TWICE + EMPTY + ONE):
+        fails("a folder", runs.run("sound", "dumps", "one"))
+    os.mkdir(runs.path("none"))
+    if runs.run("sound", "none")[0] != 3:
+        fails("a folder without a dump")
+
+
+def try_hints(runs: Runs) -> None:
+    for name, data, wanted in (
+        ("x.gz", b"\x1f\x8b\x08\0\0\0\0\0\0\3" + b"\x63" * 40, "looks like gzip, not a dump: gzip -dc FILE | bsonraw-dump .."),
+        ("x.zst", b"\x28\xb5\x2f\xfd" + b"\x24" * 40, "looks like zstd, not a dump: zstd -dc FILE | bsonraw-dump .."),
+        ("x.json", b'{"a":1}\n', "looks like JSON, not a dump: mongoimport reads JSON"),
+        ("x.array", b' [\n{"a":1}]\n', "looks like JSON, not a dump: mongoimport reads JSON"),
+        ("x.txt", b"id,name\n1,Ada\n", "looks like text, not a dump"),
+        ("x.utf16", '{"a":1}'.encode("utf-16"), "looks like text in UTF-16, not a dump"),
+        ("x.archive", b"\x6d\xe2\x99\x81" + ONE, "looks like an archive: mongorestore --archive=FILE, then mongodump"),
+    ):
+        runs.put(name, data)
+        status, out, err = runs.run("check", name)
+        if status == 0 or err != f'bsonraw-dump: "{name}": {wanted}\n':
+            fails("what a file looks like", name, status, out, err)
+    # a document of 559903 bytes begins as gzip does
+    document = (559903).to_bytes(4, "little") + b"\5\0" + (559903 - 12).to_bytes(4, "little") + bytes(559903 - 10)
+    for data in (ONE, document, b"", b"\5"):
+        if runs.run("check", input=data)[2]:
+            fails("a dump is taken for something else", data[:10])
+
+
+def try_same_file(runs: Runs) -> None:
+    runs.put("same", ONE)
+    for words, stdin in ((("sound", "same"), None), (("sound",), "same")):
+        with open(runs.path("same"), "ab") as out, open(runs.path(stdin or "one"), "rb") as given:
+            status, _, err = runs.run(*words, out=out, stdin=given)
+        if status != 3 or ": this file is the output as well\n" not in err or runs.get("same") != ONE:
+            fails("a file that is read and written", status, err)
+
+
+def try_output(runs: Runs) -> None:
+    runs.put("twice", TWICE)
+    if runs.run("canon", "-o", "-", "twice")[:2] != (0, FORM) or os.path.exists(runs.path("-")):
+        fails("-o -")
+    long = "x" * 250 + "é" + "y" * 3
+    for name in (long, long[:-1]):
+        if runs.run("canon", "-o", name, "twice")[0] != 0 or runs.get(name) != FORM:
+            fails("a long name of an OUTPUT")
+    if os.getuid() != 0:
+        left_out.append("owners, since this isn't root")
+        return
+    os.chmod(runs.folder, 0o777)
+    runs.put("owned", b"old")
+    os.chown(runs.path("owned"), 1234, 4321)
+    os.chmod(runs.path("owned"), 0o4640)
+    if runs.run("canon", "-o", "owned", "twice")[0] != 0 or runs.get("owned") != FORM:
+        fails("an OUTPUT of another owner")
+    about = os.stat(runs.path("owned"))
+    if (about.st_uid, about.st_gid, about.st_mode & 0o7777) != (1234, 4321, 0o4640):
+        fails("owner, group or mode of an OUTPUT", about)
+    os.chmod(runs.path("owned"), 0o666)
+    status, _, err = runs.run("canon", "-o", "owned", "one", user=NOBODY)
+    if status != 0 or runs.get("owned") != ONE or 'bsonraw-dump: "owned": its owner or group isn\'t kept: ' not in err:
+        fails("an owner that can't be kept", status, err)
+    runs.put("locked", b"old")
+    os.chmod(runs.path("locked"), 0o444)
+    status, _, err = runs.run("canon", "-o", "locked", "one", user=NOBODY)
+    if status != 5 or runs.get("locked") != b"old" or "Permission denied" not in err:
+        fails("an OUTPUT that may not be written", status, err)
+    if runs.beside():
+        fails("files beside an OUTPUT are left", runs.beside())
+
+
+def try_small_disk(runs: Runs) -> None:
+    disk = runs.path("disk")
+    os.mkdir(disk)
+    if os.getuid() != 0 or subprocess.run(["mount", "-t", "tmpfs", "-o", "size=64k", "tmpfs", disk], stderr=subprocess.DEVNULL).returncode:
+        left_out.append("a disk that is full, since none can be mounted")
+        return
+    try:
+        runs.put("disk/old", b"old")
+        runs.put("many", ONE * 100_000)
+        status, _, err = runs.run("sound", "-o", "disk/old", "many")
+        if status != 5 or "No space left on device" not in err or runs.get("disk/old") != b"old" or os.listdir(disk) != ["old"]:
+            fails("a disk that is full", status, err, os.listdir(disk))
+    finally:
+        subprocess.run(["umount", disk], check=True)
+
+
+def try_signals(runs: Runs) -> None:
+    """Wherever a signal ends a run, an OUTPUT is the old or the new one, whole."""
+    new = ONE * 300_000
+    runs.put("many", new)
+    ends = {"old": 0, "new": 0}
+    for moment in range(10):
+        runs.put("output", b"old")
+        run = subprocess.Popen([runs.program, "sound", "-o", "output", "many"], cwd=runs.folder, stderr=subprocess.DEVNULL)
+        try:
+            run.wait(moment * 0.004)
+        except subprocess.TimeoutExpired:
+            run.send_signal((signal.SIGINT, signal.SIGTERM, signal.SIGHUP)[moment % 3])
+        run.wait()
+        data = runs.get("output")
+        if data not in (b"old", new):
+            fails("an OUTPUT behind a signal", moment, len(data))
+        ends["old" if data == b"old" else "new"] += 1
+        if run.returncode == 0 and data != new:
+            fails("a run that ended well before a signal came")
+        for name in runs.beside():
+            os.remove(runs.path(name))
+
+
+def try_findings_come(runs: Runs) -> None:
+    """A finding is read from a pipe while the input goes on."""
+    run = subprocess.Popen([runs.program, "check"], stdin=subprocess.PIPE, stdout=subprocess.PIPE)
+    assert run.stdin is not None and run.stdout is not None
+    run.stdin.write(TWICE)
+    run.stdin.flush()
+    signal.alarm(120)
+    if b"repeated-key" not in run.stdout.readline():
+        fails("a finding that comes")
+    signal.alarm(0)
+    run.kill()
+    run.communicate()
+
+
+def on_terminal(runs: Runs, streams: Tuple[str, ...], *words: str) -> Tuple[int, bytes]:
+    """The status of a run whose streams of these names are a terminal, and what is written there."""
+    terminal, side = pty.openpty()
+    given: Dict[str, Any] = {name: side if name in streams else subprocess.DEVNULL for name in ("stdout", "stderr")}
+    run = subprocess.Popen([runs.program, *words], cwd=runs.folder, stdin=subprocess.DEVNULL, **given)
+    os.close(side)
+    shown = b""
+    while True:
+        try:
+            part = os.read(terminal, 65536)
+        except OSError:
+            part = b""
+        if not part:
+            break
+        shown += part
+    os.close(terminal)
+    run.communicate()
+    return run.returncode, shown
+
+
+def try_terminals(runs: Runs) -> None:
+    runs.put("million", ONE * 1_000_000)
+    for command in ("sound", "canon", "unique"):
+        status, shown = on_terminal(runs, ("stdout",), command, "one")
+        if (status, shown) != (2, b""):
+            fails("BSON on a terminal", command, status, shown)
+    if on_terminal(runs, ("stdout",), "json", "one") != (0, b'{"a":1}\r\n'):
+        fails("JSON on a terminal")
+    status, shown = on_terminal(runs, ("stdout", "stderr"), "json", "million")
+    if status != 0 or b"\x1b" in shown or shown.count(b'{"a":1}\r\n') != 1_000_000:
+        fails("JSON on a terminal that shows progress", status, shown[-200:])
+    if b"\x1b[Kmillion: " not in on_terminal(runs, ("stderr",), "json", "million")[1]:
+        fails("progress beside JSON in a file")
+
+
+def main(words: List[str]) -> int:
+    with tempfile.TemporaryDirectory() as folder:
+        os.chmod(folder, 0o755)
+        runs = Runs(words[0], folder)
+        for trial in (try_names, try_hints, try_same_file, try_output, try_small_disk, try_signals, try_findings_come, try_terminals):
+            trial(runs)
+    for what in left_out:
+        print("outputs: left out:", what)
+    return 1 if failed else 0
+
+
+if __name__ == "__main__":
+    sys.exit(main(sys.argv[1:]))
