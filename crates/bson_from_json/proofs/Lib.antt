@@ -6,3 +6,4 @@ mod Left
 mod Steps
 mod Moments
 mod Keys
+mod Decimals
