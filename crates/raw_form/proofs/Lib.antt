@@ -23,4 +23,5 @@ pub mod OneVerdict
 pub mod Rooms
 pub mod Flattening
 pub mod Bounds
+pub mod NotCanonical
 pub mod Face

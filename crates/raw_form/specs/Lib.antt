@@ -12,3 +12,12 @@ pub mod Judging
 pub mod Tokens
 pub mod Flattening
 pub mod CodeLens
+-- its types that clauses speak of
+pub use Rattle.raw_form.specs.declared.barrier.Barrier
+pub use Rattle.raw_form.specs.declared.barrier.BarrierKind
+pub use Rattle.raw_form.specs.declared.flatten.FlattenError
+pub use Rattle.raw_form.specs.declared.place.PathStep
+pub use Rattle.raw_form.specs.declared.place.Place
+pub use Rattle.raw_form.specs.declared.token.Token
+pub use Rattle.raw_form.specs.declared.verdict.PlacedBreach
+pub use Rattle.raw_form.specs.declared.verdict.ValidateError

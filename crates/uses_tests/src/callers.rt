@@ -1,6 +1,6 @@
 use bson_uses::{
-    Dump, MOST, are_equal, copy_without, count_nulls, find_path, keep, normalised_twice, received,
-    split_dump,
+    Dump, MOST, NotUser, Tally, TallyError, are_equal, check_user, copy_without, count_nulls,
+    find_path, keep, normalised_twice, received, split_dump, tally_of,
 };
 use raw_bson::{
     Document, Error, ErrorKind, NoDocument, RawBson, RawBsonRef, RawDocument, RawDocumentBuf,
@@ -228,6 +228,45 @@ fn nulls_are_counted_up_to_a_fault(rt: HostRuntime) -> std::result::Result<(), F
         )
     );
     Ok(())
+}
+
+/// A user: an ObjectId of zeros, and the text `x` as its address.
+const USER: &[u8] = b"\x23\0\0\0\x07_id\0\0\0\0\0\0\0\0\0\0\0\0\0\x02email\0\x02\0\0\0x\0\0";
+
+/// Whether the document is turned away for this.
+fn is_no_user(checked: std::result::Result<(), NotUser>, why: &NotUser) -> bool {
+    match checked {
+        Ok(()) => false,
+        Err(error) => error == *why,
+    }
+}
+
+#[test]
+fn a_user_has_its_fields_alone(rt: HostRuntime) -> std::result::Result<(), Fail> {
+    assert!(rt; check_user(rt.alloc(), RawDocument::from_bytes(USER)?).is_ok());
+    let empty = RawDocument::from_bytes(EMPTY_DOCUMENT)?;
+    assert!(rt; is_no_user(check_user(rt.alloc(), empty), &NotUser::Missing));
+    let number = RawDocument::from_bytes(B_ALONE)?;
+    assert!(rt; is_no_user(check_user(rt.alloc(), number), &NotUser::OtherField));
+    Ok(())
+}
+
+/// The 64-bit number 7 under `n`; a repeated key, which isn't canonical; and the number once more.
+const NUMBERS: &[u8] =
+    b"\x10\0\0\0\x12n\0\x07\0\0\0\0\0\0\0\0\x13\0\0\0\x10a\0\x01\0\0\0\x10a\0\x02\0\0\0\0\x10\0\0\0\x12n\0\x07\0\0\0\0\0\0\0\0";
+
+/// Whether the tally has three documents, two of them canonical, and this sum.
+fn is_tally(tally: std::result::Result<Tally, TallyError>) -> bool {
+    match tally {
+        Ok(tally) => tally.documents == 3 && tally.canonical == 2 && tally.sum == 14,
+        Err(_) => false,
+    }
+}
+
+#[test]
+fn a_dump_has_a_tally(rt: HostRuntime) {
+    assert!(rt; is_tally(tally_of(rt.alloc(), NUMBERS, "n", MOST)));
+    assert!(rt; tally_of(rt.alloc(), DUMP, "n", MOST).is_err());
 }
 
 /// Whether the copy has these bytes.

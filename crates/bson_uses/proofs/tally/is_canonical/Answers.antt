@@ -1,6 +1,6 @@
 use Rattle.std.proofs.Common.{◌≡◌, true, false}
 use Rattle.raw_bson.specs.Document.{bytes_of}
-use Rattle.bson_uses.proofs.NotCanonical.{breach_not_canonical, too_deep_not_canonical}
+use Rattle.raw_form.proofs.Face.{breach_not_canonical, too_deep_not_canonical}
 use Rattle.bson_uses.proofs.tally.is_canonical.Goals as goal
 
 pub returns-in-Ok-Some-clause-told : goal.returns-in-Ok-Some-clause-told

@@ -1,6 +1,6 @@
 -- What a caller knows where a validation within limits returned no `Ok(None)`: the document isn't canonical within them.
 use Rattle.std.proofs.Common.{◌≡◌, ℕ, List, Option, Some, Ok, Err, subst}
-use Rattle.raw_bson.specs.Limits.{Limits}
+use Rattle.raw_tree.specs.declared.reader.limits.Limits.{Limits}
 use Rattle.raw_form.specs.Barriers.{steps_of}
 use Rattle.raw_form.specs.Verdicts.{AllAreJudgedOneWayWithin, IsCanonicalWithin, TellsVerdict, breach_of, too_deep}
 use Rattle.raw_form.specs.declared.place.Place.{Place}
