@@ -1,7 +1,8 @@
 #!/usr/bin/env python3
 """reads.py PROGRAM [SIZE]: counts, by lackey of valgrind, how often PROGRAM check --resync reads memory for each byte of files in which
 a document that reaches to the file's end begins every seven bytes, and is damaged: in each way that its form allows, right behind the
-last of them or at the end. Fails where it reads more than MOST times for a byte, as it would if it read what it doesn't count."""
+last of them or at the end; and of files in which one that isn't believed begins every few bytes. Fails where it reads more than MOST
+times for a byte, as it would if it read what it doesn't count."""
 import re, struct, subprocess, sys, tempfile
 
 MOST = 22
@@ -42,6 +43,32 @@ def file_of(size, tail):
     return b"".join(number(end - 7 * i) + HEAD for i in range(places)) + number(0) + tail + b"\0"
 
 
+def wrong_lengths(size, ends):
+    """Documents damaged at once, two without damage behind each, and then only such; each length ends before one of the last."""
+    small = number(5) + b"\0"
+    count, behind = size // 34, size // 10
+    front = count * 17
+    heads = (number(front - 17 * i + 5 * ends(i, behind)) + b"\x66a\0" + 2 * small for i in range(count))
+    return b"".join(heads) + behind * small
+
+
+def late_faults(size):
+    """Documents in one another's binaries, with two without damage in front of each; all are damaged at their end, before such."""
+    small = number(5) + b"\0"
+    count = size // 23
+    end = 4 + 22 * count + 8
+    values = (b"\5b\0" + number(14) + b"\0" + 2 * small + number(end - 22 * (i + 1)) for i in range(count))
+    return number(end) + b"".join(values) + b"\x66a\0" + small + 4 * small
+
+
+def wrongs(size):
+    """Files in which documents that aren't believed are so many that what is done for each has to be bounded."""
+    yield "wrong lengths with one end", wrong_lengths(size, lambda i, behind: behind - 2)
+    yield "wrong lengths with ends further and further off", wrong_lengths(size, lambda i, behind: 2 + i % (behind - 4))
+    yield "wrong lengths with ends nearer and nearer", wrong_lengths(size, lambda i, behind: behind - 2 - i % (behind - 4))
+    yield "wrong lengths of documents with a late fault", late_faults(size)
+
+
 def loads(program, name):
     """How often a run reads memory, and its status."""
     run = subprocess.run(["valgrind", "--tool=lackey", "--detailed-counts=yes", program, "check", "--resync", name], capture_output=True, text=True)
@@ -69,6 +96,10 @@ def main(program, size="60000"):
                 count = (reads(content, 3 if front else 1) - empty) / len(content)
                 failed |= count > MOST
                 print(f"{'FAILED ' if count > MOST else ''}{kind}{', behind an unsound length' if front else ''}: {count:.1f} reads a byte", flush=True)
+        for kind, content in wrongs(size):
+            count = (reads(content, 3) - empty) / len(content)
+            failed |= count > MOST
+            print(f"{'FAILED ' if count > MOST else ''}{kind}: {count:.1f} reads a byte", flush=True)
     return failed
 
 

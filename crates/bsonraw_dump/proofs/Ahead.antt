@@ -2,7 +2,7 @@
 use Rattle.std.proofs.Common.{◌≡◌, ℕ, suc, ◌+◌, ◌-◌, ◌≤◌, List, [], ◌∷◌, ◌++◌, Option, None, Some, arith, length, length-drop, length-take-le, take, drop, min, sym, ap, ◌∙◌, refl, append-nil}
 use Rattle.std.proofs.lemmas.List.{drop-take, drop-drop, length-take, take-append-drop, take-take}
 use Rattle.std.specs.Io.KnownBytes.{Consumes, IsAtEnd}
-use Rattle.bsonraw_dump.specs.Reading.{IsWindow, Looks, Stays, ahead_of}
+use Rattle.bsonraw_dump.specs.Reading.{IsWindow, Looks, ahead_of}
 use Rattle.bsonraw_dump.specs.declared.window.Window.{Window}
 
 -- how many bytes are ahead

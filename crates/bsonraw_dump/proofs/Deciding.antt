@@ -1,15 +1,11 @@
 -- Whether a damaged document is taken at its length, where more may be read.
-use Rattle.std.proofs.Common.{◌≡◌, ℕ, ◌+◌, ◌-◌, ◌<◌, ◌≤◌, ◌⊎◌, List, [], ◌++◌, Option, None, Some, is_some, Bool, true, false, not, MatchBool, ◌&&◌, cond, Result, Ok, Err, IfErr, arith, length, take, drop, sym, ap, ◌∙◌, subst, refl, inl, inr, length-append, length-take-le}
-use Rattle.std.proofs.lemmas.List.{take-append-le}
+use Rattle.std.proofs.Common.{◌≡◌, ℕ, ◌+◌, ◌<◌, ◌≤◌, ◌⊎◌, List, [], ◌++◌, Option, Some, Bool, true, false, MatchBool, ◌&&◌, cond, Result, Ok, Err, IfErr, arith, length, take, drop, sym, ap, ◌∙◌, subst, refl, inl, inr, length-append, length-take-le}
+use Rattle.std.proofs.lemmas.List.{take-append-drop, take-append-le}
 use Rattle.std.proofs.Math.Seq.{take-length}
 use Rattle.std.specs.Io.KnownBytes.{Consumes, IsAtEnd}
-use Rattle.raw_view.specs.Frame.Envelope.{IsEnvelope}
-use Rattle.raw_tree.specs.WithinLimits.{AllAreAnsweredOneWay}
 use Rattle.raw_tree.specs.declared.reader.limits.Limits.{Limits}
-use Rattle.raw_form.specs.Barriers.{TellsBarrier}
-use Rattle.raw_form.specs.declared.barrier.Barrier.{Barrier}
-use Rattle.raw_resync.specs.Resync.{EndsOrBegins, GoesOnWith, IsDisbelieved, IsSound}
-use Rattle.raw_resync.specs.Charge.{Charges, IsBounded, IsLeftOut, IsUnjudged}
+use Rattle.raw_resync.specs.Resync.{EndsOrBegins, IsSound}
+use Rattle.raw_resync.specs.Charge.{Charges, IsBounded, IsUnjudged}
 use Rattle.raw_resync.specs.Seeking.{ChecksBehind, IsWork, MayFollow, PassesOver, Seeks, TellsBehind, TellsSought, Works}
 use Rattle.raw_resync.specs.declared.check.Check.{Check}
 use Rattle.raw_resync.specs.declared.check.Check.TheVariants as check
@@ -21,8 +17,8 @@ use Rattle.raw_resync.proofs.Face.{believed, charges_none, charges_on, disbeliev
 use Rattle.raw_resync.proofs.Face as face
 use Rattle.bsonraw_dump.specs.Cut.{EndsWith, IsPiece, most}
 use Rattle.bsonraw_dump.specs.Find.{limits}
-use Rattle.bsonraw_dump.specs.Reading.{IsNext, IsReadBehind, IsWindow, Looks, SeesAhead, Stays, TellsNext, ahead_of}
-use Rattle.bsonraw_dump.specs.Resync.{BreaksWith, Doubts, GoesOnBehind, GoesOnInside, HasWrongLength, IsBelieved, IsDoubted, IsNextPlace, IsPartAhead, IsPartOf, Searches, SeesBehind, SeesInside, Spends, TellsPart}
+use Rattle.bsonraw_dump.specs.Reading.{IsReadBehind, IsWindow, Looks, SeesAhead, Stays, TellsNext, ahead_of}
+use Rattle.bsonraw_dump.specs.Resync.{BreaksWith, Doubts, GoesOnBehind, GoesOnInside, IsBelieved, IsDoubted, IsNextPlace, Searches, SeesBehind, SeesInside, Spends, TellsPart}
 use Rattle.bsonraw_dump.specs.declared.ending.Ending.{Ending}
 use Rattle.bsonraw_dump.specs.declared.ending.Ending.TheVariants as ending
 use Rattle.bsonraw_dump.specs.declared.resync.Skip.{Skip}
@@ -36,21 +32,6 @@ use Rattle.bsonraw_dump.proofs.Skipping.{follows}
 pub if_err_on : {A E : Type 0} (r : Result A E) (P Q : Type 0) → (P → Q) → IfErr r (λ e. P) → IfErr r (λ e. Q)
 if_err_on (Ok x) P Q on is = tt
 if_err_on (Err e) P Q on is = on is
-
--- a document whose reading something ends isn't without damage
-damaged_where : (l : Limits) (b : List ℕ) (barrier : Barrier) → IsEnvelope b → AllAreAnsweredOneWay l → TellsBarrier l b (Some barrier) → ¬ IsSound l b
-damaged_where l b barrier envelope one (x, first, is, at) sound = (one b envelope).not_both sound.tree x sound.reads first
-
--- one that is read as a tree is
-sound_where : (b : List ℕ) → IsPiece b → IsEnvelope b → TellsBarrier limits b None → IsSound limits b
-sound_where b piece envelope (tree, reads) = record { piece = piece; envelope = envelope; tree = tree; reads = reads }
-
-pub judged_whole : (b : List ℕ) (barrier : Option Barrier) (r : Bool) → is_some barrier ≡ not r → IsPiece b → IsEnvelope b → AllAreAnsweredOneWay limits → TellsBarrier limits b barrier
-    → MatchBool r (IsSound limits b) (¬ IsSound limits b)
-judged_whole b None true is piece envelope one tells = sound_where b piece envelope tells
-judged_whole b (Some barrier) false is piece envelope one tells = damaged_where limits b barrier envelope one tells
-judged_whole b None false is piece envelope one tells = let impossible : ⊥ = cc in absurd impossible
-judged_whole b (Some barrier) true is piece envelope one tells = let impossible : ⊥ = cc in absurd impossible
 
 looks_same : (r : Option (List ℕ)) (x : List ℕ) → Looks r r x x
 looks_same r x = record { is_read = λ before read. read; len = omega arith; kept = take-length x }
@@ -169,29 +150,30 @@ looked_on r r' r'' x y z v w w' len n last last' there p checks work sees ends =
     }
 
 -- what the loop over places inside keeps
-pub record IsSought (r r' : Option (List ℕ)) (x y : Window) (v w : Work) (from len end : ℕ) (last : Bool) : Type 0 where
+pub record IsSought (r r' : Option (List ℕ)) (x y : Window) (v w : Work) (first from len end : ℕ) (last : Bool) : Type 0 where
   pub searches : Searches r r' x y v w
   pub ends : last ≡ true → IsAtEnd r'
-  pub low : 1 ≤ from
+  pub low : first ≤ from
   pub high : from ≤ len
   pub within : from ≤ length (ahead_of y)
-  pub over : (s : List ℕ) → Consumes (Some s) r (ahead_of x) → (all : Bool) × PassesOver limits (x.offset + length s) s 1 from end w all
+  pub over : (s : List ℕ) → Consumes (Some s) r (ahead_of x) → (all : Bool) × PassesOver limits (x.offset + length s) s first from end w all
 
-pub sought_none : (r : Option (List ℕ)) (x : Window) (w : Work) (len end : ℕ) → IsWindow x → IsWork w → 0 < len → len ≤ length (ahead_of x) → IsSought r r x x w w 1 len end false
-sought_none r x w len end is work some within = record {
+pub sought_none : (r : Option (List ℕ)) (x : Window) (w : Work) (first len end : ℕ) → IsWindow x → IsWork w → first ≤ len → len ≤ length (ahead_of x)
+    → IsSought r r x x w w first first len end false
+sought_none r x w first len end is work some within = record {
   searches = searches_read r r x x w (stays_same r x is) work;
   ends = λ yes. let impossible : ⊥ = cc in absurd impossible;
   low = omega arith;
-  high = omega (arith, some);
+  high = some;
   within = omega (arith, some, within);
-  over = λ s read. (true, face.passes_none limits (x.offset + length s) s 1 end w);
+  over = λ s read. (true, face.passes_none limits (x.offset + length s) s first end w);
 }
 
 abbrev pub places : (from until end : ℕ) → Places
 places from until end = record { from = from; until = until; end = end }
 
 -- a search of places inside
-module _ (r r' : Option (List ℕ)) (x y : Window) (v w w' : Work) (from len end : ℕ) (last : Bool) (p : IsSought r r' x y v w from len end last) (told : Sought)
+module _ (r r' : Option (List ℕ)) (x y : Window) (v w w' : Work) (first from len end : ℕ) (last : Bool) (p : IsSought r r' x y v w first from len end last) (told : Sought)
     (seeks : Seeks limits (ahead_of y) last y.offset (places from len end) w w' told) (work : IsWork w') where
   pub sought_here : Searches r r' x y v w'
   sought_here = searched r r' x y v w last p.searches p.ends w' seeks.works work
@@ -203,17 +185,17 @@ module _ (r r' : Option (List ℕ)) (x y : Window) (v w w' : Work) (from len end
       (subst (λ t. TellsSought limits (ahead_of y) last (y.offset + length t) t (places from len end) w' told) (sym split) (seeks.tells rest may))
 
   passed : (place : ℕ) (all : Bool) (s : List ℕ) → Consumes (Some s) r (ahead_of x) → from ≤ place → PassesOver limits (x.offset + length s) s from place end w' all
-      → (all' : Bool) × PassesOver limits (x.offset + length s) s 1 place end w' all'
+      → (all' : Bool) × PassesOver limits (x.offset + length s) s first place end w' all'
   passed place all s read high over =
       let (rest, split, may) = whole r r' x y v w last p.searches p.ends s read in
       let more : w.spent ≤ w'.spent = spent_more limits (ahead_of y ++ rest) w w' (seeks.works.charges rest may) in
       let (before, over') = p.over s read in
-      let since = passes_since limits (x.offset + length s) s 1 from end w w' before more over' in
-      (before && all, passes_after limits (x.offset + length s) 1 from place end s w' before all p.low high since over)
+      let since = passes_since limits (x.offset + length s) s first from end w w' before more over' in
+      (before && all, passes_after limits (x.offset + length s) first from place end s w' before all p.low high since over)
 
   -- it wants more, and more is read
   pub sought_on : (r'' : Option (List ℕ)) (z : Window) (place n : ℕ) (all there last' : Bool) → told ≡ sought.Wants place n all → SeesAhead r' r'' y z n there
-      → (last' ≡ true → there ≡ false) → IsSought r r'' x z v w' place len end last'
+      → (last' ≡ true → there ≡ false) → IsSought r r'' x z v w' first place len end last'
   sought_on r'' z place n all there last' is sees ends =
       let here = subst (TellsSought limits (ahead_of y) last (y.offset + length (ahead_of y ++ [])) (ahead_of y ++ []) (places from len end) w') is
       (seeks.tells [] (λ yes. refl)) in
@@ -233,7 +215,7 @@ module _ (r r' : Option (List ℕ)) (x y : Window) (v w w' : Work) (from len end
       }
 
   -- documents go on at a place inside
-  pub inside_found : (place : ℕ) (all : Bool) → told ≡ sought.Found place all → SeesInside r r' x y v w' len end true
+  pub inside_found : (place : ℕ) (all : Bool) → told ≡ sought.Found place all → SeesInside r r' x y v w' first len end true
   inside_found place all is = record {
     searches = sought_here;
     is = λ s read.
@@ -242,13 +224,48 @@ module _ (r r' : Option (List ℕ)) (x y : Window) (v w w' : Work) (from len end
   }
 
   -- they go on at none
-  pub inside_none : (all : Bool) → told ≡ sought.Nowhere all → SeesInside r r' x y v w' len end false
+  pub inside_none : (all : Bool) → told ≡ sought.Nowhere all → SeesInside r r' x y v w' first len end false
   inside_none all is = record {
     searches = sought_here;
     is = λ s read.
         let here = subst (TellsSought limits (ahead_of y) last (x.offset + length s) s (places from len end) w') is (tells s read) in
         passed len all s read p.high here.1;
   }
+
+-- what the loop over parts keeps: from the end down to here documents go on at no place
+pub record IsSoughtDown (r r' : Option (List ℕ)) (x y : Window) (v w : Work) (until len end : ℕ) : Type 0 where
+  pub searches : Searches r r' x y v w
+  pub low : 1 ≤ until
+  pub high : until ≤ len
+  pub within : len ≤ length (ahead_of y)
+  pub over : (s : List ℕ) → Consumes (Some s) r (ahead_of x) → (all : Bool) × PassesOver limits (x.offset + length s) s until len end w all
+
+-- the part before is searched
+module _ (r r' r'' : Option (List ℕ)) (x y z : Window) (v w w' : Work) (from until len end : ℕ) (p : IsSoughtDown r r' x y v w until len end) (start : 1 ≤ from) where
+  pub down_found : SeesInside r' r'' y z w w' from until end true → SeesInside r r'' x z v w' 1 len end true
+  down_found q = record {
+    searches = searches_on r r' r'' x y z v w w' p.searches q.searches;
+    is = λ s read.
+        let (j, low, high, on) = q.is s (p.searches.stays.looks.is_read (Some s) read) in
+        (j, omega (arith, start, low), omega (arith, high, p.high), on);
+  }
+
+  pub down_on : from ≤ until → SeesInside r' r'' y z w w' from until end false → IsSoughtDown r r'' x z v w' from len end
+  down_on fewer q =
+      let grown : length (ahead_of y) ≤ length (ahead_of z) = q.searches.stays.looks.len in
+      record {
+        searches = searches_on r r' r'' x y z v w w' p.searches q.searches;
+        low = start;
+        high = omega (arith, fewer, p.high);
+        within = omega (arith, p.within, grown);
+        over = λ s read.
+            let read' = p.searches.stays.looks.is_read (Some s) read in
+            let (behind', over') = p.over s read in
+            let (before, over) = subst (λ n. GoesOnInside s n from until end w' false) p.searches.stays.offset (q.is s read') in
+            let more : w.spent ≤ w'.spent = spent_more limits s w w' ((q.searches.spends s read').charges) in
+            let since = passes_since limits (x.offset + length s) s until len end w w' behind' more over' in
+            (before && behind', passes_after limits (x.offset + length s) from until len end s w' before behind' fewer p.high over since);
+      }
 
 -- how many bytes a piece in front has
 pub piece_len : (x : List ℕ) (len : ℕ) → len ≤ length x → IsPiece (take len x) → (5 ≤ len) × (len ≤ most)
@@ -263,12 +280,20 @@ front_take s x r len read within =
     let size : length s ≡ length x + length rest = ap length split ∙ length-append x rest in
     (ap (take len) split ∙ take-append-le len x rest within, omega (arith, size, within))
 
--- a document without damage is taken at its length
-pub doubts_sound : (r : Option (List ℕ)) (x : Window) (w : Work) (len : ℕ) → IsWindow x → IsWork w
-    → len ≤ length (ahead_of x) → IsSound limits (take len (ahead_of x)) → Doubts r r x x w w len false
-doubts_sound r x w len is work within sound = record {
-  searches = searches_read r r x x w (stays_same r x is) work;
-  is = λ s read. inl (subst (IsSound limits) (sym ((front_take s (ahead_of x) r len read within).0)) sound);
+-- the front is without damage, or left out
+front_believed : (s : List ℕ) (at len : ℕ) (w : Work) → IsPiece (take len s) → GoesOnBehind s at 0 w true → IsBelieved s at len w
+front_believed s at len w piece (inl there) = inl (face.is_sound limits s (take len s) (drop len s) piece (sym (take-append-drop len s)) there)
+front_believed s at len w piece (inr left) = inr (λ disbelieved. (0, omega arith, inl left))
+
+front_damaged : (s : List ℕ) (at len : ℕ) (w : Work) → IsPiece (take len s) → GoesOnBehind s at 0 w false → ¬ IsSound limits (take len s)
+front_damaged s at len w piece stops sound = stops (face.begins limits s (take len s) (drop len s) piece (sym (take-append-drop len s)) sound)
+
+-- such a document is taken at its length
+pub doubts_sound : (r r' : Option (List ℕ)) (x y : Window) (u v : Work) (len : ℕ) → len ≤ length (ahead_of x) → IsPiece (take len (ahead_of x))
+    → SeesBehind r r' x y u v 0 true → Doubts r r' x y u v len false
+doubts_sound r r' x y u v len within piece p = record {
+  searches = p.searches;
+  is = λ s read. front_believed s x.offset len v (subst IsPiece (sym ((front_take s (ahead_of x) r len read within).0)) piece) (p.is s read);
 }
 
 stops_behind : (s : List ℕ) (at len : ℕ) (w : Work) (goes : Bool) → GoesOnBehind s at len w goes → goes ≡ false → ¬ EndsOrBegins limits (drop len s)
@@ -287,7 +312,7 @@ reach_is len end false is = is
 
 -- so the one in front of s is doubted, by what is behind it, and inside
 is_doubted : (s : List ℕ) (at len end : ℕ) (w w' : Work) (goes doubted : Bool) → (IsPiece (take len s) × (len ≤ length s) × ¬ IsSound limits (take len s)) → w.spent ≤ w'.spent
-    → end ≡ cond goes len 0 → GoesOnBehind s at len w goes → GoesOnInside s at len end w' doubted → IsDoubted s at len w' doubted
+    → end ≡ cond goes len 0 → GoesOnBehind s at len w goes → GoesOnInside s at 1 len end w' doubted → IsDoubted s at len w' doubted
 is_doubted s at len end w w' goes true (piece, within, damaged) more is behind' (j, low, high, on) = record {
   within = within;
   piece = piece;
@@ -298,18 +323,21 @@ is_doubted s at len end w w' goes false (piece, within, damaged) more is behind'
     inr (believed limits (at + length s) s len end w' goes all (goes_behind s at len w w' goes more behind') is over)
 
 -- a damaged one is doubted
-pub doubts_damaged : (r r' r'' : Option (List ℕ)) (x y z : Window) (u v w : Work) (len end : ℕ) (goes doubted : Bool)
-    → (len ≤ length (ahead_of x)) × IsPiece (take len (ahead_of x)) × (¬ IsSound limits (take len (ahead_of x)))
-    → SeesBehind r r' x y u v len goes → MatchBool goes (end ≡ len) (end ≡ 0) → SeesInside r' r'' y z v w len end doubted → Doubts r r'' x z u w len doubted
-doubts_damaged r r' r'' x y z u v w len end goes doubted (within, piece, damaged) p is q = record {
-  searches = searches_on r r' r'' x y z u v w p.searches q.searches;
-  is = λ s read.
-      let read' = p.searches.stays.looks.is_read (Some s) read in
-      let (same, few) = front_take s (ahead_of x) r len read within in
-      let inside = subst (λ n. GoesOnInside s n len end w doubted) p.searches.stays.offset (q.is s read') in
-      let more : v.spent ≤ w.spent = spent_more limits s v w ((q.searches.spends s read').charges) in
-      is_doubted s x.offset len end v w goes doubted (subst IsPiece (sym same) piece, few, λ sound. damaged (subst (IsSound limits) same sound)) more
-      (reach_is len end goes is) (p.is s read) inside;
+pub doubts_damaged : (q r r' r'' : Option (List ℕ)) (w x y z : Window) (s t u v : Work) (len end : ℕ) (goes doubted : Bool)
+    → (len ≤ length (ahead_of w)) × IsPiece (take len (ahead_of w)) → SeesBehind q r w x s t 0 false → SeesBehind r r' x y t u len goes
+    → MatchBool goes (end ≡ len) (end ≡ 0) → SeesInside r' r'' y z u v 1 len end doubted → Doubts q r'' w z s v len doubted
+doubts_damaged q r r' r'' w x y z s t u v len end goes doubted (within, piece) front behind' is inside = record {
+  searches = searches_on q r r'' w x z s t v front.searches (searches_on r r' r'' x y z t u v behind'.searches inside.searches);
+  is = λ b read.
+      let read' = front.searches.stays.looks.is_read (Some b) read in
+      let read'' = behind'.searches.stays.looks.is_read (Some b) read' in
+      let (same, few) = front_take b (ahead_of w) q len read within in
+      let piece' = subst IsPiece (sym same) piece in
+      let at = front.searches.stays.offset in
+      let goes_behind' = subst (λ n. GoesOnBehind b n len u goes) at (behind'.is b read') in
+      let goes_inside = subst (λ n. GoesOnInside b n 1 len end v doubted) (behind'.searches.stays.offset ∙ at) (inside.is b read'') in
+      let more : u.spent ≤ v.spent = spent_more limits b u v ((inside.searches.spends b read'').charges) in
+      is_doubted b w.offset len end u v goes doubted (piece', few, front_damaged b w.offset len t piece' (front.is b read)) more (reach_is len end goes is) goes_behind' goes_inside;
 }
 
 some_ahead : (e : Ending) (x : List ℕ) → EndsWith e x → 0 < length x

@@ -1,5 +1,5 @@
 -- Bytes that are passed over, one after the other.
-use Rattle.std.proofs.Common.{◌≡◌, ℕ, ◌+◌, ◌-◌, ◌<◌, ◌≤◌, List, [], ◌++◌, Option, None, Some, Bool, true, false, ◌&&◌, not, Result, Ok, Err, IfErr, arith, length, take, drop, sym, ap, ◌∙◌, subst, refl, inl, inr, append_assoc, length-append, length-drop, length-take-le, add_assoc, add-zero}
+use Rattle.std.proofs.Common.{◌≡◌, ℕ, ◌+◌, ◌-◌, ◌<◌, ◌≤◌, List, [], ◌++◌, Option, None, Some, Bool, true, false, ◌&&◌, not, arith, length, take, drop, sym, ap, ◌∙◌, subst, refl, inl, inr, append_assoc, length-append, length-drop, length-take-le, add_assoc, add-zero}
 use Rattle.std.proofs.lemmas.List.{drop-drop, take-append-drop}
 use Rattle.std.proofs.Math.Seq.{drop-append_seam}
 use Rattle.std.specs.Io.KnownBytes.{Consumes, IsAtEnd}

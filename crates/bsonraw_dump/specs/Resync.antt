@@ -77,15 +77,15 @@ pub record SeesBehind (old new : Option (List ℕ)) (window_old window_new : Win
   pub searches : Searches old new window_old window_new work_old work_new
   pub is : (s : List ℕ) → Consumes (Some s) old (ahead_of window_old) → GoesOnBehind s window_old.offset len work_new goes_on
 
--- whether documents that reach to this end go on at a place behind the first and before so many bytes of s
-abbrev pub GoesOnInside : List ℕ → (at len end : ℕ) → Work → Bool → Type 0
-GoesOnInside s at len end work true = (j : ℕ) × (1 ≤ j) × (j < len) × GoesOnWith limits (end - j) (drop j s)
-GoesOnInside s at len end work false = (all : Bool) × PassesOver limits (at + length s) s 1 len end work all
+-- whether documents that reach to this end go on at a place of s from one on and before another
+abbrev pub GoesOnInside : List ℕ → (at from to end : ℕ) → Work → Bool → Type 0
+GoesOnInside s at from to end work true = (j : ℕ) × (from ≤ j) × (j < to) × GoesOnWith limits (end - j) (drop j s)
+GoesOnInside s at from to end work false = (all : Bool) × PassesOver limits (at + length s) s from to end work all
 
 -- so it is of all that was to be read
-pub record SeesInside (old new : Option (List ℕ)) (window_old window_new : Window) (work_old work_new : Work) (len end : ℕ) (goes_on : Bool) : Type 0 where
+pub record SeesInside (old new : Option (List ℕ)) (window_old window_new : Window) (work_old work_new : Work) (from to end : ℕ) (goes_on : Bool) : Type 0 where
   pub searches : Searches old new window_old window_new work_old work_new
-  pub is : (s : List ℕ) → Consumes (Some s) old (ahead_of window_old) → GoesOnInside s window_old.offset len end work_new goes_on
+  pub is : (s : List ℕ) → Consumes (Some s) old (ahead_of window_old) → GoesOnInside s window_old.offset from to end work_new goes_on
 
 -- whether the document of so many bytes in front of s isn't taken at its length
 abbrev pub IsDoubted : List ℕ → (at len : ℕ) → Work → Bool → Type 0

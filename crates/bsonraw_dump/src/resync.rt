@@ -7,17 +7,14 @@ ghost use Rattle.bsonraw_dump.specs.Find.{limits};
 ghost use Rattle.bsonraw_dump.specs.Reading.{GoesAhead, IsWindow, Stays, ahead_of};
 ghost use Rattle.bsonraw_dump.specs.Resync.{Doubts, SeesBehind, SeesInside, SkipsTo, TellsPart};
 ghost use Rattle.bsonraw_dump.specs.Run.{IsReading};
-ghost use Rattle.raw_resync.specs.Resync.{IsSound};
 ghost use Rattle.raw_resync.specs.Seeking.{IsWork};
 
 use crate::ending::Ending;
 use crate::failure::Failure;
 use crate::find::most_allowed;
 use crate::window::{Next, Window, look_ahead};
-use raw_form::first_fault_within;
 use raw_resync::{Check, Part, Places, Sought, Work, check_behind, seek};
-use raw_view::RawDocument;
-use std::alloc::{AllocError, Global};
+use std::alloc::Global;
 use std::io;
 use std::io::Read;
 
@@ -122,7 +119,7 @@ fn is_doubted<R: Read>(
     ensures doubts { IfOk result (Doubts (R.remaining reader.old) (R.remaining reader.new) window.old window.new work.old work.new len) }
     ensures fails { IfErr result (λ _. Stays (R.remaining reader.old) (R.remaining reader.new) window.old window.new) }
 {
-    if is_sound(alloc, &window.ahead()[..len])? {
+    if goes_on_behind(alloc, reader, window, 0, work)? {
         return Ok(false);
     }
     let goes_on = goes_on_behind(alloc, reader, window, len, work)?;
@@ -134,20 +131,6 @@ fn reach(len: usize, goes_on: bool) -> usize
     ensures { MatchBool goes_on (result ≡ len) (result ≡ 0) }
 {
     if goes_on { len } else { 0 }
-}
-
-/// Whether these bytes are a document without damage.
-fn is_sound(alloc: Global, bytes: &[u8]) -> Result<bool, AllocError>
-    requires { IsPiece bytes.now }
-    ensures { IfOk result (λ is. MatchBool is (IsSound limits bytes.now) (¬ IsSound limits bytes.now)) }
-{
-    let Ok(document) = RawDocument::from_bytes(bytes) else {
-        return Ok(false);
-    };
-    match first_fault_within(alloc, document, most_allowed()) {
-        Ok(barrier) => Ok(barrier.is_none()),
-        Err(_) => Err(AllocError),
-    }
 }
 
 /// Whether behind so many of the bytes ahead the input ends or a document without damage begins, or it could cost too much to
@@ -174,7 +157,12 @@ fn goes_on_behind<R: Read>(
     Err(Failure::Reading(io::Error::from(io::ErrorKind::TimedOut)))
 }
 
-/// Whether documents go on behind the first and before so many of the bytes ahead, with a first one that reaches to this end.
+/// So many places at the end are searched first where documents have to reach to it.
+const LAST_PLACES: usize = 64;
+
+/// Whether documents go on behind the first and before so many of the bytes ahead, with a first one that reaches to this end. Where it
+/// isn't 0 the last places are searched first, then twice as many before them, and so on: those up to a document that is found are
+/// at most some four times as many as the bytes that it was charged.
 fn goes_on_inside<R: Read>(
     alloc: Global,
     reader: &mut R,
@@ -184,17 +172,40 @@ fn goes_on_inside<R: Read>(
     work: &mut Work,
 ) -> Result<bool, Failure>
     requires { IsWindow window.old × IsWork work.old × (0 < len) × (len ≤ length (ahead_of window.old)) × (len ≤ most) }
-    ensures sees { IfOk result (SeesInside (R.remaining reader.old) (R.remaining reader.new) window.old window.new work.old work.new len end) }
+    ensures sees { IfOk result (SeesInside (R.remaining reader.old) (R.remaining reader.new) window.old window.new work.old work.new 1 len end) }
     ensures fails { IfErr result (λ _. Stays (R.remaining reader.old) (R.remaining reader.new) window.old window.new) }
 {
-    let mut from = 1;
+    let mut count = if end == 0 { len } else { LAST_PLACES };
+    let mut until = len;
+    'parts: while 1 < until {
+        let from = until.saturating_sub(count).max(1);
+        if goes_on_between(alloc, reader, window, from, until, end, work)? {
+            return Ok(true);
+        }
+        count = count.saturating_mul(2);
+        until = from;
+    }
+    Ok(false)
+}
+
+/// Whether documents go on from this one of the bytes ahead on and before another, with a first one that reaches to this end.
+fn goes_on_between<R: Read>(
+    alloc: Global,
+    reader: &mut R,
+    window: &mut Window,
+    first: usize,
+    until: usize,
+    end: usize,
+    work: &mut Work,
+) -> Result<bool, Failure>
+    requires { IsWindow window.old × IsWork work.old × (first ≤ until) × (until ≤ length (ahead_of window.old)) × (until ≤ most) }
+    ensures sees { IfOk result (SeesInside (R.remaining reader.old) (R.remaining reader.new) window.old window.new work.old work.new first until end) }
+    ensures fails { IfErr result (λ _. Stays (R.remaining reader.old) (R.remaining reader.new) window.old window.new) }
+{
+    let mut from = first;
     let mut is_last = false;
     for _ in 0..u64::MAX {
-        let places = Places {
-            from,
-            until: len,
-            end,
-        };
+        let places = Places { from, until, end };
         match seek(alloc, part_of(window, is_last), places, work)? {
             Sought::Found { .. } => return Ok(true),
             Sought::Nowhere { .. } => return Ok(false),

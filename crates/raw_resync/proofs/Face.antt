@@ -1,5 +1,7 @@
 -- The lemmas of this crate that crates above may cite; they cite no other.
 
+-- the piece in front
+pub use Rattle.raw_resync.proofs.Fronts.{begins, is_sound}
 -- what is charged, one after the other
 pub use Rattle.raw_resync.proofs.Costing.{charges_none, charges_on, spent_more, unjudged_on, left_on}
 -- places that are passed, one after the other

@@ -1,4 +1,4 @@
-use Rattle.std.proofs.Common.{rules, ◌≡◌, ◌⊎◌, ◌+◌, ◌*◌, ◌<◌, ◌≤◌, [], arith, refl, subst, not, inl, inr}
+use Rattle.std.proofs.Common.{rules, ◌≡◌, ◌⊎◌, ◌+◌, ◌*◌, ◌≤◌, [], arith, refl, subst, not, inl, inr}
 use Rattle.raw_resync.specs.Seeking.{ChecksBehind}
 use Rattle.raw_resync.specs.declared.check.Check.TheVariants as check
 use Rattle.bsonraw_dump.specs.Find.{limits}

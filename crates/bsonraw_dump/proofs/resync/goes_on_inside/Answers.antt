@@ -1,58 +1,29 @@
-use Rattle.std.proofs.Common.{◌+◌, ◌*◌, ◌<◌, ◌≤◌, [], arith, refl, not}
-use Rattle.raw_resync.specs.declared.search.Sought.TheVariants as sought
-use Rattle.bsonraw_dump.proofs.Deciding.{inside_found, inside_none, places, sought_none, sought_on}
-use Rattle.bsonraw_dump.proofs.Skipping.{not_true, seeks_ahead}
+use Rattle.std.proofs.Common.{arith, subst}
+use Rattle.bsonraw_dump.specs.Resync.{SeesInside}
+use Rattle.bsonraw_dump.proofs.Deciding.{down_found, down_on}
 use Rattle.bsonraw_dump.proofs.resync.goes_on_inside.Goals as goal
 
-pub loop-init : goal.loop-init
-loop-init g c = sought_none (g.R.Read.remaining c.args.reader.now) c.args.window.now c.args.work.now c.args.len c.args.end c.requires.0 c.requires.1 c.requires.2 c.requires.3
-
-pub part_of-requires : goal.part_of-requires
-part_of-requires g c = c.loop.invariant.searches.stays.window
-
-pub returns-in-Found-clause-sees : goal.returns-in-Found-clause-sees
-returns-in-Found-clause-sees g c =
+pub returns-then-branch-clause-sees : goal.returns-then-branch-clause-sees
+returns-then-branch-clause-sees g c =
     let r = g.R.Read.remaining in
-    let y = c.loop.window in
-    let p = c.part_of.result in
-    let told = c.in_ok-seek.field-0 in
-    let seeks = seeks_ahead p.limits p.bytes.now p.is_last p.at y c.loop.is_last (places c.loop.from c.args.len c.args.end) c.loop.work c.seek.new.work told told
-    c.part_of.ensures.limits c.part_of.ensures.bytes c.part_of.ensures.last c.part_of.ensures.at refl c.in_ok-seek.ensures.sought in
-    inside_found (r c.args.reader.now) (r c.loop.reader) c.args.window.now y c.args.work.now c.loop.work c.seek.new.work c.loop.from c.args.len c.args.end c.loop.is_last
-    c.loop.invariant told seeks c.seek.ensures.work c.in-Found.place c.in-Found.all c.in-Found.is
+    let l = c.parts in
+    let new = c.goes_on_between.new in
+    let from = c.max-from.result in
+    let sees = subst (SeesInside (r l.reader) (r new.reader) l.window new.window l.work new.work from l.until c.args.end) c.if-branch.true c.in_ok-goes_on_between.ensures.sees in
+    down_found (r c.args.reader.now) (r l.reader) (r new.reader) c.args.window.now l.window new.window c.args.work.now l.work new.work from l.until c.args.len c.args.end
+    l.invariant.1 (omega (arith, c.max-from.ensures)) sees
 
-pub returns-in-Nowhere-clause-sees : goal.returns-in-Nowhere-clause-sees
-returns-in-Nowhere-clause-sees g c =
+pub parts-smaller : goal.parts-smaller
+parts-smaller g c = omega (arith, c.max-from.ensures, c.saturating_sub.ensures, c.parts.invariant.0, c.parts-test.true)
+
+pub parts-preserved : goal.parts-preserved
+parts-preserved g c =
     let r = g.R.Read.remaining in
-    let y = c.loop.window in
-    let p = c.part_of.result in
-    let told = c.in_ok-seek.field-0 in
-    let seeks = seeks_ahead p.limits p.bytes.now p.is_last p.at y c.loop.is_last (places c.loop.from c.args.len c.args.end) c.loop.work c.seek.new.work told told
-    c.part_of.ensures.limits c.part_of.ensures.bytes c.part_of.ensures.last c.part_of.ensures.at refl c.in_ok-seek.ensures.sought in
-    inside_none (r c.args.reader.now) (r c.loop.reader) c.args.window.now y c.args.work.now c.loop.work c.seek.new.work c.loop.from c.args.len c.args.end c.loop.is_last
-    c.loop.invariant told seeks c.seek.ensures.work c.in-Nowhere.all c.in-Nowhere.is
-
-pub look-requires : goal.look-requires
-look-requires g c =
-    let p = c.part_of.result in
-    let seeks = seeks_ahead p.limits p.bytes.now p.is_last p.at c.loop.window c.loop.is_last (places c.loop.from c.args.len c.args.end) c.loop.work c.seek.new.work
-    c.in_ok-seek.field-0 (sought.Wants c.in-Wants.place c.in-Wants.count c.in-Wants.all) c.part_of.ensures.limits c.part_of.ensures.bytes c.part_of.ensures.last
-    c.part_of.ensures.at c.in-Wants.is c.in_ok-seek.ensures.sought in
-    let told = seeks.tells [] (λ is. refl) in
-    let inside : c.in-Wants.place < c.args.len = told.1 in
-    let bound : c.in-Wants.count ≤ c.in-Wants.place + 2 * 16793600 + 8 = told.3.2 in
-    let small : c.args.len ≤ 16793600 = c.requires.4 in
-    (c.loop.invariant.searches.stays.window, omega (arith, bound, inside, small))
-
-pub loop-preserved : goal.loop-preserved
-loop-preserved g c =
-    let r = g.R.Read.remaining in
-    let y = c.loop.window in
-    let p = c.part_of.result in
-    let told = c.in_ok-seek.field-0 in
-    let there = c.in_ok-is_last-in-Wants.field-0 in
-    let seeks = seeks_ahead p.limits p.bytes.now p.is_last p.at y c.loop.is_last (places c.loop.from c.args.len c.args.end) c.loop.work c.seek.new.work told told
-    c.part_of.ensures.limits c.part_of.ensures.bytes c.part_of.ensures.last c.part_of.ensures.at refl c.in_ok-seek.ensures.sought in
-    sought_on (r c.args.reader.now) (r c.loop.reader) c.args.window.now y c.args.work.now c.loop.work c.seek.new.work c.loop.from c.args.len c.args.end c.loop.is_last
-    c.loop.invariant told seeks c.seek.ensures.work (r c.look.new.reader) c.look.new.self c.in-Wants.place c.in-Wants.count c.in-Wants.all there (not there)
-    c.in-Wants.is c.in_ok-is_last-in-Wants.ensures.looks (not_true there)
+    let l = c.parts in
+    let new = c.goes_on_between.new in
+    let from = c.max-from.result in
+    let sees = subst (SeesInside (r l.reader) (r new.reader) l.window new.window l.work new.work from l.until c.args.end) c.if-branch.false c.in_ok-goes_on_between.ensures.sees in (
+      omega (arith, c.saturating_mul-count.ensures, l.invariant.0),
+      down_on (r c.args.reader.now) (r l.reader) (r new.reader) c.args.window.now l.window new.window c.args.work.now l.work new.work from l.until c.args.len c.args.end
+          l.invariant.1 (omega (arith, c.max-from.ensures)) (omega (arith, c.max-from.ensures, c.saturating_sub.ensures, c.parts-test.true)) sees,
+    )

@@ -1,6 +1,11 @@
-use Rattle.bsonraw_dump.proofs.Deciding.{IsSought}
+use Rattle.std.proofs.Common.{◌<◌}
+use Rattle.bsonraw_dump.proofs.Deciding.{IsSoughtDown}
 use Rattle.bsonraw_dump.proofs.resync.goes_on_inside.Given as goal
 
--- more was read, and the places before this one were searched
-abbrev pub invariant-loop : goal.invariant-loop
-invariant-loop g l = IsSought (g.R.Read.remaining l.initial.reader) (g.R.Read.remaining l.reader) l.initial.window l.window l.initial.work l.work l.from l.len l.end l.is_last
+-- the places from here on were searched
+abbrev pub invariant-parts : goal.invariant-parts
+invariant-parts g l =
+    (0 < l.count) × IsSoughtDown (g.R.Read.remaining l.initial.reader) (g.R.Read.remaining l.reader) l.initial.window l.window l.initial.work l.work l.until l.len l.end
+
+abbrev pub decreases-parts : goal.decreases-parts
+decreases-parts g l = l.until
