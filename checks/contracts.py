@@ -18,7 +18,7 @@ CRATES = ["bson_model", "raw_view", "raw_tree", *USED]
 PROGRAMS = {
     "bsonraw/src/answer.rt": ["answer"],
     "bsonraw/src/run.rt": ["run"],
-    "bsonraw_dump/src/batch.rt": ["status_of"],
+    "bsonraw_dump/src/batch.rt": ["run_all"],
     "bsonraw_dump/src/run.rt": ["run", "put_summary"],
 }
 KINDS = "fn|struct|enum|type|const|trait"

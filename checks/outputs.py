@@ -61,14 +61,14 @@ def try_names(runs: Runs) -> None:
     runs.put("one", ONE)
     wrong = b"\xff.bson"
     status, out, err = runs.run("check", "one", wrong)
-    wanted = 'bsonraw-dump: "argument 3": a name here has to be UTF-8\n'
+    wanted = 'bsonraw-dump: "argument 3 isn\'t UTF-8": No such file or directory (os error 2)\n'
     if (status, err) != (3, wanted) or b"files not read to the end: 1\n" not in out or b"documents: 1," not in out:
         fails("a name that isn't UTF-8", status, out, err)
     if runs.run("check", wrong, stdin=subprocess.DEVNULL)[0] != 3:
         fails("a name that isn't UTF-8, alone")
     for words in (("sound", "-o", wrong, "one"), ("sound", b"--output=\xff", "one"), (b"\xff", "one")):
         status, out, err = runs.run(*words)
-        if status != 2 or out or "has to be UTF-8" not in err or os.path.exists(runs.path(wrong)):
+        if status != 2 or out or "isn't UTF-8\": it can't be left out" not in err or os.path.exists(runs.path(wrong)):
             fails("an OUTPUT or a command that isn't UTF-8", status, out, err)
     os.mkdir(runs.path("dumps"))
     for name, data in (("b.bson", TWICE), ("a.bson", ONE), ("c.txt", EMPTY), ("d.bson", EMPTY)):

@@ -1,8 +1,8 @@
 #!/usr/bin/env python3
 """reads.py PROGRAM [SIZE]: counts, by lackey of valgrind, how often PROGRAM check --resync reads memory for each byte of files in which
 a document that reaches to the file's end begins every seven bytes, and is damaged: in each way that its form allows, right behind the
-last of them or at the end; and of files in which one that isn't believed begins every few bytes. Fails where it reads more than MOST
-times for a byte, as it would if it read what it doesn't count."""
+last of them or at the end. Fails if it reads more than MOST times for a byte, as it would if it read what it doesn't count; and if it
+reads more than twice as often for a byte of files four times as long, in which a document that isn't believed begins every few bytes."""
 import re, struct, subprocess, sys, tempfile
 
 MOST = 22
@@ -96,10 +96,10 @@ def main(program, size="60000"):
                 count = (reads(content, 3 if front else 1) - empty) / len(content)
                 failed |= count > MOST
                 print(f"{'FAILED ' if count > MOST else ''}{kind}{', behind an unsound length' if front else ''}: {count:.1f} reads a byte", flush=True)
-        for kind, content in wrongs(size):
-            count = (reads(content, 3) - empty) / len(content)
-            failed |= count > MOST
-            print(f"{'FAILED ' if count > MOST else ''}{kind}: {count:.1f} reads a byte", flush=True)
+        for (kind, few), (_, many) in zip(wrongs(size // 8), wrongs(size // 2)):
+            fewer, more = ((reads(content, 3) - empty) / len(content) for content in (few, many))
+            failed |= more > 2 * fewer
+            print(f"{'FAILED ' if more > 2 * fewer else ''}{kind}: {fewer:.1f} reads a byte, of four times as many bytes {more:.1f}", flush=True)
     return failed
 
 

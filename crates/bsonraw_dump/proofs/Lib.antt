@@ -9,3 +9,4 @@ mod Listed
 mod Passing
 mod Stopping
 mod Objects
+mod Summing

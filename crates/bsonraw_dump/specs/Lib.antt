@@ -8,3 +8,4 @@ pub mod Listing
 pub mod Unique
 pub mod Run
 pub mod Status
+pub mod Batch

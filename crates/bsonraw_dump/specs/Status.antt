@@ -1,8 +1,13 @@
 -- Exit statuses.
-use Rattle.std.specs.Prelude.{◌⊎◌, ◌<◌, ℕ}
+use Rattle.std.specs.Prelude.{◌≡◌, ◌≢◌, ◌⊎◌, ◌<◌, ℕ}
+use Rattle.std.specs.IoError.{error_kind}
+use Rattle.std.specs.declared.io.Error.{Error}
+use Rattle.std.specs.declared.io.ErrorKind.TheVariants.{BrokenPipe}
 use Rattle.bsonraw_dump.specs.declared.command.Command.{Command}
 use Rattle.bsonraw_dump.specs.declared.command.Command.TheVariants as command
 use Rattle.bsonraw_dump.specs.declared.counts.Counts.{Counts}
+use Rattle.bsonraw_dump.specs.declared.failure.Failure.{Failure}
+use Rattle.bsonraw_dump.specs.declared.failure.Failure.TheVariants as failure
 use Rattle.bsonraw_dump.specs.declared.status.Status.{Status}
 use Rattle.bsonraw_dump.specs.declared.status.Status.TheVariants as status
 
@@ -29,3 +34,13 @@ IsStatus c n status.Done = (¬ IsCut n) × (¬ HasDamage c n)
 IsStatus c n status.Damage = (¬ IsCut n) × HasDamage c n
 IsStatus c n status.Input = IsCut n
 IsStatus c n _ = ⊥
+
+-- How a run ends where writing failed with this error, and so much was counted before: as without it where a pipe has no reader any more.
+abbrev pub IsWritingStatus : Command → Counts → Error → Status → Type 0
+IsWritingStatus c n e ended = ((error_kind e ≡ BrokenPipe) × IsStatus c n ended) ⊎ ((error_kind e ≢ BrokenPipe) × (ended ≡ status.Output))
+
+-- how a run ends that fails, and counted so much before
+abbrev pub IsFailureStatus : Command → Counts → Failure → Status → Type 0
+IsFailureStatus c n failure.Memory ended = ended ≡ status.Memory
+IsFailureStatus c n (failure.Writing e) ended = IsWritingStatus c n e ended
+IsFailureStatus c n (failure.Reading e) ended = IsWritingStatus c n e ended

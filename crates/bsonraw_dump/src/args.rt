@@ -18,8 +18,6 @@ pub struct Task<'a> {
     pub output: Option<&'a str>,
     /// what is read; nothing and `-` are standard input
     pub inputs: Vec<&'a str>,
-    /// what can't be read, since its name isn't UTF-8
-    pub left_out: Vec<&'a str>,
 }
 
 /// How findings are printed.
@@ -176,7 +174,6 @@ fn task_of<'a>(
         },
         output,
         inputs,
-        left_out: Vec::new(alloc),
     })
 }
 

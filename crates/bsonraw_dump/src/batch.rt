@@ -1,8 +1,12 @@
 //! Runs a command over inputs, one after the other.
 #![tactic(auto)]
 
-ghost use Rattle.std.specs.Prelude.{MatchBool};
-ghost use Rattle.bsonraw_dump.specs.Status.{HasDamage, IsStatus};
+ghost use Rattle.std.specs.Prelude.{◌≡◌, None, map, IfErr, IfOk, MatchBool, OnErr, OnOk};
+ghost use Rattle.std.specs.Io.KnownBytes.{Appends, Keeps};
+ghost use Rattle.std.specs.Option.{option_map};
+ghost use Rattle.bsonraw_dump.specs.Batch.{Comes, CountsInput, CountsRun, IsDone, KeepsNothing, RunsAll, RunsFront, State, all_line, cut_of, first_cut, input_line, input_of, state_of};
+ghost use Rattle.bsonraw_dump.specs.Run.{IsReading, no_counts, plus};
+ghost use Rattle.bsonraw_dump.specs.Status.{HasDamage, IsFailureStatus, IsStatus};
 
 use crate::command::Command;
 use crate::counts::Counts;
@@ -12,8 +16,9 @@ use crate::kept::Kept;
 use crate::run::{Asked, put_summary, run};
 use crate::status::Status;
 use crate::style::Style;
+use crate::write::put;
 use std::alloc::Global;
-use std::io::Write;
+use std::io::{ErrorKind, Write};
 
 /// What is asked of inputs.
 #[derive(Clone, Copy)]
@@ -35,20 +40,42 @@ pub struct Cut<'a> {
     pub goes_on: bool,
 }
 
+/// Why not all was written.
+#[derive(Drop)]
+pub enum Lack<'a> {
+    /// an input wasn't read to its end
+    Cut(Cut<'a>),
+    /// the run failed
+    Failed(Failure),
+}
+
+/// How a run over inputs ends.
+#[derive(Drop)]
+pub struct Done<'a> {
+    /// the exit status
+    pub status: Status,
+    /// why not all was written, if it wasn't
+    pub lack: Option<Lack<'a>>,
+}
+
 /// What came of the inputs so far.
 #[derive(Drop)]
 pub struct Totals<'a> {
     /// what was read
-    pub counts: Counts,
+    counts: Counts,
     /// what was written
-    pub kept: Kept,
+    kept: Kept,
     /// the first input that wasn't read to its end
-    pub cut: Option<Cut<'a>>,
+    cut: Option<Cut<'a>>,
 }
 
 impl<'a> Totals<'a> {
     /// Nothing was read.
-    pub fn new(alloc: Global) -> Totals<'a> {
+    fn new(alloc: Global) -> Totals<'a>
+        ensures counts { result.counts ≡ no_counts }
+        ensures kept { KeepsNothing result.kept }
+        ensures cut { result.cut ≡ None }
+    {
         Totals {
             counts: Counts::new(),
             kept: Kept::new(alloc),
@@ -56,14 +83,14 @@ impl<'a> Totals<'a> {
         }
     }
 
-    /// An input that wasn't opened.
-    pub fn leave_out(&mut self, name: &'a str) -> Result<(), Failure> {
-        let counts = in_range(Counts::new().with_left(0))?;
-        self.add(name, counts, false)
-    }
-
     /// So many were read of one input more.
-    fn add(&mut self, name: &'a str, counts: Counts, goes_on: bool) -> Result<(), Failure> {
+    fn add(&mut self, name: &'a str, counts: Counts, goes_on: bool) -> Result<(), Failure>
+        ensures counted { OnOk result (self.new.counts ≡ plus self.old.counts counts) }
+        ensures uncounted { OnErr result (self.new.counts ≡ self.old.counts) }
+        ensures cut { option_map cut_of self.new.cut ≡ first_cut (option_map cut_of self.old.cut) counts (input_of name.entry.now goes_on) }
+        ensures kept { self.new.kept ≡ self.old.kept }
+        ensures failed { IfErr result (λ failure. ¬ IsReading failure) }
+    {
         if counts.files > 0 && self.cut.is_none() {
             self.cut = Some(Cut { name, goes_on });
         }
@@ -80,28 +107,49 @@ pub fn run_all<'a, I: Inputs, D: Write, W: Write>(
     names: &[&'a str],
     out: &mut D,
     report: &mut W,
+) -> Done<'a>
+    ensures { IsDone job (I.bytes_of inputs.now) (map (λ name. name.now) names.now) (D.contents out.old) (D.contents out.new)
+        (W.contents report.old) (W.contents report.new) result }
+{
+    let mut totals = Totals::new(alloc);
+    match run_each(alloc, job, inputs, names, out, report, &mut totals) {
+        Ok(()) => Done {
+            status: status_of(job.command, totals.counts),
+            lack: totals.cut.map(Lack::Cut),
+        },
+        Err(failure) => Done {
+            status: status_of_failure(job.command, totals.counts, &failure),
+            lack: Some(Lack::Failed(failure)),
+        },
+    }
+}
+
+/// Runs a command over the inputs of these names, in order, and writes what was counted of all.
+fn run_each<'a, I: Inputs, D: Write, W: Write>(
+    alloc: Global,
+    job: Job,
+    inputs: &I,
+    names: &[&'a str],
+    out: &mut D,
+    report: &mut W,
     totals: &mut Totals<'a>,
-) -> Result<(), Failure> {
+) -> Result<(), Failure>
+    ensures runs { OnOk result ((last : State) × RunsAll job (I.bytes_of inputs.now) (map (λ name. name.now) names.now)
+        (state_of (D.contents out.old) (W.contents report.old) totals.old) last (D.contents out.new) (W.contents report.new)
+        × (last.counts ≡ totals.new.counts) × (last.cut ≡ option_map cut_of totals.new.cut)) }
+    ensures fails { OnErr result (RunsFront job (I.bytes_of inputs.now) (map (λ name. name.now) names.now)
+        (state_of (D.contents out.old) (W.contents report.old) totals.old) totals.new.counts) }
+    ensures failed { IfErr result (λ failure. ¬ IsReading failure) }
+{
     for name in names {
         run_one(alloc, job, inputs, name, out, report, totals)?;
     }
     flush(out)?;
-    if !matches!(job.command, Command::List) {
-        let kept = totals.kept.count();
-        put_summary(
-            alloc,
-            job.style,
-            None,
-            job.command,
-            &totals.counts,
-            kept,
-            report,
-        )?;
-    }
+    put_all_counts(alloc, job, totals, report)?;
     flush(report)
 }
 
-/// Runs a command over one input; of a check, writes what was counted of it. One that can't be opened isn't read to its end.
+/// Runs a command over one input, and writes what was counted of it.
 fn run_one<'a, I: Inputs, D: Write, W: Write>(
     alloc: Global,
     job: Job,
@@ -110,60 +158,158 @@ fn run_one<'a, I: Inputs, D: Write, W: Write>(
     out: &mut D,
     report: &mut W,
     totals: &mut Totals<'a>,
-) -> Result<(), Failure> {
-    let mut counts = Counts::new();
+) -> Result<(), Failure>
+    ensures comes { OnOk result (Comes job (I.bytes_of inputs.now name.entry.now) name.entry.now
+        (state_of (D.contents out.old) (W.contents report.old) totals.old) (state_of (D.contents out.new) (W.contents report.new) totals.new)) }
+    ensures fails { OnErr result ((counts : Counts) × (totals.new.counts ≡ plus totals.old.counts counts)) }
+    ensures failed { IfErr result (λ failure. ¬ IsReading failure) }
+{
+    let counts = count_one(alloc, job, inputs, name, out, report, totals)?;
+    put_counts(alloc, job, name, &counts, report)
+}
+
+/// Runs a command over one input, and returns what was counted of it. One that can't be opened isn't read to its end.
+fn count_one<'a, I: Inputs, D: Write, W: Write>(
+    alloc: Global,
+    job: Job,
+    inputs: &I,
+    name: &'a str,
+    out: &mut D,
+    report: &mut W,
+    totals: &mut Totals<'a>,
+) -> Result<Counts, Failure>
+    ensures counted { IfOk result (CountsInput job name.entry.now (I.bytes_of inputs.now name.entry.now) (D.contents out.old) (D.contents out.new)
+        (W.contents report.old) (W.contents report.new) totals.old totals.new) }
+    ensures fails { OnErr result ((counts : Counts) × (totals.new.counts ≡ plus totals.old.counts counts)) }
+    ensures failed { IfErr result (λ failure. ¬ IsReading failure) }
+{
     match inputs.open(name) {
         Ok(input) => {
             let mut input = input;
-            let asked = Asked {
-                command: job.command,
-                style: job.style,
-                resync: job.resync,
-                name,
-            };
-            let result = run(
-                alloc,
-                asked,
-                &mut input,
-                out,
-                report,
-                &mut counts,
-                &mut totals.kept,
-            );
-            totals.add(name, counts, matches!(result, Ok(None)))?;
-            if let Some(failure) = result? {
-                inputs.tell(name, Some(failure.at), &failure.error);
-            }
+            run_open(alloc, job, inputs, name, &mut input, out, report, totals)
         }
         Err(error) => {
             inputs.tell(name, None, &error);
-            counts = in_range(counts.with_left(0))?;
+            let counts = in_range(Counts::new().with_left(0))?;
             totals.add(name, counts, false)?;
+            Ok(counts)
         }
     }
-    if matches!(job.command, Command::Check) {
-        put_summary(
-            alloc,
-            job.style,
-            Some(name),
-            job.command,
-            &counts,
-            0,
-            report,
-        )?;
-    }
-    Ok(())
 }
 
-fn flush<W: Write>(writer: &mut W) -> Result<(), Failure> {
+/// Runs a command over an input that is open, and returns what was counted of it.
+fn run_open<'a, I: Inputs, D: Write, W: Write>(
+    alloc: Global,
+    job: Job,
+    inputs: &I,
+    name: &'a str,
+    input: &mut I::Input,
+    out: &mut D,
+    report: &mut W,
+    totals: &mut Totals<'a>,
+) -> Result<Counts, Failure>
+    ensures counted { IfOk result (CountsRun job name.entry.now (I.Input.remaining input.old) (D.contents out.old) (D.contents out.new)
+        (W.contents report.old) (W.contents report.new) totals.old totals.new) }
+    ensures fails { OnErr result ((counts : Counts) × (totals.new.counts ≡ plus totals.old.counts counts)) }
+    ensures failed { IfErr result (λ failure. ¬ IsReading failure) }
+{
+    let asked = Asked {
+        command: job.command,
+        style: job.style,
+        resync: job.resync,
+        name,
+    };
+    let mut counts = Counts::new();
+    let result = run(
+        alloc,
+        asked,
+        input,
+        out,
+        report,
+        &mut counts,
+        &mut totals.kept,
+    );
+    totals.add(name, counts, matches!(result, Ok(None)))?;
+    if let Some(failure) = result? {
+        inputs.tell(name, Some(failure.at), &failure.error);
+    }
+    Ok(counts)
+}
+
+/// Of a check, writes what was counted of one input.
+fn put_counts<W: Write>(
+    alloc: Global,
+    job: Job,
+    name: &str,
+    counts: &Counts,
+    report: &mut W,
+) -> Result<(), Failure>
+    ensures written { OnOk result
+        (Appends (W.contents report.old) (W.contents report.new) (input_line job job.command name.now counts.now)) }
+    ensures failed { IfErr result (λ failure. ¬ IsReading failure) }
+{
+    match job.command {
+        Command::Check => put_summary(alloc, job.style, Some(name), job.command, counts, 0, report),
+        Command::List | Command::Canon | Command::Sound | Command::Unique | Command::Json(_) => {
+            put(report, b"")
+        }
+    }
+}
+
+/// Writes what was counted of all inputs, but of a list.
+fn put_all_counts<W: Write>(
+    alloc: Global,
+    job: Job,
+    totals: &Totals<'_>,
+    report: &mut W,
+) -> Result<(), Failure>
+    ensures written { OnOk result
+        (Appends (W.contents report.old) (W.contents report.new) (all_line job job.command totals.now.counts totals.now.kept)) }
+    ensures failed { IfErr result (λ failure. ¬ IsReading failure) }
+{
+    match job.command {
+        Command::List => put(report, b""),
+        Command::Check | Command::Canon | Command::Sound | Command::Unique | Command::Json(_) =>
+            put_summary(
+                alloc,
+                job.style,
+                None,
+                job.command,
+                &totals.counts,
+                totals.kept.count(),
+                report,
+            ),
+    }
+}
+
+fn flush<W: Write>(writer: &mut W) -> Result<(), Failure>
+    ensures kept { Keeps (W.contents writer.old) (W.contents writer.new) }
+    ensures failed { IfErr result (λ failure. ¬ IsReading failure) }
+{
     match writer.flush() {
         Ok(()) => Ok(()),
         Err(error) => Err(Failure::Writing(error)),
     }
 }
 
+/// How a run ends that fails, and counted so many. A pipe whose reader is gone changes nothing.
+fn status_of_failure(command: Command, counts: Counts, failure: &Failure) -> Status
+    ensures { IsFailureStatus command counts failure.now result }
+{
+    match failure {
+        Failure::Memory => Status::Memory,
+        Failure::Writing(error) | Failure::Reading(error) => {
+            if error.kind() == ErrorKind::BrokenPipe {
+                status_of(command, counts)
+            } else {
+                Status::Output
+            }
+        }
+    }
+}
+
 /// How a run ends that counted so many.
-pub fn status_of(command: Command, counts: Counts) -> Status
+fn status_of(command: Command, counts: Counts) -> Status
     ensures { IsStatus command counts result }
 {
     if counts.files > 0 || counts.passed_over > 0 {

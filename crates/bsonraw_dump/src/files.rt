@@ -2,7 +2,7 @@
 #![tactic(auto)]
 
 use crate::args::{Task, parsed};
-use crate::batch::{Cut, Totals, run_all, status_of};
+use crate::batch::{Done, Lack, run_all};
 use crate::command::Command;
 use crate::failure::Failure;
 use crate::inputs::Inputs;
@@ -107,7 +107,7 @@ pub fn all(rt: &HostRuntime) -> Status {
             Style::Words,
             wrong.as_str(),
             None,
-            &io::Error::other("an argument here has to be UTF-8"),
+            &io::Error::other("it can't be left out"),
         );
         return Status::Usage;
     }
@@ -139,14 +139,13 @@ fn with_names<'a>(
 ) -> Result<Status, AllocError> {
     let names = expanded(rt, &task.inputs)?;
     let mut inputs = Vec::new(rt.alloc());
+    for name in &words.left_out {
+        inputs.push(name.as_str())?;
+    }
     for name in &names {
         inputs.push(name.as_str())?;
     }
-    let mut left_out = Vec::new(rt.alloc());
-    for name in &words.left_out {
-        left_out.push(name.as_str())?;
-    }
-    if inputs.is_empty() && left_out.is_empty() {
+    if inputs.is_empty() {
         inputs.push("-")?;
     }
     Ok(start(
@@ -155,7 +154,6 @@ fn with_names<'a>(
             job: task.job,
             output: task.output,
             inputs,
-            left_out,
         },
     ))
 }
@@ -195,27 +193,7 @@ fn is_binary(command: Command) -> bool {
     matches!(command, Command::Canon | Command::Sound | Command::Unique)
 }
 
-/// Why not all was written.
-#[derive(Clone, Copy)]
-pub enum Lack<'a> {
-    /// an input wasn't read to its end
-    Cut(Cut<'a>),
-    /// memory ran out
-    Memory,
-    /// writing failed
-    Writing,
-}
-
-/// What came of a task.
-#[derive(Clone, Copy)]
-pub struct Done<'a> {
-    /// how it ended
-    pub status: Status,
-    /// why not all was written, if it wasn't
-    pub lack: Option<Lack<'a>>,
-}
-
-/// Runs the command over each input.
+/// Runs the command over each input, and tells a failure.
 pub fn each<'a, D: Write, W: Write>(
     rt: &HostRuntime,
     task: &Task<'a>,
@@ -223,16 +201,11 @@ pub fn each<'a, D: Write, W: Write>(
     report: &mut W,
 ) -> Done<'a> {
     let inputs = files_of(rt, task);
-    let mut totals = Totals::new(rt.alloc());
-    let result = run_each(rt, task, &inputs, data, report, &mut totals);
-    let status = status_of(task.job.command, totals.counts);
-    match result {
-        Ok(()) => Done {
-            status,
-            lack: totals.cut.map(Lack::Cut),
-        },
-        Err(failure) => failed(rt, task, status, failure),
+    let done = run_all(rt.alloc(), task.job, &inputs, &task.inputs, data, report);
+    if let Some(Lack::Failed(failure)) = &done.lack {
+        tell_failure(rt, task, failure);
     }
+    done
 }
 
 fn files_of<'a>(rt: &'a HostRuntime, task: &Task<'_>) -> Files<'a> {
@@ -252,53 +225,15 @@ fn files_of<'a>(rt: &'a HostRuntime, task: &Task<'_>) -> Files<'a> {
     }
 }
 
-/// Tells which names were left out, and runs the command over the others.
-fn run_each<'a, D: Write, W: Write>(
-    rt: &HostRuntime,
-    task: &Task<'a>,
-    inputs: &Files<'_>,
-    data: &mut D,
-    report: &mut W,
-    totals: &mut Totals<'a>,
-) -> Result<(), Failure> {
-    for name in &task.left_out {
-        inputs.tell(name, None, &io::Error::other("a name here has to be UTF-8"));
-        totals.leave_out(name)?;
-    }
-    run_all(
-        rt.alloc(),
-        task.job,
-        inputs,
-        &task.inputs,
-        data,
-        report,
-        totals,
-    )
-}
-
-/// Tells a failure in a run whose status would be this. A pipe whose reader is gone ends it quietly.
-fn failed<'a>(rt: &HostRuntime, task: &Task<'a>, status: Status, failure: Failure) -> Done<'a> {
+/// Tells why a run failed. A pipe whose reader is gone ends it quietly.
+fn tell_failure(rt: &HostRuntime, task: &Task<'_>, failure: &Failure) {
     let style = task.job.style;
     match failure {
-        Failure::Memory => {
-            tell_words(rt, style, "not enough memory");
-            Done {
-                status: Status::Memory,
-                lack: Some(Lack::Memory),
-            }
-        }
+        Failure::Memory => tell_words(rt, style, "not enough memory"),
         Failure::Writing(error) | Failure::Reading(error) => {
-            if error.kind() == ErrorKind::BrokenPipe {
-                return Done {
-                    status,
-                    lack: Some(Lack::Writing),
-                };
-            }
-            let output = task.output.unwrap_or("standard output");
-            tell(rt, style, output, None, &error);
-            Done {
-                status: Status::Output,
-                lack: Some(Lack::Writing),
+            if error.kind() != ErrorKind::BrokenPipe {
+                let output = task.output.unwrap_or("standard output");
+                tell(rt, style, output, None, error);
             }
         }
     }

@@ -1,7 +1,7 @@
 //! What the inputs are.
 #![tactic(auto)]
 
-ghost use Rattle.std.specs.Prelude.{◌≡◌, ℕ, List, Option, None, IfOk};
+ghost use Rattle.std.specs.Prelude.{◌≡◌, ℕ, List, Option, None, IfOk, OnErr};
 
 use std::io;
 use std::io::Read;
@@ -11,12 +11,13 @@ pub trait Inputs {
     /// An input that is open.
     type Input: Read + Drop;
 
-    // The bytes of the input of a name, where they are known.
+    // The bytes of the input of a name, where they are known. Such an input can be opened.
     ghost bytes_of: { Self → List ℕ → Option (List ℕ) } = { λ _ _. None };
 
     /// Opens an input.
     fn open(&self, name: &str) -> io::Result<Self::Input>
-        ensures { IfOk result (λ input. Self.Input.remaining input ≡ bytes_of self.now name.now) };
+        ensures bytes { IfOk result (λ input. Self.Input.remaining input ≡ bytes_of self.now name.now) }
+        ensures known { OnErr result (bytes_of self.now name.now ≡ None) };
 
     /// Tells what goes wrong with an input, and behind how many bytes, if some were read.
     fn tell(&self, name: &str, at: Option<u64>, error: &io::Error);

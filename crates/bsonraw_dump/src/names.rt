@@ -13,7 +13,7 @@ const LONGEST: usize = 1 << 17;
 pub struct Words {
     /// those that are UTF-8
     pub words: Vec<String>,
-    /// which ones aren't: each is left out, as a name of what is read
+    /// what is said in place of each that isn't
     pub left_out: Vec<String>,
     /// the first one that isn't and can't be left out, since it is an option or follows one that has a value
     pub wrong: Option<String>,
@@ -42,7 +42,7 @@ pub fn given_words(rt: &HostRuntime) -> Result<Words, AllocError> {
                 &mut words,
                 number,
                 bytes,
-                format!(in alloc; "argument {number}")?,
+                format!(in alloc; "argument {number} isn't UTF-8")?,
             )?,
         }
     }

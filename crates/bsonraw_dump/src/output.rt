@@ -2,7 +2,8 @@
 #![tactic(auto)]
 
 use crate::args::Task;
-use crate::files::{BLOCK, Done, each};
+use crate::batch::Done;
+use crate::files::{BLOCK, each};
 use crate::status::Status;
 use crate::tell::{tell, tell_lack};
 use std::alloc::AllocError;
@@ -87,7 +88,7 @@ fn replaced(
     };
     let _removed = fs::remove_file(rt, beside.as_str());
     let done = result?;
-    if let Some(lack) = done.lack {
+    if let Some(lack) = &done.lack {
         tell_lack(rt, task.job.style, name, lack);
     }
     Ok(done.status)

@@ -1,7 +1,8 @@
 //! Tells on standard error what goes wrong, in a line each.
 #![tactic(auto)]
 
-use crate::files::Lack;
+use crate::batch::Lack;
+use crate::failure::Failure;
 use crate::object::error_object;
 use crate::style::Style;
 use crate::text::quotation;
@@ -55,7 +56,7 @@ fn put(rt: &HostRuntime, line: &[u8]) {
 }
 
 /// Tells that a file isn't written, and why not.
-pub fn tell_lack(rt: &HostRuntime, style: Style, name: &str, lack: Lack<'_>) {
+pub fn tell_lack(rt: &HostRuntime, style: Style, name: &str, lack: &Lack<'_>) {
     match lack_of(rt, style, name, lack) {
         Ok(line) => put(rt, &line),
         Err(_) => tell_words(rt, style, "not enough memory"),
@@ -66,7 +67,7 @@ fn lack_of(
     rt: &HostRuntime,
     style: Style,
     name: &str,
-    lack: Lack<'_>,
+    lack: &Lack<'_>,
 ) -> Result<Vec<u8>, AllocError> {
     let (input, words) = match lack {
         Lack::Cut(cut) if cut.goes_on => (
@@ -74,8 +75,8 @@ fn lack_of(
             " wasn't read to its end; --resync goes on",
         ),
         Lack::Cut(cut) => (Some(cut.name), " wasn't read to its end"),
-        Lack::Memory => (None, "not enough memory"),
-        Lack::Writing => (None, "writing failed"),
+        Lack::Failed(Failure::Memory) => (None, "not enough memory"),
+        Lack::Failed(Failure::Writing(_) | Failure::Reading(_)) => (None, "writing failed"),
     };
     match style {
         Style::Words => {

@@ -1,0 +1,15 @@
+use Rattle.bsonraw_dump.specs.Batch.{CountsInput}
+use Rattle.bsonraw_dump.proofs.Stopping.{if_ok}
+use Rattle.bsonraw_dump.proofs.Summing.{counts_open}
+use Rattle.bsonraw_dump.proofs.batch.count_one.Goals as goal
+
+pub returns-in-Ok-clause-counted : goal.returns-in-Ok-clause-counted
+returns-in-Ok-clause-counted g c =
+    let d = g.D.Write.contents c.args.out.now in
+    let d' = g.D.Write.contents c.run_open.new.out in
+    let w = g.W.Write.contents c.args.report.now in
+    let w' = g.W.Write.contents c.run_open.new.report in
+    let name = c.args.name.now in
+    if_ok c.run_open.result _ (CountsInput c.args.job name (g.I.Inputs.bytes_of c.args.inputs.now name) d d' w w' c.args.totals.now c.run_open.new.totals)
+    (λ n ran. counts_open c.args.job name (g.I.Inputs.bytes_of c.args.inputs.now name) d d' w w' w' c.args.totals.now c.run_open.new.totals n _ c.in-Ok.ensures.bytes ran)
+    c.run_open.ensures.counted

@@ -1,0 +1,47 @@
+use Rattle.std.proofs.Common.{List, ℕ, Bor, refl}
+use Rattle.bsonraw_dump.specs.Batch.{state_of}
+use Rattle.bsonraw_dump.proofs.Summing.{counts_none, on_err, runs_front, runs_next}
+use Rattle.bsonraw_dump.proofs.batch.run_each.Goals as goal
+
+pub loop-name-preserved : goal.loop-name-preserved
+loop-name-preserved g c =
+    let first = state_of (g.D.Write.contents c.args.out.now) (g.W.Write.contents c.args.report.now) c.args.totals.now in
+    let between = state_of (g.D.Write.contents c.loop-name.out) (g.W.Write.contents c.loop-name.report) c.loop-name.totals in
+    let last = state_of (g.D.Write.contents c.run_one.new.out) (g.W.Write.contents c.run_one.new.report) c.run_one.new.totals in
+    runs_next c.args.job (g.I.Inputs.bytes_of c.args.inputs.now) (λ (name : Bor (List ℕ)). name.now) c.args.names.now c.loop-name.name-index _ first between last
+    c.loop-name-test.true c.loop-name.invariant c.in_ok-run_one.ensures.comes
+
+pub returns-in_err-run_one-clause-fails : goal.returns-in_err-run_one-clause-fails
+returns-in_err-run_one-clause-fails g c =
+    let first = state_of (g.D.Write.contents c.args.out.now) (g.W.Write.contents c.args.report.now) c.args.totals.now in
+    let last = state_of (g.D.Write.contents c.loop-name.out) (g.W.Write.contents c.loop-name.report) c.loop-name.totals in
+    on_err c.from_residual.result _
+    (runs_front c.args.job (g.I.Inputs.bytes_of c.args.inputs.now) (λ (name : Bor (List ℕ)). name.now) c.args.names.now c.loop-name.name-index first last
+    c.run_one.new.totals.counts c.loop-name.invariant c.in_err-run_one.ensures.fails)
+
+pub returns-in_err-flush-clause-fails : goal.returns-in_err-flush-clause-fails
+returns-in_err-flush-clause-fails g c =
+    let first = state_of (g.D.Write.contents c.args.out.now) (g.W.Write.contents c.args.report.now) c.args.totals.now in
+    let last = state_of (g.D.Write.contents c.loop-name.out) (g.W.Write.contents c.loop-name.report) c.loop-name.totals in
+    let n = c.loop-name.totals.counts in
+    on_err c.from_residual-in_err-flush.result _
+    (runs_front c.args.job (g.I.Inputs.bytes_of c.args.inputs.now) (λ (name : Bor (List ℕ)). name.now) c.args.names.now c.loop-name.name-index first last
+    n c.loop-name.invariant (counts_none n n refl))
+
+pub returns-in_err-put_all_counts-clause-fails : goal.returns-in_err-put_all_counts-clause-fails
+returns-in_err-put_all_counts-clause-fails g c =
+    let first = state_of (g.D.Write.contents c.args.out.now) (g.W.Write.contents c.args.report.now) c.args.totals.now in
+    let last = state_of (g.D.Write.contents c.loop-name.out) (g.W.Write.contents c.loop-name.report) c.loop-name.totals in
+    let n = c.loop-name.totals.counts in
+    on_err c.from_residual-in_err-put_all_counts.result _
+    (runs_front c.args.job (g.I.Inputs.bytes_of c.args.inputs.now) (λ (name : Bor (List ℕ)). name.now) c.args.names.now c.loop-name.name-index first last
+    n c.loop-name.invariant (counts_none n n refl))
+
+pub returns-clause-fails : goal.returns-clause-fails
+returns-clause-fails g c =
+    let first = state_of (g.D.Write.contents c.args.out.now) (g.W.Write.contents c.args.report.now) c.args.totals.now in
+    let last = state_of (g.D.Write.contents c.loop-name.out) (g.W.Write.contents c.loop-name.report) c.loop-name.totals in
+    let n = c.loop-name.totals.counts in
+    on_err c.flush-2.result _
+    (runs_front c.args.job (g.I.Inputs.bytes_of c.args.inputs.now) (λ (name : Bor (List ℕ)). name.now) c.args.names.now c.loop-name.name-index first last
+    n c.loop-name.invariant (counts_none n n refl))

@@ -1,0 +1,156 @@
+-- What a run over several inputs reads, writes and counts, and how it ends.
+use Rattle.std.specs.Prelude.{◌≡◌, ◌⊎◌, ◌++◌, ◌∷◌, ℕ, List, [], Bool, false, Option, None, Some, cond, is_none, nat_lt}
+use Rattle.std.specs.Option.{option_map}
+use Rattle.std.specs.Io.KnownBytes.{Appends, Keeps}
+use Rattle.bsonraw_dump.specs.Run.{Ends, count_left, no_counts, plus}
+use Rattle.bsonraw_dump.specs.Status.{IsFailureStatus, IsStatus}
+use Rattle.bsonraw_dump.specs.Told.{summary_line}
+use Rattle.bsonraw_dump.specs.Unique.{knows}
+use Rattle.bsonraw_dump.specs.declared.batch.Cut.{Cut}
+use Rattle.bsonraw_dump.specs.declared.batch.Done.{Done}
+use Rattle.bsonraw_dump.specs.declared.batch.Job.{Job}
+use Rattle.bsonraw_dump.specs.declared.batch.Lack.{Lack}
+use Rattle.bsonraw_dump.specs.declared.batch.Lack.TheVariants as lack
+use Rattle.bsonraw_dump.specs.declared.batch.Totals.{Totals}
+use Rattle.bsonraw_dump.specs.declared.command.Command.{Command}
+use Rattle.bsonraw_dump.specs.declared.command.Command.TheVariants as command
+use Rattle.bsonraw_dump.specs.declared.counts.Counts.{Counts}
+use Rattle.bsonraw_dump.specs.declared.failure.ReadFailure.{ReadFailure}
+use Rattle.bsonraw_dump.specs.declared.kept.Kept.{Kept}
+use Rattle.bsonraw_dump.specs.declared.status.Status.{Status}
+
+-- an input that isn't read to its end: its name, and whether bytes could be passed over in it
+pub record CutInput : Type 0 where
+  pub name : List ℕ
+  pub goes_on : Bool
+
+-- the same of the code
+abbrev pub cut_of : Cut → CutInput
+cut_of cut = record { name = cut.name.now; goes_on = cut.goes_on }
+
+abbrev pub input_of : List ℕ → Bool → CutInput
+input_of name goes_on = record { name = name; goes_on = goes_on }
+
+-- the first input that isn't read to its end, where this one comes behind the others, and so much was counted of it
+abbrev pub first_cut : Option CutInput → Counts → CutInput → Option CutInput
+first_cut (Some cut) n input = Some cut
+first_cut None n input = cond (nat_lt 0 n.files) (Some input) None
+
+-- What came of inputs: what two writers hold, where it is known; what was counted; what was written, with the digests that are known; and
+-- the first input that wasn't read to its end.
+pub record State : Type 0 where
+  pub out : Option (List ℕ)
+  pub report : Option (List ℕ)
+  pub counts : Counts
+  pub kept : Kept
+  pub cut : Option CutInput
+
+-- the same of the code
+abbrev pub state_of : (out report : Option (List ℕ)) → Totals → State
+state_of out report totals = record { out = out; report = report; counts = totals.counts; kept = totals.kept; cut = option_map cut_of totals.cut }
+
+-- nothing came of anything: the writers hold this
+abbrev pub start_of : (out report : Option (List ℕ)) → Kept → State
+start_of out report kept = record { out = out; report = report; counts = no_counts; kept = kept; cut = None }
+
+-- no document was written, and no digest is known
+pub record KeepsNothing (kept : Kept) : Type 0 where
+  pub none : kept.count ≡ 0
+  pub unknown : (d : List ℕ) → knows kept d ≡ false
+
+-- the line that tells what was counted of one input; only check has it
+abbrev pub input_line : Job → Command → List ℕ → Counts → List ℕ
+input_line job command.Check name n = summary_line job.style (Some name) job.command n 0
+input_line job _ name n = []
+
+-- the line that tells what was counted of all; list has none
+abbrev pub all_line : Job → Command → Counts → Kept → List ℕ
+all_line job command.List n kept = []
+all_line job _ n kept = summary_line job.style None job.command n kept.count
+
+-- An input of which these bytes are known is opened, and run over from its first byte on. Bytes could be passed over in it where
+-- reading didn't fail.
+pub record IsRun (job : Job) (name : List ℕ) (input out_old out_new report_old report_new : Option (List ℕ)) (kept_old kept_new : Kept) (counts : Counts)
+    (goes_on : Bool) : Type 0 where
+  pub left : Option (List ℕ)
+  pub failed : Option ReadFailure
+  pub ends : Ends job.command job.style job.resync name input left out_old out_new report_old report_new no_counts counts kept_old kept_new failed
+  pub could : goes_on ≡ is_none failed
+
+-- An input isn't opened. None is of which bytes are known. Nothing is written, and it counts as one that isn't read to its end, with no
+-- bytes left.
+pub record IsNotOpened (input out_old out_new report_old report_new : Option (List ℕ)) (kept_old kept_new : Kept) (counts : Counts) (goes_on : Bool) : Type 0 where
+  pub unknown : input ≡ None
+  pub out : out_new ≡ out_old
+  pub report : report_new ≡ report_old
+  pub kept : kept_new ≡ kept_old
+  pub is_counted : counts ≡ count_left no_counts 0
+  pub could : goes_on ≡ false
+
+-- one of both
+abbrev pub IsInput : Job → List ℕ → (input out_old out_new report_old report_new : Option (List ℕ)) → (kept_old kept_new : Kept) → Counts → Bool → Type 0
+IsInput job name input out_old out_new report_old report_new kept_old kept_new counts goes_on =
+    IsRun job name input out_old out_new report_old report_new kept_old kept_new counts goes_on
+    ⊎ IsNotOpened input out_old out_new report_old report_new kept_old kept_new counts goes_on
+
+-- What comes of one input more, of which these bytes are known: what was counted of it is put to the rest, and its line is written.
+pub record Comes (job : Job) (input : Option (List ℕ)) (name : List ℕ) (old new : State) : Type 0 where
+  pub counts : Counts
+  pub goes_on : Bool
+  pub report_between : Option (List ℕ)
+  pub is : IsInput job name input old.out new.out old.report report_between old.kept new.kept counts goes_on
+  pub told : Appends report_between new.report (input_line job job.command name counts)
+  pub is_counted : new.counts ≡ plus old.counts counts
+  pub cut : new.cut ≡ first_cut old.cut counts (input_of name goes_on)
+
+-- what comes of the inputs of these names, one after the other, where the bytes of each are known or not
+abbrev pub RunsOver : Job → (bytes_of : List ℕ → Option (List ℕ)) → List (List ℕ) → State → State → Type 0
+RunsOver job bytes_of [] old new = new ≡ old
+RunsOver job bytes_of (name ∷ names) old new = (between : State) × Comes job (bytes_of name) name old between × RunsOver job bytes_of names between new
+
+-- The inputs of these names were run over, from this state on, and the line of all was written behind what they gave.
+pub record RunsAll (job : Job) (bytes_of : List ℕ → Option (List ℕ)) (names : List (List ℕ)) (first last : State) (out_new report_new : Option (List ℕ)) : Type 0 where
+  pub runs : RunsOver job bytes_of names first last
+  pub out : Keeps last.out out_new
+  pub report : Appends last.report report_new (all_line job job.command last.counts last.kept)
+
+-- Some of the inputs of these names were run over, from this state on, in order; and then a failure came. What was counted until then is
+-- all that was counted of these, and perhaps some more.
+pub record RunsFront (job : Job) (bytes_of : List ℕ → Option (List ℕ)) (names : List (List ℕ)) (first : State) (counts_new : Counts) : Type 0 where
+  pub passed : List (List ℕ)
+  pub others : List (List ℕ)
+  pub in_order : names ≡ passed ++ others
+  pub last : State
+  pub runs : RunsOver job bytes_of passed first last
+  pub counts : Counts
+  pub is_counted : counts_new ≡ plus last.counts counts
+
+-- how a run over the inputs of these names ends from this state on
+abbrev pub EndsAll : Job → (bytes_of : List ℕ → Option (List ℕ)) → List (List ℕ) → State → (out_new report_new : Option (List ℕ)) → Option Lack → Status → Type 0
+EndsAll job bytes_of names first out_new report_new None ended =
+    (last : State) × RunsAll job bytes_of names first last out_new report_new × (last.cut ≡ None) × IsStatus job.command last.counts ended
+EndsAll job bytes_of names first out_new report_new (Some (lack.Cut cut)) ended =
+    (last : State) × RunsAll job bytes_of names first last out_new report_new × (last.cut ≡ Some (cut_of cut)) × IsStatus job.command last.counts ended
+EndsAll job bytes_of names first out_new report_new (Some (lack.Failed failure)) ended =
+    (counts : Counts) × RunsFront job bytes_of names first counts × IsFailureStatus job.command counts failure ended
+
+-- How a run over the inputs of these names ends, where nothing was kept before. Nothing lacks where each was read to its end. A failure
+-- gives the status, but for a pipe that has no reader.
+pub record IsDone (job : Job) (bytes_of : List ℕ → Option (List ℕ)) (names : List (List ℕ)) (out_old out_new report_old report_new : Option (List ℕ)) (done : Done) : Type 0 where
+  pub kept : Kept
+  pub nothing : KeepsNothing kept
+  pub ends : EndsAll job bytes_of names (start_of out_old report_old kept) out_new report_new done.lack done.status
+
+-- What the code tells of one input. No public contract cites what follows.
+
+-- one input more is put to what was counted, and its run was so
+abbrev pub CountsRun : Job → List ℕ → (input out_old out_new report_old report_new : Option (List ℕ)) → (old new : Totals) → Counts → Type 0
+CountsRun job name input out_old out_new report_old report_new old new counts =
+    (goes_on : Bool) × IsRun job name input out_old out_new report_old report_new old.kept new.kept counts goes_on × (new.counts ≡ plus old.counts counts)
+    × (option_map cut_of new.cut ≡ first_cut (option_map cut_of old.cut) counts (input_of name goes_on))
+
+-- the same, where it may not be opened
+abbrev pub CountsInput : Job → List ℕ → (input out_old out_new report_old report_new : Option (List ℕ)) → (old new : Totals) → Counts → Type 0
+CountsInput job name input out_old out_new report_old report_new old new counts =
+    (goes_on : Bool) × IsInput job name input out_old out_new report_old report_new old.kept new.kept counts goes_on × (new.counts ≡ plus old.counts counts)
+    × (option_map cut_of new.cut ≡ first_cut (option_map cut_of old.cut) counts (input_of name goes_on))
