@@ -8,11 +8,11 @@ use Rattle.bson_uses.specs.declared.user.Field.{Field}
 use Rattle.bson_uses.specs.declared.user.Field.TheVariants as field
 use Rattle.bson_uses.specs.declared.user.Fields.{Fields}
 use Rattle.bson_uses.specs.declared.user.NotUser.{NotUser}
-use Rattle.bson_uses.specs.declared.user.NotUser.TheVariants as not
+use Rattle.bson_uses.specs.declared.user.NotUser.TheVariants as refused
 
 -- an error of the library, as this check has it
 abbrev pub damaged : Error → NotUser
-damaged e = not.Damaged e
+damaged e = refused.Damaged e
 
 -- the key and the value are this field
 abbrev pub IsField : Field → List ℕ → RawValue → Type 0
@@ -43,11 +43,11 @@ plus fields field.Age = record { id = fields.id; email = fields.email; age = tru
 
 -- a field is added that wasn't there
 abbrev pub AddsField : Fields → Field → Result Fields NotUser → Type 0
-AddsField fields f r = ((has fields f ≡ false) × (r ≡ Ok (plus fields f))) ⊎ ((has fields f ≡ true) × (r ≡ Err not.Repeated))
+AddsField fields f r = ((has fields f ≡ false) × (r ≡ Ok (plus fields f))) ⊎ ((has fields f ≡ true) × (r ≡ Err refused.Repeated))
 
 -- the key and the value are a field, which is added; or none
 abbrev pub AddsItem : Fields → List ℕ → RawValue → Result Fields NotUser → Type 0
-AddsItem fields key v r = ((f : Field) × IsField f key v × AddsField fields f r) ⊎ (((f : Field) → ¬ IsField f key v) × (r ≡ Err not.OtherField))
+AddsItem fields key v r = ((f : Field) × IsField f key v × AddsField fields f r) ⊎ (((f : Field) → ¬ IsField f key v) × (r ≡ Err refused.OtherField))
 
 -- an identifier and an address are among the fields
 abbrev pub IsWhole : Fields → Type 0
@@ -59,4 +59,4 @@ abbrev pub ChecksUser : List ℕ → Result (Unit {0}) NotUser → Type 0
 ChecksUser b (Ok _) = (fields : Fields) × FoldsEach damaged AddsItem nothing b (Ok fields) × IsWhole fields
 ChecksUser b (Err e) =
     FoldsEach damaged AddsItem nothing b (Err e)
-    ⊎ ((e ≡ not.Missing) × (fields : Fields) × FoldsEach damaged AddsItem nothing b (Ok fields) × ¬ IsWhole fields)
+    ⊎ ((e ≡ refused.Missing) × (fields : Fields) × FoldsEach damaged AddsItem nothing b (Ok fields) × ¬ IsWhole fields)

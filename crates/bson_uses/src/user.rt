@@ -44,9 +44,9 @@ pub enum NotUser {
 
 impl From<Error> for NotUser {
     ghost use Rattle.std.specs.Prelude.{◌≡◌};
-    ghost use Rattle.bson_uses.specs.declared.user.NotUser.TheVariants as not;
+    ghost use Rattle.bson_uses.specs.declared.user.NotUser.TheVariants as refused;
 
-    ghost from_gives = { λ error gives. gives ≡ not.Damaged error };
+    ghost from_gives = { λ error gives. gives ≡ refused.Damaged error };
 
     fn from(error: Error) -> NotUser {
         NotUser::Damaged(error)
