@@ -6,4 +6,3 @@ mod Left
 mod Steps
 mod Moments
 mod Keys
-mod Decimals

@@ -8,10 +8,9 @@ ghost use Rattle.json.specs.Reads.{token_of};
 ghost use Rattle.json.specs.Tree.{json_tokens};
 ghost use Rattle.std.specs.Int.{w64};
 ghost use Rattle.json.specs.Token.{begin_object, end_object, key, string, number, boolean};
-ghost use Rattle.bson_model.specs.Leaf.{binary, date_time, db_pointer, decimal128, double, int32, int64, timestamp};
+ghost use Rattle.bson_model.specs.Leaf.{binary, date_time, db_pointer, double, int32, int64, timestamp};
 ghost use Rattle.bson_model.specs.Subtype.{subtype_of};
 ghost use Rattle.bson_model.specs.declared.binaries.BinarySubtype.TheVariants.{Uuid as UuidSubtype};
-ghost use Rattle.bson_from_json.specs.DecimalTexts.{IsQuotedDecimal};
 ghost use Rattle.bson_from_json.specs.Numbers.{WritesInteger, IsQuotedInt32, IsQuotedInt64, IsQuotedDouble};
 ghost use Rattle.bson_from_json.specs.Taken.{Takes, TakesToken, TakesTwo, pointed};
 ghost use Rattle.bson_from_json.specs.Wrapped.{InString, IsBinary, IsDate, IsDbPointer, IsTimestamp, IsUuid, WritesUnsigned, two_hex_digits};
@@ -242,11 +241,10 @@ impl<'a> Source<'a> {
 
     /// Takes the value of `$numberDecimal`, as bytes.
     pub(crate) fn decimal(&mut self) -> Result<[u8; 16], JsonReason>
-        ensures { IfOk result (λ bytes. Takes (InString IsQuotedDecimal) self.old.tokens self.new.tokens (decimal128 bytes)) }
+        ensures { OnOk result ((s : List ℕ) × TakesToken self.old.tokens self.new.tokens (string s)) }
     {
         let text = self.text(Wrapper::NumberDecimal)?;
-        let bytes = decimal_of(text.as_bytes())?;
-        Ok(bytes)
+        decimal_of(text.as_bytes())
     }
 
     /// Takes the value of `$date`, as milliseconds.
