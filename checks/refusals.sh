@@ -201,7 +201,7 @@ trap 'rm -rf "$folder"' EXIT
 kit=$(dirname "$(rt doc)")
 "$kit/toolchain/bin/clang" -shared -fPIC -O1 -nostdlib -fuse-ld=lld -o "$folder/refuse.so" checks/refuse.c || exit 1
 sed '/^#/d; /^$/d' "$list" |
-    awk -v crates=" $crates " 'crates == "  " || index(crates, $1 == "program" ? " bsonraw " : " " $2 " ")' >"$folder/scenarios"
+    awk -v crates=" $crates " 'crates == "  " || index(crates, $1 == "program" ? " bsonraw " : $1 == "dump" ? " bsonraw_dump " : " " $2 " ")' >"$folder/scenarios"
 [ -s "$folder/scenarios" ] || exit 1
 
 # No test that is there to be refused is left out. First: one that is left out is seen, of each sort of crate.

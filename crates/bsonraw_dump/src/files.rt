@@ -60,17 +60,17 @@ fn node_of(rt: &HostRuntime, name: &str) -> Option<Node> {
 }
 
 impl<'a> Files<'a> {
-    fn about(&self, name: &str, place: &str) -> io::Result<About> {
+    fn about(&self, name: &str, place: &str) -> About {
         let size = match fs::metadata(self.rt, place) {
             Ok(about) if about.is_file() => Some(about.len()),
             _ => None,
         };
-        Ok(About {
-            name: String::from_str(self.rt.alloc(), name)?,
+        About {
+            name: String::from_str(self.rt.alloc(), name).ok(),
             size,
             style: self.style,
             shows: self.shows,
-        })
+        }
     }
 }
 
@@ -82,7 +82,7 @@ impl<'a> Inputs for Files<'a> {
         if self.written.is_some() && node_of(self.rt, place) == self.written {
             return Err(io::Error::other("this file is the output as well"));
         }
-        let about = self.about(name, place)?;
+        let about = self.about(name, place);
         if name == "-" {
             return Ok(Source::Input(Watched::new(self.rt, self.rt.stdin(), about)));
         }

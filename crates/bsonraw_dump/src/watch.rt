@@ -17,8 +17,8 @@ const STEP: u64 = 1 << 23;
 /// What is known of an input before it is read.
 #[derive(Drop)]
 pub struct About {
-    /// its name
-    pub name: String,
+    /// its name, if there was memory for it
+    pub name: Option<String>,
     /// how many bytes it has, if that is known
     pub size: Option<u64>,
     /// how it is told what it looks like
@@ -76,15 +76,9 @@ impl<'a, R> Watched<'a, R> {
     fn begin(&mut self, read: &[u8])
         ensures { self.new.reader ≡ self.old.reader }
     {
-        if let Some(words) = hint(read) {
+        if let (Some(words), Some(name)) = (hint(read), &self.about.name) {
             let error = io::Error::other(words);
-            tell(
-                self.rt,
-                self.about.style,
-                self.about.name.as_str(),
-                None,
-                &error,
-            );
+            tell(self.rt, self.about.style, name.as_str(), None, &error);
         }
         if self.about.shows {
             self.begun = Instant::now(self.rt).ok();
@@ -93,7 +87,7 @@ impl<'a, R> Watched<'a, R> {
 
     /// Shows the name, how much was read, how fast and, if that can be told, how long it will take, in a line that the next overwrites.
     fn show(&self) {
-        let name = self.about.name.as_str();
+        let name = self.about.name.as_ref().map_or("", |name| name.as_str());
         let millis = match self.begun.map(|begun| begun.elapsed(self.rt)) {
             Some(Ok(elapsed)) => u64::try_from(elapsed.as_millis()).unwrap_or(u64::MAX),
             _ => 0,
