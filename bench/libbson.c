@@ -350,7 +350,7 @@ void bb_get_str(const uint8_t *doc, size_t len, const uint8_t *key, size_t key_l
         return;
     }
     const char *s = bson_iter_utf8(&it, &n);
-    if (!bson_utf8_validate(s, n, true)) { /* as get_str answers a checked &str */
+    if (!bson_utf8_validate(s, n, true)) { /* as get_str returns a checked &str */
         out->status = BB_UTF8;
         return;
     }

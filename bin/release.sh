@@ -145,8 +145,8 @@ link_x86_64() {
         "$1/llvm-objcopy" --keep-global-symbols="$1/calls" "$1/bsonraw.o"
 }
 
-# link_aarch64 FOLDER: links the build for ARM and its heap into one object. The kit has no C library for ARM: one of names alone stands
-# for it, those that are called. Their version is that of the first C library for ARM.
+# link_aarch64 FOLDER: links the build for ARM and its heap into one object. The kit has no C library for ARM: in its place is
+# one that has just the names that are called. Their version is that of the first C library for ARM.
 link_aarch64() {
     compile_c "$heap" "$1" &&
         "$toolchain/bin/ld.lld" -r -o "$1/bsonraw.o" --whole-archive "$arm" --no-whole-archive "$1/heap.o" &&

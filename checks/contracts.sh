@@ -68,7 +68,7 @@ for file in raw_view/specs/Errors/Answers bsonraw_c/specs/Json bsonraw_dump/spec
     fi
 done
 for file in $(undefined docs/DEFINITIONS.md); do
-    echo "contracts: a public clause stands on words of crates/$file, and DEFINITIONS.md doesn't name it" >&2
+    echo "contracts: a public clause needs words of crates/$file, and DEFINITIONS.md doesn't name it" >&2
     failed=1
 done
 echo "$(grep -c '^| \[' "$work/page") rows are in $page"

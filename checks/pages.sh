@@ -43,7 +43,7 @@ skip() {
     without="$without${without:+,}$2"
 }
 
-# A Python that can build the package stands in front.
+# A Python that can build the package is the first in PATH.
 mkdir "$work/bin" || exit 1
 for python in python3 /usr/bin/python3; do
     "$python" -c 'import ensurepip, setuptools, wheel' 2>/dev/null && ln -sf "$(command -v "$python")" "$work/bin/python3" && break
