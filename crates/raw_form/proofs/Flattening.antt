@@ -1,5 +1,5 @@
 -- What a flattening keeps, and what it tells where it ends.
-use Rattle.std.proofs.Common.{◌≡◌, ◌∙◌, ◌≤◌, ◌<◌, ◌+◌, ◌-◌, ◌++◌, ◌∷◌, [], ℕ, suc, List, Option, None, Some, length, drop, arith, ap, refl, sym, subst, length-append, length-drop, append_assoc, append-nil, zero, set, slice_index_or}
+use Rattle.std.proofs.Common.{◌≡◌, ◌∙◌, ◌≤◌, ◌<◌, ◌+◌, ◌++◌, ◌∷◌, [], ℕ, suc, List, Option, None, Some, length, drop, arith, ap, refl, sym, subst, length-append, length-drop, append_assoc, append-nil, zero, set, slice_index_or}
 use Rattle.raw_view.specs.Document.{bytes_of}
 use Rattle.raw_view.specs.Frame.ElementSteps.{frame_of, HasRead}
 use Rattle.raw_view.specs.Frame.{Frame, IsFrame, Done}

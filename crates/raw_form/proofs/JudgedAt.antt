@@ -23,12 +23,12 @@ use Rattle.raw_form.specs.Verdicts.{Verdict, too_deep, breach_of, FirstVerdictTo
 use Rattle.raw_form.specs.declared.judge.Judged.{Judged}
 use Rattle.raw_form.specs.declared.judge.Judged.TheVariants as judged
 use Rattle.raw_form.specs.declared.level.Next.TheVariants as next
-use Rattle.raw_form.specs.Waits.{Stores, StoreEach, Wait}
+use Rattle.raw_form.specs.Waits.{StoreEach, Wait}
 use Rattle.raw_form.specs.Walks.{IsAt, IsOpened, left_behind}
 use Rattle.raw_form.specs.declared.level.Level.{Level}
-use Rattle.raw_form.specs.declared.level.Waiting.{Waiting}
+use Rattle.raw_form.specs.declared.walk.Walk.{Walk}
 use Rattle.raw_form.proofs.JudgedLevels.{AreHeld, IsInFront, IsJudged, as_held, begun, held_less, held_more, numbered, passed_breach, passed_deep, passed_end, passed_inside, passed_whole, resumed, verdict_outward}
-use Rattle.raw_form.proofs.Levels.{at_inside, at_inside_size, at_resumed, at_whole, at_whole_size, waiting_then}
+use Rattle.raw_form.proofs.Levels.{at_inside, at_inside_size, at_whole, at_whole_size, waiting_then}
 
 -- the levels are those that first faults are looked for in; and the innermost judges some bytes, for which the others wait,
 -- with their keys
@@ -202,17 +202,16 @@ module _ {depth : ℕ} {b : List ℕ} {ws : List Wait} {ks : List KeysSoFar} {li
 
 -- the level that waits for the innermost goes on
 pub judged_resumed : {depth : ℕ} {b : List ℕ} {listed : List (Bor (List ℕ))} {left : Option (List ℕ)} {number offset start : ℕ} {k : KeysSoFar}
-    (ws : List Wait) (w : Wait) (ks : List KeysSoFar) (j : KeysSoFar) (c : Waiting)
+    (ws : List Wait) (w : Wait) (ks : List KeysSoFar) (j : KeysSoFar)
     (at : IsJudgedAt depth b (ws ++ w ∷ []) (ks ++ j ∷ []) listed left number offset start k) (new : Option (List ℕ)) (i : KeysSoFar)
     (after left_list : List (Bor (List ℕ))) → TellsJudged at.sort at.below (keys_of_frames at.is.frames) at.is.rest new i after judged.End
-    → LeavesOpenKeys i after left_list → Stores b c w → IsJudgedAt depth b ws ks left_list w.elements (w.number + 1) w.offset w.start j
-judged_resumed {depth} {b} {listed} {left} {number} {offset} {start} {k} ws w ks j c at new i after left_list h leaves stored =
+    → LeavesOpenKeys i after left_list → IsAt depth b ws w.elements (w.number + 1) w.offset w.start → IsJudgedAt depth b ws ks left_list w.elements (w.number + 1) w.offset w.start j
+judged_resumed {depth} {b} {listed} {left} {number} {offset} {start} {k} ws w ks j at new i after left_list h leaves goes_on =
     let less = held_less at.inside as_document b (length b) [] ws ks w j at.sort at.d at.end at.below at.held in
     let canonical = passed_end at.inside at.sort at.d at.below listed left number k at.is new after i h in
     let same : texts left_list ≡ at.below = leaves at.sort at.below (keys_of_frames at.is.frames) h.1 in
-    let looks : Looks left new next.End = rw (at.is.left_is) (h.0) in
     record {
-      at = at_resumed ws w at.at new looks c stored;
+      at = goes_on;
       inside = suc at.inside;
       sort = less.sort;
       d = less.d;
@@ -224,9 +223,10 @@ judged_resumed {depth} {b} {listed} {left} {number} {offset} {start} {k} ws w ks
       begins = less.ends;
     }
 
--- so it is for levels that are stored
-pub record IsJudgedStored (depth : ℕ) (b : List ℕ) (stored : List Waiting) (ks : List KeysSoFar) (listed : List (Bor (List ℕ))) (left : Option (List ℕ))
-    (number offset start : ℕ) (k : KeysSoFar) : Type 0 where
+-- so it is for a walk over this document within this depth
+pub record IsJudgedAlong (document : RawDocument) (depth : ℕ) (walk : Walk) (level : Level) (ks : List KeysSoFar) (listed : List (Bor (List ℕ))) (k : KeysSoFar) : Type 0 where
   pub waits : List Wait
-  pub are_stored : StoreEach b stored waits
-  pub at : IsJudgedAt depth b waits ks listed left number offset start k
+  pub are_stored : StoreEach (bytes_of walk.document) walk.waiting.items waits
+  pub at : IsJudgedAt (suc walk.most_waiting) (bytes_of walk.document) waits ks listed level.elements level.number level.offset level.start k
+  pub document_is : walk.document ≡ document
+  pub depth_is : suc walk.most_waiting ≡ depth

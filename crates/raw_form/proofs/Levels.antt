@@ -5,7 +5,6 @@ use Rattle.std.specs.Option.{option_copied}
 use Rattle.bson_model.specs.Tree.{Tree}
 use Rattle.raw_view.specs.Document.{bytes_of}
 use Rattle.raw_view.specs.Frame.ElementSteps.{frame_of}
-use Rattle.raw_view.specs.Frame.Envelope.{IsEnvelope}
 use Rattle.raw_view.specs.Frame.{Frame, IsFrame}
 use Rattle.raw_view.specs.Frame.Front.{TellsBorrowed}
 use Rattle.raw_view.specs.Meaning.{KeyedFault}
@@ -18,19 +17,23 @@ use Rattle.raw_tree.specs.Validating.{left_of}
 use Rattle.raw_tree.specs.WithinLimits.{fault_of, too_deep}
 use Rattle.raw_tree.specs.WithinLimits as within
 use Rattle.raw_tree.proofs.Face.{nested_beside}
-use Rattle.raw_form.specs.Barriers.{TellsBarrierWithin}
+use Rattle.raw_form.specs.Barriers.{IsBarrier, TellsBarrierWithin}
 use Rattle.raw_form.specs.Looking.{Looks, size_of, step_at}
 use Rattle.raw_form.specs.Places.{Step, FirstFaultAt}
 use Rattle.raw_form.specs.Waits.{LiesAt, Stores, StoreEach, Wait}
-use Rattle.raw_form.specs.Walks.{AreHeld, IsAlong, IsAt, IsOpened, IsOver, IsPassed, left_behind}
+use Rattle.raw_form.specs.Walks.{AreHeld, IsAlong, IsAt, IsBarrierAt, IsFurther, IsOpened, IsOver, IsPassed, IsTooDeep, TellsError, left_behind, wait_behind}
 use Rattle.raw_form.specs.declared.barrier.Barrier.{Barrier}
+use Rattle.raw_form.specs.declared.barrier.BarrierKind.{BarrierKind}
+use Rattle.raw_form.specs.declared.barrier.BarrierKind.TheVariants as kind
 use Rattle.raw_form.specs.declared.level.Level.{Level}
 use Rattle.raw_form.specs.declared.walk.Walk.{Walk}
+use Rattle.raw_form.specs.declared.walk.WalkError.{WalkError}
+use Rattle.raw_form.specs.declared.walk.WalkError.TheVariants as error
 use Rattle.raw_form.specs.declared.level.Waiting.{Waiting}
 use Rattle.raw_form.specs.declared.level.Next.TheVariants as next
 use Rattle.raw_form.proofs.Passing.{read_as, begun, passed_whole, passed_inside, passed_end, IsInFront, passed_fault, passed_deep, resumed}
 use Rattle.raw_form.proofs.Outward.{held_more, held_less, held_last, held_ends, barrier_outward}
-use Rattle.raw_form.proofs.Lying.{behind_in, frame_more, led_behind, nested_last, nested_lies, stored_whole, whole_lies, stored_less}
+use Rattle.raw_form.proofs.Lying.{behind_in, frame_more, led_behind, nested_last, nested_lies, stored_whole, stored_less}
 
 pub passed_left : (inside : ℕ) (d : List ℕ) (left : Option (List ℕ)) (number : ℕ) → IsPassed inside d left number → 2 * number + left_of left ≤ length d
 passed_left inside d None number is = absurd is.passed
@@ -55,26 +58,6 @@ inside_fits : (inside : ℕ) (d : List ℕ) (old new : Option (List ℕ)) (numbe
 inside_fits inside d None new number e inner is looks = absurd is.passed
 inside_fits inside d (Some s) new number e inner is (r, v, at, m, holds, new_is) =
     omega (arith, nested_beside s (frame_of e) r v (bytes_of inner) at m holds, frame_size s (frame_of e) r at)
-
-pub at_begin : (most depth : ℕ) (b : List ℕ) (ws : List Wait) (left : Option (List ℕ)) (number offset start : ℕ) → suc most ≡ depth → ws ≡ []
-    → left ≡ Some (drop 4 b) → number ≡ 0 → offset + length (drop 4 b) ≡ length b → IsEnvelope b → start + length b ≡ length b
-    → IsAt depth b ws left number offset start
-at_begin most depth b ws left number offset start whole none e first begins envelope starts = record {
-  inside = most;
-  sort = as_document;
-  d = b;
-  end = length b;
-  held = rw none (refl, refl, refl);
-  is = begun most b left number e first;
-  levels = rw none (omega (arith, whole));
-  begins = rw e begins;
-  lies = whole_lies b start envelope (omega (arith, starts));
-  whole = starts;
-}
-
--- a level that waits, behind this element of it
-abbrev pub wait_behind : (start : ℕ) (d : List ℕ) (new : Option (List ℕ)) (number behind : ℕ) (key : List ℕ) → Wait
-wait_behind start d new number behind key = record { start = start; bytes = d; elements = new; number = number; offset = behind; key = key }
 
 -- nested bytes lie in the document, where they end with their element
 inside_lies : (inside : ℕ) (b d : List ℕ) (start : ℕ) (old new : Option (List ℕ)) (number offset : ℕ) (e : RawElement) (inner : RawDocument) (first : ℕ)
@@ -319,15 +302,42 @@ pub record IsStoredAt (depth : ℕ) (b : List ℕ) (stored : List Waiting) (left
   pub at : IsAt depth b waits left number offset start
 
 -- a walk over this document, for whose innermost level so many may wait
-pub record IsWalking (document : RawDocument) (most : ℕ) (walk : Walk) : Type 0 where
+pub record IsWalking (document : RawDocument) (most : ℕ) (walk : Walk) (level : Level) : Type 0 where
   pub waits : List Wait
-  pub along : IsAlong walk waits
+  pub along : IsAlong walk level waits
   pub document_is : walk.document ≡ document
   pub most_is : walk.most_waiting ≡ most
 
+-- it goes on so, nearer to the document's end
+module _ {document : RawDocument} {most : ℕ} {walk : Walk} {level : Level} (is : IsWalking document most walk level) (ws : List Wait) (new : Walk) (to : Level)
+    (further : IsFurther level new to ws) (same : new.document ≡ walk.document) where
+  pub walks_on : new.most_waiting ≡ walk.most_waiting → IsWalking document most new to
+  walks_on most_same = record { waits = ws; along = further.along; document_is = same ∙ is.document_is; most_is = most_same ∙ is.most_is }
+
+  pub walks_nearer : length (bytes_of document) - to.offset < length (bytes_of document) - level.offset
+  walks_nearer =
+      let within : to.offset ≤ length (bytes_of document) = subst (λ (d : RawDocument). to.offset ≤ length (bytes_of d)) (same ∙ is.document_is) further.within in
+      omega (arith, further.further, within)
+
 -- what it tells is told of the document
-pub told_there : {document : RawDocument} {most : ℕ} {walk : Walk} → IsWalking document most walk → (result : Option Barrier)
+pub told_there : {document : RawDocument} {most : ℕ} {walk : Walk} {level : Level} → IsWalking document most walk level → (result : Option Barrier)
     → TellsBarrierWithin (suc walk.most_waiting) (bytes_of walk.document) result → TellsBarrierWithin (suc most) (bytes_of document) result
-told_there {document} {most} {walk} is result told =
+told_there {document} {most} {walk} {level} is result told =
     subst (λ (n : ℕ). TellsBarrierWithin (suc n) (bytes_of document) result) is.most_is
     (subst (λ (d : RawDocument). TellsBarrierWithin (suc walk.most_waiting) (bytes_of d) result) is.document_is told)
+
+-- a barrier that is told at its place is the document's first
+pub told_at : (old : Walk) (ws : List Wait) (step : Step) (offset : ℕ) (k : BarrierKind)
+    → ((x : within.Barrier) × IsBarrier k x × FirstFaultAt (suc old.most_waiting) (bytes_of old.document) x (map step_at ws ++ step ∷ []) offset)
+    → (e : WalkError) → IsBarrierAt ws step offset k e → TellsError old e
+told_at old ws step offset k bars (error.Barrier answer) (kind_is, steps_is, offset_is) = (bars.0, rw kind_is bars.1, rw (steps_is, offset_is) bars.2)
+told_at old ws step offset k bars error.OutOfMemory at = tt
+
+-- a level that is too deep is
+pub deep_told : (walk : Walk) (from : Level) (ws : List Wait) (e : RawElement)
+    → (suc walk.most_waiting ≤ suc (length ws)
+    → FirstFaultAt (suc walk.most_waiting) (bytes_of walk.document) too_deep (map step_at ws ++ record { number = from.number; key = Some (frame_of e).key } ∷ []) from.offset)
+    → (answer : WalkError) → IsTooDeep walk from ws e answer → TellsError walk answer
+deep_told walk from ws e bars (error.Barrier answer) (full, at) =
+    told_at walk ws _ from.offset kind.TooDeep (too_deep, refl, bars (omega (arith, full))) (error.Barrier answer) at
+deep_told walk from ws e bars error.OutOfMemory at = tt

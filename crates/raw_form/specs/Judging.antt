@@ -26,6 +26,8 @@ use Rattle.raw_form.specs.declared.faults.Start.{Start}
 use Rattle.raw_form.specs.declared.judge.Judged.{Judged}
 use Rattle.raw_form.specs.declared.judge.Judged.TheVariants as judged
 use Rattle.raw_form.specs.declared.verdict.Found.{Found}
+use Rattle.raw_form.specs.declared.walk.WalkError.{WalkError}
+use Rattle.raw_form.specs.declared.walk.WalkError.TheVariants as error
 
 abbrev pub sort_of : Bool → Sort
 sort_of true = as_array
@@ -85,6 +87,11 @@ verdict_of (Some why) = breach_of why
 abbrev pub TellsFound : ℕ → List ℕ → Option Found → Type 0
 TellsFound depth b None = IsCanonicalUpTo depth as_document b
 TellsFound depth b (Some found) = FirstVerdictTo depth as_document b (verdict_of found.cause) (steps_of found.place) found.place.offset
+
+-- what is found is the level that was too deep, at its place
+abbrev pub EndsTooDeep : WalkError → Option Found → Type 0
+EndsTooDeep (error.Barrier b) (Some found) = (found.cause ≡ None) × (found.place ≡ b.place)
+EndsTooDeep other found = ⊥
 
 -- the document b is canonical; or no element before this one has a barrier, and what they stand for is written as they are
 abbrev pub TellsStart : ℕ → List ℕ → Option Start → Type 0

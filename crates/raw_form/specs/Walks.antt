@@ -1,21 +1,28 @@
 -- What a walk over all levels of a document has passed, and what it comes to next. No public contract cites this file.
-use Rattle.std.specs.Prelude.{◌≡◌, ◌+◌, ◌++◌, ◌∷◌, ◌<◌, ◌≤◌, ℕ, suc, List, Option, Some, drop, length, []}
+use Rattle.std.specs.Prelude.{◌≡◌, ◌+◌, ◌++◌, ◌∷◌, ◌<◌, ◌≤◌, ℕ, suc, Bool, true, false, List, Option, Some, Result, Ok, Err, drop, length, map, []}
 use Rattle.bson_model.specs.Tree.{Tree}
 use Rattle.raw_view.specs.Document.{bytes_of}
 use Rattle.raw_view.specs.Frame.ElementSteps.{HasRead, frame_of}
 use Rattle.raw_view.specs.Frame.{Frame, IsFrame, LeadsTo}
 use Rattle.raw_view.specs.Meaning.{RawValue, Means, value}
 use Rattle.raw_view.specs.declared.document.RawDocument.{RawDocument}
+use Rattle.raw_view.specs.declared.element.RawElement.{RawElement}
 use Rattle.raw_tree.specs.Reading.{Sort, as_document, tree_of_pairs, ReadsUpTo, StandForEach}
 use Rattle.raw_tree.specs.Validating.{HoldsAs, left_of}
-use Rattle.raw_form.specs.Barriers.{TellsBarrierWithin}
-use Rattle.raw_form.specs.Looking.{Looks, size_of}
+use Rattle.raw_form.specs.Barriers.{TellsBarrierWithin, steps_of}
+use Rattle.raw_form.specs.Looking.{Looks, size_of, step_at}
+use Rattle.raw_form.specs.Places.{Step}
 use Rattle.raw_form.specs.Waits.{GoesOn, LiesAt, StoreEach, Wait}
+use Rattle.raw_form.specs.declared.barrier.BarrierKind.{BarrierKind}
+use Rattle.raw_form.specs.declared.barrier.BarrierKind.TheVariants as kind
 use Rattle.raw_form.specs.declared.level.Level.{Level}
+use Rattle.raw_form.specs.declared.level.Next.{Next}
 use Rattle.raw_form.specs.declared.level.Next.TheVariants as next
 use Rattle.raw_form.specs.declared.walk.Event.{Event}
 use Rattle.raw_form.specs.declared.walk.Event.TheVariants as event
 use Rattle.raw_form.specs.declared.walk.Walk.{Walk}
+use Rattle.raw_form.specs.declared.walk.WalkError.{WalkError}
+use Rattle.raw_form.specs.declared.walk.WalkError.TheVariants as error
 
 -- levels
 
@@ -84,39 +91,79 @@ pub record IsOpened (behind : ℕ) (inner : RawDocument) (level : Level) : Type 
   pub starts : level.start + length (bytes_of inner) ≡ behind
 
 -- the walk is within the document, and these levels wait for the innermost, the outermost first
-pub record IsAlong (walk : Walk) (ws : List Wait) : Type 0 where
+pub record IsAlong (walk : Walk) (level : Level) (ws : List Wait) : Type 0 where
   pub are_stored : StoreEach (bytes_of walk.document) walk.waiting.items ws
-  pub at : IsAt (suc walk.most_waiting) (bytes_of walk.document) ws walk.level.elements walk.level.number walk.level.offset walk.level.start
+  pub at : IsAt (suc walk.most_waiting) (bytes_of walk.document) ws level.elements level.number level.offset level.start
+
+-- the level as it was when this was left of it
+abbrev pub with_left : Option (List ℕ) → Level → Level
+with_left left level = record { elements = left; number = level.number; offset = level.offset; start = level.start }
+
+-- so it was, before what is next in the level was looked at
+pub record IsLooked (walk : Walk) (level : Level) (left : Option (List ℕ)) (ws : List Wait) (seen : Next) : Type 0 where
+  pub along : IsAlong walk (with_left left level) ws
+  pub looks : Looks left level.elements seen
 
 -- it is so further on, and some bytes have been passed
-pub record IsFurther (old new : Walk) (ws : List Wait) : Type 0 where
-  pub along : IsAlong new ws
-  pub further : old.level.offset < new.level.offset
-  pub within : new.level.offset ≤ length (bytes_of new.document)
+pub record IsFurther (from : Level) (walk : Walk) (to : Level) (ws : List Wait) : Type 0 where
+  pub along : IsAlong walk to ws
+  pub further : from.offset < to.offset
+  pub within : to.offset ≤ length (bytes_of walk.document)
 
 -- the final 0 of the level is in front of what is left
 abbrev pub IsOver : Option (List ℕ) → Type 0
 IsOver left = (s : List ℕ) → left ≡ Some s → s ≡ 0 ∷ []
 
 -- it has come to nothing, and what is left of the outermost level begins at this offset
-pub record IsBegun (document : RawDocument) (offset : ℕ) (walk : Walk) : Type 0 where
+pub record IsBegun (document : RawDocument) (offset : ℕ) (walk : Walk) (level : Level) : Type 0 where
   pub document_is : walk.document ≡ document
   pub none_waits : walk.waiting.items ≡ []
-  pub left_is : walk.level.elements ≡ Some (drop offset (bytes_of document))
-  pub offset_is : walk.level.offset ≡ offset
-  pub start_is : walk.level.start ≡ 0
+  pub left_is : level.elements ≡ Some (drop offset (bytes_of document))
+  pub offset_is : level.offset ≡ offset
+  pub start_is : level.start ≡ 0
 
--- what a walk comes to for whose innermost level these wait
-abbrev pub Comes : Walk → List Wait → Walk → Event → Type 0
-Comes old ws new (event.Whole e) =
-    IsFurther old new ws × Looks old.level.elements new.level.elements (next.Whole e) × (new.level.offset ≡ old.level.offset + size_of (frame_of e))
-    × (new.level.start ≡ old.level.start)
-Comes old ws new (event.Enter e) =
-    (w : Wait) × (inner : RawDocument) × IsFurther old new (ws ++ w ∷ []) × Looks old.level.elements w.elements (next.Inside e inner)
-    × (w.offset ≡ old.level.offset + size_of (frame_of e)) × IsOpened w.offset inner new.level
-Comes old ws new event.Leave =
-    (outer : List Wait) × (w : Wait) × (ws ≡ outer ++ w ∷ []) × IsFurther old new outer × IsOver old.level.elements
-    × GoesOn w new.level.elements new.level.number new.level.offset new.level.start
-Comes old ws new event.End = (t : Tree) × ReadsUpTo (suc old.most_waiting) as_document (bytes_of old.document) t × (ws ≡ []) × IsOver old.level.elements
-Comes old ws new (event.Barrier answer) = TellsBarrierWithin (suc old.most_waiting) (bytes_of old.document) (Some answer)
-Comes old ws new event.OutOfMemory = Unit {0}
+-- the error is a barrier of this kind, at this step and offset in the level for which these wait; or memory ran out
+abbrev pub IsBarrierAt : List Wait → Step → (offset : ℕ) → BarrierKind → WalkError → Type 0
+IsBarrierAt ws step offset k (error.Barrier b) = (b.kind ≡ k) × (steps_of b.place ≡ map step_at ws ++ step ∷ []) × (b.place.offset ≡ offset)
+IsBarrierAt ws step offset k error.OutOfMemory = Unit {0}
+
+-- the error is the first barrier of the document; or memory ran out
+abbrev pub TellsError : Walk → WalkError → Type 0
+TellsError walk (error.Barrier answer) = TellsBarrierWithin (suc walk.most_waiting) (bytes_of walk.document) (Some answer)
+TellsError walk error.OutOfMemory = Unit {0}
+
+-- an element is passed whose value holds no level
+abbrev pub Passes : Walk → (from : Level) → List Wait → (to : Level) → RawElement → Type 0
+Passes walk from ws to e =
+    IsFurther from walk to ws × Looks from.elements to.elements (next.Whole e) × (to.offset ≡ from.offset + size_of (frame_of e)) × (to.start ≡ from.start)
+
+-- a level that waits, behind this element of it
+abbrev pub wait_behind : (start : ℕ) (d : List ℕ) (new : Option (List ℕ)) (number behind : ℕ) (key : List ℕ) → Wait
+wait_behind start d new number behind key = record { start = start; bytes = d; elements = new; number = number; offset = behind; key = key }
+
+-- the level that an element holds is entered; this one waits for it
+abbrev pub Enters : (from : Level) → List Wait → Wait → Walk → (to : Level) → RawElement → RawDocument → Type 0
+Enters from ws w new to e inner =
+    IsFurther from new to (ws ++ w ∷ []) × Looks from.elements w.elements (next.Inside e inner) × (w.offset ≡ from.offset + size_of (frame_of e))
+    × IsOpened w.offset inner to
+
+-- the level that an element holds is too deep, which is told with its place; or memory ran out
+abbrev pub IsTooDeep : Walk → (from : Level) → List Wait → RawElement → WalkError → Type 0
+IsTooDeep walk from ws e (error.Barrier answer) =
+    (walk.most_waiting ≤ length ws) × IsBarrierAt ws (record { number = from.number; key = Some (frame_of e).key }) from.offset kind.TooDeep (error.Barrier answer)
+IsTooDeep walk from ws e error.OutOfMemory = Unit {0}
+
+-- at the end of a level the walk goes back to the one around it; where there is none, the document has been read
+abbrev pub LeavesOrEnds : Walk → (from : Level) → List Wait → Walk → (to : Level) → Bool → Type 0
+LeavesOrEnds old from ws new to true =
+    (outer : List Wait) × (w : Wait) × (ws ≡ outer ++ w ∷ []) × IsFurther from new to outer × IsOver from.elements
+    × GoesOn w to.elements to.number to.offset to.start
+LeavesOrEnds old from ws new to false = (t : Tree) × ReadsUpTo (suc old.most_waiting) as_document (bytes_of old.document) t × (ws ≡ []) × IsOver from.elements
+
+-- what a walk comes to behind the level `from`, for which these wait: it is then at the level `to`
+abbrev pub Comes : Walk → (from : Level) → List Wait → Walk → (to : Level) → Result Event WalkError → Type 0
+Comes old from ws new to (Ok (event.Whole e)) = Passes new from ws to e
+Comes old from ws new to (Ok (event.Enter e)) = (w : Wait) × (inner : RawDocument) × Enters from ws w new to e inner
+Comes old from ws new to (Ok event.Leave) = LeavesOrEnds old from ws new to true
+Comes old from ws new to (Ok event.End) = LeavesOrEnds old from ws new to false
+Comes old from ws new to (Err e) = TellsError old e

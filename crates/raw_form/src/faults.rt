@@ -1,19 +1,22 @@
 //! The first barrier of a document within limits, without a tree.
 #![tactic(auto)]
 
-ghost use Rattle.std.specs.Prelude.{◌<◌, IfOk, IfErr};
+ghost use Rattle.std.specs.Prelude.{◌<◌, suc, IfOk, IfErr};
 ghost use Rattle.raw_form.specs.Barriers.{IsOutOfMemoryWithin, TellsBarrier, TellsBarrierWithin};
 ghost use Rattle.raw_form.specs.Looking.{HasNoneBefore};
 ghost use Rattle.raw_form.specs.Places.{AllAreBarredAtOnePlace};
+ghost use Rattle.raw_form.specs.Walks.{TellsError};
+ghost use Rattle.raw_form.specs.declared.walk.Walk.{Walk};
 ghost use Rattle.raw_tree.specs.WithinLimits.{AllAreAnsweredOneWay};
 ghost use Rattle.raw_view.specs.Document.{bytes_of};
 ghost use Rattle.raw_view.specs.Errors.{IsOutOfMemory};
 
 use crate::barrier::{Barrier, BarrierKind};
-use crate::level::{Level, Next, Waiting, behind, look};
-use crate::place::{Place, place_in};
+use crate::level::{Next, look};
+use crate::place::Place;
+use crate::walk::{Walk, WalkError};
 use raw_tree::Limits;
-use raw_view::{Elements, Error, RawDocument, Result};
+use raw_view::{Error, RawDocument, Result};
 use std::alloc::Global;
 
 /// Where the first barrier is looked for: what is before it in the outermost level is canonical.
@@ -53,56 +56,38 @@ pub(crate) fn first_behind<'a>(
             place: Place::whole(alloc),
         }));
     };
-    let Some(elements) = Elements::from_offset(document, start.offset) else {
-        unreachable!()
-    };
-    let mut waiting: Vec<Waiting> = Vec::new(alloc);
-    let mut level = Level {
-        elements,
-        number: start.number,
-        offset: start.offset,
-        start: 0,
-    };
-    'levels: loop {
-        let offset = level.offset;
+    let (mut walk, mut level) = Walk::new(alloc, document, start, most_waiting);
+    'elements: loop {
         match look(&mut level.elements) {
-            Next::Whole(element) => {
-                level.offset = behind(offset, element);
-                level.number += 1;
-            }
+            Next::Whole(element) => walk.pass(&mut level, element),
             Next::Inside(element, inner) => {
-                if waiting.len() >= most_waiting {
-                    let key = Some(element.key());
-                    let place = place_in(alloc, document, &waiting, level.number, key, offset)?;
-                    return Ok(Some(Barrier {
-                        kind: BarrierKind::TooDeep,
-                        place,
-                    }));
+                if let Err(error) = walk.enter(alloc, &mut level, element, inner) {
+                    return told(error);
                 }
-                let outer = Waiting {
-                    start: level.start as u32,
-                    element: offset as u32,
-                    number: level.number as u32,
-                };
-                if waiting.push(outer).is_err() {
-                    return Err(Error::out_of_memory());
-                }
-                level = Level::new(inner, behind(offset, element));
             }
             Next::Fault(key, error) => {
-                let place = place_in(alloc, document, &waiting, level.number, key, offset)?;
-                return Ok(Some(Barrier {
-                    kind: BarrierKind::Fault(error),
-                    place,
-                }));
+                let kind = BarrierKind::Fault(error);
+                return told(walk.barrier(alloc, level.number, level.offset, key, kind));
             }
             Next::End => {
-                let Some(outer) = waiting.pop() else {
+                if !walk.leave(&mut level) {
                     return Ok(None);
-                };
-                level = Level::behind(document, outer, offset + 1);
+                }
             }
         }
+    }
+}
+
+/// The barrier that a walk came to.
+fn told(error: WalkError<'_>) -> Result<Option<Barrier<'_>>>
+    ensures told { (walk : Walk)
+        → TellsError walk error.entry
+        → IfOk result (TellsBarrierWithin (suc walk.most_waiting) (bytes_of walk.document)) }
+    ensures err { IfErr result IsOutOfMemory }
+{
+    match error {
+        WalkError::Barrier(barrier) => Ok(Some(barrier)),
+        WalkError::OutOfMemory => Err(Error::out_of_memory()),
     }
 }
 

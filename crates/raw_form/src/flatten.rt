@@ -11,7 +11,7 @@ use crate::barrier::{Barrier, BarrierKind};
 use crate::faults::FIRST;
 use crate::place::Place;
 use crate::token::{Token, put_at, set_inside};
-use crate::walk::{Event, Walk};
+use crate::walk::{Event, Walk, WalkError};
 use raw_tree::Limits;
 use raw_view::RawDocument;
 use std::alloc::Global;
@@ -49,34 +49,34 @@ fn flatten_to<'a>(
 ) -> std::result::Result<usize, FlattenError<'a>>
     ensures { FlattensTo most_waiting (bytes_of document.entry) tokens.old tokens.new result }
 {
-    let mut walk = Walk::new(alloc, document, FIRST, most_waiting);
+    let (mut walk, mut level) = Walk::new(alloc, document, FIRST, most_waiting);
     let mut places: Vec<u32> = Vec::new(alloc);
     let mut count = 0;
     'events: loop {
-        let offset = walk.level.offset;
+        let offset = level.offset;
         let depth = places.len();
-        match walk.next(alloc) {
-            Event::Whole(element) => {
+        match walk.next(alloc, &mut level) {
+            Ok(Event::Whole(element)) => {
                 put_at(tokens, count, Token::new(depth, offset, element));
                 count += 1;
             }
-            Event::Enter(element) => {
+            Ok(Event::Enter(element)) => {
                 put_at(tokens, count, Token::new(depth, offset, element));
                 if places.push(count as u32).is_err() {
                     return Err(FlattenError::OutOfMemory);
                 }
                 count += 1;
             }
-            Event::Leave => {
+            Ok(Event::Leave) => {
                 let Some(place) = places.pop() else {
                     unreachable!()
                 };
                 let place = place as usize;
                 set_inside(tokens, place, count - (place + 1));
             }
-            Event::End => return Ok(count),
-            Event::Barrier(barrier) => return Err(FlattenError::Barrier(barrier)),
-            Event::OutOfMemory => return Err(FlattenError::OutOfMemory),
+            Ok(Event::End) => return Ok(count),
+            Err(WalkError::Barrier(barrier)) => return Err(FlattenError::Barrier(barrier)),
+            Err(WalkError::OutOfMemory) => return Err(FlattenError::OutOfMemory),
         }
     }
 }

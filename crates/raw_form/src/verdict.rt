@@ -2,14 +2,15 @@
 #![tactic(auto)]
 
 ghost use Rattle.std.specs.Prelude.{◌<◌, IfOk, IfErr};
-ghost use Rattle.raw_form.specs.Judging.{TellsFound};
+ghost use Rattle.raw_form.specs.Judging.{EndsTooDeep, TellsFound};
 ghost use Rattle.raw_form.specs.Verdicts.{AllAreJudgedOneWayWithin, TellsVerdict};
 ghost use Rattle.raw_view.specs.Document.{bytes_of};
 ghost use Rattle.raw_view.specs.Errors.{IsOutOfMemory};
 
+use crate::faults::FIRST;
 use crate::judge::{Judged, judge, keys_of};
-use crate::level::{Level, Waiting, behind};
 use crate::place::{Place, place_in};
+use crate::walk::{Walk, WalkError};
 use raw_tree::{Cause, KeysSoFar, Limits};
 use raw_view::{Error, RawDocument, Result};
 use std::alloc::Global;
@@ -71,40 +72,27 @@ pub(crate) fn judge_to_depth<'a>(
         }));
     };
     let mut listed: Vec<&'a str> = Vec::new(alloc);
-    let mut waiting: Vec<Waiting> = Vec::new(alloc);
     let mut outer_keys: Vec<KeysSoFar<'a>> = Vec::new(alloc);
-    let mut level = Level::new(document, document.as_bytes().len());
+    let (mut walk, mut level) = Walk::new(alloc, document, FIRST, most_waiting);
     let mut keys = KeysSoFar::of_document(&listed);
-    'levels: loop {
-        let offset = level.offset;
+    'elements: loop {
         let number = level.number;
         match judge(alloc, &mut level.elements, &mut keys, &mut listed, number)? {
-            Judged::Whole(element) => {
-                level.offset = behind(offset, element);
-                level.number += 1;
-            }
+            Judged::Whole(element) => walk.pass(&mut level, element),
             Judged::Inside(element, inner, is_array) => {
-                if waiting.len() >= most_waiting {
-                    let key = Some(element.key());
-                    let place = place_in(alloc, document, &waiting, number, key, offset)?;
-                    return Ok(Some(Found { cause: None, place }));
+                if let Err(error) = walk.enter(alloc, &mut level, element, inner) {
+                    return too_deep(error);
                 }
-                let outer = Waiting {
-                    start: level.start as u32,
-                    element: offset as u32,
-                    number: number as u32,
-                };
                 let keys = mem::replace(&mut keys, keys_of(is_array, &listed));
-                if waiting.push(outer).is_err() || outer_keys.push(keys).is_err() {
+                if outer_keys.push(keys).is_err() {
                     return Err(Error::out_of_memory());
                 }
-                level = Level::new(inner, behind(offset, element));
             }
             Judged::Breach(key, cause) => {
                 // the path may take the memory of the keys
                 drop(listed);
                 drop(outer_keys);
-                let place = place_in(alloc, document, &waiting, number, key, offset)?;
+                let place = place_in(alloc, document, &walk.waiting, number, key, level.offset)?;
                 return Ok(Some(Found {
                     cause: Some(cause),
                     place,
@@ -114,14 +102,27 @@ pub(crate) fn judge_to_depth<'a>(
                 let Some(outer_key) = outer_keys.pop() else {
                     return Ok(None);
                 };
-                let Some(outer) = waiting.pop() else {
+                if !walk.leave(&mut level) {
                     return Ok(None);
-                };
+                }
                 keys.leave(&mut listed);
                 keys = outer_key;
-                level = Level::behind(document, outer, offset + 1);
             }
         }
+    }
+}
+
+/// What ends a validation at a level that is too deep.
+fn too_deep(error: WalkError<'_>) -> Result<Option<Found<'_>>>
+    ensures found { IfOk result (EndsTooDeep error.entry) }
+    ensures err { IfErr result IsOutOfMemory }
+{
+    match error {
+        WalkError::Barrier(barrier) => Ok(Some(Found {
+            cause: None,
+            place: barrier.place,
+        })),
+        WalkError::OutOfMemory => Err(Error::out_of_memory()),
     }
 }
 

@@ -1,11 +1,14 @@
 //! A walk over all levels of a document.
 #![tactic(auto)]
 
-ghost use Rattle.std.specs.Prelude.{◌≡◌, [], suc, List};
-ghost use Rattle.raw_form.specs.Looking.{HasNoneBefore};
-ghost use Rattle.raw_form.specs.Waits.{Wait};
-ghost use Rattle.raw_form.specs.Walks.{Comes, IsAlong, IsBegun};
+ghost use Rattle.std.specs.Option.{option_copied};
+ghost use Rattle.std.specs.Prelude.{◌≡◌, ◌+◌, [], ℕ, suc, List, Option, IfErr, OnOk};
+ghost use Rattle.raw_form.specs.Looking.{HasNoneBefore, size_of};
+ghost use Rattle.raw_form.specs.Waits.{StoreEach, Wait};
+ghost use Rattle.raw_form.specs.Walks.{Comes, Enters, IsAlong, IsBarrierAt, IsBegun, IsLooked, IsTooDeep, LeavesOrEnds, Passes, wait_behind, with_left};
+ghost use Rattle.raw_form.specs.declared.level.Next.TheVariants as next;
 ghost use Rattle.raw_view.specs.Document.{bytes_of};
+ghost use Rattle.raw_view.specs.Frame.ElementSteps.{frame_of};
 
 use crate::barrier::{Barrier, BarrierKind};
 use crate::faults::Start;
@@ -15,6 +18,7 @@ use raw_view::{Elements, RawDocument, RawElement};
 use std::alloc::Global;
 
 /// A walk over all levels of a document, depth first in byte order. It takes memory for the levels that wait, and no stack.
+/// The innermost level is beside it, so that its fields can stay in registers.
 #[derive(Drop)]
 pub(crate) struct Walk<'a> {
     pub(crate) document: RawDocument<'a>,
@@ -22,8 +26,6 @@ pub(crate) struct Walk<'a> {
     pub(crate) most_waiting: usize,
     /// the levels that wait for the innermost, the outermost first
     pub(crate) waiting: Vec<Waiting>,
-    /// the innermost level
-    pub(crate) level: Level<'a>,
 }
 
 /// What a walk comes to.
@@ -37,6 +39,11 @@ pub(crate) enum Event<'a> {
     Leave,
     /// the end of the document
     End,
+}
+
+/// Why a walk can't go on.
+#[derive(Drop)]
+pub(crate) enum WalkError<'a> {
     /// a fault, or a level that is too deep, which isn't entered
     Barrier(Barrier<'a>),
     /// memory ran out
@@ -44,96 +51,166 @@ pub(crate) enum Event<'a> {
 }
 
 impl<'a> Walk<'a> {
-    /// A walk from this element of the outermost level on, for whose innermost level so many may wait.
+    /// A walk for whose innermost level so many may wait, and the outermost level from this element on.
     #[inline(always)]
     pub(crate) fn new(
         alloc: Global,
         document: RawDocument<'a>,
         start: Start,
         most_waiting: usize,
-    ) -> Walk<'a>
+    ) -> (Walk<'a>, Level<'a>)
         requires { HasNoneBefore (suc most_waiting) (bytes_of document) start.number start.offset }
-        ensures along { IsAlong result [] }
-        ensures level { IsBegun document.entry start.offset result }
-        ensures most { result.most_waiting ≡ most_waiting }
+        ensures along { IsAlong result.0 result.1 [] }
+        ensures level { IsBegun document.entry start.offset result.0 result.1 }
+        ensures number { result.1.number ≡ start.number }
+        ensures most { result.0.most_waiting ≡ most_waiting }
     {
         let Some(elements) = Elements::from_offset(document, start.offset) else {
             unreachable!()
         };
-        Walk {
+        let walk = Walk {
             document,
             most_waiting,
             waiting: Vec::new(alloc),
-            level: Level {
-                elements,
-                number: start.number,
-                offset: start.offset,
-                start: 0,
-            },
-        }
+        };
+        let level = Level {
+            elements,
+            number: start.number,
+            offset: start.offset,
+            start: 0,
+        };
+        (walk, level)
     }
 
-    /// What comes next.
+    /// What comes next, where this is the innermost level.
     #[inline(always)]
-    pub(crate) fn next(&mut self, alloc: Global) -> Event<'a>
-        requires { (ws : List Wait) × IsAlong self.old ws }
+    pub(crate) fn next(
+        &mut self,
+        alloc: Global,
+        level: &mut Level<'a>,
+    ) -> Result<Event<'a>, WalkError<'a>>
+        requires { (ws : List Wait) × IsAlong self.old level.old ws }
         ensures event { (ws : List Wait)
-            → IsAlong self.old ws
-            → Comes self.old ws self.new result }
+            → IsAlong self.old level.old ws
+            → Comes self.old level.old ws self.new level.new result }
         ensures document { self.new.document ≡ self.old.document }
         ensures most { self.new.most_waiting ≡ self.old.most_waiting }
     {
-        let offset = self.level.offset;
-        match look(&mut self.level.elements) {
+        match look(&mut level.elements) {
             Next::Whole(element) => {
-                self.level.offset = behind(offset, element);
-                self.level.number += 1;
-                Event::Whole(element)
+                self.pass(level, element);
+                Ok(Event::Whole(element))
             }
             Next::Inside(element, inner) => {
-                if self.waiting.len() >= self.most_waiting {
-                    let key = Some(element.key());
-                    let number = self.level.number;
-                    let Ok(place) = place_in(
-                        alloc,
-                        self.document,
-                        &self.waiting,
-                        number,
-                        key,
-                        offset,
-                    ) else {
-                        return Event::OutOfMemory;
-                    };
-                    let kind = BarrierKind::TooDeep;
-                    return Event::Barrier(Barrier { kind, place });
-                }
-                let outer = Waiting {
-                    start: self.level.start as u32,
-                    element: offset as u32,
-                    number: self.level.number as u32,
-                };
-                if self.waiting.push(outer).is_err() {
-                    return Event::OutOfMemory;
-                }
-                self.level = Level::new(inner, behind(offset, element));
-                Event::Enter(element)
+                self.enter(alloc, level, element, inner)?;
+                Ok(Event::Enter(element))
             }
             Next::Fault(key, error) => {
-                let number = self.level.number;
-                let Ok(place) = place_in(alloc, self.document, &self.waiting, number, key, offset)
-                else {
-                    return Event::OutOfMemory;
-                };
                 let kind = BarrierKind::Fault(error);
-                Event::Barrier(Barrier { kind, place })
+                Err(self.barrier(alloc, level.number, level.offset, key, kind))
             }
             Next::End => {
-                let Some(outer) = self.waiting.pop() else {
-                    return Event::End;
-                };
-                self.level = Level::behind(self.document, outer, offset + 1);
-                Event::Leave
+                if self.leave(level) {
+                    Ok(Event::Leave)
+                } else {
+                    Ok(Event::End)
+                }
             }
+        }
+    }
+
+    /// Passes over an element that was just looked at.
+    #[inline(always)]
+    pub(crate) fn pass(&self, level: &mut Level<'a>, element: RawElement<'a>)
+        requires { (ws : List Wait) × (left : Option (List ℕ)) × IsLooked self.now level.old left ws
+            (next.Whole element) }
+        ensures passed { (ws : List Wait)
+            → (left : Option (List ℕ))
+            → IsLooked self.now level.old left ws (next.Whole element.entry)
+            → Passes self.now (with_left left level.old) ws level.new element.entry }
+        ensures elements { level.new.elements ≡ level.old.elements }
+        ensures number { level.new.number ≡ level.old.number + 1 }
+    {
+        level.offset = behind(level.offset, element);
+        level.number += 1;
+    }
+
+    /// Enters the level that an element holds which was just looked at.
+    #[inline(always)]
+    pub(crate) fn enter(
+        &mut self,
+        alloc: Global,
+        level: &mut Level<'a>,
+        element: RawElement<'a>,
+        inner: RawDocument<'a>,
+    ) -> Result<(), WalkError<'a>>
+        requires { (ws : List Wait) × (left : Option (List ℕ)) × IsLooked self.old level.old left ws
+            (next.Inside element inner) }
+        ensures entered { (ws : List Wait)
+            → (left : Option (List ℕ))
+            → (is : IsLooked self.old level.old left ws (next.Inside element.entry inner.entry))
+            → let w : Wait = wait_behind level.old.start is.along.at.d level.old.elements level.old.number
+            (level.old.offset + size_of (frame_of element.entry)) (frame_of element.entry).key in
+            OnOk result (Enters (with_left left level.old) ws w self.new level.new element.entry inner.entry) }
+        ensures ends { (ws : List Wait)
+            → StoreEach (bytes_of self.old.document) self.old.waiting.items ws
+            → IfErr result (IsTooDeep self.old level.old ws element.entry) }
+        ensures document { self.new.document ≡ self.old.document }
+        ensures most { self.new.most_waiting ≡ self.old.most_waiting }
+    {
+        let offset = level.offset;
+        if self.waiting.len() >= self.most_waiting {
+            let key = Some(element.key());
+            return Err(self.barrier(alloc, level.number, offset, key, BarrierKind::TooDeep));
+        }
+        let outer = Waiting {
+            start: level.start as u32,
+            element: offset as u32,
+            number: level.number as u32,
+        };
+        if self.waiting.push(outer).is_err() {
+            return Err(WalkError::OutOfMemory);
+        }
+        *level = Level::new(inner, behind(offset, element));
+        Ok(())
+    }
+
+    /// Goes back to the level around the one that was just seen to be at its end, if there is one.
+    #[inline(always)]
+    pub(crate) fn leave(&mut self, level: &mut Level<'a>) -> bool
+        requires { (ws : List Wait) × (left : Option (List ℕ)) × IsLooked self.old level.old left ws
+            next.End }
+        ensures left { (ws : List Wait)
+            → (left : Option (List ℕ))
+            → IsLooked self.old level.old left ws next.End
+            → LeavesOrEnds self.old (with_left left level.old) ws self.new level.new result }
+        ensures document { self.new.document ≡ self.old.document }
+        ensures most { self.new.most_waiting ≡ self.old.most_waiting }
+    {
+        let Some(outer) = self.waiting.pop() else {
+            return false;
+        };
+        *level = Level::behind(self.document, outer, level.offset + 1);
+        true
+    }
+
+    /// The barrier of this kind at the element with this number and key in the innermost level, and where it is.
+    pub(crate) fn barrier(
+        &self,
+        alloc: Global,
+        number: usize,
+        offset: usize,
+        key: Option<&'a str>,
+        kind: BarrierKind<'a>,
+    ) -> WalkError<'a>
+        requires { (ws : List Wait) × StoreEach (bytes_of self.now.document) self.now.waiting.items ws }
+        ensures { (ws : List Wait)
+            → StoreEach (bytes_of self.now.document) self.now.waiting.items ws
+            → IsBarrierAt ws (record { number = number; key = option_copied key.entry }) offset kind.entry result }
+    {
+        match place_in(alloc, self.document, &self.waiting, number, key, offset) {
+            Ok(place) => WalkError::Barrier(Barrier { kind, place }),
+            Err(_) => WalkError::OutOfMemory,
         }
     }
 }

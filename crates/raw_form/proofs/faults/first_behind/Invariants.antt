@@ -1,11 +1,11 @@
-use Rattle.std.proofs.Common.{◌-◌, length}
+use Rattle.std.proofs.Common.{◌≡◌, ◌-◌, ℕ, suc, length}
 use Rattle.raw_view.specs.Document.{bytes_of}
-use Rattle.raw_form.proofs.Levels.{IsStoredAt}
+use Rattle.raw_form.proofs.Levels.{IsWalking}
 use Rattle.raw_form.proofs.faults.first_behind.Given as goal
 
-abbrev pub invariant-levels : goal.invariant-levels
-invariant-levels l = IsStoredAt l.fn.depth (bytes_of l.fn.document) l.waiting.items l.level.elements l.level.number l.level.offset l.level.start
+abbrev pub invariant-elements : goal.invariant-elements
+invariant-elements l = (most : ℕ) × IsWalking l.fn.document most l.walk l.level × (suc most ≡ l.fn.depth)
 
 -- the bytes behind the offset
-abbrev pub decreases-levels : goal.decreases-levels
-decreases-levels l = length (bytes_of l.fn.document) - l.level.offset
+abbrev pub decreases-elements : goal.decreases-elements
+decreases-elements l = length (bytes_of l.fn.document) - l.level.offset

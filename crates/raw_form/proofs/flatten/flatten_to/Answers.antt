@@ -1,4 +1,4 @@
-use Rattle.std.proofs.Common.{rules, ◌≡◌, ◌∙◌, ◌+◌, ◌-◌, ◌≤◌, ◌++◌, ◌∷◌, List, ℕ, Option, None, Some, suc, length, length-append, arith, ap, sym, subst, []}
+use Rattle.std.proofs.Common.{rules, ◌≡◌, ◌∙◌, ◌+◌, ◌-◌, ◌≤◌, ◌++◌, ◌∷◌, List, ℕ, Option, None, Some, Ok, Err, suc, length, length-append, arith, ap, sym, subst, []}
 use Rattle.raw_view.specs.Document.{bytes_of}
 use Rattle.raw_view.specs.Frame.ElementSteps.{frame_of}
 use Rattle.raw_form.specs.Tokens.{IsTokenOf}
@@ -13,7 +13,7 @@ events-init c =
     let begun = c.new-walk.ensures.level in (
       record { waits = []; along = c.new-walk.ensures.along; document_is = begun.document_is; most_is = c.new-walk.ensures.most },
       rw (begun.offset_is)
-          (flat_begins c.args.most_waiting (bytes_of c.args.document) c.args.tokens.now c.new-walk.result.level.elements c.new-places.result.items begun.left_is
+          (flat_begins c.args.most_waiting (bytes_of c.args.document) c.args.tokens.now c.new-walk.result.1.elements c.new-places.result.items begun.left_is
           c.new-places.ensures.items),
     )
 
@@ -23,41 +23,46 @@ new-requires-clause-shallow c =
     let flat = c.events.invariant.1 in
     omega (arith, c.len-depth.ensures, c.events.places.ok.0, few_wait flat, flat.few, (at_within is.along.at).1, envelope_fits (bytes_of c.events.walk.document) c.events.walk.document.envelope)
 
-pub events-preserved-in-Whole : goal.events-preserved-in-Whole
-events-preserved-in-Whole c =
+pub events-preserved-in-Ok-Whole : goal.events-preserved-in-Ok-Whole
+events-preserved-in-Ok-Whole c =
     let is = c.events.invariant.0 in
     let new = c.next.new.self in
-    let came = subst (Comes c.events.walk is.waits new) c.in-Whole.is (c.next.ensures.event is.waits is.along) in
+    let level = c.next.new.level in
+    let came = subst (λ e. Comes c.events.walk c.events.level is.waits new level (Ok e)) c.in-Ok-Whole.field-0-is
+    (subst (Comes c.events.walk c.events.level is.waits new level) c.in-Ok-Whole.is (c.next.ensures.event is.waits is.along)) in
     let depth : c.len-depth.result ≡ length c.events.places.items = omega (arith, c.len-depth.ensures, c.events.places.ok.0) in
-    let token = subst (λ n. IsTokenOf n c.events.walk.level.offset (frame_of c.in-Whole.element) 0 c.new.result) depth c.new.ensures in (
+    let token = subst (λ n. IsTokenOf n c.events.level.offset (frame_of c.in-Ok-Whole.element) 0 c.new.result) depth c.new.ensures in (
       record { waits = is.waits; along = came.0.along; document_is = c.next.ensures.document ∙ is.document_is; most_is = c.next.ensures.most ∙ is.most_is },
-      flattens_whole c.events.invariant.1 new.level.elements new.level.offset c.in-Whole.element c.new.result c.put_at.new.room came.1 came.2 token c.put_at.ensures,
+      flattens_whole c.events.invariant.1 level.elements level.offset c.in-Ok-Whole.element c.new.result c.put_at.new.room came.1 came.2 token c.put_at.ensures,
     )
 
-pub new-requires-in-Enter-clause-shallow : goal.new-requires-in-Enter-clause-shallow
-new-requires-in-Enter-clause-shallow c =
+pub new-requires-in-Ok-Enter-clause-shallow : goal.new-requires-in-Ok-Enter-clause-shallow
+new-requires-in-Ok-Enter-clause-shallow c =
     let is = c.events.invariant.0 in
     let flat = c.events.invariant.1 in
     omega (arith, c.len-depth.ensures, c.events.places.ok.0, few_wait flat, flat.few, (at_within is.along.at).1, envelope_fits (bytes_of c.events.walk.document) c.events.walk.document.envelope)
 
-pub events-preserved-in-Enter : goal.events-preserved-in-Enter
-events-preserved-in-Enter c =
+pub events-preserved-in-Ok-Enter : goal.events-preserved-in-Ok-Enter
+events-preserved-in-Ok-Enter c =
     let is = c.events.invariant.0 in
     let new = c.next.new.self in
-    let came = subst (Comes c.events.walk is.waits new) c.in-Enter.is (c.next.ensures.event is.waits is.along) in
+    let level = c.next.new.level in
+    let came = subst (λ e. Comes c.events.walk c.events.level is.waits new level (Ok e)) c.in-Ok-Enter.field-0-is
+    (subst (Comes c.events.walk c.events.level is.waits new level) c.in-Ok-Enter.is (c.next.ensures.event is.waits is.along)) in
     let depth : c.len-depth.result ≡ length c.events.places.items = omega (arith, c.len-depth.ensures, c.events.places.ok.0) in
-    let token = subst (λ n. IsTokenOf n c.events.walk.level.offset (frame_of c.in-Enter.element) 0 c.new-in-Enter.result) depth c.new-in-Enter.ensures in
-    let few : suc (length is.waits) ≤ c.args.most_waiting = omega (arith, came.2.along.at.levels, length-append is.waits (came.0 ∷ []), c.next.ensures.most, is.most_is) in
+    let token = subst (λ n. IsTokenOf n c.events.level.offset (frame_of c.in-Ok-Enter.element) 0 c.new-in-Ok-Enter.result) depth c.new-in-Ok-Enter.ensures in
+    let few : suc (length is.waits) ≤ c.args.most_waiting = omega (arith, came.2.0.along.at.levels, length-append is.waits (came.0 ∷ []), c.next.ensures.most, is.most_is) in
     let grown : c.push.new.self.items ≡ c.events.places.items ++ c.events.count ∷ [] = search rules in (
-      record { waits = is.waits ++ came.0 ∷ []; along = came.2.along; document_is = c.next.ensures.document ∙ is.document_is; most_is = c.next.ensures.most ∙ is.most_is },
-      flattens_inside c.events.invariant.1 came.0 c.in-Enter.element came.1 c.new-in-Enter.result c.put_at-in-Enter.new.room new.level c.push.new.self.items few
-          came.3 came.4 token c.put_at-in-Enter.ensures came.5 grown came.2.further,
+      record { waits = is.waits ++ came.0 ∷ []; along = came.2.0.along; document_is = c.next.ensures.document ∙ is.document_is; most_is = c.next.ensures.most ∙ is.most_is },
+      flattens_inside c.events.invariant.1 came.0 c.in-Ok-Enter.element came.1 c.new-in-Ok-Enter.result c.put_at-in-Ok-Enter.new.room level c.push.new.self.items few
+          came.2.1 came.2.2 token c.put_at-in-Ok-Enter.ensures came.2.3 grown came.2.0.further,
     )
 
 pub unreachable-requires : goal.unreachable-requires
 unreachable-requires c =
     let is = c.events.invariant.0 in
-    let came = subst (Comes c.events.walk is.waits c.next.new.self) c.in-Leave.is (c.next.ensures.event is.waits is.along) in
+    let came = subst (λ e. Comes c.events.walk c.events.level is.waits c.next.new.self c.next.new.level (Ok e)) c.in-Ok-Leave.field-0-is
+    (subst (Comes c.events.walk c.events.level is.waits c.next.new.self c.next.new.level) c.in-Ok-Leave.is (c.next.ensures.event is.waits is.along)) in
     let none : c.events.places.items ≡ [] = search rules in
     omega (arith, as_many_wait c.events.invariant.1, ap length none, ap length came.2, length-append came.0 (came.1 ∷ []))
 
@@ -68,7 +73,8 @@ pub events-preserved : goal.events-preserved
 events-preserved c =
     let is = c.events.invariant.0 in
     let flat = c.events.invariant.1 in
-    let came = subst (Comes c.events.walk is.waits c.next.new.self) c.in-Leave.is (c.next.ensures.event is.waits is.along) in
+    let came = subst (λ e. Comes c.events.walk c.events.level is.waits c.next.new.self c.next.new.level (Ok e)) c.in-Ok-Leave.field-0-is
+    (subst (Comes c.events.walk c.events.level is.waits c.next.new.self c.next.new.level) c.in-Ok-Leave.is (c.next.ensures.event is.waits is.along)) in
     let goes = came.5 in
     let place = c.in-Some.place in
     let within = place_within flat c.pop.new.self.items place c.in-Some.ensures.items in
@@ -77,7 +83,7 @@ events-preserved c =
     let b = bytes_of c.args.document in
     let before = c.args.tokens.now in
     let list = c.pop.new.self.items in
-    let level = c.next.new.self.level in
+    let level = c.next.new.level in
     let room = c.set_inside.new.tokens in
     let ends = flattens_end flat came.0 came.1 list place (c.events.count - (place + 1)) room came.2 came.4 c.in-Some.ensures.items size c.set_inside.ensures
     (omega (arith, came.3.further, goes.offset_is)) in
@@ -87,16 +93,20 @@ events-preserved c =
       subst (λ (s : Option (List ℕ)). IsFlattening most b before came.0 s level.offset list c.events.count room) (sym goes.elements_are) there,
     )
 
-pub returns-in-End : goal.returns-in-End
-returns-in-End c =
+pub returns-in-Ok-End : goal.returns-in-Ok-End
+returns-in-Ok-End c =
     let is = c.events.invariant.0 in
-    let came = subst (Comes c.events.walk is.waits c.next.new.self) c.in-End.is (c.next.ensures.event is.waits is.along) in
+    let came = subst (λ e. Comes c.events.walk c.events.level is.waits c.next.new.self c.next.new.level (Ok e)) c.in-Ok-End.field-0-is
+    (subst (Comes c.events.walk c.events.level is.waits c.next.new.self c.next.new.level) c.in-Ok-End.is (c.next.ensures.event is.waits is.along)) in
     let read = told_there is None (came.0, came.1) in
     let all = flattens_all c.events.invariant.1 came.2 came.3 in
     (all.0, read.0, read.1, all.1, all.2, all.3)
 
-pub returns-in-Barrier : goal.returns-in-Barrier
-returns-in-Barrier c =
+pub returns-in-Err-Barrier : goal.returns-in-Err-Barrier
+returns-in-Err-Barrier c =
     let is = c.events.invariant.0 in
-    let came = subst (Comes c.events.walk is.waits c.next.new.self) c.in-Barrier.is (c.next.ensures.event is.waits is.along) in
-    told_there is (Some c.in-Barrier.barrier) came
+    let new = c.next.new.self in
+    let level = c.next.new.level in
+    let came = subst (λ e. Comes c.events.walk c.events.level is.waits new level (Err e)) c.in-Err-Barrier.field-0-is
+    (subst (Comes c.events.walk c.events.level is.waits new level) c.in-Err-Barrier.is (c.next.ensures.event is.waits is.along)) in
+    rw c.in-Err-Barrier.field-0-is (told_there is (Some c.in-Err-Barrier.barrier) came)
