@@ -34,3 +34,7 @@ other_written z read bs shown r fits (inl is) h ok s unlike never =
     let same : read ≡ z = search (parses_written z bs r fits (inl is) h) in
     differ bs shown unlike (is ∙ ap signed_decimal (sym same) ∙ sym s)
 other_written z read bs shown r fits (inr is) h ok s unlike never = differ bs (codes "-0") never is.0
+
+-- what was read is the only one
+pub one_read : {E : Type 0} (z read : ℤ) (bs : List ℕ) (r : Result ℤ E) → FitsSigned w64 z → WritesInteger bs z → ParsesSigned w64 10 bs r → r ≡ Ok read → z ≡ read
+one_read z read bs r fits is h ok = let e = parses_written z bs r fits is h in cc

@@ -6,3 +6,7 @@ mod Left
 mod Steps
 mod Moments
 mod Keys
+mod Decimals
+mod Only
+mod Lacks
+mod Plain

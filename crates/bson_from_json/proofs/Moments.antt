@@ -5,7 +5,7 @@ use Rattle.json.specs.Json.{Json, boolean, number, string, object}
 use Rattle.json.specs.Lex.{tokens as text_tokens}
 use Rattle.json.specs.Token.{Token}
 use Rattle.json.specs.Tree.{json_tokens, members_tokens}
-use Rattle.bson_model.specs.Leaf.{Leaf, binary, decimal128, javascript_code, max_key, min_key, object_id, regular_expression, symbol, undefined}
+use Rattle.bson_model.specs.Leaf.{Leaf, binary, javascript_code, max_key, min_key, object_id, regular_expression, symbol, undefined}
 use Rattle.bson_model.specs.Options.{sorted_options}
 use Rattle.bson_model.specs.Subtype.{subtype_byte}
 use Rattle.bson_model.specs.declared.binaries.BinarySubtype.{BinarySubtype}
@@ -23,10 +23,11 @@ use Rattle.bson_from_json.specs.declared.levels.Level.{Level}
 use Rattle.bson_from_json.specs.declared.reading.Reader.{Reader}
 use Rattle.bson_from_json.specs.declared.levels.Unfinished.{Unfinished}
 use Rattle.bson_from_json.specs.declared.source.Source.{Source}
+use Rattle.bson_from_json.specs.DecimalTexts.{IsQuotedDecimal}
 use Rattle.bson_from_json.specs.Numbers.{IsQuotedInt32, IsQuotedInt64, IsQuotedDouble}
 use Rattle.bson_from_json.specs.Texts.{IsWritten}
 use Rattle.bson_from_json.specs.Taken.{Takes, TakesToken, TakesTwo}
-use Rattle.bson_from_json.specs.Wrapped.{InString, IsBinary, IsDate, IsDbPointer, IsOid, IsRegex, IsSomeDecimal, IsTimestamp, IsUuid, IsWrapped}
+use Rattle.bson_from_json.specs.Wrapped.{InString, IsBinary, IsDate, IsDbPointer, IsOid, IsRegex, IsTimestamp, IsUuid, IsWrapped}
 use Rattle.bson_from_json.proofs.Steps.{innermost, closes as level_closes, takes_item, takes_member, takes_first, opens_text, opens_array, opens_begun, opens_scope, opens_before_code, puts_empty, puts_leaf, puts_wrapped}
 use denote.Ref.{Bor}
 
@@ -359,7 +360,7 @@ int64_says j l h = inr (inr (inl (refl, h)))
 pub double_says : (j : Json) (l : Leaf) → InString IsQuotedDouble j l → IsWrapped (codes "$numberDouble") j l
 double_says j l h = inr (inr (inr (inl (refl, h))))
 
-pub decimal_says : (j : Json) (l : Leaf) → InString IsSomeDecimal j l → IsWrapped (codes "$numberDecimal") j l
+pub decimal_says : (j : Json) (l : Leaf) → InString IsQuotedDecimal j l → IsWrapped (codes "$numberDecimal") j l
 decimal_says j l h = inr (inr (inr (inr (inl (refl, h)))))
 
 pub binary_says : (j : Json) (l : Leaf) → IsBinary j l → IsWrapped (codes "$binary") j l
@@ -397,9 +398,6 @@ max_key_says j l h = inr (inr (inr (inr (inr (inr (inr (inr (inr (inr (inr (inr 
 
 pub takes_oid : {old new : List Token} {s id : List ℕ} → TakesToken old new (Token.string s) → decode_sized s 12 ≡ Ok id → Takes IsOid old new (object_id id)
 takes_oid {old} {new} {s} {id} t h = (string s, t, (id, h, refl))
-
-pub takes_decimal : {old new : List Token} {s : List ℕ} (bytes : List ℕ) → TakesToken old new (Token.string s) → Takes (InString IsSomeDecimal) old new (decimal128 bytes)
-takes_decimal {old} {new} {s} bytes t = (string s, t, (bytes, refl))
 
 pub takes_symbol : {old new : List Token} {s : List ℕ} → TakesToken old new (Token.string s) → Takes (InString (λ s l. l ≡ symbol s)) old new (symbol s)
 takes_symbol {old} {new} {s} t = (string s, t, refl)

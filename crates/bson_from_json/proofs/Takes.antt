@@ -6,13 +6,14 @@ use Rattle.std.specs.Int.{w32, w64}
 use Rattle.uuid.specs.Text.{parsed_hyphenated}
 use Rattle.bson_model.specs.declared.binaries.BinarySubtype.TheVariants.{Uuid}
 use Rattle.hex.specs.Hex.{decode_sized}
-use Rattle.bson_model.specs.Leaf.{binary, date_time, db_pointer, double, int32, int64, timestamp}
+use Rattle.bson_model.specs.Leaf.{binary, date_time, db_pointer, decimal128, double, int32, int64, timestamp}
 use Rattle.bson_model.specs.Subtype.{subtype_of}
 use Rattle.json.specs.Json.{member, number, string, object}
 use Rattle.json.specs.Token.{Token}
 use Rattle.json.specs.Tree.{json_tokens}
 use Rattle.bson_from_json.specs.Taken.{pointed, Takes, TakesToken, TakesTwo}
 use Rattle.bson_from_json.specs.Wrapped.{InString, IsBinary, IsDate, IsDbPointer, IsTimestamp, IsUuid, WritesUnsigned, one_member, two_hex_digits}
+use Rattle.bson_from_json.specs.DecimalTexts.{IsQuotedDecimal, WritesDecimal}
 use Rattle.bson_from_json.specs.Numbers.{IsQuotedDouble, IsQuotedInt32, IsQuotedInt64, WritesDouble, WritesInteger}
 use Rattle.bson_from_json.specs.Times.{WritesTime}
 
@@ -112,6 +113,10 @@ int64_taken {old} {new} {s} {z} t w fits = (string s, t, (z, w, fits, refl))
 pub double_taken : {old new : List Token} {s : List ℕ} {bits : ℕ} → TakesToken old new (Token.string s) → WritesDouble s bits
     → Takes (InString IsQuotedDouble) old new (double bits)
 double_taken {old} {new} {s} {bits} t w = (string s, t, (bits, w, refl))
+
+pub decimal_taken : {old new : List Token} {s bytes : List ℕ} → TakesToken old new (Token.string s) → WritesDecimal s bytes
+    → Takes (InString IsQuotedDecimal) old new (decimal128 bytes)
+decimal_taken {old} {new} {s} {bytes} t w = (string s, t, (bytes, w, refl))
 
 pub uuid_taken : {old new : List Token} {s bytes : List ℕ} → TakesToken old new (Token.string s) → parsed_hyphenated s ≡ Some bytes
     → Takes IsUuid old new (binary Uuid bytes)

@@ -3,6 +3,7 @@ pub mod Place
 pub mod Numbers
 pub mod Values
 pub mod DecimalTexts
+pub mod Digits
 pub mod Times
 pub mod Wrapped
 pub mod Meaning

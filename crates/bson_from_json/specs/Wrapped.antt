@@ -8,11 +8,12 @@ use Rattle.base64.specs.GeneralPurpose.{decode_of}
 use Rattle.hex.specs.Hex.{decode_sized}
 use Rattle.uuid.specs.Text.{parsed_hyphenated}
 use Rattle.json.specs.Json.{Json, boolean, number, string, object, Members, no_members, member}
-use Rattle.bson_model.specs.Leaf.{Leaf, binary, undefined, object_id, date_time, regular_expression, db_pointer, javascript_code, symbol, timestamp, decimal128, max_key, min_key}
+use Rattle.bson_model.specs.Leaf.{Leaf, binary, undefined, object_id, date_time, regular_expression, db_pointer, javascript_code, symbol, timestamp, max_key, min_key}
 use Rattle.bson_model.specs.Options.{sorted_options}
 use Rattle.bson_model.specs.Subtype.{subtype_of}
 use Rattle.bson_model.specs.declared.binaries.BinarySubtype.TheVariants.{Uuid}
 use Rattle.bson_from_json.specs.Numbers.{WritesInteger, IsQuotedInt32, IsQuotedInt64, IsQuotedDouble}
+use Rattle.bson_from_json.specs.DecimalTexts.{IsQuotedDecimal}
 use Rattle.bson_from_json.specs.Times.{WritesTime}
 
 -- an object of this one member
@@ -32,10 +33,6 @@ IsOid _ l = ⊥
 abbrev pub InString : (List ℕ → Leaf → Type 0) → Json → Leaf → Type 0
 InString Writes (string s) l = Writes s l
 InString Writes _ l = ⊥
-
--- {"$numberDecimal": <decimal as a string>}: which decimal a text says is left open here
-abbrev pub IsSomeDecimal : List ℕ → Leaf → Type 0
-IsSomeDecimal s l = (bytes : List ℕ) × (l ≡ decimal128 bytes)
 
 -- one or two hex digits
 abbrev pub two_hex_digits : List ℕ → List ℕ
@@ -106,7 +103,7 @@ IsWrapped key j l =
     ⊎ ((key ≡ codes "$numberInt") × InString IsQuotedInt32 j l)
     ⊎ ((key ≡ codes "$numberLong") × InString IsQuotedInt64 j l)
     ⊎ ((key ≡ codes "$numberDouble") × InString IsQuotedDouble j l)
-    ⊎ ((key ≡ codes "$numberDecimal") × InString IsSomeDecimal j l)
+    ⊎ ((key ≡ codes "$numberDecimal") × InString IsQuotedDecimal j l)
     ⊎ ((key ≡ codes "$binary") × IsBinary j l)
     ⊎ ((key ≡ codes "$uuid") × IsUuid j l)
     ⊎ ((key ≡ codes "$date") × IsDate j l)

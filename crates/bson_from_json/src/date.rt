@@ -1,5 +1,5 @@
 //! Times in ISO 8601, in the form of RFC 3339.
-ghost use Rattle.std.specs.Prelude.{◌≡◌, ◌<◌, ◌+◌, ◌*◌, ◌∷◌, [], ◌++◌, ℕ, List, IfSome, pos, ◌+ℤ◌, ◌-ℤ◌, ◌*ℤ◌};
+ghost use Rattle.std.specs.Prelude.{◌≡◌, ◌<◌, ◌+◌, ◌*◌, ◌∷◌, [], ◌++◌, ℕ, ℤ, List, IfSome, None, MatchOption, pos, ◌+ℤ◌, ◌-ℤ◌, ◌*ℤ◌};
 ghost use Rattle.jiff_core.specs.Calendar.{IsCivilDate, days_from_civil, IsBetween, IsEpochDay};
 ghost use Rattle.bson_from_json.specs.Times.{two_digits as digits_of_two, four_digits as digits_of_four, date_text, time_text, IsDistance, WritesClock, WritesFraction, WritesTime, WritesZone, IsAhead, digit_of};
 
@@ -9,7 +9,9 @@ const DAY: i64 = 86_400_000;
 
 /// Takes a number of two digits.
 fn two_digits(text: &[u8]) -> Option<(u32, &[u8])>
-    ensures { IfSome result (λ found. (found.0 < 100) × (text.now ≡ digits_of_two found.0 ++ found.1.now)) }
+    ensures some { IfSome result (λ found. (found.0 < 100) × (text.now ≡ digits_of_two found.0 ++ found.1.now)) }
+    ensures only { (n : ℕ) (rest : List ℕ) → n < 100 → text.now ≡ digits_of_two n ++ rest
+        → MatchOption result ⊥ (λ found. (n ≡ found.0) × (rest ≡ found.1.now)) }
 {
     match text {
         [tens @ b'0'..=b'9', ones @ b'0'..=b'9', rest @ ..] => {
@@ -22,7 +24,9 @@ fn two_digits(text: &[u8]) -> Option<(u32, &[u8])>
 
 /// Takes a number of four digits.
 fn four_digits(text: &[u8]) -> Option<(u32, &[u8])>
-    ensures { IfSome result (λ found. (found.0 < 10000) × (text.now ≡ digits_of_four found.0 ++ found.1.now)) }
+    ensures some { IfSome result (λ found. (found.0 < 10000) × (text.now ≡ digits_of_four found.0 ++ found.1.now)) }
+    ensures only { (n : ℕ) (rest : List ℕ) → n < 10000 → text.now ≡ digits_of_four n ++ rest
+        → MatchOption result ⊥ (λ found. (n ≡ found.0) × (rest ≡ found.1.now)) }
 {
     let (hundreds, rest) = two_digits(text)?;
     let (number, rest) = two_digits(rest)?;
@@ -31,7 +35,8 @@ fn four_digits(text: &[u8]) -> Option<(u32, &[u8])>
 
 /// Takes this byte.
 fn byte(text: &[u8], byte: u8) -> Option<&[u8]>
-    ensures { IfSome result (λ rest. text.now ≡ byte ∷ rest.now) }
+    ensures some { IfSome result (λ rest. text.now ≡ byte ∷ rest.now) }
+    ensures only { (rest : List ℕ) → text.now ≡ byte ∷ rest → MatchOption result ⊥ (λ found. rest ≡ found.now) }
 {
     match text {
         [found, rest @ ..] if *found == byte => Some(rest),
@@ -43,6 +48,8 @@ fn byte(text: &[u8], byte: u8) -> Option<&[u8]>
 fn days(text: &[u8]) -> Option<(i32, &[u8])>
     ensures date { IfSome result (λ found. (year month day : ℕ) × (year < 10000) × IsCivilDate (pos year) month day
         × (text.now ≡ date_text year month day ++ found.1.now) × (found.0 ≡ days_from_civil (pos year) month day)) }
+    ensures only { (year month day : ℕ) (rest : List ℕ) → year < 10000 → IsCivilDate (pos year) month day → text.now ≡ date_text year month day ++ rest
+        → MatchOption result ⊥ (λ found. rest ≡ found.1.now) }
     ensures bound { IfSome result (λ found. IsEpochDay found.0) }
 {
     let (year, rest) = four_digits(text)?;
@@ -57,8 +64,10 @@ fn days(text: &[u8]) -> Option<(i32, &[u8])>
 
 /// Takes a time of day, as seconds.
 fn seconds(text: &[u8]) -> Option<(u32, &[u8])>
-    ensures { IfSome result (λ found. (hour minute second : ℕ) × (hour < 24) × (minute < 60) × (second < 60)
+    ensures some { IfSome result (λ found. (hour minute second : ℕ) × (hour < 24) × (minute < 60) × (second < 60)
         × (text.now ≡ time_text hour minute second ++ found.1.now) × (found.0 ≡ (hour * 60 + minute) * 60 + second)) }
+    ensures only { (hour minute second : ℕ) (rest : List ℕ) → hour < 24 → minute < 60 → second < 60
+        → text.now ≡ time_text hour minute second ++ rest → MatchOption result ⊥ (λ found. rest ≡ found.1.now) }
 {
     let (hour, rest) = two_digits(text)?;
     let (minute, rest) = two_digits(byte(rest, b':')?)?;
@@ -72,7 +81,8 @@ fn seconds(text: &[u8]) -> Option<(u32, &[u8])>
 
 /// Takes a digit.
 fn digit(text: &[u8]) -> Option<(u32, &[u8])>
-    ensures { IfSome result (λ found. (found.0 < 10) × (text.now ≡ digit_of found.0 ∷ found.1.now)) }
+    ensures some { IfSome result (λ found. (found.0 < 10) × (text.now ≡ digit_of found.0 ∷ found.1.now)) }
+    ensures only { (n : ℕ) (rest : List ℕ) → n < 10 → text.now ≡ digit_of n ∷ rest → MatchOption result ⊥ (λ found. rest ≡ found.1.now) }
 {
     match text {
         [digit @ b'0'..=b'9', rest @ ..] => Some((u32::from(*digit - b'0'), rest)),
@@ -83,6 +93,8 @@ fn digit(text: &[u8]) -> Option<(u32, &[u8])>
 /// Takes a fraction of a second of one to three digits, if one is next, as milliseconds.
 fn fraction(text: &[u8]) -> Option<(u32, &[u8])>
     ensures fraction { IfSome result (λ found. (fraction : List ℕ) × WritesFraction fraction found.0 × (text.now ≡ fraction ++ found.1.now)) }
+    ensures only { (part : ℕ) (fraction rest : List ℕ) (ahead : ℤ) → WritesFraction fraction part → WritesZone rest ahead
+        → text.now ≡ fraction ++ rest → MatchOption result ⊥ (λ found. rest ≡ found.1.now) }
     ensures bound { IfSome result (λ found. found.0 < 1000) }
 {
     let Some(rest) = byte(text, b'.') else {
@@ -101,6 +113,7 @@ fn fraction(text: &[u8]) -> Option<(u32, &[u8])>
 /// The minutes that hours and minutes write, with a colon between them or without one.
 fn distance(text: &[u8]) -> Option<u32>
     ensures distance { IfSome result (λ minutes. IsDistance text.now minutes) }
+    ensures none { result ≡ None → (minutes : ℕ) → ¬ IsDistance text.now minutes }
     ensures bound { IfSome result (λ minutes. minutes < 1440) }
 {
     let (hour, rest) = two_digits(text)?;
@@ -119,6 +132,7 @@ fn distance(text: &[u8]) -> Option<u32>
 /// How many minutes the clocks of a zone are ahead of UTC: `Z`, or a sign, hours and minutes.
 fn zone(text: &[u8]) -> Option<i64>
     ensures zone { IfSome result (λ ahead. WritesZone text.now ahead) }
+    ensures none { result ≡ None → (ahead : ℤ) → ¬ WritesZone text.now ahead }
     ensures bound { IfSome result IsAhead }
 {
     if let Some(behind) = byte(text, b'+') {
@@ -138,6 +152,7 @@ fn zone(text: &[u8]) -> Option<i64>
 /// A time of day, as milliseconds, and how many minutes its clocks are ahead of UTC.
 fn clock(text: &[u8]) -> Option<(u32, i64)>
     ensures clock { IfSome result (λ found. WritesClock text.now found.0 found.1) }
+    ensures none { result ≡ None → (millis : ℕ) (ahead : ℤ) → ¬ WritesClock text.now millis ahead }
     ensures bound { IfSome result (λ found. (found.0 < 86400000) × IsAhead found.1) }
 {
     let (seconds, rest) = seconds(text)?;
@@ -158,7 +173,8 @@ fn instant(days: i64, millis: i64, ahead: i64) -> i64
 
 /// The milliseconds from 1970 on to the time that a text writes, as `2012-12-24T12:15:30.501Z`.
 pub(crate) fn millis_of(text: &[u8]) -> Option<i64>
-    ensures { IfSome result (λ millis. WritesTime text.now millis) }
+    ensures some { IfSome result (λ millis. WritesTime text.now millis) }
+    ensures none { result ≡ None → (z : ℤ) → ¬ WritesTime text.now z }
 {
     let (days, rest) = days(text)?;
     let (millis, ahead) = clock(byte(rest, b'T')?)?;

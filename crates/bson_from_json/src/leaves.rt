@@ -13,6 +13,7 @@ use uuid::Uuid;
 /// The integer of 64 bits that a text writes.
 pub(crate) fn integer_of(text: &[u8]) -> Option<i64>
     ensures some { IfSome result (λ z. WritesInteger text.now z × FitsSigned w64 z) }
+    ensures only { IfSome result (λ z. (y : ℤ) → FitsSigned w64 y → WritesInteger text.now y → y ≡ z) }
     ensures none { result ≡ None → (z : ℤ) → FitsSigned w64 z → ¬ WritesInteger text.now z }
 {
     let value = match fast_float::parse_i64(text) {

@@ -1,5 +1,6 @@
 //! Numbers of JSON.
-ghost use Rattle.std.specs.Prelude.{◌≡◌, IfOk};
+ghost use Rattle.std.specs.Prelude.{◌≡◌, IfOk, OnErr};
+ghost use Rattle.bson_model.specs.Leaf.{Leaf};
 ghost use Rattle.bson_from_json.specs.Numbers.{IsPlain, is_fractional};
 ghost use Rattle.bson_from_json.specs.Values.{leaf_of};
 
@@ -25,13 +26,18 @@ fn is_fractional(text: &[u8]) -> bool
 
 /// The value of a number of JSON: an integer if it has no fraction and no exponent, else a double.
 pub(crate) fn number_of(text: &str) -> Result<Number, JsonReason>
-    ensures { IfOk result (λ number. IsPlain text.now (leaf_of number)) }
+    ensures some { IfOk result (λ number. IsPlain text.now (leaf_of number)) }
+    ensures none { OnErr result ((l : Leaf) → ¬ IsPlain text.now l) }
 {
     if is_fractional(text.as_bytes()) {
-        let bits = double_of(text).ok_or(JsonReason::NumberTooLarge)?;
-        return Ok(Number::Double(bits));
+        return match double_of(text) {
+            Some(bits) => Ok(Number::Double(bits)),
+            None => Err(JsonReason::NumberTooLarge),
+        };
     }
-    let integer = integer_of(text.as_bytes()).ok_or(JsonReason::IntegerTooLarge)?;
+    let Some(integer) = integer_of(text.as_bytes()) else {
+        return Err(JsonReason::IntegerTooLarge);
+    };
     Ok(match i32::try_from(integer) {
         Ok(small) => Number::Int32(small),
         Err(_) => Number::Int64(integer),

@@ -1,10 +1,11 @@
 //! Documents from text: one loop over the members of the innermost level.
 #![tactic(auto, using(crate::proofs::Left::one_taken, crate::proofs::Left::some_taken))]
 
-ghost use Rattle.std.specs.Prelude.{◌≡◌, ◌<◌, ◌≤◌, ◌∷◌, [], decimal, IfErr, IfOk, IfSome, OnOk};
+ghost use Rattle.std.specs.Prelude.{◌≡◌, ◌<◌, ◌≤◌, ◌∷◌, [], decimal, IfErr, IfOk, IfSome, OnErr, OnOk};
 ghost use Rattle.json.specs.Reads.{token_of};
 ghost use Rattle.json.specs.Token.{begin_object};
 ghost use Rattle.raw_bson.specs.Format.{element_of, string_payload};
+ghost use Rattle.bson_model.specs.Bytes.{NulFree};
 ghost use Rattle.bson_model.specs.Leaf.{Leaf};
 ghost use Rattle.bson_from_json.specs.Numbers.{IsPlain};
 ghost use Rattle.raw_bson.specs.Tree.{Tree};
@@ -299,7 +300,8 @@ impl<'a> Reader<'a> {
 
 /// A key has no U+0000, which would end it; nor is it a wrapper's, in a document.
 fn check_key(key: &str, holder: Holder<'_>) -> Result<(), JsonReason>
-    ensures { OnOk result (MayBeIn holder.entry key.now) }
+    ensures some { OnOk result (MayBeIn holder.entry key.now) }
+    ensures none { OnErr result (MayBeIn holder.entry key.now → ¬ NulFree key.now) }
 {
     match holder {
         Holder::Document => match Wrapper::of_key(key) {
@@ -311,7 +313,10 @@ fn check_key(key: &str, holder: Holder<'_>) -> Result<(), JsonReason>
 }
 
 /// A key has no U+0000, which would end it.
-fn check_free(key: &str) -> Result<(), JsonReason> {
+fn check_free(key: &str) -> Result<(), JsonReason>
+    ensures some { OnOk result (NulFree key.now) }
+    ensures none { OnErr result (¬ NulFree key.now) }
+{
     if key.as_bytes().contains(&0) {
         Err(JsonReason::InteriorNul)
     } else {

@@ -1,5 +1,5 @@
 //! The tokens of a text, and the values of wrappers that hold no others.
-ghost use Rattle.std.specs.Prelude.{◌≡◌, ◌∷◌, [], ℕ, List, true, Ok, IfOk, OnOk, if◌then◌else◌, codes, ◌++◌, FitsSigned};
+ghost use Rattle.std.specs.Prelude.{◌≡◌, ◌≢◌, ◌⊎◌, ◌∷◌, [], ℕ, ℤ, List, true, Ok, IfErr, IfOk, OnErr, OnOk, if◌then◌else◌, codes, ◌++◌, FitsSigned};
 ghost use Rattle.base64.specs.Engines.{standard};
 ghost use Rattle.base64.specs.GeneralPurpose.{decode_of};
 ghost use Rattle.hex.specs.Hex.{decode_sized};
@@ -7,13 +7,16 @@ ghost use Rattle.json.specs.Json.{string as JsonString};
 ghost use Rattle.json.specs.Reads.{token_of};
 ghost use Rattle.json.specs.Tree.{json_tokens};
 ghost use Rattle.std.specs.Int.{w64};
-ghost use Rattle.json.specs.Token.{begin_object, end_object, key, string, number, boolean};
-ghost use Rattle.bson_model.specs.Leaf.{binary, date_time, db_pointer, double, int32, int64, timestamp};
+ghost use Rattle.json.specs.Token.{Token as Taken, begin_object, end_object, key, string, number, boolean};
+ghost use Rattle.bson_model.specs.Leaf.{binary, date_time, db_pointer, decimal128, double, int32, int64, timestamp};
 ghost use Rattle.bson_model.specs.Subtype.{subtype_of};
 ghost use Rattle.bson_model.specs.declared.binaries.BinarySubtype.TheVariants.{Uuid as UuidSubtype};
+ghost use Rattle.bson_from_json.specs.DecimalTexts.{IsQuotedDecimal};
 ghost use Rattle.bson_from_json.specs.Numbers.{WritesInteger, IsQuotedInt32, IsQuotedInt64, IsQuotedDouble};
-ghost use Rattle.bson_from_json.specs.Taken.{Takes, TakesToken, TakesTwo, pointed};
+ghost use Rattle.bson_from_json.specs.Taken.{Takes, TakesToken, TakesTwo, LacksJson, LacksToken, NoToken, TakesNone, TakesNoTwo, pointed};
 ghost use Rattle.bson_from_json.specs.Wrapped.{InString, IsBinary, IsDate, IsDbPointer, IsTimestamp, IsUuid, WritesUnsigned, two_hex_digits};
+ghost use Rattle.bson_model.specs.Bytes.{NulFree};
+ghost use Rattle.bson_from_json.specs.declared.error.JsonReason.TheVariants.{OutOfMemory};
 
 use crate::date::millis_of;
 use crate::decimal::decimal_of;
@@ -48,7 +51,8 @@ impl<'a> Source<'a> {
 
     /// Takes a token; else the error says what is there in place of what was wanted.
     pub(crate) fn token(&mut self, wanted: Wanted) -> Result<Token<'a>, JsonReason>
-        ensures { IfOk result (λ token. TakesToken self.old.tokens self.new.tokens (token_of token)) }
+        ensures some { IfOk result (λ token. TakesToken self.old.tokens self.new.tokens (token_of token)) }
+        ensures none { OnErr result (NoToken self.old.tokens) }
     {
         self.place = self.tokens.offset();
         match self.tokens.next() {
@@ -69,7 +73,8 @@ impl<'a> Source<'a> {
 
     /// Whether no token is left; else the error.
     pub(crate) fn end_of_text(&mut self) -> Result<(), JsonReason>
-        ensures { OnOk result (self.old.tokens ≡ []) }
+        ensures some { OnOk result (self.old.tokens ≡ []) }
+        ensures none { OnErr result (self.old.tokens ≢ []) }
     {
         match self.tokens.next() {
             None => Ok(()),
@@ -79,7 +84,8 @@ impl<'a> Source<'a> {
 
     /// Takes the brace of a wrapper's object.
     pub(crate) fn end(&mut self, wrapper: Wrapper) -> Result<(), JsonReason>
-        ensures { OnOk result (TakesToken self.old.tokens self.new.tokens end_object) }
+        ensures some { OnOk result (TakesToken self.old.tokens self.new.tokens end_object) }
+        ensures none { OnErr result (LacksToken self.old.tokens end_object) }
     {
         let place = self.tokens.offset();
         match self.tokens.next() {
@@ -105,7 +111,8 @@ impl<'a> Source<'a> {
 
     /// Takes the brace of an object that is a wrapper's value.
     pub(crate) fn begin(&mut self, wrapper: Wrapper) -> Result<(), JsonReason>
-        ensures { OnOk result (TakesToken self.old.tokens self.new.tokens begin_object) }
+        ensures some { OnOk result (TakesToken self.old.tokens self.new.tokens begin_object) }
+        ensures none { OnErr result (LacksToken self.old.tokens begin_object) }
     {
         match self.token(Wanted::Part(wrapper))? {
             Token::BeginObject => Ok(()),
@@ -115,7 +122,8 @@ impl<'a> Source<'a> {
 
     /// Takes a string of a wrapper.
     pub(crate) fn text(&mut self, wrapper: Wrapper) -> Result<&'a str, JsonReason>
-        ensures { IfOk result (λ text. TakesToken self.old.tokens self.new.tokens (string text.now)) }
+        ensures some { IfOk result (λ text. TakesToken self.old.tokens self.new.tokens (string text.now)) }
+        ensures none { OnErr result ((s : List ℕ) → LacksToken self.old.tokens (string s)) }
     {
         match self.token(Wanted::Part(wrapper))? {
             Token::String(text) => Ok(text),
@@ -125,7 +133,8 @@ impl<'a> Source<'a> {
 
     /// Takes a number of a wrapper.
     fn number(&mut self, wrapper: Wrapper) -> Result<&'a str, JsonReason>
-        ensures { IfOk result (λ text. TakesToken self.old.tokens self.new.tokens (number text.now)) }
+        ensures some { IfOk result (λ text. TakesToken self.old.tokens self.new.tokens (number text.now)) }
+        ensures none { OnErr result ((s : List ℕ) → LacksToken self.old.tokens (number s)) }
     {
         match self.token(Wanted::Part(wrapper))? {
             Token::Number(text) => Ok(text),
@@ -135,7 +144,8 @@ impl<'a> Source<'a> {
 
     /// Takes a key of a wrapper.
     fn key(&mut self, wrapper: Wrapper) -> Result<&'a str, JsonReason>
-        ensures { IfOk result (λ text. TakesToken self.old.tokens self.new.tokens (key text.now)) }
+        ensures some { IfOk result (λ text. TakesToken self.old.tokens self.new.tokens (key text.now)) }
+        ensures none { OnErr result ((s : List ℕ) → LacksToken self.old.tokens (key s)) }
     {
         match self.token(Wanted::Part(wrapper))? {
             Token::Key(text) => Ok(text),
@@ -145,7 +155,8 @@ impl<'a> Source<'a> {
 
     /// Takes this key of a wrapper.
     pub(crate) fn named(&mut self, wrapper: Wrapper, name: &str) -> Result<(), JsonReason>
-        ensures { OnOk result (TakesToken self.old.tokens self.new.tokens (key name.now)) }
+        ensures some { OnOk result (TakesToken self.old.tokens self.new.tokens (key name.now)) }
+        ensures none { OnErr result (LacksToken self.old.tokens (key name.now)) }
     {
         let found = self.key(wrapper)?;
         if found == name {
@@ -162,7 +173,8 @@ impl<'a> Source<'a> {
         first: &str,
         second: &str,
     ) -> Result<bool, JsonReason>
-        ensures { IfOk result (λ is_swapped. TakesToken self.old.tokens self.new.tokens (key (if is_swapped then second.now else first.now))) }
+        ensures some { IfOk result (λ is_swapped. TakesToken self.old.tokens self.new.tokens (key (if is_swapped then second.now else first.now))) }
+        ensures none { OnErr result (LacksToken self.old.tokens (key first.now) × LacksToken self.old.tokens (key second.now)) }
     {
         let found = self.key(wrapper)?;
         if found == first {
@@ -176,7 +188,8 @@ impl<'a> Source<'a> {
 
     /// Takes the code behind a scope, which has to be this one, and the brace of both.
     pub(crate) fn code(&mut self, code: &str) -> Result<(), JsonReason>
-        ensures { OnOk result (self.old.tokens ≡ key (codes "$code") ∷ string code.now ∷ end_object ∷ self.new.tokens) }
+        ensures some { OnOk result (self.old.tokens ≡ key (codes "$code") ∷ string code.now ∷ end_object ∷ self.new.tokens) }
+        ensures none { OnErr result ((rest : List Taken) → self.old.tokens ≢ key (codes "$code") ∷ string code.now ∷ end_object ∷ rest) }
     {
         let wrapper = Wrapper::Scope;
         self.named(wrapper, "$code")?;
@@ -189,7 +202,8 @@ impl<'a> Source<'a> {
 
     /// Takes the digits of an object id.
     pub(crate) fn id(&mut self) -> Result<[u8; 12], JsonReason>
-        ensures { IfOk result (λ id. (s : List ℕ) × TakesToken self.old.tokens self.new.tokens (string s) × (decode_sized s 12 ≡ Ok id)) }
+        ensures some { IfOk result (λ id. (s : List ℕ) × TakesToken self.old.tokens self.new.tokens (string s) × (decode_sized s 12 ≡ Ok id)) }
+        ensures none { OnErr result ((s id : List ℕ) → decode_sized s 12 ≡ Ok id → LacksToken self.old.tokens (string s)) }
     {
         let text = self.text(Wrapper::Oid)?;
         match oid_of(text.as_bytes()) {
@@ -200,7 +214,9 @@ impl<'a> Source<'a> {
 
     /// Takes an integer in quotes.
     fn integer(&mut self, wrapper: Wrapper) -> Result<i64, JsonReason>
-        ensures { IfOk result (λ z. (s : List ℕ) × TakesToken self.old.tokens self.new.tokens (string s) × WritesInteger s z × FitsSigned w64 z) }
+        ensures some { IfOk result (λ z. (s : List ℕ) × TakesToken self.old.tokens self.new.tokens (string s) × WritesInteger s z × FitsSigned w64 z
+            × ((y : ℤ) → FitsSigned w64 y → WritesInteger s y → y ≡ z)) }
+        ensures none { OnErr result ((s : List ℕ) (z : ℤ) → FitsSigned w64 z → WritesInteger s z → LacksToken self.old.tokens (string s)) }
     {
         let text = self.text(wrapper)?;
         match integer_of(text.as_bytes()) {
@@ -211,7 +227,8 @@ impl<'a> Source<'a> {
 
     /// Takes the value of `$numberInt`.
     pub(crate) fn int32(&mut self) -> Result<i32, JsonReason>
-        ensures { IfOk result (λ z. Takes (InString IsQuotedInt32) self.old.tokens self.new.tokens (int32 z)) }
+        ensures some { IfOk result (λ z. Takes (InString IsQuotedInt32) self.old.tokens self.new.tokens (int32 z)) }
+        ensures none { OnErr result (TakesNone (InString IsQuotedInt32) self.old.tokens) }
     {
         let wide = self.integer(Wrapper::NumberInt)?;
         match i32::try_from(wide) {
@@ -222,7 +239,8 @@ impl<'a> Source<'a> {
 
     /// Takes the value of `$numberLong`.
     pub(crate) fn int64(&mut self) -> Result<i64, JsonReason>
-        ensures { IfOk result (λ z. Takes (InString IsQuotedInt64) self.old.tokens self.new.tokens (int64 z)) }
+        ensures some { IfOk result (λ z. Takes (InString IsQuotedInt64) self.old.tokens self.new.tokens (int64 z)) }
+        ensures none { OnErr result (TakesNone (InString IsQuotedInt64) self.old.tokens) }
     {
         let value = self.integer(Wrapper::NumberLong)?;
         Ok(value)
@@ -230,7 +248,8 @@ impl<'a> Source<'a> {
 
     /// Takes the value of `$numberDouble`, as bits.
     pub(crate) fn double(&mut self) -> Result<u64, JsonReason>
-        ensures { IfOk result (λ bits. Takes (InString IsQuotedDouble) self.old.tokens self.new.tokens (double bits)) }
+        ensures some { IfOk result (λ bits. Takes (InString IsQuotedDouble) self.old.tokens self.new.tokens (double bits)) }
+        ensures none { OnErr result (TakesNone (InString IsQuotedDouble) self.old.tokens) }
     {
         let text = self.text(Wrapper::NumberDouble)?;
         match quoted_double_of(text) {
@@ -241,15 +260,18 @@ impl<'a> Source<'a> {
 
     /// Takes the value of `$numberDecimal`, as bytes.
     pub(crate) fn decimal(&mut self) -> Result<[u8; 16], JsonReason>
-        ensures { OnOk result ((s : List ℕ) × TakesToken self.old.tokens self.new.tokens (string s)) }
+        ensures some { IfOk result (λ bytes. Takes (InString IsQuotedDecimal) self.old.tokens self.new.tokens (decimal128 bytes)) }
+        ensures none { OnErr result (TakesNone (InString IsQuotedDecimal) self.old.tokens) }
     {
         let text = self.text(Wrapper::NumberDecimal)?;
-        decimal_of(text.as_bytes())
+        let bytes = decimal_of(text.as_bytes())?;
+        Ok(bytes)
     }
 
     /// Takes the value of `$date`, as milliseconds.
     pub(crate) fn date(&mut self) -> Result<i64, JsonReason>
-        ensures { IfOk result (λ z. Takes IsDate self.old.tokens self.new.tokens (date_time z)) }
+        ensures some { IfOk result (λ z. Takes IsDate self.old.tokens self.new.tokens (date_time z)) }
+        ensures none { OnErr result (TakesNone IsDate self.old.tokens) }
     {
         let wrapper = Wrapper::Date;
         match self.token(Wanted::Part(wrapper))? {
@@ -269,7 +291,8 @@ impl<'a> Source<'a> {
 
     /// Takes the value of `$uuid`.
     pub(crate) fn uuid(&mut self) -> Result<[u8; 16], JsonReason>
-        ensures { IfOk result (λ b. Takes IsUuid self.old.tokens self.new.tokens (binary UuidSubtype b)) }
+        ensures some { IfOk result (λ b. Takes IsUuid self.old.tokens self.new.tokens (binary UuidSubtype b)) }
+        ensures none { OnErr result (TakesNone IsUuid self.old.tokens) }
     {
         let text = self.text(Wrapper::Uuid)?;
         match uuid_of(text) {
@@ -280,7 +303,8 @@ impl<'a> Source<'a> {
 
     /// Takes text in base64.
     fn base64(&mut self, alloc: Global) -> Result<Vec<u8>, JsonReason>
-        ensures { IfOk result (λ bytes. (s : List ℕ) × TakesToken self.old.tokens self.new.tokens (string s) × (decode_of standard s ≡ Ok bytes.items)) }
+        ensures some { IfOk result (λ bytes. (s : List ℕ) × TakesToken self.old.tokens self.new.tokens (string s) × (decode_of standard s ≡ Ok bytes.items)) }
+        ensures none { IfErr result (λ reason. (reason ≡ OutOfMemory) ⊎ ((s bytes : List ℕ) → decode_of standard s ≡ Ok bytes → LacksToken self.old.tokens (string s))) }
     {
         let text = self.text(Wrapper::Binary)?;
         match STANDARD.decode(alloc, text.as_bytes()) {
@@ -292,7 +316,8 @@ impl<'a> Source<'a> {
 
     /// Takes the digits of a subtype.
     fn subtype(&mut self) -> Result<u8, JsonReason>
-        ensures { IfOk result (λ b. (s : List ℕ) × TakesToken self.old.tokens self.new.tokens (string s) × (decode_sized (two_hex_digits s) 1 ≡ Ok (b ∷ []))) }
+        ensures some { IfOk result (λ b. (s : List ℕ) × TakesToken self.old.tokens self.new.tokens (string s) × (decode_sized (two_hex_digits s) 1 ≡ Ok (b ∷ []))) }
+        ensures none { OnErr result ((s b : List ℕ) → decode_sized (two_hex_digits s) 1 ≡ Ok b → LacksToken self.old.tokens (string s)) }
     {
         let text = self.text(Wrapper::Binary)?;
         match subtype_of_digits(text.as_bytes()) {
@@ -303,7 +328,8 @@ impl<'a> Source<'a> {
 
     /// Takes the value of `$binary`: its bytes and its subtype.
     pub(crate) fn binary(&mut self, alloc: Global) -> Result<(Vec<u8>, u8), JsonReason>
-        ensures { IfOk result (λ p. Takes IsBinary self.old.tokens self.new.tokens (binary (subtype_of p.1) p.0.items)) }
+        ensures some { IfOk result (λ p. Takes IsBinary self.old.tokens self.new.tokens (binary (subtype_of p.1) p.0.items)) }
+        ensures none { IfErr result (λ reason. (reason ≡ OutOfMemory) ⊎ TakesNone IsBinary self.old.tokens) }
     {
         let wrapper = Wrapper::Binary;
         self.begin(wrapper)?;
@@ -325,7 +351,8 @@ impl<'a> Source<'a> {
 
     /// Takes a pattern or options.
     fn c_string(&mut self) -> Result<&'a str, JsonReason>
-        ensures { IfOk result (λ text. TakesToken self.old.tokens self.new.tokens (string text.now)) }
+        ensures some { IfOk result (λ text. TakesToken self.old.tokens self.new.tokens (string text.now)) }
+        ensures none { OnErr result ((s : List ℕ) → NulFree s → LacksToken self.old.tokens (string s)) }
     {
         let text = self.text(Wrapper::RegularExpression)?;
         if text.as_bytes().contains(&0) {
@@ -337,7 +364,9 @@ impl<'a> Source<'a> {
 
     /// Takes the value of `$regularExpression`: its pattern and its options.
     pub(crate) fn regular_expression(&mut self) -> Result<(&'a str, &'a str), JsonReason>
-        ensures { IfOk result (λ p. TakesTwo self.old.tokens self.new.tokens (codes "pattern") (JsonString p.0.now) (codes "options") (JsonString p.1.now)) }
+        ensures some { IfOk result (λ p. TakesTwo self.old.tokens self.new.tokens (codes "pattern") (JsonString p.0.now) (codes "options") (JsonString p.1.now)) }
+        ensures none { OnErr result ((pattern options : List ℕ) → NulFree pattern → NulFree options
+            → TakesNoTwo self.old.tokens (codes "pattern") (JsonString pattern) (codes "options") (JsonString options)) }
     {
         let wrapper = Wrapper::RegularExpression;
         self.begin(wrapper)?;
@@ -359,11 +388,14 @@ impl<'a> Source<'a> {
 
     /// Takes a number of 32 bits without a sign.
     fn unsigned(&mut self) -> Result<u32, JsonReason>
-        ensures { IfOk result (λ n. (s : List ℕ) × TakesToken self.old.tokens self.new.tokens (number s) × WritesUnsigned s n) }
+        ensures some { IfOk result (λ n. (s : List ℕ) × TakesToken self.old.tokens self.new.tokens (number s) × WritesUnsigned s n) }
+        ensures none { OnErr result ((s : List ℕ) (n : ℕ) → WritesUnsigned s n → LacksToken self.old.tokens (number s)) }
     {
         let text = self.number(Wrapper::Timestamp)?;
         let bad = JsonReason::Malformed(Wrapper::Timestamp);
-        let value = integer_of(text.as_bytes()).ok_or(bad)?;
+        let Some(value) = integer_of(text.as_bytes()) else {
+            return Err(bad);
+        };
         match u32::try_from(value) {
             Ok(value) => Ok(value),
             Err(_) => Err(bad),
@@ -372,7 +404,8 @@ impl<'a> Source<'a> {
 
     /// Takes the value of `$timestamp`: its time and its increment.
     pub(crate) fn timestamp(&mut self) -> Result<(u32, u32), JsonReason>
-        ensures { IfOk result (λ p. Takes IsTimestamp self.old.tokens self.new.tokens (timestamp p.0 p.1)) }
+        ensures some { IfOk result (λ p. Takes IsTimestamp self.old.tokens self.new.tokens (timestamp p.0 p.1)) }
+        ensures none { OnErr result (TakesNone IsTimestamp self.old.tokens) }
     {
         let wrapper = Wrapper::Timestamp;
         self.begin(wrapper)?;
@@ -394,7 +427,8 @@ impl<'a> Source<'a> {
 
     /// Takes `{"$oid": digits}`.
     fn pointed_id(&mut self) -> Result<[u8; 12], JsonReason>
-        ensures { IfOk result (λ id. (s : List ℕ) × (self.old.tokens ≡ json_tokens (pointed s) ++ self.new.tokens) × (decode_sized s 12 ≡ Ok id)) }
+        ensures some { IfOk result (λ id. (s : List ℕ) × (self.old.tokens ≡ json_tokens (pointed s) ++ self.new.tokens) × (decode_sized s 12 ≡ Ok id)) }
+        ensures none { OnErr result ((s id : List ℕ) → decode_sized s 12 ≡ Ok id → LacksJson self.old.tokens (pointed s)) }
     {
         let wrapper = Wrapper::DbPointer;
         self.begin(wrapper)?;
@@ -406,7 +440,8 @@ impl<'a> Source<'a> {
 
     /// Takes the value of `$dbPointer`: its namespace and its id.
     pub(crate) fn db_pointer(&mut self) -> Result<(&'a str, [u8; 12]), JsonReason>
-        ensures { IfOk result (λ p. Takes IsDbPointer self.old.tokens self.new.tokens (db_pointer p.0.now p.1)) }
+        ensures some { IfOk result (λ p. Takes IsDbPointer self.old.tokens self.new.tokens (db_pointer p.0.now p.1)) }
+        ensures none { OnErr result (TakesNone IsDbPointer self.old.tokens) }
     {
         let wrapper = Wrapper::DbPointer;
         self.begin(wrapper)?;
@@ -428,7 +463,8 @@ impl<'a> Source<'a> {
 
     /// Takes `true`, the value of `$undefined`.
     pub(crate) fn undefined(&mut self) -> Result<(), JsonReason>
-        ensures { OnOk result (TakesToken self.old.tokens self.new.tokens (boolean true)) }
+        ensures some { OnOk result (TakesToken self.old.tokens self.new.tokens (boolean true)) }
+        ensures none { OnErr result (LacksToken self.old.tokens (boolean true)) }
     {
         match self.token(Wanted::Part(Wrapper::Undefined))? {
             Token::Bool(true) => Ok(()),
@@ -438,7 +474,8 @@ impl<'a> Source<'a> {
 
     /// Takes a 1, the value of `$minKey` and of `$maxKey`.
     pub(crate) fn one(&mut self, wrapper: Wrapper) -> Result<(), JsonReason>
-        ensures { OnOk result (TakesToken self.old.tokens self.new.tokens (number (codes "1"))) }
+        ensures some { OnOk result (TakesToken self.old.tokens self.new.tokens (number (codes "1"))) }
+        ensures none { OnErr result (LacksToken self.old.tokens (number (codes "1"))) }
     {
         let text = self.number(wrapper)?;
         if text == "1" {

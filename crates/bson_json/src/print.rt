@@ -1,7 +1,7 @@
 //! Prints the levels of a document.
 #![tactic(auto)]
 
-ghost use Rattle.std.specs.Prelude.{ℕ, List, OnErr, OnOk};
+ghost use Rattle.std.specs.Prelude.{◌≡◌, ℕ, List, OnErr, OnOk};
 ghost use Rattle.std.specs.Io.KnownBytes.{Appends};
 ghost use Rattle.bson_model.specs.Tree.{Tree};
 ghost use Rattle.raw_tree.specs.Reading.{Reads};
@@ -29,12 +29,20 @@ pub(crate) enum Failure {
 
 /// A block in memory takes all that it is given, unless memory runs out.
 impl From<io::Error> for Failure {
+    ghost use Rattle.bson_json.specs.declared.print.Failure.TheVariants.{OutOfMemory};
+
+    ghost from_gives = { λ _ failure. failure ≡ OutOfMemory };
+
     fn from(_error: io::Error) -> Failure {
         Failure::OutOfMemory
     }
 }
 
 impl<T: Drop> From<AllocFailed<T>> for Failure {
+    ghost use Rattle.bson_json.specs.declared.print.Failure.TheVariants.{OutOfMemory};
+
+    ghost from_gives = { λ _ failure. failure ≡ OutOfMemory };
+
     fn from(_error: AllocFailed<T>) -> Failure {
         Failure::OutOfMemory
     }

@@ -6,4 +6,4 @@ pub returns : goal.returns
 returns c =
     let items : c.deref.result.now ≡ c.in_ok-bytes.bytes.items = search rules in
     on_ok c.put_binary.result
-    (λ puts. leaf_taken (codes "$binary") binary_says c.in_ok-bytes.ensures refl c.put_binary.ensures.source (binary_is c.args.key.now c.from_u8.ensures items puts)) c.put_binary.ensures.puts
+    (λ puts. leaf_taken (codes "$binary") binary_says c.in_ok-bytes.ensures.some refl c.put_binary.ensures.source (binary_is c.args.key.now c.from_u8.ensures items puts)) c.put_binary.ensures.puts

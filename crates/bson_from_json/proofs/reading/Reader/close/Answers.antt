@@ -10,7 +10,7 @@ pub returns-in_ok-set_len-in-Scope-clause-rest : goal.returns-in_ok-set_len-in-S
 returns-in_ok-set_len-in-Scope-clause-rest c =
     let is : c.args.level.holder ≡ holder.Scope c.in-Scope.start = search rules in
     let levels = c.set_len.ensures.levels ∙ c.close.ensures.levels in
-    on_ok c.end.result (λ e. scope_closed _ _ c.args.level c.in-Scope.start is levels c.in_ok-close.ensures.bytes c.in_ok-set_len-in-Scope.ensures.bytes e) c.end.ensures
+    on_ok c.end.result (λ e. scope_closed _ _ c.args.level c.in-Scope.start is levels c.in_ok-close.ensures.bytes c.in_ok-set_len-in-Scope.ensures.bytes e) c.end.ensures.some
 
 pub returns-in_ok-set_len-in-ScopeBeforeCode-clause-rest : goal.returns-in_ok-set_len-in-ScopeBeforeCode-clause-rest
 returns-in_ok-set_len-in-ScopeBeforeCode-clause-rest c =
@@ -18,4 +18,4 @@ returns-in_ok-set_len-in-ScopeBeforeCode-clause-rest c =
     let levels = c.set_len-in-ScopeBeforeCode.ensures.levels ∙ c.close.ensures.levels in
     on_ok c.code.result
     (λ e. code_closed _ _ c.args.level c.in-ScopeBeforeCode.start c.in-ScopeBeforeCode.code is levels c.in_ok-close.ensures.bytes c.in_ok-set_len-in-ScopeBeforeCode.ensures.bytes e)
-    c.code.ensures
+    c.code.ensures.some

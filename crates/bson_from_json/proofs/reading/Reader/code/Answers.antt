@@ -9,4 +9,5 @@ returns-in-EndObject-clause-rest c =
     let end : c.text.new.self.tokens ≡ Token.end_object ∷ c.token.new.self.tokens = search rules in
     let same = ap (λ (x : Source). Token.end_object ∷ x.tokens) (sym c.put_text.ensures.source) in
     on_ok c.put_text.result
-    (λ puts. code_put _ _ c.args.key.now c.in_ok-code.code.now (c.in_ok-code.ensures ∙ ap (λ (x : List Token). Token.string c.in_ok-code.code.now ∷ x) (end ∙ same)) refl puts) c.put_text.ensures.puts
+    (λ puts. code_put _ _ c.args.key.now c.in_ok-code.code.now (c.in_ok-code.ensures.some ∙ ap (λ (x : List Token). Token.string c.in_ok-code.code.now ∷ x) (end ∙ same)) refl puts)
+    c.put_text.ensures.puts

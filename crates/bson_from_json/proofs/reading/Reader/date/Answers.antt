@@ -7,4 +7,4 @@ use Rattle.bson_from_json.proofs.reading.Reader.date.Goals as goal
 pub returns : goal.returns
 returns c =
     let bytes : c.to_le_bytes.result ≡ le64 c.in_ok-millis.millis = search rules in
-    on_ok c.put.result (λ puts. leaf_taken (codes "$date") date_says c.in_ok-millis.ensures refl c.put.ensures.source (payload_is kind.DateTime c.args.key.now bytes puts)) c.put.ensures.puts
+    on_ok c.put.result (λ puts. leaf_taken (codes "$date") date_says c.in_ok-millis.ensures.some refl c.put.ensures.source (payload_is kind.DateTime c.args.key.now bytes puts)) c.put.ensures.puts

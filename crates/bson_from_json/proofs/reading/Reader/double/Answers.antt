@@ -5,4 +5,4 @@ use Rattle.bson_from_json.proofs.reading.Reader.double.Goals as goal
 
 pub returns : goal.returns
 returns c = on_ok c.put.result
-    (λ puts. leaf_taken (codes "$numberDouble") double_says c.in_ok-bits.ensures refl c.put.ensures.source (payload_is kind.Double c.args.key.now c.to_le_bytes.ensures puts)) c.put.ensures.puts
+    (λ puts. leaf_taken (codes "$numberDouble") double_says c.in_ok-bits.ensures.some refl c.put.ensures.source (payload_is kind.Double c.args.key.now c.to_le_bytes.ensures puts)) c.put.ensures.puts

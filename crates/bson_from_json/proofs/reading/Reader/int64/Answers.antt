@@ -7,4 +7,4 @@ use Rattle.bson_from_json.proofs.reading.Reader.int64.Goals as goal
 pub returns : goal.returns
 returns c =
     let bytes : c.to_le_bytes.result ≡ le64 c.in_ok-value.value = search rules in
-    on_ok c.put.result (λ puts. leaf_taken (codes "$numberLong") int64_says c.in_ok-value.ensures refl c.put.ensures.source (payload_is kind.Int64 c.args.key.now bytes puts)) c.put.ensures.puts
+    on_ok c.put.result (λ puts. leaf_taken (codes "$numberLong") int64_says c.in_ok-value.ensures.some refl c.put.ensures.source (payload_is kind.Int64 c.args.key.now bytes puts)) c.put.ensures.puts

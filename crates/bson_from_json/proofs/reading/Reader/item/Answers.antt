@@ -12,5 +12,5 @@ returns-clause-rest c =
     let more : c.in_ok-more.more ≡ c.args.items + 1 = grind arith in
     let levels = c.in_ok-push.ensures.level ∙ ap (λ (m : ℕ). c.args.self.now.document.levels.items ++ array_level m c.args.start ∷ []) more in
     on_ok c.value.result
-    (λ value. item_taken _ _ c.args.items c.args.start (record { levels = levels; bytes = c.push.ensures.bytes; tokens = refl }) c.in_ok-token.ensures (search rules) value)
+    (λ value. item_taken _ _ c.args.items c.args.start (record { levels = levels; bytes = c.push.ensures.bytes; tokens = refl }) c.in_ok-token.ensures.some (search rules) value)
     c.value.ensures.rest

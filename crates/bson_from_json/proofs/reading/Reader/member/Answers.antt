@@ -9,6 +9,6 @@ returns-in-EndObject-clause-rest c = on_ok c.close.result
 
 pub returns-in_ok-push-in-Key-clause-rest : goal.returns-in_ok-push-in-Key-clause-rest
 returns-in_ok-push-in-Key-clause-rest c = on_ok c.value_of.result
-    (λ value. member_taken _ _ c.args.level c.requires c.in_ok-check_key-in-Key.ensures
+    (λ value. member_taken _ _ c.args.level c.requires c.in_ok-check_key-in-Key.ensures.some
     (record { levels = c.in_ok-push-in-Key.ensures.level; bytes = c.push.ensures.bytes; tokens = refl }) (search rules) value)
     c.value_of.ensures.rest

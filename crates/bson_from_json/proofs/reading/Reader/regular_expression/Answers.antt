@@ -4,5 +4,5 @@ use Rattle.bson_from_json.proofs.reading.Reader.regular_expression.Goals as goal
 
 pub returns : goal.returns
 returns c = on_ok c.put_regex.result
-    (λ puts. leaf_taken (codes "$regularExpression") regex_says (takes_regex c.in_ok-pattern.ensures) refl c.put_regex.ensures.source (regex_is c.args.key.now (search rules) (search rules) puts))
+    (λ puts. leaf_taken (codes "$regularExpression") regex_says (takes_regex c.in_ok-pattern.ensures.some) refl c.put_regex.ensures.source (regex_is c.args.key.now (search rules) (search rules) puts))
     c.put_regex.ensures.puts

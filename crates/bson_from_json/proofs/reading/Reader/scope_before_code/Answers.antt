@@ -7,4 +7,4 @@ pub returns-clause-rest : goal.returns-clause-rest
 returns-clause-rest c = on_ok_two c.open.result
     (λ level bytes. before_code_opened _ _ c.args.key.now c.unwrap_or-code.result _
     (scope_at (λ n. holder.ScopeBeforeCode n c.unwrap_or-code.result) c.put_code_before_scope.ensures.levels c.in_ok-start.ensures.start c.in_ok-start.ensures.bytes level bytes refl)
-    c.in_ok-begin.ensures) c.open.ensures.level c.open.ensures.bytes
+    c.in_ok-begin.ensures.some) c.open.ensures.level c.open.ensures.bytes

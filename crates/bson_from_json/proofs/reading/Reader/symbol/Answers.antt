@@ -3,4 +3,4 @@ use Rattle.bson_from_json.proofs.Moments.{leaf_taken, on_ok, symbol_says, takes_
 use Rattle.bson_from_json.proofs.reading.Reader.symbol.Goals as goal
 
 pub returns : goal.returns
-returns c = on_ok c.put_text.result (λ puts. leaf_taken (codes "$symbol") symbol_says (takes_symbol c.in_ok-text.ensures) refl c.put_text.ensures.source puts) c.put_text.ensures.puts
+returns c = on_ok c.put_text.result (λ puts. leaf_taken (codes "$symbol") symbol_says (takes_symbol c.in_ok-text.ensures.some) refl c.put_text.ensures.source puts) c.put_text.ensures.puts
