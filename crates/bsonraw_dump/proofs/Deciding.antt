@@ -3,7 +3,9 @@ use Rattle.std.proofs.Common.{◌≡◌, ℕ, ◌+◌, ◌<◌, ◌≤◌, ◌�
 use Rattle.std.proofs.lemmas.List.{take-append-drop, take-append-le}
 use Rattle.std.proofs.Math.Seq.{take-length}
 use Rattle.std.specs.Io.KnownBytes.{Consumes, IsAtEnd}
+use Rattle.bson_model.specs.Tree.{document}
 use Rattle.raw_tree.specs.declared.reader.limits.Limits.{Limits}
+use Rattle.raw_tree.proofs.Face.{document_reads, read_within}
 use Rattle.raw_resync.specs.Resync.{EndsOrBegins, IsSound}
 use Rattle.raw_resync.specs.Charge.{Charges, IsBounded, IsUnjudged}
 use Rattle.raw_resync.specs.Seeking.{ChecksBehind, IsWork, MayFollow, PassesOver, Seeks, TellsBehind, TellsSought, Works}
@@ -16,9 +18,11 @@ use Rattle.raw_resync.specs.declared.work.Work.{Work}
 use Rattle.raw_resync.proofs.Face.{believed, charges_none, charges_on, disbelieved, passes_after, passes_since, spent_more}
 use Rattle.raw_resync.proofs.Face as face
 use Rattle.bsonraw_dump.specs.Cut.{EndsWith, IsPiece, most}
-use Rattle.bsonraw_dump.specs.Find.{limits}
+use Rattle.bsonraw_dump.specs.Find.{Account, Finds, IsDamage, limits}
 use Rattle.bsonraw_dump.specs.Reading.{IsReadBehind, IsWindow, Looks, SeesAhead, Stays, TellsNext, ahead_of}
 use Rattle.bsonraw_dump.specs.Resync.{BreaksWith, Doubts, GoesOnBehind, GoesOnInside, IsBelieved, IsDoubted, IsNextPlace, Searches, SeesBehind, SeesInside, Spends, TellsPart}
+use Rattle.bsonraw_dump.specs.declared.find.Finding.{Finding}
+use Rattle.bsonraw_dump.specs.declared.find.Finding.TheVariants as finding
 use Rattle.bsonraw_dump.specs.declared.ending.Ending.{Ending}
 use Rattle.bsonraw_dump.specs.declared.ending.Ending.TheVariants as ending
 use Rattle.bsonraw_dump.specs.declared.resync.Skip.{Skip}
@@ -350,20 +354,35 @@ breaks_all (ending.CutOff count) s x r ends behind' read = ends_all (ending.CutO
 breaks_all (ending.Unsound len) s x r ends behind' read = ends_all (ending.Unsound len) s x r ends behind' read
 breaks_all (ending.WrongLength len) s x r ends behind' read = absurd ends
 
--- what is next in the bytes ahead is so, but for a document where bytes may be passed over
-pub tells_next : (resync : Bool) (r r' : Option (List ℕ)) (x y : Window) (w : Work) (told : Next) → IsWork w
-    → ((len : ℕ) → told ≡ next.Document len → resync ≡ false) → TellsNext r r' x y 0 told → TellsPart resync r r' x y w w told
-tells_next resync r r' x y w (next.Document len) work unless t = record {
+-- a document in which no damage is found is without damage
+pub finds_sound : (b : List ℕ) (f : Finding) (told : Option Account) → IsPiece b → Finds b f told → ¬ IsDamage f → IsSound limits b
+finds_sound b finding.Canonical told piece (envelope, (few, canonical), none) clean =
+    let (es, reads) = document_reads 500 b canonical in record { piece = piece; envelope = envelope; tree = document es; reads = read_within limits b (document es) few reads }
+finds_sound b finding.Breached told piece (envelope, (tree, reads), first) clean = record { piece = piece; envelope = envelope; tree = tree; reads = reads }
+finds_sound b finding.Damaged told piece found clean = absurd (clean (inl refl))
+finds_sound b finding.TooDeep told piece found clean = absurd (clean (inr refl))
+
+-- a document is in front of the bytes ahead, without damage where bytes may be passed over
+pub tells_document : (resync : Bool) (r r' : Option (List ℕ)) (x y : Window) (w : Work) (len : ℕ) → IsWork w → (resync ≡ true → IsSound limits (take len (ahead_of y)))
+    → TellsNext r r' x y 0 (next.Document len) → TellsPart resync r r' x y w w (next.Document len)
+tells_document resync r r' x y w len work sound t = record {
   searches = searches_read r r' x y w (record { window = t.window; offset = t.offset; looks = t.looks }) work;
   ahead = t.is;
-  is = λ s read asked. let no : resync ≡ false = unless len refl in let impossible : ⊥ = cc in absurd impossible;
+  is = λ s read asked.
+      let (same, few) = front_take s (ahead_of y) r' len (t.looks.is_read (Some s) read) t.is.0 in
+      inl (subst (IsSound limits) (sym same) (sound asked));
 }
-tells_next resync r r' x y w next.Nothing work unless t = record {
+
+-- what is next in the bytes ahead is no document
+pub tells_other : (resync : Bool) (r r' : Option (List ℕ)) (x y : Window) (w : Work) (told : Next) → IsWork w → ((len : ℕ) → told ≡ next.Document len → ⊥)
+    → TellsNext r r' x y 0 told → TellsPart resync r r' x y w w told
+tells_other resync r r' x y w (next.Document len) work none t = absurd (none len refl)
+tells_other resync r r' x y w next.Nothing work none t = record {
   searches = searches_read r r' x y w (record { window = t.window; offset = t.offset; looks = t.looks }) work;
   ahead = t.is;
   is = λ s read. tt;
 }
-tells_next resync r r' x y w (next.End e) work unless t = record {
+tells_other resync r r' x y w (next.End e) work none t = record {
   searches = searches_read r r' x y w (record { window = t.window; offset = t.offset; looks = t.looks }) work;
   ahead = (some_ahead e (ahead_of y) t.is.0, λ no. t.is);
   is = λ s read. breaks_all e s (ahead_of y) r' t.is.0 t.is.1 (t.looks.is_read (Some s) read);

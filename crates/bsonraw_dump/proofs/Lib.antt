@@ -1,3 +1,4 @@
+mod Fronts
 mod Filling
 mod Ahead
 mod Going
@@ -8,5 +9,11 @@ mod Writing
 mod Listed
 mod Passing
 mod Stopping
+mod Halting
 mod Objects
 mod Summing
+mod Advancing
+mod TextPassing
+mod Scanning
+mod TextParts
+mod TextSumming

@@ -1,7 +1,8 @@
 -- What the loop over a level that is listed keeps, and what it tells where it ends.
-use Rattle.std.proofs.Common.{◌≡◌, ◌+◌, ℕ, suc, List, [], ◌∷◌, ◌++◌, Option, None, Some, OnOk, Result, Ok, Err, drop, ap, sym, ◌∙◌, subst, refl, inl, inr, append_assoc, append-nil}
+use Rattle.std.proofs.Common.{◌≡◌, ◌+◌, ℕ, suc, zero, List, [], ◌∷◌, ◌++◌, Option, None, Some, OnOk, Result, Ok, Err, codes, drop, ap, sym, ◌∙◌, subst, refl, inl, inr, append_assoc, append-nil}
 use Rattle.std.specs.Io.KnownBytes.{Appends}
-use Rattle.std.proofs.KnownBytes.{Appends-trans}
+use Rattle.std.proofs.KnownBytes.{Appends-nil, Appends-trans}
+use Rattle.bson_json.specs.Written.{AppendsFront}
 use Rattle.std.specs.Option.{option_copied}
 use Rattle.raw_form.specs.Looking.{HoldsBytes}
 use Rattle.raw_view.specs.Document.{bytes_of}
@@ -20,7 +21,12 @@ use Rattle.raw_view.specs.declared.error.BorrowedError.{BorrowedError}
 use Rattle.raw_view.specs.declared.error.ErrorKind.{ErrorKind}
 use Rattle.raw_view.specs.declared.error.ErrorKind.TheVariants as kind
 use Rattle.raw_view.proofs.Face.{LeadsTo-walk, LeadsTo-more}
-use Rattle.bsonraw_dump.specs.Listing.{Lists, ListsDocument, ListsFrame, ListsFrames, ListsInside, PutsElement, PutsStop}
+use Rattle.bsonraw_dump.specs.Find.{Account}
+use Rattle.bsonraw_dump.specs.Fronts.{WritesFront}
+use Rattle.bsonraw_dump.specs.Halting.{ListsFront}
+use Rattle.bsonraw_dump.specs.Listing.{HasLinesFront, HasNextFront, IsStopLine, Lists, ListsDocument, ListsFrame, ListsFrames, ListsInside, PutsElement, PutsElementFront, PutsStop, indented}
+use Rattle.bsonraw_dump.specs.Run.{head_text}
+use Rattle.bsonraw_dump.specs.Told.{line}
 
 -- what the loop keeps: these frames were read, and their lines are written
 pub record IsListed (inside depth : ℕ) (d : List ℕ) (left old out : Option (List ℕ)) : Type 0 where
@@ -129,3 +135,95 @@ pub listed_nothing : (b head : List ℕ) (e : Error) (old mid new : Option (List
 listed_nothing b head e old mid new refused first none =
     let (why, refuses) = reason_in e.kind b refused.reason in
     ([], inr (why, refuses, refl), Appends-trans old mid new head [] first none)
+
+-- a front of the lines of a level is written
+abbrev pub IsPartly : ℕ → ℕ → List ℕ → (old new : Option (List ℕ)) → Type 0
+IsPartly inside depth d old new = (text : List ℕ) × HasLinesFront inside depth d text × Appends old new text
+
+-- of each level nothing is a front
+no_lines : (n depth : ℕ) (b : List ℕ) → HasLinesFront n depth b []
+no_lines zero depth b = (_, refl)
+no_lines (suc n) depth b = ([], drop 4 b, [], [], refl, refl, inl refl, refl)
+
+no_inside : (n depth : ℕ) (v : RawValue) → ListsInside (HasLinesFront n depth) v []
+no_inside n depth (raw.single l) = refl
+no_inside n depth (raw.document d) = no_lines n depth d
+no_inside n depth (raw.array d) = no_lines n depth d
+no_inside n depth (raw.scoped code d) = no_lines n depth d
+
+-- behind the lines that are written a front of what is next is
+partly_next : (inside depth : ℕ) (d s last : List ℕ) (old a b : Option (List ℕ)) → IsListed inside depth d (Some s) old a
+    → HasNextFront (HasLinesFront inside (depth + 1)) depth s last → Appends a b last → IsPartly (suc inside) depth d old b
+partly_next inside depth d s last old a b is next put =
+    (is.text ++ last, (is.frames, s, is.text, last, is.read, is.lists, next, refl), Appends-trans old a b is.text last is.put put)
+
+-- or nothing
+pub partly_none : (inside depth : ℕ) (d : List ℕ) (left old a : Option (List ℕ)) → IsListed inside depth d left old a → IsPartly (suc inside) depth d old a
+partly_none inside depth d None old a is = absurd is.read
+partly_none inside depth d (Some s) old a is = partly_next inside depth d s [] old a a is (inl refl) (Appends-nil a)
+
+-- the line of an element
+pub partly_element : (inside depth : ℕ) (d : List ℕ) (left new old a b : Option (List ℕ)) (e : RawElement) → IsListed inside depth d left old a
+    → StepsFront left (Some (Ok e)) new → PutsElementFront depth (frame_of e) a b → IsPartly (suc inside) depth d old b
+partly_element inside depth d None new old a b e is st puts = absurd is.read
+partly_element inside depth d (Some s) new old a b e is st (inl same) =
+    subst (IsPartly (suc inside) depth d old) (sym same) (partly_none inside depth d (Some s) old a is)
+partly_element inside depth d (Some s) new old a b e is st (inr (line, inl (v, shown, means, shows, it), front)) =
+    let whole : line ++ [] ≡ front.front ++ front.behind = append-nil line ∙ front.whole in
+    partly_next inside depth d s front.front old a b is (inr (inl (
+      frame_of e,
+      st.0,
+      line ++ [],
+      st.1,
+      inl (v, shown, [], means, shows, no_inside inside (depth + 1) v, ap (λ (x : List ℕ). x ++ []) it),
+      (front.behind, whole),
+    ))) front.put
+partly_element inside depth d (Some s) new old a b e is st (inr (line, inr (fault, shown, means, says, it), front)) =
+    partly_next inside depth d s front.front old a b is (inr (inl (frame_of e, st.0, line, st.1, inr (fault, shown, means, says, it), (front.behind, front.whole)))) front.put
+
+-- the lines inside an element
+pub partly_inside : (inside depth : ℕ) (d : List ℕ) (left new old a b c : Option (List ℕ)) (e : RawElement) (x : RawDocument) → IsListed inside depth d left old a
+    → StepsFront left (Some (Ok e)) new → PutsElement depth (frame_of e) a b (Some x) → IsPartly inside (depth + 1) (bytes_of x) b c → IsPartly (suc inside) depth d old c
+partly_inside inside depth d None new old a b c e x is st puts partly = absurd is.read
+partly_inside inside depth d (Some s) new old a b c e x is st puts (text, has, more) =
+    let (lines, lists, put) = frame_listed (HasLinesFront inside (depth + 1)) depth (frame_of e) a b c (Some x) text puts has more in
+    partly_next inside depth d s lines old a c is (inr (inl (frame_of e, st.0, lines, st.1, lists, ([], sym (append-nil lines))))) put
+
+-- the line of a stop
+pub partly_stop : (inside depth : ℕ) (d : List ℕ) (left new old a b : Option (List ℕ)) (e : BorrowedError) → IsListed inside depth d left old a
+    → StepsFront left (Some (Err e)) new → WritesFront (IsStopLine depth e) a b → IsPartly (suc inside) depth d old b
+partly_stop inside depth d None new old a b e is st puts = absurd is.read
+partly_stop inside depth d (Some s) new old a b e is st (inl same) =
+    subst (IsPartly (suc inside) depth d old) (sym same) (partly_none inside depth d (Some s) old a is)
+partly_stop inside depth d (Some s) new old a b e is st (inr (line, (reading, it), front)) =
+    let (fault, stops, says) = stop_of e.kind (option_copied e.key) s st.0 in
+    partly_next inside depth d s front.front old a b is
+    (inr (inr (fault, option_copied e.key, _, stops, (e.kind, says, reading, refl), (front.behind, sym it ∙ front.whole)))) front.put
+
+-- the line that no deeper level is listed
+pub partly_deep : (depth : ℕ) (d : List ℕ) (old new : Option (List ℕ)) → AppendsFront old new (indented depth (codes "too deep")) → IsPartly 0 depth d old new
+partly_deep depth d old new front = (front.front, (front.behind, front.whole), front.put)
+
+-- of a piece a front of its first line is reported
+pub lists_first : (name b : List ℕ) (offset : ℕ) (told : Option Account) (old new : Option (List ℕ)) → AppendsFront old new (line name offset (head_text b told))
+    → (lines : List ℕ) × ListsFront name offset b told lines × Appends old new lines
+lists_first name b offset told old new front = (front.front, inl (front.behind, front.whole), front.put)
+
+-- or that line, and a front of its listing
+pub lists_behind : (name b : List ℕ) (offset : ℕ) (told : Option Account) (old mid new : Option (List ℕ)) → IsEnvelope b → Appends old mid (line name offset (head_text b told))
+    → IsPartly 500 1 b mid new → (lines : List ℕ) × ListsFront name offset b told lines × Appends old new lines
+lists_behind name b offset told old mid new is first (text, has, put) =
+    (_, inr (text, inr (is, has), refl), Appends-trans old mid new _ text first put)
+
+front_of_none : (front behind : List ℕ) → [] ≡ front ++ behind → front ≡ []
+front_of_none [] behind is = refl
+front_of_none (x ∷ front) behind is = absurd (cc)
+
+-- or that line, and nothing
+pub lists_nothing : (name b : List ℕ) (offset : ℕ) (told : Option Account) (old mid new : Option (List ℕ)) → Appends old mid (line name offset (head_text b told))
+    → AppendsFront mid new [] → (lines : List ℕ) × ListsFront name offset b told lines × Appends old new lines
+lists_nothing name b offset told old mid new first front =
+    let head = line name offset (head_text b told) in
+    let none : front.front ≡ [] = front_of_none front.front front.behind front.whole in
+    let put : Appends old new (head ++ []) = Appends-trans old mid new head [] first (subst (Appends mid new) none front.put) in
+    (head ++ [], inr ([], inl refl, refl), put)

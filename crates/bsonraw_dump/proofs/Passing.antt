@@ -1,19 +1,21 @@
 -- How what was passed grows by one more part.
-use Rattle.std.proofs.Common.{◌≡◌, ℕ, ◌+◌, List, [], ◌∷◌, ◌++◌, Bool, true, Option, None, Some, IfSome, Result, Ok, Err, IfErr, length, length-take-le, drop, take, flat_map, fold, sym, ap, ◌∙◌, subst, refl, append_assoc, append-nil, length-append, add_assoc, add-zero, zero-add}
+use Rattle.std.proofs.Common.{◌≡◌, ℕ, ◌+◌, List, [], ◌∷◌, ◌++◌, Bool, true, false, not, Option, None, Some, IfSome, Result, Ok, Err, IfErr, length, length-take-le, drop, take, flat_map, fold, sym, ap, ◌∙◌, subst, refl, append_assoc, append-nil, length-append, add_assoc, add-zero, zero-add}
 use Rattle.std.proofs.Math.Seq.{drop-append_seam}
 use Rattle.std.proofs.lemmas.List.{take-append-drop}
 use Rattle.std.specs.Io.KnownBytes.{Consumes, Appends}
 use Rattle.std.proofs.KnownBytes.{Consumes-nil, Appends-nil, Appends-trans}
-use Rattle.bsonraw_dump.proofs.Deciding.{place_since}
+use Rattle.bsonraw_dump.proofs.Deciding.{finds_sound, place_since, tells_document, tells_other}
 use Rattle.bsonraw_dump.proofs.Skipping.{read_behind}
 use Rattle.bsonraw_dump.proofs.Writing.{writes_none, writes_more}
 use Rattle.std.proofs.lemmas.Grind.{flat_map-append, fold-append}
 use Rattle.bsonraw_dump.specs.Cut.{IsPiece}
-use Rattle.bsonraw_dump.specs.Reading.{Looks, ahead_of}
-use Rattle.bsonraw_dump.specs.Resync.{BreaksWith, IsBelieved, IsNextPlace, Spends, TellsPart}
-use Rattle.raw_resync.specs.Seeking.{no_work}
+use Rattle.bsonraw_dump.specs.Find.{limits}
+use Rattle.bsonraw_dump.specs.Reading.{Looks, TellsNext, ahead_of}
+use Rattle.bsonraw_dump.specs.Resync.{BreaksWith, IsBelieved, IsNextPlace, SkipsTo, Spends, TellsPart}
+use Rattle.raw_resync.specs.Resync.{IsSound}
+use Rattle.raw_resync.specs.Seeking.{IsWork, no_work}
 use Rattle.raw_resync.specs.declared.work.Work.{Work}
-use Rattle.bsonraw_dump.specs.Run.{AreParts, Entry, Gap, IsEntry, IsGap, IsPart, IsReading, IsTaken, Part, piece, gap, Passed, PassesFront, PassesGap, PassesOne, Reports, Writes, bytes_of_part, bytes_of_parts, made_of_part, made_of_parts, lines_of_part, count_entry, count_part, work_behind}
+use Rattle.bsonraw_dump.specs.Run.{AreParts, Entry, Gap, IsEntry, IsGap, IsPart, IsReading, IsTaken, Part, piece, gap, Passed, PassesFront, PassesGap, PassesNext, PassesOne, MayPassFront, Reports, Writes, WritesNothing, bytes_of_part, bytes_of_parts, made_of_part, made_of_parts, lines_of_part, count_entry, count_part, work_behind}
 use Rattle.bsonraw_dump.specs.Told.{ending_line}
 use Rattle.bsonraw_dump.specs.declared.ending.Ending.{Ending}
 use Rattle.bsonraw_dump.specs.declared.ending.Rest.TheVariants as rest
@@ -22,6 +24,7 @@ use Rattle.bsonraw_dump.specs.declared.find.Finding.{Finding}
 use Rattle.bsonraw_dump.specs.declared.command.Command.{Command}
 use Rattle.bsonraw_dump.specs.declared.counts.Counts.{Counts}
 use Rattle.bsonraw_dump.specs.declared.kept.Kept.{Kept}
+use Rattle.bsonraw_dump.specs.declared.resync.Skip.{Skip}
 use Rattle.bsonraw_dump.specs.declared.style.Style.{Style}
 use Rattle.bsonraw_dump.specs.declared.window.Next.{Next}
 use Rattle.bsonraw_dump.specs.declared.window.Next.TheVariants as next
@@ -51,7 +54,7 @@ passed_none c style resync name r d w n k = record {
 }
 
 -- what is left of the input behind these bytes is in front of what is ahead
-input_behind : (bytes x : List ℕ) (r r' : Option (List ℕ)) (P : List ℕ → Type 0) → Consumes r r' (bytes ++ x) → ((s : List ℕ) → Consumes (Some s) r' x → P s)
+pub input_behind : (bytes x : List ℕ) (r r' : Option (List ℕ)) (P : List ℕ → Type 0) → Consumes r r' (bytes ++ x) → ((s : List ℕ) → Consumes (Some s) r' x → P s)
     → IfSome r (λ s. P (drop (length bytes) s))
 input_behind bytes x None r' P read holds = tt
 input_behind bytes x (Some s) None P read holds = absurd read
@@ -131,12 +134,12 @@ has_passed_piece c style resync name x y z b r r' r'' d d' d'' w w' w'' n n' n''
     }
 
 -- the document in front of the bytes ahead is passed
-pub has_passed_front : (c : Command) (style : Style) (resync : Bool) (name : List ℕ) (x y z : Window) (r r' r'' d d' d'' w w' w'' : Option (List ℕ))
+pub has_passed_front : (any : Bool) (c : Command) (style : Style) (resync : Bool) (name : List ℕ) (x y z : Window) (r r' r'' d d' d'' w w' w'' : Option (List ℕ))
     (n n' n'' : Counts) (k k' k'' : Kept) (len : ℕ) (v v' : Work)
     → HasPassed c style resync name (ahead_of x) r r' d d' w w' n n' k k' x.offset v → TellsPart resync r' r'' x y v v' (next.Document len)
-    → PassesFront c style name len y z d' d'' w' w'' n' n'' k' k''
+    → PassesFront any c style name len y z d' d'' w' w'' n' n'' k' k''
     → HasPassed c style resync name (ahead_of z) r r'' d d'' w w'' n n'' k k'' z.offset v'
-has_passed_front c style resync name x y z r r' r'' d d' d'' w w' w'' n n' n'' k k' k'' len v v' h t p =
+has_passed_front any c style resync name x y z r r' r'' d d' d'' w w' w'' n n' n'' k k' k'' len v v' h t p =
     let b = take len (ahead_of y) in
     let stays = t.searches.stays in
     let split : ahead_of y ≡ b ++ ahead_of z = sym (take-append-drop len (ahead_of y)) ∙ ap (λ l. b ++ l) (sym p.ahead) in
@@ -147,6 +150,65 @@ has_passed_front c style resync name x y z r r' r'' d d' d'' w w' w'' n n' n'' k
     (t.ahead.1, split, sum) (λ s all. (subst (λ (m : ℕ). resync ≡ true → IsBelieved s x.offset m v') (sym size) (t.is s all), t.searches.spends s all)) passes
     (λ e same found. p.is_counted e (same ∙ size) found)
 
+-- nothing more was written, reported or counted
+pub has_passed_same : (c : Command) (style : Style) (resync : Bool) (name ahead : List ℕ) (r r' d d' d'' w w' w'' : Option (List ℕ)) (n n' n'' : Counts) (k k' k'' : Kept)
+    (offset : ℕ) (v : Work) → HasPassed c style resync name ahead r r' d d' w w' n n' k k' offset v → WritesNothing d' d'' w' w'' n' n'' k' k''
+    → HasPassed c style resync name ahead r r' d d'' w w'' n n'' k k'' offset v
+has_passed_same c style resync name ahead r r' d d' d'' w w' w'' n n' n'' k k' k'' offset v h (out, report, counts, kept) =
+    subst (λ (a : Kept). HasPassed c style resync name ahead r r' d d'' w w'' n n'' k a offset v) (sym kept)
+    (subst (λ (a : Counts). HasPassed c style resync name ahead r r' d d'' w w'' n a k k' offset v) (sym counts)
+    (subst (λ (a : Option (List ℕ)). HasPassed c style resync name ahead r r' d d'' w a n n' k k' offset v) (sym report)
+    (subst (λ (a : Option (List ℕ)). HasPassed c style resync name ahead r r' d a w w' n n' k k' offset v) (sym out) h)))
+
+-- what is next in the bytes ahead is no document
+pub next_other : (c : Command) (style : Style) (resync : Bool) (name : List ℕ) (r r' d w : Option (List ℕ)) (x y : Window) (v : Work) (n : Counts) (k : Kept) (told : Next) → IsWork v
+    → ((len : ℕ) → told ≡ next.Document len → ⊥) → TellsNext r r' x y 0 told → PassesNext c style resync name r r' x y v v d d w w n n k k told
+next_other c style resync name r r' d w x y v n k (next.Document len) work none t = absurd (none len refl)
+next_other c style resync name r r' d w x y v n k next.Nothing work none t = (tells_other resync r r' x y v next.Nothing work none t, (refl, refl, refl, refl))
+next_other c style resync name r r' d w x y v n k (next.End e) work none t = (tells_other resync r r' x y v (next.End e) work none t, (refl, refl, refl, refl))
+
+-- the document in front of the bytes ahead is passed, as no damage is found in it, or bytes aren't passed over
+pub next_passed : (c : Command) (style : Style) (resync : Bool) (name : List ℕ) (r r' d d' w w' : Option (List ℕ)) (x y z : Window) (v : Work) (n n' : Counts) (k k' : Kept) (len : ℕ)
+    → IsWork v → TellsNext r r' x y 0 (next.Document len) → PassesFront (not resync) c style name len y z d d' w w' n n' k k'
+    → PassesNext c style resync name r r' x z v v d d' w w' n n' k k' (next.Document len)
+next_passed c style resync name r r' d d' w w' x y z v n n' k k' len work t p =
+    let sound : resync ≡ true → IsSound limits (take len (ahead_of y)) = λ asked. finds_sound (take len (ahead_of y)) p.finding p.passed.0 t.is.1 p.passed.1 (p.clean (ap not asked)) in
+    (not resync, y, tells_document resync r r' x y v len work sound t, p)
+
+-- the one whose length is believed
+pub front_passed : (c : Command) (style : Style) (name : List ℕ) (len : ℕ) (y z : Window) (d d' d'' w w' w'' : Option (List ℕ)) (n n' n'' : Counts) (k k' k'' : Kept) (is : Bool)
+    → WritesNothing d d' w w' n n' k k' → MayPassFront true c style name len y z d' d'' w' w'' n' n'' k' k'' is → PassesFront true c style name len y z d d'' w w'' n n'' k k''
+front_passed c style name len y z d d' d'' w w' w'' n n' n'' k k' k'' false nothing may = let impossible : ⊥ = cc in absurd impossible
+front_passed c style name len y z d d' d'' w w' w'' n n' n'' k k' k'' true (out, report, counts, kept) may =
+    subst (λ (a : Kept). PassesFront true c style name len y z d d'' w w'' n n'' a k'') kept
+    (subst (λ (a : Counts). PassesFront true c style name len y z d d'' w w'' a n'' k' k'') counts
+    (subst (λ (a : Option (List ℕ)). PassesFront true c style name len y z d d'' a w'' n' n'' k' k'') report
+    (subst (λ (a : Option (List ℕ)). PassesFront true c style name len y z a d'' w' w'' n' n'' k' k'') out may)))
+
+-- bytes that are passed over are a gap
+pub gap_of : (c : Command) (style : Style) (resync : Bool) (name : List ℕ) (x y z : Window) (r r' r'' q d d' w w' : Option (List ℕ)) (n n' : Counts)
+    (k k' : Kept) (v v' v'' : Work) (e : Ending) (skip : Skip)
+    (h : HasPassed c style resync name (ahead_of x) r r' d d' w w' n n' k k' x.offset v) → TellsPart resync r' r'' x y v v' (next.End e) → resync ≡ true
+    → (skips : SkipsTo r'' q y z v' v'' skip)
+    → IsGap style resync name r (length (bytes_of_parts h.ps)) (fold work_behind no_work h.ps)
+    (record { bytes = skips.passes.bytes; end = e; skip = skip; work = v''; lines = ending_line style name (length (bytes_of_parts h.ps)) e (rest.PassedOver skip) })
+gap_of c style resync name x y z r r' r'' q d d' w w' n n' k k' v v' v'' e skip h t asked skips =
+    let bytes = bytes_of_parts h.ps in
+    let stays = t.searches.stays in
+    let g : Gap = record { bytes = skips.passes.bytes; end = e; skip = skip; work = v''; lines = ending_line style name (length bytes) e (rest.PassedOver skip) } in
+    let at : y.offset ≡ length bytes = stays.offset ∙ h.at in
+    let here : (s : List ℕ) → Consumes (Some s) r' (ahead_of x) → IsNextPlace s (length bytes) v v'' skip = λ s all.
+    let before : Spends s (length bytes) v v' = subst (λ (m : ℕ). Spends s m v v') h.at (t.searches.spends s all) in
+    place_since s (length bytes) v v' v'' skip before (subst (λ (m : ℕ). IsNextPlace s m v' v'' skip) at (skips.is s (stays.looks.is_read (Some s) all))) in
+    let is : IsGap style resync name r (length bytes) v g = record {
+      asked = asked;
+      breaks = input_behind bytes (ahead_of x) r r' (BreaksWith e) h.passed.is_read t.is;
+      len = skips.passes.len;
+      next = input_behind bytes (ahead_of x) r r' (λ s. IsNextPlace s (length bytes) v v'' skip) h.passed.is_read here;
+      reports = refl;
+    } in
+    subst (λ (u : Work). IsGap style resync name r (length bytes) u g) h.worked is
+
 -- a gap is passed
 pub has_passed_gap : (c : Command) (style : Style) (resync : Bool) (name : List ℕ) (x y z : Window) (r r' r'' q d d' w w' w'' : Option (List ℕ)) (n n' n'' : Counts)
     (k k' : Kept) (v v' v'' : Work) (e : Ending)
@@ -155,28 +217,17 @@ pub has_passed_gap : (c : Command) (style : Style) (resync : Bool) (name : List 
     → HasPassed c style resync name (ahead_of z) r q d d' w w'' n n'' k k' z.offset v''
 has_passed_gap c style resync name x y z r r' r'' q d d' w w' w'' n n' n'' k k' v v' v'' e h t asked over =
     let bytes = bytes_of_parts h.ps in
-    let stays = t.searches.stays in
     let skip = over.skip in
     let p = over.skips.passes in
     let line = ending_line style name (length bytes) e (rest.PassedOver skip) in
     let g : Gap = record { bytes = p.bytes; end = e; skip = skip; work = v''; lines = line } in
-    let read = passed_ahead c style resync name (ahead_of x) (ahead_of y) r r' r'' d d' w w' n n' k k' h.ps h.passed stays.looks in
-    let at : y.offset ≡ length bytes = stays.offset ∙ h.at in
-    let here : (s : List ℕ) → Consumes (Some s) r' (ahead_of x) → IsNextPlace s (length bytes) v v'' skip = λ s all.
-    let before : Spends s (length bytes) v v' = subst (λ (m : ℕ). Spends s m v v') h.at (t.searches.spends s all) in
-    place_since s (length bytes) v v' v'' skip before (subst (λ (m : ℕ). IsNextPlace s m v' v'' skip) at (over.skips.is s (stays.looks.is_read (Some s) all))) in
-    let is : IsGap style resync name r (length bytes) v g = record {
-      asked = asked;
-      breaks = input_behind bytes (ahead_of x) r r' (BreaksWith e) h.passed.is_read t.is;
-      len = p.len;
-      next = input_behind bytes (ahead_of x) r r' (λ s. IsNextPlace s (length bytes) v v'' skip) h.passed.is_read here;
-      reports = refl;
-    } in
-    let gap' = subst (λ (u : Work). IsGap style resync name r (length bytes) u g) h.worked is in
+    let read = passed_ahead c style resync name (ahead_of x) (ahead_of y) r r' r'' d d' w w' n n' k k' h.ps h.passed t.searches.stays.looks in
+    let at : y.offset ≡ length bytes = t.searches.stays.offset ∙ h.at in
+    let is = gap_of c style resync name x y z r r' r'' q d d' w w' n n' k k' v v' v'' e skip h t asked over.skips in
     let told : Appends w' w'' line = subst (λ m. Appends w' w'' (ending_line style name m e (rest.PassedOver skip))) at over.told in
     record {
       ps = h.ps ++ gap g ∷ [];
-      passed = passed_more c style resync name (ahead_of y) (ahead_of z) r r'' q d d' d' w w' w'' n n' n'' k k' k' h.ps (gap g) read gap' p.is_read (writes_none c d' k') told over.is_counted;
+      passed = passed_more c style resync name (ahead_of y) (ahead_of z) r r'' q d d' d' w w' w'' n n' n'' k k' k' h.ps (gap g) read is p.is_read (writes_none c d' k') told over.is_counted;
       at = over.skips.offset ∙ ap (λ m. m + skip.count) at ∙ ap (λ m. length bytes + m) (sym p.len) ∙ sym (bytes_more h.ps (gap g));
       worked = sym (fold-append work_behind no_work h.ps (gap g ∷ []));
     }

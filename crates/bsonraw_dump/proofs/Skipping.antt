@@ -234,3 +234,7 @@ seeks_ahead m b l a y last q v w told found most bytes is at same seeks =
 pub not_true : (b : Bool) → not b ≡ true → b ≡ false
 not_true true is = let impossible : ⊥ = cc in absurd impossible
 not_true false is = refl
+
+pub not_false : (b : Bool) → not b ≡ false → b ≡ true
+not_false true is = refl
+not_false false is = let impossible : ⊥ = cc in absurd impossible

@@ -1,13 +1,20 @@
 -- How what came of inputs grows by one more.
-use Rattle.std.proofs.Common.{◌≡◌, ◌+◌, ◌<◌, ℕ, List, [], ◌∷◌, ◌++◌, Bool, false, Option, None, Result, Ok, Err, OnErr, add-zero, drop, get_or, inl, inr, length, map, refl, sym, subst, ap, ◌∙◌, take}
-use Rattle.std.proofs.lemmas.List.{map-append, map_more, take-append-drop}
-use Rattle.std.specs.Option.{option_map}
-use Rattle.std.specs.Io.KnownBytes.{Appends}
-use Rattle.bsonraw_dump.specs.Batch.{Comes, CountsInput, CountsRun, IsRun, RunsFront, RunsOver, State, cut_of, first_cut, input_line, input_of, state_of}
-use Rattle.bsonraw_dump.specs.Run.{count_left, no_counts, plus}
+use Rattle.std.proofs.Common.{◌≡◌, ◌+◌, ◌<◌, ◌≤◌, ℕ, List, [], ◌∷◌, ◌++◌, Option, Result, Ok, Err, IfOk, OnErr, add-zero, drop, get_or, inl, inr, is_none, length, map, refl, sym, subst, ap, ◌∙◌, take}
+use Rattle.std.proofs.lemmas.List.{drop_all, drop_more, map-append, map_more, take-append-drop}
+use Rattle.std.specs.Io.KnownBytes.{Appends, Keeps}
+use Rattle.bson_json.specs.Written.{AppendsFront}
+use Rattle.bsonraw_dump.specs.Batch.{Comes, CountsInput, CountsRun, IsRun, RunsFront, RunsOver, State, HaltsBefore, HaltsWithin, all_line, input_line, state_of}
+use Rattle.bsonraw_dump.specs.Halting.{Halts}
+use Rattle.bsonraw_dump.specs.Run.{Ends, no_counts, plus}
 use Rattle.bsonraw_dump.specs.declared.batch.Job.{Job}
 use Rattle.bsonraw_dump.specs.declared.batch.Totals.{Totals}
 use Rattle.bsonraw_dump.specs.declared.counts.Counts.{Counts}
+use Rattle.bsonraw_dump.specs.declared.failure.Failure.{Failure}
+use Rattle.bsonraw_dump.specs.declared.failure.ReadFailure.{ReadFailure}
+use Rattle.bsonraw_dump.specs.declared.kept.Kept.{Kept}
+use Rattle.bsonraw_dump.proofs.Fronts.{front_none}
+use Rattle.bsonraw_dump.proofs.Halting.{halts_here}
+use Rattle.bsonraw_dump.proofs.Passing.{passed_none}
 
 module _ (job : Job) (bytes_of : List ℕ → Option (List ℕ)) where
   -- one more input is run over
@@ -24,17 +31,30 @@ module _ (job : Job) (bytes_of : List ℕ → Option (List ℕ)) where
       (runs_more (map f (take i names)) (f (get_or names i d)) first between last runs comes)
 
   -- a failure comes behind the first of these
-  pub runs_front : {A : Type 0} (f : A → List ℕ) (names : List A) (i : ℕ) (first last : State) (n : Counts) → RunsOver job bytes_of (map f (take i names)) first last
-      → (counts : Counts) × (n ≡ plus last.counts counts) → RunsFront job bytes_of (map f names) first n
-  runs_front f names i first last n runs (counts, is) = record {
+  pub runs_front : {A : Type 0} (f : A → List ℕ) (names : List A) (i : ℕ) (first last : State) (d w : Option (List ℕ)) (n : Counts) → RunsOver job bytes_of (map f (take i names)) first last
+      → HaltsBefore job bytes_of (map f (drop i names)) last d w → (counts : Counts) × (n ≡ plus last.counts counts) → RunsFront job bytes_of (map f names) first d w n
+  runs_front f names i first last d w n runs halts (counts, is) = record {
     passed = map f (take i names);
     others = map f (drop i names);
     in_order = ap (map f) (sym (take-append-drop i names)) ∙ map-append f (take i names) (drop i names);
     last = last;
     runs = runs;
+    halts = halts;
     counts = counts;
     is_counted = is;
   }
+
+  -- in the next one
+  pub halts_next : {A : Type 0} (f : A → List ℕ) (names : List A) (i : ℕ) (x : A) (last : State) (d w : Option (List ℕ)) → i < length names
+      → HaltsWithin job (f (get_or names i x)) (bytes_of (f (get_or names i x))) last.out d last.report w last.kept → HaltsBefore job bytes_of (map f (drop i names)) last d w
+  halts_next f names i x last d w there stops =
+      subst (λ xs. HaltsBefore job bytes_of (map f xs) last d w) (sym (drop_more names i x there)) stops
+
+  -- behind all of them
+  pub halts_behind : {A : Type 0} (f : A → List ℕ) (names : List A) (i : ℕ) (last : State) (d w : Option (List ℕ)) → length names ≤ i
+      → Keeps last.out d → AppendsFront last.report w (all_line job job.command last.counts last.kept) → HaltsBefore job bytes_of (map f (drop i names)) last d w
+  halts_behind f names i last d w all kept front =
+      subst (λ xs. HaltsBefore job bytes_of (map f xs) last d w) (sym (drop_all i names all)) (kept, front)
 
 -- nothing more is counted
 pub plus_none : (n : Counts) → plus n no_counts ≡ n
@@ -64,6 +84,19 @@ module _ (job : Job) (name : List ℕ) (input : Option (List ℕ)) (d d' w w' w'
   comes_whole (goes_on, is, counted, cut) told =
       record { counts = n; goes_on = goes_on; report_between = w'; is = is; told = told; is_counted = counted; cut = cut }
 
-pub on_err : {A E : Type 0} (r : Result A E) (P : Type 0) → P → OnErr r P
-on_err (Ok x) P is = tt
-on_err (Err e) P is = is
+  -- a front of its line is written
+  pub halts_line : CountsInput job name input d d' w w' t t' n → AppendsFront w' w'' (input_line job job.command name n) → HaltsWithin job name input d d' w w'' t.kept
+  halts_line (goes_on, is, counted, cut) front = inr (w', t'.kept, n, goes_on, is, front)
+
+-- nothing comes of an input
+pub halts_unread : (job : Job) (name : List ℕ) (input d w : Option (List ℕ)) (k : Kept) → HaltsWithin job name input d d w w k
+halts_unread job name input d w k =
+    inl (halts_here job.command job.style job.resync name input input d d w w no_counts no_counts k k [] [] (passed_none job.command job.style job.resync name input d w no_counts k))
+
+-- a run over an input was whole, or failed, and its line isn't written
+pub halts_run : (job : Job) (name : List ℕ) (input left d d' w w' : Option (List ℕ)) (n : Counts) (k k' : Kept) (r : Result (Option ReadFailure) Failure)
+    → IfOk r (Ends job.command job.style job.resync name input left d d' w w' no_counts n k k') → OnErr r (Halts job.command job.style job.resync name input d d' w w' k)
+    → HaltsWithin job name input d d' w w' k
+halts_run job name input left d d' w w' n k k' (Ok failed) ends halts =
+    inr (w', k', n, is_none failed, inl (record { left = left; failed = failed; ends = ends; could = refl }), front_none w' _)
+halts_run job name input left d d' w w' n k k' (Err e) ends halts = inl halts

@@ -6,8 +6,17 @@ use Rattle.std.specs.Ordering.{nat_cmp}
 use Rattle.std.specs.Io.KnownBytes.{Appends}
 use Rattle.std.proofs.KnownBytes.{Appends-nil, Appends-trans}
 use Rattle.std.proofs.lemmas.Grind.{flat_map-append, fold-append}
+use Rattle.bson_json.specs.Errors.{TellsWriteError}
 use Rattle.bson_json.specs.Json.{IsJson}
+use Rattle.bson_json.specs.Written.{AppendsFront, WroteFront}
+use Rattle.bson_json.specs.declared.error.WriteJsonError.{WriteJsonError}
+use Rattle.bson_json.specs.declared.error.WriteJsonError.TheVariants as error
 use Rattle.bson_json.specs.declared.style.Style as json
+use Rattle.raw_tree.specs.CanonicalForm.{IsCanonicalForm}
+use Rattle.raw_tree.specs.declared.reader.limits.Limits.{Limits}
+use Rattle.bsonraw_dump.specs.Fronts.{WritesFront}
+use Rattle.bsonraw_dump.specs.Halting.{IsMade}
+use Rattle.bsonraw_dump.proofs.Fronts.{front_behind, front_first}
 use Rattle.bsonraw_dump.specs.Run.{Emits, MakesJson, Writes}
 use Rattle.bsonraw_dump.specs.Unique.{CountsOne, first_forms, if_new, joined, kept_of, known_behind, knows, with_form, written_of}
 use Rattle.bsonraw_dump.specs.declared.command.Command.{Command}
@@ -61,12 +70,16 @@ nothing_known command.Sound known d = refl
 nothing_known (command.Json style) known d = refl
 nothing_known command.Unique known d = refl
 
-pub writes_none : (c : Command) (out : Option (List ℕ)) (k : Kept) → Writes c [] out out k k
-writes_none c out k = record {
-  is_written = subst (λ l. Appends out out (joined l)) (sym (nothing_kept c (knows k))) (Appends-nil out);
+-- nothing is made
+pub writes_nothing : (c : Command) (d d' : Option (List ℕ)) (k : Kept) → Appends d d' [] → Writes c [] d d' k k
+writes_nothing c d d' k put = record {
+  is_written = subst (λ l. Appends d d' (joined l)) (sym (nothing_kept c (knows k))) put;
   is_known = nothing_known c (knows k);
   is_counted = let none : length (kept_of c (knows k) []) ≡ 0 = ap length (nothing_kept c (knows k)) in omega arith;
 }
+
+pub writes_none : (c : Command) (out : Option (List ℕ)) (k : Kept) → Writes c [] out out k k
+writes_none c out k = writes_nothing c out out k (Appends-nil out)
 
 pub writes_more : (c : Command) (xs ys : List (List ℕ)) (d d' d'' : Option (List ℕ)) (k k' k'' : Kept) → Writes c xs d d' k k' → Writes c ys d' d'' k' k'' → Writes c (xs ++ ys) d d'' k k''
 writes_more c xs ys d d' d'' k k' k'' first second =
@@ -105,3 +118,49 @@ json_emitted style b f d d' k k' sound (text, is, put, counted) =
       | inr breached ↦ subst (λ x. MakesJson style b x (line ∷ [])) (sym breached) (text, is, refl)
     ] in
     (line ∷ [], made, line_written style line d d' k k' put counted)
+
+-- these are the texts of a document with a line feed
+abbrev pub IsJsonLine : json.Style → List ℕ → List ℕ → Type 0
+IsJsonLine style b line = (text : List ℕ) × IsJson style b text × (line ≡ text ++ codes "\n")
+
+json_front : (style : json.Style) (b : List ℕ) (d d' : Option (List ℕ)) → WroteFront style b d d' → WritesFront (IsJsonLine style b) d d'
+json_front style b d d' (text, is, front) = inr (text ++ codes "\n", (text, is, refl), front_first d d' text (codes "\n") front)
+
+-- the writer of Extended JSON failed
+pub json_failed : (limits : Limits) (style : json.Style) (b : List ℕ) (d d' : Option (List ℕ)) (e : WriteJsonError) → TellsWriteError limits style b d d' e
+    → WritesFront (IsJsonLine style b) d d'
+json_failed limits style b d d' (error.Barrier barrier) (tells, same) = inl same
+json_failed limits style b d d' error.OutOfMemory (within, inl same) = inl same
+json_failed limits style b d d' error.OutOfMemory (within, inr wrote) = json_front style b d d' wrote
+json_failed limits style b d d' (error.Writing e) (t, reads, wrote) = json_front style b d d' wrote
+
+-- its line feed isn't written
+pub json_unended : (style : json.Style) (b : List ℕ) (d d' d'' : Option (List ℕ)) → (text : List ℕ) × IsJson style b text × Appends d d' text → AppendsFront d' d'' (codes "\n")
+    → WritesFront (IsJsonLine style b) d d''
+json_unended style b d d' d'' (text, is, put) front = inr (text ++ codes "\n", (text, is, refl), front_behind d d' d'' text (codes "\n") put front)
+
+-- of a document without damage a front of its line is written
+pub json_made : (style : json.Style) (b : List ℕ) (f : Finding) (k : Kept) (d d' : Option (List ℕ)) → (f ≡ finding.Canonical) ⊎ (f ≡ finding.Breached)
+    → WritesFront (IsJsonLine style b) d d' → WritesFront (IsMade (command.Json style) b f k) d d'
+json_made style b f k d d' sound (inl same) = inl same
+json_made style b f k d d' sound (inr (line, (text, is, it), front)) =
+    let made : MakesJson style b f (line ∷ []) = elim sound [
+      | inl canonical ↦ subst (λ x. MakesJson style b x (line ∷ [])) (sym canonical) (text, is, ap (λ (x : List ℕ). x ∷ []) it)
+      | inr breached ↦ subst (λ x. MakesJson style b x (line ∷ [])) (sym breached) (text, is, ap (λ (x : List ℕ). x ∷ []) it)
+    ] in
+    inr (line, (line ∷ [], made, sym (append-nil line)), front)
+
+-- this is written of the canonical form of a document
+abbrev pub IsFormWritten : Command → List ℕ → Kept → List ℕ → Type 0
+IsFormWritten c b k text = (form : List ℕ) × IsCanonicalForm b form × (text ≡ written_of c (knows k) (form ∷ []))
+
+-- of a document that isn't canonical a front of its form is written
+pub form_made_canon : (b : List ℕ) (k : Kept) (d d' : Option (List ℕ)) → WritesFront (IsFormWritten command.Canon b k) d d'
+    → WritesFront (IsMade command.Canon b finding.Breached k) d d'
+form_made_canon b k d d' (inl same) = inl same
+form_made_canon b k d d' (inr (text, (form, is, it), front)) = inr (text, (form ∷ [], (form, is, refl), it), front)
+
+pub form_made_unique : (b : List ℕ) (k : Kept) (d d' : Option (List ℕ)) → WritesFront (IsFormWritten command.Unique b k) d d'
+    → WritesFront (IsMade command.Unique b finding.Breached k) d d'
+form_made_unique b k d d' (inl same) = inl same
+form_made_unique b k d d' (inr (text, (form, is, it), front)) = inr (text, (form ∷ [], (form, is, refl), it), front)

@@ -2,6 +2,8 @@
 use Rattle.std.specs.Prelude.{◌≡◌, ◌⊎◌, ◌++◌, ◌∷◌, ℕ, List, [], Bool, false, Option, None, Some, cond, is_none, nat_lt}
 use Rattle.std.specs.Option.{option_map}
 use Rattle.std.specs.Io.KnownBytes.{Appends, Keeps}
+use Rattle.bson_json.specs.Written.{AppendsFront}
+use Rattle.bsonraw_dump.specs.Halting.{Halts}
 use Rattle.bsonraw_dump.specs.Run.{Ends, count_left, no_counts, plus}
 use Rattle.bsonraw_dump.specs.Status.{IsFailureStatus, IsStatus}
 use Rattle.bsonraw_dump.specs.Told.{summary_line}
@@ -114,14 +116,27 @@ pub record RunsAll (job : Job) (bytes_of : List ℕ → Option (List ℕ)) (name
   pub out : Keeps last.out out_new
   pub report : Appends last.report report_new (all_line job job.command last.counts last.kept)
 
--- Some of the inputs of these names were run over, from this state on, in order; and then a failure came. What was counted until then is
--- all that was counted of these, and perhaps some more.
-pub record RunsFront (job : Job) (bytes_of : List ℕ → Option (List ℕ)) (names : List (List ℕ)) (first : State) (counts_new : Counts) : Type 0 where
+-- An input isn't done with: the run over it fails. Or it was run over whole, or wasn't opened, and a front of its line is written.
+abbrev pub HaltsWithin : Job → List ℕ → (input out_old out_new report_old report_new : Option (List ℕ)) → Kept → Type 0
+HaltsWithin job name input out_old out_new report_old report_new kept =
+    Halts job.command job.style job.resync name input out_old out_new report_old report_new kept
+    ⊎ ((report_between : Option (List ℕ)) × (kept_new : Kept) × (counts : Counts) × (goes_on : Bool)
+    × IsInput job name input out_old out_new report_old report_between kept kept_new counts goes_on × AppendsFront report_between report_new (input_line job job.command name counts))
+
+-- What is written of the first of these inputs, which isn't done with. Where none is left, a front of the line of all.
+abbrev pub HaltsBefore : Job → (bytes_of : List ℕ → Option (List ℕ)) → List (List ℕ) → State → (out_new report_new : Option (List ℕ)) → Type 0
+HaltsBefore job bytes_of [] last out_new report_new = Keeps last.out out_new × AppendsFront last.report report_new (all_line job job.command last.counts last.kept)
+HaltsBefore job bytes_of (name ∷ names) last out_new report_new = HaltsWithin job name (bytes_of name) last.out out_new last.report report_new last.kept
+
+-- Some of the inputs of these names were run over, from this state on, in order; and then a failure came, in the next, or behind all. What was
+-- counted until then is all that was counted of these, and perhaps some more.
+pub record RunsFront (job : Job) (bytes_of : List ℕ → Option (List ℕ)) (names : List (List ℕ)) (first : State) (out_new report_new : Option (List ℕ)) (counts_new : Counts) : Type 0 where
   pub passed : List (List ℕ)
   pub others : List (List ℕ)
   pub in_order : names ≡ passed ++ others
   pub last : State
   pub runs : RunsOver job bytes_of passed first last
+  pub halts : HaltsBefore job bytes_of others last out_new report_new
   pub counts : Counts
   pub is_counted : counts_new ≡ plus last.counts counts
 
@@ -132,7 +147,7 @@ EndsAll job bytes_of names first out_new report_new None ended =
 EndsAll job bytes_of names first out_new report_new (Some (lack.Cut cut)) ended =
     (last : State) × RunsAll job bytes_of names first last out_new report_new × (last.cut ≡ Some (cut_of cut)) × IsStatus job.command last.counts ended
 EndsAll job bytes_of names first out_new report_new (Some (lack.Failed failure)) ended =
-    (counts : Counts) × RunsFront job bytes_of names first counts × IsFailureStatus job.command counts failure ended
+    (counts : Counts) × RunsFront job bytes_of names first out_new report_new counts × IsFailureStatus job.command counts failure ended
 
 -- How a run over the inputs of these names ends, where nothing was kept before. Nothing lacks where each was read to its end. A failure
 -- gives the status, but for a pipe that has no reader.

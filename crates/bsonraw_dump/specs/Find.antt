@@ -113,6 +113,10 @@ Finds b finding.Breached told =
 Finds b finding.Damaged told = IsBarred b finding.Damaged told ⊎ ((why : Reason) × Refuses b why × (told ≡ Some (account_of_damage None (reason_text why))))
 Finds b finding.TooDeep told = IsBarred b finding.TooDeep told
 
+-- a document in which this is found isn't read to its end
+abbrev pub IsDamage : Finding → Type 0
+IsDamage found = (found ≡ finding.Damaged) ⊎ (found ≡ finding.TooDeep)
+
 -- what a place shows
 abbrev pub spot_of : Place → Spot
 spot_of place = record { path = steps_of place; offset = place.offset }

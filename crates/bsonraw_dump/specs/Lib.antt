@@ -3,9 +3,16 @@ pub mod Reading
 pub mod Find
 pub mod Told
 pub mod Resync
+pub mod Fronts
 pub mod Values
 pub mod Listing
 pub mod Unique
 pub mod Run
+pub mod Halting
 pub mod Status
 pub mod Batch
+pub mod Texts
+pub mod TextFaults
+pub mod TextReading
+pub mod TextRun
+pub mod TextBatch

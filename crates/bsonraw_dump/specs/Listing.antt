@@ -7,7 +7,7 @@ use Rattle.json.specs.Print.{quoted}
 use Rattle.raw_form.specs.Looking.{HoldsBytes}
 use Rattle.raw_view.specs.Frame.Envelope.{IsEnvelope, Refuses}
 use Rattle.raw_view.specs.Errors.{IsReadingKind, SaysFault}
-use Rattle.raw_view.specs.Frame.{Frame, IsWalk, Fault, End, Done, Stopped}
+use Rattle.raw_view.specs.Frame.{Frame, IsFrame, IsStop, IsWalk, LeadsTo, Fault, End, Done, Stopped}
 use Rattle.raw_view.specs.Frame.Kind.{kind_text}
 use Rattle.raw_view.specs.Meaning.{RawValue, KeyedFault, Means, value, faulty}
 use Rattle.raw_view.specs.Meaning as raw
@@ -16,6 +16,7 @@ use Rattle.raw_view.specs.declared.error.BorrowedError.{BorrowedError}
 use Rattle.raw_view.specs.declared.error.ErrorKind.{ErrorKind}
 use Rattle.raw_view.specs.declared.error.Reason.{Reason}
 use Rattle.bsonraw_dump.specs.Find as find
+use Rattle.bsonraw_dump.specs.Fronts.{HasFront, WritesFront}
 use Rattle.bsonraw_dump.specs.Values.{ShowsValue}
 
 -- a line in a level that so many others are around: two spaces for each level
@@ -72,6 +73,25 @@ Lists (suc n) depth b text =
 abbrev pub ListsDocument : List ℕ → List ℕ → Type 0
 ListsDocument b text = (IsEnvelope b × Lists 500 1 b text) ⊎ ((why : Reason) × Refuses b why × (text ≡ []))
 
+-- A front of the lines of what is left of a level, where Front says which fronts the lines of nested bytes have: nothing; or a front of those of
+-- the frame that is there, with a front of those inside it; or a front of the line of the stop that is there.
+abbrev pub HasNextFront : (Front : List ℕ → List ℕ → Type 0) → ℕ → (left : List ℕ) → List ℕ → Type 0
+HasNextFront Front depth left text =
+    (text ≡ [])
+    ⊎ ((f : Frame) × (r lines : List ℕ) × IsFrame left f r × ListsFrame Front depth f lines × HasFront lines text)
+    ⊎ ((fault : Fault) × (key : Option (List ℕ)) × (shown : List ℕ) × IsStop left fault key × ShowsFault fault shown × HasFront (stop_line depth key shown) text)
+
+-- A front of the lines of the bytes b: those of the first frames, and a front of what is behind them.
+abbrev pub HasLinesFront : ℕ → ℕ → List ℕ → List ℕ → Type 0
+HasLinesFront zero depth b text = HasFront (indented depth (codes "too deep")) text
+HasLinesFront (suc n) depth b text =
+    (frames : List Frame) × (left elements last : List ℕ) × LeadsTo (drop 4 b) frames left × ListsFrames (Lists n (depth + 1)) depth frames elements
+    × HasNextFront (HasLinesFront n (depth + 1)) depth left last × (text ≡ elements ++ last)
+
+-- a front of the listing of a piece
+abbrev pub HasListingFront : List ℕ → List ℕ → Type 0
+HasListingFront b text = (text ≡ []) ⊎ (IsEnvelope b × HasLinesFront 500 1 b text)
+
 -- What the code of a level tells. No public contract cites what follows.
 
 -- the line of a frame is written: that of its value, which holds these nested bytes or none; or that of its fault
@@ -84,3 +104,17 @@ PutsElement depth f old new inner =
 -- the line of a stop with this error is written
 abbrev pub PutsStop : ℕ → BorrowedError → (old new : Option (List ℕ)) → Type 0
 PutsStop depth e old new = IsReadingKind e.kind × Appends old new (stop_line depth (option_copied e.key) (codes "damaged: " ++ find.kind_text e.kind))
+
+-- this is the line of a frame, without those of what is inside
+abbrev pub IsElementLine : ℕ → Frame → List ℕ → Type 0
+IsElementLine depth f text =
+    ((v : RawValue) × (shown : List ℕ) × Means f (value v) × ShowsValue v shown × (text ≡ element_line depth f.key shown))
+    ⊎ ((fault : KeyedFault) × (shown : List ℕ) × Means f (faulty fault) × ShowsFault fault.fault shown × (text ≡ element_line depth f.key (kind_text f.kind ++ codes ", " ++ shown)))
+
+-- a front of the line of a frame is written, or nothing
+abbrev pub PutsElementFront : ℕ → Frame → (old new : Option (List ℕ)) → Type 0
+PutsElementFront depth f old new = WritesFront (IsElementLine depth f) old new
+
+-- this is the line of a stop with this error
+abbrev pub IsStopLine : ℕ → BorrowedError → List ℕ → Type 0
+IsStopLine depth e text = IsReadingKind e.kind × (text ≡ stop_line depth (option_copied e.key) (codes "damaged: " ++ find.kind_text e.kind))

@@ -6,11 +6,13 @@ use Rattle.bson_json.specs.Json.{IsJson}
 use Rattle.bson_json.specs.declared.style.Style as json
 use Rattle.bsonraw_dump.specs.Cut.{IsPiece, EndsWith}
 use Rattle.bsonraw_dump.specs.Reading.{IsReadBehind, IsWindow, ahead_of}
-use Rattle.bsonraw_dump.specs.Resync.{BreaksWith, IsBelieved, IsNextPlace, SkipsTo, Spends}
+use Rattle.bsonraw_dump.specs.Resync.{BreaksWith, IsBelieved, IsNextPlace, SkipsTo, Spends, TellsPart}
 use Rattle.raw_resync.specs.Seeking.{no_work}
 use Rattle.bsonraw_dump.specs.declared.window.Drained.{Drained}
+use Rattle.bsonraw_dump.specs.declared.window.Next.{Next}
+use Rattle.bsonraw_dump.specs.declared.window.Next.TheVariants as next
 use Rattle.bsonraw_dump.specs.declared.window.Window.{Window}
-use Rattle.bsonraw_dump.specs.Find.{Account, Finds}
+use Rattle.bsonraw_dump.specs.Find.{Account, Finds, IsDamage}
 use Rattle.bsonraw_dump.specs.Listing.{ListsDocument}
 use Rattle.bsonraw_dump.specs.Told.{ending_line, last_line, line, report_line, words_of}
 use Rattle.bsonraw_dump.specs.Unique.{kept_of, known_behind, knows, written_of}
@@ -165,6 +167,14 @@ PassesOne c style name offset b out_old out_new report_old report_new kept_old k
     (told : Option Account) × Finds b found told × Emits c b found out_old out_new kept_old kept_new
     × ((lines : List ℕ) × Reports c style name offset b found told lines × Appends report_old report_new lines)
 
+-- A piece is passed, one with damage only where any is; or it isn't, and nothing is written or reported.
+abbrev pub MayPassOne : (any : Bool) → Command → Style → List ℕ → ℕ → List ℕ → (out_old out_new report_old report_new : Option (List ℕ)) → (kept_old kept_new : Kept)
+    → Option Finding → Type 0
+MayPassOne any c style name offset b out_old out_new report_old report_new kept_old kept_new (Some found) =
+    (any ≡ false → ¬ IsDamage found) × PassesOne c style name offset b out_old out_new report_old report_new kept_old kept_new found
+MayPassOne any c style name offset b out_old out_new report_old report_new kept_old kept_new None =
+    (any ≡ false) × (out_new ≡ out_old) × (report_new ≡ report_old) × (kept_new ≡ kept_old)
+
 abbrev pub bytes_of_parts : List Part → List ℕ
 bytes_of_parts ps = flat_map bytes_of_part ps
 
@@ -267,15 +277,39 @@ pub record PassesGap (style : Style) (name : List ℕ) (end : Ending) (read_old 
   pub told : Appends report_old report_new (ending_line style name window_old.offset end (rest.PassedOver skip))
   pub is_counted : counts_new ≡ count_gap counts_old skip.count
 
--- the document of so many bytes in front of the bytes ahead is passed
-pub record PassesFront (c : Command) (style : Style) (name : List ℕ) (len : ℕ) (window_old window_new : Window)
+-- the document of so many bytes in front of the bytes ahead is passed, one with damage only where any is
+pub record PassesFront (any : Bool) (c : Command) (style : Style) (name : List ℕ) (len : ℕ) (window_old window_new : Window)
     (out_old out_new report_old report_new : Option (List ℕ)) (counts_old counts_new : Counts) (kept_old kept_new : Kept) : Type 0 where
   pub window : IsWindow window_new
   pub offset : window_new.offset ≡ window_old.offset + len
   pub ahead : ahead_of window_new ≡ drop len (ahead_of window_old)
   pub finding : Finding
+  pub clean : any ≡ false → ¬ IsDamage finding
   pub passed : PassesOne c style name window_old.offset (take len (ahead_of window_old)) out_old out_new report_old report_new kept_old kept_new finding
   pub is_counted : (e : Entry) → length e.bytes ≡ len → e.finding ≡ finding → counts_new ≡ count_entry counts_old e
+
+-- nothing is written, reported or counted
+abbrev pub WritesNothing : (out_old out_new report_old report_new : Option (List ℕ)) → (counts_old counts_new : Counts) → (kept_old kept_new : Kept) → Type 0
+WritesNothing out_old out_new report_old report_new counts_old counts_new kept_old kept_new =
+    (out_new ≡ out_old) × (report_new ≡ report_old) × (counts_new ≡ counts_old) × (kept_new ≡ kept_old)
+
+-- such a document is passed, or nothing is done
+abbrev pub MayPassFront : (any : Bool) → Command → Style → List ℕ → (len : ℕ) → (window_old window_new : Window) → (out_old out_new report_old report_new : Option (List ℕ))
+    → (counts_old counts_new : Counts) → (kept_old kept_new : Kept) → Bool → Type 0
+MayPassFront any c style name len window_old window_new out_old out_new report_old report_new counts_old counts_new kept_old kept_new true =
+    PassesFront any c style name len window_old window_new out_old out_new report_old report_new counts_old counts_new kept_old kept_new
+MayPassFront any c style name len window_old window_new out_old out_new report_old report_new counts_old counts_new kept_old kept_new false =
+    (any ≡ false) × (window_new ≡ window_old) × WritesNothing out_old out_new report_old report_new counts_old counts_new kept_old kept_new
+
+-- what is next was told, and was passed where it is a document
+abbrev pub PassesNext : Command → Style → (resync : Bool) → List ℕ → (read_old read_new : Option (List ℕ)) → (window_old window_new : Window) → (work_old work_new : Work)
+    → (out_old out_new report_old report_new : Option (List ℕ)) → (counts_old counts_new : Counts) → (kept_old kept_new : Kept) → Next → Type 0
+PassesNext c style resync name read_old read_new window_old window_new work_old work_new out_old out_new report_old report_new counts_old counts_new kept_old kept_new (next.Document len) =
+    (any : Bool) × (window : Window) × TellsPart resync read_old read_new window_old window work_old work_new (next.Document len)
+    × PassesFront any c style name len window window_new out_old out_new report_old report_new counts_old counts_new kept_old kept_new
+PassesNext c style resync name read_old read_new window_old window_new work_old work_new out_old out_new report_old report_new counts_old counts_new kept_old kept_new told =
+    TellsPart resync read_old read_new window_old window_new work_old work_new told
+    × WritesNothing out_old out_new report_old report_new counts_old counts_new kept_old kept_new
 
 -- How the parts of an input end that were passed: at its end; with bytes that no document begins with; or with an error, where the
 -- last part ended.

@@ -3,7 +3,9 @@
 
 use crate::batch::Job;
 use crate::command::Command;
+use crate::reading::Reading;
 use crate::style::Style;
+use crate::texts_batch::TextJob;
 use crate::version::VERSION;
 use bson_json::{Format, Layout, Style as JsonStyle};
 use clap::{Arg, ArgAction, ArgMatches, Error};
@@ -13,7 +15,7 @@ use std::alloc::{AllocError, Global};
 #[derive(Drop)]
 pub struct Task<'a> {
     /// what is asked of the inputs
-    pub job: Job,
+    pub reading: Reading,
     /// the file that is written in place of standard output
     pub output: Option<&'a str>,
     /// what is read; nothing and `-` are standard input
@@ -23,9 +25,9 @@ pub struct Task<'a> {
 /// How findings are printed.
 const FORMS: &[&str] = &["words", "json"];
 
-fn files<'a>(alloc: Global) -> Arg<'a> {
+fn files<'a>(alloc: Global, help: &'a str) -> Arg<'a> {
     Arg::new(alloc, "FILE")
-        .help("Dumps; nothing or -: standard input")
+        .help(help)
         .num_args(0..)
         .action(ArgAction::Append)
 }
@@ -67,7 +69,7 @@ fn reading<'a>(alloc: Global, command: clap::Command<'a>) -> Result<clap::Comman
         "Goes on behind an unsound length, at the next place where two sound documents begin";
     command
         .arg(switch(alloc, "resync", help))?
-        .arg(files(alloc))
+        .arg(files(alloc, "Dumps; nothing or -: standard input"))
 }
 
 /// A command that writes documents.
@@ -89,6 +91,20 @@ fn documents_as_json<'a>(alloc: Global) -> Result<clap::Command<'a>, AllocError>
             "Prints a line for each member, indented by two spaces a level",
         ))?;
     writing(alloc, command)
+}
+
+fn texts<'a>(alloc: Global) -> Result<clap::Command<'a>, AllocError> {
+    let command = clap::Command::new(alloc, "bson").about(
+        "Writes the documents of texts of MongoDB Extended JSON v2, one behind the other",
+    );
+    findings(alloc, command)?
+        .arg(output(alloc))?
+        .arg(switch(
+            alloc,
+            "keep-going",
+            "Goes on behind a fault, and leaves out its document",
+        ))?
+        .arg(files(alloc, "Texts; nothing or -: standard input"))
 }
 
 /// The command line as a whole.
@@ -117,7 +133,8 @@ pub fn command_line<'a>(alloc: Global) -> Result<clap::Command<'a>, AllocError> 
         .subcommand(writing(alloc, canon)?)?
         .subcommand(writing(alloc, sound)?)?
         .subcommand(writing(alloc, unique)?)?
-        .subcommand(documents_as_json(alloc)?)
+        .subcommand(documents_as_json(alloc)?)?
+        .subcommand(texts(alloc)?)
 }
 
 fn style_of(matches: &ArgMatches<'_>) -> Style {
@@ -160,20 +177,37 @@ fn task_of<'a>(
         Command::Check | Command::Canon | Command::Sound | Command::Unique | Command::Json(_) =>
             style_of(matches),
     };
+    Ok(Task {
+        reading: Reading::Dumps(Job {
+            command,
+            style,
+            resync: matches.get_flag("resync"),
+        }),
+        output,
+        inputs: inputs_of(alloc, matches)?,
+    })
+}
+
+/// The names of what is read.
+fn inputs_of<'a>(alloc: Global, matches: &ArgMatches<'a>) -> Result<Vec<&'a str>, Error> {
     let mut inputs = Vec::new(alloc);
     if let Some(names) = matches.get_strs("FILE") {
         for name in names {
             inputs.push(*name)?;
         }
     }
+    Ok(inputs)
+}
+
+/// The task of the command that reads texts.
+fn text_task<'a>(alloc: Global, matches: &ArgMatches<'a>) -> Result<Task<'a>, Error> {
     Ok(Task {
-        job: Job {
-            command,
-            style,
-            resync: matches.get_flag("resync"),
-        },
-        output,
-        inputs,
+        reading: Reading::Texts(TextJob {
+            style: style_of(matches),
+            keep_going: matches.get_flag("keep-going"),
+        }),
+        output: matches.get_str("output").filter(|name| *name != "-"),
+        inputs: inputs_of(alloc, matches)?,
     })
 }
 
@@ -198,6 +232,9 @@ pub fn parsed<'a>(alloc: Global, words: &'a [String]) -> Result<Option<Task<'a>>
     if let Some(inner) = matches.subcommand_matches("json") {
         let command = Command::Json(json_style_of(inner));
         return Ok(Some(task_of(alloc, command, inner)?));
+    }
+    if let Some(inner) = matches.subcommand_matches("bson") {
+        return Ok(Some(text_task(alloc, inner)?));
     }
     Ok(None)
 }

@@ -4,7 +4,8 @@
 ghost use Rattle.std.specs.Prelude.{◌≡◌, None, map, IfErr, IfOk, MatchBool, OnErr, OnOk};
 ghost use Rattle.std.specs.Io.KnownBytes.{Appends, Keeps};
 ghost use Rattle.std.specs.Option.{option_map};
-ghost use Rattle.bsonraw_dump.specs.Batch.{Comes, CountsInput, CountsRun, IsDone, KeepsNothing, RunsAll, RunsFront, State, all_line, cut_of, first_cut, input_line, input_of, state_of};
+ghost use Rattle.bson_json.specs.Written.{AppendsFront};
+ghost use Rattle.bsonraw_dump.specs.Batch.{Comes, CountsInput, CountsRun, IsDone, KeepsNothing, RunsAll, RunsFront, State, HaltsWithin, all_line, cut_of, first_cut, input_line, input_of, state_of};
 ghost use Rattle.bsonraw_dump.specs.Run.{IsReading, no_counts, plus};
 ghost use Rattle.bsonraw_dump.specs.Status.{HasDamage, IsFailureStatus, IsStatus};
 
@@ -138,7 +139,7 @@ fn run_each<'a, I: Inputs, D: Write, W: Write>(
         (state_of (D.contents out.old) (W.contents report.old) totals.old) last (D.contents out.new) (W.contents report.new)
         × (last.counts ≡ totals.new.counts) × (last.cut ≡ option_map cut_of totals.new.cut)) }
     ensures fails { OnErr result (RunsFront job (I.bytes_of inputs.now) (map (λ name. name.now) names.now)
-        (state_of (D.contents out.old) (W.contents report.old) totals.old) totals.new.counts) }
+        (state_of (D.contents out.old) (W.contents report.old) totals.old) (D.contents out.new) (W.contents report.new) totals.new.counts) }
     ensures failed { IfErr result (λ failure. ¬ IsReading failure) }
 {
     for name in names {
@@ -162,6 +163,8 @@ fn run_one<'a, I: Inputs, D: Write, W: Write>(
     ensures comes { OnOk result (Comes job (I.bytes_of inputs.now name.entry.now) name.entry.now
         (state_of (D.contents out.old) (W.contents report.old) totals.old) (state_of (D.contents out.new) (W.contents report.new) totals.new)) }
     ensures fails { OnErr result ((counts : Counts) × (totals.new.counts ≡ plus totals.old.counts counts)) }
+    ensures halts { OnErr result (HaltsWithin job name.entry.now (I.bytes_of inputs.now name.entry.now)
+        (D.contents out.old) (D.contents out.new) (W.contents report.old) (W.contents report.new) totals.old.kept) }
     ensures failed { IfErr result (λ failure. ¬ IsReading failure) }
 {
     let counts = count_one(alloc, job, inputs, name, out, report, totals)?;
@@ -181,6 +184,8 @@ fn count_one<'a, I: Inputs, D: Write, W: Write>(
     ensures counted { IfOk result (CountsInput job name.entry.now (I.bytes_of inputs.now name.entry.now) (D.contents out.old) (D.contents out.new)
         (W.contents report.old) (W.contents report.new) totals.old totals.new) }
     ensures fails { OnErr result ((counts : Counts) × (totals.new.counts ≡ plus totals.old.counts counts)) }
+    ensures halts { OnErr result (HaltsWithin job name.entry.now (I.bytes_of inputs.now name.entry.now)
+        (D.contents out.old) (D.contents out.new) (W.contents report.old) (W.contents report.new) totals.old.kept) }
     ensures failed { IfErr result (λ failure. ¬ IsReading failure) }
 {
     match inputs.open(name) {
@@ -211,6 +216,8 @@ fn run_open<'a, I: Inputs, D: Write, W: Write>(
     ensures counted { IfOk result (CountsRun job name.entry.now (I.Input.remaining input.old) (D.contents out.old) (D.contents out.new)
         (W.contents report.old) (W.contents report.new) totals.old totals.new) }
     ensures fails { OnErr result ((counts : Counts) × (totals.new.counts ≡ plus totals.old.counts counts)) }
+    ensures halts { OnErr result (HaltsWithin job name.entry.now (I.Input.remaining input.old)
+        (D.contents out.old) (D.contents out.new) (W.contents report.old) (W.contents report.new) totals.old.kept) }
     ensures failed { IfErr result (λ failure. ¬ IsReading failure) }
 {
     let asked = Asked {
@@ -246,6 +253,8 @@ fn put_counts<W: Write>(
 ) -> Result<(), Failure>
     ensures written { OnOk result
         (Appends (W.contents report.old) (W.contents report.new) (input_line job job.command name.now counts.now)) }
+    ensures front { OnErr result
+        (AppendsFront (W.contents report.old) (W.contents report.new) (input_line job job.command name.now counts.now)) }
     ensures failed { IfErr result (λ failure. ¬ IsReading failure) }
 {
     match job.command {
@@ -265,6 +274,8 @@ fn put_all_counts<W: Write>(
 ) -> Result<(), Failure>
     ensures written { OnOk result
         (Appends (W.contents report.old) (W.contents report.new) (all_line job job.command totals.now.counts totals.now.kept)) }
+    ensures front { OnErr result
+        (AppendsFront (W.contents report.old) (W.contents report.new) (all_line job job.command totals.now.counts totals.now.kept)) }
     ensures failed { IfErr result (λ failure. ¬ IsReading failure) }
 {
     match job.command {
@@ -282,7 +293,7 @@ fn put_all_counts<W: Write>(
     }
 }
 
-fn flush<W: Write>(writer: &mut W) -> Result<(), Failure>
+pub fn flush<W: Write>(writer: &mut W) -> Result<(), Failure>
     ensures kept { Keeps (W.contents writer.old) (W.contents writer.new) }
     ensures failed { IfErr result (λ failure. ¬ IsReading failure) }
 {

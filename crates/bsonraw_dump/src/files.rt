@@ -6,12 +6,14 @@ use crate::batch::{Done, Lack, run_all};
 use crate::command::Command;
 use crate::failure::Failure;
 use crate::inputs::Inputs;
-use crate::names::{Words, expanded, given_words};
+use crate::names::{Words, copied, expanded, given_words};
 use crate::output::into_file;
 use crate::prompt::Prompt;
+use crate::reading::Reading;
 use crate::status::Status;
 use crate::style::Style;
 use crate::tell::{tell, tell_words};
+use crate::texts_batch::run_texts;
 use crate::watch::{About, Watched};
 use std::alloc::AllocError;
 use std::fs::File;
@@ -47,6 +49,8 @@ pub struct Files<'a> {
     style: Style,
     /// whether it is shown how far the reading has come
     shows: bool,
+    /// whether they are dumps
+    are_dumps: bool,
     /// the file that is written by redirection, if it is one, which isn't read
     written: Option<Node>,
 }
@@ -70,6 +74,7 @@ impl<'a> Files<'a> {
             size,
             style: self.style,
             shows: self.shows,
+            is_dump: self.are_dumps,
         }
     }
 }
@@ -137,7 +142,10 @@ fn with_names<'a>(
     task: &Task<'a>,
     words: &'a Words,
 ) -> Result<Status, AllocError> {
-    let names = expanded(rt, &task.inputs)?;
+    let names = match task.reading {
+        Reading::Dumps(_) => expanded(rt, &task.inputs)?,
+        Reading::Texts(_) => copied(rt, &task.inputs)?,
+    };
     let mut inputs = Vec::new(rt.alloc());
     for name in &words.left_out {
         inputs.push(name.as_str())?;
@@ -151,7 +159,7 @@ fn with_names<'a>(
     Ok(start(
         rt,
         &Task {
-            job: task.job,
+            reading: task.reading,
             output: task.output,
             inputs,
         },
@@ -163,34 +171,29 @@ fn start(rt: &HostRuntime, task: &Task<'_>) -> Status {
     if let Some(name) = task.output {
         return into_file(rt, task, name);
     }
-    if is_binary(task.job.command) && rt.stdout().is_terminal() {
+    if task.reading.writes_documents() && rt.stdout().is_terminal() {
         let words = "standard output is a terminal; redirect it, or name an OUTPUT by -o";
-        tell_words(rt, task.job.style, words);
+        tell_words(rt, task.reading.style(), words);
         return Status::Usage;
     }
     let Ok(mut out) = BufWriter::with_capacity(rt.alloc(), BLOCK, rt.stdout()) else {
-        tell_words(rt, task.job.style, "not enough memory");
+        tell_words(rt, task.reading.style(), "not enough memory");
         return Status::Memory;
     };
-    match task.job.command {
-        Command::Check => {
+    match task.reading.command() {
+        Some(Command::Check) => {
             let is_file = node_of(rt, "/dev/stdout").is_some();
             let mut out = Prompt::new(rt, out, !is_file);
             each(rt, task, &mut io::sink(), &mut out).status
         }
-        Command::List => each(rt, task, &mut io::sink(), &mut out).status,
-        Command::Canon | Command::Sound | Command::Unique | Command::Json(_) => each(
+        Some(Command::List) => each(rt, task, &mut io::sink(), &mut out).status,
+        Some(Command::Canon | Command::Sound | Command::Unique | Command::Json(_)) | None => each(
             rt,
             task,
             &mut out,
             &mut rt.stderr(),
         ).status,
     }
-}
-
-/// Whether a command writes documents.
-fn is_binary(command: Command) -> bool {
-    matches!(command, Command::Canon | Command::Sound | Command::Unique)
 }
 
 /// Runs the command over each input, and tells a failure.
@@ -201,7 +204,10 @@ pub fn each<'a, D: Write, W: Write>(
     report: &mut W,
 ) -> Done<'a> {
     let inputs = files_of(rt, task);
-    let done = run_all(rt.alloc(), task.job, &inputs, &task.inputs, data, report);
+    let done = match task.reading {
+        Reading::Dumps(job) => run_all(rt.alloc(), job, &inputs, &task.inputs, data, report),
+        Reading::Texts(job) => run_texts(rt.alloc(), job, &inputs, &task.inputs, data, report),
+    };
     if let Some(Lack::Failed(failure)) = &done.lack {
         tell_failure(rt, task, failure);
     }
@@ -210,13 +216,14 @@ pub fn each<'a, D: Write, W: Write>(
 
 fn files_of<'a>(rt: &'a HostRuntime, task: &Task<'_>) -> Files<'a> {
     let is_redirected = task.output.is_none();
-    let is_apart = matches!(task.job.command, Command::Check)
+    let is_apart = matches!(task.reading.command(), Some(Command::Check))
         || !is_redirected
         || !rt.stdout().is_terminal();
     Files {
         rt,
-        style: task.job.style,
+        style: task.reading.style(),
         shows: is_apart && rt.stderr().is_terminal(),
+        are_dumps: matches!(task.reading, Reading::Dumps(_)),
         written: if is_redirected {
             node_of(rt, "/dev/stdout")
         } else {
@@ -227,7 +234,7 @@ fn files_of<'a>(rt: &'a HostRuntime, task: &Task<'_>) -> Files<'a> {
 
 /// Tells why a run failed. A pipe whose reader is gone ends it quietly.
 fn tell_failure(rt: &HostRuntime, task: &Task<'_>, failure: &Failure) {
-    let style = task.job.style;
+    let style = task.reading.style();
     match failure {
         Failure::Memory => tell_words(rt, style, "not enough memory"),
         Failure::Writing(error) | Failure::Reading(error) => {

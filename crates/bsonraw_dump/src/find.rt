@@ -1,7 +1,7 @@
 //! What is found in one document.
 #![tactic(auto)]
 
-ghost use Rattle.std.specs.Prelude.{◌≡◌, ◌≤◌, ℕ, List, IfOk, length};
+ghost use Rattle.std.specs.Prelude.{◌≡◌, ◌≤◌, ℕ, List, IfOk, MatchBool, length};
 ghost use Rattle.std.specs.Option.{option_map};
 ghost use Rattle.raw_view.specs.Document.{bytes_of};
 ghost use Rattle.raw_view.specs.Frame.Envelope.{IsEnvelope, Refuses};
@@ -11,7 +11,7 @@ ghost use Rattle.raw_form.specs.Places.{FirstBarrierAt};
 ghost use Rattle.raw_form.specs.Verdicts.{FirstVerdict};
 ghost use Rattle.bsonraw_dump.specs.Cut.{most};
 ghost use Rattle.raw_tree.specs.WithinLimits as within;
-ghost use Rattle.bsonraw_dump.specs.Find.{account_of, Finds, SaysBarrier, limits, spot_of, verdict_of, verdict_word};
+ghost use Rattle.bsonraw_dump.specs.Find.{account_of, Finds, IsDamage, SaysBarrier, limits, spot_of, verdict_of, verdict_word};
 
 use crate::reason::kind_words;
 use crate::window::MOST;
@@ -31,6 +31,15 @@ pub enum Finding {
     Damaged,
     /// it is too deep
     TooDeep,
+}
+
+impl Finding {
+    /// Whether it is damage, or that a level is too deep.
+    pub fn is_damage(self) -> bool
+        ensures { MatchBool result (IsDamage self) (¬ IsDamage self) }
+    {
+        matches!(self, Finding::Damaged | Finding::TooDeep)
+    }
 }
 
 /// What is told of a document that isn't canonical.

@@ -52,3 +52,18 @@ pub fn hint(read: &[u8]) -> Option<&'static str> {
         _ => Some("looks like text, not a dump"),
     }
 }
+
+/// What a file looks like that begins so, and what helps; `None` if it may be text in UTF-8.
+pub fn text_hint(read: &[u8]) -> Option<&'static str> {
+    let front = &read[..read.len().min(FRONT)];
+    if front.starts_with(b"\x1f\x8b") {
+        return Some("looks like gzip, not text: gzip -dc FILE | bsonraw-dump bson");
+    }
+    if front.starts_with(b"\xff\xfe") || front.starts_with(b"\xfe\xff") {
+        return Some("looks like text in UTF-16: iconv -f UTF-16 -t UTF-8 FILE | bsonraw-dump bson");
+    }
+    if front.starts_with(b"\xef\xbb\xbf") {
+        return Some("begins with a byte order mark: tail -c +4 FILE | bsonraw-dump bson");
+    }
+    None
+}

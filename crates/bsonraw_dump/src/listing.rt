@@ -1,14 +1,16 @@
 //! Writes the elements of every level of a document, a line each.
 #![tactic(auto)]
 
-ghost use Rattle.std.specs.Prelude.{◌≡◌, ◌+◌, ◌*◌, ◌<◌, ◌^◌, ◌++◌, ℕ, List, codes, replicate, IfErr, IfOk, OnOk};
+ghost use Rattle.std.specs.Prelude.{◌≡◌, ◌+◌, ◌*◌, ◌<◌, ◌^◌, ◌++◌, ℕ, List, codes, replicate, IfErr, IfOk, OnErr, OnOk};
 ghost use Rattle.std.specs.Io.KnownBytes.{Appends};
 ghost use Rattle.json.specs.Print.{quoted};
 ghost use Rattle.raw_form.specs.Looking.{HoldsBytes};
 ghost use Rattle.raw_view.specs.Document.{bytes_of};
 ghost use Rattle.raw_view.specs.Frame.ElementSteps.{frame_of};
 ghost use Rattle.raw_view.specs.Meaning.Value.{value_of};
-ghost use Rattle.bsonraw_dump.specs.Listing.{element_line, indented, Lists, PutsElement, PutsStop};
+ghost use Rattle.bson_json.specs.Written.{AppendsFront};
+ghost use Rattle.bsonraw_dump.specs.Fronts.{WritesFront};
+ghost use Rattle.bsonraw_dump.specs.Listing.{element_line, indented, HasLinesFront, IsStopLine, Lists, PutsElement, PutsElementFront, PutsStop};
 ghost use Rattle.bsonraw_dump.specs.Values.{ShowsValue};
 ghost use Rattle.raw_view.specs.Frame.Kind.{kind_text};
 ghost use Rattle.bsonraw_dump.specs.Find as find;
@@ -33,6 +35,8 @@ pub fn list_level<W: Write>(
 ) -> Result<(), Failure>
     requires { inside + depth < 2 ^ 32 }
     ensures listed { OnOk result ((text : List ℕ) × Lists inside depth (bytes_of document.entry) text
+        × Appends (W.contents out.old) (W.contents out.new) text) }
+    ensures front { OnErr result ((text : List ℕ) × HasLinesFront inside depth (bytes_of document.entry) text
         × Appends (W.contents out.old) (W.contents out.new) text) }
     ensures failed { IfErr result (λ failure. ¬ IsReading failure) }
 {
@@ -66,6 +70,8 @@ fn put_deep<W: Write>(alloc: Global, depth: usize, out: &mut W) -> Result<(), Fa
     requires { depth < 2 ^ 32 }
     ensures put { OnOk result
         (Appends (W.contents out.old) (W.contents out.new) (indented depth (codes "too deep"))) }
+    ensures front { OnErr result
+        (AppendsFront (W.contents out.old) (W.contents out.new) (indented depth (codes "too deep"))) }
     ensures failed { IfErr result (λ failure. ¬ IsReading failure) }
 {
     let mut text = indent(alloc, depth)?;
@@ -104,6 +110,7 @@ fn put_stop<W: Write>(
     requires { depth < 2 ^ 32 }
     ensures put { OnOk result
         (PutsStop depth error.now (W.contents out.old) (W.contents out.new)) }
+    ensures front { OnErr result (WritesFront (IsStopLine depth error.now) (W.contents out.old) (W.contents out.new)) }
     ensures failed { IfErr result (λ failure. ¬ IsReading failure) }
 {
     let mut text = match error.key {
@@ -125,6 +132,7 @@ fn put_element<'a, W: Write>(
     requires { depth < 2 ^ 32 }
     ensures put { IfOk result
         (PutsElement depth (frame_of element.entry) (W.contents out.old) (W.contents out.new)) }
+    ensures front { OnErr result (PutsElementFront depth (frame_of element.entry) (W.contents out.old) (W.contents out.new)) }
     ensures failed { IfErr result (λ failure. ¬ IsReading failure) }
 {
     match element.resolve() {
@@ -150,6 +158,8 @@ fn put_value<W: Write>(
     requires { depth < 2 ^ 32 }
     ensures put { OnOk result ((shown : List ℕ) × ShowsValue (value_of value.entry) shown
         × Appends (W.contents out.old) (W.contents out.new) (element_line depth key.now shown)) }
+    ensures front { OnErr result (WritesFront (λ text. (shown : List ℕ) × ShowsValue (value_of value.entry) shown
+        × (text ≡ element_line depth key.now shown)) (W.contents out.old) (W.contents out.new)) }
     ensures failed { IfErr result (λ failure. ¬ IsReading failure) }
 {
     let mut text = head(alloc, depth, key)?;
@@ -168,6 +178,8 @@ fn put_fault<W: Write>(
 ) -> Result<(), Failure>
     requires { depth < 2 ^ 32 }
     ensures put { OnOk result (Appends (W.contents out.old) (W.contents out.new)
+        (element_line depth (frame_of element.entry).key (kind_text (frame_of element.entry).kind ++ codes ", " ++ (codes "damaged: " ++ find.kind_text error.now.kind)))) }
+    ensures front { OnErr result (AppendsFront (W.contents out.old) (W.contents out.new)
         (element_line depth (frame_of element.entry).key (kind_text (frame_of element.entry).kind ++ codes ", " ++ (codes "damaged: " ++ find.kind_text error.now.kind)))) }
     ensures failed { IfErr result (λ failure. ¬ IsReading failure) }
 {

@@ -81,6 +81,15 @@ pub fn expanded(rt: &HostRuntime, names: &[&str]) -> Result<Vec<String>, AllocEr
     Ok(all)
 }
 
+/// The names as they are.
+pub fn copied(rt: &HostRuntime, names: &[&str]) -> Result<Vec<String>, AllocError> {
+    let mut all = Vec::new(rt.alloc());
+    for name in names {
+        all.push(String::from_str(rt.alloc(), name)?)?;
+    }
+    Ok(all)
+}
+
 /// The files of a folder whose names end in .bson; none if it can't be read.
 fn dumps_in(rt: &HostRuntime, name: &str) -> Result<Vec<String>, AllocError> {
     let mut dumps = Vec::new(rt.alloc());

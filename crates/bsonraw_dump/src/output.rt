@@ -35,7 +35,7 @@ pub fn into_file(rt: &HostRuntime, task: &Task<'_>, name: &str) -> Status {
 }
 
 fn without(rt: &HostRuntime, task: &Task<'_>, name: &str, error: &io::Error) -> Status {
-    tell(rt, task.job.style, name, None, error);
+    tell(rt, task.reading.style(), name, None, error);
     Status::Output
 }
 
@@ -89,7 +89,7 @@ fn replaced(
     let _removed = fs::remove_file(rt, beside.as_str());
     let done = result?;
     if let Some(lack) = &done.lack {
-        tell_lack(rt, task.job.style, name, lack);
+        tell_lack(rt, task.reading, name, lack);
     }
     Ok(done.status)
 }
@@ -137,6 +137,12 @@ fn keep_owner(rt: &HostRuntime, task: &Task<'_>, name: &str, file: &File, old: &
         let words = text
             .as_ref()
             .map_or("its owner or group isn't kept", |text| text.as_str());
-        tell(rt, task.job.style, name, None, &io::Error::other(words));
+        tell(
+            rt,
+            task.reading.style(),
+            name,
+            None,
+            &io::Error::other(words),
+        );
     }
 }

@@ -84,31 +84,9 @@ pub fn pass_over<R: Read>(
     Err(Failure::Reading(io::Error::from(io::ErrorKind::TimedOut)))
 }
 
-/// Looks what is next in an input. Where bytes may be passed over, a damaged document whose length isn't believed is none.
-pub fn next_part<R: Read>(
-    alloc: Global,
-    resync: bool,
-    reader: &mut R,
-    window: &mut Window,
-    work: &mut Work,
-) -> Result<Next, Failure>
-    requires { IsWindow window.old × IsWork work.old }
-    ensures told { IfOk result (TellsPart resync (R.remaining reader.old) (R.remaining reader.new) window.old window.new work.old work.new) }
-    ensures fails { IfErr result (λ _. Stays (R.remaining reader.old) (R.remaining reader.new) window.old window.new) }
-{
-    let next = look_ahead(reader, window, 0)?;
-    let Next::Document(len) = next else {
-        return Ok(next);
-    };
-    if resync && is_doubted(alloc, reader, window, len, work)? {
-        return Ok(Next::End(Ending::WrongLength(len)));
-    }
-    Ok(next)
-}
-
 /// Whether the document of so many of the bytes ahead is damaged and its length isn't believed: documents go on inside it, and
 /// the first reaches to its end, or neither the end of the input nor a document without damage is there.
-fn is_doubted<R: Read>(
+pub fn is_doubted<R: Read>(
     alloc: Global,
     reader: &mut R,
     window: &mut Window,

@@ -1,22 +1,25 @@
 //! Runs a command over an input.
 #![tactic(auto)]
 
-ghost use Rattle.std.specs.Prelude.{◌≡◌, ℕ, List, Option, [], ◌∷◌, ◌++◌, ◌<◌, ◌≤◌, codes, IfOk, IfErr, IfSome, IsNone, OnOk, length, take};
+ghost use Rattle.std.specs.Prelude.{◌≡◌, ℕ, List, Option, [], ◌∷◌, ◌++◌, ◌<◌, ◌≤◌, codes, IfOk, IfErr, IfSome, IsNone, OnErr, OnOk, length, take};
 ghost use Rattle.std.specs.Option.{option_copied, option_map};
 ghost use Rattle.std.specs.Io.KnownBytes.{Appends, Keeps};
 ghost use Rattle.bsonraw_dump.specs.Cut.{EndsWith, IsPiece};
 ghost use Rattle.bsonraw_dump.specs.Find.{Finds};
-ghost use Rattle.bsonraw_dump.specs.Reading.{GoesAhead, IsReadBehind, IsWindow, ahead_of};
+ghost use Rattle.bsonraw_dump.specs.Reading.{GoesAhead, IsReadBehind, IsWindow, Stays, ahead_of};
 ghost use Rattle.raw_resync.specs.Seeking.{IsWork};
+ghost use Rattle.bsonraw_dump.specs.Fronts.{WritesFront};
+ghost use Rattle.bsonraw_dump.specs.Halting.{Halts, IsMade, ListsFront, ReportsFront, HaltsInGap, HaltsLeaving, HaltsNext, HaltsOne};
 ghost use Rattle.bsonraw_dump.specs.Listing.{ListsDocument};
 ghost use Rattle.bsonraw_dump.specs.Find.{Account, account_of};
-ghost use Rattle.bsonraw_dump.specs.Unique.{CountsOne};
+ghost use Rattle.bsonraw_dump.specs.Unique.{CountsOne, knows, written_of};
 ghost use Rattle.bsonraw_dump.specs.Told.{ending_line, line, summary_line};
-ghost use Rattle.bsonraw_dump.specs.Run.{Emits, Ends, FailsAt, IsLeft, IsReading, Leaves, PassesAll, PassesFront, PassesGap, PassesOne, Reports, Writes, head_text};
+ghost use Rattle.bsonraw_dump.specs.Run.{Emits, Ends, FailsAt, IsLeft, IsReading, Leaves, MayPassFront, MayPassOne, PassesAll, PassesGap, PassesNext, Reports, Writes, WritesNothing, head_text};
 ghost use Rattle.bsonraw_dump.specs.Run as says;
 ghost use Rattle.raw_tree.specs.CanonicalForm.{IsCanonicalForm};
 ghost use Rattle.raw_view.specs.Frame.Envelope.{IsEnvelope};
 ghost use Rattle.bson_json.specs.Json.{IsJson};
+ghost use Rattle.bson_json.specs.Written.{AppendsFront};
 ghost use Rattle.bsonraw_dump.specs.declared.command.Command.TheVariants.{Unique};
 
 use crate::command::Command;
@@ -27,11 +30,11 @@ use crate::find::{Finding, Found, Told, find, most_allowed};
 use crate::kept::Kept;
 use crate::listing::list_level;
 use crate::object::{ending_object, told_object};
-use crate::resync::{next_part, pass_over};
+use crate::resync::{is_doubted, pass_over};
 use crate::style::Style;
 use crate::summary::{summary, summary_object};
 use crate::text::{ending_words, line_of, sized, told_line};
-use crate::window::{Drained, Next, Window};
+use crate::window::{Drained, Next, Window, look_ahead};
 use crate::write::put;
 use bson_json::{Style as JsonStyle, WriteJsonError, write_json};
 use raw_form::canonical_within;
@@ -79,6 +82,8 @@ pub fn run<R: Read, D: Write, W: Write>(
 ) -> Result<Option<ReadFailure>, Failure>
     ensures ends { IfOk result (Ends asked.entry.command asked.entry.style asked.entry.resync asked.entry.name.now (R.remaining reader.old) (R.remaining reader.new)
         (D.contents out.old) (D.contents out.new) (W.contents report.old) (W.contents report.new) counts.old counts.new kept.old kept.new) }
+    ensures halts { OnErr result (Halts asked.entry.command asked.entry.style asked.entry.resync asked.entry.name.now (R.remaining reader.old)
+        (D.contents out.old) (D.contents out.new) (W.contents report.old) (W.contents report.new) kept.old) }
     ensures failed { IfErr result (λ failure. ¬ IsReading failure) }
 {
     let mut window = Window::new(alloc);
@@ -107,19 +112,21 @@ fn pass_all<R: Read, D: Write, W: Write>(
     requires { IsWindow window.old × (ahead_of window.old ≡ []) × (window.old.offset ≡ 0) }
     ensures passed { IfOk result (PassesAll asked.entry.command asked.entry.style asked.entry.resync asked.entry.name.now (R.remaining reader.old) (R.remaining reader.new)
         (D.contents out.old) (D.contents out.new) (W.contents report.old) (W.contents report.new) counts.old counts.new kept.old kept.new window.new) }
+    ensures halts { OnErr result (Halts asked.entry.command asked.entry.style asked.entry.resync asked.entry.name.now (R.remaining reader.old)
+        (D.contents out.old) (D.contents out.new) (W.contents report.old) (W.contents report.new) kept.old) }
     ensures failed { IfErr result (λ failure. ¬ IsReading failure) }
 {
     let mut work = Work::new();
     for _ in 0..u64::MAX {
         let from = window.offset();
-        let next = match next_part(alloc, asked.resync, reader, window, &mut work) {
+        let next = match pass_next(
+            alloc, asked, reader, window, &mut work, out, report, counts, kept,
+        ) {
             Ok(next) => next,
             Err(failure) => return stopped(from, failure),
         };
         match next {
-            Next::Document(len) => {
-                pass_front(alloc, asked, len, window, out, report, counts, kept)?;
-            }
+            Next::Document(_) => {}
             Next::Nothing => return Ok(Stop::End),
             Next::End(ending) => {
                 if !asked.resync {
@@ -160,6 +167,8 @@ fn leave<R: Read, W: Write>(
     requires { IsWindow window.old × EndsWith ending (ahead_of window.old) × IsReadBehind ending (R.remaining reader.old) }
     ensures left { IfOk result (Leaves asked.entry.style asked.entry.name.now ending window.old (R.remaining reader.old) (R.remaining reader.new)
         (W.contents report.old) (W.contents report.new) counts.old counts.new) }
+    ensures halts { OnErr result (HaltsLeaving asked.entry.style asked.entry.name.now ending (R.remaining reader.old) (R.remaining reader.new) window.old
+        (W.contents report.old) (W.contents report.new)) }
     ensures failed { IfErr result (λ failure. ¬ IsReading failure) }
 {
     let offset = window.offset();
@@ -204,36 +213,69 @@ fn failure_at(at: u64, error: Option<io::Error>) -> Option<ReadFailure>
     }
 }
 
-/// Passes the document of so many bytes in front of the bytes ahead.
+/// Looks what is next in an input, and passes it where it is a document. Where bytes may be passed over, a damaged document whose
+/// length isn't believed is none.
+fn pass_next<R: Read, D: Write, W: Write>(
+    alloc: Global,
+    asked: Asked<'_>,
+    reader: &mut R,
+    window: &mut Window,
+    work: &mut Work,
+    out: &mut D,
+    report: &mut W,
+    counts: &mut Counts,
+    kept: &mut Kept,
+) -> Result<Next, Failure>
+    requires { IsWindow window.old × IsWork work.old }
+    ensures passed { IfOk result (PassesNext asked.entry.command asked.entry.style asked.entry.resync asked.entry.name.now (R.remaining reader.old) (R.remaining reader.new)
+        window.old window.new work.old work.new (D.contents out.old) (D.contents out.new) (W.contents report.old) (W.contents report.new) counts.old counts.new kept.old kept.new) }
+    ensures halts { OnErr result (HaltsNext asked.entry.command asked.entry.style asked.entry.resync asked.entry.name.now (R.remaining reader.old)
+        window.old work.old kept.old (D.contents out.old) (D.contents out.new) (W.contents report.old) (W.contents report.new)) }
+    ensures fails { IfErr result (λ failure. IsReading failure → Stays (R.remaining reader.old) (R.remaining reader.new) window.old window.new
+        × WritesNothing (D.contents out.old) (D.contents out.new) (W.contents report.old) (W.contents report.new) counts.old counts.new kept.old kept.new) }
+{
+    let next = look_ahead(reader, window, 0)?;
+    let Next::Document(len) = next else {
+        return Ok(next);
+    };
+    let any = !asked.resync;
+    if pass_front(alloc, asked, any, len, window, out, report, counts, kept)? {
+        return Ok(next);
+    }
+    if is_doubted(alloc, reader, window, len, work)? {
+        return Ok(Next::End(Ending::WrongLength(len)));
+    }
+    pass_front(alloc, asked, true, len, window, out, report, counts, kept)?;
+    Ok(next)
+}
+
+/// Passes the document of so many bytes in front of the bytes ahead, and returns whether it did: one with damage is passed where
+/// any is.
 fn pass_front<D: Write, W: Write>(
     alloc: Global,
     asked: Asked<'_>,
+    any: bool,
     len: usize,
     window: &mut Window,
     out: &mut D,
     report: &mut W,
     counts: &mut Counts,
     kept: &mut Kept,
-) -> Result<(), Failure>
+) -> Result<bool, Failure>
     requires { IsWindow window.old × (len ≤ length (ahead_of window.old)) × IsPiece (take len (ahead_of window.old)) }
-    ensures passed { OnOk result (PassesFront asked.entry.command asked.entry.style asked.entry.name.now len window.old window.new
+    ensures passed { IfOk result (MayPassFront any asked.entry.command asked.entry.style asked.entry.name.now len window.old window.new
         (D.contents out.old) (D.contents out.new) (W.contents report.old) (W.contents report.new) counts.old counts.new kept.old kept.new) }
+    ensures halts { OnErr result (HaltsOne any asked.entry.command asked.entry.style asked.entry.name.now window.old.offset (take len (ahead_of window.old)) kept.old
+        (D.contents out.old) (D.contents out.new) (W.contents report.old) (W.contents report.new)) }
     ensures failed { IfErr result (λ failure. ¬ IsReading failure) }
 {
     let bytes = &window.ahead()[..len];
-    let finding = pass(
-        alloc,
-        asked.command,
-        asked.style,
-        asked.name,
-        window.offset(),
-        bytes,
-        out,
-        report,
-        kept,
-    )?;
+    let Some(finding) = pass(alloc, asked, any, window.offset(), bytes, out, report, kept)? else {
+        return Ok(false);
+    };
     *counts = in_range(counts.with(len, finding))?;
-    window.pass(len)
+    window.pass(len)?;
+    Ok(true)
 }
 
 /// Passes over bytes in front of which is no document that is believed, and tells why none is there.
@@ -250,6 +292,8 @@ fn pass_gap<R: Read, W: Write>(
     requires { IsWindow window.old × IsWork work.old × (0 < length (ahead_of window.old)) }
     ensures passed { OnOk result (PassesGap asked.entry.style asked.entry.name.now ending (R.remaining reader.old) (R.remaining reader.new)
         window.old window.new work.old work.new (W.contents report.old) (W.contents report.new) counts.old counts.new) }
+    ensures halts { OnErr result (HaltsInGap asked.entry.style asked.entry.name.now ending (R.remaining reader.old) (R.remaining reader.new)
+        window.old window.new work.old work.new (W.contents report.old) (W.contents report.new)) }
     ensures fails { IfErr result (λ failure. IsReading failure → GoesAhead (R.remaining reader.old) (R.remaining reader.new) window.old window.new
         × Keeps (W.contents report.old) (W.contents report.new) × (counts.new ≡ counts.old)) }
 {
@@ -260,27 +304,40 @@ fn pass_gap<R: Read, W: Write>(
     Ok(())
 }
 
-/// Passes one document.
+/// Passes one document, and returns what is found in it; one with damage only where any is passed.
 fn pass<D: Write, W: Write>(
     alloc: Global,
-    command: Command,
-    style: Style,
-    name: &str,
+    asked: Asked<'_>,
+    any: bool,
     offset: u64,
     bytes: &[u8],
     out: &mut D,
     report: &mut W,
     kept: &mut Kept,
-) -> Result<Finding, Failure>
+) -> Result<Option<Finding>, Failure>
     requires { IsPiece bytes.now }
-    ensures passed { IfOk result (PassesOne command style name.now offset bytes.now
+    ensures passed { IfOk result (MayPassOne any asked.entry.command asked.entry.style asked.entry.name.now offset bytes.now
         (D.contents out.old) (D.contents out.new) (W.contents report.old) (W.contents report.new) kept.old kept.new) }
+    ensures halts { OnErr result (HaltsOne any asked.entry.command asked.entry.style asked.entry.name.now offset bytes.now kept.old
+        (D.contents out.old) (D.contents out.new) (W.contents report.old) (W.contents report.new)) }
     ensures failed { IfErr result (λ failure. ¬ IsReading failure) }
 {
     let found = find(alloc, bytes)?;
-    report_found(alloc, command, style, name, offset, bytes, &found, report)?;
-    emit(alloc, command, found.finding, bytes, out, kept)?;
-    Ok(found.finding)
+    if !any && found.finding.is_damage() {
+        return Ok(None);
+    }
+    report_found(
+        alloc,
+        asked.command,
+        asked.style,
+        asked.name,
+        offset,
+        bytes,
+        &found,
+        report,
+    )?;
+    emit(alloc, asked.command, found.finding, bytes, out, kept)?;
+    Ok(Some(found.finding))
 }
 
 /// Reports what the command tells of a document in which this was found.
@@ -297,6 +354,9 @@ fn report_found<W: Write>(
     requires { IsPiece bytes.now }
     ensures reported { OnOk result ((lines : List ℕ)
         × Reports command style name.now offset bytes.now found.now.finding (option_map account_of found.now.told) lines
+        × Appends (W.contents report.old) (W.contents report.new) lines) }
+    ensures front { OnErr result ((lines : List ℕ)
+        × ReportsFront command style name.now offset bytes.now found.now.finding (option_map account_of found.now.told) lines
         × Appends (W.contents report.old) (W.contents report.new) lines) }
     ensures failed { IfErr result (λ failure. ¬ IsReading failure) }
 {
@@ -325,6 +385,9 @@ fn put_listing<W: Write>(
     requires { IsPiece bytes.now }
     ensures listed { OnOk result ((listing : List ℕ) × ListsDocument bytes.now listing
         × Appends (W.contents report.old) (W.contents report.new) (line name.now offset (head_text bytes.now (option_map account_of told.now)) ++ listing)) }
+    ensures front { OnErr result ((lines : List ℕ)
+        × ListsFront name.now offset bytes.now (option_map account_of told.now) lines
+        × Appends (W.contents report.old) (W.contents report.new) lines) }
     ensures failed { IfErr result (λ failure. ¬ IsReading failure) }
 {
     let head = sized(alloc, bytes.len(), told)?;
@@ -344,6 +407,8 @@ fn put_line<W: Write>(
 ) -> Result<(), Failure>
     ensures written { OnOk result
         (Appends (W.contents report.old) (W.contents report.new) (line name.now offset words.now)) }
+    ensures front { OnErr result
+        (AppendsFront (W.contents report.old) (W.contents report.new) (line name.now offset words.now)) }
     ensures failed { IfErr result (λ failure. ¬ IsReading failure) }
 {
     let text = line_of(alloc, name, offset, words)?;
@@ -360,6 +425,8 @@ fn put_told<W: Write>(
     report: &mut W,
 ) -> Result<(), Failure>
     ensures written { OnOk result (Appends (W.contents report.old) (W.contents report.new)
+        (says.told_line style name.now offset (option_map account_of told.now))) }
+    ensures front { OnErr result (AppendsFront (W.contents report.old) (W.contents report.new)
         (says.told_line style name.now offset (option_map account_of told.now))) }
     ensures failed { IfErr result (λ failure. ¬ IsReading failure) }
 {
@@ -403,6 +470,8 @@ fn put_ending<W: Write>(
 ) -> Result<(), Failure>
     ensures written { OnOk result
         (Appends (W.contents report.old) (W.contents report.new) (ending_line asked.entry.style asked.entry.name.now offset ending rest)) }
+    ensures front { OnErr result
+        (AppendsFront (W.contents report.old) (W.contents report.new) (ending_line asked.entry.style asked.entry.name.now offset ending rest)) }
     ensures failed { IfErr result (λ failure. ¬ IsReading failure) }
 {
     let text = ending_text(alloc, asked.style, asked.name, offset, ending, rest)?;
@@ -420,6 +489,8 @@ pub fn put_summary<W: Write>(
     report: &mut W,
 ) -> Result<(), Failure>
     ensures written { OnOk result (Appends (W.contents report.old) (W.contents report.new)
+        (summary_line style (option_copied name.entry) command counts.now kept)) }
+    ensures front { OnErr result (AppendsFront (W.contents report.old) (W.contents report.new)
         (summary_line style (option_copied name.entry) command counts.now kept)) }
     ensures failed { IfErr result (λ failure. ¬ IsReading failure) }
 {
@@ -442,6 +513,7 @@ fn emit<D: Write>(
     requires { (told : Option Account) × Finds bytes.now finding told }
     ensures written { OnOk result
         (Emits command bytes.now finding (D.contents out.old) (D.contents out.new) kept.old kept.new) }
+    ensures front { OnErr result (WritesFront (IsMade command bytes.now finding kept.old) (D.contents out.old) (D.contents out.new)) }
     ensures failed { IfErr result (λ failure. ¬ IsReading failure) }
 {
     match (command, finding) {
@@ -474,6 +546,9 @@ fn put_form<D: Write>(
 ) -> Result<(), Failure>
     ensures written { OnOk result ((form : List ℕ) × IsCanonicalForm bytes.now form
         × Writes command (form ∷ []) (D.contents out.old) (D.contents out.new) kept.old kept.new) }
+    ensures front { OnErr result (WritesFront
+        (λ text. (form : List ℕ) × IsCanonicalForm bytes.now form × (text ≡ written_of command (knows kept.old) (form ∷ [])))
+        (D.contents out.old) (D.contents out.new)) }
     ensures failed { IfErr result (λ failure. ¬ IsReading failure) }
 {
     match canonical_within(alloc, bytes, most_allowed()) {
@@ -493,6 +568,8 @@ fn put_json<D: Write>(
     requires { IsEnvelope bytes.now }
     ensures written { OnOk result ((text : List ℕ) × IsJson style bytes.now text
         × Appends (D.contents out.old) (D.contents out.new) (text ++ codes "\n") × CountsOne kept.old kept.new) }
+    ensures front { OnErr result (WritesFront
+        (λ line. (text : List ℕ) × IsJson style bytes.now text × (line ≡ text ++ codes "\n")) (D.contents out.old) (D.contents out.new)) }
     ensures failed { IfErr result (λ failure. ¬ IsReading failure) }
 {
     let Ok(document) = RawDocument::from_bytes(bytes) else {
@@ -514,6 +591,7 @@ fn put_document<D: Write>(
 ) -> Result<(), Failure>
     ensures written { OnOk result
         (Writes command (document.now ∷ []) (D.contents out.old) (D.contents out.new) kept.old kept.new) }
+    ensures front { OnErr result (AppendsFront (D.contents out.old) (D.contents out.new) (written_of command (knows kept.old) (document.now ∷ []))) }
     ensures failed { IfErr result (λ failure. ¬ IsReading failure) }
 {
     match command {
@@ -528,6 +606,7 @@ fn put_document<D: Write>(
 fn put_one<D: Write>(bytes: &[u8], out: &mut D, kept: &mut Kept) -> Result<(), Failure>
     ensures written { OnOk result
         (Appends (D.contents out.old) (D.contents out.new) bytes.now × CountsOne kept.old kept.new) }
+    ensures front { OnErr result (AppendsFront (D.contents out.old) (D.contents out.new) bytes.now) }
     ensures failed { IfErr result (λ failure. ¬ IsReading failure) }
 {
     put(out, bytes)?;
@@ -538,6 +617,7 @@ fn put_one<D: Write>(bytes: &[u8], out: &mut D, kept: &mut Kept) -> Result<(), F
 fn put_new<D: Write>(document: &[u8], out: &mut D, kept: &mut Kept) -> Result<(), Failure>
     ensures written { OnOk result
         (Writes Unique (document.now ∷ []) (D.contents out.old) (D.contents out.new) kept.old kept.new) }
+    ensures front { OnErr result (AppendsFront (D.contents out.old) (D.contents out.new) (written_of Unique (knows kept.old) (document.now ∷ []))) }
     ensures failed { IfErr result (λ failure. ¬ IsReading failure) }
 {
     if kept.add(document)? {

@@ -4,6 +4,7 @@
 use crate::batch::Lack;
 use crate::failure::Failure;
 use crate::object::error_object;
+use crate::reading::Reading;
 use crate::style::Style;
 use crate::text::quotation;
 use std::alloc::AllocError;
@@ -56,29 +57,26 @@ fn put(rt: &HostRuntime, line: &[u8]) {
 }
 
 /// Tells that a file isn't written, and why not.
-pub fn tell_lack(rt: &HostRuntime, style: Style, name: &str, lack: &Lack<'_>) {
-    match lack_of(rt, style, name, lack) {
+pub fn tell_lack(rt: &HostRuntime, reading: Reading, name: &str, lack: &Lack<'_>) {
+    match lack_of(rt, reading, name, lack) {
         Ok(line) => put(rt, &line),
-        Err(_) => tell_words(rt, style, "not enough memory"),
+        Err(_) => tell_words(rt, reading.style(), "not enough memory"),
     }
 }
 
 fn lack_of(
     rt: &HostRuntime,
-    style: Style,
+    reading: Reading,
     name: &str,
     lack: &Lack<'_>,
 ) -> Result<Vec<u8>, AllocError> {
     let (input, words) = match lack {
-        Lack::Cut(cut) if cut.goes_on => (
-            Some(cut.name),
-            " wasn't read to its end; --resync goes on",
-        ),
+        Lack::Cut(cut) if cut.goes_on => (Some(cut.name), reading.way_on()),
         Lack::Cut(cut) => (Some(cut.name), " wasn't read to its end"),
         Lack::Failed(Failure::Memory) => (None, "not enough memory"),
         Lack::Failed(Failure::Writing(_) | Failure::Reading(_)) => (None, "writing failed"),
     };
-    match style {
+    match reading.style() {
         Style::Words => {
             let mut line = quotation(rt.alloc(), name)?;
             line.extend_from_slice(b": not written: ")?;

@@ -4,7 +4,7 @@
 
 ghost use Rattle.std.specs.Prelude.{◌≡◌};
 
-use crate::guess::hint;
+use crate::guess::{hint, text_hint};
 use crate::style::Style;
 use crate::tell::tell;
 use std::io;
@@ -25,6 +25,8 @@ pub struct About {
     pub style: Style,
     /// whether it is shown how far the reading has come
     pub shows: bool,
+    /// whether it has to be a dump
+    pub is_dump: bool,
 }
 
 /// A reader that shows how many bytes it gave.
@@ -76,7 +78,12 @@ impl<'a, R> Watched<'a, R> {
     fn begin(&mut self, read: &[u8])
         ensures { self.new.reader ≡ self.old.reader }
     {
-        if let (Some(words), Some(name)) = (hint(read), &self.about.name) {
+        let hint = if self.about.is_dump {
+            hint(read)
+        } else {
+            text_hint(read)
+        };
+        if let (Some(words), Some(name)) = (hint, &self.about.name) {
             let error = io::Error::other(words);
             tell(self.rt, self.about.style, name.as_str(), None, &error);
         }

@@ -1,20 +1,35 @@
 //! Writes bytes.
 #![tactic(auto)]
 
-ghost use Rattle.std.specs.Prelude.{IfErr, OnOk};
+ghost use Rattle.std.specs.Prelude.{IfErr, OnErr, OnOk};
 ghost use Rattle.std.specs.Io.KnownBytes.{Appends};
+ghost use Rattle.bson_json.specs.Written.{AppendsFront};
 ghost use Rattle.bsonraw_dump.specs.Run.{IsReading};
 
 use crate::failure::Failure;
-use std::io::Write;
+use std::io;
+use std::io::{ErrorKind, Write};
 
-/// Writes these bytes.
+/// Writes these bytes, as `write_all` does: what it leaves behind an error is a front of them.
 pub fn put<W: Write>(writer: &mut W, bytes: &[u8]) -> Result<(), Failure>
     ensures written { OnOk result (Appends (W.contents writer.old) (W.contents writer.new) bytes.now) }
+    ensures front { OnErr result (AppendsFront (W.contents writer.old) (W.contents writer.new) bytes.now) }
     ensures failed { IfErr result (λ failure. ¬ IsReading failure) }
 {
-    match writer.write_all(bytes) {
-        Ok(()) => Ok(()),
-        Err(error) => Err(Failure::Writing(error)),
+    let mut rest = bytes;
+    'calls: for _ in 0..u64::MAX {
+        if rest.is_empty() {
+            return Ok(());
+        }
+        match writer.write(rest) {
+            Ok(0) => return Err(Failure::Writing(io::Error::from(ErrorKind::WriteZero))),
+            Ok(len) => rest = &rest[len..],
+            Err(error) => {
+                if error.kind() != ErrorKind::Interrupted {
+                    return Err(Failure::Writing(error));
+                }
+            }
+        }
     }
+    Err(Failure::Writing(io::Error::from(ErrorKind::TimedOut)))
 }

@@ -2,6 +2,7 @@ pub mod Zeros
 pub mod Charging
 pub mod Fronts
 pub mod Costing
+pub mod Begun
 pub mod Looking
 pub mod Tops
 pub mod Passing

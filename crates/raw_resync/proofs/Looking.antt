@@ -99,10 +99,14 @@ module _ (limits : Limits) (bytes : List ℕ) (last : Bool) (at place len : ℕ)
       goes_on limits (drop place (bytes ++ rest)) (take len (drop place bytes)) (drop (place + len) (bytes ++ rest)) is (split_front place len bytes rest within) least
       (omega (arith, long, size)) sound next
 
+  -- it isn't sound
+  pub no_sound : (w : Work) → ¬ IsSound limits (take len (drop place bytes)) → Checks limits bytes last at place len w w check.Stops
+  no_sound w damaged = record { works = works_none limits bytes last at w; tells = λ rest may. (some, λ there. damaged ((only rest len there).0)) }
+
   -- it is shorter than is asked for
   -- it has no envelope
   pub no_envelope : (w : Work) → ¬ IsEnvelope (take len (drop place bytes)) → Checks limits bytes last at place len w w check.Stops
-  no_envelope w none = record { works = works_none limits bytes last at w; tells = λ rest may. (some, λ there. none ((only rest len there).0.envelope)) }
+  no_envelope w none = no_sound w (λ sound. none sound.envelope)
 
   -- no piece is behind it
   pub no_second : (w : Work) → TellsFront limits.bytes bytes last (place + len) front.NoPiece → Checks limits bytes last at place len w w check.Stops

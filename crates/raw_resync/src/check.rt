@@ -1,14 +1,16 @@
 //! Whether documents go on at a place.
 #![tactic(auto)]
 
-ghost use Rattle.std.specs.Prelude.{◌≡◌, ◌≤◌, ◌+◌, IfOk, drop, length, take};
+ghost use Rattle.std.specs.Prelude.{◌≡◌, ◌≤◌, ◌+◌, IfOk, drop, false, length, take};
+ghost use Rattle.raw_tree.specs.declared.reader.limits.Limits.{Limits};
 ghost use Rattle.raw_resync.specs.Pieces.{IsPiece};
+ghost use Rattle.raw_resync.specs.Resync.{IsSound};
 ghost use Rattle.raw_resync.specs.Seeking.{Checks, ChecksBehind, IsWork, JudgesPiece, TellsFront, check_of};
 
 use crate::judge::judge;
 use crate::work::Work;
 use raw_tree::Limits;
-use raw_view::RawDocument;
+use raw_view::{ElementType, RawDocument};
 use std::alloc::{AllocError, Global};
 
 /// Some bytes of an input, and what is asked of them.
@@ -115,7 +117,11 @@ fn check_piece(
     ensures checked { IfOk result (Checks part.entry.limits part.entry.bytes.now part.entry.is_last part.entry.at place len work.old work.new) }
 {
     let end = place + len;
-    if let Err(_) = RawDocument::from_bytes(&part.bytes[place..end]) {
+    let piece = &part.bytes[place..end];
+    if !may_be_sound(piece) {
+        return Ok(Check::Stops);
+    }
+    if let Err(_) = RawDocument::from_bytes(piece) {
         return Ok(Check::Stops);
     }
     match front_at(part, end) {
@@ -127,6 +133,18 @@ fn check_piece(
             Some(false) => Ok(Check::Stops),
             None => Ok(Check::LeftOut),
         },
+    }
+}
+
+/// Whether one byte is behind a length, or a tag. The first bytes of a piece are looked at before its last one, which may be far off.
+#[inline(always)]
+fn may_be_sound(piece: &[u8]) -> bool
+    requires { 4 ≤ length piece.now }
+    ensures { (limits : Limits) → result ≡ false → ¬ IsSound limits piece.now }
+{
+    match piece.split_at(4).1.split_first() {
+        Some((byte, rest)) => rest.is_empty() || ElementType::from(*byte).is_some(),
+        None => true,
     }
 }
 

@@ -1,6 +1,7 @@
 use Rattle.bsonraw_dump.specs.Batch.{CountsInput}
 use Rattle.bsonraw_dump.proofs.Stopping.{if_ok}
-use Rattle.bsonraw_dump.proofs.Summing.{counts_open}
+use Rattle.bsonraw_dump.proofs.Fronts.{on_any}
+use Rattle.bsonraw_dump.proofs.Summing.{counts_open, halts_unread}
 use Rattle.bsonraw_dump.proofs.batch.count_one.Goals as goal
 
 pub returns-in-Ok-clause-counted : goal.returns-in-Ok-clause-counted
@@ -13,3 +14,13 @@ returns-in-Ok-clause-counted g c =
     if_ok c.run_open.result _ (CountsInput c.args.job name (g.I.Inputs.bytes_of c.args.inputs.now name) d d' w w' c.args.totals.now c.run_open.new.totals)
     (λ n ran. counts_open c.args.job name (g.I.Inputs.bytes_of c.args.inputs.now name) d d' w w' w' c.args.totals.now c.run_open.new.totals n _ c.in-Ok.ensures.bytes ran)
     c.run_open.ensures.counted
+
+pub returns-in_err-counts-in-Err-clause-halts : goal.returns-in_err-counts-in-Err-clause-halts
+returns-in_err-counts-in-Err-clause-halts g c =
+    let name = c.args.name.now in
+    on_any _ _ (halts_unread c.args.job name (g.I.Inputs.bytes_of c.args.inputs.now name) (g.D.Write.contents c.args.out.now) (g.W.Write.contents c.args.report.now) c.args.totals.now.kept)
+
+pub returns-in_err-add-in-Err-clause-halts : goal.returns-in_err-add-in-Err-clause-halts
+returns-in_err-add-in-Err-clause-halts g c =
+    let name = c.args.name.now in
+    on_any _ _ (halts_unread c.args.job name (g.I.Inputs.bytes_of c.args.inputs.now name) (g.D.Write.contents c.args.out.now) (g.W.Write.contents c.args.report.now) c.args.totals.now.kept)

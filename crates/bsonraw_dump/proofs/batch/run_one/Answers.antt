@@ -1,7 +1,9 @@
 use Rattle.std.specs.Io.KnownBytes.{Appends}
-use Rattle.bsonraw_dump.specs.Batch.{Comes, input_line, state_of}
+use Rattle.bson_json.specs.Written.{AppendsFront}
+use Rattle.bsonraw_dump.specs.Batch.{Comes, HaltsWithin, input_line, state_of}
+use Rattle.bsonraw_dump.proofs.Fronts.{on_err}
 use Rattle.bsonraw_dump.proofs.Listed.{on_ok}
-use Rattle.bsonraw_dump.proofs.Summing.{comes_whole}
+use Rattle.bsonraw_dump.proofs.Summing.{comes_whole, halts_line}
 use Rattle.bsonraw_dump.proofs.batch.run_one.Goals as goal
 
 pub returns-clause-comes : goal.returns-clause-comes
@@ -18,3 +20,18 @@ returns-clause-comes g c =
     let n = c.in_ok-counts.counts in
     on_ok c.put_counts.result (Appends w' w'' (input_line c.args.job c.args.job.command name n)) (Comes c.args.job input name (state_of d w t) (state_of d' w'' t'))
     (comes_whole c.args.job name input d d' w w' w'' t t' n c.in_ok-counts.ensures.counted) c.put_counts.ensures.written
+
+pub returns-clause-halts : goal.returns-clause-halts
+returns-clause-halts g c =
+    let name = c.args.name.now in
+    let input = g.I.Inputs.bytes_of c.args.inputs.now name in
+    let d = g.D.Write.contents c.args.out.now in
+    let d' = g.D.Write.contents c.count_one.new.out in
+    let w = g.W.Write.contents c.args.report.now in
+    let w' = g.W.Write.contents c.count_one.new.report in
+    let w'' = g.W.Write.contents c.put_counts.new.report in
+    let t = c.args.totals.now in
+    let t' = c.count_one.new.totals in
+    let n = c.in_ok-counts.counts in
+    on_err c.put_counts.result (AppendsFront w' w'' (input_line c.args.job c.args.job.command name n)) (HaltsWithin c.args.job name input d d' w w'' t.kept)
+    (halts_line c.args.job name input d d' w w' w'' t t' n c.in_ok-counts.ensures.counted) c.put_counts.ensures.front

@@ -1,10 +1,11 @@
-use Rattle.std.proofs.Common.{rules, ◌≡◌, ◌+◌, ◌++◌, IfSome, length, ap, sym, ◌∙◌, subst}
+use Rattle.std.proofs.Common.{rules, ◌≡◌, ◌+◌, ◌++◌, ℕ, IfSome, inr, length, ap, sym, ◌∙◌, subst}
 use Rattle.std.specs.Io.KnownBytes.{Appends}
 use Rattle.bsonraw_dump.specs.Reading.{ahead_of}
 use Rattle.bsonraw_dump.specs.Run.{count_left}
 use Rattle.bsonraw_dump.specs.Told.{ending_line}
 use Rattle.bsonraw_dump.specs.declared.ending.Rest.TheVariants as rest
 use Rattle.bsonraw_dump.specs.declared.failure.ReadFailure.{ReadFailure}
+use Rattle.bsonraw_dump.proofs.Fronts.{front_whole, on_any}
 use Rattle.bsonraw_dump.proofs.run.leave.Goals as goal
 
 pub returns-clause-left : goal.returns-clause-left
@@ -30,3 +31,25 @@ returns-clause-left g c =
           (subst (λ m. Appends old new (ending_line c.args.asked.style c.args.asked.name.now m c.args.ending (rest.NotRead drained.count))) at c.in_ok-put_ending.ensures.written);
       is_counted = counted ∙ ap (count_left n) (sym left.len);
     }
+
+pub returns-in_err-counts-clause-halts : goal.returns-in_err-counts-clause-halts
+returns-in_err-counts-clause-halts g c =
+    let left = c.in_ok-rest.ensures.left in
+    let line_at = λ (m k : ℕ). ending_line c.args.asked.style c.args.asked.name.now m c.args.ending (rest.NotRead k) in
+    let old = g.W.Write.contents c.args.report.now in
+    let new = g.W.Write.contents c.put_ending.new.report in
+    let drained = c.in_ok-rest.rest in
+    let first = subst (λ (m : ℕ). Appends old new (line_at m drained.count)) c.offset-offset.ensures c.in_ok-put_ending.ensures.written in
+    let put = subst (λ (k : ℕ). Appends old new (line_at c.args.window.now.offset k)) (sym left.len) first in
+    on_any _ _ (inr (left.more, left.is_read, left.ends, front_whole old new _ put))
+
+pub returns-in_err-at-clause-halts : goal.returns-in_err-at-clause-halts
+returns-in_err-at-clause-halts g c =
+    let left = c.in_ok-rest.ensures.left in
+    let line_at = λ (m k : ℕ). ending_line c.args.asked.style c.args.asked.name.now m c.args.ending (rest.NotRead k) in
+    let old = g.W.Write.contents c.args.report.now in
+    let new = g.W.Write.contents c.put_ending.new.report in
+    let drained = c.in_ok-rest.rest in
+    let first = subst (λ (m : ℕ). Appends old new (line_at m drained.count)) c.offset-offset.ensures c.in_ok-put_ending.ensures.written in
+    let put = subst (λ (k : ℕ). Appends old new (line_at c.args.window.now.offset k)) (sym left.len) first in
+    on_any _ _ (inr (left.more, left.is_read, left.ends, front_whole old new _ put))

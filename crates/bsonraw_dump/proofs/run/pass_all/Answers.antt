@@ -1,13 +1,15 @@
 use Rattle.std.proofs.Common.{◌≡◌, ◌+◌, arith, refl, sym, subst, ◌∙◌}
 use Rattle.bsonraw_dump.specs.Reading.{ahead_of}
-use Rattle.bsonraw_dump.specs.Resync.{TellsPart}
+use Rattle.bsonraw_dump.specs.Run.{PassesNext}
 use Rattle.raw_resync.specs.Seeking.{IsWork}
 use Rattle.bsonraw_dump.specs.declared.window.Next.TheVariants as next
-use Rattle.bsonraw_dump.proofs.Passing.{has_passed_ahead, has_passed_front, has_passed_gap, has_passed_none}
+use Rattle.bsonraw_dump.proofs.Fronts.{on_any}
+use Rattle.bsonraw_dump.proofs.Halting.{halts_gap, halts_here, halts_next}
+use Rattle.bsonraw_dump.proofs.Passing.{has_passed_ahead, has_passed_front, has_passed_gap, has_passed_none, has_passed_same}
 use Rattle.bsonraw_dump.proofs.Skipping.{goes_ahead, passes_none}
 use Rattle.bsonraw_dump.proofs.Stopping.{if_ok, keeps_same, stops_end, stops_failed, stops_left}
 use Rattle.bsonraw_dump.proofs.run.pass_all.Goals as goal
-use Rattle.bsonraw_dump.proofs.run.pass_all.Goals.{in-Document+in_ok-pass_front-in-Document, in-End+else-not-asked+in_default}
+use Rattle.bsonraw_dump.proofs.run.pass_all.Goals.{in-Document, in-End+else-not-asked+in_default}
 
 pub loop-init : goal.loop-init
 loop-init g c = (
@@ -18,18 +20,16 @@ loop-init g c = (
       c.requires.1 c.requires.2 c.new-work.ensures,
 )
 
-pub pass_front-requires : goal.pass_front-requires
-pass_front-requires g c =
-    let read = g.R.Read.remaining in
-    let part = TellsPart c.args.asked.resync (read c.loop.reader) (read c.next_part.new.reader) c.loop.window c.next_part.new.window c.loop.work c.next_part.new.work in
-    let told = subst part c.in-Document.is c.in-Ok.ensures.told in
-    (told.searches.stays.window, told.ahead.0, told.ahead.1)
-
 pub pass_gap-requires : goal.pass_gap-requires
 pass_gap-requires g c =
     let read = g.R.Read.remaining in
-    let part = TellsPart c.args.asked.resync (read c.loop.reader) (read c.next_part.new.reader) c.loop.window c.next_part.new.window c.loop.work c.next_part.new.work in
-    let told = subst part c.in-End.is c.in-Ok.ensures.told in
+    let out = g.D.Write.contents in
+    let report = g.W.Write.contents in
+    let new = c.pass_next.new in
+    let part = PassesNext c.args.asked.command c.args.asked.style c.args.asked.resync c.args.asked.name.now (read c.loop.reader) (read new.reader) c.loop.window
+    new.window c.loop.work new.work (out c.loop.out) (out new.out) (report c.loop.report) (report new.report) c.loop.counts
+    new.counts c.loop.kept new.kept in
+    let (told, nothing) = subst part c.in-End.is c.in-Ok.ensures.passed in
     (told.searches.stays.window, told.searches.work, told.ahead.0)
 
 pub returns-in-Nothing-clause-passed : goal.returns-in-Nothing-clause-passed
@@ -37,41 +37,59 @@ returns-in-Nothing-clause-passed g c =
     let read = g.R.Read.remaining in
     let out = g.D.Write.contents in
     let report = g.W.Write.contents in
-    let part = TellsPart c.args.asked.resync (read c.loop.reader) (read c.next_part.new.reader) c.loop.window c.next_part.new.window c.loop.work c.next_part.new.work in
-    let told = subst part c.in-Nothing.is c.in-Ok.ensures.told in
-    stops_end c.args.asked.command c.args.asked.style c.args.asked.resync c.args.asked.name.now (read c.args.reader.now) (read c.loop.reader) (read c.next_part.new.reader)
-    (out c.args.out.now) (out c.loop.out) (report c.args.report.now) (report c.loop.report) (report c.loop.report) c.args.counts.now c.loop.counts c.loop.counts
-    c.args.kept.now c.loop.kept c.loop.window c.next_part.new.window c.loop.work c.next_part.new.work c.loop.invariant.2 told
+    let new = c.pass_next.new in
+    let part = PassesNext c.args.asked.command c.args.asked.style c.args.asked.resync c.args.asked.name.now (read c.loop.reader) (read new.reader) c.loop.window
+    new.window c.loop.work new.work (out c.loop.out) (out new.out) (report c.loop.report) (report new.report) c.loop.counts
+    new.counts c.loop.kept new.kept in
+    let (told, nothing) = subst part c.in-Nothing.is c.in-Ok.ensures.passed in
+    let before = has_passed_same c.args.asked.command c.args.asked.style c.args.asked.resync c.args.asked.name.now (ahead_of c.loop.window) (read c.args.reader.now)
+    (read c.loop.reader) (out c.args.out.now) (out c.loop.out) (out new.out) (report c.args.report.now) (report c.loop.report) (report new.report) c.args.counts.now c.loop.counts
+    new.counts c.args.kept.now c.loop.kept new.kept c.loop.window.offset c.loop.work c.loop.invariant.2 nothing in
+    stops_end c.args.asked.command c.args.asked.style c.args.asked.resync c.args.asked.name.now (read c.args.reader.now) (read c.loop.reader) (read new.reader)
+    (out c.args.out.now) (out new.out) (report c.args.report.now) (report new.report) (report new.report) c.args.counts.now new.counts new.counts
+    c.args.kept.now new.kept c.loop.window new.window c.loop.work new.work before told
 
 pub returns-then-not-asked-clause-passed : goal.returns-then-not-asked-clause-passed
 returns-then-not-asked-clause-passed g c =
     let read = g.R.Read.remaining in
     let out = g.D.Write.contents in
     let report = g.W.Write.contents in
-    let part = TellsPart c.args.asked.resync (read c.loop.reader) (read c.next_part.new.reader) c.loop.window c.next_part.new.window c.loop.work c.next_part.new.work in
-    let told = subst part c.in-End.is c.in-Ok.ensures.told in
-    stops_left c.args.asked.command c.args.asked.style c.args.asked.resync c.args.asked.name.now (read c.args.reader.now) (read c.loop.reader) (read c.next_part.new.reader)
-    (out c.args.out.now) (out c.loop.out) (report c.args.report.now) (report c.loop.report) (report c.loop.report) c.args.counts.now c.loop.counts c.loop.counts
-    c.args.kept.now c.loop.kept c.loop.window c.next_part.new.window c.loop.work c.next_part.new.work c.in-End.ending c.loop.invariant.2 told c.if-not-asked.true
+    let new = c.pass_next.new in
+    let part = PassesNext c.args.asked.command c.args.asked.style c.args.asked.resync c.args.asked.name.now (read c.loop.reader) (read new.reader) c.loop.window
+    new.window c.loop.work new.work (out c.loop.out) (out new.out) (report c.loop.report) (report new.report) c.loop.counts
+    new.counts c.loop.kept new.kept in
+    let (told, nothing) = subst part c.in-End.is c.in-Ok.ensures.passed in
+    let before = has_passed_same c.args.asked.command c.args.asked.style c.args.asked.resync c.args.asked.name.now (ahead_of c.loop.window) (read c.args.reader.now)
+    (read c.loop.reader) (out c.args.out.now) (out c.loop.out) (out new.out) (report c.args.report.now) (report c.loop.report) (report new.report) c.args.counts.now c.loop.counts
+    new.counts c.args.kept.now c.loop.kept new.kept c.loop.window.offset c.loop.work c.loop.invariant.2 nothing in
+    stops_left c.args.asked.command c.args.asked.style c.args.asked.resync c.args.asked.name.now (read c.args.reader.now) (read c.loop.reader) (read new.reader)
+    (out c.args.out.now) (out new.out) (report c.args.report.now) (report new.report) (report new.report) c.args.counts.now new.counts new.counts
+    c.args.kept.now new.kept c.loop.window new.window c.loop.work new.work c.in-End.ending before told c.if-not-asked.true
 
 pub returns-in-Err-pass_gap-clause-passed : goal.returns-in-Err-pass_gap-clause-passed
 returns-in-Err-pass_gap-clause-passed g c =
     let read = g.R.Read.remaining in
     let out = g.D.Write.contents in
     let report = g.W.Write.contents in
+    let new = c.pass_next.new in
     let from = c.offset-from.result in
-    let y = c.next_part.new.window in
-    let part = TellsPart c.args.asked.resync (read c.loop.reader) (read c.next_part.new.reader) c.loop.window y c.loop.work c.next_part.new.work in
-    let told = subst part c.in-End.is c.in-Ok.ensures.told in
+    let y = new.window in
+    let part = PassesNext c.args.asked.command c.args.asked.style c.args.asked.resync c.args.asked.name.now (read c.loop.reader) (read new.reader) c.loop.window
+    new.window c.loop.work new.work (out c.loop.out) (out new.out) (report c.loop.report) (report new.report) c.loop.counts
+    new.counts c.loop.kept new.kept in
+    let (told, nothing) = subst part c.in-End.is c.in-Ok.ensures.passed in
+    let before = has_passed_same c.args.asked.command c.args.asked.style c.args.asked.resync c.args.asked.name.now (ahead_of c.loop.window) (read c.args.reader.now)
+    (read c.loop.reader) (out c.args.out.now) (out c.loop.out) (out new.out) (report c.args.report.now) (report c.loop.report) (report new.report) c.args.counts.now c.loop.counts
+    new.counts c.args.kept.now c.loop.kept new.kept c.loop.window.offset c.loop.work c.loop.invariant.2 nothing in
     let here = has_passed_ahead c.args.asked.command c.args.asked.style c.args.asked.resync c.args.asked.name.now c.loop.window y (read c.args.reader.now) (read c.loop.reader)
-    (read c.next_part.new.reader) (out c.args.out.now) (out c.loop.out) (report c.args.report.now) (report c.loop.report) c.args.counts.now c.loop.counts
-    c.args.kept.now c.loop.kept c.loop.work c.next_part.new.work (next.End c.in-End.ending) c.loop.invariant.2 told in
+    (read new.reader) (out c.args.out.now) (out new.out) (report c.args.report.now) (report new.report) c.args.counts.now new.counts
+    c.args.kept.now new.kept c.loop.work new.work (next.End c.in-End.ending) before told in
     let at : from ≡ y.offset = c.offset-from.ensures ∙ sym told.searches.stays.offset in
     if_ok c.stopped-in-Err-pass_gap.result _ _ (λ s is.
     let (goes, kept, same) = c.in-Err-pass_gap.ensures.fails is.0 in
-    stops_failed c.args.asked.command c.args.asked.style c.args.asked.resync c.args.asked.name.now (read c.args.reader.now) (read c.next_part.new.reader)
-    (read c.pass_gap.new.reader) (out c.args.out.now) (out c.loop.out) (report c.args.report.now) (report c.loop.report) (report c.pass_gap.new.report)
-    c.args.counts.now c.loop.counts c.pass_gap.new.counts c.args.kept.now c.loop.kept y c.pass_gap.new.window c.loop.work from s is.1 here at goes kept same)
+    stops_failed c.args.asked.command c.args.asked.style c.args.asked.resync c.args.asked.name.now (read c.args.reader.now) (read new.reader)
+    (read c.pass_gap.new.reader) (out c.args.out.now) (out new.out) (report c.args.report.now) (report new.report) (report c.pass_gap.new.report)
+    c.args.counts.now new.counts c.pass_gap.new.counts c.args.kept.now new.kept y c.pass_gap.new.window c.loop.work from s is.1 here at goes kept same)
     c.stopped-in-Err-pass_gap.ensures.stops
 
 pub returns-in-Err-clause-passed : goal.returns-in-Err-clause-passed
@@ -79,17 +97,22 @@ returns-in-Err-clause-passed g c =
     let read = g.R.Read.remaining in
     let out = g.D.Write.contents in
     let report = g.W.Write.contents in
+    let new = c.pass_next.new in
     let x = c.loop.window in
-    let y = c.next_part.new.window in
+    let y = new.window in
     let r' = read c.loop.reader in
-    let r'' = read c.next_part.new.reader in
+    let r'' = read new.reader in
     let none : x.offset ≡ x.offset + 0 = omega arith in
-    let goes = goes_ahead r' r' r'' x x y 0 (passes_none r' (ahead_of x)) none c.in-Err.ensures.fails in
     if_ok c.stopped.result _ _ (λ s is.
+    let (stays, nothing) = c.in-Err.ensures.fails is.0 in
+    let before = has_passed_same c.args.asked.command c.args.asked.style c.args.asked.resync c.args.asked.name.now (ahead_of x) (read c.args.reader.now) r' (out c.args.out.now)
+    (out c.loop.out) (out new.out) (report c.args.report.now) (report c.loop.report) (report new.report) c.args.counts.now c.loop.counts new.counts c.args.kept.now c.loop.kept
+    new.kept x.offset c.loop.work c.loop.invariant.2 nothing in
+    let goes = goes_ahead r' r' r'' x x y 0 (passes_none r' (ahead_of x)) none stays in
     stops_failed c.args.asked.command c.args.asked.style c.args.asked.resync c.args.asked.name.now (read c.args.reader.now) r' r''
-    (out c.args.out.now) (out c.loop.out) (report c.args.report.now) (report c.loop.report) (report c.loop.report)
-    c.args.counts.now c.loop.counts c.loop.counts c.args.kept.now c.loop.kept x y c.loop.work c.offset-from.result s is.1 c.loop.invariant.2 c.offset-from.ensures goes
-    (keeps_same (report c.loop.report)) refl)
+    (out c.args.out.now) (out new.out) (report c.args.report.now) (report new.report) (report new.report)
+    c.args.counts.now new.counts new.counts c.args.kept.now new.kept x y c.loop.work c.offset-from.result s is.1 before c.offset-from.ensures goes
+    (keeps_same (report new.report)) refl)
     c.stopped.ensures.stops
 
 pub loop-preserved : goal.loop-preserved
@@ -97,31 +120,71 @@ loop-preserved g c =
     let read = g.R.Read.remaining in
     let out = g.D.Write.contents in
     let report = g.W.Write.contents in
+    let new = c.pass_next.new in
+    let part = PassesNext c.args.asked.command c.args.asked.style c.args.asked.resync c.args.asked.name.now (read c.loop.reader) (read new.reader) c.loop.window
+    new.window c.loop.work new.work (out c.loop.out) (out new.out) (report c.loop.report) (report new.report) c.loop.counts
+    new.counts c.loop.kept new.kept in
     elim c.match-next.branch [
-      | in-Document+in_ok-pass_front-in-Document w ↦
-          let part = TellsPart c.args.asked.resync (read c.loop.reader) (read c.next_part.new.reader) c.loop.window c.next_part.new.window c.loop.work c.next_part.new.work in
-          let told = subst part w.in-Document.is c.in-Ok.ensures.told in
-          let front = w.in_ok-pass_front-in-Document.ensures.passed in
-          rw (w.window-is, w.work-is, w.reader-is, w.out-is, w.report-is, w.counts-is, w.kept-is) (
+      | in-Document w ↦
+          let (any, y, told, front) = subst part w.in-Document.is c.in-Ok.ensures.passed in
+          rw (w.window-is, w.work-is, w.reader-is, w.report-is, w.counts-is) (
             front.window,
             told.searches.work,
-            has_passed_front c.args.asked.command c.args.asked.style c.args.asked.resync c.args.asked.name.now c.loop.window c.next_part.new.window
-                w.pass_front.new.window (read c.args.reader.now) (read c.loop.reader) (read c.next_part.new.reader) (out c.args.out.now) (out c.loop.out)
-                (out w.pass_front.new.out) (report c.args.report.now) (report c.loop.report) (report w.pass_front.new.report) c.args.counts.now c.loop.counts
-                w.pass_front.new.counts c.args.kept.now c.loop.kept w.pass_front.new.kept w.in-Document.len c.loop.work c.next_part.new.work
-                c.loop.invariant.2 told front,
+            has_passed_front any c.args.asked.command c.args.asked.style c.args.asked.resync c.args.asked.name.now c.loop.window y new.window (read c.args.reader.now)
+                (read c.loop.reader) (read new.reader) (out c.args.out.now) (out c.loop.out) (out new.out) (report c.args.report.now) (report c.loop.report) (report new.report)
+                c.args.counts.now c.loop.counts new.counts c.args.kept.now c.loop.kept new.kept w.in-Document.field-0 c.loop.work new.work c.loop.invariant.2 told front,
           )
       | in-End+else-not-asked+in_default w ↦
-          let part = TellsPart c.args.asked.resync (read c.loop.reader) (read c.next_part.new.reader) c.loop.window c.next_part.new.window c.loop.work c.next_part.new.work in
-          let told = subst part w.in-End.is c.in-Ok.ensures.told in
+          let (told, nothing) = subst part w.in-End.is c.in-Ok.ensures.passed in
           let over = w.in_default.ensures.passed in
-          rw (w.window-is, w.work-is, w.reader-is, w.out-is, w.report-is, w.counts-is, w.kept-is) (
+          let before = has_passed_same c.args.asked.command c.args.asked.style c.args.asked.resync c.args.asked.name.now (ahead_of c.loop.window) (read c.args.reader.now)
+          (read c.loop.reader) (out c.args.out.now) (out c.loop.out) (out new.out) (report c.args.report.now) (report c.loop.report) (report new.report) c.args.counts.now c.loop.counts
+          new.counts c.args.kept.now c.loop.kept new.kept c.loop.window.offset c.loop.work c.loop.invariant.2 nothing in
+          rw (w.window-is, w.work-is, w.reader-is, w.report-is, w.counts-is) (
             over.skips.window,
             over.skips.work,
-            has_passed_gap c.args.asked.command c.args.asked.style c.args.asked.resync c.args.asked.name.now c.loop.window c.next_part.new.window
-                w.pass_gap.new.window (read c.args.reader.now) (read c.loop.reader) (read c.next_part.new.reader) (read w.pass_gap.new.reader)
-                (out c.args.out.now) (out c.loop.out) (report c.args.report.now) (report c.loop.report) (report w.pass_gap.new.report) c.args.counts.now
-                c.loop.counts w.pass_gap.new.counts c.args.kept.now c.loop.kept c.loop.work c.next_part.new.work w.pass_gap.new.work w.in-End.ending c.loop.invariant.2 told
+            has_passed_gap c.args.asked.command c.args.asked.style c.args.asked.resync c.args.asked.name.now c.loop.window new.window
+                w.pass_gap.new.window (read c.args.reader.now) (read c.loop.reader) (read new.reader) (read w.pass_gap.new.reader)
+                (out c.args.out.now) (out new.out) (report c.args.report.now) (report new.report) (report w.pass_gap.new.report) c.args.counts.now
+                new.counts w.pass_gap.new.counts c.args.kept.now new.kept c.loop.work new.work w.pass_gap.new.work w.in-End.ending before told
                 w.if-not-asked.false over,
           )
     ]
+
+pub returns-in-Err-pass_gap-clause-halts : goal.returns-in-Err-pass_gap-clause-halts
+returns-in-Err-pass_gap-clause-halts g c =
+    let read = g.R.Read.remaining in
+    let out = g.D.Write.contents in
+    let report = g.W.Write.contents in
+    let new = c.pass_next.new in
+    let part = PassesNext c.args.asked.command c.args.asked.style c.args.asked.resync c.args.asked.name.now (read c.loop.reader) (read new.reader) c.loop.window
+    new.window c.loop.work new.work (out c.loop.out) (out new.out) (report c.loop.report) (report new.report) c.loop.counts
+    new.counts c.loop.kept new.kept in
+    let (told, nothing) = subst part c.in-End.is c.in-Ok.ensures.passed in
+    let before = has_passed_same c.args.asked.command c.args.asked.style c.args.asked.resync c.args.asked.name.now (ahead_of c.loop.window) (read c.args.reader.now)
+    (read c.loop.reader) (out c.args.out.now) (out c.loop.out) (out new.out) (report c.args.report.now) (report c.loop.report) (report new.report) c.args.counts.now c.loop.counts
+    new.counts c.args.kept.now c.loop.kept new.kept c.loop.window.offset c.loop.work c.loop.invariant.2 nothing in
+    on_any _ _ (halts_gap c.args.asked.command c.args.asked.style c.args.asked.resync c.args.asked.name.now (read c.args.reader.now) (read c.loop.reader)
+    (out c.args.out.now) (out new.out) (report c.args.report.now) (report new.report) c.args.counts.now new.counts c.args.kept.now new.kept
+    (read new.reader) (read c.pass_gap.new.reader) (report c.pass_gap.new.report) c.loop.window new.window c.pass_gap.new.window
+    c.loop.work new.work c.pass_gap.new.work c.in-End.ending before told c.if-not-asked.false c.in-Err-pass_gap.ensures.halts)
+
+pub returns-in-Err-clause-halts : goal.returns-in-Err-clause-halts
+returns-in-Err-clause-halts g c =
+    let read = g.R.Read.remaining in
+    let out = g.D.Write.contents in
+    let report = g.W.Write.contents in
+    let new = c.pass_next.new in
+    on_any _ _ (halts_next c.args.asked.command c.args.asked.style c.args.asked.resync c.args.asked.name.now (read c.args.reader.now) (read c.loop.reader)
+    (out c.args.out.now) (out c.loop.out) (report c.args.report.now) (report c.loop.report) c.args.counts.now c.loop.counts c.args.kept.now c.loop.kept
+    (out new.out) (report new.report) c.loop.window c.loop.work c.loop.invariant.2 c.in-Err.ensures.halts)
+
+pub returns-clause-halts : goal.returns-clause-halts
+returns-clause-halts g c =
+    let read = g.R.Read.remaining in
+    let out = g.D.Write.contents in
+    let report = g.W.Write.contents in
+    let h = c.loop.invariant.2 in
+    halts_here c.args.asked.command c.args.asked.style c.args.asked.resync c.args.asked.name.now (read c.args.reader.now) (read c.loop.reader)
+    (out c.args.out.now) (out c.loop.out) (report c.args.report.now) (report c.loop.report) c.args.counts.now c.loop.counts c.args.kept.now c.loop.kept
+    (ahead_of c.loop.window) h.ps h.passed

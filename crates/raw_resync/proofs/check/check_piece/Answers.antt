@@ -1,8 +1,16 @@
 use Rattle.std.proofs.Common.{◌≡◌, ◌+◌, ◌-◌, Some, None, true, false, arith, subst, sym, take, drop}
 use Rattle.raw_view.specs.Frame.Envelope.{IsEnvelope}
+use Rattle.raw_resync.specs.Resync.{IsSound}
 use Rattle.raw_resync.specs.Seeking.{Checks, JudgesPiece}
-use Rattle.raw_resync.proofs.Looking.{first_alone, is_last_piece, no_envelope, no_second, two_pieces, wants_second}
+use Rattle.raw_resync.proofs.Looking.{first_alone, is_last_piece, no_envelope, no_second, no_sound, two_pieces, wants_second}
 use Rattle.raw_resync.proofs.check.check_piece.Goals as goal
+
+pub returns-then-not-may_be_sound-clause-checked : goal.returns-then-not-may_be_sound-clause-checked
+returns-then-not-may_be_sound-clause-checked c =
+    let p = c.args.part in
+    let same : c.args.place + c.args.len - c.args.place ≡ c.args.len = omega arith in
+    no_sound p.limits p.bytes.now p.is_last p.at c.args.place c.args.len c.requires.1 c.requires.2 c.args.work.now
+    (λ sound. c.may_be_sound.ensures p.limits c.if-not-may_be_sound.true (subst (λ n. IsSound p.limits (take n (drop c.args.place p.bytes.now))) (sym same) sound))
 
 pub returns-in_ok-judge_piece-in-End-clause-checked : goal.returns-in_ok-judge_piece-in-End-clause-checked
 returns-in_ok-judge_piece-in-End-clause-checked c =

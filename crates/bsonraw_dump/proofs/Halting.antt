@@ -1,0 +1,158 @@
+-- What was written where a run over an input fails.
+use Rattle.std.proofs.Common.{◌≡◌, ◌++◌, ℕ, List, Bool, true, Option, None, Some, IfSome, append_assoc, ap, ◌∙◌, drop, fold, inl, inr, length, length-take-le, not, refl, subst, sym, take, take-append-drop}
+use Rattle.std.specs.Io.KnownBytes.{Appends, Consumes}
+use Rattle.bson_json.specs.Written.{AppendsFront}
+use Rattle.raw_resync.specs.Resync.{IsSound}
+use Rattle.raw_resync.specs.Seeking.{IsWork, no_work}
+use Rattle.raw_resync.specs.declared.work.Work.{Work}
+use Rattle.bsonraw_dump.specs.Find.{Account, limits}
+use Rattle.bsonraw_dump.specs.Fronts.{HasFront}
+use Rattle.bsonraw_dump.specs.Halting.{Halts, IsNextPiece, ReportsFront, HaltsAhead, HaltsIn, HaltsInGap, HaltsInside, HaltsLeaving, HaltsNext, HaltsOne}
+use Rattle.bsonraw_dump.specs.Reading.{TellsNext, ahead_of}
+use Rattle.bsonraw_dump.specs.Resync.{IsBelieved, TellsPart}
+use Rattle.bsonraw_dump.specs.Run.{Passed, PassesAll, MayPassOne, Part, Reports, bytes_of_parts, work_behind}
+use Rattle.bsonraw_dump.specs.Told.{ending_line}
+use Rattle.bsonraw_dump.specs.declared.command.Command.{Command}
+use Rattle.bsonraw_dump.specs.declared.command.Command.TheVariants as command
+use Rattle.bsonraw_dump.specs.declared.counts.Counts.{Counts}
+use Rattle.bsonraw_dump.specs.declared.ending.Ending.{Ending}
+use Rattle.bsonraw_dump.specs.declared.ending.Rest.TheVariants as rest
+use Rattle.bsonraw_dump.specs.declared.find.Finding.{Finding}
+use Rattle.bsonraw_dump.specs.declared.kept.Kept.{Kept}
+use Rattle.bsonraw_dump.specs.declared.run.Stop.TheVariants as stop
+use Rattle.bsonraw_dump.specs.declared.style.Style.{Style}
+use Rattle.bsonraw_dump.specs.declared.window.Next.TheVariants as next
+use Rattle.bsonraw_dump.specs.declared.window.Window.{Window}
+use Rattle.bsonraw_dump.proofs.Deciding.{finds_sound, tells_document}
+use Rattle.bsonraw_dump.proofs.Fronts.{front_whole}
+use Rattle.bsonraw_dump.proofs.Passing.{HasPassed, gap_of, input_behind}
+
+-- what was read is in front of the input
+read_front : (bytes x : List ℕ) (r r' : Option (List ℕ)) → Consumes r r' (bytes ++ x) → IfSome r (λ s. HasFront s bytes)
+read_front bytes x None r' read = tt
+read_front bytes x (Some s) None read = absurd read
+read_front bytes x (Some s) (Some rest) read = (x ++ rest, read ∙ append_assoc bytes x rest)
+
+-- so are the bytes ahead, of what was left
+ahead_front : (s x : List ℕ) (r : Option (List ℕ)) → Consumes (Some s) r x → HasFront s x
+ahead_front s x None read = absurd read
+ahead_front s x (Some rest) read = (rest, read)
+
+-- and the first of them
+first_front : (s x : List ℕ) (n : ℕ) → HasFront s x → HasFront s (take n x)
+first_front s x n (rest, is) = (drop n x ++ rest, is ∙ ap (λ (y : List ℕ). y ++ rest) (sym (take-append-drop n x)) ∙ append_assoc (take n x) (drop n x) rest)
+
+-- a command but list
+abbrev pub IsOther : Command → Type 0
+IsOther command.List = ⊥
+IsOther _ = Unit {0}
+
+-- a front of all lines is reported
+pub reports_front : (c : Command) (style : Style) (name : List ℕ) (offset : ℕ) (b : List ℕ) (f : Finding) (told : Option Account) (old new : Option (List ℕ)) (text : List ℕ)
+    → IsOther c → Reports c style name offset b f told text → AppendsFront old new text
+    → (lines : List ℕ) × ReportsFront c style name offset b f told lines × Appends old new lines
+reports_front command.List style name offset b f told old new text other reports front = absurd other
+reports_front command.Check style name offset b f told old new text other reports front = (front.front, (text, reports, (front.behind, front.whole)), front.put)
+reports_front command.Sound style name offset b f told old new text other reports front = (front.front, (text, reports, (front.behind, front.whole)), front.put)
+reports_front command.Canon style name offset b f told old new text other reports front = (front.front, (text, reports, (front.behind, front.whole)), front.put)
+reports_front command.Unique style name offset b f told old new text other reports front = (front.front, (text, reports, (front.behind, front.whole)), front.put)
+reports_front (command.Json form) style name offset b f told old new text other reports front = (front.front, (text, reports, (front.behind, front.whole)), front.put)
+
+-- a piece that is passed is one of which a front is
+pub halts_passed : (any : Bool) (c : Command) (style : Style) (name : List ℕ) (offset : ℕ) (b : List ℕ) (d d' w w' : Option (List ℕ)) (k k' : Kept) (f : Finding)
+    → MayPassOne any c style name offset b d d' w w' k k' (Some f) → HaltsOne any c style name offset b k d d' w w'
+halts_passed any c style name offset b d d' w w' k k' f (clean, (told, found, (made, makes, written), reported)) =
+    inr (f, told, found, clean, inr (inr (_, (made, makes, refl), front_whole d d' _ written.is_written), reported))
+
+-- the document that is next is next in all that was to be read
+piece_next : (resync : Bool) (r r' : Option (List ℕ)) (x y : Window) (v v' : Work) (len : ℕ) → TellsPart resync r r' x y v v' (next.Document len)
+    → (s : List ℕ) → Consumes (Some s) r (ahead_of x) → IsNextPiece resync s x.offset v (take len (ahead_of y))
+piece_next resync r r' x y v v' len t s all =
+    let size : length (take len (ahead_of y)) ≡ len = length-take-le len (ahead_of y) t.ahead.0 in
+    record {
+      in_front = first_front s (ahead_of y) len (ahead_front s (ahead_of y) r' (t.searches.stays.looks.is_read (Some s) all));
+      work_new = v';
+      believed = λ asked. subst (λ (m : ℕ). IsBelieved s x.offset m v') (sym size) (t.is s all asked);
+      spends = t.searches.spends s all;
+    }
+
+module _ (c : Command) (style : Style) (resync : Bool) (name : List ℕ) (r r' d d' w w' : Option (List ℕ)) (x y : Window) (v v' : Work) (k : Kept) (len : ℕ) where
+  -- a front of what is taken at its length
+  pub halts_taken : (any : Bool) → TellsPart resync r r' x y v v' (next.Document len) → HaltsOne any c style name y.offset (take len (ahead_of y)) k d d' w w'
+      → HaltsNext c style resync name r x v k d d' w w'
+  halts_taken any t (inl same) = inl same
+  halts_taken any t (inr (f, told, found, clean, inside)) = inr (
+    take len (ahead_of y),
+    t.ahead.1,
+    piece_next resync r r' x y v v' len t,
+    (f, told, found, subst (λ (m : ℕ). HaltsInside c style name m (take len (ahead_of y)) f told k d d' w w') t.searches.stays.offset inside),
+  )
+
+  -- or of what has no damage
+  pub halts_clean : IsWork v → TellsNext r r' x y 0 (next.Document len) → HaltsOne (not resync) c style name y.offset (take len (ahead_of y)) k d d' w w'
+      → v' ≡ v → HaltsNext c style resync name r x v k d d' w w'
+  halts_clean work t (inl same) is = inl same
+  halts_clean work t (inr (f, told, found, clean, inside)) is =
+      let sound : resync ≡ true → IsSound limits (take len (ahead_of y)) = λ asked. finds_sound (take len (ahead_of y)) f told t.is.1 found (clean (ap not asked)) in
+      halts_taken (not resync) (subst (λ (u : Work). TellsPart resync r r' x y v u (next.Document len)) (sym is) (tells_document resync r r' x y v len work sound t))
+      (inr (f, told, found, clean, inside))
+
+module _ (c : Command) (style : Style) (resync : Bool) (name : List ℕ) (r r' d d' w w' : Option (List ℕ)) (n n' : Counts) (k k' : Kept) where
+  -- what is next isn't passed
+  halts_with : (d'' w'' : Option (List ℕ)) (ahead : List ℕ) (ps : List Part) → Passed c style resync name ahead r r' d d' w w' n n' k k' ps
+      → HaltsAhead c style resync name r (length (bytes_of_parts ps)) (fold work_behind no_work ps) k' d' d'' w' w'' → Halts c style resync name r d d'' w w'' k
+  halts_with d'' w'' ahead ps p halts = record {
+    ps = ps;
+    in_front = read_front (bytes_of_parts ps) ahead r r' p.is_read;
+    parts = p.parts;
+    out_between = d';
+    report_between = w';
+    kept_between = k';
+    is_written = p.is_written;
+    is_reported = p.is_reported;
+    halts = halts;
+  }
+
+  -- nothing comes of it
+  pub halts_here : (ahead : List ℕ) (ps : List Part) → Passed c style resync name ahead r r' d d' w w' n n' k k' ps → Halts c style resync name r d d' w w' k
+  halts_here ahead ps p = halts_with d' w' ahead ps p (inr (refl, inl refl))
+
+  -- a front of the piece that is next, or nothing
+  pub halts_next : (d'' w'' : Option (List ℕ)) (x : Window) (v : Work) → HasPassed c style resync name (ahead_of x) r r' d d' w w' n n' k k' x.offset v
+      → HaltsNext c style resync name r' x v k' d' d'' w' w'' → Halts c style resync name r d d'' w w'' k
+  halts_next d'' w'' x v h (inl (out, report)) = halts_with d'' w'' (ahead_of x) h.ps h.passed (inr (out, inl report))
+  halts_next d'' w'' x v h (inr (b, is, there, halts)) =
+      let bytes = bytes_of_parts h.ps in
+      let work = fold work_behind no_work h.ps in
+      let here : (s : List ℕ) → Consumes (Some s) r' (ahead_of x) → IsNextPiece resync s (length bytes) work b = λ s all.
+      subst (λ (u : Work). IsNextPiece resync s (length bytes) u b) h.worked (subst (λ (m : ℕ). IsNextPiece resync s m v b) h.at (there s all)) in
+      halts_with d'' w'' (ahead_of x) h.ps h.passed (inl (
+        b,
+        is,
+        input_behind bytes (ahead_of x) r r' (λ s. IsNextPiece resync s (length bytes) work b) h.passed.is_read here,
+        subst (λ (m : ℕ). HaltsIn c style name m b k' d' d'' w' w'') h.at halts,
+      ))
+
+  -- a front of the line of a gap
+  pub halts_gap : (r'' q w'' : Option (List ℕ)) (x y z : Window) (v v' v'' : Work) (e : Ending) → HasPassed c style resync name (ahead_of x) r r' d d' w w' n n' k k' x.offset v
+      → TellsPart resync r' r'' x y v v' (next.End e) → resync ≡ true → HaltsInGap style name e r'' q y z v' v'' w' w'' → Halts c style resync name r d d' w w'' k
+  halts_gap r'' q w'' x y z v v' v'' e h t asked (inl same) = halts_with d' w'' (ahead_of x) h.ps h.passed (inr (refl, inl same))
+  halts_gap r'' q w'' x y z v v' v'' e h t asked (inr (skip, skips, front)) =
+      let bytes = bytes_of_parts h.ps in
+      let at : y.offset ≡ length bytes = t.searches.stays.offset ∙ h.at in
+      let is = gap_of c style resync name x y z r r' r'' q d d' w w' n n' k k' v v' v'' e skip h t asked skips in
+      let put = subst (λ (m : ℕ). AppendsFront w' w'' (ending_line style name m e (rest.PassedOver skip))) at front in
+      halts_with d' w'' (ahead_of x) h.ps h.passed (inr (refl, inr (_, inl (_, is, refl), put)))
+
+  -- a front of the line of what is left
+  pub halts_left : (r'' w'' : Option (List ℕ)) (y : Window) (e : Ending) → PassesAll c style resync name r r' d d' w w' n n' k k' y (stop.Left e)
+      → HaltsLeaving style name e r' r'' y w' w'' → Halts c style resync name r d d' w w'' k
+  halts_left r'' w'' y e p (inl same) = halts_with d' w'' p.left p.ps p.passed (inr (refl, inl same))
+  halts_left r'' w'' y e p (inr (more, read, ends, front)) =
+      let (ahead, at, first, behind, unasked) = p.stops in
+      let bytes = bytes_of_parts p.ps in
+      let left = ahead_of y ++ more in
+      let here : (s : List ℕ) → Consumes (Some s) r' p.left → HasFront s left = λ s all. ahead_front s left r'' (read (Some s) (subst (Consumes (Some s) r') ahead all)) in
+      let there : IfSome r (λ s. HasFront (drop (length bytes) s) left) = input_behind bytes p.left r r' (λ s. HasFront s left) p.passed.is_read here in
+      let put = subst (λ (m : ℕ). AppendsFront w' w'' (ending_line style name m e (rest.NotRead (length left)))) at front in
+      halts_with d' w'' p.left p.ps p.passed (inr (refl, inr (_, inr (e, left, ends, unasked, there, refl), put)))

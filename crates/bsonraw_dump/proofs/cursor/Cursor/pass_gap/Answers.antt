@@ -1,0 +1,26 @@
+use Rattle.std.proofs.Common.{◌∙◌, inl, inr, refl, sym}
+use Rattle.bsonraw_dump.proofs.Advancing.{gap_ends, gap_more, gap_none}
+use Rattle.bsonraw_dump.proofs.cursor.Cursor.pass_gap.Goals as goal
+
+pub loop-init : goal.loop-init
+loop-init g c = (gap_none _ c.args.self.now c.requires, refl)
+
+pub returns-in_default-clause-passed : goal.returns-in_default-clause-passed
+returns-in_default-clause-passed g c =
+    let r = g.R.Read.remaining in
+    gap_ends (r c.args.reader.now) (r c.loop.reader) (r c.next.new.reader) c.args.self.now c.loop.self c.next.new.self c.args.turn.now _ _ c.loop.invariant.0
+    c.in_ok-byte.ensures.next (inr refl)
+
+pub returns-then-begins_line-clause-passed : goal.returns-then-begins_line-clause-passed
+returns-then-begins_line-clause-passed g c =
+    let r = g.R.Read.remaining in
+    gap_ends (r c.args.reader.now) (r c.loop.reader) (r c.next.new.reader) c.args.self.now c.loop.self c.next.new.self c.args.turn.now _ _ c.loop.invariant.0
+    c.in_ok-byte.ensures.next (inl c.loop.invariant.1)
+
+pub loop-preserved : goal.loop-preserved
+loop-preserved g c =
+    let r = g.R.Read.remaining in (
+      gap_more (r c.args.reader.now) (r c.loop.reader) (r c.next.new.reader) c.args.self.now c.loop.self c.next.new.self c.pass.new.self _ c.in-Some.byte c.loop.invariant.0
+          c.in_ok-byte.ensures.next c.in-Some.is (sym c.begins_line.ensures ∙ c.if-begins_line.false) c.in_ok-pass.ensures.passed,
+      c.loop.invariant.1,
+    )

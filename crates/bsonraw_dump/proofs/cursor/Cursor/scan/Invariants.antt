@@ -1,0 +1,10 @@
+use Rattle.bsonraw_dump.specs.Reading.{ahead_of}
+use Rattle.bsonraw_dump.specs.TextReading.{LooksOn, ScansAhead}
+use Rattle.bsonraw_dump.specs.Texts.{IsOpen}
+use Rattle.bsonraw_dump.proofs.cursor.Cursor.scan.Given as goal
+
+-- so far the text comes, and may go on
+abbrev pub invariant-loop : goal.invariant-loop
+invariant-loop g l =
+    LooksOn (g.R.Read.remaining l.initial.reader) (g.R.Read.remaining l.reader) l.initial.self l.self
+    × ScansAhead (ahead_of l.self.window) l.found × IsOpen l.found.scan

@@ -1,0 +1,32 @@
+use Rattle.std.proofs.Common.{List, ℕ, Bor, refl}
+use Rattle.std.proofs.KnownBytes.{Appends-kept}
+use Rattle.bsonraw_dump.specs.TextBatch.{text_state, text_summary}
+use Rattle.bsonraw_dump.proofs.TextSumming.{in_ok, reads_all, reads_next}
+use Rattle.bsonraw_dump.proofs.texts_batch.read_each.Goals as goal
+
+pub loop-name-preserved : goal.loop-name-preserved
+loop-name-preserved g c =
+    let first = text_state (g.D.Write.contents c.args.out.now) (g.W.Write.contents c.args.report.now) c.args.totals.now in
+    let between = text_state (g.D.Write.contents c.loop-name.out) (g.W.Write.contents c.loop-name.report) c.loop-name.totals in
+    let last = text_state (g.D.Write.contents c.read_one.new.out) (g.W.Write.contents c.read_one.new.report) c.read_one.new.totals in
+    reads_next c.args.job (g.I.Inputs.bytes_of c.args.inputs.now) (λ (name : Bor (List ℕ)). name.now) c.args.names.now c.loop-name.name-index _ first between last
+    c.loop-name-test.true c.loop-name.invariant c.in_ok-read_one.ensures.reads
+
+pub returns-clause-reads : goal.returns-clause-reads
+returns-clause-reads g c =
+    let first = text_state (g.D.Write.contents c.args.out.now) (g.W.Write.contents c.args.report.now) c.args.totals.now in
+    let last = text_state (g.D.Write.contents c.loop-name.out) (g.W.Write.contents c.loop-name.report) c.loop-name.totals in
+    let told = g.W.Write.contents c.put_counts.new.report in
+    let new = g.W.Write.contents c.flush-2.new.writer in
+    in_ok c.flush-2.result _ (
+      last,
+      record {
+        reads = reads_all c.args.job (g.I.Inputs.bytes_of c.args.inputs.now) (λ (name : Bor (List ℕ)). name.now) c.args.names.now c.loop-name.name-index first last
+            c.loop-name-test.false c.loop-name.invariant;
+        out = c.flush.ensures.kept;
+        report = Appends-kept (g.W.Write.contents c.loop-name.report) told new (text_summary c.args.job.style c.loop-name.totals.counts) c.in_ok-put_counts.ensures.written
+            c.flush-2.ensures.kept;
+      },
+      refl,
+      refl,
+    )

@@ -1,0 +1,11 @@
+-- Fronts of bytes that a writer holds.
+use Rattle.std.specs.Prelude.{◌≡◌, ◌⊎◌, ◌++◌, ℕ, List, Option}
+use Rattle.bson_json.specs.Written.{AppendsFront}
+
+-- s begins with these bytes
+abbrev pub HasFront : List ℕ → List ℕ → Type 0
+HasFront s front = (rest : List ℕ) × (s ≡ front ++ rest)
+
+-- nothing is written, or a front of a text that is so
+abbrev pub WritesFront : (List ℕ → Type 0) → (old new : Option (List ℕ)) → Type 0
+WritesFront Is old new = (new ≡ old) ⊎ ((text : List ℕ) × Is text × AppendsFront old new text)

@@ -1,0 +1,114 @@
+-- What two writers hold behind a run over an input that fails: what parts of it give, and a front of what comes behind them.
+use Rattle.std.specs.Prelude.{◌≡◌, ◌⊎◌, ◌++◌, ℕ, List, Bool, true, false, Option, Some, IfSome, drop, fold, length}
+use Rattle.std.specs.Io.KnownBytes.{Appends, Consumes}
+use Rattle.bson_json.specs.Written.{AppendsFront}
+use Rattle.raw_resync.specs.Seeking.{no_work}
+use Rattle.raw_resync.specs.declared.work.Work.{Work}
+use Rattle.bsonraw_dump.specs.Cut.{EndsWith, IsPiece}
+use Rattle.bsonraw_dump.specs.Find.{Account, Finds, IsDamage}
+use Rattle.bsonraw_dump.specs.Fronts.{HasFront, WritesFront}
+use Rattle.bsonraw_dump.specs.Listing.{HasListingFront}
+use Rattle.bsonraw_dump.specs.Reading.{ahead_of}
+use Rattle.bsonraw_dump.specs.Resync.{IsBelieved, SkipsTo, Spends}
+use Rattle.bsonraw_dump.specs.Run.{AreParts, Gap, IsGap, Makes, Part, Reports, Writes, bytes_of_parts, head_text, lines_of_parts, made_of_parts, work_behind}
+use Rattle.bsonraw_dump.specs.Told.{ending_line, last_line, line}
+use Rattle.bsonraw_dump.specs.Unique.{knows, written_of}
+use Rattle.bsonraw_dump.specs.declared.command.Command.{Command}
+use Rattle.bsonraw_dump.specs.declared.command.Command.TheVariants as command
+use Rattle.bsonraw_dump.specs.declared.ending.Ending.{Ending}
+use Rattle.bsonraw_dump.specs.declared.ending.Rest.TheVariants as rest
+use Rattle.bsonraw_dump.specs.declared.find.Finding.{Finding}
+use Rattle.bsonraw_dump.specs.declared.kept.Kept.{Kept}
+use Rattle.bsonraw_dump.specs.declared.resync.Skip.{Skip}
+use Rattle.bsonraw_dump.specs.declared.style.Style.{Style}
+use Rattle.bsonraw_dump.specs.declared.window.Window.{Window}
+
+-- a front of the first line of a piece b at this offset, of which this is told; or that line, and a front of its listing
+abbrev pub ListsFront : List ℕ → ℕ → List ℕ → Option Account → List ℕ → Type 0
+ListsFront name offset b told text =
+    HasFront (line name offset (head_text b told)) text ⊎ ((front : List ℕ) × HasListingFront b front × (text ≡ line name offset (head_text b told) ++ front))
+
+-- a front of what a command reports of a piece b at this offset, in which this is found
+abbrev pub ReportsFront : Command → Style → List ℕ → ℕ → List ℕ → Finding → Option Account → List ℕ → Type 0
+ReportsFront command.List style name offset b found told text = ListsFront name offset b told text
+ReportsFront c style name offset b found told text = (lines : List ℕ) × Reports c style name offset b found told lines × HasFront lines text
+
+-- this is written of the documents that a command makes of a piece b in which this is found
+abbrev pub IsMade : Command → List ℕ → Finding → Kept → List ℕ → Type 0
+IsMade c b found kept text = (made : List (List ℕ)) × Makes c b found made × (text ≡ written_of c (knows kept) made)
+
+-- Of a piece b, in which this is found, a front is reported, and nothing is written. Or all is reported, and a front is written, or nothing.
+abbrev pub HaltsInside : Command → Style → List ℕ → ℕ → List ℕ → Finding → Option Account → Kept → (out_old out_new report_old report_new : Option (List ℕ)) → Type 0
+HaltsInside c style name offset b found told kept out_old out_new report_old report_new =
+    ((out_new ≡ out_old) × ((lines : List ℕ) × ReportsFront c style name offset b found told lines × Appends report_old report_new lines))
+    ⊎ (WritesFront (IsMade c b found kept) out_old out_new × ((lines : List ℕ) × Reports c style name offset b found told lines × Appends report_old report_new lines))
+
+-- the same of what is found in a piece
+abbrev pub HaltsIn : Command → Style → List ℕ → ℕ → List ℕ → Kept → (out_old out_new report_old report_new : Option (List ℕ)) → Type 0
+HaltsIn c style name offset b kept out_old out_new report_old report_new =
+    (found : Finding) × (told : Option Account) × Finds b found told × HaltsInside c style name offset b found told kept out_old out_new report_old report_new
+
+-- A piece is next in s, the end of an input from this offset on, and is taken at its length; where searches before it cost so much.
+pub record IsNextPiece (resync : Bool) (s : List ℕ) (offset : ℕ) (work : Work) (b : List ℕ) : Type 0 where
+  pub in_front : HasFront s b
+  pub work_new : Work
+  pub believed : resync ≡ true → IsBelieved s offset (length b) work_new
+  pub spends : Spends s offset work work_new
+
+-- this is the line of what is next at this offset of an input and isn't a piece: of a gap, or of bytes that are left, as far as they were read
+abbrev pub IsNextLine : Style → (resync : Bool) → List ℕ → (input : Option (List ℕ)) → ℕ → Work → List ℕ → Type 0
+IsNextLine style resync name input offset work text =
+    ((g : Gap) × IsGap style resync name input offset work g × (text ≡ g.lines))
+    ⊎ ((end : Ending) × (left : List ℕ) × EndsWith end left × (resync ≡ false) × IfSome input (λ s. HasFront (drop offset s) left)
+    × (text ≡ last_line style name offset (Some end) (length left)))
+
+-- what is next at this offset isn't passed: a front of what a piece gives, or of a line, or nothing is written
+abbrev pub HaltsAhead : Command → Style → (resync : Bool) → List ℕ → (input : Option (List ℕ)) → ℕ → Work → Kept → (out_old out_new report_old report_new : Option (List ℕ)) → Type 0
+HaltsAhead c style resync name input offset work kept out_old out_new report_old report_new =
+    ((b : List ℕ) × IsPiece b × IfSome input (λ s. IsNextPiece resync (drop offset s) offset work b) × HaltsIn c style name offset b kept out_old out_new report_old report_new)
+    ⊎ ((out_new ≡ out_old) × WritesFront (IsNextLine style resync name input offset work) report_old report_new)
+
+-- How a run over an input fails. These parts are in front of it. What they give was written and reported, and of what is next a front.
+pub record Halts (c : Command) (style : Style) (resync : Bool) (name : List ℕ) (input out_old out_new report_old report_new : Option (List ℕ)) (kept_old : Kept) : Type 0 where
+  pub ps : List Part
+  pub in_front : IfSome input (λ s. HasFront s (bytes_of_parts ps))
+  pub parts : AreParts c style resync name input 0 no_work ps
+  pub out_between : Option (List ℕ)
+  pub report_between : Option (List ℕ)
+  pub kept_between : Kept
+  pub is_written : Writes c (made_of_parts ps) out_old out_between kept_old kept_between
+  pub is_reported : Appends report_old report_between (lines_of_parts ps)
+  pub halts : HaltsAhead c style resync name input (length (bytes_of_parts ps)) (fold work_behind no_work ps) kept_between out_between out_new report_between report_new
+
+-- What the code tells of a run that fails. No public contract cites what follows.
+
+-- A piece isn't passed: nothing comes of it, or a front; of one with damage only where any is passed.
+abbrev pub HaltsOne : (any : Bool) → Command → Style → List ℕ → ℕ → List ℕ → Kept → (out_old out_new report_old report_new : Option (List ℕ)) → Type 0
+HaltsOne any c style name offset b kept out_old out_new report_old report_new =
+    ((out_new ≡ out_old) × (report_new ≡ report_old))
+    ⊎ ((found : Finding) × (told : Option Account) × Finds b found told × (any ≡ false → ¬ IsDamage found)
+    × HaltsInside c style name offset b found told kept out_old out_new report_old report_new)
+
+-- the same of the piece that is next in all that was to be read
+abbrev pub HaltsNext : Command → Style → (resync : Bool) → List ℕ → (read_old : Option (List ℕ)) → (window_old : Window) → (work_old : Work) → Kept
+    → (out_old out_new report_old report_new : Option (List ℕ)) → Type 0
+HaltsNext c style resync name read_old window_old work_old kept out_old out_new report_old report_new =
+    ((out_new ≡ out_old) × (report_new ≡ report_old))
+    ⊎ ((b : List ℕ) × IsPiece b × ((s : List ℕ) → Consumes (Some s) read_old (ahead_of window_old) → IsNextPiece resync s window_old.offset work_old b)
+    × HaltsIn c style name window_old.offset b kept out_old out_new report_old report_new)
+
+-- bytes at the bytes ahead aren't passed over, or a front of their line is written, or nothing
+abbrev pub HaltsInGap : Style → List ℕ → Ending → (read_old read_new : Option (List ℕ)) → (window_old window_new : Window) → (work_old work_new : Work)
+    → (report_old report_new : Option (List ℕ)) → Type 0
+HaltsInGap style name end read_old read_new window_old window_new work_old work_new report_old report_new =
+    (report_new ≡ report_old)
+    ⊎ ((skip : Skip) × SkipsTo read_old read_new window_old window_new work_old work_new skip
+    × AppendsFront report_old report_new (ending_line style name window_old.offset end (rest.PassedOver skip)))
+
+-- the line of what is left from the bytes ahead on isn't written, or a front of it
+abbrev pub HaltsLeaving : Style → List ℕ → Ending → (read_old read_new : Option (List ℕ)) → (window_old : Window) → (report_old report_new : Option (List ℕ)) → Type 0
+HaltsLeaving style name end read_old read_new window_old report_old report_new =
+    (report_new ≡ report_old)
+    ⊎ ((more : List ℕ) × ((before : Option (List ℕ)) → Consumes before read_old (ahead_of window_old) → Consumes before read_new (ahead_of window_old ++ more))
+    × EndsWith end (ahead_of window_old ++ more)
+    × AppendsFront report_old report_new (ending_line style name window_old.offset end (rest.NotRead (length (ahead_of window_old ++ more)))))

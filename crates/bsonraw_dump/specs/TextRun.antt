@@ -1,0 +1,186 @@
+-- What a run over an input of texts reads, writes and counts.
+use Rattle.std.specs.Prelude.{◌≡◌, ◌⊎◌, ◌+◌, ◌≤◌, ℕ, List, [], ◌∷◌, ◌++◌, Bool, true, Option, Some, IfSome, flat_map, fold, length, take}
+use Rattle.std.specs.Io.KnownBytes.{Appends}
+use Rattle.bson_from_json.specs.Texts.{IsWritten}
+use Rattle.bsonraw_dump.specs.Reading.{IsWindow, ahead_of}
+use Rattle.bsonraw_dump.specs.TextFaults.{fault_line}
+use Rattle.bsonraw_dump.specs.Texts.{HasNoLine, IsOpen, IsWhole, first_position, may_begin, may_end, position_over, scanned, turn_behind_document, turn_behind_gap, turn_over}
+use Rattle.bsonraw_dump.specs.TextReading.{PassesGap, ScansAhead}
+use Rattle.bsonraw_dump.specs.declared.cursor.Cursor.{Cursor}
+use Rattle.bsonraw_dump.specs.declared.cursor.NextText.{NextText}
+use Rattle.bsonraw_dump.specs.declared.cursor.NextText.TheVariants as next
+use Rattle.bsonraw_dump.specs.declared.position.Position.{Position}
+use Rattle.bsonraw_dump.specs.declared.style.Style.{Style}
+use Rattle.bsonraw_dump.specs.declared.text_counts.TextCounts.{TextCounts}
+use Rattle.bsonraw_dump.specs.declared.text_fault.TextReason.{TextReason}
+use Rattle.bsonraw_dump.specs.declared.texts.AskedTexts.{AskedTexts}
+use Rattle.bsonraw_dump.specs.declared.texts.Made.{Made}
+use Rattle.bsonraw_dump.specs.declared.texts.Made.TheVariants as made
+use Rattle.bsonraw_dump.specs.declared.texts.TextEnd.{TextEnd}
+use Rattle.bsonraw_dump.specs.declared.texts.TextEnd.TheVariants as end
+use Rattle.bsonraw_dump.specs.declared.texts.Went.{Went}
+use Rattle.bsonraw_dump.specs.declared.texts.Went.TheVariants as went
+use Rattle.bsonraw_dump.specs.declared.turn.Turn.{Turn}
+use Rattle.bsonraw_dump.specs.declared.turn.Turn.TheVariants as turn
+
+-- A part of an input: what is between documents; the text of one, or what is passed in its place; the document that is written of it,
+-- if one is; the line of its fault, if it has one; and what may come behind it.
+pub record TextPart : Type 0 where
+  pub front : List ℕ
+  pub text : List ℕ
+  pub made : List (List ℕ)
+  pub lines : List ℕ
+  pub behind : Turn
+
+abbrev pub bytes_of : TextPart → List ℕ
+bytes_of p = p.front ++ p.text
+
+-- a document is written of the whole text
+pub record IsDocument (before : Turn) (text : List ℕ) (made : List (List ℕ)) (lines : List ℕ) (behind : Turn) : Type 0 where
+  pub may_be : may_begin before ≡ true
+  pub whole : IsWhole text
+  pub document : List ℕ
+  pub is_written : IsWritten text document
+  pub makes : made ≡ document ∷ []
+  pub quiet : lines ≡ []
+  pub next : behind ≡ turn_behind_document before
+
+-- the line of a fault that is so many bytes behind this place
+pub record TellsFault (style : Style) (name : List ℕ) (place : Position) (text lines : List ℕ) : Type 0 where
+  pub at : ℕ
+  pub within : at ≤ length text
+  pub reason : TextReason
+  pub told : lines ≡ fault_line style name (position_over place (take at text)) reason
+
+-- the whole text has a fault, and nothing is written of it
+pub record IsRefused (style : Style) (name : List ℕ) (place : Position) (before : Turn) (text : List ℕ) (made : List (List ℕ)) (lines : List ℕ) (behind : Turn) : Type 0 where
+  pub may_be : may_begin before ≡ true
+  pub whole : IsWhole text
+  pub none : made ≡ []
+  pub fault : TellsFault style name place text lines
+  pub next : behind ≡ turn_behind_document before
+
+-- No text of a document is there, or one that doesn't come to its end. What there is of it is passed, and the bytes behind it in which no
+-- line begins with a brace; the input ends there, or goes on.
+pub record IsAstray (style : Style) (name : List ℕ) (place : Position) (before : Turn) (text : List ℕ) (made : List (List ℕ)) (lines : List ℕ) (behind : Turn) : Type 0 where
+  pub begun : List ℕ
+  pub gap : List ℕ
+  pub parts : text ≡ begun ++ gap
+  pub unended : IsOpen (scanned begun)
+  pub no_line : HasNoLine (position_over place begun) gap
+  pub none : made ≡ []
+  pub fault : TellsFault style name place begun lines
+  pub next : (behind ≡ turn_behind_gap before) ⊎ (behind ≡ turn.Last)
+
+-- what is so of a part that begins at this place, where this may come
+pub record IsTextPart (style : Style) (name : List ℕ) (place : Position) (before : Turn) (p : TextPart) : Type 0 where
+  pub between : Turn
+  pub fronts : turn_over before p.front ≡ Some between
+  pub is :
+      IsDocument between p.text p.made p.lines p.behind
+      ⊎ IsRefused style name (position_over place p.front) between p.text p.made p.lines p.behind
+      ⊎ IsAstray style name (position_over place p.front) between p.text p.made p.lines p.behind
+
+-- parts come behind this one: it is a document, or that is asked for
+abbrev pub GoesOn : (keep_going : Bool) → TextPart → Type 0
+GoesOn keep_going p = (p.lines ≡ []) ⊎ (keep_going ≡ true)
+
+-- parts one behind the other, the first of which begins at this place
+abbrev pub AreTexts : (keep_going : Bool) → Style → List ℕ → Position → Turn → List TextPart → Type 0
+AreTexts keep_going style name place before [] = Unit {0}
+AreTexts keep_going style name place before (p ∷ ps) =
+    IsTextPart style name place before p × ((ps ≡ []) ⊎ GoesOn keep_going p) × AreTexts keep_going style name (position_over place (bytes_of p)) p.behind ps
+
+abbrev pub bytes_of_texts : List TextPart → List ℕ
+bytes_of_texts ps = flat_map bytes_of ps
+
+-- the documents that are written, one behind the other
+abbrev pub joined : List (List ℕ) → List ℕ
+joined documents = flat_map (λ d. d) documents
+
+abbrev pub made_of_texts : List TextPart → List ℕ
+made_of_texts ps = flat_map (λ p. joined p.made) ps
+
+abbrev pub lines_of_texts : List TextPart → List ℕ
+lines_of_texts ps = flat_map (λ p. p.lines) ps
+
+-- what may come behind these parts
+abbrev pub turn_behind_texts : Turn → List TextPart → Turn
+turn_behind_texts t ps = fold (λ _ p. p.behind) t ps
+
+-- nothing was read
+abbrev pub no_texts : TextCounts
+no_texts = record { documents = 0; bytes = 0; refused = 0; files = 0 }
+
+-- one more part, of which these documents are written: one, or none where it has a fault
+abbrev pub count_made : TextCounts → List (List ℕ) → TextCounts
+count_made n [] = record n { refused = n.refused + 1 }
+count_made n (d ∷ ds) = record n { documents = n.documents + 1; bytes = n.bytes + length d }
+
+abbrev pub count_text : TextCounts → TextPart → TextCounts
+count_text n p = count_made n p.made
+
+-- one more file that can't be read, or not to its end
+abbrev pub count_file : TextCounts → TextCounts
+count_file n = record n { files = n.files + 1 }
+
+-- How a run over these parts ends, where the input is known to be s: behind them is only what may be between documents, and the
+-- input may end there; a fault is the last part, and nothing is read on; or reading failed.
+abbrev pub EndsAs : TextEnd → List TextPart → List ℕ → Type 0
+EndsAs end.End ps s = (left : List ℕ) × (last : Turn) × (s ≡ bytes_of_texts ps ++ left) × (turn_over (turn_behind_texts turn.First ps) left ≡ Some last) × (may_end last ≡ true)
+EndsAs end.Stopped ps s = (left : List ℕ) × (s ≡ bytes_of_texts ps ++ left)
+EndsAs (end.Failed failure) ps s = (left : List ℕ) × (s ≡ bytes_of_texts ps ++ left)
+
+-- A run over an input: it is cut into parts, and of these was written, told and counted what is theirs, and nothing else. Known bytes are
+-- those of a reader and two writers.
+pub record ReadsTexts (asked : AskedTexts) (input out_old out_new report_old report_new : Option (List ℕ)) (counts_old counts_new : TextCounts)
+    (ended : TextEnd) : Type 0 where
+  pub ps : List TextPart
+  pub parts : AreTexts asked.keep_going asked.style asked.name.now first_position turn.First ps
+  pub ends : IfSome input (EndsAs ended ps)
+  pub is_written : Appends out_old out_new (made_of_texts ps)
+  pub is_reported : Appends report_old report_new (lines_of_texts ps)
+  pub is_counted : counts_new ≡ fold count_text counts_old ps
+
+-- What the code tells of one part. No public contract cites what follows.
+
+-- what came of the bytes ahead: a document, a text with a fault, or what is no text
+abbrev pub IsPassed : Style → List ℕ → Position → (before : Turn) → Went → List ℕ → List (List ℕ) → (lines : List ℕ) → (behind : Turn) → Type 0
+IsPassed style name place before went.Document text made lines behind = IsDocument before text made lines behind
+IsPassed style name place before went.Refused text made lines behind = IsRefused style name place before text made lines behind
+IsPassed style name place before went.Astray text made lines behind = IsAstray style name place before text made lines behind
+
+-- a part is passed, of which these bytes are ahead
+pub record PassesText (style : Style) (name : List ℕ) (cursor_old cursor_new : Cursor) (turn_old turn_new : Turn) (out_old out_new report_old report_new : Option (List ℕ))
+    (counts_old counts_new : TextCounts) (what : Went) : Type 0 where
+  pub window : IsWindow cursor_new.window
+  pub text : List ℕ
+  pub made : List (List ℕ)
+  pub lines : List ℕ
+  pub ahead : ahead_of cursor_old.window ≡ text ++ ahead_of cursor_new.window
+  pub place : cursor_new.place ≡ position_over cursor_old.place text
+  pub is : IsPassed style name cursor_old.place turn_old what text made lines turn_new
+  pub is_written : Appends out_old out_new (joined made)
+  pub is_reported : Appends report_old report_new lines
+  pub is_counted : counts_new ≡ count_made counts_old made
+
+-- what is next in the bytes ahead, and isn't the end of the input
+abbrev pub HasNext : List ℕ → Turn → NextText → Type 0
+HasNext ahead t (next.Text found) = (may_begin t ≡ true) × ScansAhead ahead found
+HasNext ahead t (next.Wrong reason) = Unit {0}
+HasNext ahead t next.End = ⊥
+
+-- what a text makes
+abbrev pub IsMadeOf : List ℕ → Made → Type 0
+IsMadeOf text (made.Document document) = IsWritten text document
+IsMadeOf text (made.Fault at reason) = at ≤ length text
+
+-- bytes are passed behind what was no whole text, and none behind another part
+abbrev pub PassesBehind : Went → (old new : Option (List ℕ)) → (cursor_old cursor_new : Cursor) → (turn_old turn_new : Turn) → Type 0
+PassesBehind went.Astray old new cursor_old cursor_new turn_old turn_new = PassesGap old new cursor_old cursor_new turn_old turn_new
+PassesBehind _ old new cursor_old cursor_new turn_old turn_new = (new ≡ old) × (cursor_new ≡ cursor_old) × (turn_new ≡ turn_old)
+
+-- reading failed
+abbrev pub IsFailed : TextEnd → Type 0
+IsFailed (end.Failed failure) = Unit {0}
+IsFailed _ = ⊥

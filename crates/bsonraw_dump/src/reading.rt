@@ -1,0 +1,53 @@
+//! What the inputs of a run hold, and what is asked of them.
+#![tactic(auto)]
+
+use crate::batch::Job;
+use crate::command::Command;
+use crate::style::Style;
+use crate::texts_batch::TextJob;
+
+/// What the inputs of a run hold, and what is asked of them.
+#[derive(Clone, Copy)]
+pub enum Reading {
+    /// dumps
+    Dumps(Job),
+    /// texts of Extended JSON
+    Texts(TextJob),
+}
+
+impl Reading {
+    /// How what is found is printed.
+    pub fn style(self) -> Style {
+        match self {
+            Reading::Dumps(job) => job.style,
+            Reading::Texts(job) => job.style,
+        }
+    }
+
+    /// The command that reads dumps.
+    pub fn command(self) -> Option<Command> {
+        match self {
+            Reading::Dumps(job) => Some(job.command),
+            Reading::Texts(_) => None,
+        }
+    }
+
+    /// Whether BSON is written.
+    pub fn writes_documents(self) -> bool {
+        match self {
+            Reading::Dumps(job) => matches!(
+                job.command,
+                Command::Canon | Command::Sound | Command::Unique
+            ),
+            Reading::Texts(_) => true,
+        }
+    }
+
+    /// What is told of an input that could be read on, and how.
+    pub fn way_on(self) -> &'static str {
+        match self {
+            Reading::Dumps(_) => " wasn't read to its end; --resync goes on",
+            Reading::Texts(_) => " wasn't read to its end; --keep-going goes on",
+        }
+    }
+}

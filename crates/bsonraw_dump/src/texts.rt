@@ -1,0 +1,348 @@
+//! Reads the documents of an input of texts, and writes their bytes.
+#![tactic(auto)]
+
+ghost use Rattle.std.specs.Prelude.{◌≡◌, ◌⊎◌, ◌≤◌, ℕ, List, Option, length, take, IfErr, IfOk, MatchBool, OnOk, true};
+ghost use Rattle.std.specs.Io.KnownBytes.{Appends};
+ghost use Rattle.bson_from_json.specs.Texts.{IsWritten};
+ghost use Rattle.bsonraw_dump.specs.Reading.{IsWindow, ahead_of};
+ghost use Rattle.bsonraw_dump.specs.Run.{IsReading};
+ghost use Rattle.bsonraw_dump.specs.TextFaults.{fault_line};
+ghost use Rattle.bsonraw_dump.specs.TextReading.{ScansAhead};
+ghost use Rattle.bsonraw_dump.specs.TextRun.{HasNext, IsFailed, IsMadeOf, PassesBehind, PassesText, ReadsTexts};
+ghost use Rattle.bsonraw_dump.specs.declared.texts.Went.TheVariants.{Document};
+ghost use Rattle.bsonraw_dump.specs.Texts.{IsOpen, IsWhole, may_begin, position_over, scanned};
+
+use crate::cursor::{Cursor, NextText};
+use crate::failure::{Failure, ReadFailure, in_range};
+use crate::find::most_allowed;
+use crate::scan::{MOST_TEXT, Scanned};
+use crate::style::Style;
+use crate::text_counts::TextCounts;
+use crate::text_fault::{TextReason, line_of_fault};
+use crate::turn::Turn;
+use crate::write::put;
+use bson_from_json::{JsonReason, from_json};
+use raw_bson::RawDocumentBuf;
+use std::alloc::Global;
+use std::io::{Read, Write};
+use std::{io, str};
+
+/// What is asked of an input of texts.
+#[derive(Clone, Copy)]
+pub struct AskedTexts<'a> {
+    /// how what is found is printed
+    pub style: Style,
+    /// whether reading goes on behind a fault
+    pub keep_going: bool,
+    /// its name, which begins each line
+    pub name: &'a str,
+}
+
+/// How a run over an input of texts ends.
+#[derive(Drop)]
+pub enum TextEnd {
+    /// with the input
+    End,
+    /// with a fault
+    Stopped,
+    /// reading fails
+    Failed(ReadFailure),
+}
+
+/// What came of the bytes that are next.
+#[derive(Clone, Copy)]
+pub enum Went {
+    /// a document was written
+    Document,
+    /// a text is passed that isn't a document's
+    Refused,
+    /// no whole text was there
+    Astray,
+}
+
+/// What is made of the text of a document.
+#[derive(Drop)]
+enum Made {
+    /// its bytes
+    Document(RawDocumentBuf),
+    /// nothing: so many bytes behind its beginning it has a fault
+    Fault(usize, TextReason),
+}
+
+/// Reads the documents of an input of texts, one behind the other or the items of one array, writes their bytes, and reports in a
+/// line what is wrong with a text. A fault ends the run, unless it is asked to go on: behind the text, where that is whole, else at
+/// the next line that begins with a brace.
+pub fn read_texts<R: Read, D: Write, W: Write>(
+    alloc: Global,
+    asked: AskedTexts<'_>,
+    reader: &mut R,
+    out: &mut D,
+    report: &mut W,
+    counts: &mut TextCounts,
+) -> Result<TextEnd, Failure>
+    ensures reads { IfOk result (ReadsTexts asked.entry (R.remaining reader.old) (D.contents out.old) (D.contents out.new) (W.contents report.old) (W.contents report.new)
+        counts.old counts.new) }
+    ensures failed { IfErr result (λ failure. ¬ IsReading failure) }
+{
+    let mut cursor = Cursor::new(alloc);
+    let mut turn = Turn::First;
+    for _ in 0..u64::MAX {
+        let next = match cursor.find_text(reader, &mut turn) {
+            Ok(NextText::End) => return Ok(TextEnd::End),
+            Ok(next) => next,
+            Err(failure) => return stopped(&cursor, failure),
+        };
+        let went = pass_next(
+            alloc,
+            asked,
+            next,
+            &mut cursor,
+            &mut turn,
+            out,
+            report,
+            counts,
+        )?;
+        if stops(asked.keep_going, went) {
+            return Ok(TextEnd::Stopped);
+        }
+        if let Err(failure) = pass_behind(went, reader, &mut cursor, &mut turn) {
+            return stopped(&cursor, failure);
+        }
+    }
+    Err(Failure::Writing(io::Error::from(io::ErrorKind::FileTooLarge)))
+}
+
+/// Whether a run stops behind this.
+fn stops(keep_going: bool, went: Went) -> bool
+    ensures { MatchBool result (Unit {0}) ((went ≡ Document) ⊎ (keep_going ≡ true)) }
+{
+    match went {
+        Went::Document => false,
+        Went::Refused | Went::Astray => !keep_going,
+    }
+}
+
+/// That reading failed, behind so many bytes.
+fn stopped(cursor: &Cursor, failure: Failure) -> Result<TextEnd, Failure>
+    requires { IsReading failure → IsWindow cursor.now.window }
+    ensures stops { IfOk result IsFailed }
+    ensures failed { IfErr result (λ failure. ¬ IsReading failure) }
+{
+    match failure {
+        Failure::Reading(error) => Ok(TextEnd::Failed(ReadFailure {
+            at: cursor.window.end()?,
+            error,
+        })),
+        other => Err(other),
+    }
+}
+
+/// Passes the bytes behind what was passed, where that was no whole text.
+fn pass_behind<R: Read>(
+    went: Went,
+    reader: &mut R,
+    cursor: &mut Cursor,
+    turn: &mut Turn,
+) -> Result<(), Failure>
+    requires { IsWindow cursor.old.window }
+    ensures passed { OnOk result (PassesBehind went (R.remaining reader.old) (R.remaining reader.new) cursor.old cursor.new turn.old turn.new) }
+    ensures fails { IfErr result (λ failure. IsReading failure → IsWindow cursor.new.window) }
+{
+    match went {
+        Went::Astray => cursor.pass_gap(reader, turn),
+        Went::Document | Went::Refused => Ok(()),
+    }
+}
+
+/// Passes what is next.
+fn pass_next<D: Write, W: Write>(
+    alloc: Global,
+    asked: AskedTexts<'_>,
+    next: NextText,
+    cursor: &mut Cursor,
+    turn: &mut Turn,
+    out: &mut D,
+    report: &mut W,
+    counts: &mut TextCounts,
+) -> Result<Went, Failure>
+    requires { IsWindow cursor.old.window × HasNext (ahead_of cursor.old.window) turn.old next }
+    ensures passed { IfOk result (PassesText asked.entry.style asked.entry.name.now cursor.old cursor.new turn.old turn.new
+        (D.contents out.old) (D.contents out.new) (W.contents report.old) (W.contents report.new) counts.old counts.new) }
+    ensures failed { IfErr result (λ failure. ¬ IsReading failure) }
+{
+    match next {
+        NextText::Text(found) => {
+            pass_found(alloc, asked, found, cursor, turn, out, report, counts)
+        }
+        NextText::Wrong(reason) => {
+            pass_astray(alloc, asked, 0, 0, reason, cursor, turn, report, counts)
+        }
+        NextText::End => unreachable!(),
+    }
+}
+
+/// Passes the text of a document, as far as it comes.
+fn pass_found<D: Write, W: Write>(
+    alloc: Global,
+    asked: AskedTexts<'_>,
+    found: Scanned,
+    cursor: &mut Cursor,
+    turn: &mut Turn,
+    out: &mut D,
+    report: &mut W,
+    counts: &mut TextCounts,
+) -> Result<Went, Failure>
+    requires { IsWindow cursor.old.window × (may_begin turn.old ≡ true) × ScansAhead (ahead_of cursor.old.window) found }
+    ensures passed { IfOk result (PassesText asked.entry.style asked.entry.name.now cursor.old cursor.new turn.old turn.new
+        (D.contents out.old) (D.contents out.new) (W.contents report.old) (W.contents report.new) counts.old counts.new) }
+    ensures failed { IfErr result (λ failure. ¬ IsReading failure) }
+{
+    let made = made_of(alloc, &cursor.window.ahead()[..found.len])?;
+    if !found.is_whole() {
+        let begun = found.begun();
+        let (at, reason) = fault_of(found, &made);
+        return pass_astray(
+            alloc,
+            asked,
+            begun,
+            at.min(begun),
+            reason,
+            cursor,
+            turn,
+            report,
+            counts,
+        );
+    }
+    match made {
+        Made::Document(document) => {
+            pass_document(found.len, &document, cursor, turn, out, counts)
+        }
+        Made::Fault(at, reason) => pass_refused(
+            alloc, asked, found.len, at, reason, cursor, turn, report, counts,
+        ),
+    }
+}
+
+/// What a text makes.
+fn made_of(alloc: Global, text: &[u8]) -> Result<Made, Failure>
+    ensures made { IfOk result (IsMadeOf text.now) }
+    ensures failed { IfErr result (λ failure. ¬ IsReading failure) }
+{
+    let text = match str::from_utf8(text) {
+        Ok(text) => text,
+        Err(error) => {
+            let at = error.valid_up_to().min(text.len());
+            return Ok(Made::Fault(at, TextReason::NotUtf8));
+        }
+    };
+    match from_json(alloc, text, most_allowed()) {
+        Ok(document) => Ok(Made::Document(document)),
+        Err(error) => match error.reason {
+            JsonReason::OutOfMemory => Err(Failure::Memory),
+            reason => Ok(Made::Fault(error.offset, TextReason::Json(reason))),
+        },
+    }
+}
+
+/// Where and why a text has a fault that doesn't come to its end. No such text is known that makes a document.
+fn fault_of(found: Scanned, made: &Made) -> (usize, TextReason) {
+    if found.len == MOST_TEXT {
+        return (0, TextReason::Json(JsonReason::TooManyBytes));
+    }
+    match made {
+        Made::Fault(at, reason) => (*at, *reason),
+        Made::Document(_) => (0, TextReason::Json(JsonReason::Unsound)),
+    }
+}
+
+/// Writes the document of a whole text, and passes the text.
+fn pass_document<D: Write>(
+    len: usize,
+    document: &RawDocumentBuf,
+    cursor: &mut Cursor,
+    turn: &mut Turn,
+    out: &mut D,
+    counts: &mut TextCounts,
+) -> Result<Went, Failure>
+    requires { IsWindow cursor.old.window × (may_begin turn.old ≡ true) × (len ≤ length (ahead_of cursor.old.window))
+        × IsWhole (take len (ahead_of cursor.old.window)) × IsWritten (take len (ahead_of cursor.old.window)) document.now }
+    ensures passed { IfOk result (λ went. (style : Style) (name : List ℕ) (report : Option (List ℕ)) → PassesText style name cursor.old cursor.new turn.old turn.new
+        (D.contents out.old) (D.contents out.new) report report counts.old counts.new went) }
+    ensures failed { IfErr result (λ failure. ¬ IsReading failure) }
+{
+    let bytes = document.as_bytes();
+    put(out, bytes)?;
+    *counts = in_range(counts.with_document(bytes))?;
+    cursor.pass(len)?;
+    *turn = turn.behind_document();
+    Ok(Went::Document)
+}
+
+/// Tells the fault of a whole text, which is so many bytes behind its beginning, and passes the text.
+fn pass_refused<W: Write>(
+    alloc: Global,
+    asked: AskedTexts<'_>,
+    len: usize,
+    at: usize,
+    reason: TextReason,
+    cursor: &mut Cursor,
+    turn: &mut Turn,
+    report: &mut W,
+    counts: &mut TextCounts,
+) -> Result<Went, Failure>
+    requires { IsWindow cursor.old.window × (may_begin turn.old ≡ true) × (len ≤ length (ahead_of cursor.old.window))
+        × IsWhole (take len (ahead_of cursor.old.window)) × (at ≤ len) }
+    ensures passed { IfOk result (λ went. (out : Option (List ℕ)) → PassesText asked.entry.style asked.entry.name.now cursor.old cursor.new turn.old turn.new
+        out out (W.contents report.old) (W.contents report.new) counts.old counts.new went) }
+    ensures failed { IfErr result (λ failure. ¬ IsReading failure) }
+{
+    put_fault(alloc, asked, at, reason, cursor, report)?;
+    *counts = in_range(counts.with_refused())?;
+    cursor.pass(len)?;
+    *turn = turn.behind_document();
+    Ok(Went::Refused)
+}
+
+/// Tells why no whole text is there, so many bytes behind the place, and passes what there is of one.
+fn pass_astray<W: Write>(
+    alloc: Global,
+    asked: AskedTexts<'_>,
+    begun: usize,
+    at: usize,
+    reason: TextReason,
+    cursor: &mut Cursor,
+    turn: &mut Turn,
+    report: &mut W,
+    counts: &mut TextCounts,
+) -> Result<Went, Failure>
+    requires { IsWindow cursor.old.window × (begun ≤ length (ahead_of cursor.old.window))
+        × IsOpen (scanned (take begun (ahead_of cursor.old.window))) × (at ≤ begun) }
+    ensures passed { IfOk result (λ went. (out : Option (List ℕ)) → PassesText asked.entry.style asked.entry.name.now cursor.old cursor.new turn.old turn.new
+        out out (W.contents report.old) (W.contents report.new) counts.old counts.new went) }
+    ensures failed { IfErr result (λ failure. ¬ IsReading failure) }
+{
+    put_fault(alloc, asked, at, reason, cursor, report)?;
+    *counts = in_range(counts.with_refused())?;
+    cursor.pass(begun)?;
+    *turn = turn.behind_gap();
+    Ok(Went::Astray)
+}
+
+/// Writes the line of a fault that is so many bytes behind a place.
+fn put_fault<W: Write>(
+    alloc: Global,
+    asked: AskedTexts<'_>,
+    at: usize,
+    reason: TextReason,
+    cursor: &Cursor,
+    report: &mut W,
+) -> Result<(), Failure>
+    requires { IsWindow cursor.now.window × (at ≤ length (ahead_of cursor.now.window)) }
+    ensures told { OnOk result (Appends (W.contents report.old) (W.contents report.new)
+        (fault_line asked.entry.style asked.entry.name.now (position_over cursor.now.place (take at (ahead_of cursor.now.window))) reason)) }
+    ensures failed { IfErr result (λ failure. ¬ IsReading failure) }
+{
+    let place = cursor.place.over(&cursor.window.ahead()[..at])?;
+    let line = line_of_fault(alloc, asked.style, asked.name, place, reason)?;
+    put(report, &line)
+}
