@@ -6,5 +6,6 @@ pub mod Nulls
 pub mod Outside
 pub mod Path
 pub mod Tallies
+pub mod Updates
 pub mod Users
 pub mod Without

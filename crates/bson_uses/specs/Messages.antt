@@ -1,5 +1,5 @@
 -- Messages of MongoDB's wire protocol with code 2013: a header and flags, sections, and maybe a checksum.
-use Rattle.std.specs.Prelude.{◌≡◌, ◌≢◌, ◌⊎◌, ◌<◌, ◌≤◌, ◌+◌, ◌-◌, ◌*◌, ◌%◌, ℕ, ℤ, pos, List, [], ◌∷◌, ◌++◌, length, take, drop}
+use Rattle.std.specs.Prelude.{◌≡◌, ◌≢◌, ◌⊎◌, ◌<◌, ◌≤◌, ◌+◌, ◌-◌, ◌*◌, ◌%◌, ℕ, ℤ, pos, List, [], ◌∷◌, ◌++◌, length, map, take, drop}
 use Rattle.std.specs.Str.{IsUtf8}
 use Rattle.raw_bson.specs.Bytes.{NulFree}
 use Rattle.raw_bson.specs.Document.{bytes_of}
@@ -7,12 +7,13 @@ use Rattle.raw_bson.specs.Error.{Error}
 use Rattle.raw_bson.specs.ErrorKind.TheVariants as kind
 use Rattle.raw_bson.specs.Errors.{IsOutOfMemory}
 use Rattle.raw_bson.specs.FirstDocument.{RefusesFirst}
+use Rattle.raw_bson.specs.Folds.{joined}
 use Rattle.raw_bson.specs.Format.{c_string}
 use Rattle.raw_bson.specs.NoDocument.{NoDocument as WhyNone}
 use Rattle.raw_bson.specs.Number.{le32, le_u32, IsLe32, max_length}
 use Rattle.raw_bson.specs.RawDocument.{RawDocument}
 use Rattle.raw_bson.specs.Reason.TheVariants as reason
-use Rattle.bson_uses.specs.Dump.{joined, RefusesRest}
+use Rattle.bson_uses.specs.Dump.{RefusesRest}
 use Rattle.bson_uses.specs.declared.op_msg.Message.{Message}
 use Rattle.bson_uses.specs.declared.op_msg.MessageError.{MessageError}
 use Rattle.bson_uses.specs.declared.op_msg.MessageError.TheVariants.{TooShort, WrongSize, OtherCode, UnknownFlags, NoChecksum, OtherKind, WrongSequenceSize, NoIdentifier, NotText, NoDocument, OutOfMemory}
@@ -55,7 +56,7 @@ IsIdentified s text behind = (s ≡ c_string text behind) × NulFree text
 -- counts: an identifier, and documents
 abbrev pub IsSection : ℕ → List ℕ → Section → List ℕ → Type 0
 IsSection kind s (Body d) behind = (kind ≡ 0) × (s ≡ bytes_of d ++ behind)
-IsSection kind s (Sequence identifier ds) behind = (kind ≡ 1) × (inside : List ℕ) × IsSized s inside behind × IsIdentified inside identifier.now (joined ds.items)
+IsSection kind s (Sequence identifier ds) behind = (kind ≡ 1) × (inside : List ℕ) × IsSized s inside behind × IsIdentified inside identifier.now (joined (map bytes_of ds.items))
 
 -- s begins with these sections, each behind its kind, and this is behind them
 abbrev pub BeginWith : List Section → List ℕ → List ℕ → Type 0
@@ -79,7 +80,7 @@ HasNoSize s = (inside behind : List ℕ) → ¬ IsSized s inside behind
 -- why s isn't documents end to end: behind some of them is something that is no document, and why; or memory ran out
 abbrev pub RefusesDocuments : List ℕ → MessageError → Type 0
 RefusesDocuments s e =
-    ((why : WhyNone) × (e ≡ NoDocument why) × (ds : List RawDocument) × (rest : List ℕ) × (s ≡ joined ds ++ rest) × RefusesRest rest why)
+    ((why : WhyNone) × (e ≡ NoDocument why) × (ds : List RawDocument) × (rest : List ℕ) × (s ≡ joined (map bytes_of ds) ++ rest) × RefusesRest rest why)
     ⊎ (e ≡ OutOfMemory)
 
 -- why what a size counts is no sequence, the first of: its identifier has no end, isn't UTF-8; its documents

@@ -1,6 +1,8 @@
-ghost use Rattle.std.specs.Prelude.{◌≡◌, ◌++◌, [], IfOk, IfErr, MatchOption, Some, None};
+ghost use Rattle.std.specs.Prelude.{◌≡◌, ◌++◌, [], map, IfOk, IfErr, MatchOption, Some, None};
+ghost use Rattle.raw_bson.specs.Document.{bytes_of};
 ghost use Rattle.raw_bson.specs.Errors.{IsOutOfMemory};
-ghost use Rattle.bson_uses.specs.Dump.{joined, RefusesRest};
+ghost use Rattle.raw_bson.specs.Folds.{joined};
+ghost use Rattle.bson_uses.specs.Dump.{RefusesRest};
 
 use raw_bson::{NoDocument, RawDocument, Result};
 use std::alloc::Global;
@@ -32,7 +34,7 @@ impl<'a> Dump<'a> {
 /// The documents that the bytes are, end to end, up to where there is none, and why; or out of memory.
 pub fn split_dump<'a>(alloc: Global, bytes: &'a [u8]) -> Result<Dump<'a>>
     ensures pieces { IfOk result
-        (λ dump. joined dump.documents.items ++ dump.rest.now ≡ bytes.now) }
+        (λ dump. joined (map bytes_of dump.documents.items) ++ dump.rest.now ≡ bytes.now) }
     ensures whole { IfOk result
         (λ dump. MatchOption dump.error (dump.rest.now ≡ []) (RefusesRest dump.rest.now)) }
     ensures err { IfErr result IsOutOfMemory }

@@ -10,6 +10,7 @@ mod op_msg;
 mod outside;
 mod path;
 mod tally;
+mod update;
 mod user;
 mod without;
 
@@ -22,5 +23,6 @@ pub use op_msg::{Message, MessageError, Section, message_of, read_message};
 pub use outside::{MOST, received};
 pub use path::find_path;
 pub use tally::{Tally, TallyError, tally_of};
+pub use update::set_path;
 pub use user::{Field, Fields, NotUser, check_user};
 pub use without::copy_without;

@@ -1,5 +1,8 @@
 -- What a caller's loop keeps that copies a document element by element.
-use Rattle.std.proofs.Common.{◌≡◌, ◌≤◌, ◌+◌, ◌++◌, ◌∷◌, [], ◌∙◌, ℕ, List, Option, Some, None, Result, Ok, Err, append-nil, append_assoc, length, drop, length-drop, ap, sym, refl, subst, arith}
+use Rattle.std.proofs.Common.{◌≡◌, ◌⊎◌, ◌≤◌, ◌+◌, ◌++◌, ◌∷◌, [], ◌∙◌, ℕ, List, Option, Some, None, Result, Ok, Err, inl, inr, append-nil, append_assoc, length, drop, length-drop, ap, sym, refl, subst, arith}
+use Rattle.std.proofs.lemmas.Result.{err_from_is_err_and}
+use Rattle.std.specs.Prelude.{IfErr, IsErrAnd}
+use Rattle.raw_view.specs.Errors.{IsOutOfMemory}
 use Rattle.raw_view.specs.Frame.ElementSteps.{HasRead, StepsElement, frame_of}
 use Rattle.raw_view.specs.Frame.Envelope.{IsEnvelope}
 use Rattle.raw_view.specs.Frame.Number.{max_length}
@@ -8,8 +11,8 @@ use Rattle.raw_view.specs.Meaning.{RawValue}
 use Rattle.raw_view.specs.declared.element.RawElement.{RawElement}
 use Rattle.raw_view.specs.declared.error.Error.{Error}
 use Rattle.raw_view.proofs.Face.{HasRead-end}
-use Rattle.raw_bson.specs.Append.{AddsValue, AppendsFrame, HaveNoShortScope, HoldsFrames, KeepsWalk, appended_bytes, value_frame}
-use Rattle.raw_bson.specs.Copying.{GiveFrames, IsCopy, TellsStop, RefusesElement}
+use Rattle.raw_bson.specs.Append.{AddsValue, Appends, AppendsFrame, HaveNoShortScope, HoldsFrames, KeepsWalk, RefusesAppend, appended_bytes, value_frame}
+use Rattle.raw_bson.specs.Copying.{CopiesUpTo, EndsCopy, GiveFrames, IsCopy, TellsStop, RefusesElement, RefusesFrame}
 use Rattle.raw_bson.specs.Fills.{empty_document}
 use Rattle.raw_bson.proofs.HeldFrames.{HaveNoShortScope-last, HoldsFrames-element, HoldsFrames-empty}
 use Rattle.raw_bson.proofs.Lengths.{RefusesLength-bound, length-appended_bytes, length_left, length_left-step}
@@ -81,6 +84,12 @@ module _ {Gives : Frame → List Frame → Type 0} {b : List ℕ} where
       holds = λ all. adds.holds h.given (h.holds (before_others h.given (value_frame key v ∷ []) all));
     }
 
+    -- a value was appended under its key
+    pub HasCopied-put : {left key : List ℕ} {v w : RawValue} → HasCopied Gives b copy old → StepsElement old (Some out) new → out ≡ Ok e → key ≡ (frame_of e).key → w ≡ v
+        → Gives (frame_of e) (value_frame (frame_of e).key v ∷ []) → AddsValue copy key w left → HasCopied Gives b left new
+    HasCopied-put {left = left} {key = key} {v = v} {w = w} h st was same is gives adds =
+        HasCopied-value h st was gives (subst (λ k. AddsValue copy k v left) same (subst (λ x. AddsValue copy key x left) is adds))
+
   -- the walk stops
   pub HasCopied-stop : {copy : List ℕ} {old : Option (List ℕ)} (new : Option (List ℕ)) {out : Result RawElement Error} {e : Error} → HasCopied Gives b copy old
       → StepsElement old (Some out) new → out ≡ Err e → TellsStop b e
@@ -95,6 +104,49 @@ module _ {Gives : Frame → List Frame → Type 0} {b : List ℕ} where
     gives = h.gives;
     holds = h.holds;
   }
+
+comes_up_to : (Gives : Frame → List Frame → Type 0) (b copy : List ℕ) (old new : Option (List ℕ)) (out : Result RawElement Error) (e : RawElement)
+    → HasCopied Gives b copy old → StepsElement old (Some out) new → out ≡ Ok e → CopiesUpTo Gives b copy (frame_of e)
+comes_up_to Gives b copy None new out e h st was = absurd h.read
+comes_up_to Gives b copy (Some s) new out e h st was =
+    let next = subst (λ x. StepsElement (Some s) (Some x) new) was st in
+    record { before = h.frames; given = h.given; rest = s; behind = next.0; leads = h.read; next = next.1; gives = h.gives; holds = h.holds }
+
+-- the exits of such a loop, each with the error of a call
+module _ {X : Type 0} where
+  -- the new copy wasn't made
+  pub EndsCopy-new : (Gives : Frame → List Frame → Type 0) (Inside : Frame → Error → Type 0) (b : List ℕ) {bad : Error} (x : Result X Error) → IsOutOfMemory bad
+      → IsErrAnd x (λ y. y ≡ bad) → IfErr x (EndsCopy Gives Inside b)
+  EndsCopy-new Gives Inside b x memory left = let q = err_from_is_err_and x left in rw (q.1, q.2) (record { why = inl memory })
+
+  module _ {Gives : Frame → List Frame → Type 0} (Inside : Frame → Error → Type 0) {b copy : List ℕ} {old : Option (List ℕ)} (new : Option (List ℕ))
+      {out : Result RawElement Error} (bad : Error) (x : Result X Error) (h : HasCopied Gives b copy old) (st : StepsElement old (Some out) new) where
+    -- the walk stops
+    pub EndsCopy-stop : out ≡ Err bad → IsErrAnd x (λ y. y ≡ bad) → IfErr x (EndsCopy Gives Inside b)
+    EndsCopy-stop was left = let q = err_from_is_err_and x left in rw (q.1, q.2) (record { why = inr (inl (HasCopied-stop new h st was)) })
+
+    module _ {e : RawElement} (was : out ≡ Ok e) where
+      -- a frame is the one at which no more is copied
+      ends_at : RefusesFrame Gives copy (frame_of e) bad ⊎ Inside (frame_of e) bad → IsErrAnd x (λ y. y ≡ bad) → IfErr x (EndsCopy Gives Inside b)
+      ends_at why left =
+          let q = err_from_is_err_and x left in
+          rw (q.1, q.2) (record { why = inr (inr (copy, frame_of e, comes_up_to Gives b copy old new out e h st was, why)) })
+
+      -- an element wasn't appended as it is
+      pub EndsCopy-element : {after : List ℕ} → Gives (frame_of e) (frame_of e ∷ []) → AppendsFrame copy (frame_of e) (Err bad) after → IsErrAnd x (λ y. y ≡ bad)
+          → IfErr x (EndsCopy Gives Inside b)
+      EndsCopy-element gives appends left = ends_at (inl (inl (gives, appends.0))) left
+
+      -- a value wasn't appended under its key
+      pub EndsCopy-put : {key after : List ℕ} {v w : RawValue} → key ≡ (frame_of e).key → w ≡ v → Gives (frame_of e) (value_frame (frame_of e).key v ∷ [])
+          → Appends copy key w (Err bad) after → IsErrAnd x (λ y. y ≡ bad) → IfErr x (EndsCopy Gives Inside b)
+      EndsCopy-put {key = key} {v = v} same is gives appends left =
+          let refused = subst (λ k. RefusesAppend copy k v bad.kind) same (subst (λ y. RefusesAppend copy key y bad.kind) is appends.0) in
+          ends_at (inl (inr (v, gives, refused))) left
+
+      -- what is to be in its place can't be had
+      pub EndsCopy-inside : Inside (frame_of e) bad → IsErrAnd x (λ y. y ≡ bad) → IfErr x (EndsCopy Gives Inside b)
+      EndsCopy-inside why left = ends_at (inr why) left
 
 -- a copy that leaves elements out is no longer than what it was copied from
 pub record IsNoLonger (b copy : List ℕ) (left : Option (List ℕ)) : Type 0 where

@@ -13,7 +13,7 @@ pub use Rattle.raw_bson.proofs.EachItems.{HasReadEach-none, HasReadEach-pair, Ha
 pub use Rattle.raw_bson.proofs.EachItems.{HasTried, HasTried-more, HasTried-error, HasTried-fault, HasTried-end, HasSought, HasSought-more, HasSought-found, HasSought-fault, HasSought-end}
 -- loops that take a state from item to item, or from document to document of a dump
 pub use Rattle.raw_bson.proofs.Folds.{HasFolded, HasFolded-none, HasFolded-more, HasFolded-error, HasFolded-fault, HasFolded-end, HasFolded-grows}
-pub use Rattle.raw_bson.proofs.Folds.{ReadsDump-none, ReadsDump-more, ReadsDump-length, ReadsDump-grows}
+pub use Rattle.raw_bson.proofs.Folds.{ReadsDump-none, ReadsDump-more, ReadsDump-length, ReadsDump-offset, ReadsDump-grows, joined-more}
 -- a look-up, and then what is asked of the value: how it comes, and what follows
 pub use Rattle.raw_bson.proofs.EachItems.{AsksUnder-found, AsksUnder-fault}
 pub use Rattle.raw_bson.proofs.LookUps.{AsksUnder-ok, AsksUnder-error, GetsByKey-found, GetsByKey-none, one_look_up}
@@ -25,7 +25,8 @@ pub use Rattle.raw_bson.proofs.HeldFrames.{HoldsFrames-empty, HoldsFrames-value,
 -- rows of appends of keys and values, and where one fails
 pub use Rattle.raw_bson.proofs.Rows.{HoldsRow-empty, HoldsRow-more, RefusesRow-at}
 -- copies of a document, element by element
-pub use Rattle.raw_bson.proofs.Copying.{HasCopied, HasCopied-none, HasCopied-skip, HasCopied-element, HasCopied-value, HasCopied-stop, HasCopied-end}
+pub use Rattle.raw_bson.proofs.Copying.{HasCopied, HasCopied-none, HasCopied-skip, HasCopied-element, HasCopied-value, HasCopied-put, HasCopied-stop, HasCopied-end}
+pub use Rattle.raw_bson.proofs.Copying.{EndsCopy-new, EndsCopy-stop, EndsCopy-element, EndsCopy-put, EndsCopy-inside}
 pub use Rattle.raw_bson.proofs.Copying.{IsNoLonger, IsNoLonger-none, IsNoLonger-skip, IsNoLonger-element, IsNoLonger-refused}
 -- how long elements are, what is left behind them, and a document with one more
 pub use Rattle.raw_bson.proofs.Lengths.{length_left, length_left-step, length-frame_bytes, length-appended_bytes, RefusesLength-bound}

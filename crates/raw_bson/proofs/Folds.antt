@@ -1,5 +1,5 @@
 -- What a caller's loop keeps that takes a state from item to item, or from document to document.
-use Rattle.std.proofs.Common.{◌≡◌, ◌⊎◌, ◌≤◌, ◌+◌, ◌++◌, ◌∷◌, [], ◌∙◌, ℕ, List, drop, length, length-append, length-drop, append_assoc, ap, sym, subst, refl, inl, inr, arith, Option, Some, None, Result, Ok, Err}
+use Rattle.std.proofs.Common.{◌≡◌, ◌⊎◌, ◌≤◌, ◌+◌, ◌-◌, ◌++◌, ◌∷◌, [], ◌∙◌, ℕ, List, drop, length, length-append, length-drop, append_assoc, ap, sym, subst, refl, inl, inr, arith, Option, Some, None, Result, Ok, Err}
 use Rattle.std.proofs.lemmas.List.Elements.{All-head, All-nil, All-push, All-tail}
 use Rattle.std.proofs.lemmas.Result.{err_from_is_err_and}
 use Rattle.std.specs.List.{All}
@@ -122,7 +122,8 @@ LeadThrough-grows : {S : Type 0} (Step : S → List ℕ → S → Type 0) (size 
 LeadThrough-grows Step size each start [] s h = omega (arith, ap size h)
 LeadThrough-grows Step size each start (d ∷ docs) s h = omega (arith, each start h.0 d h.1, LeadThrough-grows Step size each h.0 docs s h.2)
 
-joined-more : (docs : List (List ℕ)) (d rest : List ℕ) → joined (docs ++ d ∷ []) ++ rest ≡ joined docs ++ (d ++ rest)
+-- one document more
+pub joined-more : (docs : List (List ℕ)) (d rest : List ℕ) → joined (docs ++ d ∷ []) ++ rest ≡ joined docs ++ (d ++ rest)
 joined-more [] d rest = append_assoc d [] rest
 joined-more (x ∷ docs) d rest = append_assoc x (joined (docs ++ d ∷ [])) rest ∙ ap (λ y. x ++ y) (joined-more docs d rest) ∙ sym (append_assoc x (joined docs) (d ++ rest))
 
@@ -148,6 +149,11 @@ module _ {S : Type 0} {Step : S → List ℕ → S → Type 0} {start : S} {s : 
   -- where what is left begins
   pub ReadsDump-length : {left : List ℕ} {t : S} (h : ReadsDump Step start s t left) → length (joined h.docs) + length left ≡ length s
   ReadsDump-length {left = left} h = sym (length-append (joined h.docs) left) ∙ ap length h.parts
+
+  -- where what is behind the next begins
+  pub ReadsDump-offset : {left : List ℕ} (d behind : List ℕ) {t : S} → ReadsDump Step start s t left → left ≡ d ++ behind
+      → (length s - length left) + length d ≡ length s - length behind
+  ReadsDump-offset d behind h cut = omega (arith, ReadsDump-length h, ap length cut ∙ length-append d behind)
 
   -- a state that a document makes at most one greater
   pub ReadsDump-grows : {left : List ℕ} {t : S} (size : S → ℕ) → ((x y : S) (d : List ℕ) → Step x d y → size y ≤ size x + 1) → ReadsDump Step start s t left

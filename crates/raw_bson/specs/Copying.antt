@@ -2,11 +2,12 @@
 use Rattle.std.specs.Prelude.{◌≡◌, ◌⊎◌, ℕ, List, [], ◌∷◌, ◌++◌, drop, length, Option}
 use Rattle.raw_view.specs.Errors.{IsOutOfMemory, TellsFault}
 use Rattle.raw_view.specs.Frame.Number.{max_length}
-use Rattle.raw_view.specs.Frame.{Frame, Fault, Done, Stopped, IsWalk}
+use Rattle.raw_view.specs.Frame.{Frame, Fault, Done, Stopped, IsFrame, IsWalk, LeadsTo}
+use Rattle.raw_view.specs.Meaning.{RawValue}
 use Rattle.raw_view.specs.declared.error.Error.{Error}
 use Rattle.raw_view.specs.declared.error.ErrorKind.TheVariants as kind
 use Rattle.raw_view.specs.declared.error.Reason.TheVariants as reason
-use Rattle.raw_bson.specs.Append.{HaveNoShortScope, HoldsFrames}
+use Rattle.raw_bson.specs.Append.{HaveNoShortScope, HoldsFrames, RefusesAppend, RefusesLength, appended_bytes, value_frame}
 
 -- these frames give those, where Gives says which one frame gives
 abbrev pub GiveFrames : (Frame → List Frame → Type 0) → List Frame → List Frame → Type 0
@@ -30,3 +31,28 @@ TellsStop b e = (frames : List Frame) × (fault : Fault) × (key : Option (List 
 -- length, and an element takes in its final 0.
 abbrev pub RefusesElement : List ℕ → Error → Type 0
 RefusesElement b e = IsOutOfMemory e ⊎ ((e.kind ≡ kind.MalformedValue reason.TooLong) × (length b ≡ max_length))
+
+-- frames of b come before this one, and the copy holds what they give
+pub record CopiesUpTo (Gives : Frame → List Frame → Type 0) (b copy : List ℕ) (f : Frame) : Type 0 where
+  pub before : List Frame
+  pub given : List Frame
+  pub rest : List ℕ
+  pub behind : List ℕ
+  pub leads : LeadsTo (drop 4 b) before rest
+  pub next : IsFrame rest f behind
+  pub gives : GiveFrames Gives before given
+  pub holds : HaveNoShortScope given → HoldsFrames copy given
+
+-- why what a frame gives isn't appended to the copy: itself, or a value under its key
+abbrev pub RefusesFrame : (Frame → List Frame → Type 0) → List ℕ → Frame → Error → Type 0
+RefusesFrame Gives copy f e =
+    (Gives f (f ∷ []) × RefusesLength (length (appended_bytes copy f)) e.kind)
+    ⊎ ((v : RawValue) × Gives f (value_frame f.key v ∷ []) × RefusesAppend copy f.key v e.kind)
+
+-- Why such a copy of b isn't made: memory ran out; the walk stops; or behind what was copied what a frame gives isn't
+-- appended, or can't be had, of which Inside says why.
+pub record EndsCopy (Gives : Frame → List Frame → Type 0) (Inside : Frame → Error → Type 0) (b : List ℕ) (e : Error) : Type 0 where
+  pub why :
+      IsOutOfMemory e
+      ⊎ TellsStop b e
+      ⊎ ((copy : List ℕ) × (f : Frame) × CopiesUpTo Gives b copy f × (RefusesFrame Gives copy f e ⊎ Inside f e))

@@ -1,6 +1,6 @@
 use bson_uses::{
     Dump, MOST, NotUser, Tally, TallyError, are_equal, check_user, copy_without, count_nulls,
-    find_path, keep, normalised_twice, received, split_dump, tally_of,
+    find_path, keep, normalised_twice, received, set_path, split_dump, tally_of,
 };
 use raw_bson::{
     Document, Error, ErrorKind, NoDocument, RawBson, RawBsonRef, RawDocument, RawDocumentBuf,
@@ -332,5 +332,45 @@ fn no_copy_of_a_document_that_stops(rt: HostRuntime) -> std::result::Result<(), 
             "{key}"
         );
     }
+    Ok(())
+}
+
+/// The number 1 under `a`; under `b` a document: the number 2 under `c`, and under `d` a boolean that is neither 0 nor 1.
+const DAMAGED_BELOW: &[u8] =
+    b"\x1F\0\0\0\x10a\0\x01\0\0\0\x03b\0\x10\0\0\0\x10c\0\x02\0\0\0\x08d\0\x02\0\0";
+
+/// Documents, each with keys and what it is with null under these.
+const SETTINGS: &[(&[u8], &[&str], &[u8])] = &[
+    (
+        DAMAGED_BELOW,
+        &["b", "c"],
+        b"\x1B\0\0\0\x10a\0\x01\0\0\0\x03b\0\x0C\0\0\0\x0Ac\0\x08d\0\x02\0\0",
+    ),
+    (
+        DAMAGED_BELOW,
+        &["a"],
+        b"\x1B\0\0\0\x0Aa\0\x03b\0\x10\0\0\0\x10c\0\x02\0\0\0\x08d\0\x02\0\0",
+    ),
+    (DAMAGED_BELOW, &["a", "c"], DAMAGED_BELOW),
+    (DAMAGED_BELOW, &["b", "a"], DAMAGED_BELOW),
+    (DAMAGED_BELOW, &[], DAMAGED_BELOW),
+    (
+        AROUND,
+        &["a"],
+        b"\x12\0\0\0\x0Aa\0\x10b\0\x02\0\0\0\x0Aa\0\0",
+    ),
+];
+
+#[test]
+fn a_value_is_set_under_keys(rt: HostRuntime) -> std::result::Result<(), Fail> {
+    for (bytes, path, set) in SETTINGS {
+        let document = RawDocument::from_bytes(bytes)?;
+        assert!(rt;
+            is_copy(set_path(rt.alloc(), document, path, RawBsonRef::Null), set),
+            "{bytes:?} {path:?}"
+        );
+    }
+    let stopped = RawDocument::from_bytes(STOPS_AT_B)?;
+    assert!(rt; is_stopped_at_b(set_path(rt.alloc(), stopped, &["a"], RawBsonRef::Null)));
     Ok(())
 }

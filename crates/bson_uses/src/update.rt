@@ -1,0 +1,80 @@
+ghost use Rattle.std.specs.Prelude.{IfOk, IfErr};
+ghost use Rattle.raw_bson.specs.Copying.{IsCopy};
+ghost use Rattle.raw_bson.specs.Document.{bytes_of};
+ghost use Rattle.raw_bson.specs.ElementSteps.{frame_of};
+ghost use Rattle.raw_bson.specs.Value.{value_of};
+ghost use Rattle.bson_uses.specs.Path.{keys_of};
+ghost use Rattle.bson_uses.specs.Updates.{IsChange, RefusesSet, Sets, TellsInside};
+
+use raw_bson::{RawBsonRef, RawDocument, RawDocumentBuf, RawElement, Result};
+use std::alloc::Global;
+
+/// What becomes of an element.
+#[derive(Clone, Copy)]
+enum Change<'a, 'p, 'k> {
+    /// it stays as it is
+    Keep,
+    /// it has the new value
+    Put,
+    /// it is a document, in which a value is set below these keys
+    Below(RawDocument<'a>, &'p [&'k str]),
+}
+
+/// The document that the element means, if it means one.
+fn document_in<'a>(alloc: Global, element: RawElement<'a>) -> Option<RawDocument<'a>>
+    ensures { TellsInside (frame_of element.entry) result }
+{
+    match element.value(alloc) {
+        Ok(value) => value.as_document(),
+        Err(_) => None,
+    }
+}
+
+/// What becomes of the element where a value is set under these keys.
+fn change_of<'a, 'p, 'k>(
+    alloc: Global,
+    element: RawElement<'a>,
+    path: &'p [&'k str],
+) -> Change<'a, 'p, 'k>
+    ensures { IsChange (keys_of path.now) (frame_of element.entry) result }
+{
+    let Some((key, keys)) = path.split_first() else {
+        return Change::Keep;
+    };
+    if element.key() != *key {
+        return Change::Keep;
+    }
+    let Some(_) = keys.split_first() else {
+        return Change::Put;
+    };
+    match document_in(alloc, element) {
+        Some(document) => Change::Below(document, keys),
+        None => Change::Keep,
+    }
+}
+
+/// A copy of the document in which each value under these keys, one below the other, is this one; all other bytes are
+/// as they were. Where nothing is under the keys it has the same elements.
+pub fn set_path(
+    alloc: Global,
+    document: RawDocument<'_>,
+    path: &[&str],
+    value: RawBsonRef<'_>,
+) -> Result<RawDocumentBuf>
+    ensures copied { IfOk result (IsCopy (Sets (keys_of path.now) (value_of value.entry)) (bytes_of document.entry)) }
+    ensures refused { IfErr result (RefusesSet (keys_of path.now) (value_of value.entry) (bytes_of document.entry)) }
+{
+    let mut copy = RawDocumentBuf::new(alloc)?;
+    for element in document.iter_elements(alloc) {
+        let element = element?;
+        match change_of(alloc, element, path) {
+            Change::Keep => copy.append_element(element)?,
+            Change::Put => copy.append_ref(element.key(), value)?,
+            Change::Below(inside, keys) => {
+                let below = set_path(alloc, inside, keys, value)?;
+                copy.append_ref(element.key(), RawBsonRef::from(&below))?;
+            }
+        }
+    }
+    Ok(copy)
+}
