@@ -372,7 +372,7 @@ fuzz() {
     fi
     mkdir "$work/seeds" && (cd "$work/seeds" && split -l 1 -a 3 - text) <c/tests/fuzz/texts.txt
     seed=${SEED:-$(od -An -N3 -tu4 /dev/urandom | tr -d " ")}
-    "$work/fuzzer" -seed="$seed" -max_total_time="${FUZZ_SECONDS:-10}" -max_len=600 -dict=c/tests/fuzz/words.dict -artifact_prefix="$work/" \
+    "$work/fuzzer" -seed="$seed" -max_total_time="${FUZZ_SECONDS:-60}" -max_len=600 -dict=c/tests/fuzz/words.dict -artifact_prefix="$work/" \
         -verbosity=0 -print_final_stats=1 "$work/seeds" >"$work/said" 2>&1 || fails "the fuzzer of seed $seed: $(tail -n 40 "$work/said")"
     echo "the fuzzer of seed $seed ran $(sed -n 's/^stat::number_of_executed_units: *//p' "$work/said") texts"
 }

@@ -1,6 +1,6 @@
 #!/bin/sh
 # dumps.sh [USING]: tries bsonraw-dump on real files, pipes, devices and closed streams. PROGRAM is the proved one of
-# crates/bsonraw_dump unless it is given. What it has to print is written by hand from docs/USING.md. The bytes of each
+# crates/bsonraw_dump unless it is given. What it has to print is written by hand from docs/USING.md and man/bsonraw-dump.1. The bytes of each
 # document are in the table below.
 set -u
 
@@ -44,6 +44,7 @@ documents = {
 }
 made = {name: bytes.fromhex(digits) for name, digits in documents.items()}
 made["kinds"] = len(made["kinds"]).to_bytes(4, "little") + made["kinds"][4:]
+made["kinds.nan"] = made["kinds"].replace(b"\xff" * 7 + b"\x7f", b"\0" * 6 + b"\xf8\x7f")
 for levels in (500, 501):
     document = made["empty"]
     for _ in range(levels - 1):
@@ -737,6 +738,138 @@ for command in canon unique list json; do
     status=$?
     tried "a reader that leaves a FIFO of $command" 0
 done
+
+# -- bson: texts
+
+# texted DOCUMENTS BYTES FAULTS FILES: the last line of bson
+texted() {
+    printf 'documents: %s, bytes: %s, faults: %s, files that can'"'"'t be read: %s\n' "$@"
+}
+for text in '{"a":1}\n{"a":1}\n' '{"a":1}\n{"a":1}' '{"a":1}\r\n{"a":1}\r\n' '{"a":1}{"a":1}' ' {"a" : 1}\t\n\n{"a":1} ' '[{"a":1},{"a":1}]\n' \
+    '[{"a":1}\n,{"a":1}]' '[\n  {\n    "a": 1\n  },\n  {\n    "a": 1\n  }\n]\n' '{\n\t"a": {\n\t\t"$numberInt": "1"\n\t}\n}\n{\n\t"a": 1\n}\n'; do
+    printf "$text" >two.json
+    wants '' "$(texted 2 24 0 0)
+"
+    cat one one >wanted.out
+    run "the texts $text" 0 bson two.json
+    cat two.json | run "the texts $text through a pipe" 0 bson || failed=1
+done
+for text in '' ' \n' '[]' ' [ ] \n'; do
+    printf "$text" >none.json
+    wants '' "$(texted 0 0 0 0)
+"
+    run "no text in '$text'" 0 bson none.json
+done
+wants '' "$(texted 1 "$(wc -c <kinds.nan)" 0 0)
+"
+cp kinds.nan wanted.out
+"$program" json --canonical kinds.nan 2>json.err | run 'canonical JSON back to its document' 0 bson || failed=1
+wants '' "$(texted 200000 2400000 0 0)
+"
+cp distinct wanted.out
+"$program" json distinct >distinct.json 2>json.err
+run 'relaxed JSON back to its documents' 0 bson distinct.json
+
+# faulty TEXT FAULT: what is wrong with a text of no document
+faulty() {
+    printf "$1" >fault.json
+    wants '' '"fault.json":'"$2"'
+'"$(texted 0 0 1 0)"'
+'
+    run "the fault of $1" 1 bson fault.json
+}
+faulty 'x' '1:1: expected a document'
+faulty '{"a":' '1:6: the text ends too early'
+faulty '{"a":1' '1:7: the text ends too early'
+faulty '\n {"\303\251" 1}' '2:7: expected a colon'
+faulty '{"\377":1}' '1:3: not UTF-8'
+faulty '["a"]' '1:2: expected a document'
+faulty '[' '1:2: the text ends too early'
+faulty ',{}' '1:1: expected a document'
+faulty '{"a":"\n"}' '1:7: a control character that is not escaped'
+faulty '{"a":{"$oid":"1"}}' '1:14: this is not {"$oid": 24 hex digits}'
+faulty '{"a":1]' '1:7: expected a comma or the end of the object or array'
+python3 -c 'print("{\"a\":" * 501 + "1" + "}" * 501)' >fault.json
+wants '' '"fault.json":1:2501: deeper than allowed
+'"$(texted 0 0 1 0)"'
+'
+run 'too many levels' 1 bson fault.json
+python3 -c 'print("{\"a\":" * 3000 + "1" + "}" * 3000)' >fault.json
+run 'far too many levels' 1 bson fault.json
+printf '\357\273\277{}' >fault.json
+wants '' 'bsonraw-dump: "fault.json": begins with a byte order mark: tail -c +4 FILE | bsonraw-dump bson
+"fault.json":1:1: expected a document
+'"$(texted 0 0 1 0)"'
+'
+run 'a byte order mark' 1 bson fault.json
+
+# behind TEXT FAULT FAULTS KEPT: what is wrong with a text behind a document, and how many faults and documents it has with --keep-going
+behind() {
+    printf "$1" >fault.json
+    wants '' '"fault.json":'"$2"'
+'"$(texted 1 12 1 0)"'
+'
+    cp one wanted.out
+    run "the fault of $1" 1 bson fault.json
+    : >wanted.out
+    for _ in $(seq "$4"); do cat one; done >wanted.out
+    { printf '"fault.json":%s\n' "$2"; texted "$4" $((12 * $4)) "$3" 0; } >wanted.err
+    run "what goes on behind the fault of $1" 1 bson --keep-going fault.json
+}
+behind '{"a":1},{"a":1}\n{"a":1}\n' '1:8: expected a document' 1 2
+behind '[{"a":1}{"a":1}]' '1:9: expected a comma or the end of the object or array' 1 1
+behind '[{"a":1}\n{"a":1}]' '2:1: expected a comma or the end of the object or array' 1 2
+behind '[{"a":1},]' '1:10: expected a document' 1 1
+behind '[{"a":1}' '1:9: the text ends too early' 1 1
+behind '[{"a":1}]\n{"a":1}' '2:1: text behind the document' 1 2
+behind '[{"a":1},{"a" 1},{"a":1}]' '1:15: expected a colon' 1 2
+behind '{"a":1}\n{"a":"x\n{"a":1}\n' '2:8: a control character that is not escaped' 1 2
+behind '{"a":1}\n{"a":1\n{"a":1}\n' '3:1: expected a comma or the end of the object or array' 1 2
+behind '{"a":1}\n{"a":\n{"a":1}\n{"a":1}\n' '4:1: expected a comma or the end of the object or array' 1 2
+behind '{"a":1}}\n{"a":1}\n' '1:8: expected a document' 1 2
+printf '{"a":1}\n{"a" 1}\nlost\n{"a":1}\n' >fault.json
+wants '' '{"file":"fault.json","line":2,"column":6,"finding":"fault","reason":"expected a colon"}
+{"file":"fault.json","line":3,"column":1,"finding":"fault","reason":"expected a document"}
+{"documents":2,"bytes":24,"faults":2,"files that can'"'"'t be read":0}
+'
+cat one one >wanted.out
+run 'faults as JSON' 1 bson --keep-going --json fault.json
+wants '' '"fault.json":2:6: expected a colon
+bsonraw-dump: "missing.json": No such file or directory (os error 2)
+'"$(texted 2 24 1 1)"'
+'
+cat one one >wanted.out
+printf '{"a":1}' >good.json
+run 'several files' 3 bson fault.json missing.json good.json
+
+# and OUTPUT
+
+printf old >output
+wants '' '"fault.json":2:6: expected a colon
+'"$(texted 1 12 1 0)"'
+"output": not written: "fault.json" wasn'"'"'t read to its end; --keep-going goes on
+'
+run 'a fault leaves OUTPUT' 1 bson -o output fault.json
+[ "$(cat output)" = old ] || { echo "dumps.sh: bson replaced OUTPUT" >&2 && failed=1; }
+wants '' '"fault.json":2:6: expected a colon
+"fault.json":3:1: expected a document
+'"$(texted 2 24 2 0)"'
+'
+run 'OUTPUT without the documents at fault' 1 bson --keep-going -o output fault.json
+cat one one >wanted.out
+cmp -s wanted.out output || { echo "dumps.sh: bson wrote another OUTPUT" >&2 && failed=1; }
+rm -f output
+wants '' 'bsonraw-dump: "standard output": No space left on device (os error 28)
+'
+"$program" bson distinct.json >/dev/full 2>err
+status=$?
+: >out
+tried 'bson on a full device' 5
+wants ''
+: >wanted.err
+{ "$program" bson distinct.json 2>err; echo $? >left; } | head -c 10 >/dev/null
+status=$(cat left)
+tried 'a reader that leaves a pipe of bson' 0
 
 # -- a terminal on standard input gives bytes, and then an error
 

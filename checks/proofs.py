@@ -20,9 +20,8 @@ ARGUMENTS = 12
 MOST_ARGUMENTS = {
     "bson_json": 21,
     "bson_model": 13,
-    "bson_uses": 17,
     "bsonraw_c": 22,
-    "bsonraw_dump": 37,
+    "bsonraw_dump": 34,
     "raw_bson": 16,
     "raw_form": 27,
     "raw_resync": 17,

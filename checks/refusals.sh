@@ -123,6 +123,10 @@ run_scenario() {
             input=/dev/null
             wanted=$work/wanted
             python3 -c 'import sys; sys.stdout.buffer.write(bytes.fromhex(sys.stdin.read()))' <"examples/$3.hex" >"$work/dump" || return 1
+            if [ "$2" = bson ]; then
+                crates/bsonraw_dump/out/bsonraw_dump json "$work/dump" >"$work/text" 2>/dev/null || return 1
+                mv "$work/text" "$work/dump"
+            fi
             crates/bsonraw_dump/out/bsonraw_dump "$2" "$work/dump" >"$wanted" 2>/dev/null
             echo "status $?" >>"$wanted"
             each_refused dump_answered crates/bsonraw_dump/out/bsonraw_dump "$2" "$work/dump" || return 1

@@ -1,6 +1,7 @@
 #!/bin/sh
 # texts.sh [PREFIX]: what bsonraw_from_json reads of 100,000 made texts of Extended JSON beside libbson and MongoDB's package for
-# Python: the same documents, byte for byte, and none of the same texts, but for what the rules of checks/json_texts.py say. PREFIX is
+# Python: the same documents, byte for byte, and none of the same texts, but for what the rules of checks/json_texts.py say. Then texts
+# that are cut off at each byte, or have another byte there: checks/json_places.py says which place of each is refused. PREFIX is
 # where bin/install put the library; without it, that is done first. The seed is drawn, and said; SEED sets it, and COUNT how many texts
 # there are. Debian's libbson-dev has libbson; where it isn't, nothing is compared. Debian's python3-bson has the package; where that
 # isn't, it is left out.
@@ -39,6 +40,21 @@ fi
 sed '0,/^0C/s//0D/' "$work/ours" >"$work/changed"
 if "$python" -B checks/json_texts.py compare "$work/made" "$work/changed" "$work/libbson" >/dev/null; then
     echo "texts.sh: another document is taken for the same, seed $seed" >&2
+    exit 1
+fi
+
+"$python" -B checks/json_places.py made >"$work/made" || exit 1
+"$work/texts" places "$work/made" >"$work/ours" && "$work/texts" libbson "$work/made" >"$work/libbson" || exit 1
+[ -z "${package-}" ] || "$python" -B checks/json_texts.py package "$work/made" >"$package" || exit 1
+if ! "$python" -B checks/json_places.py compare "$work/made" "$work/ours" "$work/libbson" ${package:+"$package"}; then
+    echo "texts.sh: a text isn't refused where it has to be" >&2
+    exit 1
+fi
+
+# Another place has to be told.
+sed '0,/^@6 \([0-9]*\)[1-9]$/s//@6 \10/' "$work/ours" >"$work/changed"
+if "$python" -B checks/json_places.py compare "$work/made" "$work/changed" "$work/libbson" >/dev/null; then
+    echo "texts.sh: another place is taken for the same" >&2
     exit 1
 fi
 echo "texts.sh: all passed, seed $seed"

@@ -12,6 +12,7 @@ import shutil
 import struct
 import subprocess
 import sys
+import textwrap
 from pathlib import Path
 from xml.sax.saxutils import escape
 
@@ -218,12 +219,11 @@ def colour_of(name):
 
 def label_of(name, kit):
     """What a crate's box says: its name, what it gives, and the libraries of the kit that it uses."""
-    lines = [f'<b><font face="DejaVu Sans Mono" point-size="14">{name}</font></b>', f'<font point-size="12">{escape(GIVES[name])}</font>']
-    rows = [", ".join(kit[number : number + 5]) for number in range(0, len(kit), 5)]
-    if rows:
-        rows[0] = f"with the kit's {rows[0]}"
-        lines.append(f'<font point-size="10">{",<br/>".join(rows)}</font>')
-    return "<br/>".join(lines)
+    rows = [f'<b><font face="DejaVu Sans Mono" point-size="14">{name}</font></b>']
+    rows += [f'<font point-size="12">{escape(row)}</font>' for row in textwrap.wrap(GIVES[name], 23)]
+    if kit:
+        rows += [f'<font point-size="10">{escape(row)}</font>' for row in textwrap.wrap(f"with the kit's {', '.join(kit)}", 28)]
+    return "<br/>".join(rows)
 
 
 CRATES_LABEL = "An arrow goes to the crate that uses the one where it begins."
@@ -234,15 +234,18 @@ def crates_graph():
     crates = crates_of()
     lines = [
         "digraph crates {",
-        f'graph [rankdir=BT, bgcolor=transparent, nodesep=0.25, ranksep=0.45, margin=0.1, label="{CRATES_LABEL}", labelloc=b, '
+        f'graph [rankdir=BT, bgcolor=transparent, nodesep=0.2, ranksep=0.4, margin=0.1, label="{CRATES_LABEL}", labelloc=b, '
         f'fontname="DejaVu Sans", fontsize=12, fontcolor="{TEXT}"]',
-        'node [shape=box, style=filled, color=transparent, fontname="DejaVu Sans", fontcolor=white, margin="0.16,0.09"]',
+        'node [shape=box, style=filled, color=transparent, fontname="DejaVu Sans", fontcolor=white, margin="0.1,0.08"]',
         f'edge [color="{TEXT}", arrowsize=0.7]',
     ]
     for name, below in crates.items():
         kit = [it for it in below if it not in crates]
         lines.append(f'{name} [fillcolor="{colour_of(name)}", label=<{label_of(name, kit)}>]')
-    lines += [f"{below} -> {name}" for name, below in sorted(edges_of(crates))]
+    edges = sorted(edges_of(crates))
+    lines += [f"{below} -> {name}" for name, below in edges]
+    tops = [name for name in crates if not any(below == name for _, below in edges)]
+    lines.append(f"{{rank=same; {'; '.join(tops)}}}")
     return "\n".join([*lines, "}", ""])
 
 
@@ -287,13 +290,13 @@ BARS = [
     ("Elements from C, a call for each", "share of libbson's instructions", "From C", "`bsonraw_iter_next` of", ["instructions", PEER]),
     ("Keys and values of a typical document", "instructions an element", "Reading", "keys and values, typical", READERS),
     ("Look-up of the last of 1,000 keys", "instructions an element", "Reading", "look-up of the last of 1,000 keys", READERS),
-    ("Append of 1,000,000 int32", "instructions an element", "Writing", "append of 1,000,000 int32", READERS),
-    ("Tree from bytes, typical", "instructions an element", "Writing", "tree from bytes, typical", READERS[:2]),
+    ("Append of 1,000,000 int32", "instructions an element", "Reading", "append of 1,000,000 int32", READERS),
+    ("Tree from bytes, typical", "instructions an element", "Reading", "tree from bytes, typical", READERS[:2]),
     ("All levels of 499", "instructions an element", "Reading", "all levels, 499 of them", READERS),
-    ("Validation of a typical document", "instructions a call", "Validation", "typical", ["`validate`", "libbson"]),
+    ("Validation of a typical document", "instructions an element", "Reading", "validation, typical", ["This library", "libbson"]),
     ("Decoding of a typical document, from Python", "microseconds a call", "From Python", "`decode`, typical", ["`bsonraw`", "MongoDB's package"]),
 ]
-NAMES = {"`validate`": "This library", "`bsonraw`": "This library", "instructions": "This library", PEER: "libbson"}
+NAMES = {"`bsonraw`": "This library", "instructions": "This library", PEER: "libbson"}
 COLOURS = {"This library": BLUE, "Rust crate": BROWN, "libbson": GREEN, "C by hand": GREY, "MongoDB's package": GREEN}
 
 

@@ -34,3 +34,61 @@ fn a_text_or_out_of_memory(rt: HostRuntime) -> Result<(), Fail> {
         Err(_) => Err(Fail::new("another error")),
     }
 }
+
+/// The other forms of wrappers, each in a text of its own, and the documents that libbson and MongoDB's package make of them.
+const FORMS: &[(&str, &str)] = &[
+    (
+        "{\"a\":{\"$date\":{\"$numberLong\":\"-1\"}}}",
+        "10000000096100FFFFFFFFFFFFFFFF00",
+    ),
+    (
+        "{\"a\":{\"$binary\":{\"base64\":\"AQID\",\"subType\":\"02\"}}}",
+        "1400000005610007000000020300000001020300",
+    ),
+    (
+        "{\"a\":{\"$binary\":{\"subType\":\"80\",\"base64\":\"AQID\"}}}",
+        "10000000056100030000008001020300",
+    ),
+    (
+        "{\"a\":{\"$regularExpression\":{\"options\":\"mi\",\"pattern\":\"b\"}}}",
+        "0D0000000B61006200696D0000",
+    ),
+    (
+        "{\"a\":{\"$timestamp\":{\"i\":2,\"t\":1}}}",
+        "10000000116100020000000100000000",
+    ),
+    (
+        "{\"a\":{\"$dbPointer\":{\"$id\":{\"$oid\":\"56e1fc72e0c917e9c4714161\"},\"$ref\":\"b\"}}}",
+        "1A0000000C610002000000620056E1FC72E0C917E9C471416100",
+    ),
+    (
+        "{\"a\":{\"\\u0024oid\":\"56e1\\u0066c72e0c917e9c4714161\"}}",
+        "1400000007610056E1FC72E0C917E9C471416100",
+    ),
+    (
+        "{\"a\":[{\"$scope\":{\"b\":{\"$scope\":{},\"$code\":\"d\"}},\"$code\":\"c\\n\"}]}",
+        "320000000461002A0000000F30002200000003000000630A00170000000F62000F0000000200000064000500000000000000",
+    ),
+    (
+        "{\"$oid\":{\"$symbol\":\"\\u00e9\"}}",
+        "120000000E246F69640003000000C3A90000",
+    ),
+];
+
+/// Whether each text is read as its document, or memory ran out; else the text.
+fn read_each(alloc: Global) -> Result<(), Fail> {
+    for (text, digits) in FORMS {
+        match from_json(alloc, text, LIMITS) {
+            Ok(document) if are_written(document.as_bytes(), digits) => {}
+            Err(error) if error.reason == JsonReason::OutOfMemory => {}
+            _ => return Err(Fail::new(*text)),
+        }
+    }
+    Ok(())
+}
+
+// `bin/test` runs this with each request for memory refused in turn, too.
+#[test]
+fn other_forms_or_out_of_memory(rt: HostRuntime) -> Result<(), Fail> {
+    read_each(rt.alloc())
+}
