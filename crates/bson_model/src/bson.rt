@@ -17,8 +17,10 @@ use crate::regexes::Regex;
 use crate::times::{DateTime, Timestamp};
 use std::alloc::Global;
 
-/// A value of BSON (BSON 1.1, element). However deep it is, it is dropped by a loop, which takes no memory. `==` and
-/// `Debug` call themselves for each level: a stack of 8 MB is enough for 40,000 levels of `==`, and for 15,000 of `Debug`.
+/// A value of BSON (BSON 1.1, element).
+///
+/// No clause says so: however deep it is, it is dropped by a loop, which takes no memory. `==` and `Debug` call themselves for
+/// each level: a stack of 8 MB is enough for 40,000 levels of `==`, and for 15,000 of `Debug`.
 /// ```
 /// let value = RawBson::try_from_bson(alloc, Bson::Int32(7))?;
 /// assert_eq!(rt; value.into_bson(alloc)?, Bson::Int32(7));
@@ -179,7 +181,7 @@ impl Document {
         pairs.into_values()
     }
 
-    /// A document with no pairs, which keeps `alloc`. It takes no memory.
+    /// A document with no pairs, which keeps `alloc`. No clause says so: it takes no memory.
     pub fn new(alloc: Global) -> Document
         ensures { pairs_of result ≡ [] }
     {

@@ -7,8 +7,9 @@ ghost use Rattle.bson_model.specs.Proper.{IsWellFormed};
 use crate::bson::{Bson, Document};
 pub use crate::ranges::{attest_bytes, attest_u32, attest_u64};
 
-/// Whether two values have one tree, which is what `==` returns; it takes the stack that `==` takes. Programs
-/// never need it; proofs do.
+/// Whether two values have one tree, which is what `==` returns. Programs never need it; proofs do.
+///
+/// No clause says so: it takes the stack that `==` takes.
 pub fn is_same_tree(a: &Bson, b: &Bson) -> bool
     ensures { IsTrue result ↔ (tree_of a.now ≡ tree_of b.now) }
 {
@@ -16,7 +17,9 @@ pub fn is_same_tree(a: &Bson, b: &Bson) -> bool
 }
 
 /// Whether two documents have one tree, which is what `==` returns: the same keys with the same
-/// trees in the same order; it takes the stack that `==` takes. Programs never need it; proofs do.
+/// trees in the same order. Programs never need it; proofs do.
+///
+/// No clause says so: it takes the stack that `==` takes.
 pub fn is_same_document(left: &Document, right: &Document) -> bool
     ensures { IsTrue result ↔ (tree_of_document left.now ≡ tree_of_document right.now) }
 {
@@ -25,8 +28,9 @@ pub fn is_same_document(left: &Document, right: &Document) -> bool
 
 /// The tree of a value is well formed: numbers are in the ranges of their types, bytes are bytes, an
 /// ObjectId has twelve and a Decimal128 sixteen, texts and keys are UTF-8, and no key is twice in a
-/// document. It reads the whole value, changes nothing and takes no memory. It calls itself for each level, and no
-/// other call of the libraries makes it. Programs never need it; proofs do.
+/// document. No other call of the libraries makes it. Programs never need it; proofs do.
+///
+/// No clause says so: it reads the whole value, takes no memory, and calls itself for each level.
 #[cycle(attest)]
 pub fn attest_value(value: &Bson)
     ensures { IsWellFormed (tree_of value.now) }
@@ -70,8 +74,9 @@ pub fn attest_value(value: &Bson)
     }
 }
 
-/// The trees of a list are well formed. It reads the whole list, as `attest_value` does each value, changes nothing
-/// and takes no memory. Programs never need it; proofs do.
+/// The trees of a list are well formed. Programs never need it; proofs do.
+///
+/// No clause says so: it reads the whole list, as `attest_value` does each value, and takes no memory.
 #[cycle(attest)]
 pub fn attest_list(values: &[Bson])
     ensures { IsWellFormed (tree_of_list values.now) }
@@ -81,8 +86,9 @@ pub fn attest_list(values: &[Bson])
     }
 }
 
-/// The tree of a document is well formed. It reads the whole document, as `attest_value` does each value, changes
-/// nothing and takes no memory. Programs never need it; proofs do.
+/// The tree of a document is well formed. Programs never need it; proofs do.
+///
+/// No clause says so: it reads the whole document, as `attest_value` does each value, and takes no memory.
 #[cycle(attest)]
 pub fn attest_document(document: &Document)
     ensures { IsWellFormed (tree_of_document document.now) }

@@ -32,9 +32,11 @@ pub struct Limits {
 
 /// The tree of a document that keeps to these limits. It fails first if there are more bytes; else with the first,
 /// depth first in byte order, of a fault at any level, with the key that this fault itself carries, and of the entry
-/// into a level that is too deep, which has no key; or memory runs out. No level that is too deep is entered, and no
-/// memory is asked for one. Every document is read as no more than one tree within the limits, and either that or has
-/// one reason to fail. Its tree is written back as its own bytes exactly where it is canonical. BSON 1.1, `document`.
+/// into a level that is too deep, which has no key; or memory runs out. Every document is read as no more than one
+/// tree within the limits, and either that or has one reason to fail. Its tree is written back as its own bytes exactly
+/// where it is canonical. BSON 1.1, `document`.
+///
+/// No clause says so: no level that is too deep is entered, and no memory is asked for one.
 /// ```
 /// let document = RawDocument::from_bytes(b"\x0C\0\0\0\x10a\0\x01\0\0\0\0")?;
 /// let limits = Limits { bytes: 1000, depth: 10 };
