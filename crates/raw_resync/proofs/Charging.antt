@@ -14,15 +14,24 @@ use Rattle.raw_form.specs.declared.barrier.Barrier as told
 use Rattle.raw_form.proofs.Face.{barrier_bound}
 use Rattle.raw_resync.specs.Pieces.{said_len}
 use Rattle.raw_resync.specs.Resync.{IsSound}
-use Rattle.raw_resync.specs.Charge.{Costs, IsBehindZero, IsOfText, IsOfValue, LooksAt, LooksAtRegex}
+use Rattle.raw_resync.specs.Charge.{Costs, IsBehindText, IsBehindZero, IsOfText, IsOfValue, LooksAt, LooksAtRegex}
 
--- whether a text of a value isn't UTF-8
-pub of_value : (x : Barrier) (path : List Step) (r : Bool) (k : List ℕ) → MatchBool r (IsOfText x) (¬ IsOfText x) → last_key path ≡ Some k → MatchBool r (IsOfValue x path) (¬ IsOfValue x path)
-of_value x path true k is last = (is, (k, last))
-of_value x path false k is last = λ v. is v.0
+neither : (tag : ℕ) (x : Barrier) → tag ≢ 15 → ¬ IsOfText x → ¬ IsBehindText tag x
+neither tag x not is (inl text) = is text
+neither tag x not is (inr same) = not same
 
-pub no_value : (x : Barrier) (path : List Step) → last_key path ≡ None → ¬ IsOfValue x path
-no_value x path none v = let (text, (key, some)) = v in let bad : ◌≡◌ {A = Option (List ℕ)} None (Some key) = sym none ∙ some in let impossible : ⊥ = cc in impossible
+-- whether a text is read up to the fault of a value with this tag
+pub no_scope : (tag : ℕ) (x : Barrier) (r : Bool) → tag ≢ 15 → MatchBool r (IsOfText x) (¬ IsOfText x) → MatchBool r (IsBehindText tag x) (¬ IsBehindText tag x)
+no_scope tag x true not is = inl is
+no_scope tag x false not is = neither tag x not is
+
+pub of_value : (tag : ℕ) (x : Barrier) (path : List Step) (r : Bool) (k : List ℕ) → MatchBool r (IsBehindText tag x) (¬ IsBehindText tag x) → last_key path ≡ Some k
+    → MatchBool r (IsOfValue tag x path) (¬ IsOfValue tag x path)
+of_value tag x path true k is last = (is, (k, last))
+of_value tag x path false k is last = λ v. is v.0
+
+pub no_value : (tag : ℕ) (x : Barrier) (path : List Step) → last_key path ≡ None → ¬ IsOfValue tag x path
+no_value tag x path none v = let (text, (key, some)) = v in let bad : ◌≡◌ {A = Option (List ℕ)} None (Some key) = sym none ∙ some in let impossible : ⊥ = cc in impossible
 
 -- no key ends
 pub looks_all : (x : Barrier) (path : List Step) (s text : List ℕ) (tag : ℕ) → s ≡ tag ∷ text → NulFree text → LooksAt x path s (length s)
@@ -56,7 +65,7 @@ module _ (x : Barrier) (path : List Step) (s text behind : List ℕ) (tag : ℕ)
   unfolding has_key
   looks_regex m is regex = inr (inl (z.0, has_key, is, m, regex, ap (λ n. n + m) key_len))
 
-  pub looks_value : (said : ℕ) → tag ≢ 11 → IsOfValue x path → (said ≡ said_len behind) ⊎ (length behind < 4) → LooksAt x path s (min (length s) (length s - length behind + said + 16))
+  pub looks_value : (said : ℕ) → tag ≢ 11 → IsOfValue tag x path → (said ≡ said_len behind) ⊎ (length behind < 4) → LooksAt x path s (min (length s) (length s - length behind + said + 16))
   unfolding has_key
   looks_value said not is same =
       let whole : length s ≡ suc (length text) = ap length split in
@@ -64,7 +73,7 @@ module _ (x : Barrier) (path : List Step) (s text behind : List ℕ) (tag : ℕ)
       let all : length s ≡ length z.0 + 2 + length behind = omega (arith, whole, len) in
       inr (inr (inl (z.0, has_key, not, is, ap (λ n. min (length s) (n + said + 16)) key_len ∙ same_min (length s) (length z.0 + 2) (length behind) (said_len behind) said all same)))
 
-  pub looks_key : tag ≢ 11 → ¬ IsOfValue x path → LooksAt x path s (length s - length behind)
+  pub looks_key : tag ≢ 11 → ¬ IsOfValue tag x path → LooksAt x path s (length s - length behind)
   unfolding has_key
   looks_key not none = inr (inr (inr (z.0, has_key, not, none, key_len)))
 

@@ -27,9 +27,13 @@ HasOneZeroAtMost s = NulFree s ⊎ ((r : List ℕ) × IsBehindZero s r × NulFre
 abbrev pub IsOfText : Barrier → Type 0
 IsOfText x = IsFaultWith (λ fault. fault.fault ≡ Utf8) x
 
+-- a text is read up to it in a value with this tag: one that isn't UTF-8, or the code in front of a scope
+abbrev pub IsBehindText : (tag : ℕ) → Barrier → Type 0
+IsBehindText tag x = IsOfText x ⊎ (tag ≡ tag_of kind.JavaScriptCodeWithScope)
+
 -- it is one of a value: the element at the end of the path has a key
-abbrev pub IsOfValue : Barrier → List Step → Type 0
-IsOfValue x path = IsOfText x × ((key : List ℕ) × (last_key path ≡ Some key))
+abbrev pub IsOfValue : (tag : ℕ) → Barrier → List Step → Type 0
+IsOfValue tag x path = IsBehindText tag x × ((key : List ℕ) × (last_key path ≡ Some key))
 
 -- So many bytes are looked at of a regular expression, s from its pattern on: its pattern and its options, each with its 0; or
 -- all, where one has none.
@@ -39,14 +43,14 @@ LooksAtRegex s n =
     ⊎ (HasOneZeroAtMost s × (n ≡ length s))
 
 -- So many bytes are looked at of s, what is left of a document from its first fault x on, to which this path leads: of the element in
--- front its tag and its key with its 0; its payload, too, where a text of the value isn't UTF-8, which has at most 16 bytes more
--- than its length says; and the texts of a regular expression. All are where no key ends.
+-- front its tag and its key with its 0; its payload, too, where a text of the value is read up to its fault, which has at most 16
+-- bytes more than its length says; and the texts of a regular expression. All are where no key ends.
 abbrev pub LooksAt : Barrier → List Step → List ℕ → ℕ → Type 0
 LooksAt x path s n =
     (((key : List ℕ) → ¬ HasKey s key) × (n ≡ length s))
     ⊎ ((key : List ℕ) × (k : HasKey s key) × (k.tag ≡ tag_of kind.RegularExpression) × (m : ℕ) × LooksAtRegex k.behind m × (n ≡ length key + 2 + m))
-    ⊎ ((key : List ℕ) × (k : HasKey s key) × (k.tag ≢ tag_of kind.RegularExpression) × IsOfValue x path × (n ≡ min (length s) (length key + 2 + (said_len k.behind + 16))))
-    ⊎ ((key : List ℕ) × (k : HasKey s key) × (k.tag ≢ tag_of kind.RegularExpression) × (¬ IsOfValue x path) × (n ≡ length key + 2))
+    ⊎ ((key : List ℕ) × (k : HasKey s key) × (k.tag ≢ tag_of kind.RegularExpression) × IsOfValue k.tag x path × (n ≡ min (length s) (length key + 2 + (said_len k.behind + 16))))
+    ⊎ ((key : List ℕ) × (k : HasKey s key) × (k.tag ≢ tag_of kind.RegularExpression) × (¬ IsOfValue k.tag x path) × (n ≡ length key + 2))
 
 -- what is charged for the document b where it has a fault: the bytes before its first one, and those that are looked at of the
 -- element at fault

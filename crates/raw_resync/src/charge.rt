@@ -7,7 +7,7 @@ ghost use Rattle.raw_view.specs.Document.{bytes_of};
 ghost use Rattle.raw_tree.specs.WithinLimits as within;
 ghost use Rattle.raw_form.specs.Barriers.{IsBarrier, steps_of};
 ghost use Rattle.raw_resync.specs.Pieces.{said_len};
-ghost use Rattle.raw_resync.specs.Charge.{IsBehindZero, IsOfText, IsOfValue, LooksAt, LooksAtRegex};
+ghost use Rattle.raw_resync.specs.Charge.{IsBehindText, IsBehindZero, IsOfText, IsOfValue, LooksAt, LooksAtRegex};
 
 use memchr::memchr;
 use raw_form::{Barrier, BarrierKind};
@@ -15,6 +15,9 @@ use raw_view::{ErrorKind, RawDocument};
 
 /// The tag of a regular expression.
 const REGULAR_EXPRESSION: u8 = 11;
+
+/// The tag of a code with a scope.
+const CODE_WITH_SCOPE: u8 = 15;
 
 /// So many bytes a value with texts has at most beside those that its length counts.
 const AROUND: usize = 16;
@@ -29,7 +32,7 @@ fn behind_zero(bytes: &[u8]) -> Option<&[u8]>
 }
 
 /// How many bytes are looked at of a document from its first fault on: of the element at fault its tag and its key; its
-/// payload, too, where a text of it isn't UTF-8, and that of a regular expression.
+/// payload, too, where a text of it is read up to the fault, and that of a regular expression.
 pub(crate) fn looked_at(document: RawDocument<'_>, barrier: &Barrier<'_>) -> usize
     requires { barrier.now.place.offset ≤ length (bytes_of document) }
     ensures looks { (x : within.Barrier) → IsBarrier barrier.now.kind x
@@ -47,7 +50,7 @@ pub(crate) fn looked_at(document: RawDocument<'_>, barrier: &Barrier<'_>) -> usi
     if *tag == REGULAR_EXPRESSION {
         return key + looked_at_regex(behind);
     }
-    if is_of_value(barrier) {
+    if is_of_value(*tag, barrier) {
         return rest.len().min(key + length_in_front(behind) + AROUND);
     }
     key
@@ -66,15 +69,25 @@ fn looked_at_regex(bytes: &[u8]) -> usize
     }
 }
 
-/// Whether a text of a value isn't UTF-8.
-fn is_of_value(barrier: &Barrier<'_>) -> bool
+/// Whether a text of a value with this tag is read up to the fault.
+fn is_of_value(tag: u8, barrier: &Barrier<'_>) -> bool
     ensures { (x : within.Barrier) → IsBarrier barrier.now.kind x
-        → MatchBool result (IsOfValue x (steps_of barrier.now.place)) (¬ IsOfValue x (steps_of barrier.now.place)) }
+        → MatchBool result (IsOfValue tag x (steps_of barrier.now.place)) (¬ IsOfValue tag x (steps_of barrier.now.place)) }
 {
     match barrier.place.key() {
-        Some(_) => is_of_text(&barrier.kind),
+        Some(_) => is_behind_text(tag, &barrier.kind),
         None => false,
     }
+}
+
+/// Whether a text isn't UTF-8, or is the code in front of a scope.
+fn is_behind_text(tag: u8, kind: &BarrierKind<'_>) -> bool
+    ensures { (x : within.Barrier) → IsBarrier kind.now x → MatchBool result (IsBehindText tag x) (¬ IsBehindText tag x) }
+{
+    if tag == CODE_WITH_SCOPE {
+        return true;
+    }
+    is_of_text(kind)
 }
 
 /// Whether a text isn't UTF-8.

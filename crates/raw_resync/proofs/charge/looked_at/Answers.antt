@@ -28,7 +28,8 @@ returns-then-is_of_value-clause-looks c x is =
     let rest : List ℕ = c.split_at.result.1.now in
     let same : rest ≡ drop c.args.barrier.now.place.offset (bytes_of c.args.document) = search rules in
     let split : rest ≡ c.in-Some.tag.now ∷ c.in-Some.text.now = search rules in
-    let value = subst (λ r. MatchBool r (IsOfValue x (steps_of c.args.barrier.now.place)) (¬ IsOfValue x (steps_of c.args.barrier.now.place))) c.if-is_of_value.true (c.is_of_value.ensures x is) in
+    let path = steps_of c.args.barrier.now.place in
+    let value = subst (λ r. MatchBool r (IsOfValue c.in-Some.tag.now x path) (¬ IsOfValue c.in-Some.tag.now x path)) c.if-is_of_value.true (c.is_of_value.ensures x is) in
     let looks = looks_value x (steps_of c.args.barrier.now.place) rest c.in-Some.text.now c.in-Some-behind_zero.behind.now c.in-Some.tag.now split c.in-Some-behind_zero.ensures.found
     c.length_in_front.result c.if-tag-eq-REGULAR_EXPRESSION.false value c.length_in_front.ensures.front in
     let least : c.min.result ≡ min (length rest) (length rest - length c.in-Some-behind_zero.behind.now + c.length_in_front.result + 16) = search rules in
@@ -40,7 +41,8 @@ returns-clause-looks c x is =
     let rest : List ℕ = c.split_at.result.1.now in
     let same : rest ≡ drop c.args.barrier.now.place.offset (bytes_of c.args.document) = search rules in
     let split : rest ≡ c.in-Some.tag.now ∷ c.in-Some.text.now = search rules in
-    let none = subst (λ r. MatchBool r (IsOfValue x (steps_of c.args.barrier.now.place)) (¬ IsOfValue x (steps_of c.args.barrier.now.place))) c.if-is_of_value.false (c.is_of_value.ensures x is) in
+    let path = steps_of c.args.barrier.now.place in
+    let none = subst (λ r. MatchBool r (IsOfValue c.in-Some.tag.now x path) (¬ IsOfValue c.in-Some.tag.now x path)) c.if-is_of_value.false (c.is_of_value.ensures x is) in
     subst (λ s. LooksAt x (steps_of c.args.barrier.now.place) s (length rest - length c.in-Some-behind_zero.behind.now)) same
     (looks_key x (steps_of c.args.barrier.now.place) rest c.in-Some.text.now c.in-Some-behind_zero.behind.now c.in-Some.tag.now split c.in-Some-behind_zero.ensures.found
     c.if-tag-eq-REGULAR_EXPRESSION.false none)
