@@ -264,6 +264,7 @@ def columns(
     tz_aware: Optional[bool] = ...,
     uuid: bool = ...,
     errors: Errors = ...,
+    resync: bool = ...,
     max_bytes: int = ...,
     max_depth: int = ...,
 ) -> Dict[Any, List[Any]]: ...
@@ -277,6 +278,7 @@ def columns(
     tz_aware: Optional[bool] = ...,
     uuid: bool = ...,
     errors: Errors = ...,
+    resync: bool = ...,
     max_bytes: int = ...,
     max_depth: int = ...,
 ) -> Dict[Any, Union[Column, List[Any]]]: ...
@@ -290,6 +292,7 @@ def columns(
     tz_aware: Optional[bool] = None,
     uuid: bool = False,
     errors: Errors = "strict",
+    resync: bool = False,
     max_bytes: int = MAX_BYTES,
     max_depth: int = MAX_DEPTH,
 ) -> Any:
@@ -301,8 +304,8 @@ def columns(
 
     The keys come in the order in which they are first met, and the table takes
     memory for each key and document. Of a repeated key the last value counts.
-    Values are those of `decode`, and errors those of `decode_all`; a document
-    that is left out has no place.
+    Values are those of `decode`, and errors and resync those of `decode_all`;
+    a document that is left out has no place.
 
     With typed=True a column whose values are all ints, doubles, bools, dates
     or strings is a Column, which keeps them in buffers. Ints among doubles are
@@ -314,7 +317,7 @@ def columns(
         raise ValueError("with typed=True nothing else is in the place of what is missing")
     named = None if paths is None else [(path if isinstance(path, str) else tuple(path), tuple(steps_of(path))) for path in paths]
     found = _native.columns(
-        documents(source),
+        documents(source, resync=resync),
         paths=named,
         missing=missing,
         typed=typed,

@@ -2,16 +2,17 @@
 
 from __future__ import annotations
 
+from operator import index
 from struct import pack
-from typing import TYPE_CHECKING, Any, Callable, Dict, Iterator, List, Mapping, Optional, Sequence, Tuple, Union
+from typing import TYPE_CHECKING, Any, Callable, Dict, Iterator, List, Mapping, Optional, SupportsIndex, Tuple, Union
 
 from ._native import Element, elements, encode, get
 from ._types import BsonError, ElementType, ErrorKind, Reason
 
 if TYPE_CHECKING:
-    from ._native import Buffer, Step
+    from ._native import Buffer
 
-    Path = Union[str, Tuple[Step, ...]]
+    Path = Union[str, Tuple[Union[str, SupportsIndex], ...]]
 
 _NESTED = (ElementType.DOCUMENT, ElementType.ARRAY, ElementType.JAVASCRIPT_WITH_SCOPE)
 
@@ -27,12 +28,21 @@ REMOVE = _Remove()
 _Changes = Dict[str, Any]  # by each step what is changed there: _Changes again, REMOVE, or the bytes of a kind and a value
 
 
+def _key_of(step: Any) -> str:
+    if isinstance(step, bool):
+        raise TypeError("a step of a path is a key or a number")
+    return str.__str__(step) if isinstance(step, str) else str(index(step))
+
+
 def steps_of(path: Any) -> List[str]:
     """The keys of a path: a text, or a tuple."""
-    steps: Sequence[Any] = path.split(".") if isinstance(path, str) else path
-    if not steps or any(isinstance(step, bool) or not isinstance(step, (str, int)) for step in steps):
+    try:
+        steps = list(map(_key_of, path.split(".") if isinstance(path, str) else path))
+    except TypeError:
+        steps = []
+    if not steps:
         raise TypeError(f"a path is a text, or a tuple of keys and numbers, not {path!r}")
-    return list(map(str, steps))
+    return steps
 
 
 def _value(value: Any, default: Optional[Callable[[Any], Any]]) -> Any:

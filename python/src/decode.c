@@ -3,7 +3,7 @@
 
 #include <wchar.h>
 
-/* ---- texts, which the library has found to be UTF-8 ---- */
+/* ---- texts ---- */
 
 #define WIDE_ROOM 4096
 
@@ -15,25 +15,41 @@ static int is_ascii(const uint8_t *at, size_t len) {
 }
 
 #if WCHAR_MAX >= 0x10ffff
+static inline uint32_t le_u16(const uint8_t *at) {
+    uint16_t number;
+    memcpy(&number, at, 2);
+    return number;
+}
+
 /* A text by its characters, which takes Python less time than its UTF-8. Letters of one script come in runs, each of which has a
- * loop of its own. */
+ * loop of its own. What isn't UTF-8 is left to Python's decoder. */
 NOT_INLINE PyObject *wide_text(const uint8_t *at, size_t len) {
     static wchar_t wide[WIDE_ROOM];
     wchar_t *to = wide;
     const uint8_t *from = at, *end = at + len, *before = NULL;
+    uint32_t letter, wrong = 0; /* whether a letter has too many bytes, or is none */
     while (at < end && at != before) {
         before = at;
         for (; at < end && *at < 0x80; at++) *to++ = *at;
-        for (; end - at >= 2 && (*at & 0xe0) == 0xc0; at += 2) *to++ = (wchar_t)((at[0] & 0x1f) << 6 | (at[1] & 0x3f));
-        for (; end - at >= 3 && (*at & 0xf0) == 0xe0; at += 3)
-            *to++ = (wchar_t)((at[0] & 0x0f) << 12 | (at[1] & 0x3f) << 6 | (at[2] & 0x3f));
-        for (; end - at >= 4 && *at >= 0xf0; at += 4)
-            *to++ = (wchar_t)((at[0] & 0x07) << 18 | (at[1] & 0x3f) << 12 | (at[2] & 0x3f) << 6 | (at[3] & 0x3f));
+        for (; end - at >= 2 && (le_u16(at) & 0xc0e0) == 0x80c0; at += 2) {
+            *to++ = (wchar_t)(letter = (at[0] & 0x1fu) << 6 | (at[1] & 0x3fu));
+            wrong |= letter < 0x80;
+        }
+        for (; end - at >= 3 && (*at & 0xf0) == 0xe0 && (le_u16(at + 1) & 0xc0c0) == 0x8080; at += 3) {
+            *to++ = (wchar_t)(letter = (at[0] & 0x0fu) << 12 | (at[1] & 0x3fu) << 6 | (at[2] & 0x3fu));
+            wrong |= letter < 0x800 || letter >> 11 == 0x1b; /* the latter are halves of pairs */
+        }
+        for (; end - at >= 4 && *at >> 3 == 0x1e && (le_u16(at + 1) & 0xc0c0) == 0x8080 && at[3] >> 6 == 2; at += 4) {
+            *to++ = (wchar_t)(letter = (at[0] & 0x07u) << 18 | (at[1] & 0x3fu) << 12 | (at[2] & 0x3fu) << 6 | (at[3] & 0x3fu));
+            wrong |= letter < 0x10000 || letter > 0x10ffff;
+        }
     }
-    return at == end ? PyUnicode_FromWideChar(wide, to - wide) : PyUnicode_DecodeUTF8((const char *)from, (Py_ssize_t)len, "strict");
+    if (at == end && !wrong) return PyUnicode_FromWideChar(wide, to - wide);
+    return PyUnicode_DecodeUTF8((const char *)from, (Py_ssize_t)len, "strict");
 }
 #endif
 
+/* Raises UnicodeDecodeError where the bytes aren't UTF-8. */
 static PyObject *utf8(const uint8_t *at, size_t len) {
 #if WCHAR_MAX >= 0x10ffff
     if (len <= WIDE_ROOM && !is_ascii(at, len)) return wide_text(at, len);
@@ -50,6 +66,8 @@ static PyObject *utf8(const uint8_t *at, size_t len) {
 #define MOST_IN_SLOT (8 + MIDDLE + 8)
 #define MOST 255
 #define SELDOM 8 /* into a set that is full, one of so many new keys is put, so that keys that never come again cost little */
+#define MANY_NEW 64     /* behind so many keys in a row that aren't kept */
+#define LOOKED_UP 16    /* one of so many is looked up, until one is kept */
 
 static struct slot {
     PyObject *text;
@@ -58,6 +76,11 @@ static struct slot {
     uint32_t len;   /* 0 where no key is here */
     uint8_t middle[MIDDLE]; /* of a key of 17 to 52 the bytes from the ninth on; of a longer one the address of all, in its text */
 } slots[SETS][2] IN_LINES;
+
+static unsigned in_a_row; /* how many keys, up to the last one, weren't kept */
+
+/* Whether the next key isn't looked up. */
+static inline int is_passed_over(void) { return in_a_row >= MANY_NEW && ++in_a_row % LOOKED_UP != 0; }
 
 #define ODD 0x9E3779B97F4A7C15u
 
@@ -103,6 +126,7 @@ NOT_INLINE PyObject *new_key(struct slot *set, const uint8_t *at, size_t len, ui
     static unsigned seldom;
     struct slot new = {0};
     PyObject *old, *text = utf8(at, len);
+    in_a_row++;
     if (text == NULL || (set[1].text != NULL && ++seldom % SELDOM != 0)) return text;
     if (slot_fill(&new, text, front, end, at, len) < 0) {
         Py_DECREF(text);
@@ -121,6 +145,7 @@ INLINE PyObject *short_key(const uint8_t *at, size_t len) {
     struct slot *set = set_of_short(front), *slot = set;
     if ((slot->front != front || slot->len != len) && ((++slot)->front != front || slot->len != len))
         return new_key(set, at, len, front, 0);
+    in_a_row = 0;
     Py_INCREF(slot->text);
     return slot->text;
 }
@@ -129,6 +154,7 @@ INLINE PyObject *long_key(const uint8_t *at, size_t len) {
     uint64_t front = (uint64_t)le_i64(at), end = (uint64_t)le_i64(at + len - 8);
     struct slot *set = set_of_long(front, end, at, len), *slot = set;
     if (!is_in(slot, front, end, at, len) && !is_in(++slot, front, end, at, len)) return new_key(set, at, len, front, end);
+    in_a_row = 0;
     Py_INCREF(slot->text);
     return slot->text;
 }
@@ -142,7 +168,7 @@ NOT_INLINE PyObject *last_key(const uint8_t *at, size_t len) {
 
 /* The text of a key, from whose first byte on so many are left, to the end of all bytes. */
 INLINE PyObject *key_at(const uint8_t *at, size_t len, size_t left) {
-    if (len - 1 >= MOST) return utf8(at, len);
+    if (len - 1 >= MOST || is_passed_over()) return utf8(at, len);
     if (len > 8) return long_key(at, len);
     return left >= 8 ? short_key(at, len) : last_key(at, len);
 }
@@ -434,11 +460,12 @@ static PyObject *nested_of(const struct maker *maker, const struct bsonraw_token
     return value;
 }
 
-/* ---- by cursors, of bytes whose tokens would be many ---- */
+/* ---- by cursors: levels of many bytes, whose tokens would take more memory and time than they do ---- */
 
 #ifndef MANY_BYTES
-#define MANY_BYTES 524288 /* of more, tokens would take much more memory than the bytes */
+#define MANY_BYTES 524288 /* of more, a level is read by a cursor in any case */
 #endif
+#define FEW_BYTES (MANY_BYTES / 128) /* and of so many at most by its tokens, with all that is inside */
 #define ENTRIES 32
 
 /* A level whose elements are read. */
@@ -453,9 +480,17 @@ struct cursors {
     struct cursor *at;
     size_t count, room;
     struct breath breath;
+    struct options inside; /* for what is read by its tokens */
 };
 
-/* Goes into the document, the array or the scope that lies there: 1; 0 where there is none. */
+/* Reads the next elements of a level: 0, or -1 with an error set. */
+static int read_entries(const struct maker *maker, struct cursors *cursors, struct cursor *cursor) {
+    cursor->done = 0;
+    cursor->status = bsonraw_iter_next_many(&cursor->iter, maker->bytes, maker->len, cursor->entries, ENTRIES, &cursor->count);
+    return breathe(&cursors->breath, ENTRIES * sizeof *cursor->entries);
+}
+
+/* Goes into the document, the array or the scope that lies there, and reads its first elements: 1; 0 where there is none. */
 static int go_in(const struct maker *maker, struct cursors *cursors, uint32_t at, uint32_t len) {
     struct cursor *cursor;
     if (cursors->count == cursors->room) {
@@ -467,29 +502,30 @@ static int go_in(const struct maker *maker, struct cursors *cursors, uint32_t at
         cursors->room = room;
     }
     cursor = &cursors->at[cursors->count++];
-    cursor->done = cursor->count = 0;
-    cursor->status = bsonraw_iter_init_at(&cursor->iter, maker->bytes, maker->len, at, len);
-    return cursor->status == BSONRAW_OK;
+    return bsonraw_iter_init_at(&cursor->iter, maker->bytes, maker->len, at, len) == BSONRAW_OK && read_entries(maker, cursors, cursor) == 0;
 }
 
-/* Reads the next elements of a level: 0, or -1 with an error set. */
-static int read_entries(const struct maker *maker, struct cursors *cursors, struct cursor *cursor) {
-    cursor->done = 0;
-    cursor->status = bsonraw_iter_next_many(&cursor->iter, maker->bytes, maker->len, cursor->entries, ENTRIES, &cursor->count);
-    return breathe(&cursors->breath, ENTRIES * sizeof *cursor->entries);
+/* Whether the level that was gone into is better read by its tokens: small ones, each of which would take a call, are among the
+ * first that are in it. */
+static int has_small_ones(const struct cursors *cursors, uint32_t len) {
+    const struct cursor *cursor = &cursors->at[cursors->count - 1];
+    uint64_t number;
+    for (number = 0; len <= MANY_BYTES && number < cursor->count; number++)
+        if (has_levels(cursor->entries[number].tag) && cursor->entries[number].payload_len <= FEW_BYTES) return 1;
+    return 0;
 }
 
-/* Whether the library has to be asked if a payload means a value: one that it takes in any case needs no question. */
+/* Whether the library has to be asked if a payload means a value: one that it takes in any case needs no question, nor does a
+ * string, which isn't read where it isn't UTF-8. */
 INLINE int may_mean_none(const struct maker *maker, const struct bsonraw_entry *entry) {
     const uint8_t *at = maker->bytes + entry->payload_at;
     switch (entry->tag) {
-    case BSONRAW_TAG_STRING:
     case BSONRAW_TAG_JAVASCRIPT:
-    case BSONRAW_TAG_SYMBOL: return !is_ascii(at + 4, entry->payload_len - 4);
-    case BSONRAW_TAG_BINARY: return at[4] == 2;
-    case BSONRAW_TAG_BOOLEAN: return *at > 1;
+    case BSONRAW_TAG_SYMBOL:
     case BSONRAW_TAG_DB_POINTER:
     case BSONRAW_TAG_JAVASCRIPT_WITH_SCOPE: return 1;
+    case BSONRAW_TAG_BINARY: return at[4] == 2;
+    case BSONRAW_TAG_BOOLEAN: return *at > 1;
     default: return 0;
     }
 }
@@ -507,38 +543,119 @@ NOT_INLINE int has_value(const struct maker *maker, const struct cursor *cursor,
     return bsonraw_iter_value(&here, maker->bytes, maker->len, value) == BSONRAW_OK;
 }
 
+/* Has no error set where it is one of the bytes: the tokens of all levels say which, and where. */
+NOT_INLINE void clear_fault(PyObject *fault) {
+    if (PyErr_ExceptionMatches(fault)) PyErr_Clear();
+}
+
+/* NULL, with no error set where a string isn't UTF-8. */
+INLINE PyObject *entry_leaf(const struct maker *maker, const struct bsonraw_entry *entry) {
+    PyObject *leaf = leaf_in(maker, entry->tag, entry->payload_at, entry->payload_len);
+    if (leaf == NULL && entry->tag == BSONRAW_TAG_STRING) clear_fault(PyExc_UnicodeDecodeError);
+    return leaf;
+}
+
+/* Takes a document or an array by its tokens: 1; 0 where something is wrong. */
+static int take_by_tokens(const struct maker *maker, const struct levels *levels, struct cursors *cursors, const struct bsonraw_token *of) {
+    struct bytes part = bytes_part(maker->bytes + of->payload_at, of->payload_len);
+    struct maker inner = {part.at, part.len, maker->options, maker->is_plain};
+    struct tokens tokens;
+    PyObject *value;
+    cursors->inside.max_depth = maker->options->max_depth - levels->count;
+    if (tokens_read(&tokens, &part, &cursors->inside, 0) < 0) {
+        clear_fault(classes.error);
+        return 0;
+    }
+    value = nested_of(&inner, of, tokens.at, tokens.at + tokens.count);
+    tokens_free(&tokens);
+    return value != NULL && put(maker, &levels->at[levels->count - 1], of, value) == 0;
+}
+
+/* Takes what has a level, or goes into it: 1; 0 where something is wrong. */
+static int take_nested(const struct maker *maker, struct levels *levels, struct cursors *cursors, const struct bsonraw_token *of) {
+    const int is_scope = of->tag == BSONRAW_TAG_JAVASCRIPT_WITH_SCOPE;
+    const uint32_t head = is_scope ? 8 + (uint32_t)le_i32(maker->bytes + of->payload_at + 4) : 0, len = of->payload_len - head;
+    if (levels->count >= maker->options->max_depth) return 0;
+    if (!is_scope && len <= FEW_BYTES) return take_by_tokens(maker, levels, cursors, of);
+    if (!go_in(maker, cursors, of->payload_at + head, len)) return 0;
+    if (is_scope || !has_small_ones(cursors, len)) return begin(maker, levels, of, NULL) == 0;
+    cursors->count--;
+    return take_by_tokens(maker, levels, cursors, of);
+}
+
 /* Takes an element, or goes into it: 1; 0 where it has no value, or something else is wrong. */
 INLINE int take_entry(const struct maker *maker, struct levels *levels, struct cursors *cursors, const struct bsonraw_entry *entry) {
     const struct bsonraw_token of = {entry->tag, 0, entry->key_at, entry->key_len, entry->payload_at, entry->payload_len, 0};
-    uint32_t at = entry->payload_at, len = entry->payload_len;
+    struct bsonraw_value value;
     PyObject *leaf;
-    if (may_mean_none(maker, entry)) {
-        struct bsonraw_value value;
-        if (!has_value(maker, &cursors->at[cursors->count - 1], entry, &value)) return 0;
-        if (entry->tag == BSONRAW_TAG_JAVASCRIPT_WITH_SCOPE) {
-            at = value.more_at;
-            len = value.more_len;
-        }
-    }
-    if (has_levels(entry->tag)) {
-        if (levels->count >= maker->options->max_depth) return 0;
-        return begin(maker, levels, &of, NULL) == 0 && go_in(maker, cursors, at, len);
-    }
-    leaf = leaf_in(maker, entry->tag, at, len);
+    if (may_mean_none(maker, entry) && !has_value(maker, &cursors->at[cursors->count - 1], entry, &value)) return 0;
+    if (has_levels(entry->tag)) return take_nested(maker, levels, cursors, &of);
+    leaf = entry_leaf(maker, entry);
     return leaf != NULL && put(maker, &levels->at[levels->count - 1], &of, leaf) == 0;
 }
 
-/* Appends the values of what was read to a list: all, or those in front of the first one that needs a second look. */
+/* ---- lists ---- */
+
+#define RUN 4096
+
+/* The payload of an element in front that is of this kind, which has so many bytes, and whose key is a number: it needs no judge.
+ * NULL where it isn't, or doesn't end up to here, where a 0 is. */
+INLINE const uint8_t *plain_payload(const uint8_t *at, const uint8_t *end, uint8_t tag, size_t size) {
+    if (*at != tag) return NULL;
+    do at++;
+    while ((uint8_t)(*at - '0') < 10);
+    return *at == 0 && at < end && (size_t)(end - at - 1) >= size ? at + 1 : NULL;
+}
+
+static int append(PyObject *list, PyObject *value) {
+    int status = value == NULL ? -1 : PyList_Append(list, value);
+    Py_XDECREF(value);
+    return status;
+}
+
+/* Appends the values of such elements as long as they come, at most so many: 0, or -1 with an error set. The cursor goes on behind
+ * them. */
+INLINE int take_run_of(const struct maker *maker, PyObject *list, struct bsonraw_iter *iter, uint8_t tag, uint32_t size) {
+    const uint8_t *bytes = maker->bytes, *at = bytes + iter->next, *end = bytes + iter->document_at + iter->document_len - 1, *payload;
+    size_t left;
+    for (left = RUN; left > 0 && (payload = plain_payload(at, end, tag, size)) != NULL; left--) {
+        if (append(list, leaf_in(maker, tag, (uint32_t)(payload - bytes), size)) < 0) return -1;
+        at = payload + size;
+    }
+    iter->next = (uint32_t)(at - bytes);
+    return 0;
+}
+
+NOT_INLINE int take_run(const struct maker *maker, PyObject *list, struct bsonraw_iter *iter) {
+    switch (maker->bytes[iter->next]) {
+    case BSONRAW_TAG_NULL: return take_run_of(maker, list, iter, BSONRAW_TAG_NULL, 0);
+    case BSONRAW_TAG_INT32: return take_run_of(maker, list, iter, BSONRAW_TAG_INT32, 4);
+    case BSONRAW_TAG_INT64: return take_run_of(maker, list, iter, BSONRAW_TAG_INT64, 8);
+    case BSONRAW_TAG_DOUBLE: return take_run_of(maker, list, iter, BSONRAW_TAG_DOUBLE, 8);
+    case BSONRAW_TAG_DATETIME: return take_run_of(maker, list, iter, BSONRAW_TAG_DATETIME, 8);
+    default: return 0;
+    }
+}
+
+/* Appends the values of what was read to a list: all, or those in front of the first one that needs a second look; 0 where one has
+ * none. */
 static int take_leaves(const struct maker *maker, PyObject *list, struct cursor *cursor) {
     const struct bsonraw_entry *entry = &cursor->entries[cursor->done], *end = &cursor->entries[cursor->count];
-    for (; entry < end && !has_levels(entry->tag) && !may_mean_none(maker, entry); entry++) {
-        PyObject *value = leaf_in(maker, entry->tag, entry->payload_at, entry->payload_len);
-        int status = value == NULL ? -1 : PyList_Append(list, value);
-        Py_XDECREF(value);
-        if (status < 0) return -1;
-    }
+    for (; entry < end && !has_levels(entry->tag) && !may_mean_none(maker, entry); entry++)
+        if (append(list, entry_leaf(maker, entry)) < 0) return 0;
     cursor->done = (uint64_t)(entry - cursor->entries);
-    return 0;
+    return 1;
+}
+
+/* ---- all levels by cursors ---- */
+
+/* Reads on in a level whose entries are taken: 0, or -1 with an error set. */
+static int read_on(const struct maker *maker, const struct level *level, struct cursors *cursors, struct cursor *cursor) {
+    if (level->kind == LIST) {
+        uint32_t before = cursor->iter.next;
+        if (take_run(maker, level->object, &cursor->iter) < 0 || breathe(&cursors->breath, cursor->iter.next - before) < 0) return -1;
+    }
+    return read_entries(maker, cursors, cursor);
 }
 
 static PyObject *fill_by_cursors(const struct maker *maker, struct levels *levels, struct cursors *cursors) {
@@ -547,8 +664,8 @@ static PyObject *fill_by_cursors(const struct maker *maker, struct levels *level
         struct cursor *cursor = &cursors->at[cursors->count - 1];
         const struct level *level = &levels->at[levels->count - 1];
         int status;
-        if (cursor->done == cursor->count && cursor->status == BSONRAW_OK && read_entries(maker, cursors, cursor) < 0) return NULL;
-        if (level->kind == LIST && take_leaves(maker, level->object, cursor) < 0) return NULL;
+        if (cursor->done == cursor->count && cursor->status == BSONRAW_OK && read_on(maker, level, cursors, cursor) < 0) return NULL;
+        if (level->kind == LIST && !take_leaves(maker, level->object, cursor)) return NULL;
         if (cursor->done < cursor->count) {
             if (!take_entry(maker, levels, cursors, &cursor->entries[cursor->done++])) return NULL;
             continue;
@@ -561,14 +678,15 @@ static PyObject *fill_by_cursors(const struct maker *maker, struct levels *level
     }
 }
 
-/* The value of all bytes; NULL, with no error set where they have a fault or are more than allowed. */
+/* The value of all bytes; NULL, with no error set where they are for tokens, have a fault or are more than allowed. */
 static PyObject *by_cursors(const struct maker *maker, const struct bsonraw_token *of) {
     struct levels levels;
-    struct cursors cursors = {NULL, 0, 0, {0, 0}};
+    struct cursors cursors = {NULL, 0, 0, {0, 0}, *maker->options};
     PyObject *value = NULL;
     if (maker->len > maker->options->max_bytes || maker->options->max_depth == 0) return NULL;
     levels_open(&levels);
-    if (begin(maker, &levels, of, NULL) == 0 && go_in(maker, &cursors, 0, (uint32_t)maker->len))
+    if (go_in(maker, &cursors, 0, (uint32_t)maker->len) && !has_small_ones(&cursors, (uint32_t)maker->len) &&
+        begin(maker, &levels, of, NULL) == 0)
         value = fill_by_cursors(maker, &levels, &cursors);
     levels_close(&levels);
     PyMem_Free(cursors.at);
@@ -582,7 +700,7 @@ INLINE PyObject *decoded_as(const struct bytes *bytes, const struct options *opt
     struct tokens tokens;
     struct maker maker = {bytes->at, bytes->len, options, options->is_plain};
     PyObject *object;
-    if (bytes->len > MANY_BYTES) {
+    if (bytes->len > FEW_BYTES) {
         object = by_cursors(&maker, &of);
         if (object != NULL || PyErr_Occurred()) return object;
     }

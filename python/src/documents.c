@@ -180,6 +180,7 @@ static enum cut next_sound(Documents *all, size_t *at, size_t *len) {
         if (status == BSONRAW_OK) return cut;
         if (status == BSONRAW_NO_MEMORY) PyErr_NoMemory();
         if (status == BSONRAW_NO_MEMORY || documents_resync(all, *at, MAX_DEPTH) < 0) return CUT_FAILED;
+        if (breathe(&all->breath, all->next - *at) < 0) return CUT_FAILED;
     }
 }
 

@@ -45,23 +45,23 @@ static int without_document(Documents *all, const struct options *options, enum 
     return cut == CUT_TOO_LARGE ? documents_pass(all, len) : 0;
 }
 
+/* Has a document taken: 0; 0, too, where it is passed over; -1 with an error set. */
+static int take_one(Documents *all, size_t at, size_t len, const struct options *options, document_taker *take, void *to) {
+    struct bytes document;
+    if (to_read(all, at, len, &document) < 0) return -1;
+    if (take(to, &document, options, all->before + at) == 0) return 0;
+    if (passed_over(options) < 0) return -1;
+    return all->resyncs ? documents_resync(all, at, options->max_depth) : 0;
+}
+
 int take_each(Documents *all, const struct options *options, document_taker *take, void *to) {
-    size_t at, len;
-    struct breath breath = {0, 0};
     for (;;) {
+        size_t at, len;
         enum cut cut = next_cut(all, &at, &len);
-        struct bytes document;
-        if (cut != CUT_ONE) {
-            int status = without_document(all, options, cut, at, len);
-            if (status <= 0) return status;
-            continue;
-        }
-        if (to_read(all, at, len, &document) < 0) return -1;
-        if (take(to, &document, options, all->before + at) < 0) {
-            if (passed_over(options) < 0) return -1;
-            if (all->resyncs && documents_resync(all, at, options->max_depth) < 0) return -1;
-        }
-        if (breathe(&breath, len) < 0) return -1;
+        int status = cut == CUT_ONE ? 1 : without_document(all, options, cut, at, len);
+        if (status <= 0) return status;
+        if (cut == CUT_ONE && take_one(all, at, len, options, take, to) < 0) return -1;
+        if (breathe(&all->breath, len) < 0) return -1;
     }
 }
 

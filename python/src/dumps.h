@@ -19,6 +19,7 @@ typedef struct {
     size_t room_len;
     uint8_t *copy; /* of a document that others may write */
     size_t copy_len;
+    struct breath breath;
     struct bsonraw_resync resync; /* what it cost so far to find where documents go on behind damage */
     int resyncs, is_at_end, is_busy;
 } Documents;

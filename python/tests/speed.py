@@ -2,8 +2,8 @@
 
     speed.py [--seconds N] [--frame] [DOCUMENT..]
 
-Each figure is the least of many short samples, so that other work of the machine counts little. --seconds is for a row, 0.5
-where it is left out. --frame makes a DataFrame of 1,000,000 documents, too, which wants pandas. A DOCUMENT is a file with one.
+Each figure is the least of many short samples of the processor's time, so that other work of the machine counts little. --seconds is
+for a row, 0.5 where it is left out. --frame makes a DataFrame of 1,000,000 documents, too, which wants pandas. A DOCUMENT is a file with one.
 """
 
 import argparse
@@ -25,6 +25,8 @@ from bsonraw import Binary, Decimal128, Int64, ObjectId, Regex, Timestamp
 
 try:
     import bson
+    from bson.binary import UuidRepresentation
+    from bson.codec_options import CodecOptions
 except ImportError as error:
     sys.exit(f"speed: MongoDB's package isn't there ({error}); Debian's is python3-bson-ext")
 if not bson.has_c():
@@ -84,20 +86,21 @@ def documents() -> Dict[str, bytes]:
 
 
 def turns(calls: List[Tuple[Callable[[Any], Any], Any]], seconds: float) -> List[float]:
-    """The least time of each call with its argument, in microseconds; they take turns."""
+    """The least time of the processor of each call with its argument, in microseconds; they take turns."""
+    clock = time.process_time
     counts, least = [], [9e9] * len(calls)
     for call, data in calls:
         call(data)
-        start = time.perf_counter()
+        start = clock()
         call(data)
-        counts.append(max(1, int(SAMPLE / (time.perf_counter() - start))))
-    end = time.perf_counter() + seconds
-    while time.perf_counter() < end:
+        counts.append(max(1, int(SAMPLE / (clock() - start))))
+    end = clock() + seconds
+    while clock() < end:
         for number, ((call, data), count) in enumerate(zip(calls, counts)):
-            start = time.perf_counter()
+            start = clock()
             for _ in range(count):
                 call(data)
-            least[number] = min(least[number], (time.perf_counter() - start) / count * 1e6)
+            least[number] = min(least[number], (clock() - start) / count * 1e6)
     return least
 
 
@@ -170,6 +173,30 @@ def rows(seconds: float) -> None:
     row("decode, 8,000,000 nulls in an array", *turns([(bsonraw.decode, data), (bson.decode, data)], max(seconds, 5)))
     ordered = OrderedDict((f"field_{number}", [number, number * 0.5, f"text {number}"][number % 3]) for number in range(20))
     row("encode, an OrderedDict of twenty fields", *turns([(bsonraw.encode, ordered), (bson.encode, ordered)], seconds))
+    row("encode, an OrderedDict; a dict by MongoDB's", *turns([(bsonraw.encode, ordered), (bson.encode, dict(ordered))], seconds))
+    others(rng, seconds)
+
+
+def others(rng: random.Random, seconds: float) -> None:
+    """Values of other classes."""
+    standard = CodecOptions(uuid_representation=UuidRepresentation.STANDARD)
+    data = bsonraw.encode({"a": [Binary(rng.randbytes(16), 4) for _ in range(1000)]})
+
+    def ours(data: bytes) -> Any:
+        return bsonraw.decode(data, uuid=True)
+
+    def theirs(data: bytes) -> Any:
+        return bson.decode(data, standard)
+
+    if ours(data) != theirs(data):
+        sys.exit("speed: UUIDs are others")
+    row("decode, 1,000 UUIDs", *turns([(ours, data), (theirs, data)], seconds))
+
+    def in_their_classes(data: bytes) -> Any:
+        return bsonraw.decode(data, types="bson")
+
+    data = bsonraw.encode(typical(random.Random(1)))
+    row('decode, typical, types="bson"', *turns([(in_their_classes, data), (bson.decode, data)], seconds))
 
 
 def texts(data: bytes, seconds: float) -> None:

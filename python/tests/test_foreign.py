@@ -43,7 +43,9 @@ class Numpy(unittest.TestCase):
         self.assertRaises(TypeError, bsonraw.encode, {"k": numpy.array([1])})
         self.assertRaises(TypeError, bsonraw.encode, {"k": numpy.datetime64("2000-01-01", "ns")})
         data = bsonraw.encode({"a": [5, 6]})
-        self.assertEqual(bsonraw.find(data, ["a", numpy.int32(1)]).value, 6)
+        path = ("a", numpy.int32(1))
+        self.assertEqual((bsonraw.find(data, path).value, bsonraw.columns(data, paths=[path])), (6, {path: [6]}))
+        self.assertEqual(bsonraw.decode(bsonraw.edit(data, {path: 7})), {"a": [5, 7]})
         self.assertEqual(bsonraw.decode(numpy.frombuffer(data, "u1")), {"a": [5, 6]})
 
     def test_numbers_of_a_class_like_theirs(self) -> None:
@@ -66,6 +68,8 @@ class Numpy(unittest.TestCase):
         data = bsonraw.encode({"True": [1], "1": 2})
         for path in ([True], ["True", False], (False,)):
             self.assertRaises(TypeError, bsonraw.find, data, path)
+            self.assertRaises(TypeError, bsonraw.columns, data, paths=[path])
+            self.assertRaises(TypeError, bsonraw.edit, data, {tuple(path): 1})
         self.assertEqual(bsonraw.find(data, [1]).value, 2)
 
 

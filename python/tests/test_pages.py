@@ -21,7 +21,8 @@ from made import framed
 
 FOLDER = Path(__file__).resolve().parents[2]
 PAGE = FOLDER / "docs" / "PYTHON.md"
-BOUND = 9 << 20  # what the page says of the service
+BOUND = 96 << 20  # what the page says of the service
+DEAREST = (b"\5\0\0\0\0\0\x80", b"\3\0" + framed(b"\x0a\0"), b"\x0d\0\1\0\0\0\0", b"\x0b\0\0\0", b"\x0a\0")  # elements whose values take most memory
 SAID = """\
 ['Ada', 'Max']
 maths
@@ -67,11 +68,13 @@ class Pages(unittest.TestCase):
         self.assertLessEqual(len([line for line in block.split("\n\n\n")[1].splitlines() if line]), 10)
         names: dict = {"bsonraw": bsonraw}
         exec(compile(block, str(PAGE), "exec"), names)
-        largest = framed(b"\4a\0" + framed(b"\x0a\0" * ((1 << 19) - 7)))
+        most = (1 << 20) - 13
+        largest = [framed(b"\4a\0" + framed(one * (most // len(one)))) for one in DEAREST]
+        numbered = framed(b"".join(b"\5%x\0\0\0\0\0\x80" % number for number in range(most // 12)))
         good = bsonraw.encode({"a": 1, "b": 2})
         rows = [
             (good * 3, [{"keys": 2}] * 3, ""), (good + b"\xff\xff\xff\x7f" + bytes(50 << 20), [{"keys": 2}], "more bytes than allowed"),
-            (largest + good[:-3], [{"keys": 1}], "length incorrect"), (bsonraw.encode({"a": 1})[:-1] + b"\1", [], "not null-terminated"),
+            (b"".join(largest) + good[:-3], [{"keys": 1}] * 5, "length incorrect"), (numbered, [{"keys": most // 12}], ""), (bsonraw.encode({"a": 1})[:-1] + b"\1", [], "not null-terminated"),
         ]
         tracemalloc.start()
         for sent, wanted, why in rows:

@@ -116,6 +116,8 @@ class Resync(unittest.TestCase):
         values = bsonraw.decode_all(data, errors=told.append, resync=True)
         self.assertEqual(values, [{"n": 0}, {"n": 1}, {"n": 2}, {"n": 3}])
         self.assertEqual([error.offset for error in told], [len(first), len(first) + 4 + 2 * len(second) + 4])
+        self.assertEqual(bsonraw.columns(data, errors="skip", resync=True), {"n": [0, 1, 2, 3]})
+        self.assertEqual(bsonraw.columns(io.BytesIO(data), paths=["n"], typed=True, errors="skip", resync=True)["n"].to_list(), [0, 1, 2, 3])
 
     def test_without_it_nothing_changes(self) -> None:
         first = bsonraw.encode({"n": 1})

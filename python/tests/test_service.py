@@ -247,7 +247,16 @@ class Held(unittest.TestCase):
         before = signal.signal(signal.SIGALRM, hear)
         self.addCleanup(signal.signal, signal.SIGALRM, before)
         large = framed(b"\4a\0" + framed(b"\x0a\0" * 5_000_000))
-        for read, data in ((bsonraw.decode_all, dump), (bsonraw.columns, dump), (bsonraw.decode, large)):
+        damaged = framed(b"\x08a\0\2") * 200_000
+
+        def pass_over(data: bytes) -> Any:
+            return bsonraw.decode_all(data, errors="skip", max_bytes=10)
+
+        def search(data: bytes) -> Any:
+            return list(bsonraw.documents(data, resync=True))
+
+        rows = ((bsonraw.decode_all, dump), (bsonraw.columns, dump), (bsonraw.decode, large), (pass_over, dump), (search, damaged))
+        for read, data in rows:
             begun = time.process_time()
             signal.setitimer(signal.ITIMER_REAL, 0.02)
             self.assertRaises(Heard, read, data)
