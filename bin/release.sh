@@ -165,8 +165,9 @@ link_libraries() {
     for tool in llvm-objcopy llvm-nm; do ln -s "$toolchain/bin/clang" "$1/$tool" || return 1; done
     compile_rest "$1" && "link_$machine" "$1" &&
         "$toolchain/bin/llvm-ar" rcsD "$1/libbsonraw.a" "$1/bsonraw.o" "$1/daily.o" "$1/exported.o" &&
-        "$toolchain/bin/ld.lld" -shared -s -soname "$soname" --build-id=sha1 --gc-sections -z defs -z relro -z now -z noexecstack \
-            -o "$1/libbsonraw.so.$version" "$1/bsonraw.o" "$1/daily.o" "$1/exported.o" "$1/libc.so.6"
+        echo "BSONRAW_${version%%.*} { global: bsonraw_*; local: *; };" >"$1/exports" &&
+        "$toolchain/bin/ld.lld" -shared -s -soname "$soname" --version-script "$1/exports" --build-id=sha1 --gc-sections -z defs -z relro \
+            -z now -z noexecstack -o "$1/libbsonraw.so.$version" "$1/bsonraw.o" "$1/daily.o" "$1/exported.o" "$1/libc.so.6"
 }
 
 # pkg_config PREFIX LIB: the pkg-config file of a prefix, whose libraries are in its folder LIB

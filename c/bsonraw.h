@@ -313,9 +313,19 @@ BSONRAW_USE int32_t bsonraw_iter_next_many(struct bsonraw_iter *iter, const uint
  *
  * Each call that the library exports has another one here, which goes by its name: it puts some memory in the place of NULL with a
  * length of 0, and returns BSONRAW_NULL for NULL with a length, or in place of a struct or a number, which is then as it was. With
- * BSONRAW_UNCHECKED defined, before the header is included, a name is that of the exported call.
+ * BSONRAW_UNCHECKED defined, before the header is included, a name is that of the exported call. With BSONRAW_DEBUG they read the
+ * first and the last byte of what they are given, so that a wrong length ends in the caller.
  */
+#ifdef BSONRAW_DEBUG
+#define BSONRAW_LACKS(pointer, len) ((pointer) ? bsonraw_touch(pointer, (len) * sizeof *(pointer)) : (len) != 0)
+
+BSONRAW_LOCAL int bsonraw_touch(const void *memory, size_t len) {
+    const volatile char *bytes = BSONRAW_CHARS(memory);
+    return len > 0 && (bytes[0] & bytes[len - 1] & 0);
+}
+#else
 #define BSONRAW_LACKS(pointer, len) (!(pointer) && (len) != 0)
+#endif
 
 BSONRAW_LOCAL const uint8_t *bsonraw_some_bytes(const uint8_t *bytes) {
     static const uint8_t none[1] = {0};
@@ -641,8 +651,9 @@ BSONRAW_USE BSONRAW_INLINE int32_t bsonraw_iter_regex(const struct bsonraw_iter 
 /* ---- building --------------------------------------------------------------------------------------------------------
  *
  * A builder puts a document into memory of the caller, which is its room. It keeps no pointer: each call is given the room
- * anew, and whatever the builder holds, nothing outside of the room is written. struct bsonraw_buffer has a room of its own, which
- * grows. A call returns builder->status, and bsonraw_append_begin level->status, which the builder takes over:
+ * anew, and whatever the builder holds, nothing outside of the room is written. Up to the end of the document only its builder and its
+ * levels may write to the room: a level that an earlier document left open is of no other use. struct bsonraw_buffer has a room of its
+ * own, which grows. A call returns builder->status, and bsonraw_append_begin level->status, which the builder takes over:
  *   - BSONRAW_OK: what was appended so far is in the room.
  *   - BSONRAW_SMALL_BUFFER: the room is too small. Later calls go on to count, so that in the end len says how many bytes
  *     are wanted. They do so with no room at all, too.
@@ -737,9 +748,9 @@ BSONRAW_LOCAL int32_t bsonraw_refuse(struct bsonraw_builder *builder, int32_t st
     return builder->status;
 }
 
-/* Whether this level is the one that is open in the builder. */
+/* Whether this level is the one that is open in the builder; one that was ended begins where it ends. */
 BSONRAW_LOCAL int bsonraw_is_open(const struct bsonraw_builder *builder, const struct bsonraw_builder *level) {
-    return builder->status < 0 && BSONRAW_UINT32(builder->status) == 0u - level->begins;
+    return builder->status < 0 && BSONRAW_UINT32(builder->status) == 0u - level->begins && level->begins < level->len;
 }
 
 /* Takes back a level: see bsonraw_append_begin. */
@@ -1064,9 +1075,9 @@ BSONRAW_USE BSONRAW_INLINE int32_t bsonraw_checked_reader_resync(struct bsonraw_
  * first, depth first in byte order, of BSONRAW_FAULT (bsonraw_check: BSONRAW_BREACH) and of BSONRAW_TOO_DEEP, where a level is
  * deeper than max_depth, and nothing inside it is read; then what each call says. Where memory is refused, BSONRAW_NO_MEMORY
  * comes in place of any but the first two, and with a max_depth of 0 in place of none. bsonraw_flatten, bsonraw_first_fault and
- * bsonraw_check take memory for the levels that are open and what is kept of them; bsonraw_canonical and bsonraw_json take it for all of
- * the form or the text, too, also where the room is smaller. Indented, each line of a text has two bytes for each level that it is in, so
- * that max_depth bounds the text of a document as well.
+ * bsonraw_check take memory for the levels that are open and what is kept of them. bsonraw_canonical and bsonraw_json take it for all of
+ * the form or the text, too, also where the room is smaller: bsonraw_json_write counts and prints in little memory. Indented, each line of
+ * a text has two bytes for each level that it is in, so that max_depth bounds the text of a document as well.
  *
  * Each call fills a report, and what isn't said here is 0. Of a fault, a breach, and a level that is too deep, it says the
  * place: error.offset is where the element begins that is at fault or holds the level, or of a stop where the next element
@@ -1410,10 +1421,53 @@ int32_t bsonraw_oid_to_hex(const uint8_t *id, char *hex);
 BSONRAW_USE int32_t bsonraw_oid_from_hex(const char *hex, uint8_t *id);
 uint32_t bsonraw_oid_time(const uint8_t *id);
 
+/* The sixteen bytes of a Decimal128 as text, as 1.50, 1.5E+20, NaN or -Infinity, and a 0; and the bytes that such a text writes:
+ * BSONRAW_FAULT where it is none, or where no Decimal128 is exactly that number, and the bytes are as they were. Milliseconds from 1970
+ * on as ISO 8601 has them, as 2012-12-24T12:15:30.501Z, without a fraction where it is 0, and a 0: BSONRAW_FAULT before the year 0 and
+ * from 10000 on, and text is as it was; and from such a text, in UTC or with a zone as +01:00. The texts are those of Extended JSON, by
+ * the calls above, which take memory: BSONRAW_NO_MEMORY.
+ *
+ *     char text[BSONRAW_DATE_TIME_TEXT];
+ *     if (bsonraw_date_time_to_text(-2769984000000, text) == BSONRAW_OK) puts(text);
+ */
+#define BSONRAW_DECIMAL128_TEXT 43 /* bytes of the longest one, with its 0 */
+#define BSONRAW_DATE_TIME_TEXT 25
+
+BSONRAW_USE int32_t bsonraw_decimal128_to_text(const uint8_t *decimal, char *text);
+BSONRAW_USE int32_t bsonraw_decimal128_from_text(const char *text, uint8_t *decimal);
+BSONRAW_USE int32_t bsonraw_date_time_to_text(int64_t millis, char *text);
+BSONRAW_USE int32_t bsonraw_date_time_from_text(const char *text, int64_t *millis);
+
+/* ---- Extended JSON in pieces ---- */
+
+/* What bsonraw_json prints, without its 0, given to a function piece by piece, each of at most 65536 bytes; with NULL for the function it
+ * is only counted. The function returns BSONRAW_OK to go on; what else it returns ends the call, which returns it. With any other status
+ * than these, BSONRAW_OK and BSONRAW_NO_MEMORY the function wasn't called. It takes memory for the levels, for two pieces, and for the
+ * largest value that isn't a document or an array, with its text. */
+BSONRAW_USE int32_t bsonraw_json_write(const uint8_t *bytes, size_t len, size_t max_bytes, size_t max_depth, uint32_t canonical,
+                                       uint32_t indented, int32_t (*write)(void *context, const char *text, size_t text_len),
+                                       void *context, struct bsonraw_report *report, uint64_t *path, size_t path_room);
+
+/* The value of the element that a cursor is at as bsonraw_json prints it; its document or array is the first of max_depth levels.
+ * BSONRAW_OK, and the text is at the front of text, with a 0 behind it; report->count is its bytes without that 0. BSONRAW_SMALL_BUFFER
+ * where room is less than 1 + count, and what is in text isn't said; BSONRAW_FAULT, BSONRAW_TOO_DEEP and BSONRAW_NO_MEMORY as
+ * bsonraw_json, and BSONRAW_BAD_OFFSET where it is at no element. The report has no path.
+ *
+ *     struct bsonraw_iter it;
+ *     struct bsonraw_report r;
+ *     char text[256];
+ *     if (bsonraw_get(bytes, len, "authors", &it) == BSONRAW_OK &&
+ *         bsonraw_iter_json(&it, bytes, len, 100, 0, 0, text, sizeof text, &r) == BSONRAW_OK)
+ *         puts(text);
+ */
+BSONRAW_USE int32_t bsonraw_iter_json(const struct bsonraw_iter *iter, const uint8_t *bytes, size_t len, size_t max_depth,
+                                      uint32_t canonical, uint32_t indented, char *text, size_t room, struct bsonraw_report *report);
+
 /* ---- a builder that grows ---- */
 
 /* Memory for a document that is built, which grows. Each call returns buffer->status, which sticks as that of a builder:
- * BSONRAW_NO_MEMORY, too, and BSONRAW_MISUSE where the document has been ended. A key is NULL in an array. Where bsonraw_buffer_end
+ * BSONRAW_NO_MEMORY, too, and BSONRAW_MISUSE where the document has been ended; level.count is then the number of the element that was
+ * refused, from 0, in its level. A key is NULL in an array. Where bsonraw_buffer_end
  * ends the document and returns BSONRAW_OK, the document is buffer->len bytes at buffer->bytes, up to the next call.
  *
  *     struct bsonraw_buffer b;

@@ -56,6 +56,18 @@ public:
         int32_t status = bsonraw_iter_value(&it_, bytes_, len_, &value);
         return {status, value};
     }
+    // The value as Extended JSON.
+    result<std::string> json(bool canonical = false, bool indented = false, size_t max_depth = 500) const {
+        std::string text(64, '\0');
+        bsonraw_report report = {};
+        int32_t status = BSONRAW_SMALL_BUFFER;
+        for (int turn = 0; turn < 2 && status == BSONRAW_SMALL_BUFFER; turn++) {
+            text.resize(text.size() + static_cast<size_t>(report.count));
+            status = bsonraw_iter_json(&it_, bytes_, len_, max_depth, canonical, indented, text.data(), text.size(), &report);
+        }
+        text.resize(status == BSONRAW_OK ? static_cast<size_t>(report.count) : 0);
+        return {status, std::move(text)};
+    }
     // The value where it is of the kind of T: int32_t, int64_t (an int32 too), double (an int32 or an int64 too), bool, std::string_view,
     // oid, or view of a document or an array.
     template <class T>

@@ -584,6 +584,384 @@ uint32_t bsonraw_oid_time(const uint8_t *id) {
     return id == NULL ? 0 : (uint32_t)id[0] << 24 | (uint32_t)id[1] << 16 | (uint32_t)id[2] << 8 | id[3];
 }
 
+/* ---- values as text ---- */
+
+#define DECIMAL_FRONT "{\"\":{\"$numberDecimal\":\"" /* of a document with this value alone, under the empty key */
+#define DATE_FRONT "{\"\":{\"$date\":\""
+#define BACK "\"}}"
+#define CYCLE 12622780800000 /* milliseconds of 400 years, in which the calendar repeats */
+
+static void put_length(uint8_t *to, size_t len) {
+    const struct bsonraw_number number = bsonraw_number_of(len);
+    memcpy(to, number.bytes, 4);
+}
+
+/* The text of a value that the front and the back are around, in JSON of a document with this value alone; with another front it has none. */
+static int32_t text_of(uint32_t tag, const uint8_t *payload, uint32_t len, const char *front, char *text) {
+    size_t front_len = strlen(front), text_len;
+    struct bsonraw_report report;
+    uint8_t document[32], json[128];
+    uint64_t none[1];
+    int32_t status;
+    memset(document, 0, sizeof document);
+    put_length(document, len + 7);
+    document[4] = (uint8_t)tag;
+    memcpy(document + 6, payload, len);
+    status = bsonraw_json(document, len + 7, SIZE_MAX, SIZE_MAX, 0, 0, json, sizeof json, &report, none, 0);
+    if (status != BSONRAW_OK) return status;
+    if (memcmp(json, front, front_len) != 0) return BSONRAW_FAULT;
+    text_len = (size_t)report.count - front_len - strlen(BACK);
+    memcpy(text, json + front_len, text_len);
+    text[text_len] = 0;
+    return BSONRAW_OK;
+}
+
+/* The payload of the value whose JSON is this text between the front and the back, of so many bytes. */
+static int32_t payload_of(const char *front, const char *text, uint8_t *payload, size_t len) {
+    size_t front_len = strlen(front), text_len = strlen(text), at;
+    struct bsonraw_json_report report;
+    uint8_t document[32], *json;
+    int32_t status;
+    for (at = 0; at < text_len; at++)
+        if (text[at] < ' ' || text[at] > '~' || text[at] == '"' || text[at] == '\\') return BSONRAW_FAULT;
+    json = malloc(front_len + text_len + sizeof BACK);
+    if (json == NULL) return BSONRAW_NO_MEMORY;
+    memcpy(json, front, front_len);
+    memcpy(json + front_len, text, text_len);
+    memcpy(json + front_len + text_len, BACK, sizeof BACK);
+    status = bsonraw_from_json(json, front_len + text_len + strlen(BACK), SIZE_MAX, SIZE_MAX, document, sizeof document, &report);
+    free(json);
+    if (status == BSONRAW_OK) memcpy(payload, document + 6, len);
+    return status;
+}
+
+int32_t bsonraw_decimal128_to_text(const uint8_t *decimal, char *text) {
+    if (decimal == NULL || text == NULL) return BSONRAW_NULL;
+    return text_of(BSONRAW_TAG_DECIMAL128, decimal, 16, DECIMAL_FRONT, text);
+}
+
+int32_t bsonraw_decimal128_from_text(const char *text, uint8_t *decimal) {
+    if (text == NULL || decimal == NULL) return BSONRAW_NULL;
+    return payload_of(DECIMAL_FRONT, text, decimal, 16);
+}
+
+/* Relaxed JSON has times from 1970 on as text: one before is printed as of a year that is so many times 400 later. */
+int32_t bsonraw_date_time_to_text(int64_t millis, char *text) {
+    char later[BSONRAW_DATE_TIME_TEXT];
+    struct bsonraw_number payload;
+    int32_t status, year = 0;
+    size_t at;
+    if (text == NULL) return BSONRAW_NULL;
+    for (; millis < 0 && year > -2000; year -= 400) millis += CYCLE;
+    payload = bsonraw_number_of((uint64_t)millis);
+    status = text_of(BSONRAW_TAG_DATETIME, payload.bytes, 8, DATE_FRONT, later);
+    if (status != BSONRAW_OK) return status;
+    year += (later[0] - '0') * 1000 + (later[1] - '0') * 100 + (later[2] - '0') * 10 + later[3] - '0';
+    if (year < 0) return BSONRAW_FAULT;
+    for (at = 4; at > 0; year /= 10) later[--at] = (char)('0' + year % 10);
+    memcpy(text, later, strlen(later) + 1);
+    return BSONRAW_OK;
+}
+
+int32_t bsonraw_date_time_from_text(const char *text, int64_t *millis) {
+    uint8_t payload[8];
+    int32_t status;
+    if (text == NULL || millis == NULL) return BSONRAW_NULL;
+    status = payload_of(DATE_FRONT, text, payload, 8);
+    if (status == BSONRAW_OK) *millis = (int64_t)number_at(payload);
+    return status;
+}
+
+/* ---- Extended JSON in pieces ---- */
+
+#define CHUNK 4096u  /* bytes of elements that are printed at once; an element that has more inside is gone into */
+#define PIECE 65536u /* bytes of a piece */
+
+/* A level that is printed, and how far: up to the bytes that wait, which the next call prints. */
+struct json_level {
+    struct bsonraw_iter it;
+    uint32_t tag; /* what has the level inside */
+    int is_first; /* nothing was printed of it */
+    uint32_t begins, ends;
+};
+
+/* Memory that grows. */
+struct memory {
+    uint8_t *bytes;
+    size_t room;
+};
+
+struct json {
+    const uint8_t *bytes;
+    size_t len;
+    uint32_t canonical, indented;
+    int32_t (*write)(void *context, const char *text, size_t len);
+    void *context;
+    struct memory piece, document, text, levels;
+    size_t piece_len, depth;
+    uint64_t count;
+    int32_t status;
+};
+
+static void *grown(struct json *j, struct memory *memory, size_t wanted) {
+    size_t room = wanted > 2 * memory->room ? wanted : 2 * memory->room;
+    uint8_t *bytes = memory->bytes;
+    if (wanted <= memory->room) return bytes;
+    bytes = realloc(memory->bytes, room);
+    if (bytes == NULL) {
+        j->status = BSONRAW_NO_MEMORY;
+        return NULL;
+    }
+    memory->bytes = bytes;
+    memory->room = room;
+    return bytes;
+}
+
+static struct json_level *top_of(const struct json *j) {
+    return (struct json_level *)(void *)j->levels.bytes + j->depth - 1;
+}
+
+static void write_piece(struct json *j) {
+    if (j->status == BSONRAW_OK && j->piece_len > 0) j->status = j->write(j->context, (const char *)j->piece.bytes, j->piece_len);
+    j->piece_len = 0;
+}
+
+static void emit(struct json *j, const void *text, size_t len) {
+    const uint8_t *from = text;
+    j->count += len;
+    if (j->write == NULL) return;
+    while (len > 0 && j->status == BSONRAW_OK && grown(j, &j->piece, PIECE) != NULL) {
+        size_t part = len < PIECE - j->piece_len ? len : PIECE - j->piece_len;
+        memcpy(j->piece.bytes + j->piece_len, from, part);
+        from += part, len -= part, j->piece_len += part;
+        if (j->piece_len == PIECE) write_piece(j);
+    }
+}
+
+static void emit_spaces(struct json *j, size_t count) {
+    static const char spaces[] = "                                                                ";
+    if (j->write == NULL) j->count += count;
+    for (; j->write != NULL && count > 0 && j->status == BSONRAW_OK; count -= count < 64 ? count : 64) emit(j, spaces, count < 64 ? count : 64);
+}
+
+/* A text whose lines have two spaces for each level that was put around it, and are to have two for each level that is. */
+static void emit_lines(struct json *j, const uint8_t *text, size_t len, size_t around) {
+    const uint8_t *end = text + len, *line;
+    while (j->indented && j->status == BSONRAW_OK && (line = memchr(text, '\n', (size_t)(end - text))) != NULL) {
+        emit(j, text, (size_t)(line + 1 - text));
+        emit_spaces(j, 2 * j->depth);
+        text = line + 1 + 2 * around;
+    }
+    emit(j, text, (size_t)(end - text));
+}
+
+/* Makes a document for so many bytes of elements of this level, in an array if it is one. Where they go. */
+static uint8_t *document_for(struct json *j, uint32_t tag, size_t len) {
+    size_t front = tag == BSONRAW_TAG_ARRAY ? 10 : 4, behind = tag == BSONRAW_TAG_ARRAY ? 2 : 1;
+    uint8_t *document = grown(j, &j->document, front + len + behind);
+    if (document == NULL) return NULL;
+    put_length(document, front + len + behind);
+    if (tag == BSONRAW_TAG_ARRAY) {
+        document[4] = BSONRAW_TAG_ARRAY, document[5] = 0;
+        put_length(document + 6, len + 5);
+    }
+    memset(document + front + len, 0, behind);
+    return document + front;
+}
+
+/* Prints the document that was made, and leaves the text in j->text; how many bytes it has. */
+static size_t print_made(struct json *j) {
+    size_t len = length_at(j->document.bytes);
+    struct bsonraw_report report;
+    uint64_t none[1];
+    int32_t status;
+    if (grown(j, &j->text, 2 * CHUNK) == NULL) return 0;
+    do status = bsonraw_json(j->document.bytes, len, SIZE_MAX, SIZE_MAX, j->canonical, j->indented, j->text.bytes, j->text.room, &report, none, 0);
+    while (status == BSONRAW_SMALL_BUFFER && grown(j, &j->text, (size_t)report.count + 1) != NULL);
+    if (j->status == BSONRAW_OK) j->status = status;
+    return j->status == BSONRAW_OK ? (size_t)report.count : 0;
+}
+
+/* Prints the elements of the document that was made, without what is around them and so many bytes at the end. */
+static void print_elements(struct json *j, uint32_t tag, int is_first, size_t cut) {
+    int is_array = tag == BSONRAW_TAG_ARRAY;
+    size_t front = is_array ? (j->indented ? 9 : 5) : 1, behind = is_array ? (j->indented ? 6 : 2) : (j->indented ? 2 : 1);
+    size_t len = print_made(j);
+    if (j->status != BSONRAW_OK) return;
+    if (!is_first) emit(j, ",", 1);
+    j->depth--; /* of the levels around the elements one is in their own text */
+    emit_lines(j, j->text.bytes + front, len - front - behind - cut, (size_t)is_array);
+    j->depth++;
+}
+
+/* Prints the elements that wait. */
+static void print_waiting(struct json *j) {
+    struct json_level *l = top_of(j);
+    uint8_t *to = l->begins < l->ends ? document_for(j, l->tag, l->ends - l->begins) : NULL;
+    if (to == NULL) return;
+    memcpy(to, j->bytes + l->begins, l->ends - l->begins);
+    print_elements(j, l->tag, l->is_first, 0);
+    l->is_first = 0;
+    l->begins = l->ends;
+}
+
+/* Goes into a document, an array or a scope, if it is one. */
+static void enter(struct json *j, const struct bsonraw_iter *it, uint32_t tag) {
+    struct json_level *l = grown(j, &j->levels, (j->depth + 1) * sizeof *l);
+    if (l == NULL) return;
+    l += j->depth++;
+    l->tag = tag;
+    l->is_first = 1;
+    l->it = *it;
+    l->begins = l->ends = it->next;
+    emit(j, tag == BSONRAW_TAG_ARRAY ? "[" : "{", 1);
+}
+
+/* Prints what is before the inside of an element that is gone into, as of an element without one: null, or the code of a scope. */
+static void open_level(struct json *j, const struct bsonraw_iter *it) {
+    int is_scope = it->tag == BSONRAW_TAG_JAVASCRIPT_WITH_SCOPE;
+    size_t code_len = is_scope ? 4 + length_at(j->bytes + it->payload_at + 4) : 0;
+    struct json_level *l = top_of(j);
+    struct bsonraw_iter inside;
+    uint8_t *to = document_for(j, l->tag, it->key_len + 2 + code_len);
+    if (to == NULL) return;
+    *to = is_scope ? BSONRAW_TAG_JAVASCRIPT : BSONRAW_TAG_NULL;
+    memcpy(to + 1, j->bytes + it->key_at, it->key_len + 1);
+    memcpy(to + 2 + it->key_len, j->bytes + it->payload_at + 4, code_len);
+    print_elements(j, l->tag, l->is_first, is_scope ? 1 : 4);
+    l->is_first = 0;
+    l->begins = l->ends = it->next;
+    if (is_scope) emit(j, ",\"$scope\":", 10);
+    if (j->status == BSONRAW_OK) j->status = go_into(it, j->bytes, j->len, &inside);
+    if (j->status == BSONRAW_OK) enter(j, &inside, it->tag);
+}
+
+static void close_level(struct json *j) {
+    struct json_level *l = top_of(j);
+    print_waiting(j);
+    j->depth--;
+    if (j->indented && !l->is_first) emit(j, "\n", 1), emit_spaces(j, 2 * j->depth);
+    emit(j, l->tag == BSONRAW_TAG_ARRAY ? "]" : l->tag == BSONRAW_TAG_DOCUMENT ? "}" : "}}", l->tag == BSONRAW_TAG_JAVASCRIPT_WITH_SCOPE ? 2 : 1);
+}
+
+/* Whether an element has so much inside that it isn't printed at once. */
+static int is_large(const struct bsonraw_iter *it) {
+    return it->payload_len > CHUNK &&
+           (it->tag == BSONRAW_TAG_DOCUMENT || it->tag == BSONRAW_TAG_ARRAY || it->tag == BSONRAW_TAG_JAVASCRIPT_WITH_SCOPE);
+}
+
+/* Prints a document without a fault, or an array. */
+static void print_levels(struct json *j, uint32_t tag) {
+    struct bsonraw_iter it;
+    j->status = bsonraw_iter_init(&it, j->bytes, j->len);
+    if (j->status == BSONRAW_OK) enter(j, &it, tag);
+    while (j->status == BSONRAW_OK && j->depth > 0) {
+        struct json_level *l = top_of(j);
+        int32_t status = bsonraw_iter_next(&l->it, j->bytes, j->len);
+        if (status == BSONRAW_NONE) {
+            close_level(j);
+        } else if (status != BSONRAW_OK) {
+            j->status = status;
+        } else if (is_large(&l->it)) {
+            print_waiting(j);
+            it = l->it;
+            open_level(j, &it);
+        } else {
+            if (l->it.next - l->begins > CHUNK) print_waiting(j);
+            l->ends = l->it.next;
+        }
+    }
+    write_piece(j);
+}
+
+static void free_json(struct json *j) {
+    free(j->piece.bytes);
+    free(j->document.bytes);
+    free(j->text.bytes);
+    free(j->levels.bytes);
+}
+
+int32_t bsonraw_json_write(const uint8_t *bytes, size_t len, size_t max_bytes, size_t max_depth, uint32_t canonical, uint32_t indented,
+                           int32_t (*write)(void *context, const char *text, size_t len), void *context,
+                           struct bsonraw_report *report, uint64_t *path, size_t path_room) {
+    struct json j;
+    int32_t status;
+    if (BSONRAW_LACKS(bytes, len) || !report || BSONRAW_LACKS(path, path_room)) return BSONRAW_NULL;
+    status = bsonraw_first_fault(bsonraw_some_bytes(bytes), len, max_bytes, max_depth, report, bsonraw_some_path(path), path_room);
+    if (status != BSONRAW_OK) return status;
+    memset(&j, 0, sizeof j);
+    j.bytes = bytes, j.len = len, j.canonical = canonical, j.indented = indented, j.write = write, j.context = context;
+    print_levels(&j, BSONRAW_TAG_DOCUMENT);
+    free_json(&j);
+    if (j.status == BSONRAW_OK) report->count = j.count;
+    return j.status;
+}
+
+/* Whether what an element has inside has a fault, or is too deep; offsets are from the first of the bytes. */
+static int32_t look_inside(const struct bsonraw_iter *iter, const uint8_t *bytes, size_t len, size_t max_depth, struct bsonraw_report *report) {
+    struct bsonraw_value value;
+    struct bsonraw_iter inside;
+    uint64_t none[1];
+    int32_t status = bsonraw_iter_value(iter, bytes, len, &value);
+    memset(report, 0, sizeof *report);
+    report->key_at = len;
+    report->error = value.error;
+    if (status != BSONRAW_OK) return status;
+    if (iter->payload_at > len || iter->payload_len > len - iter->payload_at) return BSONRAW_BAD_OFFSET;
+    if (go_into(iter, bytes, len, &inside) == BSONRAW_OTHER_KIND) return BSONRAW_OK;
+    status = bsonraw_first_fault(bytes + inside.document_at, inside.document_len, SIZE_MAX, max_depth, report, none, 0);
+    if (status == BSONRAW_FAULT || status == BSONRAW_TOO_DEEP) report->error.offset += inside.document_at;
+    report->key_at = report->has_key ? report->key_at + inside.document_at : len;
+    report->path_len = 0;
+    return status;
+}
+
+/* As much as there is room for. */
+static int32_t put_in_room(void *context, const char *text, size_t len) {
+    struct out *out = context;
+    size_t left = out->room > out->len ? out->room - out->len : 0;
+    if (left > 0) memcpy(out->text + out->len, text, len < left ? len : left);
+    out->len += len;
+    return BSONRAW_OK;
+}
+
+/* Prints a value that isn't a document or an array: the one that an array has, without its bracket and new line. */
+static void print_single(struct json *j, const struct bsonraw_iter *it) {
+    uint8_t *to = document_for(j, BSONRAW_TAG_ARRAY, (size_t)it->payload_len + 2);
+    size_t len;
+    if (to == NULL) return;
+    to[0] = (uint8_t)it->tag, to[1] = 0;
+    memcpy(to + 2, j->bytes + it->payload_at, it->payload_len);
+    len = print_made(j);
+    if (j->status != BSONRAW_OK) return;
+    emit_lines(j, j->text.bytes + (j->indented ? 14 : 5), len - (j->indented ? 20 : 7), 2);
+    write_piece(j);
+}
+
+int32_t bsonraw_iter_json(const struct bsonraw_iter *iter, const uint8_t *bytes, size_t len, size_t max_depth, uint32_t canonical,
+                          uint32_t indented, char *text, size_t room, struct bsonraw_report *report) {
+    struct out out = {text, room, 0};
+    struct json j;
+    int32_t status;
+    if (iter == NULL || BSONRAW_LACKS(bytes, len) || BSONRAW_LACKS(text, room) || report == NULL) return BSONRAW_NULL;
+    status = look_inside(iter, bsonraw_some_bytes(bytes), len, max_depth, report);
+    if (status != BSONRAW_OK) return status;
+    memset(&j, 0, sizeof j);
+    j.bytes = bytes, j.len = len, j.canonical = canonical, j.indented = indented, j.write = put_in_room, j.context = &out;
+    if (iter->tag == BSONRAW_TAG_DOCUMENT || iter->tag == BSONRAW_TAG_ARRAY) {
+        j.bytes += iter->payload_at, j.len = iter->payload_len;
+        print_levels(&j, iter->tag);
+    } else {
+        print_single(&j, iter);
+    }
+    free_json(&j);
+    if (j.status != BSONRAW_OK) return j.status;
+    report->count = j.count;
+    if (j.count >= room) return BSONRAW_SMALL_BUFFER;
+    text[j.count] = 0;
+    return BSONRAW_OK;
+}
+
 /* ---- a builder that grows ---- */
 
 static void *resize_by_malloc(void *context, void *memory, size_t size) {

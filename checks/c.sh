@@ -62,7 +62,7 @@ declared() {
 
 # exports FILE DYNAMIC: the names that a library defines for others; DYNAMIC is -D for the shared one
 exports() {
-    "$work/llvm-nm" ${2:+"$2"} --defined-only --extern-only -j "$prefix/lib/$1" | grep -v ':$' | grep . | sort
+    "$work/llvm-nm" ${2:+"$2"} --defined-only --extern-only -j "$prefix/lib/$1" | grep -v ':$' | grep . | sed 's/@@.*//' | sort
 }
 
 look_at_libraries() {
@@ -73,6 +73,8 @@ look_at_libraries() {
     exports libbsonraw.so -D | diff "$work/declared" - >&2 || fails "the shared library has other names than the header"
     needed=$("$work/llvm-readelf" -d "$prefix/lib/libbsonraw.so" | sed -n 's/.*(NEEDED).*\[\(.*\)\]/\1/p')
     [ "$needed" = libc.so.6 ] || fails "the shared library needs $needed"
+    "$work/llvm-readelf" --notes "$prefix/lib/libbsonraw.so" | grep -q 'Build ID: [0-9a-f]\{40\}' || fails "the shared library has no build-id"
+    "$work/llvm-nm" -D --defined-only -j "$prefix/lib/libbsonraw.so" | grep -v '@@BSONRAW_2$' >&2 && fails "a name of the shared library has no version"
 }
 
 # header_compiles FILE: by each standard and compiler
@@ -168,7 +170,7 @@ page() {
 
 look_at_examples() {
     examples c/bsonraw.h >"$work/examples.c"
-    [ "$(grep -c '^void example_.*{$' "$work/examples.c")" = 27 ] || fails "the header doesn't have an example of each group of calls"
+    [ "$(grep -c '^void example_.*{$' "$work/examples.c")" = 29 ] || fails "the header doesn't have an example of each group of calls"
     # shellcheck disable=SC2086
     compile -std=c99 $warnings -O1 -fPIE -c -o "$work/examples.o" "$work/examples.c" &&
         run_examples || fails "an example of the header doesn't do what it says"
@@ -264,7 +266,7 @@ build() {
         # shellcheck disable=SC2086
         compile -std=c99 $warnings -O1 -fPIE -c -o "$work/$name.o" "c/tests/$name.c" || return 1
     done
-    for name in agree buffers build daily from_json large memory numbers reasons resync slips texts threads; do
+    for name in agree buffers build daily from_json large memory numbers pieces reasons resync slips texts threads; do
         link libbsonraw.a "$work/$name" "$work/$name.o" "$work/documents.o" || return 1
         link libbsonraw.so "$work/$name.shared" "$work/$name.o" "$work/documents.o" || return 1
     done
@@ -326,7 +328,7 @@ look_at_words() {
 }
 
 run_tests() {
-    for name in agree buffers build daily from_json large memory numbers reasons resync slips texts threads; do
+    for name in agree buffers build daily from_json large memory numbers pieces reasons resync slips texts threads; do
         for program in "$name" "$name.shared"; do
             "$work/$program" <"$work/documents" >"$work/said" || fails "$program ends with status $?"
             cat "$work/said"
@@ -514,6 +516,15 @@ try_examples() {
             $compiler -std=$standard "-I$prefix/include" -Wall -Wextra -Wconversion -Werror -O2 -c -o "$work/example.o" "$work/examples.c" ||
                 fails "the examples of the header don't compile by $compiler as $standard"
         done
+        for name in fields json json_text merge orders path unique validate; do
+            $compiler -std=c99 "-I$prefix/include" -Wall -Wextra -Wconversion -Werror -O2 -c -o "$work/example.o" "examples/c/$name.c" ||
+                fails "examples/c/$name.c doesn't compile by $compiler"
+        done
+        echo 'int get(const char *k, struct bsonraw_iter *it) { return bsonraw_iter_find(it, NULL, 0, BSONRAW_KEY(k)); }' >"$work/key.c"
+        $compiler "-I$prefix/include" -include bsonraw.h -fsyntax-only "$work/key.c" 2>/dev/null && fails "BSONRAW_KEY takes a pointer by $compiler in C"
+        sed 's/BSONRAW_KEY/BSONRAW_STR/' "$work/key.c" >"$work/str.c"
+        $compiler "-I$prefix/include" -include bsonraw.h -DBSONRAW_DEBUG -Wall -Wextra -Wconversion -Werror -fsyntax-only "$work/str.c" ||
+            fails "BSONRAW_STR takes no pointer by $compiler in C"
     done
     for compiler in g++ clang++; do
         command -v $compiler >/dev/null || { skip "$compiler"; continue; }
@@ -551,10 +562,19 @@ run_sanitized() {
         skip "AddressSanitizer"
         return
     fi
-    for name in daily slips build; do
+    for name in daily pieces slips build; do
         cc -std=gnu99 -g -O1 -fsanitize=address,undefined -fno-sanitize-recover=all -Ic -o "$work/sanitized" "c/tests/$name.c" c/tests/documents.c \
             c/daily.c "$prefix/lib/libbsonraw.a" && "$work/sanitized" <"$work/documents" >"$work/said" 2>&1 || fails "$name with sanitizers: $(head -5 "$work/said")"
     done
+    look_at_wrong_length
+}
+
+# With BSONRAW_DEBUG a length that is too long by a byte ends in the function that passed it.
+look_at_wrong_length() {
+    echo 'int main(void) { struct bsonraw_iter it; return bsonraw_iter_init(&it, calloc(5, 1), 6); }' >"$work/longer.c"
+    cc -g -include stdlib.h -include bsonraw.h "-I$prefix/include" -DBSONRAW_DEBUG -fsanitize=address -o "$work/sanitized" "$work/longer.c" "$prefix/lib/libbsonraw.a" &&
+        "$work/sanitized" >"$work/said" 2>&1 && fails "a wrong length isn't seen"
+    grep -q 'heap-buffer-overflow' "$work/said" && grep -q ' in main ' "$work/said" || fails "a wrong length doesn't end in its caller: $(head -9 "$work/said")"
 }
 
 look_at_manual() {
@@ -586,7 +606,7 @@ look_at_libraries
 look_at_header
 look_at_examples
 run_programs || fails "the programs of examples/c don't compile"
-if build documents agree buffers build daily from_json large memory numbers reasons resync slips texts threads print; then
+if build documents agree buffers build daily from_json large memory numbers pieces reasons resync slips texts threads print; then
     look_at_output
     notices_mistakes || fails "the tests don't compile with a mistake"
     notices_edits || fails "the tests don't compile with an edit"

@@ -36,6 +36,8 @@ int main() {
     expect((*doc.find("n")).value()->text_len == 20, "the value of n");
     expect(*doc.json() == "{\"a\":7,\"l\":[true,\"x\"],\"n\":{\"i\":{\"$oid\":\"6162636465666768696a6b6c\"}}}", "a text");
     expect(doc.json(true, true)->size() > 80, "a long text");
+    expect(*(*doc.find("l")).json() == "[true,\"x\"]" && *(*doc.find("l.0")).json() == "true", "the text of l");
+    expect(*(*doc.find("n")).json(true, true) == "{\n  \"i\": {\"$oid\":\"6162636465666768696a6b6c\"}\n}", "the text of n");
     expect(*doc.canonical() == std::vector<uint8_t>(sample, sample + sizeof sample), "a form");
     int stops = 0, steps = 0;
     for (auto e : bsonraw::view(reinterpret_cast<const uint8_t *>("\11\0\0\0\12x\0\5"), 9))

@@ -1,5 +1,5 @@
 /* Each request for memory that a call makes, refused in turn, alone and with all that follow it: what comes with enough memory,
- * or BSONRAW_NO_MEMORY, and then the rooms are as they were. No call keeps a block, and all but seven ask for none. */
+ * or BSONRAW_NO_MEMORY, and then the rooms are as they were. No call keeps a block, and all but nine ask for none. */
 #include "documents.h"
 
 #include <stdio.h>
@@ -9,30 +9,41 @@
 void *__libc_malloc(size_t size);
 void *__libc_realloc(void *old, size_t size);
 void __libc_free(void *block);
+size_t malloc_usable_size(void *block);
 
 static size_t asked, refused; /* since the call began; the number of the request that is refused, or 0 */
 static int from_there_on;     /* whether all that follow it are refused, too */
 static size_t made, given_back;
+static size_t in_use, peak; /* bytes */
 
 static int is_refused(void) {
     asked++;
     return asked == refused || (from_there_on && refused != 0 && asked > refused);
 }
 
+static void use(size_t more, size_t less) {
+    in_use += more - less;
+    if (in_use > peak) peak = in_use;
+}
+
 void *malloc(size_t size) {
     void *block = is_refused() ? NULL : __libc_malloc(size);
     made += block != NULL;
+    use(malloc_usable_size(block), 0);
     return block;
 }
 
 void *realloc(void *old, size_t size) {
+    size_t before = malloc_usable_size(old);
     void *block = is_refused() ? NULL : __libc_realloc(old, size);
     made += old == NULL && block != NULL;
+    if (block != NULL) use(malloc_usable_size(block), before);
     return block;
 }
 
 void free(void *block) {
     given_back += block != NULL;
+    use(0, malloc_usable_size(block));
     __libc_free(block);
 }
 
@@ -171,6 +182,59 @@ static int32_t call_from_json(const struct document *d, uint8_t *form, size_t fo
     return status;
 }
 
+/* The text in pieces, as far as it fits into the room. */
+struct room {
+    uint8_t *text;
+    size_t len, room;
+};
+
+static int32_t put(void *context, const char *text, size_t len) {
+    struct room *r = context;
+    size_t left = r->room - r->len;
+    memcpy(r->text + r->len, text, len < left ? len : left);
+    r->len += len < left ? len : left;
+    return BSONRAW_OK;
+}
+
+static int32_t call_pieces(const struct document *d, uint8_t *form, size_t form_len, struct bsonraw_report *report, uint64_t *path,
+                           size_t path_room) {
+    struct room r = {form, 0, form_len};
+    return bsonraw_json_write(d->bytes, d->len, 1 << 24, LEVELS, 0, 1, put, &r, report, path, path_room);
+}
+
+/* The last element's value as text. */
+static int32_t call_value(const struct document *d, uint8_t *form, size_t form_len, struct bsonraw_report *report, uint64_t *path,
+                          size_t path_room) {
+    struct bsonraw_iter it, last = {0, 0, 0, 0, 0, 0, 0, 0, {0, 0, 0, 0, 0}};
+    int32_t status = bsonraw_iter_init(&it, d->bytes, d->len);
+    (void)path, (void)path_room;
+    while (status == BSONRAW_OK && (status = bsonraw_iter_next(&it, d->bytes, d->len)) == BSONRAW_OK) last = it;
+    return bsonraw_iter_json(&last, d->bytes, d->len, LEVELS, 0, 1, (char *)form, form_len, report);
+}
+
+/* Many nulls, 500 levels deep, whose indented text has 500 times their bytes: it is counted, and given in pieces, in little memory. */
+static void look_at_peak(void) {
+    const size_t count = 400000, len = 5 + 499 * 7 + count * 2, outer = 499 * 6 + 500 * 2 + 2 * 499 * 500; /* text of the levels */
+    struct document d = {"deep nulls", needed(len), len};
+    struct bsonraw_report r;
+    struct room none = {d.bytes, 0, 0};
+    uint64_t path[1];
+    size_t at, level, before;
+    memset(d.bytes, 0, len);
+    for (level = 0, at = 0; level < 500; level++, at += 6) {
+        size_t size = len - level * 7;
+        d.bytes[at] = (uint8_t)size, d.bytes[at + 1] = (uint8_t)(size >> 8), d.bytes[at + 2] = (uint8_t)(size >> 16);
+        if (level < 499) d.bytes[at + 4] = BSONRAW_TAG_DOCUMENT;
+    }
+    for (at -= 2; at < len - 500; at += 2) d.bytes[at] = BSONRAW_TAG_NULL;
+    before = peak = in_use;
+    expect(bsonraw_json_write(d.bytes, len, SIZE_MAX, 500, 0, 1, NULL, NULL, &r, path, 1) == BSONRAW_OK, d.name, "it isn't counted");
+    expect(r.count == outer + count * (1 + 1000 + 8 + 1), d.name, "another count");
+    expect(bsonraw_json_write(d.bytes, len, SIZE_MAX, 500, 0, 1, put, &none, &r, path, 1) == BSONRAW_OK, d.name, "it isn't given");
+    expect(peak - before < 1 << 20, d.name, "it takes more than a megabyte");
+    free(d.bytes);
+}
+
 /* All but the calls over whole documents make no request. */
 static void asks_for_nothing(const struct document *d) {
     struct bsonraw_reader reader = {0, 0, 0, {0, 0, 0, 0, 0}};
@@ -184,7 +248,7 @@ static void asks_for_nothing(const struct document *d) {
 
 int main(void) {
     static struct documents all;
-    size_t forms = 0, texts = 0, faults = 0, verdicts = 0, rows = 0, reads = 0, searches = 0;
+    size_t forms = 0, texts = 0, faults = 0, verdicts = 0, rows = 0, reads = 0, searches = 0, pieces = 0, values = 0;
     read_documents(&all);
     for (size_t at = 0; at < all.count; at++) {
         const struct document *d = &all.items[at];
@@ -195,9 +259,12 @@ int main(void) {
         rows += refuse_both_ways(d, call_flatten);
         reads += refuse_both_ways(d, call_from_json);
         searches += refuse_both_ways(d, call_resync);
+        pieces += refuse_both_ways(d, call_pieces);
+        values += refuse_both_ways(d, call_value);
         asks_for_nothing(d);
     }
-    expect(forms > 0 && texts > 0 && faults > 0 && verdicts > 0 && rows > 0 && reads > 0 && searches > 0,
+    expect(forms > 0 && texts > 0 && faults > 0 && verdicts > 0 && rows > 0 && reads > 0 && searches > 0 && pieces > 0 && values > 0,
            "memory", "a call never ran out of it");
+    look_at_peak();
     return result("memory");
 }

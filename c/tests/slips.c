@@ -95,6 +95,99 @@ static void look_at_slips(void) {
     sticks(bsonraw_append_end(&b, room, len, &outer), BSONRAW_FAULT, "the document");
 }
 
+/* A level that was taken back, where another one begins later at the offset at which it ended. */
+static void look_at_old_levels(void) {
+    struct bsonraw_builder old;
+    int by_end;
+    for (by_end = 0; by_end < 2; by_end++) {
+        bsonraw_builder_begin(&b, room, len);
+        bsonraw_append_document_begin(&b, room, len, BSONRAW_KEY("a"), &old);
+        is(bsonraw_append_cancel(&b, &old), BSONRAW_OK, "a level is taken back");
+        bsonraw_append_null(&b, room, len, BSONRAW_KEY("b"));
+        bsonraw_append_null(&b, room, len, BSONRAW_KEY(""));
+        bsonraw_append_document_begin(&b, room, len, BSONRAW_KEY(""), &inner);
+        expect(inner.begins == old.begins, "an old level", "it isn't at that offset");
+        sticks(by_end ? bsonraw_append_end(&b, room, len, &old) : bsonraw_append_cancel(&b, &old), BSONRAW_MISUSE, "an old level");
+    }
+}
+
+/* What has to be in the room: the elements of each builder. */
+struct wanted {
+    uint8_t bytes[512];
+    size_t len;
+};
+
+static void want(struct wanted *w, const void *bytes, size_t bytes_len) {
+    memcpy(w->bytes + w->len, bytes, bytes_len);
+    w->len += bytes_len;
+}
+
+/* A document of these elements as an element with this key, or alone. */
+static void want_document(struct wanted *w, const char *key, const struct wanted *elements) {
+    const uint8_t head[4] = {(uint8_t)(elements->len + 5), (uint8_t)((elements->len + 5) >> 8), 0, 0};
+    if (key != NULL) want(w, "\3", 1), want(w, key, strlen(key) + 1);
+    want(w, head, 4);
+    want(w, elements->bytes, elements->len);
+    want(w, "", 1);
+}
+
+static uint32_t random_number(void) {
+    static uint64_t state = 7;
+    state = state * 6364136223846793005u + 1442695040888963407u;
+    return (uint32_t)(state >> 33);
+}
+
+/* Rows of calls in any order, over a builder and three levels: where the end returns BSONRAW_OK, what each call that returned it
+ * appended is in the room, and nothing else. */
+static void look_at_any_rows(void) {
+    static const char *const keys[] = {"", "a", "bc"};
+    const char *key_of[4] = {"", "", "", ""};
+    int row, step, good = 0;
+    for (row = 0; row < 300000; row++) {
+        struct bsonraw_builder all[4] = {{0, 0, 0, 0, 0}, {0, 0, 0, 0, 0}, {0, 0, 0, 0, 0}, {0, 0, 0, 0, 0}};
+        struct wanted wanted[4], whole;
+        memset(room, 255, len);
+        for (step = 0; step < 4; step++) wanted[step].len = 0;
+        whole.len = 0;
+        bsonraw_builder_begin(&all[0], room, len);
+        for (step = 0; step < 14; step++) {
+            uint32_t call = random_number() % 8, to = random_number() % 4, of = 1 + random_number() % 3;
+            const char *key = keys[random_number() % 3];
+            if (call < 2) {
+                if (bsonraw_append_null(&all[to], room, len, BSONRAW_STR(key)) == BSONRAW_OK) want(&wanted[to], "\12", 1), want(&wanted[to], key, strlen(key) + 1);
+            } else if (to == of) {
+                continue;
+            } else if (call < 5) {
+                if (bsonraw_append_document_begin(&all[to], room, len, BSONRAW_STR(key), &all[of]) == BSONRAW_OK) wanted[of].len = 0, key_of[of] = key;
+            } else if (call < 7) {
+                if (bsonraw_append_end(&all[to], room, len, &all[of]) == BSONRAW_OK) want_document(&wanted[to], key_of[of], &wanted[of]);
+            } else {
+                (void)bsonraw_append_cancel(&all[to], &all[of]);
+            }
+        }
+        if (bsonraw_builder_end(&all[0], room, len) != BSONRAW_OK) continue;
+        want_document(&whole, NULL, &wanted[0]);
+        expect(all[0].len == whole.len && memcmp(room, whole.bytes, whole.len) == 0, "any row of calls", "another document");
+        good++;
+    }
+    expect(good > 1000, "any row of calls", "no document is built");
+}
+
+/* Which append to a buffer was refused. */
+static void look_at_refused(void) {
+    struct bsonraw_buffer buffer;
+    bsonraw_buffer_init(&buffer);
+    bsonraw_buffer_int32(&buffer, "a", 1);
+    bsonraw_buffer_begin_array(&buffer, "b");
+    bsonraw_buffer_int32(&buffer, NULL, 1);
+    bsonraw_buffer_int32(&buffer, NULL, 2);
+    bsonraw_buffer_utf8(&buffer, NULL, "\xff");
+    bsonraw_buffer_int32(&buffer, NULL, 3);
+    is(bsonraw_buffer_end(&buffer), BSONRAW_FAULT, "a buffer");
+    expect(buffer.level.count == 2 && buffer.depth == 1, "a buffer", "another element was refused");
+    bsonraw_buffer_free(&buffer);
+}
+
 #define EMPTY (const uint8_t *)"\5\0\0\0", 5
 
 static void look_at_null(void) {
@@ -103,6 +196,8 @@ static void look_at_null(void) {
     struct bsonraw_value v;
     struct bsonraw_report r;
     struct bsonraw_reader reader = {0, 0, 0, {0, 0, 0, 0, 0}};
+    struct bsonraw_resync resync = {0, 0, 0, 0};
+    struct bsonraw_json_report told;
     struct bsonraw_token tokens[1];
     uint64_t count, path[1];
     int32_t number;
@@ -136,6 +231,13 @@ static void look_at_null(void) {
     expect(text == NULL && text_len == 0, "a text", "one that isn't there");
     is(bsonraw_reader_read(&reader, NULL, 0), BSONRAW_NONE, "a dump of no bytes");
     is(bsonraw_reader_read(&reader, NULL, 1), BSONRAW_NULL, "a dump");
+    is(bsonraw_reader_resync(&reader, NULL, 1, 9, 9, &resync), BSONRAW_NULL, "a dump");
+    is(bsonraw_reader_resync(&reader, EMPTY, 9, 9, NULL), BSONRAW_NULL, "a search");
+    is(bsonraw_from_json(NULL, 0, 9, 9, NULL, 0, &told), BSONRAW_FAULT, "no text");
+    is(bsonraw_from_json(NULL, 1, 9, 9, NULL, 0, &told), BSONRAW_NULL, "a text");
+    is(bsonraw_from_json(BSONRAW_KEY("{}"), 9, 9, NULL, 0, &told), BSONRAW_SMALL_BUFFER, "the length of a document");
+    is(bsonraw_from_json(BSONRAW_KEY("{}"), 9, 9, NULL, 5, &told), BSONRAW_NULL, "a document");
+    is(bsonraw_from_json(BSONRAW_KEY("{}"), 9, 9, NULL, 0, NULL), BSONRAW_NULL, "a report");
     is(bsonraw_flatten(EMPTY, 9, 9, NULL, 0, &r, NULL, 0), BSONRAW_OK, "no tokens and no path");
     is(bsonraw_flatten(EMPTY, 9, 9, NULL, 1, &r, NULL, 0), BSONRAW_NULL, "tokens");
     is(bsonraw_flatten(EMPTY, 9, 9, tokens, 1, &r, NULL, 1), BSONRAW_NULL, "a path");
@@ -158,6 +260,10 @@ static void look_at_null_in_builders(void) {
     expect(b.len == 12, "no room", "another length is wanted");
     is(bsonraw_builder_begin(&b, NULL, 1), BSONRAW_NULL, "a room");
     bsonraw_builder_begin(&b, room, len);
+    is(bsonraw_builder_end(&b, NULL, 1), BSONRAW_NULL, "a room");
+    begin();
+    is(bsonraw_append_end(&outer, NULL, 1, &inner), BSONRAW_NULL, "a room");
+    bsonraw_builder_begin(&b, room, len);
     sticks(bsonraw_append_null(&b, room, len, NULL, 1), BSONRAW_NULL, "a key");
     bsonraw_builder_begin(&b, room, len);
     sticks(bsonraw_append_utf8(&b, room, len, BSONRAW_KEY("a"), NULL, 1), BSONRAW_NULL, "a text");
@@ -178,9 +284,33 @@ static void look_at_null_in_builders(void) {
     is(bsonraw_append_null(NULL, room, len, BSONRAW_KEY("a")), BSONRAW_NULL, "a builder");
 }
 
+/* The loop of the header over a reader that is used once more, for a shorter buffer; after each kind of damage, it ends. */
+static void look_at_readers(void) {
+    static const uint8_t dump[] = "\5\0\0\0\0\6\0\0\0\0\1\5\0\0\0\0\5\0\0";
+    struct bsonraw_reader reader = {0, 0, 0, {0, 0, 0, 0, 0}};
+    size_t short_len;
+    int32_t status = BSONRAW_OK;
+    int documents = 0, steps = 0;
+    while ((status == BSONRAW_OK || status == BSONRAW_NO_DOCUMENT) && steps++ < 99) {
+        status = bsonraw_reader_read(&reader, dump, 19);
+        documents += status == BSONRAW_OK;
+    }
+    is(status, BSONRAW_NONE, "a dump with damage");
+    expect(documents == 2 && steps == 5 && reader.next == 19, "a dump with damage", "other documents");
+    for (short_len = 0; short_len < 19; short_len++) {
+        for (status = BSONRAW_OK, steps = 0; (status == BSONRAW_OK || status == BSONRAW_NO_DOCUMENT) && steps < 99; steps++)
+            status = bsonraw_reader_read(&reader, dump, short_len);
+        is(status, BSONRAW_BAD_OFFSET, "a reader for a shorter buffer");
+    }
+}
+
 int main(void) {
     look_at_levels();
+    look_at_readers();
     look_at_slips();
+    look_at_old_levels();
+    look_at_any_rows();
+    look_at_refused();
     look_at_null();
     look_at_null_in_builders();
     return result("slips");

@@ -10,6 +10,7 @@ extern "C" {
 void *memcpy(void *to, const void *from, size_t len);
 void *memmove(void *to, const void *from, size_t len);
 void *memset(void *to, int byte, size_t len);
+void *memchr(const void *in, int byte, size_t len);
 int memcmp(const void *one, const void *other, size_t len);
 int strcmp(const char *one, const char *other);
 size_t strlen(const char *text);
