@@ -18,6 +18,24 @@ is_stale() {
     [ -n "$(find "$root/crates.txt" "$root"/crates/*/* -name out -prune -o -newer "$root/crates/$1/out/built" -print)" ]
 }
 
+# made_by CRATE: the file that its build leaves: a program, or the library for C
+made_by() {
+    case $1 in
+    bsonraw_c) echo "$root/crates/$1/out/lib$1.a" ;;
+    *) echo "$root/crates/$1/out/$1" ;;
+    esac
+}
+
+# note_built CRATE BEGUN: notes the sum of what a build made, in a file that is as old as the start of the build, which BEGUN is
+note_built() {
+    sha256sum <"$(made_by "$1")" >"$root/crates/$1/out/built" && touch -r "$2" "$root/crates/$1/out/built"
+}
+
+# is_as_built CRATE: whether what is there is what its build made
+is_as_built() {
+    [ "$(sha256sum 2>/dev/null <"$(made_by "$1")")" = "$(cat "$root/crates/$1/out/built" 2>/dev/null)" ]
+}
+
 # The crates below these crates, and themselves, in the order of crates.txt: the lowest first.
 crates() {
     awk -F: -v tops="$*" '
@@ -144,7 +162,7 @@ make_proved() (
         say "the build of $* failed: see above; bin/bsonraw --unproved, and bin/bsonraw-dump --unproved, run without a proof"
         exit 1
     fi
-    for crate in "$@"; do touch -r "$work/begun" "$root/crates/$crate/out/built"; done
+    for crate in "$@"; do note_built "$crate" "$work/begun" || exit 1; done
 )
 
 most_input=67108864 # bytes of standard input that a run without a proof may have

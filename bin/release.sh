@@ -71,13 +71,14 @@ put_programs() {
     done
 }
 
-# build_again FILE WHAT FLAG..: builds the library once more, with these flags, over the proofs that its own build kept, unless that was done
+# build_again FILE WHAT FLAG..: builds the library once more, with these flags, over the proofs that its own build kept, unless that was done;
+# the sums of both are noted
 build_again() (
     made=$1
     what=$2
     from=${made%/*}/from
     shift 2
-    [ ! -e "$made" ] || [ "$(cat "$from" 2>/dev/null)" != "$(sha256sum <"$archive")" ] || exit 0
+    [ ! -e "$made" ] || ! cat "$archive" "$made" | sha256sum | cmp -s - "$from" || exit 0
     say "the C library is built once more, for $what"
     room=$(mktemp -d) || exit 1
     trap 'rm -rf "$room"' EXIT
@@ -85,7 +86,7 @@ build_again() (
     kept=$root/crates/bsonraw_c/out/incremental
     [ ! -d "$kept" ] || cp -a "$kept" "$room/kept" || exit 1
     mkdir -p "${made%/*}" && build_over bsonraw_c "$root/crates/bsonraw_c" src/lib.rt --crate-type staticlib "$@" \
-        --incremental "$room/kept" -o "$made" >"$room/said" 2>&1 && sha256sum <"$archive" >"$from" || { cat "$room/said" >&2; exit 1; }
+        --incremental "$room/kept" -o "$made" >"$room/said" 2>&1 && cat "$archive" "$made" | sha256sum >"$from" || { cat "$room/said" >&2; exit 1; }
 )
 
 # Builds the library a second time, for each x86-64, or for ARM. The first build is for processors from x86-64-v2 on, and so is the

@@ -1,16 +1,17 @@
 #!/bin/sh
 # What bin/package makes, tried as a new user would: each of the archive, the Debian packages and the wheels is installed
 # where nothing of this repository is, and prints the worked rows of examples/; a C program is compiled by pkg-config, and
-# Python has the module. release/verify finds a changed byte in each file, and each part that is compiled in has its licence there.
+# Python has the module. release/verify finds a changed byte in each file, and each part that is compiled in has its licence there, whole.
 # lintian has nothing against the packages. One commit gives the same bytes twice, and where bin/test hasn't passed for the very
-# commit and what is built, nothing is made. On a processor that they aren't built for the programs say so in a line.
+# commit and what is built, nothing is made; what is made all the same says of itself nowhere that it is proved. On a processor that they
+# aren't built for the programs say so in a line.
 #
 #   checks/packages.sh --short   for the gate: each in a folder of its own, with the machine's compiler and Python
 #   checks/packages.sh           in fresh Debians, too, from 11 to 13, and for ARM in those from 12 on: for a release, as root, with the net
 #
-# In a fresh Debian each is installed, programs in C are compiled, Python has the module, and what is removed leaves nothing. The Python
-# package is built there from its source, over the library's packages. Debian 11 has an older C library than the programs need, and
-# an older Python than the wheel.
+# In a fresh Debian each is installed, by apt as README says, programs in C are compiled, Python has the module, and what is purged leaves
+# nothing. The Python package is built there from its source, over the library's packages. Debian 11 has an older C library than the
+# programs need, and an older Python than the wheel.
 #
 # What was left out since a tool is missing is said in the last line.
 set -u
@@ -83,6 +84,13 @@ try_record() {
     refuses "one of bin/test's parts failed"
     record "$work/copy" passed 'bin/test'
     refuses "bin/test has no result"
+    record "$work/copy" passed "$well (bsonraw and the crates below alone: not the gate)"
+    refuses "bin/test passed for one crate"
+    record "$work/copy" passed 'bin/test 0 passed, 0 failed'
+    refuses "bin/test had nothing that could pass"
+    record "$work/copy" passed 'bin/test 5 passed, 1 failed
+bin/test 5 passed, 0 failed'
+    refuses "bin/test has two results"
     record "$work/copy" passed "$well"
     echo >>"$work/copy/crates/bsonraw_dump/out/bsonraw_dump"
     refuses "another program is built than bin/test built"
@@ -92,23 +100,68 @@ try_record() {
     (cd "$work/copy" && git checkout -q README.md)
     makes proved
     refuses "nothing says that bin/install proved it" --untested
-    record "$work/copy" proved 'proved: 9 crates; tests not run'
+    claims "$work/proved" 'was not seen|no proof|no test' "it has no test"
+    touch "$work/now" && (root=$work/copy && . bin/build.sh && for name in $crates; do note_built "$name" "$work/now" || exit 1; done) || exit 1
+    "$work/copy/bin/install" "$work/installed" >/dev/null || fails "what is built isn't installed"
     makes untested --untested
-    tar -xOf "$work"/untested/*untested*-linux.tar.gz --wildcards '*/PROVED' | grep -qx 'proved: 9 crates; tests not run' ||
+    tar -xOf "$work"/untested/*untested*-linux.tar.gz --wildcards '*/PROVED' | grep -Eqx 'proved: [1-9][0-9]* crates; tests not run' ||
         fails "PROVED doesn't say that tests weren't run"
+    claims "$work/untested" '\btested\b' 'no test'
+    echo >>"$work/copy/crates/bsonraw_dump/out/bsonraw_dump"
+    refuses "another program is there than bin/install proved" --untested
+    : >"$work/copy/crates/bsonraw_dump/out/built"
+    "$work/copy/bin/install" "$work/installed" >/dev/null || fails "what is built isn't installed again"
+    refuses "nothing says which program a build made" --untested
+}
+
+# claims FOLDER PATTERN ALLOWED: whether no text of what is made there has a line with the first pattern, but with the second one. Of the
+# pages that are in each package the first line says how much of them holds; a changelog tells of other builds.
+claims() {
+    rm -rf "$work/unpacked" && mkdir "$work/unpacked" || exit 1
+    for file in "$1"/*; do
+        into=$work/unpacked/$(basename "$file")
+        case $file in
+        *.tar.gz) mkdir "$into" && tar -C "$into" -xf "$file" ;;
+        *.deb) dpkg-deb -R "$file" "$into" ;;
+        *.whl) mkdir "$into" && python3 -m zipfile -e "$file" "$into" ;;
+        esac || exit 1
+    done
+    find "$work/unpacked" -type f -name '*.gz' -exec gunzip {} +
+    find "$work/unpacked" -name PROMISES.md -exec sed -i '1!d' {} +
+    find "$work/unpacked" -type f ! -iname 'changelog*' ! -name DEFINITIONS.md ! -name LICENCES ! -name copyright ! -name verify ! -path '*/rust/tests/*' \
+        -exec grep -hIEi "$2" {} + | grep -Eiv "$3" >"$work/claims"
+    [ ! -s "$work/claims" ] || fails "of what is packed this isn't known: $(cat "$work/claims")"
+}
+
+# What is packed though no proof was seen says so, and nothing else of proofs; but for the way from a clone in the page on Python, and names.
+try_unproved() {
+    claims "$1" '\bprove[ds]\b|\bproofs?\b|\btested\b' 'was not seen|was seen|nothing (of that )?is proved|would be proved|PROVED says|/PROVED\b| PROVED$|proves and installs|unproved'
 }
 
 # make_all FOLDER [FLAG..]: makes twice the same bytes, of which the names say that they are unproved where they are
 make_all() {
     folder=$1
     shift
-    bin/package "$@" --unproved "$folder" >/dev/null && sleep 1 && bin/package "$@" --unproved "$work/again" >/dev/null || exit 1
-    diff -r "$folder" "$work/again" >&2 || fails "one commit gives other bytes the second time"
+    bin/package "$@" --unproved "$folder" >/dev/null && sleep 1 && bin/package "$@" --unproved $by_key "$work/again" >/dev/null || exit 1
+    diff -r -x SHA256SUMS.asc "$folder" "$work/again" >&2 || fails "one commit gives other bytes the second time"
+    [ -z "$by_key" ] || gpg --batch --quiet --verify "$work/again/SHA256SUMS.asc" "$work/again/SHA256SUMS" 2>"$work/said_by_gpg" ||
+        fails "the signature isn't good: $(cat "$work/said_by_gpg")"
     rm -r "$work/again"
     for file in "$folder"/*.*; do
         case $file in *unproved*) ;; *) fails "a name doesn't say that it is unproved: $file" ;; esac
     done
     (cd "$folder" && sha256sum --check --quiet --strict SHA256SUMS) || fails "SHA256SUMS isn't right"
+}
+
+# A key that this run alone has, to sign with.
+make_key() {
+    if ! command -v gpg >/dev/null; then
+        skip gpg
+        return
+    fi
+    export GNUPGHOME="$work/gnupg"
+    mkdir -m 700 "$GNUPGHOME" && gpg --batch --quiet --passphrase '' --quick-generate-key checks@localhost ed25519 sign never 2>"$work/said" &&
+        by_key='--sign checks@localhost' || fails "no key is made: $(cat "$work/said")"
 }
 
 # prepare FOLDER: what a new user has there besides
@@ -128,20 +181,19 @@ finds_changes() {
     done <"$work/shipped"
 }
 
-# has_licences FILE: whether each part that is compiled in is named there, with the text of its licence
+# has_licences FILE CRATE..: whether each part that is compiled into these crates is named there, with the whole text of its licence
 has_licences() {
-    python3 -B release/parts.py "$(dirname "$(rt doc)")" bsonraw bsonraw_dump bsonraw_c >"$work/parts" || fails "the parts can't be listed"
-    while read -r part licence; do
-        case $licence in
-        NOASSERTION) grep -q "\b$part\b" "$1" ;;
-        *) grep -q "^ *$part: LICENSE" "$1" ;;
-        esac || fails "$1 has no licence of $part"
-    done <"$work/parts"
+    file=$1
+    shift
+    kit=$(dirname "$(rt doc)")
+    # shellcheck disable=SC2046 # names of parts
+    python3 -B checks/licences.py "$kit" "$file" $(python3 -B release/parts.py "$kit" "$@" | cut -d ' ' -f 1) >"$work/lacking" ||
+        fails "$file has no licence of $(paste -s -d , "$work/lacking")"
 }
 
 # lists_all FOLDER PROVED: whether it lists each file below the folder but itself
 lists_all() {
-    (cd "$1" && find . -type f | sed 's|^\./||' | grep -vx PROVED | LC_ALL=C sort) >"$work/there"
+    (cd "$1" && find . ! -type d | sed 's|^\./||' | grep -vx PROVED | LC_ALL=C sort) >"$work/there"
     sed '1,/^sha256 of what is shipped:$/d; s/^[^ ]*  //' "$2" | LC_ALL=C sort | diff - "$work/there" >&2 || fails "$2 doesn't list each file"
 }
 
@@ -150,7 +202,12 @@ try_archive() {
     archive=$(echo "$try"/bsonraw-*-linux)
     lists_all "$archive" "$archive/PROVED"
     finds_changes "$archive" "$archive/PROVED"
-    has_licences "$archive/LICENCES"
+    has_licences "$archive/LICENCES" $crates
+    # shellcheck disable=SC2046,SC2086 # names of parts and of crates
+    python3 -c 'import json, sys
+sys.exit(not set(sys.argv[2:]) <= {it["name"] for it in json.load(open(sys.argv[1]))["packages"]})' "$archive/bsonraw.spdx.json" \
+        bsonraw $(python3 -B release/parts.py "$kit" $crates | cut -d ' ' -f 1) || fails "the list of parts lacks one"
+    grep -q 'Copyright (c)' "$archive/LICENSE" || fails "the archive has no licence of its own"
     case "$said" in
     *unreleased*) ;;
     *"($(sed -n 's/^commit \(..........\).*/\1/p' "$archive/PROVED"))") ;;
@@ -192,15 +249,24 @@ try_arm() {
     arm_archive=$(echo "$work"/arm/bsonraw-*-aarch64-linux)
     lists_all "$arm_archive" "$arm_archive/PROVED"
     finds_changes "$arm_archive" "$arm_archive/PROVED"
-    has_licences "$arm_archive/LICENCES"
+    has_licences "$arm_archive/LICENCES" bsonraw_c
     [ ! -e "$arm_archive/bin" ] && ! grep -q 'bin/bsonraw' "$arm_archive/README" || fails "there are programs for ARM"
     for package in "$made_for_arm"/*.deb; do
         dpkg-deb -x "$package" "$work/arm_root" || exit 1
     done
     for package in "$work"/arm_root/usr/share/doc/*; do
         finds_changes "$work/arm_root" "$package/PROVED.arm64"
-        has_licences "$package/copyright"
+        has_licences "$package/copyright" bsonraw_c
     done
+    for wheel in "$made_for_arm"/*.whl; do
+        case $wheel in *-abi3-manylinux_2_17_aarch64.manylinux2014_aarch64.whl) ;; *) fails "the wheel for ARM is $wheel" ;; esac
+        python3 -m zipfile -e "$wheel" "$work/arm_wheel" || exit 1
+    done
+    for info in "$work"/arm_wheel/*.dist-info; do
+        finds_changes "$work/arm_wheel" "$info/PROVED"
+        has_licences "$info/licenses/LICENCES" bsonraw_c
+    done
+    try_unproved "$made_for_arm"
     (cd "$work/arm_root" && find . -type f) | while IFS= read -r file; do
         [ ! -e "$work/root/$file" ] || cmp "$work/root/$file" "$work/arm_root/$file" || exit 1
     done || fails "packages of both machines have one file in two forms, so that they can't be installed together"
@@ -233,8 +299,12 @@ try_packages() {
     for package in "$made"/*.deb; do dpkg-deb -x "$package" "$work/root" || exit 1; done
     for package in "$work"/root/usr/share/doc/*; do
         finds_changes "$work/root" "$package/PROVED.amd64"
-        has_licences "$package/copyright"
+        has_licences "$package/copyright" $crates
     done
+    needs=$(for package in "$made"/libbsonraw2*.deb "$made"/bsonraw_*.deb; do dpkg-deb -f "$package" Depends; done | sed 's/.*libc6 (>= \(.*\)).*/\1/')
+    # shellcheck disable=SC2086 # two versions
+    tr -s '\n ' '  ' <README.md | grep -q "$(printf 'The library needs glibc %s or later, the programs %s,' $needs)" ||
+        fails "README doesn't say which glibc is needed: $needs"
     library=$work/root/usr/lib/x86_64-linux-gnu
     env -i PATH=/usr/bin:/bin $has_compiler PKG_CONFIG_PATH="$library/pkgconfig" PKG_CONFIG_SYSROOT_DIR="$work/root" \
         LD_LIBRARY_PATH="$library" sh "$try/try-release.sh" "$work/root/usr/bin" "$said" || fails "the Debian packages don't do"
@@ -252,18 +322,20 @@ try_wheels() {
         skip "Python's venv"
         return
     fi
+    [ "$(find "$made" -name 'bsonraw-*-cp311-abi3-*.manylinux2014_x86_64.whl' | wc -l)" = 1 ] || fails "the package's wheel isn't of manylinux2014"
     env -i PATH=/usr/bin:/bin "$work/venv/bin/pip" install --quiet --no-index --disable-pip-version-check "$made"/*.whl || fails "pip doesn't install the wheels"
     env -i PATH=/usr/bin:/bin PYTHON="$work/venv/bin/python" sh "$try/try-release.sh" "$work/venv/bin" "$said" || fails "the wheels don't do"
     for info in "$work"/venv/lib/python3*/site-packages/bsonraw*.dist-info; do
         finds_changes "$(dirname "$info")" "$info/PROVED"
-        has_licences "$info/licenses/LICENCES"
+        has_licences "$info/licenses/LICENCES" $crates
+        cmp -s LICENSE "$info/licenses/LICENSE" || fails "a wheel has no licence of its own"
     done
 }
 
 # files: all that is there, but for what is written as programs run and packages are installed
 files() {
     (cd "$there" && find . -xdev \( -path ./proc -o -path ./sys -o -path ./dev -o -path ./try -o -path ./tmp -o -path ./run -o -path ./var/cache \
-        -o -path ./var/log -o -path './var/lib/dpkg/*-old' \) -prune -o -print) | LC_ALL=C sort
+        -o -path ./var/log -o -path ./var/lib/apt -o -path './var/lib/dpkg/*-old' \) -prune -o -print) | LC_ALL=C sort
 }
 
 # try_debian RELEASE MACHINE FOLDER: a Debian that has never seen this repository: each that was made is installed there, used, and removed
@@ -275,7 +347,7 @@ try_debian() {
         skip "$where"
         return
     fi
-    prepare "$there/try" && cp "$3"/* release/verify "$there/try" && cp "$source" "$there/try/source.tar.gz" || exit 1
+    prepare "$there/try" && cp "$3"/* "$there/try" && cp "$source" "$there/try/source.tar.gz" || exit 1
     programs=yes wheels=yes
     [ "$2" = amd64 ] || programs=
     [ "$1" != bullseye ] || programs='' wheels=''
@@ -283,13 +355,13 @@ try_debian() {
     does 'the archive' 'tar -C /opt -xf *-linux.tar.gz && mv /opt/bsonraw* /opt/bsonraw && /opt/bsonraw/verify /opt/bsonraw/PROVED &&
         export PKG_CONFIG=yes PKG_CONFIG_PATH=/opt/bsonraw/lib/pkgconfig LD_LIBRARY_PATH=/opt/bsonraw/lib &&
         sh try-release.sh "${PROGRAMS:+/opt/bsonraw/bin}" "$SAID"; status=$?; rm -r /opt/bsonraw; exit $status'
-    does 'the Debian packages' '[ -n "$PROGRAMS" ] || rm -f bsonraw_*.deb; dpkg -i *.deb >/dev/null &&
+    does 'the Debian packages' '[ -n "$PROGRAMS" ] || rm -f bsonraw_*.deb; apt-get install -qq -y ./*.deb >/dev/null 2>said_by_apt || { cat said_by_apt >&2; exit 1; }
         for proved in /usr/share/doc/*bsonraw*/PROVED.*; do sh verify "$proved" / || exit; done &&
         PKG_CONFIG=yes sh try-release.sh "${PROGRAMS:+/usr/bin}" "$SAID"'
     does 'the Python package as source' 'python3 -m venv --system-site-packages /opt/venv &&
         /opt/venv/bin/pip install --quiet --no-index --no-build-isolation --disable-pip-version-check ./source.tar.gz &&
         PYTHON=/opt/venv/bin/python sh try-release.sh "" "$SAID"; status=$?; rm -r /opt/venv; exit $status'
-    does 'the packages that are removed' 'dpkg -P $(dpkg-query -W -f "\${Package}\n" "*bsonraw*") >/dev/null'
+    does 'the packages that are purged' 'apt-get purge -qq -y $(dpkg-query -W -f "\${Package}\n" "*bsonraw*") >/dev/null 2>&1'
     [ -z "$wheels" ] || does 'the wheels' 'python3 -m venv /opt/venv && /opt/venv/bin/pip install --quiet --no-index --disable-pip-version-check *.whl &&
         for info in /opt/venv/lib/python3*/site-packages/bsonraw*.dist-info; do sh verify $info/PROVED $info/.. || exit; done &&
         PYTHON=/opt/venv/bin/python sh try-release.sh "${PROGRAMS:+/opt/venv/bin}" "$SAID" &&
@@ -315,6 +387,9 @@ try_debians() {
     try_debian trixie arm64 "$made_for_arm"
 }
 
+crates='bsonraw bsonraw_dump bsonraw_c'
+by_key=
+make_key
 has_compiler=
 if command -v pkg-config >/dev/null && echo 'int main(void) { return 0; }' | cc -x c -o "$work/probe" - 2>/dev/null; then
     has_compiler=PKG_CONFIG=yes
@@ -323,13 +398,16 @@ else
 fi
 said=$(root=$PWD && . bin/release.sh && echo "bsonraw-dump $version ($(crates_commit))")
 make_all "$made"
+[ -z "$by_key" ] || gpgconf --kill all
+by_key=
 try_record
+try_unproved "$made"
 try_archive
-try_old_processors
 try_source
 try_crate
 try_packages
 try_wheels
+try_old_processors
 [ "${1-}" = --short ] || try_debians
 echo "packages: left out: ${skipped:-nothing}"
 exit "$failed"

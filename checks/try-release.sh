@@ -59,6 +59,8 @@ try_c() {
     says sound ./c_validate
     says "{\"hi\":\"y'all\"}" sh -c 'cat - greeting | ./c_unique | ./c_json_text'
     [ "$(./c_orders 2 | ./c_validate)" = sound ] || fails "what orders builds isn't sound"
+    printf '\107\0\0\0\7_id\0abcdefghijkl\2name\0\3\0\0\0Al\0\20born\0\7\0\0\0\3address\0\21\0\0\0\2city\0\2\0\0\0X\0\0\0' >person
+    [ "$(cat greeting person | ./c_fields)" = "6162636465666768696a6b6c Al 7 X" ] || fails "fields doesn't print the fields of the one document that has them"
     # a document laid over the greeting, which has all of its keys
     printf '\25\0\0\0\20hi\0\1\0\0\0\20ho\0\2\0\0\0\0' >over
     cat greeting over | ./c_merge | cmp -s - over || fails "merge doesn't lay a document over the greeting"

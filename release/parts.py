@@ -28,6 +28,13 @@ KNOWN = {
 }
 
 
+# what the linker puts into a program around its own code: each licence has an exception for just that, which asks for no notice
+START_CODE = {
+    "glibc": ("start code of the GNU C library", "LGPL-2.1-or-later WITH GCC-exception-2.0-note"),
+    "gcc": ("start code of GCC, and of its libgcc", "GPL-3.0-or-later WITH GCC-exception-3.1"),
+}
+
+
 def crates() -> "dict[str, list[str]]":
     """The repository's crates, and the libraries that each is over."""
     lines = [it.partition("#")[0].partition(":") for it in (TOP / "crates.txt").read_text().splitlines()]
@@ -67,11 +74,18 @@ def licence(kit: Path, part: str) -> str:
     return " AND ".join(name_of(part, *it) for it in texts(kit, part).items()) or "NOASSERTION"
 
 
-def licences(kit: Path, found: "list[str]", on_debian: bool) -> str:
+def has_program(wanted: "list[str]") -> bool:
+    return any((TOP / "crates" / it / "src" / "main.rt").exists() for it in wanted)
+
+
+def licences(kit: Path, found: "list[str]", on_debian: bool, programs: bool) -> str:
     own = [it for it in found if not texts(kit, it)]
     said = ["Compiled into this release, besides its own code, are these libraries of the Rattle kit.\n"]
     said += [f"{part} ({licence(kit, part)})" for part in found if part not in own]
     said += ["", "and of the kit's own, for which the kit states no licence: " + ", ".join(own) + ".\n"]
+    if programs:
+        said += ["A program also has, by exceptions in their licences that ask for no notice:\n"]
+        said += [f"{what} ({licence})" for what, licence in START_CODE.values()] + [""]
     for part in found:
         for file, text in texts(kit, part).items():
             name = name_of(part, file, text)
@@ -81,7 +95,7 @@ def licences(kit: Path, found: "list[str]", on_debian: bool) -> str:
     return "\n".join(said)
 
 
-def spdx(kit: Path, found: "list[str]", version: str) -> str:
+def spdx(kit: Path, found: "list[str]", version: str, programs: bool) -> str:
     now = time.strftime("%Y-%m-%dT%H:%M:%SZ", time.gmtime(int(os.environ["SOURCE_DATE_EPOCH"])))
     named = hashlib.sha256("\n".join([version, now, *found]).encode()).hexdigest()
     kit_version = (kit / "KIT-ID").read_text().split()[0]
@@ -98,15 +112,9 @@ def spdx(kit: Path, found: "list[str]", version: str) -> str:
             "copyrightText": "NOASSERTION",
         }
 
-    related = [{"spdxElementId": "SPDXRef-DOCUMENT", "relationshipType": "DESCRIBES", "relatedSpdxElement": "SPDXRef-bsonraw"}]
-    for part in found:
-        related.append(
-            {
-                "spdxElementId": "SPDXRef-bsonraw",
-                "relationshipType": "STATIC_LINK",
-                "relatedSpdxElement": f"SPDXRef-{part.replace('_', '-')}",
-            }
-        )
+    listed = [package(it, kit_version, licence(kit, it)) for it in found]
+    listed += [package(f"{name}-start-code", "NOASSERTION", it) for name, (_, it) in START_CODE.items() if programs]
+    related = [("SPDXRef-DOCUMENT", "DESCRIBES", "SPDXRef-bsonraw"), *[("SPDXRef-bsonraw", "STATIC_LINK", it["SPDXID"]) for it in listed]]
     document = {
         "spdxVersion": "SPDX-2.3",
         "dataLicense": "CC0-1.0",
@@ -114,8 +122,8 @@ def spdx(kit: Path, found: "list[str]", version: str) -> str:
         "name": f"bsonraw-{version}",
         "documentNamespace": f"urn:sha256:{named}",
         "creationInfo": {"created": now, "creators": ["Tool: release/parts.py"]},
-        "packages": [package("bsonraw", version, "MIT"), *[package(it, kit_version, licence(kit, it)) for it in found]],
-        "relationships": related,
+        "packages": [package("bsonraw", version, "MIT"), *listed],
+        "relationships": [dict(zip(("spdxElementId", "relationshipType", "relatedSpdxElement"), it)) for it in related],
     }
     return json.dumps(document, indent=1) + "\n"
 
@@ -127,9 +135,9 @@ def main(kit: str, *words: str) -> None:
         sys.exit(f"parts: crates.txt has no crate {unknown[0]}")
     found = parts(folder, wanted)
     if "--licences" in words or "--debian" in words:
-        print(licences(folder, found, "--debian" in words), end="")
+        print(licences(folder, found, "--debian" in words, has_program(wanted)), end="")
     elif "--spdx" in words:
-        print(spdx(folder, found, (TOP / "VERSION").read_text().strip()), end="")
+        print(spdx(folder, found, (TOP / "VERSION").read_text().strip(), has_program(wanted)), end="")
     else:
         for part in found:
             print(part, licence(folder, part))

@@ -86,7 +86,7 @@ def tags(python: str, names: "list[str]") -> bytes:
 def of_programs(programs: "dict[str, bytes]", marked: str, names: "list[str]") -> "dict[str, Content]":
     """The files of the wheel of the programs, but for RECORD."""
     info = f"bsonraw_programs-{marked}.dist-info/"
-    metadata = f"Metadata-Version: 2.1\nName: bsonraw-programs\nVersion: {marked}\nSummary: The programs bsonraw and bsonraw-dump\n"
+    metadata = f"Metadata-Version: 2.1\nName: bsonraw-programs\nVersion: {marked}\nSummary: The programs bsonraw and bsonraw-dump\nLicense: MIT\n"
     head = b"Wheel-Version: 1.0\nGenerator: release/wheel.py\nRoot-Is-Purelib: false\n"
     files = {f"bsonraw_programs-{marked}.data/scripts/{name}": (content, 0o755) for name, content in programs.items()}
     return {**files, info + "METADATA": (metadata.encode(), 0o644), info + "WHEEL": (head + tags("py3-none", names) + b"\n", 0o644)}
