@@ -7,7 +7,7 @@
 set -u
 cd "$(dirname "$(realpath "$0")")/.." || exit 1
 program=crates/bsonraw/out/bsonraw
-for built in "$program" crates/tree_tests/out/tree_tests_tests crates/model_tests/out/model_tests_tests; do
+for built in "$program" crates/tree_tests/out/tree_tests_tests crates/view_tests/out/view_tests_tests; do
     if [ ! -x "$built" ]; then
         echo "deep: $built isn't built" >&2
         exit 1
@@ -102,7 +102,7 @@ lets_go tree_tests a_million_documents_come_back
 lets_go tree_tests a_million_arrays_come_back
 lets_go tree_tests a_million_scopes_come_back
 lets_go tree_tests a_list_of_deep_documents_comes_back
-lets_go model_tests a_deep_branch_among_others_is_let_go
+lets_go view_tests a_deep_branch_among_others_is_let_go
 lets_go tree_tests a_million_owned_levels_are_compared_and_printed
 lets_go tree_tests a_million_levels_in_turn_come_back
 dropped=$requests

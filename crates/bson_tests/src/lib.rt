@@ -1,6 +1,6 @@
-//! Tests of `raw_bson` through its public calls. They are apart from it, so that `raw_bson` isn't proved twice, and list
-//! beside the shared fixtures `raw_bson` alone, as a user does. Those of trees are in `tree_tests`, those with requests
-//! for memory refused in `memory_tests`.
+//! Tests of `raw_bson`, `raw_shelf` and `bson_uses` through their public calls. They are apart from them, so that none is
+//! proved twice. Those of trees are in `tree_tests`, those with requests for memory refused in `memory_tests` and, of
+//! `raw_shelf`, in `memory`.
 #![tactic(auto)]
 
 #[cfg(test)]
@@ -9,6 +9,8 @@ mod any_errors;
 mod arrays;
 #[cfg(test)]
 mod buffers;
+#[cfg(test)]
+mod callers;
 #[cfg(test)]
 mod calls;
 #[cfg(test)]
@@ -19,6 +21,14 @@ mod copies;
 mod damage;
 #[cfg(test)]
 mod example;
+#[cfg(test)]
+mod filter;
+#[cfg(test)]
+mod memory;
+#[cfg(test)]
+mod op_msg;
+#[cfg(test)]
+mod shelf;
 #[cfg(test)]
 mod texts;
 #[cfg(test)]

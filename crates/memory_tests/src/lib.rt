@@ -1,6 +1,7 @@
 //! Tests of `raw_view`, `raw_tree`, `raw_form` and `raw_bson` that `bin/test` runs with each request for memory refused in turn,
 //! alone: each call returns what it returns with ample memory, or out of memory where it may. They are apart,
-//! since each runs once for each request that it makes.
+//! since each runs once for each request that it makes. In `json` are all tests of `bson_json` and `bson_from_json`, of which
+//! those of `memory` and `read_memory` run so, too.
 #![tactic(auto)]
 
 #[cfg(test)]
@@ -19,6 +20,8 @@ mod counts;
 mod errors;
 #[cfg(test)]
 mod getters;
+#[cfg(test)]
+mod json;
 #[cfg(test)]
 mod kinds;
 #[cfg(test)]

@@ -1,4 +1,4 @@
-use crate::read_kinds::are_written;
+use crate::json::read_kinds::are_written;
 use bson_from_json::{JsonReason, from_json};
 use raw_bson::Limits;
 use std::alloc::Global;

@@ -1,6 +1,6 @@
 //! What comes of a document that is printed where memory runs out.
 
-use crate::layouts::{INDENTED, LIMITS, NESTED, NESTED_TEXT};
+use crate::json::layouts::{INDENTED, LIMITS, NESTED, NESTED_TEXT};
 use bson_json::{ToJsonError, WriteJsonError, to_json, write_json};
 use raw_view::RawDocument;
 use std::alloc::Global;

@@ -1,6 +1,6 @@
 //! What a document is printed as.
 
-use crate::rows::{
+use crate::json::rows::{
     BINARIES, DATES_1, DATES_2, DECIMALS_1, DECIMALS_2, DECIMALS_3, DECIMALS_4, DOUBLES_1,
     DOUBLES_2, DOUBLES_3, INTEGERS, OTHERS_1, OTHERS_2, OTHERS_3, Row, TEXTS,
 };
