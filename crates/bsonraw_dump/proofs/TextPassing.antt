@@ -1,11 +1,11 @@
 -- How the parts of an input of texts that were passed grow by one more.
-use Rattle.std.proofs.Common.{◌≡◌, ◌⊎◌, inl, inr, ℕ, List, [], ◌∷◌, ◌++◌, Bool, true, Option, None, Some, IfSome, append_assoc, append-nil, ap, flat_map, fold, refl, sym, subst, ◌∙◌}
+use Rattle.std.proofs.Common.{◌≡◌, ◌≢◌, ◌⊎◌, inl, inr, ℕ, List, [], ◌∷◌, ◌++◌, Bool, true, false, Option, None, Some, IfSome, append_assoc, append-nil, ap, flat_map, fold, refl, sym, subst, ◌∙◌}
 use Rattle.std.proofs.lemmas.Grind.{flat_map-append, fold-append}
 use Rattle.std.specs.Io.KnownBytes.{Appends, Consumes, IsAtEnd}
 use Rattle.std.proofs.KnownBytes.{Appends-nil, Appends-trans, Consumes-nil}
 use Rattle.bsonraw_dump.specs.Reading.{IsWindow, ahead_of}
 use Rattle.bsonraw_dump.specs.TextReading.{Advances, FindsText, PassesGap}
-use Rattle.bsonraw_dump.specs.TextRun.{AreTexts, EndsAs, GoesOn, IsAstray, IsDocument, IsFailed, IsPassed, IsRefused, IsTextPart, PassesBehind, PassesText, ReadsTexts, TextPart, bytes_of, bytes_of_texts, count_text, joined, lines_of_texts, made_of_texts, turn_behind_texts}
+use Rattle.bsonraw_dump.specs.TextRun.{AreTexts, EndsAs, GoesOn, LastGoesOn, IsAstray, IsDocument, IsFailed, IsPassed, IsRefused, IsTextPart, PassesBehind, PassesText, ReadsTexts, TextPart, bytes_of, bytes_of_texts, count_text, joined, lines_of_texts, made_of_texts, turn_behind_texts}
 use Rattle.bsonraw_dump.specs.Texts.{HasNoLine, first_position, position_behind, position_over, turn_over}
 use Rattle.bsonraw_dump.specs.declared.cursor.Cursor.{Cursor}
 use Rattle.bsonraw_dump.specs.declared.cursor.NextText.{NextText}
@@ -32,6 +32,14 @@ AllGoOn keep_going (p ∷ ps) = GoesOn keep_going p × AllGoOn keep_going ps
 go_more : (k : Bool) (ps : List TextPart) (p : TextPart) → AllGoOn k ps → GoesOn k p → AllGoOn k (ps ++ p ∷ [])
 go_more k [] p all here = (here, tt)
 go_more k (x ∷ ps) p (first, rest) here = (first, go_more k ps p rest here)
+
+-- so may they behind the last
+last_goes : (k : Bool) (before : List TextPart) (p : TextPart) → AllGoOn k (before ++ p ∷ []) → GoesOn k p
+last_goes k [] p (here, rest) = here
+last_goes k (x ∷ before) p (first, rest) = last_goes k before p rest
+
+last_of : (k : Bool) (ps : List TextPart) → AllGoOn k ps → LastGoesOn k ps
+last_of k ps all before p same = last_goes k before p (subst (AllGoOn k) same all)
 
 module _ (k : Bool) (style : Style) (name : List ℕ) where
   texts_more : (place : Position) (t : Turn) (ps : List TextPart) (p : TextPart) → AreTexts k style name place t ps → AllGoOn k ps
@@ -137,6 +145,27 @@ astray_on style name place before t v text gap made lines is none turns =
       next = either t _ v is.next turns;
     }
 
+-- of a document nothing is told
+quiet_of : (style : Style) (name : List ℕ) (place : Position) (before : Turn) (what : Went) (text : List ℕ) (made : List (List ℕ)) (lines : List ℕ) (behind : Turn)
+    (k : Bool) → IsPassed style name place before what text made lines behind → (what ≡ went.Document) ⊎ (k ≡ true) → (lines ≡ []) ⊎ (k ≡ true)
+quiet_of style name place before what text made lines behind k is (inr asked) = inr asked
+quiet_of style name place before went.Document text made lines behind k is (inl same) = inl is.quiet
+quiet_of style name place before went.Refused text made lines behind k is (inl other) = let none : ⊥ = cc in absurd none
+quiet_of style name place before went.Astray text made lines behind k is (inl other) = let none : ⊥ = cc in absurd none
+
+-- of a text with a fault nothing is written
+none_made : (style : Style) (name : List ℕ) (place : Position) (before : Turn) (what : Went) (text : List ℕ) (made : List (List ℕ)) (lines : List ℕ) (behind : Turn)
+    → IsPassed style name place before what text made lines behind → what ≢ went.Document → made ≡ []
+none_made style name place before went.Document text made lines behind is other = absurd (other refl)
+none_made style name place before went.Refused text made lines behind is other = is.none
+none_made style name place before went.Astray text made lines behind is other = is.none
+
+-- the input begins with the parts
+front_of : (input r : Option (List ℕ)) (bytes ahead : List ℕ) → Consumes input r (bytes ++ ahead) → IfSome input (λ s. (left : List ℕ) × (s ≡ bytes ++ left))
+front_of None r bytes ahead read = tt
+front_of (Some s) None bytes ahead read = absurd read
+front_of (Some s) (Some rest) bytes ahead read = (ahead ++ rest, read ∙ append_assoc bytes ahead rest)
+
 module _ (a : AskedTexts) (input r r' d d' d'' w w' w'' : Option (List ℕ)) (n n' n'' : TextCounts) (x y z : Cursor) (t u v : Turn) where
   -- what is next is found, and passed
   next_part : (told : NextText) (what : Went) → GoesOnBehind a input r d d' w w' n n' x t → FindsText r r' x y t u told
@@ -157,6 +186,30 @@ module _ (a : AskedTexts) (input r r' d d' d'' w w' w'' : Option (List ℕ)) (n 
   pub has_next : (told : NextText) (what : Went) → GoesOnBehind a input r d d' w w' n n' x t → FindsText r r' x y t u told
       → PassesText a.style a.name.now y z u v d' d'' w' w'' n' n'' what → HasTexts a input r' d d'' w w'' n n'' z v
   has_next told what g f p = (next_part told what g f p).0
+
+  -- what is next has a fault, and the run stops behind it
+  pub stops_fault : (told : NextText) (what : Went) → GoesOnBehind a input r d d' w w' n n' x t → FindsText r r' x y t u told
+      → PassesText a.style a.name.now y z u v d' d'' w' w'' n' n'' what → (what ≢ went.Document) × (a.keep_going ≡ false) → ReadsTexts a input d d'' w w'' n n'' end.Stopped
+  unfolding has_next next_part has_more
+  stops_fault told what g f p (other, asked) =
+      let h = has_next told what g f p in
+      let none = none_made a.style a.name.now y.place u what p.text p.made p.lines v p.is other in
+      record {
+        ps = h.ps;
+        parts = h.parts;
+        ends = front_of input r' (bytes_of_texts h.ps) (ahead_of z.window) h.is_read;
+        stops = (asked, (g.has.ps, _, refl, none));
+        is_written = h.is_written;
+        is_reported = h.is_reported;
+        is_counted = h.is_counted;
+      }
+
+  -- it is a document, or faults are passed
+  pub goes_behind : (told : NextText) (what : Went) → GoesOnBehind a input r d d' w w' n n' x t → FindsText r r' x y t u told
+      → PassesText a.style a.name.now y z u v d' d'' w' w'' n' n'' what → (what ≡ went.Document) ⊎ (a.keep_going ≡ true) → GoesOnBehind a input r' d d'' w w'' n n'' z v
+  goes_behind told what g f p asked =
+      let (h, all) = next_part told what g f p in
+      record { has = h; all = all (quiet_of a.style a.name.now y.place u what p.text p.made p.lines v a.keep_going p.is asked) }
 
   -- no whole text was there, and bytes behind it are passed
   gap_part : (told : NextText) (r'' : Option (List ℕ)) (q : Cursor) (s : Turn) → GoesOnBehind a input r d d' w w' n n' x t → FindsText r r' x y t u told
@@ -200,12 +253,6 @@ window_behind went.Document r r' z q v s (read, same, turns) is = subst (λ (l :
 window_behind went.Refused r r' z q v s (read, same, turns) is = subst (λ (l : Cursor). IsWindow l.window) (sym same) is
 window_behind went.Astray r r' z q v s over is = over.advances.window
 
--- the input begins with the parts
-front_of : (input r : Option (List ℕ)) (bytes ahead : List ℕ) → Consumes input r (bytes ++ ahead) → IfSome input (λ s. (left : List ℕ) × (s ≡ bytes ++ left))
-front_of None r bytes ahead read = tt
-front_of (Some s) None bytes ahead read = absurd read
-front_of (Some s) (Some rest) bytes ahead read = (ahead ++ rest, read ∙ append_assoc bytes ahead rest)
-
 -- the input is at its end
 whole_of : (input r : Option (List ℕ)) (bytes front ahead : List ℕ) → Consumes input r (bytes ++ (front ++ ahead)) → ahead ≡ [] → IsAtEnd r → IfSome input (λ s. s ≡ bytes ++ front)
 whole_of None r bytes front ahead read none end = tt
@@ -219,34 +266,27 @@ some_of (Some s) P Q is h = is s h
 
 module _ (a : AskedTexts) (input r d d' w w' : Option (List ℕ)) (n n' : TextCounts) (x : Cursor) (t : Turn) where
   -- a run that doesn't come to the end of the input
-  pub stops_fault : HasTexts a input r d d' w w' n n' x t → ReadsTexts a input d d' w w' n n' end.Stopped
-  stops_fault h = record {
-    ps = h.ps;
-    parts = h.parts;
-    ends = front_of input r (bytes_of_texts h.ps) (ahead_of x.window) h.is_read;
-    is_written = h.is_written;
-    is_reported = h.is_reported;
-    is_counted = h.is_counted;
-  }
+  pub stops_failed : (failed : ReadFailure) → GoesOnBehind a input r d d' w w' n n' x t → ReadsTexts a input d d' w w' n n' (end.Failed failed)
+  stops_failed failed g =
+      let h = g.has in record {
+        ps = h.ps;
+        parts = h.parts;
+        ends = front_of input r (bytes_of_texts h.ps) (ahead_of x.window) h.is_read;
+        stops = last_of a.keep_going h.ps g.all;
+        is_written = h.is_written;
+        is_reported = h.is_reported;
+        is_counted = h.is_counted;
+      }
 
-  pub stops_failed : (failed : ReadFailure) → HasTexts a input r d d' w w' n n' x t → ReadsTexts a input d d' w w' n n' (end.Failed failed)
-  stops_failed failed h = record {
-    ps = h.ps;
-    parts = h.parts;
-    ends = front_of input r (bytes_of_texts h.ps) (ahead_of x.window) h.is_read;
-    is_written = h.is_written;
-    is_reported = h.is_reported;
-    is_counted = h.is_counted;
-  }
-
-  pub stops_reading : (e : TextEnd) → IsFailed e → HasTexts a input r d d' w w' n n' x t → ReadsTexts a input d d' w w' n n' e
+  pub stops_reading : (e : TextEnd) → IsFailed e → GoesOnBehind a input r d d' w w' n n' x t → ReadsTexts a input d d' w w' n n' e
   stops_reading end.End none h = absurd none
   stops_reading end.Stopped none h = absurd none
   stops_reading (end.Failed failed) is h = stops_failed failed h
 
   -- one that does
-  pub stops_end : (r' : Option (List ℕ)) (y : Cursor) (u : Turn) → HasTexts a input r d d' w w' n n' x t → FindsText r r' x y t u next.End → ReadsTexts a input d d' w w' n n' end.End
-  stops_end r' y u h f =
+  pub stops_end : (r' : Option (List ℕ)) (y : Cursor) (u : Turn) → GoesOnBehind a input r d d' w w' n n' x t → FindsText r r' x y t u next.End → ReadsTexts a input d d' w w' n n' end.End
+  stops_end r' y u g f =
+      let h = g.has in
       let read = read_behind (bytes_of_texts h.ps) (ahead_of x.window) (f.front ++ ahead_of y.window) input r r' h.is_read f.advances.is_read in
       let turns = subst (λ (l : Turn). turn_over l f.front ≡ Some u) h.turns f.turns in
       record {
@@ -254,6 +294,7 @@ module _ (a : AskedTexts) (input r d d' w w' : Option (List ℕ)) (n n' : TextCo
         parts = h.parts;
         ends = some_of input (λ s. s ≡ bytes_of_texts h.ps ++ f.front) (EndsAs end.End h.ps) (λ s same. (f.front, u, same, turns, f.is.0))
             (whole_of input r' (bytes_of_texts h.ps) f.front (ahead_of y.window) read f.is.1 f.is.2);
+        stops = last_of a.keep_going h.ps g.all;
         is_written = h.is_written;
         is_reported = h.is_reported;
         is_counted = h.is_counted;

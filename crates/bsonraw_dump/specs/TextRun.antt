@@ -1,5 +1,5 @@
 -- What a run over an input of texts reads, writes and counts.
-use Rattle.std.specs.Prelude.{◌≡◌, ◌⊎◌, ◌+◌, ◌≤◌, ℕ, List, [], ◌∷◌, ◌++◌, Bool, true, Option, Some, IfSome, flat_map, fold, length, take}
+use Rattle.std.specs.Prelude.{◌≡◌, ◌⊎◌, ◌+◌, ◌≤◌, ℕ, List, [], ◌∷◌, ◌++◌, Bool, true, false, Option, Some, IfSome, flat_map, fold, length, take}
 use Rattle.std.specs.Io.KnownBytes.{Appends}
 use Rattle.bson_from_json.specs.Texts.{IsWritten}
 use Rattle.bsonraw_dump.specs.Reading.{IsWindow, ahead_of}
@@ -131,6 +131,15 @@ EndsAs end.End ps s = (left : List ℕ) × (last : Turn) × (s ≡ bytes_of_text
 EndsAs end.Stopped ps s = (left : List ℕ) × (s ≡ bytes_of_texts ps ++ left)
 EndsAs (end.Failed failure) ps s = (left : List ℕ) × (s ≡ bytes_of_texts ps ++ left)
 
+-- parts may come behind the last of these
+abbrev pub LastGoesOn : (keep_going : Bool) → List TextPart → Type 0
+LastGoesOn keep_going ps = (before : List TextPart) (p : TextPart) → ps ≡ before ++ p ∷ [] → GoesOn keep_going p
+
+-- a run stops exactly where the last part has a fault, and it isn't asked to go on
+abbrev pub StopsAt : TextEnd → (keep_going : Bool) → List TextPart → Type 0
+StopsAt end.Stopped keep_going ps = (keep_going ≡ false) × ((before : List TextPart) × (p : TextPart) × (ps ≡ before ++ p ∷ []) × (p.made ≡ []))
+StopsAt _ keep_going ps = LastGoesOn keep_going ps
+
 -- A run over an input: it is cut into parts, and of these was written, told and counted what is theirs, and nothing else. Known bytes are
 -- those of a reader and two writers.
 pub record ReadsTexts (asked : AskedTexts) (input out_old out_new report_old report_new : Option (List ℕ)) (counts_old counts_new : TextCounts)
@@ -138,6 +147,7 @@ pub record ReadsTexts (asked : AskedTexts) (input out_old out_new report_old rep
   pub ps : List TextPart
   pub parts : AreTexts asked.keep_going asked.style asked.name.now first_position turn.First ps
   pub ends : IfSome input (EndsAs ended ps)
+  pub stops : StopsAt ended asked.keep_going ps
   pub is_written : Appends out_old out_new (made_of_texts ps)
   pub is_reported : Appends report_old report_new (lines_of_texts ps)
   pub is_counted : counts_new ≡ fold count_text counts_old ps

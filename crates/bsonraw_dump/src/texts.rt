@@ -1,7 +1,7 @@
 //! Reads the documents of an input of texts, and writes their bytes.
 #![tactic(auto)]
 
-ghost use Rattle.std.specs.Prelude.{◌≡◌, ◌⊎◌, ◌≤◌, ℕ, List, Option, length, take, IfErr, IfOk, MatchBool, OnOk, true};
+ghost use Rattle.std.specs.Prelude.{◌≡◌, ◌≢◌, ◌⊎◌, ◌≤◌, ℕ, List, Option, length, take, IfErr, IfOk, MatchBool, OnOk, true, false};
 ghost use Rattle.std.specs.Io.KnownBytes.{Appends};
 ghost use Rattle.bson_from_json.specs.Texts.{IsWritten};
 ghost use Rattle.bsonraw_dump.specs.Reading.{IsWindow, ahead_of};
@@ -114,7 +114,7 @@ pub fn read_texts<R: Read, D: Write, W: Write>(
 
 /// Whether a run stops behind this.
 fn stops(keep_going: bool, went: Went) -> bool
-    ensures { MatchBool result (Unit {0}) ((went ≡ Document) ⊎ (keep_going ≡ true)) }
+    ensures { MatchBool result ((went ≢ Document) × (keep_going ≡ false)) ((went ≡ Document) ⊎ (keep_going ≡ true)) }
 {
     match went {
         Went::Document => false,

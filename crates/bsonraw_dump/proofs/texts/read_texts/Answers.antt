@@ -2,7 +2,7 @@ use Rattle.std.proofs.Common.{subst}
 use Rattle.bsonraw_dump.specs.TextReading.{FindsText}
 use Rattle.bsonraw_dump.specs.TextRun.{IsFailed, ReadsTexts}
 use Rattle.bsonraw_dump.proofs.Stopping.{if_ok}
-use Rattle.bsonraw_dump.proofs.TextPassing.{goes_next, has_next, nothing_passed, stops_end, stops_fault, stops_reading, window_behind}
+use Rattle.bsonraw_dump.proofs.TextPassing.{goes_behind, goes_next, nothing_passed, stops_end, stops_fault, stops_reading, window_behind}
 use Rattle.bsonraw_dump.proofs.texts.read_texts.Goals as goal
 
 pub loop-init : goal.loop-init
@@ -20,7 +20,7 @@ returns-in-Ok-End-clause-reads g c =
     let found = subst (FindsText (read c.loop.reader) (read c.find_text.new.reader) c.loop.cursor c.find_text.new.self c.loop.turn c.find_text.new.turn) c.in-Ok-End.field-0-is
     c.in-Ok-End.ensures.found in
     stops_end c.args.asked (read c.args.reader.now) (read c.loop.reader) (out c.args.out.now) (out c.loop.out) (report c.args.report.now) (report c.loop.report)
-    c.args.counts.now c.loop.counts c.loop.cursor c.loop.turn (read c.find_text.new.reader) c.find_text.new.self c.find_text.new.turn c.loop.invariant.1.has found
+    c.args.counts.now c.loop.counts c.loop.cursor c.loop.turn (read c.find_text.new.reader) c.find_text.new.self c.find_text.new.turn c.loop.invariant.1 found
 
 pub returns-in-Err-clause-reads : goal.returns-in-Err-clause-reads
 returns-in-Err-clause-reads g c =
@@ -31,20 +31,18 @@ returns-in-Err-clause-reads g c =
     (ReadsTexts c.args.asked (read c.args.reader.now) (out c.args.out.now) (out c.loop.out) (report c.args.report.now) (report c.loop.report) c.args.counts.now c.loop.counts)
     (λ e is.
     stops_reading c.args.asked (read c.args.reader.now) (read c.loop.reader) (out c.args.out.now) (out c.loop.out) (report c.args.report.now) (report c.loop.report)
-    c.args.counts.now c.loop.counts c.loop.cursor c.loop.turn e is c.loop.invariant.1.has) c.stopped.ensures.stops
+    c.args.counts.now c.loop.counts c.loop.cursor c.loop.turn e is c.loop.invariant.1) c.stopped.ensures.stops
 
 pub returns-then-stops : goal.returns-then-stops
 returns-then-stops g c =
     let read = g.R.Read.remaining in
     let out = g.D.Write.contents in
     let report = g.W.Write.contents in
-    let has = has_next c.args.asked (read c.args.reader.now) (read c.loop.reader) (read c.find_text.new.reader) (out c.args.out.now) (out c.loop.out) (out c.pass_next.new.out)
-    (report c.args.report.now) (report c.loop.report) (report c.pass_next.new.report) c.args.counts.now c.loop.counts c.pass_next.new.counts c.loop.cursor
-    c.find_text.new.self c.pass_next.new.cursor c.loop.turn c.find_text.new.turn c.pass_next.new.turn c.in-Ok.next c.in_ok-went.went c.loop.invariant.1
-    c.in-Ok.ensures.found c.in_ok-went.ensures.passed in
     record {
-      reads = stops_fault c.args.asked (read c.args.reader.now) (read c.find_text.new.reader) (out c.args.out.now) (out c.pass_next.new.out) (report c.args.report.now)
-          (report c.pass_next.new.report) c.args.counts.now c.pass_next.new.counts c.pass_next.new.cursor c.pass_next.new.turn has;
+      reads = stops_fault c.args.asked (read c.args.reader.now) (read c.loop.reader) (read c.find_text.new.reader) (out c.args.out.now) (out c.loop.out) (out c.pass_next.new.out)
+          (report c.args.report.now) (report c.loop.report) (report c.pass_next.new.report) c.args.counts.now c.loop.counts c.pass_next.new.counts c.loop.cursor
+          c.find_text.new.self c.pass_next.new.cursor c.loop.turn c.find_text.new.turn c.pass_next.new.turn c.in-Ok.next c.in_ok-went.went c.loop.invariant.1
+          c.in-Ok.ensures.found c.in_ok-went.ensures.passed c.if-stops.ensures;
       failed = tt;
     }
 
@@ -53,10 +51,10 @@ returns-in-Err-pass_behind g c =
     let read = g.R.Read.remaining in
     let out = g.D.Write.contents in
     let report = g.W.Write.contents in
-    let has = has_next c.args.asked (read c.args.reader.now) (read c.loop.reader) (read c.find_text.new.reader) (out c.args.out.now) (out c.loop.out) (out c.pass_next.new.out)
+    let has = goes_behind c.args.asked (read c.args.reader.now) (read c.loop.reader) (read c.find_text.new.reader) (out c.args.out.now) (out c.loop.out) (out c.pass_next.new.out)
     (report c.args.report.now) (report c.loop.report) (report c.pass_next.new.report) c.args.counts.now c.loop.counts c.pass_next.new.counts c.loop.cursor
     c.find_text.new.self c.pass_next.new.cursor c.loop.turn c.find_text.new.turn c.pass_next.new.turn c.in-Ok.next c.in_ok-went.went c.loop.invariant.1
-    c.in-Ok.ensures.found c.in_ok-went.ensures.passed in
+    c.in-Ok.ensures.found c.in_ok-went.ensures.passed c.if-stops.ensures in
     record {
       reads = if_ok c.stopped-in-Err-pass_behind.result IsFailed
           (ReadsTexts c.args.asked (read c.args.reader.now) (out c.args.out.now) (out c.pass_next.new.out) (report c.args.report.now) (report c.pass_next.new.report)
