@@ -1,12 +1,14 @@
 -- What is passed of an input of texts.
-use Rattle.std.proofs.Common.{◌≡◌, ◌≤◌, ℕ, List, [], ◌∷◌, ◌++◌, true, Option, append-nil, ap, drop, inl, length, length-take-le, refl, subst, sym, take, ◌∙◌}
+use Rattle.std.proofs.Common.{◌≡◌, ◌≤◌, ℕ, List, [], ◌∷◌, ◌++◌, true, Option, append-nil, ap, drop, inl, inr, length, length-take-le, refl, subst, sym, take, ◌∙◌}
 use Rattle.std.proofs.lemmas.List.{take-append-drop, take-take}
 use Rattle.std.specs.Io.KnownBytes.{Appends}
 use Rattle.std.proofs.KnownBytes.{Appends-nil}
 use Rattle.bson_from_json.specs.Texts.{IsWritten}
+use Rattle.bson_json.specs.Written.{AppendsFront}
+use Rattle.bsonraw_dump.specs.Fronts.{HasFront}
 use Rattle.bsonraw_dump.specs.Reading.{IsWindow, ahead_of}
 use Rattle.bsonraw_dump.specs.TextFaults.{fault_line}
-use Rattle.bsonraw_dump.specs.TextRun.{PassesText, TellsFault, count_made}
+use Rattle.bsonraw_dump.specs.TextRun.{HaltsText, IsAstray, IsDocument, IsRefused, PassesText, TellsFault, count_made}
 use Rattle.bsonraw_dump.specs.Texts.{IsOpen, IsWhole, may_begin, position_over, scanned, turn_behind_document, turn_behind_gap}
 use Rattle.bsonraw_dump.specs.declared.cursor.Cursor.{Cursor}
 use Rattle.bsonraw_dump.specs.declared.position.Position.{Position}
@@ -15,6 +17,7 @@ use Rattle.bsonraw_dump.specs.declared.text_counts.TextCounts.{TextCounts}
 use Rattle.bsonraw_dump.specs.declared.text_fault.TextReason.{TextReason}
 use Rattle.bsonraw_dump.specs.declared.texts.Went.TheVariants as went
 use Rattle.bsonraw_dump.specs.declared.turn.Turn.{Turn}
+use Rattle.bsonraw_dump.proofs.Fronts.{front_none}
 
 -- the line of a fault so many bytes behind a place, in the front of what is ahead
 tells_fault : (style : Style) (name ahead : List ℕ) (place : Position) (len at : ℕ) (reason : TextReason) → len ≤ length ahead → at ≤ len
@@ -34,67 +37,14 @@ pub record PassesFirst (y z : Cursor) (len : ℕ) : Type 0 where
 split : (y z : Cursor) (len : ℕ) → PassesFirst y z len → ahead_of y.window ≡ take len (ahead_of y.window) ++ ahead_of z.window
 split y z len p = sym (take-append-drop len (ahead_of y.window)) ∙ ap (λ l. take len (ahead_of y.window) ++ l) (sym p.is.1)
 
-pub passes_astray : (style : Style) (name : List ℕ) (y z : Cursor) (t v : Turn) (begun at : ℕ) (reason : TextReason) (out w w' : Option (List ℕ)) (n n' : TextCounts)
-    → PassesFirst y z begun → IsOpen (scanned (take begun (ahead_of y.window))) → at ≤ begun
-    → Appends w w' (fault_line style name (position_over y.place (take at (ahead_of y.window))) reason) → n' ≡ count_made n [] → v ≡ turn_behind_gap t
-    → PassesText style name y z t v out out w w' n n' went.Astray
-passes_astray style name y z t v begun at reason out w w' n n' p open' within told counted next = record {
-  window = p.is.0;
-  text = take begun (ahead_of y.window);
-  made = [];
-  lines = fault_line style name (position_over y.place (take at (ahead_of y.window))) reason;
-  ahead = split y z begun p;
-  place = p.is.2;
-  is = record {
-    begun = take begun (ahead_of y.window);
-    gap = [];
-    parts = sym (append-nil (take begun (ahead_of y.window)));
-    unended = open';
-    no_line = tt;
-    none = refl;
-    fault = tells_fault style name (ahead_of y.window) y.place begun at reason p.fits within;
-    next = inl next;
-  };
-  is_written = Appends-nil out;
-  is_reported = told;
-  is_counted = counted;
-}
+-- the text is in front of what is ahead
+first_of : (len : ℕ) (ahead : List ℕ) → HasFront ahead (take len ahead)
+first_of len ahead = (drop len ahead, sym (take-append-drop len ahead))
 
-pub passes_refused : (style : Style) (name : List ℕ) (y z : Cursor) (t v : Turn) (len at : ℕ) (reason : TextReason) (out w w' : Option (List ℕ)) (n n' : TextCounts)
-    → PassesFirst y z len → may_begin t ≡ true → IsWhole (take len (ahead_of y.window)) → at ≤ len
-    → Appends w w' (fault_line style name (position_over y.place (take at (ahead_of y.window))) reason) → n' ≡ count_made n [] → v ≡ turn_behind_document t
-    → PassesText style name y z t v out out w w' n n' went.Refused
-passes_refused style name y z t v len at reason out w w' n n' p may whole within told counted next = record {
-  window = p.is.0;
-  text = take len (ahead_of y.window);
-  made = [];
-  lines = fault_line style name (position_over y.place (take at (ahead_of y.window))) reason;
-  ahead = split y z len p;
-  place = p.is.2;
-  is = record {
-    may_be = may;
-    whole = whole;
-    none = refl;
-    fault = tells_fault style name (ahead_of y.window) y.place len at reason p.fits within;
-    next = next;
-  };
-  is_written = Appends-nil out;
-  is_reported = told;
-  is_counted = counted;
-}
-
-pub passes_document : (style : Style) (name : List ℕ) (y z : Cursor) (t v : Turn) (len : ℕ) (document : List ℕ) (d d' w : Option (List ℕ)) (n n' : TextCounts)
-    → PassesFirst y z len → may_begin t ≡ true → IsWhole (take len (ahead_of y.window)) → IsWritten (take len (ahead_of y.window)) document
-    → Appends d d' document → n' ≡ count_made n (document ∷ []) → v ≡ turn_behind_document t
-    → PassesText style name y z t v d d' w w n n' went.Document
-passes_document style name y z t v len document d d' w n n' p may whole is written counted next = record {
-  window = p.is.0;
-  text = take len (ahead_of y.window);
-  made = document ∷ [];
-  lines = [];
-  ahead = split y z len p;
-  place = p.is.2;
-  is = record {
+module _ (style : Style) (name ahead : List ℕ) (place : Position) (t v : Turn) (len : ℕ) (fits : len ≤ length ahead) where
+  is_document : (document : List ℕ) → may_begin t ≡ true → IsWhole (take len ahead) → IsWritten (take len ahead) document → v ≡ turn_behind_document t
+      → IsDocument t (take len ahead) (document ∷ []) [] v
+  is_document document may whole is next = record {
     may_be = may;
     whole = whole;
     document = document;
@@ -102,8 +52,125 @@ passes_document style name y z t v len document d d' w n n' p may whole is writt
     makes = refl;
     quiet = refl;
     next = next;
-  };
-  is_written = subst (Appends d d') (sym (append-nil document)) written;
-  is_reported = Appends-nil w;
-  is_counted = counted;
-}
+  }
+
+  module _ (at : ℕ) (reason : TextReason) (within : at ≤ len) where
+    is_astray : IsOpen (scanned (take len ahead)) → v ≡ turn_behind_gap t
+        → IsAstray style name place t (take len ahead) [] (fault_line style name (position_over place (take at ahead)) reason) v
+    is_astray open' next = record {
+      begun = take len ahead;
+      gap = [];
+      parts = sym (append-nil (take len ahead));
+      unended = open';
+      no_line = tt;
+      none = refl;
+      fault = tells_fault style name ahead place len at reason fits within;
+      next = inl next;
+    }
+
+    is_refused : may_begin t ≡ true → IsWhole (take len ahead) → v ≡ turn_behind_document t
+        → IsRefused style name place t (take len ahead) [] (fault_line style name (position_over place (take at ahead)) reason) v
+    is_refused may whole next = record {
+      may_be = may;
+      whole = whole;
+      none = refl;
+      fault = tells_fault style name ahead place len at reason fits within;
+      next = next;
+    }
+
+module _ (style : Style) (name : List ℕ) (y z : Cursor) (t v : Turn) (len : ℕ) where
+  module _ (at : ℕ) (reason : TextReason) (out w w' : Option (List ℕ)) (n n' : TextCounts) (p : PassesFirst y z len) (within : at ≤ len)
+      (told : Appends w w' (fault_line style name (position_over y.place (take at (ahead_of y.window))) reason)) (counted : n' ≡ count_made n []) where
+    pub passes_astray : IsOpen (scanned (take len (ahead_of y.window))) → v ≡ turn_behind_gap t → PassesText style name y z t v out out w w' n n' went.Astray
+    passes_astray open' next = record {
+      window = p.is.0;
+      text = take len (ahead_of y.window);
+      made = [];
+      lines = fault_line style name (position_over y.place (take at (ahead_of y.window))) reason;
+      ahead = split y z len p;
+      place = p.is.2;
+      is = is_astray style name (ahead_of y.window) y.place t v len p.fits at reason within open' next;
+      is_written = Appends-nil out;
+      is_reported = told;
+      is_counted = counted;
+    }
+
+    pub passes_refused : may_begin t ≡ true → IsWhole (take len (ahead_of y.window)) → v ≡ turn_behind_document t → PassesText style name y z t v out out w w' n n' went.Refused
+    passes_refused may whole next = record {
+      window = p.is.0;
+      text = take len (ahead_of y.window);
+      made = [];
+      lines = fault_line style name (position_over y.place (take at (ahead_of y.window))) reason;
+      ahead = split y z len p;
+      place = p.is.2;
+      is = is_refused style name (ahead_of y.window) y.place t v len p.fits at reason within may whole next;
+      is_written = Appends-nil out;
+      is_reported = told;
+      is_counted = counted;
+    }
+
+  pub passes_document : (document : List ℕ) (d d' w : Option (List ℕ)) (n n' : TextCounts) → PassesFirst y z len → may_begin t ≡ true → IsWhole (take len (ahead_of y.window))
+      → IsWritten (take len (ahead_of y.window)) document → Appends d d' document → n' ≡ count_made n (document ∷ []) → v ≡ turn_behind_document t
+      → PassesText style name y z t v d d' w w n n' went.Document
+  passes_document document d d' w n n' p may whole is written counted next = record {
+    window = p.is.0;
+    text = take len (ahead_of y.window);
+    made = document ∷ [];
+    lines = [];
+    ahead = split y z len p;
+    place = p.is.2;
+    is = is_document style name (ahead_of y.window) y.place t v len p.fits document may whole is next;
+    is_written = subst (Appends d d') (sym (append-nil document)) written;
+    is_reported = Appends-nil w;
+    is_counted = counted;
+  }
+
+module _ (ahead : List ℕ) (place : Position) (t : Turn) where
+  -- nothing is written
+  pub halts_none : (d : Option (List ℕ)) → (style : Style) (name : List ℕ) (w : Option (List ℕ)) → HaltsText style name place t ahead d d w w
+  halts_none d style name w = inl (refl, refl)
+
+  module _ (len : ℕ) (fits : len ≤ length ahead) where
+    -- a front of a document
+    pub halts_document : (document : List ℕ) (d d' : Option (List ℕ)) → may_begin t ≡ true → IsWhole (take len ahead) → IsWritten (take len ahead) document
+        → AppendsFront d d' document → (style : Style) (name : List ℕ) (w : Option (List ℕ)) → HaltsText style name place t ahead d d' w w
+    halts_document document d d' may whole is front style name w = inr (
+      went.Document,
+      take len ahead,
+      document ∷ [],
+      [],
+      turn_behind_document t,
+      first_of len ahead,
+      is_document style name ahead place t (turn_behind_document t) len fits document may whole is refl,
+      subst (AppendsFront d d') (sym (append-nil document)) front,
+      front_none w [],
+    )
+
+    module _ (style : Style) (name : List ℕ) (at : ℕ) (reason : TextReason) (within : at ≤ len) (w w' : Option (List ℕ))
+        (front : AppendsFront w w' (fault_line style name (position_over place (take at ahead)) reason)) where
+      -- or of the line of a fault
+      pub halts_astray : IsOpen (scanned (take len ahead)) → (out : Option (List ℕ)) → HaltsText style name place t ahead out out w w'
+      halts_astray open' out = inr (
+        went.Astray,
+        take len ahead,
+        [],
+        fault_line style name (position_over place (take at ahead)) reason,
+        turn_behind_gap t,
+        first_of len ahead,
+        is_astray style name ahead place t (turn_behind_gap t) len fits at reason within open' refl,
+        front_none out [],
+        front,
+      )
+
+      pub halts_refused : may_begin t ≡ true → IsWhole (take len ahead) → (out : Option (List ℕ)) → HaltsText style name place t ahead out out w w'
+      halts_refused may whole out = inr (
+        went.Refused,
+        take len ahead,
+        [],
+        fault_line style name (position_over place (take at ahead)) reason,
+        turn_behind_document t,
+        first_of len ahead,
+        is_refused style name ahead place t (turn_behind_document t) len fits at reason within may whole refl,
+        front_none out [],
+        front,
+      )

@@ -5,7 +5,7 @@ use Rattle.std.specs.Io.KnownBytes.{Appends, Consumes, IsAtEnd}
 use Rattle.std.proofs.KnownBytes.{Appends-nil, Appends-trans, Consumes-nil}
 use Rattle.bsonraw_dump.specs.Reading.{IsWindow, ahead_of}
 use Rattle.bsonraw_dump.specs.TextReading.{Advances, FindsText, PassesGap}
-use Rattle.bsonraw_dump.specs.TextRun.{AreTexts, EndsAs, GoesOn, LastGoesOn, IsAstray, IsDocument, IsFailed, IsPassed, IsRefused, IsTextPart, PassesBehind, PassesText, ReadsTexts, TextPart, bytes_of, bytes_of_texts, count_text, joined, lines_of_texts, made_of_texts, turn_behind_texts}
+use Rattle.bsonraw_dump.specs.TextRun.{AreTexts, EndsAs, GoesOn, HaltsText, HaltsTexts, LastGoesOn, IsAstray, IsDocument, IsFailed, IsPassed, IsRefused, IsTextPart, PassesBehind, PassesText, ReadsTexts, TextPart, bytes_of, bytes_of_texts, count_text, joined, lines_of_texts, made_of_texts, turn_behind_texts}
 use Rattle.bsonraw_dump.specs.Texts.{HasNoLine, first_position, position_behind, position_over, turn_over}
 use Rattle.bsonraw_dump.specs.declared.cursor.Cursor.{Cursor}
 use Rattle.bsonraw_dump.specs.declared.cursor.NextText.{NextText}
@@ -86,6 +86,15 @@ nothing_passed a r d w n x none start = record {
   all = tt;
 }
 
+-- one more part comes behind them
+parts_more : (a : AskedTexts) (input r d d' w w' : Option (List ℕ)) (n n' : TextCounts) (x : Cursor) (t : Turn) (p : TextPart) → (g : GoesOnBehind a input r d d' w w' n n' x t)
+    → IsTextPart a.style a.name.now x.place t p → AreTexts a.keep_going a.style a.name.now first_position turn.First (g.has.ps ++ p ∷ [])
+parts_more a input r d d' w w' n n' x t p g is =
+    let h = g.has in
+    let here = subst (λ u. IsTextPart a.style a.name.now (position_over first_position (bytes_of_texts h.ps)) u p) h.turns
+    (subst (λ q. IsTextPart a.style a.name.now q t p) h.place is) in
+    texts_more a.keep_going a.style a.name.now first_position turn.First h.ps p h.parts g.all here
+
 -- one more part is passed
 has_more : (a : AskedTexts) (input r r' d d' d'' w w' w'' : Option (List ℕ)) (n n' n'' : TextCounts) (x y : Cursor) (t t' : Turn) (p : TextPart)
     → GoesOnBehind a input r d d' w w' n n' x t → IsTextPart a.style a.name.now x.place t p → p.behind ≡ t' → Advances r r' x y (bytes_of p)
@@ -93,12 +102,10 @@ has_more : (a : AskedTexts) (input r r' d d' d'' w w' w'' : Option (List ℕ)) (
     → (h : HasTexts a input r' d d'' w w'' n n'' y t') × (GoesOn a.keep_going p → AllGoOn a.keep_going h.ps)
 has_more a input r r' d d' d'' w w' w'' n n' n'' x y t t' p g is behind advances written told counted =
     let h = g.has in
-    let here = subst (λ u. IsTextPart a.style a.name.now (position_over first_position (bytes_of_texts h.ps)) u p) h.turns
-    (subst (λ q. IsTextPart a.style a.name.now q t p) h.place is) in
     let read = read_behind (bytes_of_texts h.ps) (ahead_of x.window) (bytes_of p ++ ahead_of y.window) input r r' h.is_read advances.is_read in (
       record {
         ps = h.ps ++ p ∷ [];
-        parts = texts_more a.keep_going a.style a.name.now first_position turn.First h.ps p h.parts g.all here;
+        parts = parts_more a input r d d' w w' n n' x t p g is;
         is_read = subst (Consumes input r') (sym (append_assoc (bytes_of_texts h.ps) (bytes_of p) (ahead_of y.window)) ∙ ap (λ l. l ++ ahead_of y.window) (one_more bytes_of h.ps p)) read;
         place = advances.place ∙ ap (λ q. position_over q (bytes_of p)) h.place ∙ sym (fold-append position_behind first_position (bytes_of_texts h.ps) (bytes_of p))
             ∙ ap (position_over first_position) (one_more bytes_of h.ps p);
@@ -117,6 +124,17 @@ kind_of : (style : Style) (name : List ℕ) (place : Position) (before : Turn) (
 kind_of style name place before went.Document text made lines behind is = inl is
 kind_of style name place before went.Refused text made lines behind is = inr (inl is)
 kind_of style name place before went.Astray text made lines behind is = inr (inr is)
+
+-- what is next is a part
+part_of : (style : Style) (name : List ℕ) (r r' : Option (List ℕ)) (x y : Cursor) (t u : Turn) (told : NextText) (f : FindsText r r' x y t u told) (what : Went)
+    (text : List ℕ) (made : List (List ℕ)) (lines : List ℕ) (v : Turn) → IsPassed style name y.place u what text made lines v
+    → IsTextPart style name x.place t (record { front = f.front; text = text; made = made; lines = lines; behind = v })
+part_of style name r r' x y t u told f what text made lines v is = record {
+  between = u;
+  fronts = f.turns;
+  is = subst (λ q. IsDocument u text made lines v ⊎ IsRefused style name q u text made lines v ⊎ IsAstray style name q u text made lines v) f.advances.place
+      (kind_of style name y.place u what text made lines v is);
+}
 
 no_line_on : (p : Position) (a b : List ℕ) → HasNoLine p a → HasNoLine (position_over p a) b → HasNoLine p (a ++ b)
 no_line_on p [] b none more = more
@@ -173,13 +191,7 @@ module _ (a : AskedTexts) (input r r' d d' d'' w w' w'' : Option (List ℕ)) (n 
       → (h : HasTexts a input r' d d'' w w'' n n'' z v) × ((p.lines ≡ []) ⊎ (a.keep_going ≡ true) → AllGoOn a.keep_going h.ps)
   next_part told what g f p =
       let part : TextPart = record { front = f.front; text = p.text; made = p.made; lines = p.lines; behind = v } in
-      let kind = kind_of a.style a.name.now y.place u what p.text p.made p.lines v p.is in
-      let is : IsTextPart a.style a.name.now x.place t part = record {
-        between = u;
-        fronts = f.turns;
-        is = subst (λ q. IsDocument u p.text p.made p.lines v ⊎ IsRefused a.style a.name.now q u p.text p.made p.lines v ⊎ IsAstray a.style a.name.now q u p.text p.made p.lines v)
-            f.advances.place kind;
-      } in
+      let is = part_of a.style a.name.now r r' x y t u told f what p.text p.made p.lines v p.is in
       has_more a input r r' d d' d'' w w' w'' n n' n'' x z t v part g is refl (advances_more r r' x y z f.front p.text f.advances p.window p.ahead p.place)
       p.is_written p.is_reported p.is_counted
 
@@ -298,4 +310,54 @@ module _ (a : AskedTexts) (input r d d' w w' : Option (List ℕ)) (n n' : TextCo
         is_written = h.is_written;
         is_reported = h.is_reported;
         is_counted = h.is_counted;
+      }
+
+  -- one that fails, and writes nothing more
+  pub halts_here : HasTexts a input r d d' w w' n n' x t → HaltsTexts a.keep_going a.style a.name.now input d d' w w' n n'
+  halts_here h = record {
+    ps = h.ps;
+    parts = h.parts;
+    in_front = front_of input r (bytes_of_texts h.ps) (ahead_of x.window) h.is_read;
+    out_between = d';
+    report_between = w';
+    is_written = h.is_written;
+    is_reported = h.is_reported;
+    is_counted = h.is_counted;
+    halts = inl (refl, refl);
+  }
+
+  -- or a front of what is next
+  pub halts_next : (r' d'' w'' : Option (List ℕ)) (n'' : TextCounts) (y : Cursor) (u : Turn) (told : NextText) → GoesOnBehind a input r d d' w w' n n' x t → FindsText r r' x y t u told
+      → HaltsText a.style a.name.now y.place u (ahead_of y.window) d' d'' w' w'' → n'' ≡ n' → HaltsTexts a.keep_going a.style a.name.now input d d'' w w'' n n''
+  halts_next r' d'' w'' n'' y u told g f (inl same) counted =
+      let h = g.has in record {
+        ps = h.ps;
+        parts = h.parts;
+        in_front = front_of input r (bytes_of_texts h.ps) (ahead_of x.window) h.is_read;
+        out_between = d';
+        report_between = w';
+        is_written = h.is_written;
+        is_reported = h.is_reported;
+        is_counted = counted ∙ h.is_counted;
+        halts = inl same;
+      }
+  halts_next r' d'' w'' n'' y u told g f (inr (what, text, made, lines, v, (rest, split), is, put, wrote)) counted =
+      let h = g.has in
+      let bytes = bytes_of_texts h.ps in
+      let part : TextPart = record { front = f.front; text = text; made = made; lines = lines; behind = v } in
+      let read = read_behind bytes (ahead_of x.window) (f.front ++ ahead_of y.window) input r r' h.is_read f.advances.is_read in
+      let same : bytes ++ (f.front ++ ahead_of y.window) ≡ bytes_of_texts (h.ps ++ part ∷ []) ++ rest =
+      ap (λ l. bytes ++ (f.front ++ l)) split ∙ ap (λ l. bytes ++ l) (sym (append_assoc f.front text rest)) ∙ sym (append_assoc bytes (f.front ++ text) rest)
+      ∙ ap (λ l. l ++ rest) (one_more bytes_of h.ps part) in
+      let next = parts_more a input r d d' w w' n n' x t part g (part_of a.style a.name.now r r' x y t u told f what text made lines v is) in
+      record {
+        ps = h.ps;
+        parts = h.parts;
+        in_front = front_of input r bytes (ahead_of x.window) h.is_read;
+        out_between = d';
+        report_between = w';
+        is_written = h.is_written;
+        is_reported = h.is_reported;
+        is_counted = counted ∙ h.is_counted;
+        halts = inr (part, next, front_of input r' (bytes_of_texts (h.ps ++ part ∷ [])) rest (subst (Consumes input r') same read), put, wrote);
       }

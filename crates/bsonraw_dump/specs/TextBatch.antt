@@ -6,8 +6,9 @@ use Rattle.std.specs.Io.KnownBytes.{Appends, Keeps}
 use Rattle.std.specs.declared.io.Error.{Error}
 use Rattle.std.specs.declared.io.ErrorKind.TheVariants.{BrokenPipe}
 use Rattle.json.specs.Token.{key, number}
+use Rattle.bson_json.specs.Written.{AppendsFront}
 use Rattle.bsonraw_dump.specs.Batch.{CutInput, cut_of, input_of}
-use Rattle.bsonraw_dump.specs.TextRun.{ReadsTexts, count_file, no_texts}
+use Rattle.bsonraw_dump.specs.TextRun.{HaltsTexts, ReadsTexts, count_file, no_texts}
 use Rattle.bsonraw_dump.specs.Told.{object_line}
 use Rattle.bsonraw_dump.specs.declared.batch.Done.{Done}
 use Rattle.bsonraw_dump.specs.declared.batch.Lack.{Lack}
@@ -114,13 +115,31 @@ pub record ReadsThem (job : TextJob) (bytes_of : List ℕ → Option (List ℕ))
   pub out : Keeps last.out out_new
   pub report : Appends last.report report_new (text_summary job.style last.counts)
 
+-- What is written of the first of these inputs, which isn't done with. Where none is left, a front of the line of all.
+abbrev pub HaltsReading : TextJob → (bytes_of : List ℕ → Option (List ℕ)) → List (List ℕ) → TextState → (out_new report_new : Option (List ℕ)) → TextCounts → Type 0
+HaltsReading job bytes_of [] last out_new report_new counts_new =
+    Keeps last.out out_new × AppendsFront last.report report_new (text_summary job.style last.counts) × (counts_new ≡ last.counts)
+HaltsReading job bytes_of (name ∷ names) last out_new report_new counts_new =
+    HaltsTexts job.keep_going job.style name (bytes_of name) last.out out_new last.report report_new last.counts counts_new
+
+-- Some of the inputs of these names were read, from this state on, in order; and then a failure came, in the next, or behind all.
+pub record ReadsFront (job : TextJob) (bytes_of : List ℕ → Option (List ℕ)) (names : List (List ℕ)) (first : TextState) (out_new report_new : Option (List ℕ))
+    (counts_new : TextCounts) : Type 0 where
+  pub passed : List (List ℕ)
+  pub others : List (List ℕ)
+  pub in_order : names ≡ passed ++ others
+  pub last : TextState
+  pub reads : ReadsOver job bytes_of passed first last
+  pub halts : HaltsReading job bytes_of others last out_new report_new counts_new
+
 -- how a run over the inputs of these names ends from this state on
 abbrev pub EndsTexts : TextJob → (bytes_of : List ℕ → Option (List ℕ)) → List (List ℕ) → TextState → (out_new report_new : Option (List ℕ)) → Option Lack → Status → Type 0
 EndsTexts job bytes_of names first out_new report_new None ended =
     (last : TextState) × ReadsThem job bytes_of names first last out_new report_new × (last.cut ≡ None) × IsTextStatus last.counts ended
 EndsTexts job bytes_of names first out_new report_new (Some (lack.Cut cut)) ended =
     (last : TextState) × ReadsThem job bytes_of names first last out_new report_new × (last.cut ≡ Some (cut_of cut)) × IsTextStatus last.counts ended
-EndsTexts job bytes_of names first out_new report_new (Some (lack.Failed failed)) ended = (n : TextCounts) × IsTextFailureStatus n failed ended
+EndsTexts job bytes_of names first out_new report_new (Some (lack.Failed failed)) ended =
+    (n : TextCounts) × ReadsFront job bytes_of names first out_new report_new n × IsTextFailureStatus n failed ended
 
 -- How a run over the inputs of these names ends. Nothing lacks where each was read to its end. A failure gives the status, but for a pipe
 -- that has no reader.

@@ -2,6 +2,8 @@
 use Rattle.std.specs.Prelude.{◌≡◌, ◌⊎◌, ◌+◌, ◌≤◌, ℕ, List, [], ◌∷◌, ◌++◌, Bool, true, false, Option, Some, IfSome, flat_map, fold, length, take}
 use Rattle.std.specs.Io.KnownBytes.{Appends}
 use Rattle.bson_from_json.specs.Texts.{IsWritten}
+use Rattle.bson_json.specs.Written.{AppendsFront}
+use Rattle.bsonraw_dump.specs.Fronts.{HasFront}
 use Rattle.bsonraw_dump.specs.Reading.{IsWindow, ahead_of}
 use Rattle.bsonraw_dump.specs.TextFaults.{fault_line}
 use Rattle.bsonraw_dump.specs.Texts.{HasNoLine, IsOpen, IsWhole, first_position, may_begin, may_end, position_over, scanned, turn_behind_document, turn_behind_gap, turn_over}
@@ -152,6 +154,27 @@ pub record ReadsTexts (asked : AskedTexts) (input out_old out_new report_old rep
   pub is_reported : Appends report_old report_new (lines_of_texts ps)
   pub is_counted : counts_new ≡ fold count_text counts_old ps
 
+-- nothing is written behind these parts, or a front of what one more gives
+abbrev pub HaltsBehind : (keep_going : Bool) → Style → List ℕ → (input : Option (List ℕ)) → List TextPart → (out_old out_new report_old report_new : Option (List ℕ)) → Type 0
+HaltsBehind keep_going style name input ps out_old out_new report_old report_new =
+    ((out_new ≡ out_old) × (report_new ≡ report_old))
+    ⊎ ((p : TextPart) × AreTexts keep_going style name first_position turn.First (ps ++ p ∷ []) × IfSome input (λ s. HasFront s (bytes_of_texts (ps ++ p ∷ [])))
+    × AppendsFront out_old out_new (joined p.made) × AppendsFront report_old report_new p.lines)
+
+-- How a run over an input fails. These parts are in front of it. What they give was written, told and counted, and of the next one
+-- a front was written or told.
+pub record HaltsTexts (keep_going : Bool) (style : Style) (name : List ℕ) (input out_old out_new report_old report_new : Option (List ℕ))
+    (counts_old counts_new : TextCounts) : Type 0 where
+  pub ps : List TextPart
+  pub parts : AreTexts keep_going style name first_position turn.First ps
+  pub in_front : IfSome input (λ s. HasFront s (bytes_of_texts ps))
+  pub out_between : Option (List ℕ)
+  pub report_between : Option (List ℕ)
+  pub is_written : Appends out_old out_between (made_of_texts ps)
+  pub is_reported : Appends report_old report_between (lines_of_texts ps)
+  pub is_counted : counts_new ≡ fold count_text counts_old ps
+  pub halts : HaltsBehind keep_going style name input ps out_between out_new report_between report_new
+
 -- What the code tells of one part. No public contract cites what follows.
 
 -- what came of the bytes ahead: a document, a text with a fault, or what is no text
@@ -173,6 +196,13 @@ pub record PassesText (style : Style) (name : List ℕ) (cursor_old cursor_new :
   pub is_written : Appends out_old out_new (joined made)
   pub is_reported : Appends report_old report_new lines
   pub is_counted : counts_new ≡ count_made counts_old made
+
+-- nothing is written of these bytes, or a front of what a part gives that is in front of them
+abbrev pub HaltsText : Style → List ℕ → Position → (before : Turn) → List ℕ → (out_old out_new report_old report_new : Option (List ℕ)) → Type 0
+HaltsText style name place before ahead out_old out_new report_old report_new =
+    ((out_new ≡ out_old) × (report_new ≡ report_old))
+    ⊎ ((what : Went) × (text : List ℕ) × (made : List (List ℕ)) × (lines : List ℕ) × (behind : Turn) × HasFront ahead text
+    × IsPassed style name place before what text made lines behind × AppendsFront out_old out_new (joined made) × AppendsFront report_old report_new lines)
 
 -- what is next in the bytes ahead, and isn't the end of the input
 abbrev pub HasNext : List ℕ → Turn → NextText → Type 0

@@ -1,14 +1,15 @@
 //! Reads the documents of an input of texts, and writes their bytes.
 #![tactic(auto)]
 
-ghost use Rattle.std.specs.Prelude.{◌≡◌, ◌≢◌, ◌⊎◌, ◌≤◌, ℕ, List, Option, length, take, IfErr, IfOk, MatchBool, OnOk, true, false};
+ghost use Rattle.std.specs.Prelude.{◌≡◌, ◌≢◌, ◌⊎◌, ◌≤◌, ℕ, List, Option, [], drop, length, take, IfErr, IfOk, MatchBool, OnErr, OnOk, true, false};
 ghost use Rattle.std.specs.Io.KnownBytes.{Appends};
 ghost use Rattle.bson_from_json.specs.Texts.{IsWritten};
+ghost use Rattle.bson_json.specs.Written.{AppendsFront};
 ghost use Rattle.bsonraw_dump.specs.Reading.{IsWindow, ahead_of};
 ghost use Rattle.bsonraw_dump.specs.Run.{IsReading};
 ghost use Rattle.bsonraw_dump.specs.TextFaults.{fault_line};
 ghost use Rattle.bsonraw_dump.specs.TextReading.{ScansAhead};
-ghost use Rattle.bsonraw_dump.specs.TextRun.{HasNext, IsFailed, IsMadeOf, PassesBehind, PassesText, ReadsTexts};
+ghost use Rattle.bsonraw_dump.specs.TextRun.{HaltsText, HaltsTexts, HasNext, IsFailed, IsMadeOf, PassesBehind, PassesText, ReadsTexts, count_made};
 ghost use Rattle.bsonraw_dump.specs.declared.texts.Went.TheVariants.{Document};
 ghost use Rattle.bsonraw_dump.specs.Texts.{IsOpen, IsWhole, may_begin, position_over, scanned};
 
@@ -82,6 +83,8 @@ pub fn read_texts<R: Read, D: Write, W: Write>(
 ) -> Result<TextEnd, Failure>
     ensures reads { IfOk result (ReadsTexts asked.entry (R.remaining reader.old) (D.contents out.old) (D.contents out.new) (W.contents report.old) (W.contents report.new)
         counts.old counts.new) }
+    ensures halts { OnErr result (HaltsTexts asked.entry.keep_going asked.entry.style asked.entry.name.now (R.remaining reader.old) (D.contents out.old) (D.contents out.new)
+        (W.contents report.old) (W.contents report.new) counts.old counts.new) }
     ensures failed { IfErr result (λ failure. ¬ IsReading failure) }
 {
     let mut cursor = Cursor::new(alloc);
@@ -168,6 +171,9 @@ fn pass_next<D: Write, W: Write>(
     requires { IsWindow cursor.old.window × HasNext (ahead_of cursor.old.window) turn.old next }
     ensures passed { IfOk result (PassesText asked.entry.style asked.entry.name.now cursor.old cursor.new turn.old turn.new
         (D.contents out.old) (D.contents out.new) (W.contents report.old) (W.contents report.new) counts.old counts.new) }
+    ensures halts { OnErr result (HaltsText asked.entry.style asked.entry.name.now cursor.old.place turn.old (ahead_of cursor.old.window)
+        (D.contents out.old) (D.contents out.new) (W.contents report.old) (W.contents report.new)) }
+    ensures uncounted { OnErr result (counts.new ≡ counts.old) }
     ensures failed { IfErr result (λ failure. ¬ IsReading failure) }
 {
     match next {
@@ -195,6 +201,9 @@ fn pass_found<D: Write, W: Write>(
     requires { IsWindow cursor.old.window × (may_begin turn.old ≡ true) × ScansAhead (ahead_of cursor.old.window) found }
     ensures passed { IfOk result (PassesText asked.entry.style asked.entry.name.now cursor.old cursor.new turn.old turn.new
         (D.contents out.old) (D.contents out.new) (W.contents report.old) (W.contents report.new) counts.old counts.new) }
+    ensures halts { OnErr result (HaltsText asked.entry.style asked.entry.name.now cursor.old.place turn.old (ahead_of cursor.old.window)
+        (D.contents out.old) (D.contents out.new) (W.contents report.old) (W.contents report.new)) }
+    ensures uncounted { OnErr result (counts.new ≡ counts.old) }
     ensures failed { IfErr result (λ failure. ¬ IsReading failure) }
 {
     let made = made_of(alloc, &cursor.window.ahead()[..found.len])?;
@@ -268,12 +277,16 @@ fn pass_document<D: Write>(
         × IsWhole (take len (ahead_of cursor.old.window)) × IsWritten (take len (ahead_of cursor.old.window)) document.now }
     ensures passed { IfOk result (λ went. (style : Style) (name : List ℕ) (report : Option (List ℕ)) → PassesText style name cursor.old cursor.new turn.old turn.new
         (D.contents out.old) (D.contents out.new) report report counts.old counts.new went) }
+    ensures halts { OnErr result ((style : Style) (name : List ℕ) (report : Option (List ℕ)) → HaltsText style name cursor.old.place turn.old (ahead_of cursor.old.window)
+        (D.contents out.old) (D.contents out.new) report report) }
+    ensures uncounted { OnErr result (counts.new ≡ counts.old) }
     ensures failed { IfErr result (λ failure. ¬ IsReading failure) }
 {
     let bytes = document.as_bytes();
-    put(out, bytes)?;
-    *counts = in_range(counts.with_document(bytes))?;
+    let counted = in_range(counts.with_document(bytes))?;
     cursor.pass(len)?;
+    put(out, bytes)?;
+    *counts = counted;
     *turn = turn.behind_document();
     Ok(Went::Document)
 }
@@ -294,11 +307,12 @@ fn pass_refused<W: Write>(
         × IsWhole (take len (ahead_of cursor.old.window)) × (at ≤ len) }
     ensures passed { IfOk result (λ went. (out : Option (List ℕ)) → PassesText asked.entry.style asked.entry.name.now cursor.old cursor.new turn.old turn.new
         out out (W.contents report.old) (W.contents report.new) counts.old counts.new went) }
+    ensures halts { OnErr result ((out : Option (List ℕ)) → HaltsText asked.entry.style asked.entry.name.now cursor.old.place turn.old (ahead_of cursor.old.window)
+        out out (W.contents report.old) (W.contents report.new)) }
+    ensures uncounted { OnErr result (counts.new ≡ counts.old) }
     ensures failed { IfErr result (λ failure. ¬ IsReading failure) }
 {
-    put_fault(alloc, asked, at, reason, cursor, report)?;
-    *counts = in_range(counts.with_refused())?;
-    cursor.pass(len)?;
+    tell_fault(alloc, asked, len, at, reason, cursor, report, counts)?;
     *turn = turn.behind_document();
     Ok(Went::Refused)
 }
@@ -319,30 +333,59 @@ fn pass_astray<W: Write>(
         × IsOpen (scanned (take begun (ahead_of cursor.old.window))) × (at ≤ begun) }
     ensures passed { IfOk result (λ went. (out : Option (List ℕ)) → PassesText asked.entry.style asked.entry.name.now cursor.old cursor.new turn.old turn.new
         out out (W.contents report.old) (W.contents report.new) counts.old counts.new went) }
+    ensures halts { OnErr result ((out : Option (List ℕ)) → HaltsText asked.entry.style asked.entry.name.now cursor.old.place turn.old (ahead_of cursor.old.window)
+        out out (W.contents report.old) (W.contents report.new)) }
+    ensures uncounted { OnErr result (counts.new ≡ counts.old) }
     ensures failed { IfErr result (λ failure. ¬ IsReading failure) }
 {
-    put_fault(alloc, asked, at, reason, cursor, report)?;
-    *counts = in_range(counts.with_refused())?;
-    cursor.pass(begun)?;
+    tell_fault(alloc, asked, begun, at, reason, cursor, report, counts)?;
     *turn = turn.behind_gap();
     Ok(Went::Astray)
 }
 
-/// Writes the line of a fault that is so many bytes behind a place.
-fn put_fault<W: Write>(
+/// Tells a fault that is so many bytes behind the place, counts it, and passes so many bytes.
+fn tell_fault<W: Write>(
+    alloc: Global,
+    asked: AskedTexts<'_>,
+    len: usize,
+    at: usize,
+    reason: TextReason,
+    cursor: &mut Cursor,
+    report: &mut W,
+    counts: &mut TextCounts,
+) -> Result<(), Failure>
+    requires { IsWindow cursor.old.window × (len ≤ length (ahead_of cursor.old.window)) × (at ≤ len) }
+    ensures told { OnOk result (Appends (W.contents report.old) (W.contents report.new)
+        (fault_line asked.entry.style asked.entry.name.now (position_over cursor.old.place (take at (ahead_of cursor.old.window))) reason)) }
+    ensures passed { OnOk result (IsWindow cursor.new.window × (ahead_of cursor.new.window ≡ drop len (ahead_of cursor.old.window))
+        × (cursor.new.place ≡ position_over cursor.old.place (take len (ahead_of cursor.old.window)))) }
+    ensures counted { OnOk result (counts.new ≡ count_made counts.old []) }
+    ensures front { OnErr result (AppendsFront (W.contents report.old) (W.contents report.new)
+        (fault_line asked.entry.style asked.entry.name.now (position_over cursor.old.place (take at (ahead_of cursor.old.window))) reason)) }
+    ensures uncounted { OnErr result (counts.new ≡ counts.old) }
+    ensures failed { IfErr result (λ failure. ¬ IsReading failure) }
+{
+    let line = line_at(alloc, asked, at, reason, cursor)?;
+    let counted = in_range(counts.with_refused())?;
+    cursor.pass(len)?;
+    put(report, &line)?;
+    *counts = counted;
+    Ok(())
+}
+
+/// The line of a fault that is so many bytes behind the place.
+fn line_at(
     alloc: Global,
     asked: AskedTexts<'_>,
     at: usize,
     reason: TextReason,
     cursor: &Cursor,
-    report: &mut W,
-) -> Result<(), Failure>
+) -> Result<Vec<u8>, Failure>
     requires { IsWindow cursor.now.window × (at ≤ length (ahead_of cursor.now.window)) }
-    ensures told { OnOk result (Appends (W.contents report.old) (W.contents report.new)
-        (fault_line asked.entry.style asked.entry.name.now (position_over cursor.now.place (take at (ahead_of cursor.now.window))) reason)) }
+    ensures line { IfOk result (λ line. line.items ≡ fault_line asked.entry.style asked.entry.name.now
+        (position_over cursor.now.place (take at (ahead_of cursor.now.window))) reason) }
     ensures failed { IfErr result (λ failure. ¬ IsReading failure) }
 {
     let place = cursor.place.over(&cursor.window.ahead()[..at])?;
-    let line = line_of_fault(alloc, asked.style, asked.name, place, reason)?;
-    put(report, &line)
+    Ok(line_of_fault(alloc, asked.style, asked.name, place, reason)?)
 }

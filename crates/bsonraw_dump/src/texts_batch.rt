@@ -1,13 +1,14 @@
 //! Reads inputs of texts, one after the other.
 #![tactic(auto)]
 
-ghost use Rattle.std.specs.Prelude.{◌≡◌, None, false, map, IfErr, IfOk, OnOk};
+ghost use Rattle.std.specs.Prelude.{◌≡◌, None, false, map, IfErr, IfOk, OnErr, OnOk};
 ghost use Rattle.std.specs.Io.KnownBytes.{Appends};
 ghost use Rattle.std.specs.Option.{option_map};
+ghost use Rattle.bson_json.specs.Written.{AppendsFront};
 ghost use Rattle.bsonraw_dump.specs.Batch.{cut_of, input_of};
 ghost use Rattle.bsonraw_dump.specs.Run.{IsReading};
-ghost use Rattle.bsonraw_dump.specs.TextBatch.{EndsInput, IsTextFailureStatus, IsTextStatus, IsTextsDone, ReadsAll, ReadsInput, ReadsOpen, first_text_cut, text_state, text_summary};
-ghost use Rattle.bsonraw_dump.specs.TextRun.{count_file, no_texts};
+ghost use Rattle.bsonraw_dump.specs.TextBatch.{EndsInput, IsTextFailureStatus, IsTextStatus, IsTextsDone, ReadsAll, ReadsFront, ReadsInput, ReadsOpen, first_text_cut, text_state, text_summary};
+ghost use Rattle.bsonraw_dump.specs.TextRun.{HaltsTexts, count_file, no_texts};
 ghost use Rattle.bsonraw_dump.specs.declared.style.Style.TheVariants.{Json, Words};
 
 use crate::batch::{Cut, Done, Lack, flush};
@@ -67,6 +68,7 @@ impl<'a> TextTotals<'a> {
     fn fail(&mut self, name: &'a str) -> Result<(), Failure>
         ensures cut { OnOk result (option_map cut_of self.new.cut ≡ first_text_cut (option_map cut_of self.old.cut) (input_of name.entry.now false)) }
         ensures counts { OnOk result (self.new.counts ≡ count_file self.old.counts) }
+        ensures uncounted { OnErr result (self.new.counts ≡ self.old.counts) }
         ensures failed { IfErr result (λ failure. ¬ IsReading failure) }
     {
         self.counts = in_range(self.counts.with_file())?;
@@ -112,6 +114,8 @@ fn read_each<'a, I: Inputs, D: Write, W: Write>(
 ) -> Result<(), Failure>
     ensures reads { OnOk result (ReadsAll job (I.bytes_of inputs.now) (map (λ name. name.now) names.now)
         (text_state (D.contents out.old) (W.contents report.old) totals.old) totals.new (D.contents out.new) (W.contents report.new)) }
+    ensures fails { OnErr result (ReadsFront job (I.bytes_of inputs.now) (map (λ name. name.now) names.now)
+        (text_state (D.contents out.old) (W.contents report.old) totals.old) (D.contents out.new) (W.contents report.new) totals.new.counts) }
     ensures failed { IfErr result (λ failure. ¬ IsReading failure) }
 {
     for name in names {
@@ -134,6 +138,8 @@ fn read_one<'a, I: Inputs, D: Write, W: Write>(
 ) -> Result<(), Failure>
     ensures reads { OnOk result (ReadsInput job (I.bytes_of inputs.now name.entry.now) name.entry.now
         (text_state (D.contents out.old) (W.contents report.old) totals.old) (text_state (D.contents out.new) (W.contents report.new) totals.new)) }
+    ensures halts { OnErr result (HaltsTexts job.keep_going job.style name.entry.now (I.bytes_of inputs.now name.entry.now) (D.contents out.old) (D.contents out.new)
+        (W.contents report.old) (W.contents report.new) totals.old.counts totals.new.counts) }
     ensures failed { IfErr result (λ failure. ¬ IsReading failure) }
 {
     match inputs.open(name) {
@@ -161,6 +167,8 @@ fn read_open<'a, I: Inputs, D: Write, W: Write>(
 ) -> Result<(), Failure>
     ensures reads { OnOk result (ReadsOpen job (I.Input.remaining input.old) name.entry.now
         (text_state (D.contents out.old) (W.contents report.old) totals.old) (text_state (D.contents out.new) (W.contents report.new) totals.new)) }
+    ensures halts { OnErr result (HaltsTexts job.keep_going job.style name.entry.now (I.Input.remaining input.old) (D.contents out.old) (D.contents out.new)
+        (W.contents report.old) (W.contents report.new) totals.old.counts totals.new.counts) }
     ensures failed { IfErr result (λ failure. ¬ IsReading failure) }
 {
     let asked = AskedTexts {
@@ -180,6 +188,7 @@ fn end_input<'a, I: Inputs>(
     totals: &mut TextTotals<'a>,
 ) -> Result<(), Failure>
     ensures ends { OnOk result (EndsInput end.now name.entry.now totals.old.counts totals.new.counts (option_map cut_of totals.old.cut) (option_map cut_of totals.new.cut)) }
+    ensures uncounted { OnErr result (totals.new.counts ≡ totals.old.counts) }
     ensures failed { IfErr result (λ failure. ¬ IsReading failure) }
 {
     match end {
@@ -203,6 +212,7 @@ fn put_counts<W: Write>(
     report: &mut W,
 ) -> Result<(), Failure>
     ensures written { OnOk result (Appends (W.contents report.old) (W.contents report.new) (text_summary style counts)) }
+    ensures front { OnErr result (AppendsFront (W.contents report.old) (W.contents report.new) (text_summary style counts)) }
     ensures failed { IfErr result (λ failure. ¬ IsReading failure) }
 {
     let line = match style {

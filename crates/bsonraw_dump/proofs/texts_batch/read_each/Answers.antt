@@ -1,7 +1,8 @@
 use Rattle.std.proofs.Common.{List, ℕ, Bor, refl}
 use Rattle.std.proofs.KnownBytes.{Appends-kept}
 use Rattle.bsonraw_dump.specs.TextBatch.{text_state, text_summary}
-use Rattle.bsonraw_dump.proofs.TextSumming.{in_ok, reads_all, reads_next}
+use Rattle.bsonraw_dump.proofs.Fronts.{front_none, front_whole, on_any}
+use Rattle.bsonraw_dump.proofs.TextSumming.{halts_behind, halts_next, in_ok, reads_all, reads_front, reads_next}
 use Rattle.bsonraw_dump.proofs.texts_batch.read_each.Goals as goal
 
 pub loop-name-preserved : goal.loop-name-preserved
@@ -30,3 +31,52 @@ returns-clause-reads g c =
       refl,
       refl,
     )
+
+pub returns-in_err-read_one-clause-fails : goal.returns-in_err-read_one-clause-fails
+returns-in_err-read_one-clause-fails g c =
+    let job = c.args.job in
+    let bytes_of = g.I.Inputs.bytes_of c.args.inputs.now in
+    let f = λ (name : Bor (List ℕ)). name.now in
+    let d = g.D.Write.contents c.read_one.new.out in
+    let w = g.W.Write.contents c.read_one.new.report in
+    let first = text_state (g.D.Write.contents c.args.out.now) (g.W.Write.contents c.args.report.now) c.args.totals.now in
+    let last = text_state (g.D.Write.contents c.loop-name.out) (g.W.Write.contents c.loop-name.report) c.loop-name.totals in
+    on_any _ _ (reads_front job bytes_of f c.args.names.now c.loop-name.name-index first last d w c.read_one.new.totals.counts c.loop-name.invariant
+    (halts_next job bytes_of f c.args.names.now c.loop-name.name-index _ last d w c.read_one.new.totals.counts c.loop-name-test.true c.in_err-read_one.ensures.halts))
+
+pub returns-in_err-flush-clause-fails : goal.returns-in_err-flush-clause-fails
+returns-in_err-flush-clause-fails g c =
+    let job = c.args.job in
+    let bytes_of = g.I.Inputs.bytes_of c.args.inputs.now in
+    let f = λ (name : Bor (List ℕ)). name.now in
+    let d = g.D.Write.contents c.flush.new.writer in
+    let w = g.W.Write.contents c.loop-name.report in
+    let first = text_state (g.D.Write.contents c.args.out.now) (g.W.Write.contents c.args.report.now) c.args.totals.now in
+    let last = text_state (g.D.Write.contents c.loop-name.out) (g.W.Write.contents c.loop-name.report) c.loop-name.totals in
+    on_any _ _ (reads_front job bytes_of f c.args.names.now c.loop-name.name-index first last d w last.counts c.loop-name.invariant
+    (halts_behind job bytes_of f c.args.names.now c.loop-name.name-index last d w c.loop-name-test.false c.flush.ensures.kept (front_none w _)))
+
+pub returns-in_err-put_counts-clause-fails : goal.returns-in_err-put_counts-clause-fails
+returns-in_err-put_counts-clause-fails g c =
+    let job = c.args.job in
+    let bytes_of = g.I.Inputs.bytes_of c.args.inputs.now in
+    let f = λ (name : Bor (List ℕ)). name.now in
+    let d = g.D.Write.contents c.flush.new.writer in
+    let w = g.W.Write.contents c.put_counts.new.report in
+    let first = text_state (g.D.Write.contents c.args.out.now) (g.W.Write.contents c.args.report.now) c.args.totals.now in
+    let last = text_state (g.D.Write.contents c.loop-name.out) (g.W.Write.contents c.loop-name.report) c.loop-name.totals in
+    on_any _ _ (reads_front job bytes_of f c.args.names.now c.loop-name.name-index first last d w last.counts c.loop-name.invariant
+    (halts_behind job bytes_of f c.args.names.now c.loop-name.name-index last d w c.loop-name-test.false c.flush.ensures.kept c.in_err-put_counts.ensures.front))
+
+pub returns-clause-fails : goal.returns-clause-fails
+returns-clause-fails g c =
+    let job = c.args.job in
+    let bytes_of = g.I.Inputs.bytes_of c.args.inputs.now in
+    let f = λ (name : Bor (List ℕ)). name.now in
+    let d = g.D.Write.contents c.flush.new.writer in
+    let w = g.W.Write.contents c.flush-2.new.writer in
+    let first = text_state (g.D.Write.contents c.args.out.now) (g.W.Write.contents c.args.report.now) c.args.totals.now in
+    let last = text_state (g.D.Write.contents c.loop-name.out) (g.W.Write.contents c.loop-name.report) c.loop-name.totals in
+    on_any _ _ (reads_front job bytes_of f c.args.names.now c.loop-name.name-index first last d w last.counts c.loop-name.invariant
+    (halts_behind job bytes_of f c.args.names.now c.loop-name.name-index last d w c.loop-name-test.false c.flush.ensures.kept (front_whole last.report w _
+    (Appends-kept last.report (g.W.Write.contents c.put_counts.new.report) w _ c.in_ok-put_counts.ensures.written c.flush-2.ensures.kept))))

@@ -1,0 +1,18 @@
+use Rattle.std.proofs.Common.{◌≡◌}
+use Rattle.bsonraw_dump.specs.TextRun.{HaltsTexts}
+use Rattle.bsonraw_dump.proofs.Fronts.{on_err}
+use Rattle.bsonraw_dump.proofs.TextSumming.{halts_read}
+use Rattle.bsonraw_dump.proofs.texts_batch.read_open.Goals as goal
+
+pub returns-clause-halts : goal.returns-clause-halts
+returns-clause-halts g c =
+    let input = g.I.Input.Read.remaining c.args.input.now in
+    let d = g.D.Write.contents c.args.out.now in
+    let d' = g.D.Write.contents c.read_texts.new.out in
+    let w = g.W.Write.contents c.args.report.now in
+    let w' = g.W.Write.contents c.read_texts.new.report in
+    let n = c.args.totals.now.counts in
+    let n' = c.read_texts.new.counts in
+    let n'' = c.end_input.new.totals.counts in
+    on_err c.end_input.result (n'' ≡ n') (HaltsTexts c.args.job.keep_going c.args.job.style c.args.name.now input d d' w w' n n'')
+    (halts_read _ input d d' w w' n n' n'' c.in_ok-end.end c.in_ok-end.ensures.reads) c.end_input.ensures.uncounted
