@@ -29,6 +29,11 @@ documents = {
     "key": "0b000000 08 0a225c00 02 00",
     "stop": "06000000 10 00",
     "tag": "08000000 20 6100 00",
+    "past": "45000000 02 6100 39100000 " + 57 * "78" + " 00",
+    "head": "08000000 05 6100 00",
+    "string": "08000000 02 6100 00",
+    "small": "0d000000 03 6400 04000000 00 00",
+    "inside": "10000000 03 6400 08000000 20 6b00 00 00",
     "unended": "0500000001",
     "texts": "14000000 02 0a6b00 07000000 225c0a01c3a900 00",
     "cut3": "0c0000",
@@ -79,6 +84,7 @@ dumps = {
     "breaches.bson": "repeated nested array options",
     "breaches.canon": "repeated.form nested.form array.form options.form",
     "damage.bson": "boolean both key stop tag unended levels500 levels501",
+    "numbers.bson": "past head string small inside",
     "cut.bson": "one cut6",
     "few.bson": "repeated boolean stop tag unended both",
     "under.bson": "repeated under one",
@@ -187,18 +193,26 @@ wants '"breaches.bson":0: repeated-key at /1:"a", byte 11
 '"$(one breaches.bson 4 78 4 0 0 0 0 0)"'
 '
 run 'breaches' 1 check breaches.bson
-wants '"damage.bson":0: damaged at /0:"a", byte 4: a boolean is neither 0 nor 1
-"damage.bson":9: damaged at /2:"b", byte 18: a boolean is neither 0 nor 1
-"damage.bson":32: damaged at /0:"\n\"\\", byte 4: a boolean is neither 0 nor 1
-"damage.bson":43: damaged at /0, byte 4: a value is longer than what is left
-"damage.bson":49: damaged at /0, byte 4: no kind has this tag
+wants '"damage.bson":0: damaged at /0:"a", byte 4: a boolean is neither 0 nor 1: 2
+"damage.bson":9: damaged at /2:"b", byte 18: a boolean is neither 0 nor 1: 2
+"damage.bson":32: damaged at /0:"\n\"\\", byte 4: a boolean is neither 0 nor 1: 2
+"damage.bson":43: damaged at /0:"", byte 4: a value is longer than what is left: 4 where 0 are left
+"damage.bson":49: damaged at /0:"a", byte 4: no kind has this tag: 32
 "damage.bson":57: damaged: no final 0
 '"$(python3 -c 'print("\"damage.bson\":%d: too deep at %s, byte %d" % (62 + 8 * 499 + 5, "/0:\"d\"" * 500, 4 + 499 * 7))')"'
 '"$(one damage.bson 8 $((62 + 8 * 499 + 5 + 8 * 500 + 5)) 0 6 1 0 0 0)"'
 '
 run 'damage' 1 check damage.bson
+wants '"numbers.bson":0: damaged at /0:"a", byte 4: a string is longer than what is left: 4157 where 62 are left
+"numbers.bson":69: damaged at /0:"a", byte 4: a value'"'"'s length is cut off: 1 are left
+"numbers.bson":77: damaged at /0:"a", byte 4: a string'"'"'s length is cut off: 1 are left
+"numbers.bson":85: damaged at /0:"d", byte 4: a nested document'"'"'s length is under 5: 4
+"numbers.bson":98: damaged at /0:"d"/0:"k", byte 11: no kind has this tag: 32
+'"$(one numbers.bson 5 114 0 5 0 0 0 0)"'
+'
+run 'damage with numbers' 1 check numbers.bson
 wants '"mixed.bson":12: repeated-key at /1:"a", byte 11
-"mixed.bson":31: damaged at /0:"a", byte 4: a boolean is neither 0 nor 1
+"mixed.bson":31: damaged at /0:"a", byte 4: a boolean is neither 0 nor 1: 2
 "mixed.bson":40: repeated-key at /0:"d"/1:"c", byte 18
 "mixed.bson":67: damaged: no final 0
 '"$(one mixed.bson 6 84 2 2 0 0 0 0)"'
@@ -307,7 +321,7 @@ wants '"wrong":12: wrong length 32: 12 bytes passed over
 '"$(of wrong 4 48 0 0 0 12 0 0)"'
 "spans":12: wrong length 24: 12 bytes passed over
 '"$(of spans 4 48 0 0 0 12 0 0)"'
-"holds":0: damaged at /1:"t", byte 36: a boolean is neither 0 nor 1
+"holds":0: damaged at /1:"t", byte 36: a boolean is neither 0 nor 1: 2
 '"$(of holds 2 53 0 1 0 0 0 0)"'
 '"$(counted 10 149 0 1 0 24 0 0)"'
 '
@@ -365,17 +379,17 @@ run 'each kind' 0 list kinds one
 wants '"few.bson":0: 19 bytes: repeated-key at /1:"a", byte 11
   "a": Int32: 1
   "a": Int32: 2
-"few.bson":19: 9 bytes: damaged at /0:"a", byte 4: a boolean is neither 0 nor 1
-  "a": Boolean, damaged: a boolean is neither 0 nor 1
-"few.bson":28: 6 bytes: damaged at /0, byte 4: a value is longer than what is left
-  "": damaged: a value is longer than what is left
-"few.bson":34: 8 bytes: damaged at /0, byte 4: no kind has this tag
-  "a": damaged: no kind has this tag
+"few.bson":19: 9 bytes: damaged at /0:"a", byte 4: a boolean is neither 0 nor 1: 2
+  "a": Boolean, damaged: a boolean is neither 0 nor 1: 2
+"few.bson":28: 6 bytes: damaged at /0:"", byte 4: a value is longer than what is left: 4 where 0 are left
+  "": damaged: a value is longer than what is left: 4 where 0 are left
+"few.bson":34: 8 bytes: damaged at /0:"a", byte 4: no kind has this tag: 32
+  "a": damaged: no kind has this tag: 32
 "few.bson":42: 5 bytes: damaged: no final 0
-"few.bson":47: 23 bytes: damaged at /2:"b", byte 18: a boolean is neither 0 nor 1
+"few.bson":47: 23 bytes: damaged at /2:"b", byte 18: a boolean is neither 0 nor 1: 2
   "a": Int32: 1
   "a": Int32: 2
-  "b": Boolean, damaged: a boolean is neither 0 nor 1
+  "b": Boolean, damaged: a boolean is neither 0 nor 1: 2
 '
 run 'what is damaged, listed' 1 list few.bson
 wants '"long":0: 150 bytes
@@ -399,8 +413,8 @@ cp one 'two
 lines'
 run 'a name with a newline, listed' 0 list 'two
 lines'
-wants '"key":0: 11 bytes: damaged at /0:"\n\"\\", byte 4: a boolean is neither 0 nor 1
-  "\n\"\\": Boolean, damaged: a boolean is neither 0 nor 1
+wants '"key":0: 11 bytes: damaged at /0:"\n\"\\", byte 4: a boolean is neither 0 nor 1: 2
+  "\n\"\\": Boolean, damaged: a boolean is neither 0 nor 1: 2
 '
 run 'a key with a newline, listed' 1 list key
 "$program" list levels501 2>err | tail -n 1 >out
@@ -413,6 +427,22 @@ status=$?
 [ "$status" = 0 ] && [ "$(wc -l <out)" = 2000000 ] || { echo "dumps.sh: a million documents, listed" >&2 && failed=1; }
 : >out
 
+# -- --quiet
+
+wants ''
+run 'breaches and damage, quietly' 1 check --quiet mixed.bson breaches.bson
+run 'a sound dump, quietly' 0 check -q sound.bson
+run 'what ends a file, quietly' 3 check --quiet --json under.bson cut.bson
+cat mixed.bson | run 'a pipe, quietly' 1 check -q - || failed=1
+wants '' 'bsonraw-dump: "missing": No such file or directory (os error 2)
+'
+run 'what cannot be opened, quietly' 3 check -q missing sound.bson
+cp mixed.sound wanted.out
+: >wanted.err
+run 'documents without damage, quietly' 1 sound --quiet mixed.bson
+cp one wanted.out
+printf '[{"a":1},' | run 'a text that is cut off, quietly' 1 bson -q || failed=1
+
 # -- --json
 
 wants '{"file":"breaches.bson","offset":0,"finding":"repeated-key","path":[1],"keys":["a"],"byte":11}
@@ -421,16 +451,24 @@ wants '{"file":"breaches.bson","offset":0,"finding":"repeated-key","path":[1],"k
 {"file":"breaches.bson","offset":65,"finding":"options","path":[0],"keys":["r"],"byte":4}
 '"$(of_json breaches.bson 4 78 4 0 0 0 0 0)"'
 {"file":"few.bson","offset":0,"finding":"repeated-key","path":[1],"keys":["a"],"byte":11}
-{"file":"few.bson","offset":19,"finding":"damaged","path":[0],"keys":["a"],"byte":4,"reason":"a boolean is neither 0 nor 1"}
-{"file":"few.bson","offset":28,"finding":"damaged","path":[0],"keys":[null],"byte":4,"reason":"a value is longer than what is left"}
-{"file":"few.bson","offset":34,"finding":"damaged","path":[0],"keys":[null],"byte":4,"reason":"no kind has this tag"}
+{"file":"few.bson","offset":19,"finding":"damaged","path":[0],"keys":["a"],"byte":4,"reason":"a boolean is neither 0 nor 1","number":2}
+{"file":"few.bson","offset":28,"finding":"damaged","path":[0],"keys":[""],"byte":4,"reason":"a value is longer than what is left","number":4,"left":0}
+{"file":"few.bson","offset":34,"finding":"damaged","path":[0],"keys":["a"],"byte":4,"reason":"no kind has this tag","number":32}
 {"file":"few.bson","offset":42,"finding":"damaged","reason":"no final 0"}
-{"file":"few.bson","offset":47,"finding":"damaged","path":[2],"keys":["b"],"byte":18,"reason":"a boolean is neither 0 nor 1"}
+{"file":"few.bson","offset":47,"finding":"damaged","path":[2],"keys":["b"],"byte":18,"reason":"a boolean is neither 0 nor 1","number":2}
 '"$(of_json few.bson 6 70 1 5 0 0 0 0)"'
 '"$(all_json 10 148 5 5 0 0 0 0)"'
 '
 run 'breaches and damage as JSON' 1 check --json breaches.bson few.bson
 run 'breaches and damage as JSON, by the long name' 1 check --findings=json breaches.bson few.bson
+wants '{"file":"numbers.bson","offset":0,"finding":"damaged","path":[0],"keys":["a"],"byte":4,"reason":"a string is longer than what is left","number":4157,"left":62}
+{"file":"numbers.bson","offset":69,"finding":"damaged","path":[0],"keys":["a"],"byte":4,"reason":"a value'"'"'s length is cut off","left":1}
+{"file":"numbers.bson","offset":77,"finding":"damaged","path":[0],"keys":["a"],"byte":4,"reason":"a string'"'"'s length is cut off","left":1}
+{"file":"numbers.bson","offset":85,"finding":"damaged","path":[0],"keys":["d"],"byte":4,"reason":"a nested document'"'"'s length is under 5","number":4}
+{"file":"numbers.bson","offset":98,"finding":"damaged","path":[0,0],"keys":["d","k"],"byte":11,"reason":"no kind has this tag","number":32}
+'"$(one_json numbers.bson 5 114 0 5 0 0 0 0)"'
+'
+run 'damage with numbers, as JSON' 1 check --json numbers.bson
 wants '{"file":"cut.bson","offset":12,"finding":"cut off","bytes":6,"not read":6}
 '"$(of_json cut.bson 1 12 0 0 0 0 6 1)"'
 {"file":"cut3","offset":0,"finding":"cut off","bytes":3,"not read":3}
@@ -443,14 +481,14 @@ wants '{"file":"cut.bson","offset":12,"finding":"cut off","bytes":6,"not read":6
 ' '{"file":"missing","error":"No such file or directory (os error 2)"}
 '
 run 'what ends files, as JSON' 3 check --json cut.bson cut3 missing under.bson
-wants '{"file":"two\n\"lines\"","offset":0,"finding":"damaged","path":[0],"keys":["\n\"\\"],"byte":4,"reason":"a boolean is neither 0 nor 1"}
+wants '{"file":"two\n\"lines\"","offset":0,"finding":"damaged","path":[0],"keys":["\n\"\\"],"byte":4,"reason":"a boolean is neither 0 nor 1","number":2}
 '"$(one_json 'two\n\"lines\"' 1 11 0 1 0 0 0 0)"'
 '
 cp key 'two
 "lines"'
 run 'names and keys as JSON' 1 check --json 'two
 "lines"'
-wants '' '{"file":"mixed.bson","offset":31,"finding":"damaged","path":[0],"keys":["a"],"byte":4,"reason":"a boolean is neither 0 nor 1"}
+wants '' '{"file":"mixed.bson","offset":31,"finding":"damaged","path":[0],"keys":["a"],"byte":4,"reason":"a boolean is neither 0 nor 1","number":2}
 {"file":"mixed.bson","offset":67,"finding":"damaged","reason":"no final 0"}
 '"$(wrote_json 6 84 4 2 2 0 0 0 0)"'
 '
@@ -496,7 +534,7 @@ run 'names with a newline and quotes' 3 check 'two
 lines' 'a "quoted"'
 mkfifo pipe
 cat mixed.bson >pipe &
-wants '' '"pipe":31: damaged at /0:"a", byte 4: a boolean is neither 0 nor 1
+wants '' '"pipe":31: damaged at /0:"a", byte 4: a boolean is neither 0 nor 1: 2
 "pipe":67: damaged: no final 0
 '"$(wrote 6 84 4 2 2 0 0 0 0)"'
 '
@@ -505,7 +543,7 @@ run 'a FIFO' 1 sound pipe
 
 # -- canon and sound
 
-wants '' '"mixed.bson":31: damaged at /0:"a", byte 4: a boolean is neither 0 nor 1
+wants '' '"mixed.bson":31: damaged at /0:"a", byte 4: a boolean is neither 0 nor 1: 2
 "mixed.bson":67: damaged: no final 0
 '
 cp wanted.err mixed.err
@@ -523,12 +561,12 @@ wrote 4 78 4 0 0 0 0 0 0 >wanted.err
 cat breaches.bson >wanted.out
 run 'sound documents with breaches' 0 sound breaches.bson
 
-wants '' '"twice.bson":70: damaged at /0:"a", byte 4: a boolean is neither 0 nor 1
+wants '' '"twice.bson":70: damaged at /0:"a", byte 4: a boolean is neither 0 nor 1: 2
 '"$(wrote 9 128 4 5 1 0 0 0 0)"'
 '
 cat twice.unique >wanted.out
 run 'each form once' 1 unique twice.bson
-wants '' '"twice.bson":70: damaged at /0:"a", byte 4: a boolean is neither 0 nor 1
+wants '' '"twice.bson":70: damaged at /0:"a", byte 4: a boolean is neither 0 nor 1: 2
 '"$(wrote 15 201 6 9 1 0 0 0 0)"'
 '
 cat twice.both >wanted.out
@@ -589,13 +627,13 @@ wants '{"a":1}
 {"a":1,"a":2}
 {"d":{"c":1,"c":2}}
 {"a":1}
-' '"mixed.bson":31: damaged at /0:"a", byte 4: a boolean is neither 0 nor 1
+' '"mixed.bson":31: damaged at /0:"a", byte 4: a boolean is neither 0 nor 1: 2
 "mixed.bson":67: damaged: no final 0
 '"$(wrote 6 84 4 2 2 0 0 0 0)"'
 '
 run 'damage beside Extended JSON' 1 json mixed.bson
 cp out mixed.json
-wants '' '{"file":"mixed.bson","offset":31,"finding":"damaged","path":[0],"keys":["a"],"byte":4,"reason":"a boolean is neither 0 nor 1"}
+wants '' '{"file":"mixed.bson","offset":31,"finding":"damaged","path":[0],"keys":["a"],"byte":4,"reason":"a boolean is neither 0 nor 1","number":2}
 {"file":"mixed.bson","offset":67,"finding":"damaged","reason":"no final 0"}
 '"$(wrote_json 6 84 4 2 2 0 0 0 0)"'
 '
@@ -627,7 +665,7 @@ wants '' "$(formed 4 78 4 0 4 0 0 0 0 0)
 run 'a new file' 0 canon -o output breaches.bson
 kept 'a new file' breaches.canon
 chmod 640 output
-wants '' '"mixed.bson":31: damaged at /0:"a", byte 4: a boolean is neither 0 nor 1
+wants '' '"mixed.bson":31: damaged at /0:"a", byte 4: a boolean is neither 0 nor 1: 2
 "mixed.bson":67: damaged: no final 0
 '"$(wrote 6 84 4 2 2 0 0 0 0)"'
 '
@@ -665,7 +703,7 @@ run 'one file read and written again' 0 canon -o output output
 kept 'one file read and written' sound.bson
 run 'a device' 0 canon -o /dev/null sound.bson
 [ -c /dev/null ] || { echo "dumps.sh: /dev/null is replaced" >&2 && failed=1; }
-wants '' '"mixed.bson":31: damaged at /0:"a", byte 4: a boolean is neither 0 nor 1
+wants '' '"mixed.bson":31: damaged at /0:"a", byte 4: a boolean is neither 0 nor 1: 2
 "mixed.bson":67: damaged: no final 0
 '"$(wrote 6 84 4 2 2 0 0 0 0)"'
 '

@@ -11,6 +11,7 @@ mod Passing
 mod Stopping
 mod Halting
 mod Objects
+mod Naming
 mod Summing
 mod Advancing
 mod TextPassing

@@ -1,6 +1,6 @@
 -- What is found in the bytes of one document, and what is told of it.
-use Rattle.std.specs.Prelude.{◌≡◌, ◌⊎◌, ℕ, List, [], Option, None, Some, codes}
-use Rattle.std.specs.Option.{option_copied, option_map}
+use Rattle.std.specs.Prelude.{◌≡◌, ◌⊎◌, ◌++◌, ◌∷◌, ℕ, List, [], Option, None, Some, codes, decimal}
+use Rattle.std.specs.Option.{option_map}
 use Rattle.bson_model.specs.Tree.{Tree}
 use Rattle.raw_view.specs.Frame.Envelope.{IsEnvelope, Refuses}
 use Rattle.raw_view.specs.Errors.{IsReadingKind, SaysFault}
@@ -21,6 +21,7 @@ use Rattle.bsonraw_dump.specs.Cut.{most}
 use Rattle.bsonraw_dump.specs.declared.find.Finding.{Finding}
 use Rattle.bsonraw_dump.specs.declared.find.Finding.TheVariants as finding
 use Rattle.bsonraw_dump.specs.declared.find.Told.{Told}
+use Rattle.bsonraw_dump.specs.declared.reason.Why.{Why}
 
 -- the limits within which a document is read
 abbrev pub limits : Limits
@@ -31,18 +32,39 @@ pub record Spot : Type 0 where
   pub path : List Step
   pub offset : ℕ
 
+-- a key, or where there is none this one
+abbrev pub key_or : Option (List ℕ) → Option (List ℕ) → Option (List ℕ)
+key_or (Some key) other = Some key
+key_or None other = other
+
+-- a path whose last step has this key, where it has none of its own
+abbrev pub named_path : Option (List ℕ) → List Step → List Step
+named_path key [] = []
+named_path key (step ∷ []) = record { number = step.number; key = key_or step.key key } ∷ []
+named_path key (step ∷ next ∷ steps) = step ∷ named_path key (next ∷ steps)
+
+-- the place of an element that can't be read, and that has this key or none
+abbrev pub named_spot : Option (List ℕ) → Spot → Spot
+named_spot key spot = record { path = named_path key spot.path; offset = spot.offset }
+
+-- why a document is damaged: words; the tag or the byte at fault, the length, or how many bytes a value has; and how many are left for it
+pub record Explanation : Type 0 where
+  pub words : List ℕ
+  pub number : Option ℕ
+  pub left : Option ℕ
+
 -- what is told of a document that isn't canonical: a word or two; where, if there is an envelope; and of damage its reason
 pub record Account : Type 0 where
   pub word : List ℕ
   pub spot : Option Spot
-  pub reason : Option (List ℕ)
+  pub reason : Option Explanation
 
 -- words of something at a place
 abbrev pub account_at : List ℕ → Spot → Account
 account_at word spot = record { word = word; spot = Some spot; reason = None }
 
 -- damage, where it is if that is known, and its reason
-abbrev pub account_of_damage : Option Spot → List ℕ → Account
+abbrev pub account_of_damage : Option Spot → Explanation → Account
 account_of_damage spot why = record { word = codes "damaged"; spot = spot; reason = Some why }
 
 -- the reason of a fault
@@ -69,17 +91,55 @@ reason_text reason.OldWrongInner = codes "an old binary's inner length is wrong"
 reason_text reason.CodeTooSmall = codes "a code with scope is too short"
 reason_text _ = codes "no value"
 
--- the kind of a fault: its reason, or a text that isn't UTF-8
-abbrev pub kind_text : ErrorKind → List ℕ
-kind_text (kind.MalformedValue why) = reason_text why
-kind_text (kind.Utf8EncodingError why) = codes "a text isn't UTF-8"
-kind_text kind.OutOfMemory = []
+-- the tag or the byte at fault, the length, or how many bytes a value has, where the reason has such a number
+abbrev pub number_of : Reason → Option ℕ
+number_of (reason.InvalidTag tag) = Some tag
+number_of (reason.StringPastEnd len left) = Some len
+number_of (reason.PastEnd len left) = Some len
+number_of (reason.DocumentTooSmall len) = Some len
+number_of (reason.BadBoolean byte) = Some byte
+number_of _ = None
 
--- what is told of what ends the reading of a document at a place; of a fault its reason
+-- how many bytes are left for a value, where the reason says it
+abbrev pub left_of : Reason → Option ℕ
+left_of (reason.StringHeadShort left) = Some left
+left_of (reason.StringPastEnd len left) = Some left
+left_of (reason.PastEnd len left) = Some left
+left_of (reason.LengthHeadShort left) = Some left
+left_of _ = None
+
+abbrev pub reason_explained : Reason → Explanation
+reason_explained why = record { words = reason_text why; number = number_of why; left = left_of why }
+
+-- words without numbers
+abbrev pub words_alone : List ℕ → Explanation
+words_alone words = record { words = words; number = None; left = None }
+
+-- the kind of a fault: its reason, or a text that isn't UTF-8
+abbrev pub kind_explained : ErrorKind → Explanation
+kind_explained (kind.MalformedValue why) = reason_explained why
+kind_explained (kind.Utf8EncodingError why) = words_alone (codes "a text isn't UTF-8")
+kind_explained kind.OutOfMemory = words_alone []
+
+-- the numbers of a reason, behind its words
+abbrev pub numbers_text : (number left : Option ℕ) → List ℕ
+numbers_text None None = []
+numbers_text (Some number) None = codes ": " ++ decimal number
+numbers_text None (Some left) = codes ": " ++ decimal left ++ codes " are left"
+numbers_text (Some number) (Some left) = codes ": " ++ decimal number ++ codes " where " ++ decimal left ++ codes " are left"
+
+abbrev pub explanation_text : Explanation → List ℕ
+explanation_text why = why.words ++ numbers_text why.number why.left
+
+-- the kind of a fault in words, with its numbers
+abbrev pub kind_text : ErrorKind → List ℕ
+kind_text k = explanation_text (kind_explained k)
+
+-- what is told of what ends the reading of a document at a place; of a fault its reason, and its key where the place has none
 abbrev pub SaysBarrier : Barrier → Spot → Account → Type 0
 SaysBarrier too_many_bytes spot told = told ≡ account_at (codes "too long") spot
 SaysBarrier too_deep spot told = told ≡ account_at (codes "too deep") spot
-SaysBarrier (fault_of fault) spot told = (why : ErrorKind) × SaysFault why fault.fault × IsReadingKind why × (told ≡ account_of_damage (Some spot) (kind_text why))
+SaysBarrier (fault_of fault) spot told = (why : ErrorKind) × SaysFault why fault.fault × IsReadingKind why × (told ≡ account_of_damage (Some (named_spot fault.key spot)) (kind_explained why))
 
 -- why a document isn't canonical, in a word
 abbrev pub verdict_word : Verdict → List ℕ
@@ -110,7 +170,7 @@ Finds b finding.Canonical told = IsEnvelope b × IsCanonicalWithin limits b × (
 Finds b finding.Breached told =
     IsEnvelope b × ((t : Tree) × ReadsWithin limits b t)
     × ((x : Verdict) × (spot : Spot) × FirstVerdict limits b x spot.path spot.offset × (told ≡ Some (account_at (verdict_word x) spot)))
-Finds b finding.Damaged told = IsBarred b finding.Damaged told ⊎ ((why : Reason) × Refuses b why × (told ≡ Some (account_of_damage None (reason_text why))))
+Finds b finding.Damaged told = IsBarred b finding.Damaged told ⊎ ((why : Reason) × Refuses b why × (told ≡ Some (account_of_damage None (reason_explained why))))
 Finds b finding.TooDeep told = IsBarred b finding.TooDeep told
 
 -- a document in which this is found isn't read to its end
@@ -121,6 +181,10 @@ IsDamage found = (found ≡ finding.Damaged) ⊎ (found ≡ finding.TooDeep)
 abbrev pub spot_of : Place → Spot
 spot_of place = record { path = steps_of place; offset = place.offset }
 
+-- what a reason of the code says
+abbrev pub explanation_of : Why → Explanation
+explanation_of why = record { words = why.words.now; number = why.number; left = why.left }
+
 -- what is told by the code
 abbrev pub account_of : Told → Account
-account_of told = record { word = told.word.now; spot = option_map spot_of told.place; reason = option_copied told.reason }
+account_of told = record { word = told.word.now; spot = option_map spot_of told.place; reason = option_map explanation_of told.reason }

@@ -36,6 +36,7 @@ text_summary style.Json n =
     key (codes "documents") ∷ number (decimal n.documents) ∷ key (codes "bytes") ∷ number (decimal n.bytes) ∷ key (codes "faults")
     ∷ number (decimal n.refused) ∷ key (codes "files that can't be read") ∷ number (decimal n.files) ∷ []
     )
+text_summary style.Quiet n = []
 
 -- how a run ends that counted so much, unless memory ran out or writing failed
 abbrev pub IsTextStatus : TextCounts → Status → Type 0

@@ -71,3 +71,4 @@ fault_line style.Json name place why =
     key (codes "file") ∷ string name ∷ key (codes "line") ∷ number (decimal place.line) ∷ key (codes "column") ∷ number (decimal place.column)
     ∷ key (codes "finding") ∷ string (codes "fault") ∷ key (codes "reason") ∷ string (reason_text why) ∷ []
     )
+fault_line style.Quiet name place why = []

@@ -1,11 +1,11 @@
--- How what is told is printed: in words, or as an object of JSON.
+-- How what is told is printed: in words, as an object of JSON, or not at all.
 use Rattle.std.specs.Prelude.{◌≡◌, ℕ, List, [], ◌∷◌, ◌++◌, ◌-◌, Bool, true, false, Option, None, Some, codes, decimal, flat_map, map}
 use Rattle.std.specs.Fmt.{signed_decimal}
 use Rattle.json.specs.Print.{print, quoted}
 use Rattle.json.specs.Token.{Token, begin_object, end_object, begin_array, end_array, key, string, number, null}
 use Rattle.json.specs.Written.{Written}
 use Rattle.raw_form.specs.Places.{Step}
-use Rattle.bsonraw_dump.specs.Find.{Account, Spot}
+use Rattle.bsonraw_dump.specs.Find.{Account, Explanation, Spot, explanation_text}
 use Rattle.bsonraw_dump.specs.declared.command.Command.{Command}
 use Rattle.bsonraw_dump.specs.declared.command.Command.TheVariants as command
 use Rattle.bsonraw_dump.specs.declared.counts.Counts.{Counts}
@@ -35,9 +35,9 @@ abbrev pub spot_text : Option Spot → List ℕ
 spot_text None = []
 spot_text (Some spot) = codes " at " ++ flat_map step_text spot.path ++ codes ", byte " ++ decimal spot.offset
 
-abbrev pub reason_part : Option (List ℕ) → List ℕ
+abbrev pub reason_part : Option Explanation → List ℕ
 reason_part None = []
-reason_part (Some why) = codes ": " ++ why
+reason_part (Some why) = codes ": " ++ explanation_text why
 
 -- what is told of a document, in words
 abbrev pub words_of : Account → List ℕ
@@ -76,18 +76,25 @@ abbrev pub spot_members : Option Spot → List Token
 spot_members None = []
 spot_members (Some spot) = numbers_members spot.path ++ keys_members spot.path ++ key (codes "byte") ∷ number (decimal spot.offset) ∷ []
 
-abbrev pub reason_members : Option (List ℕ) → List Token
+-- a number of a reason, where it has one
+abbrev pub number_member : List ℕ → Option ℕ → List Token
+number_member name None = []
+number_member name (Some n) = key name ∷ number (decimal n) ∷ []
+
+-- the reason of damage in words, and its numbers
+abbrev pub reason_members : Option Explanation → List Token
 reason_members None = []
-reason_members (Some why) = key (codes "reason") ∷ string why ∷ []
+reason_members (Some why) = key (codes "reason") ∷ string why.words ∷ number_member (codes "number") why.number ++ number_member (codes "left") why.left
 
 -- what is told of a document, as members of an object
 abbrev pub members_of : Account → List Token
 members_of told = key (codes "finding") ∷ string told.word ∷ spot_members told.spot ++ reason_members told.reason
 
--- the line of a document at this offset, of which this is told
+-- the line of a document at this offset, of which this is told; none in quiet
 abbrev pub report_line : Style → List ℕ → ℕ → Account → List ℕ
 report_line style.Words name offset told = line name offset (words_of told)
 report_line style.Json name offset told = object_line (head_members name offset ++ members_of told)
+report_line style.Quiet name offset told = []
 
 -- whether all places in what is passed over were checked
 abbrev pub all_text : Bool → List ℕ
@@ -124,6 +131,7 @@ ending_members (ending.WrongLength len) = key (codes "finding") ∷ string (code
 abbrev pub ending_line : Style → List ℕ → ℕ → Ending → Rest → List ℕ
 ending_line style.Words name offset end left = line name offset (ending_text end ++ rest_text left)
 ending_line style.Json name offset end left = object_line (head_members name offset ++ ending_members end ++ rest_members left)
+ending_line style.Quiet name offset end left = []
 
 -- the last line of an input of which so many bytes are left: why no document is in front of them; none where nothing is left
 abbrev pub last_line : Style → List ℕ → ℕ → Option Ending → ℕ → List ℕ
@@ -189,6 +197,7 @@ name_members (Some name) = key (codes "file") ∷ string name ∷ []
 abbrev pub summary_line : Style → Option (List ℕ) → Command → Counts → ℕ → List ℕ
 summary_line style.Words name c n kept = name_text name ++ counts_text n.documents (counts_of c n kept) ++ codes "\n"
 summary_line style.Json name c n kept = object_line (name_members name ++ count_members (codes "documents", n.documents) ++ flat_map count_members (counts_of c n kept))
+summary_line style.Quiet name c n kept = []
 
 -- What the code tells of an object that is written. No public contract cites it.
 

@@ -41,7 +41,7 @@ fn output<'a>(alloc: Global) -> Arg<'a> {
         .action(ArgAction::Set)
 }
 
-/// How findings are printed, and the short form of one of the ways.
+/// How findings are printed, with the short form of one of the ways, or that they aren't.
 fn findings<'a>(
     alloc: Global,
     command: clap::Command<'a>,
@@ -52,8 +52,11 @@ fn findings<'a>(
         .value_parser(FORMS)
         .help("Prints what is found as words, or as objects of JSON, a line each")
         .action(ArgAction::Set);
-    let json = switch(alloc, "json", "As --findings=json");
-    command.arg(form)?.arg(json)
+    let quiet = "Prints no findings and no counts; the exit status says what was found";
+    command
+        .arg(form)?
+        .arg(switch(alloc, "json", "As --findings=json"))?
+        .arg(switch(alloc, "quiet", quiet).short('q'))
 }
 
 fn switch<'a>(alloc: Global, name: &'a str, help: &'a str) -> Arg<'a> {
@@ -138,7 +141,9 @@ pub fn command_line<'a>(alloc: Global) -> Result<clap::Command<'a>, AllocError> 
 }
 
 fn style_of(matches: &ArgMatches<'_>) -> Style {
-    if matches.get_flag("json") || matches.get_str("findings") == Some("json") {
+    if matches.get_flag("quiet") {
+        Style::Quiet
+    } else if matches.get_flag("json") || matches.get_str("findings") == Some("json") {
         Style::Json
     } else {
         Style::Words

@@ -222,7 +222,9 @@ fn files_of<'a>(rt: &'a HostRuntime, task: &Task<'_>) -> Files<'a> {
     Files {
         rt,
         style: task.reading.style(),
-        shows: is_apart && rt.stderr().is_terminal(),
+        shows: is_apart
+            && rt.stderr().is_terminal()
+            && !matches!(task.reading.style(), Style::Quiet),
         are_dumps: matches!(task.reading, Reading::Dumps(_)),
         written: if is_redirected {
             node_of(rt, "/dev/stdout")

@@ -2,7 +2,7 @@
 #![tactic(auto)]
 
 ghost use Rattle.std.specs.Prelude.{◌≡◌, ◌≤◌, ℕ, List, IfOk, MatchBool, length};
-ghost use Rattle.std.specs.Option.{option_map};
+ghost use Rattle.std.specs.Option.{option_copied, option_map};
 ghost use Rattle.raw_view.specs.Document.{bytes_of};
 ghost use Rattle.raw_view.specs.Frame.Envelope.{IsEnvelope, Refuses};
 ghost use Rattle.raw_view.specs.Errors.{IsMalformed};
@@ -11,9 +11,10 @@ ghost use Rattle.raw_form.specs.Places.{FirstBarrierAt};
 ghost use Rattle.raw_form.specs.Verdicts.{FirstVerdict};
 ghost use Rattle.bsonraw_dump.specs.Cut.{most};
 ghost use Rattle.raw_tree.specs.WithinLimits as within;
-ghost use Rattle.bsonraw_dump.specs.Find.{account_of, Finds, IsDamage, SaysBarrier, limits, spot_of, verdict_of, verdict_word};
+ghost use Rattle.bsonraw_dump.specs.Find.{account_at, account_of, Finds, IsDamage, SaysBarrier, limits, named_spot, spot_of, verdict_of, verdict_word};
+ghost use Rattle.bsonraw_dump.specs.Find as says;
 
-use crate::reason::kind_words;
+use crate::reason::{Why, kind_of};
 use crate::window::MOST;
 use raw_form::{Barrier, BarrierKind, Place, ValidateError, first_fault_within, validate_within};
 use raw_tree::{Cause, Limits};
@@ -50,7 +51,7 @@ pub struct Told<'a> {
     /// where; `None` where the document has no envelope
     pub place: Option<Place<'a>>,
     /// why; `None` where it isn't a fault
-    pub reason: Option<&'static str>,
+    pub reason: Option<Why>,
 }
 
 /// What is found in a document, and what is told of it.
@@ -94,7 +95,7 @@ fn without_envelope<'a>(kind: &ErrorKind) -> Found<'a>
         told: Some(Told {
             word: "damaged",
             place: None,
-            reason: Some(kind_words(kind)),
+            reason: Some(kind_of(kind)),
         }),
     }
 }
@@ -130,11 +131,7 @@ fn not_canonical<'a>(
         Ok(Some(barrier)) => Ok(barred(barrier)),
         Ok(None) => Ok(Found {
             finding: Finding::Breached,
-            told: Some(Told {
-                word: cause_words(cause),
-                place: Some(place),
-                reason: None,
-            }),
+            told: Some(without_reason(cause_words(cause), place)),
         }),
         Err(_) => Err(AllocError),
     }
@@ -161,16 +158,44 @@ fn told_of(barrier: Barrier<'_>) -> Told<'_>
     ensures { (x : within.Barrier) → IsBarrier barrier.entry.kind x
         → SaysBarrier x (spot_of barrier.entry.place) (account_of result) }
 {
-    let (word, reason) = match &barrier.kind {
-        BarrierKind::TooManyBytes => ("too long", None),
-        BarrierKind::TooDeep => ("too deep", None),
-        BarrierKind::Fault(error) => ("damaged", Some(kind_words(&error.kind))),
-    };
+    let Barrier { kind, place } = barrier;
+    match kind {
+        BarrierKind::TooManyBytes => without_reason("too long", place),
+        BarrierKind::TooDeep => without_reason("too deep", place),
+        BarrierKind::Fault(error) => Told {
+            word: "damaged",
+            place: Some(named(place, error.key)),
+            reason: Some(kind_of(&error.kind)),
+        },
+    }
+}
+
+fn without_reason<'a>(word: &'static str, place: Place<'a>) -> Told<'a>
+    ensures { account_of result ≡ account_at word.now (spot_of place.entry) }
+{
     Told {
         word,
-        place: Some(barrier.place),
-        reason,
+        place: Some(place),
+        reason: None,
     }
+}
+
+/// The place, whose last step has this key where it has none of its own.
+fn named<'a>(place: Place<'a>, key: Option<&'a str>) -> Place<'a>
+    ensures { spot_of result ≡ named_spot (option_copied key.entry) (spot_of place.entry) }
+{
+    let mut place = place;
+    if let Some(last) = place.path.last_mut() {
+        last.key = key_or(last.key, key);
+    }
+    place
+}
+
+/// The key, or where there is none the other one.
+fn key_or<'a>(key: Option<&'a str>, other: Option<&'a str>) -> Option<&'a str>
+    ensures { option_copied result ≡ says.key_or (option_copied key.entry) (option_copied other.entry) }
+{
+    key.or(other)
 }
 
 fn cause_words(cause: Option<Cause>) -> &'static str

@@ -17,8 +17,8 @@ ghost use Rattle.bsonraw_dump.specs.Find as find;
 ghost use Rattle.bsonraw_dump.specs.Run.{IsReading};
 
 use crate::failure::Failure;
-use crate::reason::kind_words;
-use crate::text::{push_words, quotation};
+use crate::reason::kind_of;
+use crate::text::{push_why, push_words, quotation};
 use crate::value::{push_kind, push_value};
 use crate::write::put;
 use raw_view::{BorrowedError, Elements, RawBsonRef, RawDocument, RawElement};
@@ -97,7 +97,7 @@ fn push_fault(text: &mut Vec<u8>, error: &BorrowedError<'_>) -> Result<(), Alloc
         (text.new.items ≡ text.old.items ++ (codes "damaged: " ++ find.kind_text error.now.kind)) }
 {
     push_words(text, "damaged: ")?;
-    push_words(text, kind_words(&error.kind))
+    push_why(text, kind_of(&error.kind))
 }
 
 /// Writes the line of a stop.

@@ -7,13 +7,14 @@ ghost use Rattle.std.specs.Option.{option_copied};
 ghost use Rattle.json.specs.Token.{Token, begin_object, end_object, key, number, string};
 ghost use Rattle.json.specs.Written.{Written};
 ghost use Rattle.raw_form.specs.Barriers.{step_of};
-ghost use Rattle.bsonraw_dump.specs.Find.{account_of, spot_of};
-ghost use Rattle.bsonraw_dump.specs.Told.{all_members, ending_members, head_members, key_token, keys_members, members_of, number_token, numbers_members, object_line, report_line, rest_members, spot_members, text_or_null, Grows};
+ghost use Rattle.bsonraw_dump.specs.Find.{account_of, explanation_of, spot_of};
+ghost use Rattle.bsonraw_dump.specs.Told.{all_members, ending_members, head_members, key_token, keys_members, members_of, number_member, number_token, numbers_members, object_line, reason_members, report_line, rest_members, spot_members, text_or_null, Grows};
 ghost use Rattle.bsonraw_dump.specs.declared.ending.Rest.TheVariants.{PassedOver};
 ghost use Rattle.bsonraw_dump.specs.declared.style.Style.TheVariants.{Json};
 
 use crate::ending::{Ending, Rest};
 use crate::find::Told;
+use crate::reason::Why;
 use crate::resync::Skip;
 use json::Writer;
 use raw_form::{PathStep, Place};
@@ -132,10 +133,29 @@ fn put_told(object: &mut Writer, told: &Told<'_>) -> Result<(), AllocError>
     if let Some(place) = &told.place {
         put_place(object, place)?;
     }
-    if let Some(reason) = told.reason {
-        put_text(object, "reason", reason)?;
+    match told.reason {
+        Some(why) => put_why(object, why),
+        None => Ok(()),
     }
-    Ok(())
+}
+
+/// Puts the members that tell why a document is damaged.
+fn put_why(object: &mut Writer, why: Why) -> Result<(), AllocError>
+    ensures { OnOk result (Grows object.old object.new (reason_members (Some (explanation_of why)))) }
+{
+    put_text(object, "reason", why.words)?;
+    put_some(object, "number", why.number)?;
+    put_some(object, "left", why.left)
+}
+
+/// Puts a member that is a number, where there is one.
+fn put_some(object: &mut Writer, name: &str, value: Option<u64>) -> Result<(), AllocError>
+    ensures { OnOk result (Grows object.old object.new (number_member name.now value)) }
+{
+    match value {
+        Some(value) => put_number(object, name, value),
+        None => Ok(()),
+    }
 }
 
 /// An object with the name of an input and an offset in it.

@@ -436,6 +436,7 @@ fn put_told<W: Write>(
     let text = match style {
         Style::Words => told_line(alloc, name, offset, told)?,
         Style::Json => told_object(alloc, name, offset, told)?,
+        Style::Quiet => Vec::new(alloc),
     };
     put(report, &text)
 }
@@ -457,6 +458,7 @@ fn ending_text(
             line_of(alloc, name, offset, &words)
         }
         Style::Json => ending_object(alloc, name, offset, ending, rest),
+        Style::Quiet => Ok(Vec::new(alloc)),
     }
 }
 
@@ -497,6 +499,7 @@ pub fn put_summary<W: Write>(
     let text = match style {
         Style::Words => summary(alloc, name, command, counts, kept)?,
         Style::Json => summary_object(alloc, name, command, counts, kept)?,
+        Style::Quiet => Vec::new(alloc),
     };
     put(report, &text)
 }

@@ -5,4 +5,6 @@ pub enum Style {
     Words,
     /// a line that is an object of JSON
     Json,
+    /// not at all: the exit status says it
+    Quiet,
 }

@@ -27,7 +27,7 @@ fn line_of(
     error: &io::Error,
 ) -> Result<Vec<u8>, AllocError> {
     match style {
-        Style::Words => words_of(rt, name, at, error),
+        Style::Words | Style::Quiet => words_of(rt, name, at, error),
         Style::Json => {
             let text = format!(in rt.alloc(); "{error}")?;
             error_object(rt.alloc(), name, at, text.as_str())
@@ -77,7 +77,7 @@ fn lack_of(
         Lack::Failed(Failure::Writing(_) | Failure::Reading(_)) => (None, "writing failed"),
     };
     match reading.style() {
-        Style::Words => {
+        Style::Words | Style::Quiet => {
             let mut line = quotation(rt.alloc(), name)?;
             line.extend_from_slice(b": not written: ")?;
             if let Some(input) = input {
@@ -98,7 +98,7 @@ fn lack_of(
 /// Tells what goes wrong with no file.
 pub fn tell_words(rt: &HostRuntime, style: Style, words: &str) {
     match style {
-        Style::Words => {
+        Style::Words | Style::Quiet => {
             let _told = eprintln!(rt; "bsonraw-dump: {words}");
         }
         Style::Json => {

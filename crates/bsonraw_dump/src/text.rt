@@ -6,13 +6,14 @@ ghost use Rattle.std.specs.Fmt.{signed_decimal};
 ghost use Rattle.std.specs.Option.{option_map};
 ghost use Rattle.json.specs.Print.{quoted};
 ghost use Rattle.raw_form.specs.Barriers.{step_of};
-ghost use Rattle.bsonraw_dump.specs.Find.{account_of, spot_of};
+ghost use Rattle.bsonraw_dump.specs.Find.{account_of, explanation_of, explanation_text, spot_of};
 ghost use Rattle.bsonraw_dump.specs.Told.{all_text, ending_text, line, rest_text, spot_text, step_text};
 ghost use Rattle.bsonraw_dump.specs.Told as says;
 ghost use Rattle.bsonraw_dump.specs.Run.{head_text};
 
 use crate::ending::{Ending, Rest};
 use crate::find::Told;
+use crate::reason::Why;
 use itoa::Buffer;
 use json::Writer;
 use raw_form::{PathStep, Place};
@@ -81,6 +82,37 @@ fn push_place(alloc: Global, text: &mut Vec<u8>, place: &Place<'_>) -> Result<()
     push_number(text, place.offset as u64)
 }
 
+/// Behind the text, why a document is damaged, with its numbers.
+pub fn push_why(text: &mut Vec<u8>, why: Why) -> Result<(), AllocError>
+    ensures { OnOk result (text.new.items ≡ text.old.items ++ explanation_text (explanation_of why)) }
+{
+    push_words(text, why.words)?;
+    match (why.number, why.left) {
+        (None, None) => Ok(()),
+        (Some(number), None) => {
+            push_words(text, ": ")?;
+            push_number(text, number)
+        }
+        (None, Some(left)) => {
+            push_words(text, ": ")?;
+            push_left(text, left)
+        }
+        (Some(number), Some(left)) => {
+            push_words(text, ": ")?;
+            push_number(text, number)?;
+            push_words(text, " where ")?;
+            push_left(text, left)
+        }
+    }
+}
+
+fn push_left(text: &mut Vec<u8>, left: u64) -> Result<(), AllocError>
+    ensures { OnOk result (text.new.items ≡ text.old.items ++ (decimal left ++ codes " are left")) }
+{
+    push_number(text, left)?;
+    push_words(text, " are left")
+}
+
 /// What is told of a document, in words.
 fn words_of(alloc: Global, told: &Told<'_>) -> Result<Vec<u8>, AllocError>
     ensures { IfOk result (λ text. text.items ≡ says.words_of (account_of told.now)) }
@@ -89,9 +121,9 @@ fn words_of(alloc: Global, told: &Told<'_>) -> Result<Vec<u8>, AllocError>
     if let Some(place) = &told.place {
         push_place(alloc, &mut text, place)?;
     }
-    if let Some(reason) = told.reason {
+    if let Some(why) = told.reason {
         push_words(&mut text, ": ")?;
-        push_words(&mut text, reason)?;
+        push_why(&mut text, why)?;
     }
     Ok(text)
 }

@@ -108,6 +108,7 @@ pub fn line_of_fault(
     match style {
         Style::Words => fault_words(alloc, name, place, reason),
         Style::Json => fault_object(alloc, name, place, reason),
+        Style::Quiet => Ok(Vec::new(alloc)),
     }
 }
 

@@ -218,6 +218,7 @@ fn put_counts<W: Write>(
     let line = match style {
         Style::Words => words_of(alloc, counts)?,
         Style::Json => object_of(alloc, counts)?,
+        Style::Quiet => Vec::new(alloc),
     };
     put(report, &line)
 }
