@@ -10,3 +10,6 @@ mod Decimals
 mod Only
 mod Lacks
 mod Plain
+mod Ends
+mod Keeps
+mod NoLeaf

@@ -10,3 +10,4 @@ pub mod Meaning
 pub mod Texts
 pub mod Taken
 pub mod Levels
+pub mod Ends

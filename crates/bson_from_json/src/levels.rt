@@ -1,5 +1,5 @@
 //! The bytes of a document whose levels are still open.
-ghost use Rattle.std.specs.Prelude.{◌≡◌, ◌++◌, ◌∷◌, [], length, pos, IfOk, OnOk, MatchOption};
+ghost use Rattle.std.specs.Prelude.{◌≡◌, ◌++◌, ◌∷◌, [], length, pos, IfErr, IfOk, OnOk, MatchOption};
 ghost use Rattle.raw_bson.specs.Format.{c_string as text_then, framed, string_payload};
 ghost use Rattle.raw_bson.specs.Kind.{tag_of};
 ghost use Rattle.raw_bson.specs.Number.{le32};
@@ -7,6 +7,7 @@ ghost use Rattle.raw_bson.specs.Payload.{unset};
 ghost use Rattle.raw_bson.specs.Tree.{Tree};
 ghost use Rattle.raw_bson.specs.WithinLimits.{ReadsWithin};
 ghost use Rattle.bson_from_json.specs.Levels.{before_scope, headed, level_at, with_len};
+ghost use Rattle.bson_from_json.specs.Texts.{LeavesOpen};
 
 use crate::error::JsonReason;
 use raw_bson::{ElementType, Limits, RawDocumentBuf};
@@ -70,17 +71,23 @@ impl<'a> Unfinished<'a> {
     pub(crate) fn push(&mut self, level: Level<'a>) -> Result<(), JsonReason>
         ensures level { OnOk result (self.new.levels.items ≡ self.old.levels.items ++ level.entry ∷ []) }
         ensures bytes { self.new.bytes.items ≡ self.old.bytes.items }
+        ensures reason { IfErr result LeavesOpen }
     {
-        self.levels.push(level)?;
-        Ok(())
+        match self.levels.push(level) {
+            Ok(()) => Ok(()),
+            Err(_) => Err(JsonReason::OutOfMemory),
+        }
     }
 
     /// Puts bytes at the end.
     pub(crate) fn put(&mut self, bytes: &[u8]) -> Result<(), JsonReason>
         ensures bytes { OnOk result (self.new.bytes.items ≡ self.old.bytes.items ++ bytes.now) }
         ensures levels { self.new.levels.items ≡ self.old.levels.items }
+        ensures reason { IfErr result LeavesOpen }
     {
-        self.bytes.extend_from_slice(bytes)?;
+        if self.bytes.extend_from_slice(bytes).is_err() {
+            return Err(JsonReason::OutOfMemory);
+        }
         if self.bytes.len() > self.limits.bytes {
             Err(JsonReason::TooManyBytes)
         } else {
@@ -92,6 +99,7 @@ impl<'a> Unfinished<'a> {
     pub(crate) fn put_head(&mut self, kind: ElementType, key: &str) -> Result<(), JsonReason>
         ensures bytes { OnOk result (self.new.bytes.items ≡ self.old.bytes.items ++ tag_of kind ∷ text_then key.now []) }
         ensures levels { self.new.levels.items ≡ self.old.levels.items }
+        ensures reason { IfErr result LeavesOpen }
     {
         self.put(&[kind.to_tag()])?;
         self.put_c_string(key)
@@ -101,6 +109,7 @@ impl<'a> Unfinished<'a> {
     pub(crate) fn put_c_string(&mut self, text: &str) -> Result<(), JsonReason>
         ensures bytes { OnOk result (self.new.bytes.items ≡ self.old.bytes.items ++ text_then text.now []) }
         ensures levels { self.new.levels.items ≡ self.old.levels.items }
+        ensures reason { IfErr result LeavesOpen }
     {
         self.put(text.as_bytes())?;
         self.put(&[0])
@@ -110,6 +119,7 @@ impl<'a> Unfinished<'a> {
     pub(crate) fn put_len(&mut self, len: usize) -> Result<(), JsonReason>
         ensures bytes { OnOk result (self.new.bytes.items ≡ self.old.bytes.items ++ le32 (pos len)) }
         ensures levels { self.new.levels.items ≡ self.old.levels.items }
+        ensures reason { IfErr result LeavesOpen }
     {
         if len > 0x7FFF_FFFF {
             return Err(JsonReason::TooManyBytes);
@@ -121,13 +131,16 @@ impl<'a> Unfinished<'a> {
     pub(crate) fn put_string(&mut self, text: &str) -> Result<(), JsonReason>
         ensures bytes { OnOk result (self.new.bytes.items ≡ self.old.bytes.items ++ string_payload text.now) }
         ensures levels { self.new.levels.items ≡ self.old.levels.items }
+        ensures reason { IfErr result LeavesOpen }
     {
         self.put_len(text.len().saturating_add(1))?;
         self.put_c_string(text)
     }
 
     /// Whether one more level may be opened.
-    fn check_depth(&self) -> Result<(), JsonReason> {
+    fn check_depth(&self) -> Result<(), JsonReason>
+        ensures { IfErr result LeavesOpen }
+    {
         if self.levels.len() >= self.limits.depth {
             Err(JsonReason::TooDeep)
         } else {
@@ -139,6 +152,7 @@ impl<'a> Unfinished<'a> {
     pub(crate) fn put_empty(&mut self, key: &str) -> Result<(), JsonReason>
         ensures bytes { OnOk result (self.new.bytes.items ≡ headed self.old.bytes.items 3 key.now ++ framed []) }
         ensures levels { self.new.levels.items ≡ self.old.levels.items }
+        ensures reason { IfErr result LeavesOpen }
     {
         self.put_head(ElementType::EmbeddedDocument, key)?;
         self.check_depth()?;
@@ -155,6 +169,7 @@ impl<'a> Unfinished<'a> {
         ensures bytes { OnOk result (self.new.bytes.items ≡ headed self.old.bytes.items (tag_of kind) key.now ++ unset) }
         ensures level { OnOk result (self.new.levels.items
             ≡ self.old.levels.items ++ level_at holder.entry (length (headed self.old.bytes.items (tag_of kind) key.now)) ∷ []) }
+        ensures reason { IfErr result LeavesOpen }
     {
         self.put_head(kind, key)?;
         self.open(holder)
@@ -165,13 +180,14 @@ impl<'a> Unfinished<'a> {
         ensures bytes { OnOk result (self.new.bytes.items ≡ self.old.bytes.items ++ unset) }
         ensures level { OnOk result (self.new.levels.items
             ≡ self.old.levels.items ++ level_at holder.entry (length self.old.bytes.items) ∷ []) }
+        ensures reason { IfErr result LeavesOpen }
     {
         self.check_depth()?;
         let level = Level {
             holder,
             start: self.bytes.len(),
         };
-        self.levels.push(level)?;
+        self.push(level)?;
         self.put(&[0; 4])
     }
 
@@ -184,6 +200,7 @@ impl<'a> Unfinished<'a> {
         ensures start { IfOk result (λ start. start ≡ length (headed self.old.bytes.items 15 key.now)) }
         ensures bytes { OnOk result (self.new.bytes.items ≡ before_scope self.old.bytes.items key.now code.now) }
         ensures levels { self.new.levels.items ≡ self.old.levels.items }
+        ensures reason { IfErr result LeavesOpen }
     {
         self.put_head(ElementType::JavaScriptCodeWithScope, key)?;
         let start = self.bytes.len();
@@ -196,6 +213,7 @@ impl<'a> Unfinished<'a> {
     pub(crate) fn close(&mut self, level: Level<'a>) -> Result<(), JsonReason>
         ensures bytes { OnOk result (self.new.bytes.items ≡ with_len level.entry.start (self.old.bytes.items ++ 0 ∷ [])) }
         ensures levels { self.new.levels.items ≡ self.old.levels.items }
+        ensures reason { IfErr result LeavesOpen }
     {
         self.put(&[0])?;
         self.set_len(level.start)
@@ -205,6 +223,7 @@ impl<'a> Unfinished<'a> {
     pub(crate) fn set_len(&mut self, start: usize) -> Result<(), JsonReason>
         ensures bytes { OnOk result (self.new.bytes.items ≡ with_len start self.old.bytes.items) }
         ensures levels { self.new.levels.items ≡ self.old.levels.items }
+        ensures reason { IfErr result LeavesOpen }
     {
         if self.bytes.len() < start.saturating_add(4) {
             return Err(JsonReason::Unsound);
@@ -221,6 +240,7 @@ impl<'a> Unfinished<'a> {
     pub(crate) fn finish(self, alloc: Global, limits: Limits) -> Result<RawDocumentBuf, JsonReason>
         ensures bytes { IfOk result (λ document. document ≡ self.entry.bytes.items) }
         ensures sound { IfOk result (λ document. (t : Tree) × ReadsWithin limits document t) }
+        ensures reason { IfErr result LeavesOpen }
     {
         let Ok(document) = RawDocumentBuf::from_bytes(self.bytes) else {
             return Err(JsonReason::Unsound);
@@ -232,7 +252,8 @@ impl<'a> Unfinished<'a> {
 
 /// Whether a document keeps to the limits and has no fault at any level.
 fn check(alloc: Global, document: &RawDocumentBuf, limits: Limits) -> Result<(), JsonReason>
-    ensures { OnOk result ((t : Tree) × ReadsWithin limits document.now t) }
+    ensures sound { OnOk result ((t : Tree) × ReadsWithin limits document.now t) }
+    ensures reason { IfErr result LeavesOpen }
 {
     match first_fault_within(alloc, document.as_ref(), limits) {
         Err(_) => Err(JsonReason::OutOfMemory),
@@ -242,7 +263,9 @@ fn check(alloc: Global, document: &RawDocumentBuf, limits: Limits) -> Result<(),
 }
 
 /// Why a document that was written isn't returned.
-fn reason_of(kind: BarrierKind) -> JsonReason {
+fn reason_of(kind: BarrierKind) -> JsonReason
+    ensures { LeavesOpen result }
+{
     match kind {
         BarrierKind::TooManyBytes => JsonReason::TooManyBytes,
         BarrierKind::TooDeep => JsonReason::TooDeep,

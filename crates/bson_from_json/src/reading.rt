@@ -1,7 +1,7 @@
 //! Documents from text: one loop over the members of the innermost level.
 #![tactic(auto, using(crate::proofs::Left::one_taken, crate::proofs::Left::some_taken))]
 
-ghost use Rattle.std.specs.Prelude.{◌≡◌, ◌<◌, ◌≤◌, ◌∷◌, [], decimal, IfErr, IfOk, IfSome, OnErr, OnOk};
+ghost use Rattle.std.specs.Prelude.{◌≡◌, ◌<◌, ◌≤◌, ◌∷◌, ◌⊎◌, [], decimal, IfErr, IfOk, IfSome, OnErr, OnOk};
 ghost use Rattle.json.specs.Reads.{token_of};
 ghost use Rattle.json.specs.Token.{begin_object};
 ghost use Rattle.raw_bson.specs.Format.{element_of, string_payload};
@@ -13,7 +13,9 @@ ghost use Rattle.raw_bson.specs.WithinLimits.{ReadsWithin};
 ghost use Rattle.bson_from_json.specs.Left.{left_of};
 ghost use Rattle.bson_from_json.specs.Levels.{Closes, HasMembers, MayBeIn, Puts, SaysBytes, TakesLevel, TakesValue, array_level, leaf_element};
 ghost use Rattle.bson_from_json.specs.Place.{IsPlaceIn};
-ghost use Rattle.bson_from_json.specs.Texts.{IsWritten};
+ghost use Rattle.bson_from_json.specs.declared.levels.Holder.TheVariants.{Array};
+ghost use Rattle.bson_from_json.specs.Ends.{KeepsClosed, KeepsLevel, KeepsValue, LacksLevel, LacksValue, LacksWhole, LacksWrapper};
+ghost use Rattle.bson_from_json.specs.Texts.{IsWritten, LeavesOpen, SaysNone};
 
 use crate::codes::{Codes, codes_of};
 use crate::error::{JsonError, JsonReason};
@@ -44,7 +46,8 @@ pub(crate) struct Reader<'a> {
 /// wrapper's, in any order, is its value; one that has a wrapper's key and others is refused. Only the whole text and a scope
 /// are documents whatever their keys. A decimal has to be one that a Decimal128 is exactly. Members come in the order of the
 /// text, repeated keys too; options are sorted. The document has a tree within the limits, so no fault at any level. The error
-/// is of the first token that can't be there, with its place; or out of memory. BSON 1.1, `document`.
+/// is of the first token that can't be there, with its place; or out of memory. Unless its reason is `OutOfMemory`, `TooManyBytes`,
+/// `TooDeep`, `InteriorNul` or `Unsound`, the text says no document. BSON 1.1, `document`.
 ///
 /// No clause says so: no depth of the text takes stack, the time is linear, and memory is taken for as many bytes as the text
 /// has, besides the document. A text with a code behind its scope is read again, and its codes are kept meanwhile. There
@@ -58,13 +61,13 @@ pub fn from_json(alloc: Global, text: &str, limits: Limits) -> Result<RawDocumen
     ensures written { IfOk result (IsWritten text.now) }
     ensures sound { IfOk result (λ document. (t : Tree) × ReadsWithin limits document t) }
     ensures place { IfErr result (IsPlaceIn text.now) }
+    ensures none { IfErr result (λ error. LeavesOpen error.reason ⊎ SaysNone text.now) }
 {
     if let Some(document) = document_of(alloc, text, limits, None)? {
         return Ok(document);
     }
-    let codes = match codes_of(alloc, text) {
-        Ok(codes) => codes,
-        Err(reason) => return Err(JsonError::at(reason, text.as_bytes(), 0)),
+    let Ok(codes) = codes_of(alloc, text) else {
+        return Err(JsonError::at(JsonReason::OutOfMemory, text.as_bytes(), 0));
     };
     let codes = Some(Codes::new(&codes));
     match document_of(alloc, text, limits, codes)? {
@@ -83,6 +86,7 @@ fn document_of<'a>(
     ensures written { IfOk result (λ found. IfSome found (IsWritten text.now)) }
     ensures sound { IfOk result (λ found. IfSome found (λ document. (t : Tree) × ReadsWithin limits document t)) }
     ensures place { IfErr result (IsPlaceIn text.now) }
+    ensures none { IfErr result (λ error. LeavesOpen error.reason ⊎ SaysNone text.now) }
 {
     let mut scratch = Scratch::new(alloc);
     let tokens = match Tokens::new(text, &mut scratch) {
@@ -116,7 +120,8 @@ impl<'a> Reader<'a> {
     fn read(&mut self) -> Result<(), JsonReason>
         requires bytes { self.old.document.bytes.items ≡ [] }
         requires levels { self.old.document.levels.items ≡ [] }
-        ensures { OnOk result (SaysBytes self.old.source.tokens self.new.document.bytes.items) }
+        ensures some { OnOk result (SaysBytes self.old.source.tokens self.new.document.bytes.items) }
+        ensures none { IfErr result (λ reason. LeavesOpen reason ⊎ LacksWhole self.old.source.tokens) }
     {
         let Token::BeginObject = self.source.token(Wanted::Document)? else {
             return Err(self.source.fault(Wanted::Document));
@@ -132,6 +137,8 @@ impl<'a> Reader<'a> {
     fn on_with(&mut self, level: Level<'a>) -> Result<(), JsonReason>
         ensures less { OnOk result (left_of self.new < left_of self.old) }
         ensures rest { OnOk result (TakesLevel self.old self.new level.entry) }
+        ensures keeps { OnOk result (KeepsLevel self.old self.new level.entry) }
+        ensures none { IfErr result (λ reason. LeavesOpen reason ⊎ LacksLevel level.entry.holder self.old.source.tokens) }
     {
         match level.holder {
             Holder::Array(items) => self.item(level.start, items),
@@ -150,6 +157,8 @@ impl<'a> Reader<'a> {
     fn item(&mut self, start: usize, items: usize) -> Result<(), JsonReason>
         ensures less { OnOk result (left_of self.new < left_of self.old) }
         ensures rest { OnOk result (TakesLevel self.old self.new (array_level items start)) }
+        ensures keeps { OnOk result (KeepsLevel self.old self.new (array_level items start)) }
+        ensures none { IfErr result (λ reason. LeavesOpen reason ⊎ LacksLevel (Array items) self.old.source.tokens) }
     {
         let token = self.source.token(Wanted::Item)?;
         if let Token::EndArray = token {
@@ -173,6 +182,8 @@ impl<'a> Reader<'a> {
         requires { HasMembers level.holder }
         ensures less { OnOk result (left_of self.new < left_of self.old) }
         ensures rest { OnOk result (TakesLevel self.old self.new level.entry) }
+        ensures keeps { OnOk result (KeepsLevel self.old self.new level.entry) }
+        ensures none { IfErr result (λ reason. LeavesOpen reason ⊎ LacksLevel level.entry.holder self.old.source.tokens) }
     {
         match self.source.token(Wanted::Member)? {
             Token::EndObject => self.close(level),
@@ -189,6 +200,8 @@ impl<'a> Reader<'a> {
     fn value_of(&mut self, key: &str) -> Result<(), JsonReason>
         ensures less { OnOk result (left_of self.new < left_of self.old) }
         ensures rest { OnOk result (TakesValue self.old self.new key.now []) }
+        ensures keeps { OnOk result (KeepsValue self.old self.new []) }
+        ensures none { IfErr result (λ reason. LeavesOpen reason ⊎ LacksValue self.old.source.tokens) }
     {
         let token = self.source.token(Wanted::Value)?;
         self.value(token, key, Wanted::Value)
@@ -198,6 +211,8 @@ impl<'a> Reader<'a> {
     fn close(&mut self, level: Level<'a>) -> Result<(), JsonReason>
         ensures less { OnOk result (left_of self.new ≤ left_of self.old) }
         ensures rest { OnOk result (Closes self.old self.new level.entry) }
+        ensures keeps { OnOk result (KeepsClosed self.old self.new level.entry) }
+        ensures none { IfErr result (λ reason. LeavesOpen reason ⊎ LacksWrapper level.entry.holder self.old.source.tokens) }
     {
         self.document.close(level)?;
         match level.holder {
@@ -217,6 +232,8 @@ impl<'a> Reader<'a> {
     fn value(&mut self, token: Token<'a>, key: &str, wanted: Wanted) -> Result<(), JsonReason>
         ensures less { OnOk result (left_of self.new ≤ left_of self.old) }
         ensures rest { OnOk result (TakesValue self.old self.new key.now (token_of token.entry ∷ [])) }
+        ensures keeps { OnOk result (KeepsValue self.old self.new (token_of token.entry ∷ [])) }
+        ensures none { IfErr result (λ reason. LeavesOpen reason ⊎ LacksValue (token_of token.entry ∷ self.old.source.tokens)) }
     {
         match token {
             Token::String(text) => self.put_text(ElementType::String, key, text),
@@ -237,6 +254,8 @@ impl<'a> Reader<'a> {
     fn object(&mut self, key: &str) -> Result<(), JsonReason>
         ensures less { OnOk result (left_of self.new ≤ left_of self.old) }
         ensures rest { OnOk result (TakesValue self.old self.new key.now (begin_object ∷ [])) }
+        ensures keeps { OnOk result (KeepsValue self.old self.new (begin_object ∷ [])) }
+        ensures none { IfErr result (λ reason. LeavesOpen reason ⊎ LacksValue (begin_object ∷ self.old.source.tokens)) }
     {
         let brace = self.source.place;
         match self.source.token(Wanted::Member)? {
@@ -261,6 +280,7 @@ impl<'a> Reader<'a> {
     fn number(&mut self, text: &str, key: &str) -> Result<(), JsonReason>
         ensures source { self.new.source ≡ self.old.source }
         ensures puts { OnOk result ((l : Leaf) × IsPlain text.now l × Puts self.old self.new (leaf_element key.now l)) }
+        ensures none { IfErr result (λ reason. LeavesOpen reason ⊎ ((l : Leaf) → ¬ IsPlain text.now l)) }
     {
         match number_of(text)? {
             Number::Int32(value) => self.put(ElementType::Int32, key, &value.to_le_bytes()),
@@ -278,6 +298,7 @@ impl<'a> Reader<'a> {
     ) -> Result<(), JsonReason>
         ensures source { self.new.source ≡ self.old.source }
         ensures puts { OnOk result (Puts self.old self.new (element_of kind key.now payload.now)) }
+        ensures reason { IfErr result LeavesOpen }
     {
         self.document.put_head(kind, key)?;
         self.document.put(payload)
@@ -292,6 +313,7 @@ impl<'a> Reader<'a> {
     ) -> Result<(), JsonReason>
         ensures source { self.new.source ≡ self.old.source }
         ensures puts { OnOk result (Puts self.old self.new (element_of kind key.now (string_payload text.now))) }
+        ensures reason { IfErr result LeavesOpen }
     {
         self.document.put_head(kind, key)?;
         self.document.put_string(text)
@@ -302,6 +324,7 @@ impl<'a> Reader<'a> {
 fn check_key(key: &str, holder: Holder<'_>) -> Result<(), JsonReason>
     ensures some { OnOk result (MayBeIn holder.entry key.now) }
     ensures none { OnErr result (MayBeIn holder.entry key.now → ¬ NulFree key.now) }
+    ensures others { IfErr result (λ reason. LeavesOpen reason ⊎ ¬ MayBeIn holder.entry key.now) }
 {
     match holder {
         Holder::Document => match Wrapper::of_key(key) {
@@ -316,6 +339,7 @@ fn check_key(key: &str, holder: Holder<'_>) -> Result<(), JsonReason>
 fn check_free(key: &str) -> Result<(), JsonReason>
     ensures some { OnOk result (NulFree key.now) }
     ensures none { OnErr result (¬ NulFree key.now) }
+    ensures reason { IfErr result LeavesOpen }
 {
     if key.as_bytes().contains(&0) {
         Err(JsonReason::InteriorNul)

@@ -16,7 +16,7 @@ ghost use Rattle.bson_from_json.specs.Numbers.{WritesInteger, IsQuotedInt32, IsQ
 ghost use Rattle.bson_from_json.specs.Taken.{Takes, TakesToken, TakesTwo, LacksJson, LacksToken, NoToken, TakesNone, TakesNoTwo, pointed};
 ghost use Rattle.bson_from_json.specs.Wrapped.{InString, IsBinary, IsDate, IsDbPointer, IsTimestamp, IsUuid, WritesUnsigned, two_hex_digits};
 ghost use Rattle.bson_model.specs.Bytes.{NulFree};
-ghost use Rattle.bson_from_json.specs.declared.error.JsonReason.TheVariants.{OutOfMemory};
+ghost use Rattle.bson_from_json.specs.declared.error.JsonReason.TheVariants.{InteriorNul, OutOfMemory, Unsound};
 
 use crate::date::millis_of;
 use crate::decimal::decimal_of;
@@ -190,6 +190,8 @@ impl<'a> Source<'a> {
     pub(crate) fn code(&mut self, code: &str) -> Result<(), JsonReason>
         ensures some { OnOk result (self.old.tokens ≡ key (codes "$code") ∷ string code.now ∷ end_object ∷ self.new.tokens) }
         ensures none { OnErr result ((rest : List Taken) → self.old.tokens ≢ key (codes "$code") ∷ string code.now ∷ end_object ∷ rest) }
+        ensures others { IfErr result (λ reason. (reason ≡ Unsound)
+            ⊎ ((s : List ℕ) (rest : List Taken) → self.old.tokens ≢ key (codes "$code") ∷ string s ∷ end_object ∷ rest)) }
     {
         let wrapper = Wrapper::Scope;
         self.named(wrapper, "$code")?;
@@ -353,6 +355,7 @@ impl<'a> Source<'a> {
     fn c_string(&mut self) -> Result<&'a str, JsonReason>
         ensures some { IfOk result (λ text. TakesToken self.old.tokens self.new.tokens (string text.now)) }
         ensures none { OnErr result ((s : List ℕ) → NulFree s → LacksToken self.old.tokens (string s)) }
+        ensures others { IfErr result (λ reason. (reason ≡ InteriorNul) ⊎ ((s : List ℕ) → LacksToken self.old.tokens (string s))) }
     {
         let text = self.text(Wrapper::RegularExpression)?;
         if text.as_bytes().contains(&0) {
@@ -367,6 +370,8 @@ impl<'a> Source<'a> {
         ensures some { IfOk result (λ p. TakesTwo self.old.tokens self.new.tokens (codes "pattern") (JsonString p.0.now) (codes "options") (JsonString p.1.now)) }
         ensures none { OnErr result ((pattern options : List ℕ) → NulFree pattern → NulFree options
             → TakesNoTwo self.old.tokens (codes "pattern") (JsonString pattern) (codes "options") (JsonString options)) }
+        ensures others { IfErr result (λ reason. (reason ≡ InteriorNul)
+            ⊎ ((pattern options : List ℕ) → TakesNoTwo self.old.tokens (codes "pattern") (JsonString pattern) (codes "options") (JsonString options))) }
     {
         let wrapper = Wrapper::RegularExpression;
         self.begin(wrapper)?;

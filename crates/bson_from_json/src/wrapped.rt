@@ -1,9 +1,11 @@
 //! The values of wrappers, each behind its first key, as bytes of the document.
 #![tactic(auto, using(crate::proofs::Left::one_taken, crate::proofs::Left::some_taken, crate::proofs::Left::leaf_less))]
 
-ghost use Rattle.std.specs.Prelude.{◌≡◌, ◌≤◌, ◌∷◌, [], OnOk, codes};
+ghost use Rattle.std.specs.Prelude.{◌≡◌, ◌≤◌, ◌⊎◌, ◌∷◌, [], IfErr, OnOk, codes};
 ghost use Rattle.json.specs.Token.{begin_object, key as key_token, string};
+ghost use Rattle.bson_from_json.specs.Ends.{KeepsValue, LacksLeaf, LacksValue};
 ghost use Rattle.bson_from_json.specs.Left.{left_of};
+ghost use Rattle.bson_from_json.specs.Texts.{LeavesOpen};
 ghost use Rattle.bson_from_json.specs.Levels.{Puts, TakesLeaf, TakesValue, leaf_element, wrapper_key};
 ghost use Rattle.bson_model.specs.Leaf.{binary, regular_expression};
 ghost use Rattle.raw_bson.specs.ElementType.TheVariants.{Binary};
@@ -22,6 +24,8 @@ impl Reader<'_> {
     pub(crate) fn wrapped(&mut self, wrapper: Wrapper, key: &str) -> Result<(), JsonReason>
         ensures less { OnOk result (left_of self.new ≤ left_of self.old) }
         ensures rest { OnOk result (TakesValue self.old self.new key.now (begin_object ∷ key_token (wrapper_key wrapper) ∷ [])) }
+        ensures keeps { OnOk result (KeepsValue self.old self.new (begin_object ∷ key_token (wrapper_key wrapper) ∷ [])) }
+        ensures none { IfErr result (λ reason. LeavesOpen reason ⊎ LacksValue (begin_object ∷ key_token (wrapper_key wrapper) ∷ self.old.source.tokens)) }
     {
         match wrapper {
             Wrapper::Code => return self.code(key),
@@ -33,7 +37,8 @@ impl Reader<'_> {
 
     /// Takes the value of a wrapper that holds no others, and puts it under a key.
     fn leaf(&mut self, wrapper: Wrapper, key: &str) -> Result<(), JsonReason>
-        ensures { OnOk result (TakesLeaf self.old self.new (wrapper_key wrapper) key.now) }
+        ensures some { OnOk result (TakesLeaf self.old self.new (wrapper_key wrapper) key.now) }
+        ensures none { IfErr result (λ reason. LeavesOpen reason ⊎ LacksLeaf (wrapper_key wrapper) self.old.source.tokens) }
     {
         match wrapper {
             Wrapper::Oid => self.oid(key),
@@ -56,84 +61,96 @@ impl Reader<'_> {
     }
 
     fn oid(&mut self, key: &str) -> Result<(), JsonReason>
-        ensures { OnOk result (TakesLeaf self.old self.new (codes "$oid") key.now) }
+        ensures some { OnOk result (TakesLeaf self.old self.new (codes "$oid") key.now) }
+        ensures none { IfErr result (λ reason. LeavesOpen reason ⊎ LacksLeaf (codes "$oid") self.old.source.tokens) }
     {
         let id = self.source.id()?;
         self.put(ElementType::ObjectId, key, &id)
     }
 
     fn int32(&mut self, key: &str) -> Result<(), JsonReason>
-        ensures { OnOk result (TakesLeaf self.old self.new (codes "$numberInt") key.now) }
+        ensures some { OnOk result (TakesLeaf self.old self.new (codes "$numberInt") key.now) }
+        ensures none { IfErr result (λ reason. LeavesOpen reason ⊎ LacksLeaf (codes "$numberInt") self.old.source.tokens) }
     {
         let value = self.source.int32()?;
         self.put(ElementType::Int32, key, &value.to_le_bytes())
     }
 
     fn int64(&mut self, key: &str) -> Result<(), JsonReason>
-        ensures { OnOk result (TakesLeaf self.old self.new (codes "$numberLong") key.now) }
+        ensures some { OnOk result (TakesLeaf self.old self.new (codes "$numberLong") key.now) }
+        ensures none { IfErr result (λ reason. LeavesOpen reason ⊎ LacksLeaf (codes "$numberLong") self.old.source.tokens) }
     {
         let value = self.source.int64()?;
         self.put(ElementType::Int64, key, &value.to_le_bytes())
     }
 
     fn double(&mut self, key: &str) -> Result<(), JsonReason>
-        ensures { OnOk result (TakesLeaf self.old self.new (codes "$numberDouble") key.now) }
+        ensures some { OnOk result (TakesLeaf self.old self.new (codes "$numberDouble") key.now) }
+        ensures none { IfErr result (λ reason. LeavesOpen reason ⊎ LacksLeaf (codes "$numberDouble") self.old.source.tokens) }
     {
         let bits = self.source.double()?;
         self.put(ElementType::Double, key, &bits.to_le_bytes())
     }
 
     fn decimal(&mut self, key: &str) -> Result<(), JsonReason>
-        ensures { OnOk result (TakesLeaf self.old self.new (codes "$numberDecimal") key.now) }
+        ensures some { OnOk result (TakesLeaf self.old self.new (codes "$numberDecimal") key.now) }
+        ensures none { IfErr result (λ reason. LeavesOpen reason ⊎ LacksLeaf (codes "$numberDecimal") self.old.source.tokens) }
     {
         let bytes = self.source.decimal()?;
         self.put(ElementType::Decimal128, key, &bytes)
     }
 
     fn uuid(&mut self, key: &str) -> Result<(), JsonReason>
-        ensures { OnOk result (TakesLeaf self.old self.new (codes "$uuid") key.now) }
+        ensures some { OnOk result (TakesLeaf self.old self.new (codes "$uuid") key.now) }
+        ensures none { IfErr result (λ reason. LeavesOpen reason ⊎ LacksLeaf (codes "$uuid") self.old.source.tokens) }
     {
         let bytes = self.source.uuid()?;
         self.put_binary(key, BinarySubtype::Uuid, &bytes)
     }
 
     fn date(&mut self, key: &str) -> Result<(), JsonReason>
-        ensures { OnOk result (TakesLeaf self.old self.new (codes "$date") key.now) }
+        ensures some { OnOk result (TakesLeaf self.old self.new (codes "$date") key.now) }
+        ensures none { IfErr result (λ reason. LeavesOpen reason ⊎ LacksLeaf (codes "$date") self.old.source.tokens) }
     {
         let millis = self.source.date()?;
         self.put(ElementType::DateTime, key, &millis.to_le_bytes())
     }
 
     fn undefined(&mut self, key: &str) -> Result<(), JsonReason>
-        ensures { OnOk result (TakesLeaf self.old self.new (codes "$undefined") key.now) }
+        ensures some { OnOk result (TakesLeaf self.old self.new (codes "$undefined") key.now) }
+        ensures none { IfErr result (λ reason. LeavesOpen reason ⊎ LacksLeaf (codes "$undefined") self.old.source.tokens) }
     {
         self.source.undefined()?;
         self.put(ElementType::Undefined, key, &[])
     }
 
     fn min_key(&mut self, key: &str) -> Result<(), JsonReason>
-        ensures { OnOk result (TakesLeaf self.old self.new (codes "$minKey") key.now) }
+        ensures some { OnOk result (TakesLeaf self.old self.new (codes "$minKey") key.now) }
+        ensures none { IfErr result (λ reason. LeavesOpen reason ⊎ LacksLeaf (codes "$minKey") self.old.source.tokens) }
     {
         self.source.one(Wrapper::MinKey)?;
         self.put(ElementType::MinKey, key, &[])
     }
 
     fn max_key(&mut self, key: &str) -> Result<(), JsonReason>
-        ensures { OnOk result (TakesLeaf self.old self.new (codes "$maxKey") key.now) }
+        ensures some { OnOk result (TakesLeaf self.old self.new (codes "$maxKey") key.now) }
+        ensures none { IfErr result (λ reason. LeavesOpen reason ⊎ LacksLeaf (codes "$maxKey") self.old.source.tokens) }
     {
         self.source.one(Wrapper::MaxKey)?;
         self.put(ElementType::MaxKey, key, &[])
     }
 
     fn symbol(&mut self, key: &str) -> Result<(), JsonReason>
-        ensures { OnOk result (TakesLeaf self.old self.new (codes "$symbol") key.now) }
+        ensures some { OnOk result (TakesLeaf self.old self.new (codes "$symbol") key.now) }
+        ensures none { IfErr result (λ reason. LeavesOpen reason ⊎ LacksLeaf (codes "$symbol") self.old.source.tokens) }
     {
         let text = self.source.text(Wrapper::Symbol)?;
         self.put_text(ElementType::Symbol, key, text)
     }
 
     fn timestamp(&mut self, key: &str) -> Result<(), JsonReason>
-        ensures { OnOk result (TakesLeaf self.old self.new (codes "$timestamp") key.now) }
+        ensures some { OnOk result (TakesLeaf self.old self.new (codes "$timestamp") key.now) }
+        ensures none { IfErr result (λ reason. LeavesOpen reason ⊎ LacksLeaf (codes "$timestamp") self.old.source.tokens) }
     {
         let (time, increment) = self.source.timestamp()?;
         self.put(ElementType::Timestamp, key, &increment.to_le_bytes())?;
@@ -141,7 +158,8 @@ impl Reader<'_> {
     }
 
     fn binary(&mut self, key: &str) -> Result<(), JsonReason>
-        ensures { OnOk result (TakesLeaf self.old self.new (codes "$binary") key.now) }
+        ensures some { OnOk result (TakesLeaf self.old self.new (codes "$binary") key.now) }
+        ensures none { IfErr result (λ reason. LeavesOpen reason ⊎ LacksLeaf (codes "$binary") self.old.source.tokens) }
     {
         let (bytes, subtype) = self.source.binary(self.alloc)?;
         self.put_binary(key, BinarySubtype::from_u8(subtype), &bytes)
@@ -156,6 +174,7 @@ impl Reader<'_> {
     ) -> Result<(), JsonReason>
         ensures source { self.new.source ≡ self.old.source }
         ensures puts { OnOk result (Puts self.old self.new (leaf_element key.now (binary subtype bytes.now))) }
+        ensures reason { IfErr result LeavesOpen }
     {
         match subtype {
             BinarySubtype::BinaryOld => self.put_old_binary(key, bytes),
@@ -166,6 +185,7 @@ impl Reader<'_> {
     fn put_old_binary(&mut self, key: &str, bytes: &[u8]) -> Result<(), JsonReason>
         ensures source { self.new.source ≡ self.old.source }
         ensures puts { OnOk result (Puts self.old self.new (element_of Binary key.now (plain_binary_payload 2 (inner_payload bytes.now)))) }
+        ensures reason { IfErr result LeavesOpen }
     {
         let len = bytes.len().checked_add(4).ok_or(JsonReason::TooManyBytes)?;
         self.document.put_head(ElementType::Binary, key)?;
@@ -178,6 +198,7 @@ impl Reader<'_> {
     fn put_plain_binary(&mut self, key: &str, subtype: u8, bytes: &[u8]) -> Result<(), JsonReason>
         ensures source { self.new.source ≡ self.old.source }
         ensures puts { OnOk result (Puts self.old self.new (element_of Binary key.now (plain_binary_payload subtype bytes.now))) }
+        ensures reason { IfErr result LeavesOpen }
     {
         self.document.put_head(ElementType::Binary, key)?;
         self.document.put_len(bytes.len())?;
@@ -187,7 +208,8 @@ impl Reader<'_> {
 
     /// Takes a pattern and options, which are put in their order.
     fn regular_expression(&mut self, key: &str) -> Result<(), JsonReason>
-        ensures { OnOk result (TakesLeaf self.old self.new (codes "$regularExpression") key.now) }
+        ensures some { OnOk result (TakesLeaf self.old self.new (codes "$regularExpression") key.now) }
+        ensures none { IfErr result (λ reason. LeavesOpen reason ⊎ LacksLeaf (codes "$regularExpression") self.old.source.tokens) }
     {
         let (pattern, options) = self.source.regular_expression()?;
         let Ok(regex) = Regex::new(self.alloc, pattern, options) else {
@@ -200,6 +222,7 @@ impl Reader<'_> {
     fn put_regex(&mut self, key: &str, pattern: &str, options: &str) -> Result<(), JsonReason>
         ensures source { self.new.source ≡ self.old.source }
         ensures puts { OnOk result (Puts self.old self.new (leaf_element key.now (regular_expression pattern.now options.now))) }
+        ensures reason { IfErr result LeavesOpen }
     {
         self.document.put_head(ElementType::RegularExpression, key)?;
         self.document.put_c_string(pattern)?;
@@ -207,7 +230,8 @@ impl Reader<'_> {
     }
 
     fn db_pointer(&mut self, key: &str) -> Result<(), JsonReason>
-        ensures { OnOk result (TakesLeaf self.old self.new (codes "$dbPointer") key.now) }
+        ensures some { OnOk result (TakesLeaf self.old self.new (codes "$dbPointer") key.now) }
+        ensures none { IfErr result (λ reason. LeavesOpen reason ⊎ LacksLeaf (codes "$dbPointer") self.old.source.tokens) }
     {
         let (namespace, id) = self.source.db_pointer()?;
         self.put_text(ElementType::DbPointer, key, namespace)?;
@@ -218,6 +242,8 @@ impl Reader<'_> {
     fn code(&mut self, key: &str) -> Result<(), JsonReason>
         ensures less { OnOk result (left_of self.new ≤ left_of self.old) }
         ensures rest { OnOk result (TakesValue self.old self.new key.now (begin_object ∷ key_token (codes "$code") ∷ [])) }
+        ensures keeps { OnOk result (KeepsValue self.old self.new (begin_object ∷ key_token (codes "$code") ∷ [])) }
+        ensures none { IfErr result (λ reason. LeavesOpen reason ⊎ LacksValue (begin_object ∷ key_token (codes "$code") ∷ self.old.source.tokens)) }
     {
         let wrapper = Wrapper::Code;
         let code = self.source.text(wrapper)?;
@@ -233,6 +259,8 @@ impl Reader<'_> {
     fn scope_behind_code(&mut self, key: &str, code: &str) -> Result<(), JsonReason>
         ensures less { OnOk result (left_of self.new ≤ left_of self.old) }
         ensures rest { OnOk result (TakesValue self.old self.new key.now (begin_object ∷ key_token (codes "$code") ∷ string code.now ∷ key_token (codes "$scope") ∷ [])) }
+        ensures keeps { OnOk result (KeepsValue self.old self.new (begin_object ∷ key_token (codes "$code") ∷ string code.now ∷ key_token (codes "$scope") ∷ [])) }
+        ensures none { IfErr result (λ reason. LeavesOpen reason ⊎ LacksValue (begin_object ∷ key_token (codes "$code") ∷ string code.now ∷ key_token (codes "$scope") ∷ self.old.source.tokens)) }
     {
         self.source.begin(Wrapper::Code)?;
         let start = self.document.put_code_before_scope(key, code)?;
@@ -243,6 +271,8 @@ impl Reader<'_> {
     fn scope_before_code(&mut self, key: &str) -> Result<(), JsonReason>
         ensures less { OnOk result (left_of self.new ≤ left_of self.old) }
         ensures rest { OnOk result (TakesValue self.old self.new key.now (begin_object ∷ key_token (codes "$scope") ∷ [])) }
+        ensures keeps { OnOk result (KeepsValue self.old self.new (begin_object ∷ key_token (codes "$scope") ∷ [])) }
+        ensures none { IfErr result (λ reason. LeavesOpen reason ⊎ LacksValue (begin_object ∷ key_token (codes "$scope") ∷ self.old.source.tokens)) }
     {
         self.source.begin(Wrapper::Scope)?;
         let Some(codes) = &mut self.codes else {

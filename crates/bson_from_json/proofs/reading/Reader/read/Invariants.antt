@@ -1,10 +1,11 @@
 use Rattle.bson_from_json.specs.Left.{left_of}
+use Rattle.bson_from_json.proofs.Keeps.{MayEnd}
 use Rattle.bson_from_json.proofs.Moments.{Whole}
 use Rattle.bson_from_json.proofs.reading.Reader.read.Given as goal
 
--- what is left is made to the bytes that the text says
+-- what is left is made to the bytes that the text says, and can be ended if it says any
 abbrev pub invariant-members : goal.invariant-members
-invariant-members l = Whole l.fn.self.source.tokens l.self
+invariant-members l = Whole l.fn.self.source.tokens l.self × MayEnd l.fn.self.source.tokens l.self
 
 -- how many tokens are left
 abbrev pub decreases-members : goal.decreases-members

@@ -2,6 +2,7 @@ use Rattle.std.proofs.Common.{true, false, refl, rules}
 use Rattle.json.specs.Json as json
 use Rattle.bson_model.specs.Leaf as leaf
 use Rattle.bson_from_json.proofs.Moments.{array_opened, leaf_put, on_ok, on_ok_two, value_as}
+use Rattle.bson_from_json.proofs.Keeps.{array_keeps, boolean_keeps, keeps_as, lacks_as, no_number, null_keeps, number_keeps, only_open, or_lacks, string_keeps}
 use Rattle.bson_from_json.proofs.reading.Reader.value.Goals as goal
 
 pub returns-in-String-clause-rest : goal.returns-in-String-clause-rest
@@ -28,3 +29,45 @@ returns-in-Bool-true-clause-rest c = on_ok c.put.result
 pub returns-in-Null-clause-rest : goal.returns-in-Null-clause-rest
 returns-in-Null-clause-rest c = on_ok c.put-in-Null.result
     (λ puts. value_as _ _ (search rules) (leaf_put _ _ c.args.key.now json.null leaf.null refl c.put-in-Null.ensures.source puts)) c.put-in-Null.ensures.puts
+
+pub returns-in-String-clause-keeps : goal.returns-in-String-clause-keeps
+returns-in-String-clause-keeps c = on_ok c.put_text.result (λ puts. keeps_as _ _ (search rules) (string_keeps _ _ puts.levels c.put_text.ensures.source c.in-String.text.now)) c.put_text.ensures.puts
+
+pub returns-in-String-clause-none : goal.returns-in-String-clause-none
+returns-in-String-clause-none c = only_open _ c.put_text.result c.put_text.ensures.reason
+
+pub returns-in-Bool-false-clause-keeps : goal.returns-in-Bool-false-clause-keeps
+returns-in-Bool-false-clause-keeps c = on_ok c.put-in-Bool-false.result
+    (λ puts. keeps_as _ _ (search rules) (boolean_keeps _ _ puts.levels c.put-in-Bool-false.ensures.source false)) c.put-in-Bool-false.ensures.puts
+
+pub returns-in-Bool-false-clause-none : goal.returns-in-Bool-false-clause-none
+returns-in-Bool-false-clause-none c = only_open _ c.put-in-Bool-false.result c.put-in-Bool-false.ensures.reason
+
+pub returns-in-Bool-true-clause-keeps : goal.returns-in-Bool-true-clause-keeps
+returns-in-Bool-true-clause-keeps c = on_ok c.put.result (λ puts. keeps_as _ _ (search rules) (boolean_keeps _ _ puts.levels c.put.ensures.source true)) c.put.ensures.puts
+
+pub returns-in-Bool-true-clause-none : goal.returns-in-Bool-true-clause-none
+returns-in-Bool-true-clause-none c = only_open _ c.put.result c.put.ensures.reason
+
+pub returns-in-Null-clause-keeps : goal.returns-in-Null-clause-keeps
+returns-in-Null-clause-keeps c = on_ok c.put-in-Null.result (λ puts. keeps_as _ _ (search rules) (null_keeps _ _ puts.levels c.put-in-Null.ensures.source)) c.put-in-Null.ensures.puts
+
+pub returns-in-Null-clause-none : goal.returns-in-Null-clause-none
+returns-in-Null-clause-none c = only_open _ c.put-in-Null.result c.put-in-Null.ensures.reason
+
+pub returns-in-Number-clause-keeps : goal.returns-in-Number-clause-keeps
+returns-in-Number-clause-keeps c = on_ok c.number.result
+    (λ p. keeps_as _ _ (search rules) (number_keeps _ _ p.2.levels c.number.ensures.source c.in-Number.text.now)) c.number.ensures.puts
+
+pub returns-in-Number-clause-none : goal.returns-in-Number-clause-none
+returns-in-Number-clause-none c = or_lacks c.number.result
+    (λ none. lacks_as (search rules) (no_number c.in-Number.text.now none)) c.number.ensures.none
+
+pub returns-in-BeginArray-clause-keeps : goal.returns-in-BeginArray-clause-keeps
+returns-in-BeginArray-clause-keeps c = on_ok c.open_under.result (λ level. keeps_as _ _ (search rules) (array_keeps _ _ _ level refl)) c.open_under.ensures.level
+
+pub returns-in-BeginArray-clause-none : goal.returns-in-BeginArray-clause-none
+returns-in-BeginArray-clause-none c = only_open _ c.open_under.result c.open_under.ensures.reason
+
+pub returns-in-BeginObject-clause-none : goal.returns-in-BeginObject-clause-none
+returns-in-BeginObject-clause-none c = or_lacks c.object.result (λ none. lacks_as (search rules) none) c.object.ensures.none
