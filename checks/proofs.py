@@ -23,7 +23,6 @@ MOST_ARGUMENTS = {
     "bsonraw_c": 22,
     "bsonraw_dump": 34,
     "raw_bson": 16,
-    "raw_form": 27,
     "raw_resync": 17,
     "raw_tree": 20,
     "raw_view": 18,

@@ -18,8 +18,10 @@ use Rattle.raw_tree.specs.declared.validator.breach.Cause.TheVariants as cause
 use Rattle.raw_tree.specs.declared.validator.keys_so_far.KeysSoFar.{KeysSoFar}
 use Rattle.raw_form.specs.Barriers.{steps_of}
 use Rattle.raw_form.specs.Looking.{HasNoneBefore}
+use Rattle.raw_form.specs.Places.{Step}
 use Rattle.raw_form.specs.Staying.{IsOwnUpTo}
 use Rattle.raw_form.specs.Verdicts.{Verdict, too_deep, breach_of, FirstVerdictTo}
+use Rattle.raw_form.specs.Walks.{IsBehind}
 use Rattle.raw_form.specs.declared.judge.Held.{Held}
 use Rattle.raw_form.specs.declared.judge.Held.TheVariants as held
 use Rattle.raw_form.specs.declared.faults.Start.{Start}
@@ -88,10 +90,20 @@ abbrev pub TellsFound : ℕ → List ℕ → Option Found → Type 0
 TellsFound depth b None = IsCanonicalUpTo depth as_document b
 TellsFound depth b (Some found) = FirstVerdictTo depth as_document b (verdict_of found.cause) (steps_of found.place) found.place.offset
 
--- what is found is the level that was too deep, at its place
-abbrev pub EndsTooDeep : WalkError → Option Found → Type 0
-EndsTooDeep (error.Barrier b) (Some found) = (found.cause ≡ None) × (found.place ≡ b.place)
-EndsTooDeep other found = ⊥
+-- what is found is the level that was too deep, at its place, inside the element that begins here
+abbrev pub EndsTooDeep : (outermost : ℕ) → WalkError → Option Found → Type 0
+EndsTooDeep outermost (error.Barrier b) (Some found) = (found.cause ≡ None) × (found.place ≡ b.place) × (found.outermost ≡ outermost)
+EndsTooDeep outermost other found = ⊥
+
+-- the number of the first step; of no step that of the first element
+abbrev pub first_number : List Step → ℕ
+first_number [] = 0
+first_number (step ∷ steps) = step.number
+
+-- what was found is at or inside the element of the outermost level that begins here
+abbrev pub TellsOutermost : List ℕ → Option Found → Type 0
+TellsOutermost b None = Unit {0}
+TellsOutermost b (Some found) = IsBehind b (first_number (steps_of found.place)) found.outermost
 
 -- the document b is canonical; or no element before this one has a barrier, and what they stand for is written as they are
 abbrev pub TellsStart : ℕ → List ℕ → Option Start → Type 0

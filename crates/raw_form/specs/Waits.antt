@@ -4,11 +4,12 @@ use Rattle.raw_view.specs.Frame.Envelope.{IsEnvelope}
 use Rattle.raw_view.specs.Frame.{Frame, IsFrame}
 use Rattle.raw_form.specs.declared.level.Waiting.{Waiting}
 
--- A level that waits for the one that an element of it holds: where it begins and its bytes; what is left behind that
--- element, how many elements are before it, where what is left begins, and the element's key.
+-- A level that waits for the one that an element of it holds: where it begins and its bytes; where that element begins; what
+-- is left behind it, how many elements are before it, where what is left begins, and the element's key.
 pub record Wait : Type 0 where
   pub start : ℕ
   pub bytes : List ℕ
+  pub element : ℕ
   pub elements : Option (List ℕ)
   pub number : ℕ
   pub offset : ℕ
@@ -23,6 +24,7 @@ pub record LiesAt (b : List ℕ) (start : ℕ) (d : List ℕ) : Type 0 where
 -- this is stored of the level x of b: where it begins, where its element is, and the number of that
 pub record Stores (b : List ℕ) (w : Waiting) (x : Wait) : Type 0 where
   pub start_is : w.start ≡ x.start
+  pub element_is : w.element ≡ x.element
   pub number_is : w.number ≡ x.number
   pub lies : LiesAt b x.start x.bytes
   pub frame : Frame

@@ -11,7 +11,7 @@ use Rattle.raw_tree.specs.Reading.{Sort, as_document, tree_of_pairs, ReadsUpTo, 
 use Rattle.raw_tree.specs.Validating.{HoldsAs, left_of}
 use Rattle.raw_form.specs.Barriers.{TellsBarrierWithin, steps_of}
 use Rattle.raw_form.specs.Looking.{Looks, size_of, step_at}
-use Rattle.raw_form.specs.Places.{Step}
+use Rattle.raw_form.specs.Places.{BeginsAt, Step}
 use Rattle.raw_form.specs.Waits.{GoesOn, LiesAt, StoreEach, Wait}
 use Rattle.raw_form.specs.declared.barrier.BarrierKind.{BarrierKind}
 use Rattle.raw_form.specs.declared.barrier.BarrierKind.TheVariants as kind
@@ -50,6 +50,7 @@ pub record IsHeld (inside : ℕ) (b : List ℕ) (w : Wait) (sort : Sort) (d : Li
   pub frame : IsFrame s f r
   pub bytes_are : w.bytes ≡ b
   pub left_is : w.elements ≡ Some r
+  pub element_is : w.element + size_of f ≡ w.offset
   pub number_is : w.number ≡ length frames
   pub key_is : w.key ≡ f.key
   pub each : StandForEach (ReadsUpTo inside) frames pairs
@@ -80,6 +81,19 @@ pub record IsAt (depth : ℕ) (b : List ℕ) (ws : List Wait) (left : Option (Li
   pub begins : offset + left_of left ≡ end
   pub lies : LiesAt b start d
   pub whole : start + length d ≡ end
+
+-- so many elements of the document b are in front of what begins at this offset
+pub record IsBehind (b : List ℕ) (number offset : ℕ) : Type 0 where
+  pub frames : List Frame
+  pub s : List ℕ
+  pub reaches : LeadsTo (drop 4 b) frames s
+  pub number_is : number ≡ length frames
+  pub begins : BeginsAt b s offset
+
+-- where the element of the outermost level begins that holds the levels inside, or that is next, at this offset
+abbrev pub outermost_of : List Wait → ℕ → ℕ
+outermost_of [] offset = offset
+outermost_of (w ∷ ws) offset = w.element
 
 -- steps of the walk
 
@@ -137,9 +151,9 @@ abbrev pub Passes : Walk → (from : Level) → List Wait → (to : Level) → R
 Passes walk from ws to e =
     IsFurther from walk to ws × Looks from.elements to.elements (next.Whole e) × (to.offset ≡ from.offset + size_of (frame_of e)) × (to.start ≡ from.start)
 
--- a level that waits, behind this element of it
-abbrev pub wait_behind : (start : ℕ) (d : List ℕ) (new : Option (List ℕ)) (number behind : ℕ) (key : List ℕ) → Wait
-wait_behind start d new number behind key = record { start = start; bytes = d; elements = new; number = number; offset = behind; key = key }
+-- a level with the bytes d that waits, behind the element of this number and key that begins at this offset
+abbrev pub wait_behind : (start : ℕ) (d : List ℕ) (new : Option (List ℕ)) (number offset behind : ℕ) (key : List ℕ) → Wait
+wait_behind start d new number offset behind key = record { start = start; bytes = d; element = offset; elements = new; number = number; offset = behind; key = key }
 
 -- the level that an element holds is entered; this one waits for it
 abbrev pub Enters : (from : Level) → List Wait → Wait → Walk → (to : Level) → RawElement → RawDocument → Type 0

@@ -13,7 +13,6 @@ ghost use Rattle.raw_view.specs.Errors.{IsOutOfMemory};
 
 use crate::barrier::{Barrier, BarrierKind};
 use crate::faults::{FIRST, Start, first_behind};
-use crate::last::offset_of;
 use crate::rewriting::rewrite;
 use crate::verdict::judge_to_depth;
 use raw_tree::{Cause, Limits};
@@ -44,10 +43,9 @@ fn start_of(alloc: Global, document: RawDocument<'_>, depth: usize) -> Result<Op
     if path.len() == 0 {
         return Ok(Some(FIRST));
     }
-    let number = path[0].number;
     Ok(Some(Start {
-        number,
-        offset: offset_of(document, number),
+        number: path[0].number,
+        offset: found.outermost,
         repeats: path.len() == 1 && matches!(found.cause, Some(Cause::RepeatedKey)),
     }))
 }

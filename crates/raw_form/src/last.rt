@@ -6,14 +6,13 @@ ghost use Rattle.std.specs.List.{IsDistinct};
 ghost use Rattle.std.specs.Option.{option_map};
 ghost use Rattle.std.specs.Str.{bytes_eq};
 ghost use Rattle.bson_model.specs.Tree.{Tree};
-ghost use Rattle.raw_form.specs.Places.{BeginsAt};
 ghost use Rattle.raw_form.specs.Staying.{HasLastPlaces, IsLeftAt, TakesFrame, TakesMember, last_places};
 ghost use Rattle.raw_tree.specs.Breaches.{keys_of_frames};
 ghost use Rattle.raw_tree.specs.Members.{MemberKey};
 ghost use Rattle.raw_view.specs.Document.{bytes_of};
 ghost use Rattle.raw_view.specs.Frame.ElementSteps.{frame_of};
 ghost use Rattle.raw_view.specs.Errors.{IsOutOfMemory};
-ghost use Rattle.raw_view.specs.Frame.{Done, Frame, IsFrame, IsWalk, LeadsTo};
+ghost use Rattle.raw_view.specs.Frame.{Done, Frame, IsFrame, IsWalk};
 
 use crate::level::behind;
 use crate::numbered::put_place;
@@ -42,28 +41,6 @@ pub(crate) struct LastPlaces<'a> {
     pub(crate) places: Vec<u32>,
     pub(crate) passed: usize,
     pub(crate) known: usize,
-}
-
-/// Where the element of this number begins, or the stop behind as many; where there are fewer, nothing is said.
-pub(crate) fn offset_of(document: RawDocument<'_>, number: usize) -> usize
-    ensures { (frames : List Frame) (s : List ℕ)
-        → LeadsTo (drop 4 (bytes_of document.entry)) frames s
-        → length frames ≡ number
-        → BeginsAt (bytes_of document.entry) s result }
-{
-    let mut elements = Elements::new(document);
-    let mut begin = 4;
-    let mut left = number;
-    'elements: loop {
-        if left == 0 {
-            return begin;
-        }
-        let Some(element) = next_element(&mut elements) else {
-            return begin;
-        };
-        begin = behind(begin, element);
-        left -= 1;
-    }
 }
 
 /// So many keys are looked through for a repeated one. Keys that were chosen cost more to look through than to number.

@@ -2,7 +2,7 @@
 #![tactic(auto)]
 
 ghost use Rattle.std.specs.Prelude.{◌<◌, IfOk, IfErr};
-ghost use Rattle.raw_form.specs.Judging.{EndsTooDeep, TellsFound};
+ghost use Rattle.raw_form.specs.Judging.{EndsTooDeep, TellsFound, TellsOutermost};
 ghost use Rattle.raw_form.specs.Verdicts.{AllAreJudgedOneWayWithin, TellsVerdict};
 ghost use Rattle.raw_view.specs.Document.{bytes_of};
 ghost use Rattle.raw_view.specs.Errors.{IsOutOfMemory};
@@ -53,6 +53,9 @@ pub(crate) struct Found<'a> {
     pub(crate) cause: Option<Cause>,
     /// where it is
     pub(crate) place: Place<'a>,
+    /// where the element of the outermost level begins that it is at, or that holds it; the first, where it is the document
+    /// as a whole
+    pub(crate) outermost: usize,
 }
 
 /// The first breach or level that is too deep. The only error is out of memory.
@@ -62,6 +65,7 @@ pub(crate) fn judge_to_depth<'a>(
     depth: usize,
 ) -> Result<Option<Found<'a>>>
     ensures found { IfOk result (TellsFound depth (bytes_of document.entry)) }
+    ensures outermost { IfOk result (TellsOutermost (bytes_of document.entry)) }
     ensures err { IfErr result IsOutOfMemory }
     ensures entered { IfErr result (λ _. 0 < depth) }
 {
@@ -69,6 +73,7 @@ pub(crate) fn judge_to_depth<'a>(
         return Ok(Some(Found {
             cause: None,
             place: Place::whole(alloc),
+            outermost: FIRST.offset,
         }));
     };
     let mut listed: Vec<&'a str> = Vec::new(alloc);
@@ -80,8 +85,9 @@ pub(crate) fn judge_to_depth<'a>(
         match judge(alloc, &mut level.elements, &mut keys, &mut listed, number)? {
             Judged::Whole(element) => walk.pass(&mut level, element),
             Judged::Inside(element, inner, is_array) => {
+                let outermost = walk.outermost(level.offset);
                 if let Err(error) = walk.enter(alloc, &mut level, element, inner) {
-                    return too_deep(error);
+                    return too_deep(error, outermost);
                 }
                 let keys = mem::replace(&mut keys, keys_of(is_array, &listed));
                 if outer_keys.push(keys).is_err() {
@@ -96,6 +102,7 @@ pub(crate) fn judge_to_depth<'a>(
                 return Ok(Some(Found {
                     cause: Some(cause),
                     place,
+                    outermost: walk.outermost(level.offset),
                 }));
             }
             Judged::End => {
@@ -112,15 +119,16 @@ pub(crate) fn judge_to_depth<'a>(
     }
 }
 
-/// What ends a validation at a level that is too deep.
-fn too_deep(error: WalkError<'_>) -> Result<Option<Found<'_>>>
-    ensures found { IfOk result (EndsTooDeep error.entry) }
+/// What ends a validation at a level that is too deep, which an element of the outermost level holds that begins there.
+fn too_deep(error: WalkError<'_>, outermost: usize) -> Result<Option<Found<'_>>>
+    ensures found { IfOk result (EndsTooDeep outermost error.entry) }
     ensures err { IfErr result IsOutOfMemory }
 {
     match error {
         WalkError::Barrier(barrier) => Ok(Some(Found {
             cause: None,
             place: barrier.place,
+            outermost,
         })),
         WalkError::OutOfMemory => Err(Error::out_of_memory()),
     }

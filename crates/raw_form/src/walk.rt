@@ -5,7 +5,7 @@ ghost use Rattle.std.specs.Option.{option_copied};
 ghost use Rattle.std.specs.Prelude.{◌≡◌, ◌+◌, [], ℕ, suc, List, Option, IfErr, OnOk};
 ghost use Rattle.raw_form.specs.Looking.{HasNoneBefore, size_of};
 ghost use Rattle.raw_form.specs.Waits.{StoreEach, Wait};
-ghost use Rattle.raw_form.specs.Walks.{Comes, Enters, IsAlong, IsBarrierAt, IsBegun, IsLooked, IsTooDeep, LeavesOrEnds, Passes, wait_behind, with_left};
+ghost use Rattle.raw_form.specs.Walks.{Comes, Enters, IsAlong, IsBarrierAt, IsBegun, IsLooked, IsTooDeep, LeavesOrEnds, Passes, outermost_of, wait_behind, with_left};
 ghost use Rattle.raw_form.specs.declared.level.Next.TheVariants as next;
 ghost use Rattle.raw_view.specs.Document.{bytes_of};
 ghost use Rattle.raw_view.specs.Frame.ElementSteps.{frame_of};
@@ -150,7 +150,7 @@ impl<'a> Walk<'a> {
             → (left : Option (List ℕ))
             → (is : IsLooked self.old level.old left ws (next.Inside element.entry inner.entry))
             → let w : Wait = wait_behind level.old.start is.along.at.d level.old.elements level.old.number
-            (level.old.offset + size_of (frame_of element.entry)) (frame_of element.entry).key in
+            level.old.offset (level.old.offset + size_of (frame_of element.entry)) (frame_of element.entry).key in
             OnOk result (Enters (with_left left level.old) ws w self.new level.new element.entry inner.entry) }
         ensures ends { (ws : List Wait)
             → StoreEach (bytes_of self.old.document) self.old.waiting.items ws
@@ -192,6 +192,19 @@ impl<'a> Walk<'a> {
         };
         *level = Level::behind(self.document, outer, level.offset + 1);
         true
+    }
+
+    /// Where the element of the outermost level begins that holds the innermost level; in the outermost level itself what
+    /// begins at this offset.
+    pub(crate) fn outermost(&self, offset: usize) -> usize
+        ensures { (ws : List Wait)
+            → StoreEach (bytes_of self.now.document) self.now.waiting.items ws
+            → result ≡ outermost_of ws offset }
+    {
+        match self.waiting.first() {
+            None => offset,
+            Some(outer) => outer.element as usize,
+        }
     }
 
     /// The barrier of this kind at the element with this number and key in the innermost level, and where it is.

@@ -1,7 +1,7 @@
 use Rattle.std.proofs.Common.{refl, subst}
 use Rattle.raw_view.specs.Document.{bytes_of}
-use Rattle.raw_form.specs.Judging.{TellsFound}
-use Rattle.raw_form.proofs.Beginning.{first_start, found_begins}
+use Rattle.raw_form.specs.Judging.{TellsFound, TellsOutermost}
+use Rattle.raw_form.proofs.canonical.Starts.{first_start, found_begins}
 use Rattle.raw_form.proofs.canonical.start_of.Goals as goal
 
 pub returns-then-path-eq0-clause-start : goal.returns-then-path-eq0-clause-start
@@ -11,5 +11,6 @@ pub returns-clause-start : goal.returns-clause-start
 returns-clause-start c =
     let b = bytes_of c.args.document in
     let told = subst (TellsFound c.args.depth b) c.in-Some.is c.in_ok-found.ensures.found in
-    found_begins c.args.depth b c.in-Some.found c.as_slice-path.result.now _ told c.as_slice-path.ensures.value c.if-path-eq0.false refl
-    c.args.document.envelope.enough c.offset_of.ensures
+    let outermost = subst (TellsOutermost b) c.in-Some.is c.in_ok-found.ensures.outermost in
+    found_begins c.args.depth b c.in-Some.found c.as_slice-path.result.now _ told outermost c.as_slice-path.ensures.value c.if-path-eq0.false refl refl
+    c.args.document.envelope.enough

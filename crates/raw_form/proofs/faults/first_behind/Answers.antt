@@ -9,7 +9,7 @@ use Rattle.raw_form.specs.declared.barrier.Barrier.{Barrier}
 use Rattle.raw_form.specs.declared.barrier.BarrierKind.TheVariants as kind
 use Rattle.raw_form.specs.declared.level.Level.{Level}
 use Rattle.raw_form.specs.declared.walk.Walk.{Walk}
-use Rattle.raw_form.proofs.Levels.{IsWalking, at_deep, at_fault, deep_told, told_at, told_there, walks_nearer, walks_on}
+use Rattle.raw_form.proofs.walk.Levels.{IsWalking, at_deep, at_fault, deep_told, told_at, told_there, walks_nearer, walks_on}
 use Rattle.raw_form.proofs.faults.first_behind.Goals as goal
 
 -- what is told of the walk's document within its depth

@@ -1,6 +1,6 @@
 use Rattle.std.proofs.Common.{◌≡◌, ◌-◌, ℕ, suc, length}
 use Rattle.raw_view.specs.Document.{bytes_of}
-use Rattle.raw_form.proofs.Levels.{IsWalking}
+use Rattle.raw_form.proofs.walk.Levels.{IsWalking}
 use Rattle.raw_form.proofs.faults.first_behind.Given as goal
 
 abbrev pub invariant-elements : goal.invariant-elements

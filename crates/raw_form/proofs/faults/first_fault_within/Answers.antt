@@ -1,8 +1,8 @@
 use Rattle.std.proofs.Common.{arith, ap, length}
 use Rattle.raw_view.specs.Document.{bytes_of}
 use Rattle.raw_tree.proofs.Face.{answered_one_way}
-use Rattle.raw_form.proofs.OneBarrier.{barred_at_one_place}
-use Rattle.raw_form.proofs.Told.{barrier_told}
+use Rattle.raw_form.proofs.faults.OneBarrier.{barred_at_one_place}
+use Rattle.raw_form.proofs.faults.Within.{barrier_told}
 use Rattle.raw_form.proofs.faults.first_fault_within.Goals as goal
 
 pub returns-then-as_bytes-limits-clause-one_answer : goal.returns-then-as_bytes-limits-clause-one_answer

@@ -3,9 +3,9 @@ use Rattle.raw_view.specs.Document.{bytes_of}
 use Rattle.raw_view.specs.Frame.ElementSteps.{frame_of}
 use Rattle.raw_form.specs.Tokens.{IsTokenOf}
 use Rattle.raw_form.specs.Walks.{Comes}
-use Rattle.raw_form.proofs.Flattening.{IsFlattening, as_many_wait, few_wait, flat_begins, flattens_all, flattens_end, flattens_inside, flattens_whole, place_within}
-use Rattle.raw_form.proofs.Levels.{at_within, told_there}
-use Rattle.raw_form.proofs.Lying.{envelope_fits}
+use Rattle.raw_form.proofs.flatten.Flattening.{IsFlattening, as_many_wait, few_wait, flat_begins, flattens_all, flattens_end, flattens_inside, flattens_whole, place_within}
+use Rattle.raw_form.proofs.walk.Levels.{at_within, told_there}
+use Rattle.raw_form.proofs.walk.Offsets.{envelope_fits}
 use Rattle.raw_form.proofs.flatten.flatten_to.Goals as goal
 
 pub events-init : goal.events-init
@@ -54,8 +54,8 @@ events-preserved-in-Ok-Enter c =
     let few : suc (length is.waits) ≤ c.args.most_waiting = omega (arith, came.2.0.along.at.levels, length-append is.waits (came.0 ∷ []), c.next.ensures.most, is.most_is) in
     let grown : c.push.new.self.items ≡ c.events.places.items ++ c.events.count ∷ [] = search rules in (
       record { waits = is.waits ++ came.0 ∷ []; along = came.2.0.along; document_is = c.next.ensures.document ∙ is.document_is; most_is = c.next.ensures.most ∙ is.most_is },
-      flattens_inside c.events.invariant.1 came.0 c.in-Ok-Enter.element came.1 c.new-in-Ok-Enter.result c.put_at-in-Ok-Enter.new.room level c.push.new.self.items few
-          came.2.1 came.2.2 token c.put_at-in-Ok-Enter.ensures came.2.3 grown came.2.0.further,
+      rw (grown, c.put_at-in-Ok-Enter.ensures)
+          (flattens_inside c.events.invariant.1 came.0 c.in-Ok-Enter.element c.new-in-Ok-Enter.result few came.2.1 came.2.2 token came.2.3 came.2.0.further),
     )
 
 pub unreachable-requires : goal.unreachable-requires
@@ -85,10 +85,10 @@ events-preserved c =
     let list = c.pop.new.self.items in
     let level = c.next.new.level in
     let room = c.set_inside.new.tokens in
-    let ends = flattens_end flat came.0 came.1 list place (c.events.count - (place + 1)) room came.2 came.4 c.in-Some.ensures.items size c.set_inside.ensures
+    let ends = flattens_end flat came.0 came.1 list place (c.events.count - (place + 1)) came.2 came.4 c.in-Some.ensures.items size
     (omega (arith, came.3.further, goes.offset_is)) in
     let there : IsFlattening most b before came.0 came.1.elements level.offset list c.events.count room =
-    subst (λ (o : ℕ). IsFlattening most b before came.0 came.1.elements o list c.events.count room) (sym goes.offset_is) ends in (
+    rw (goes.offset_is, c.set_inside.ensures) ends in (
       record { waits = came.0; along = came.3.along; document_is = c.next.ensures.document ∙ is.document_is; most_is = c.next.ensures.most ∙ is.most_is },
       subst (λ (s : Option (List ℕ)). IsFlattening most b before came.0 s level.offset list c.events.count room) (sym goes.elements_are) there,
     )

@@ -6,7 +6,7 @@ use Rattle.raw_tree.specs.OpenKeys.{HasKeysSoFar, TellsOpenKey}
 use Rattle.raw_tree.specs.Reading.{as_document}
 use Rattle.raw_tree.specs.References.{texts}
 use Rattle.raw_tree.specs.declared.validator.breach.Cause.{Cause}
-use Rattle.raw_form.proofs.Placing.{apart_begins, apart_more, apart_over, none_added, taken_smaller}
+use Rattle.raw_form.proofs.last.Listed.{apart_begins, apart_more, apart_over, none_added, taken_smaller}
 use Rattle.raw_form.proofs.last.are_keys_distinct.Goals as goal
 
 pub elements-init : goal.elements-init
@@ -34,5 +34,4 @@ elements-preserved c =
     let more : TellsOpenKey as_document is.below (keys_of_frames is.passed) c.key.result.now c.add.new.self c.add.new.listed.items None =
     subst (λ (x : Option Cause). TellsOpenKey as_document is.below
     (keys_of_frames is.passed) c.key.result.now c.add.new.self c.add.new.listed.items x) none told in
-    apart_more (bytes_of c.args.document) c.elements.elements c.next_element.new.elements c.elements.keys c.add.new.self c.elements.listed.items
-    c.add.new.listed.items c.elements.number c.in-Some.element c.key.result.now is c.in-Some.ensures c.key.ensures more
+    apart_more c.next_element.new.elements c.add.new.self c.add.new.listed.items c.in-Some.element c.key.result.now is c.in-Some.ensures c.key.ensures more

@@ -2,7 +2,7 @@ use Rattle.std.proofs.Common.{rules, arith}
 use Rattle.bson_model.specs.Pairs.{keep, with_pair}
 use Rattle.raw_view.specs.Document.{bytes_of}
 use Rattle.raw_form.specs.Staying.{AreNumbered, placed}
-use Rattle.raw_form.proofs.Placing.{listed_begins, listed_fits, listed_more, listed_over, taken_smaller}
+use Rattle.raw_form.proofs.last.Listed.{listed_begins, listed_fits, listed_more, listed_over, taken_smaller}
 use Rattle.raw_form.proofs.last.list_places.Goals as goal
 
 pub elements-init : goal.elements-init
@@ -22,8 +22,7 @@ elements-preserved c =
     let is = c.elements.invariant in
     let put : AreNumbered c.put_place.new.numbers c.put_place.new.places.items (with_pair c.key.result.now c.elements.offset (keep (placed 4 is.passed))) =
     c.in_ok-put_place.ensures.put (keep (placed 4 is.passed)) is.numbered in
-    listed_more (bytes_of c.args.document) c.elements.numbers c.put_place.new.numbers c.elements.places.items c.put_place.new.places.items
-    c.elements.elements c.next_element.new.elements c.elements.offset c.behind-offset.result c.in-Some.element is c.in-Some.ensures
+    listed_more c.put_place.new.numbers c.put_place.new.places.items c.next_element.new.elements c.behind-offset.result c.in-Some.element is c.in-Some.ensures
     (rw (← c.key.ensures) put) c.put_place.ensures.few c.behind-offset.ensures
 
 pub behind-offset-requires : goal.behind-offset-requires

@@ -1,6 +1,6 @@
 use Rattle.raw_view.specs.Document.{bytes_of}
 use Rattle.raw_tree.specs.Validating.{left_of}
-use Rattle.raw_form.proofs.Placing.{AreListed}
+use Rattle.raw_form.proofs.last.Listed.{AreListed}
 use Rattle.raw_form.proofs.last.list_places.Given as goal
 
 abbrev pub invariant-elements : goal.invariant-elements

@@ -2,7 +2,7 @@ use Rattle.std.proofs.Common.{Result, Some, subst}
 use Rattle.raw_view.specs.Frame.Front.{StepsFront}
 use Rattle.raw_view.specs.declared.element.RawElement.{RawElement}
 use Rattle.raw_view.specs.declared.error.BorrowedError.{BorrowedError}
-use Rattle.raw_form.proofs.Lasting.{taken_stop}
+use Rattle.raw_form.proofs.last.Places.{taken_stop}
 use Rattle.raw_form.proofs.last.next_element.Goals as goal
 
 pub returns-in-Some-Err : goal.returns-in-Some-Err

@@ -3,7 +3,7 @@ use Rattle.raw_view.specs.Frame.Front.{StepsFront}
 use Rattle.raw_view.specs.Meaning.Value.{value_of}
 use Rattle.raw_view.specs.declared.element.RawElement.{RawElement}
 use Rattle.raw_view.specs.declared.error.BorrowedError.{BorrowedError}
-use Rattle.raw_form.proofs.Looking.{looks_stop, looks_whole}
+use Rattle.raw_form.proofs.level.Fronts.{looks_stop, looks_whole}
 use Rattle.raw_form.proofs.level.look.Goals as goal
 
 pub returns-in-Some-Err : goal.returns-in-Some-Err

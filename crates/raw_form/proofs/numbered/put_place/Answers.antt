@@ -1,7 +1,7 @@
 use Rattle.std.proofs.Common.{◌≡◌, ◌<◌, ◌∙◌, ℕ, None, Some, arith, length, subst}
 use Rattle.std.specs.BTreeMap.{get}
 use Rattle.raw_form.specs.Staying.{GivesNumber, hash_of, key_cmp}
-use Rattle.raw_form.proofs.Numbering.{number_new, number_old, number_within, numbered_again, numbered_more}
+use Rattle.raw_form.proofs.numbered.Numbering.{number_new, number_old, number_within, numbered_again, numbered_more}
 use Rattle.raw_form.proofs.numbered.put_place.Goals as goal
 use Rattle.raw_form.proofs.numbered.put_place.Goals.{then-number-next+in_ok-push, else-number-next}
 

@@ -1,6 +1,6 @@
 use Rattle.std.proofs.Common.{◌≡◌, ◌∙◌, Some, length, arith, ap, sym}
 use Rattle.raw_view.specs.Document.{bytes_of}
-use Rattle.raw_form.proofs.Lying.{steps_done, steps_more, stored_at, stored_many, stored_within}
+use Rattle.raw_form.proofs.walk.Offsets.{steps_done, steps_more, stored_at, stored_many, stored_within}
 use Rattle.raw_form.proofs.place.path_to.Goals as goal
 
 pub element_at-requires-clause-within : goal.element_at-requires-clause-within

@@ -1,7 +1,7 @@
 use Rattle.std.proofs.Common.{◌-◌, length}
 use Rattle.raw_view.specs.Document.{bytes_of}
 use Rattle.raw_view.specs.Frame.Number.{max_length}
-use Rattle.raw_form.proofs.Writing.{IsRewriting}
+use Rattle.raw_form.proofs.rewriting.Writing.{IsRewriting}
 use Rattle.raw_form.proofs.rewriting.rewrite.Given as goal
 
 abbrev pub invariant-levels : goal.invariant-levels

@@ -2,7 +2,7 @@ use Rattle.std.proofs.Common.{◌≡◌, ℕ, Option, Vec, Global, option_map, r
 use Rattle.raw_view.specs.Document.{bytes_of}
 use Rattle.raw_form.specs.Staying.{HasLastPlaces}
 use Rattle.raw_form.specs.declared.last.LastPlaces.{LastPlaces}
-use Rattle.raw_form.proofs.Leaving.{distinct_begins, repeated_begins}
+use Rattle.raw_form.proofs.rewritten.Members.{distinct_begins, repeated_begins}
 use Rattle.raw_form.proofs.rewritten.keys_of.Goals as goal
 
 pub returns-in_default-clause-left : goal.returns-in_default-clause-left

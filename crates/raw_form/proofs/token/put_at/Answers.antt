@@ -1,4 +1,4 @@
-use Rattle.raw_form.proofs.Rooms.{filled_one, filled_past}
+use Rattle.raw_form.proofs.token.Rooms.{filled_one, filled_past}
 use Rattle.raw_form.proofs.token.put_at.Goals as goal
 
 pub returns-then-place-room : goal.returns-then-place-room

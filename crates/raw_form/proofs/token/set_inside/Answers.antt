@@ -1,4 +1,4 @@
-use Rattle.raw_form.proofs.Flattening.{inside_one, inside_past}
+use Rattle.raw_form.proofs.flatten.Flattening.{inside_one, inside_past}
 use Rattle.raw_form.proofs.token.set_inside.Goals as goal
 
 pub returns-then-place-tokens : goal.returns-then-place-tokens

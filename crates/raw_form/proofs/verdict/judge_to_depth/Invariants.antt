@@ -1,6 +1,6 @@
 use Rattle.std.proofs.Common.{◌-◌, length}
 use Rattle.raw_view.specs.Document.{bytes_of}
-use Rattle.raw_form.proofs.JudgedAt.{IsJudgedAlong}
+use Rattle.raw_form.proofs.verdict.JudgedAt.{IsJudgedAlong}
 use Rattle.raw_form.proofs.verdict.judge_to_depth.Given as goal
 
 abbrev pub invariant-elements : goal.invariant-elements

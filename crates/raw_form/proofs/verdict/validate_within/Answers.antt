@@ -1,4 +1,4 @@
-use Rattle.raw_form.proofs.OneVerdict.{judged_one_way}
+use Rattle.raw_form.proofs.verdict.OneVerdict.{judged_one_way}
 use Rattle.raw_form.proofs.verdict.validate_within.Goals as goal
 
 pub returns-then-as_bytes-limits-clause-one_verdict : goal.returns-then-as_bytes-limits-clause-one_verdict

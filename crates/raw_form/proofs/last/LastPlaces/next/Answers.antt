@@ -1,5 +1,5 @@
 use Rattle.std.proofs.Common.{◌≡◌, Some, refl, slice_get}
-use Rattle.raw_form.proofs.Lasting.{item_at, member_taken}
+use Rattle.raw_form.proofs.last.Places.{item_at, member_taken}
 use Rattle.raw_form.proofs.last.LastPlaces.next.Goals as goal
 
 pub returns : goal.returns

@@ -1,6 +1,6 @@
 use Rattle.raw_view.specs.Document.{bytes_of}
-use Rattle.raw_form.proofs.Beginning.{not_outside}
-use Rattle.raw_form.proofs.Lying.{goes_on, lies_there, reopened}
+use Rattle.raw_form.proofs.canonical.Starts.{not_outside}
+use Rattle.raw_form.proofs.walk.Offsets.{goes_on, lies_there, reopened}
 use Rattle.raw_form.proofs.level.Level.behind.Goals as goal
 
 pub unreachable-requires : goal.unreachable-requires

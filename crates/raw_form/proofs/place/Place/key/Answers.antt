@@ -1,6 +1,6 @@
 use Rattle.std.proofs.Common.{◌≡◌, ◌-◌, List, Some, length, sym, subst, slice_get}
 use Rattle.raw_form.specs.declared.place.PathStep.{PathStep}
-use Rattle.raw_form.proofs.Rooms.{last_at}
+use Rattle.raw_form.proofs.token.Rooms.{last_at}
 use Rattle.raw_form.proofs.place.Place.key.Goals as goal
 
 pub returns : goal.returns

@@ -1,7 +1,7 @@
 use Rattle.std.proofs.Common.{◌≡◌, ◌∙◌, ◌≤◌, ◌+◌, ◌++◌, ◌∷◌, [], ℕ, List, None, map, take, length, slice_index_or, arith, ap, sym}
 use Rattle.raw_form.specs.Tokens.{filled_from}
 use Rattle.raw_form.specs.declared.place.PathStep.{PathStep}
-use Rattle.raw_form.proofs.Rooms.{filled_more, filled_none, number_at, numbers_all, numbers_len, numbers_of}
+use Rattle.raw_form.proofs.token.Rooms.{filled_more, filled_none, number_at, numbers_all, numbers_len, numbers_of}
 use Rattle.raw_form.proofs.place.Place.put_path.Goals as goal
 
 pub loop-index-init : goal.loop-index-init

@@ -4,7 +4,7 @@ use Rattle.raw_tree.specs.Reading.{ReadsAs, StandsFor}
 use Rattle.raw_form.specs.Rewriting.{held_value}
 use Rattle.raw_form.specs.declared.held.Held.{Held}
 use Rattle.raw_form.specs.declared.rewritten.Keys.TheVariants as keys
-use Rattle.raw_form.proofs.Leaving.{array_begins, level_left, scope_left}
+use Rattle.raw_form.proofs.rewritten.Members.{array_begins, level_left, scope_left}
 use Rattle.raw_form.proofs.rewritten.Rewritten.new.Goals as goal
 
 pub returns-in-Array-clause-left : goal.returns-in-Array-clause-left

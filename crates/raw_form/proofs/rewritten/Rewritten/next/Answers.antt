@@ -1,8 +1,8 @@
 use Rattle.std.proofs.Common.{subst}
 use Rattle.raw_form.specs.Rewriting.{IsLeft}
 use Rattle.raw_form.specs.declared.rewritten.Keys.{Keys}
-use Rattle.raw_form.proofs.Knowing.{some_left}
-use Rattle.raw_form.proofs.Leaving.{distinct_over, next_distinct, next_number, number_over}
+use Rattle.raw_form.proofs.rewritten.KnownFrames.{some_left}
+use Rattle.raw_form.proofs.rewritten.Members.{distinct_over, next_distinct, next_number, number_over}
 use Rattle.raw_form.proofs.rewritten.Rewritten.next.Goals as goal
 
 pub returns-in_err-element-in-Numbers-clause-next : goal.returns-in_err-element-in-Numbers-clause-next
@@ -21,7 +21,7 @@ returns-in_ok-element-in-Numbers-clause-next c ms left =
 
 pub returns-in_ok-element-in-Distinct-clause-next : goal.returns-in_ok-element-in-Distinct-clause-next
 returns-in_ok-element-in-Distinct-clause-next c ms left =
-    next_distinct c.args.self.now.keys c.in-Distinct.known _ _ c.args.self.now.elements c.next_element-in-Distinct.new.elements ms
+    next_distinct _ _ c.args.self.now.elements c.next_element-in-Distinct.new.elements ms
     c.in_ok-element-in-Distinct.element c.in-Distinct.is left c.in_ok-element-in-Distinct.ensures c.saturating_sub.ensures (some_left c.in-Distinct.known)
 
 pub returns-in_err-element-in-Repeated-clause-next : goal.returns-in_err-element-in-Repeated-clause-next

@@ -11,8 +11,8 @@ use Rattle.raw_form.specs.declared.level.Waiting.{Waiting}
 use Rattle.raw_form.specs.declared.walk.Walk.{Walk}
 use Rattle.raw_form.specs.declared.walk.WalkError.{WalkError}
 use Rattle.raw_form.specs.declared.walk.WalkError.TheVariants as error
-use Rattle.raw_form.proofs.Levels.{at_inside, at_inside_fits, at_inside_size, at_stored, at_within}
-use Rattle.raw_form.proofs.Lying.{envelope_fits, stored_many, stored_more}
+use Rattle.raw_form.proofs.walk.Levels.{at_inside, at_inside_fits, at_inside_size, at_stored, at_within}
+use Rattle.raw_form.proofs.walk.Offsets.{envelope_fits, stored_many, stored_more}
 use Rattle.raw_form.proofs.walk.Walk.enter.Goals as goal
 
 too_deep : (walk : Walk) (from : Level) (ws : List Wait) (e : RawElement) (answer : WalkError) → walk.most_waiting ≤ length ws
@@ -54,7 +54,7 @@ returns-clause-entered c ws left is =
     let few : suc (length ws) < suc self.most_waiting = omega (arith, many, c.if-len-self.false, c.len.ensures, self.waiting.ok.0) in
     let size = at_inside_size at level.elements c.args.element inner looks in
     let fits = at_inside_fits at level.elements c.args.element inner looks in
-    let stored = at_stored at level.elements behind c.args.element inner looks refl w refl refl refl in (
+    let stored = at_stored at level.elements behind c.args.element inner looks refl in (
       record {
         along = record {
           are_stored = rw grown (stored_more b self.waiting.items w ws _ is.along.are_stored stored);

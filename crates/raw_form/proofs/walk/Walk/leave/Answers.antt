@@ -1,7 +1,7 @@
 use Rattle.std.proofs.Common.{rules, ◌≡◌, [], arith}
 use Rattle.raw_view.specs.Document.{bytes_of}
-use Rattle.raw_form.proofs.Levels.{at_end, at_over, at_over_within, at_resumed, over_end, popped}
-use Rattle.raw_form.proofs.Lying.{none_stored}
+use Rattle.raw_form.proofs.walk.Levels.{at_end, at_over, at_over_within, at_resumed, over_end, popped}
+use Rattle.raw_form.proofs.walk.Offsets.{none_stored}
 use Rattle.raw_form.proofs.walk.Walk.leave.Goals as goal
 
 pub behind-requires : goal.behind-requires

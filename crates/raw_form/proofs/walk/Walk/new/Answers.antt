@@ -1,7 +1,7 @@
 use Rattle.std.proofs.Common.{rules, ◌≡◌, ◌⊎◌, ◌<◌, Option, IfSome, drop, Some, suc, length, refl, subst, []}
 use Rattle.raw_view.specs.Document.{bytes_of}
 use Rattle.raw_view.specs.declared.elements.Elements.{Elements}
-use Rattle.raw_form.proofs.Beginning.{at_start, not_outside, start_within}
+use Rattle.raw_form.proofs.canonical.Starts.{at_start, not_outside, start_within}
 use Rattle.raw_form.proofs.walk.Walk.new.Goals as goal
 
 pub unreachable-requires : goal.unreachable-requires

@@ -3,7 +3,7 @@ use Rattle.std.proofs.lemmas.Result.{err_from_is_err_and}
 use Rattle.raw_tree.specs.WithinLimits.{fault_of}
 use Rattle.raw_form.specs.Looking.{Looks}
 use Rattle.raw_form.specs.declared.barrier.BarrierKind.TheVariants as kind
-use Rattle.raw_form.proofs.Levels.{at_deep, at_fault, deep_told, told_at}
+use Rattle.raw_form.proofs.walk.Levels.{at_deep, at_fault, deep_told, told_at}
 use Rattle.raw_form.proofs.walk.Walk.next.Goals as goal
 
 pub returns-in-Whole-clause-event : goal.returns-in-Whole-clause-event

@@ -1,5 +1,5 @@
 use Rattle.std.proofs.Common.{arith, refl}
-use Rattle.raw_form.proofs.Levels.{at_whole, at_whole_size, at_within}
+use Rattle.raw_form.proofs.walk.Levels.{at_whole, at_whole_size, at_within}
 use Rattle.raw_form.proofs.walk.Walk.pass.Goals as goal
 
 pub overflow_add-level : goal.overflow_add-level

@@ -26,9 +26,9 @@ use Rattle.raw_form.specs.declared.last.LastPlaces.{LastPlaces}
 use Rattle.raw_form.specs.declared.rewritten.Keys.{Keys}
 use Rattle.raw_form.specs.declared.rewritten.Rewritten.{Rewritten}
 use Rattle.raw_form.specs.declared.rewritten.Keys.TheVariants as keys
-use Rattle.raw_form.proofs.Knowing.{one_known}
-use Rattle.raw_form.proofs.OwnForms.{keys_stand}
-use Rattle.raw_form.proofs.Lasting.{frames_at, walk_over, walk_step}
+use Rattle.raw_form.proofs.rewritten.KnownFrames.{one_known}
+use Rattle.raw_form.proofs.rewritten.OwnForms.{keys_stand}
+use Rattle.raw_form.proofs.last.Places.{frames_at, walk_over, walk_step}
 
 -- pairs
 
@@ -88,10 +88,10 @@ next_number k n old new ms e same left takes =
     let here : IsLeft (keys.Numbers n) old ms = subst (λ (x : Keys). IsLeft x old ms) same left in
     number_taken n old new ms here.1 e here.0 here.3 (pair_taken old new here.1 e here.2 takes)
 
-pub next_distinct : (k : Keys) (n less : ℕ) (is_known : Bool) (old new : Option (List ℕ)) (ms : List (MemberKey × Tree)) (e : RawElement) → k ≡ keys.Distinct n
+pub next_distinct : {k : Keys} {n : ℕ} (less : ℕ) (is_known : Bool) (old new : Option (List ℕ)) (ms : List (MemberKey × Tree)) (e : RawElement) → k ≡ keys.Distinct n
     → IsLeft k old ms → TakesFrame old (Some e) new → less ≡ n - 1 → (IsTrue is_known → n ≢ 0)
     → TakesNext ms (Some (record { number = None; element = e; is_known = is_known })) (keys.Distinct less) new
-next_distinct k n less is_known old new ms e same left takes one some =
+next_distinct {n = n} less is_known old new ms e same left takes one some =
     let here : IsLeft (keys.Distinct n) old ms = subst (λ (x : Keys). IsLeft x old ms) same left in
     let own = one_known n less old new e one here.3 takes in
     distinct_taken less is_known old new ms here.0 e here.2 (pair_taken old new here.0 e here.1 takes) own.1 (λ told. own.0 (some told))

@@ -12,7 +12,7 @@ use Rattle.std.specs.Str.{bytes_eq}
 use Rattle.std.specs.declared.cmp.Ordering.TheVariants.{Less, Equal, Greater}
 use Rattle.bson_model.specs.Pairs.{keys_of, with_pair}
 use Rattle.raw_form.specs.Staying.{AreNumbered, GivesNumber, hash_of, key_cmp, number_in}
-use Rattle.raw_form.proofs.Keeping.{first_or, flipped, same_key}
+use Rattle.raw_form.proofs.last.KeptPairs.{first_or, flipped, same_key}
 
 -- keys that compare equal are one
 

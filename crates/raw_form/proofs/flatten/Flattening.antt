@@ -18,13 +18,10 @@ use Rattle.raw_form.specs.Walks.{IsOpened, IsOver}
 use Rattle.raw_form.specs.declared.level.Level.{Level}
 use Rattle.raw_form.specs.declared.level.Next.TheVariants as next
 use Rattle.raw_form.specs.declared.token.Token.{Token}
-use Rattle.raw_form.proofs.Rooms.{filled_more, filled_none}
+use Rattle.raw_form.proofs.last.KeptPairs.{end_behind}
+use Rattle.raw_form.proofs.token.Rooms.{filled_more, filled_none}
 
 -- tokens of frames
-
-end_of_more : (at : ℕ) (fs : List Frame) (f : Frame) → end_of at (fs ++ f ∷ []) ≡ end_of at fs + size_of f
-end_of_more at [] f = refl
-end_of_more at (g ∷ fs) f = end_of_more (at + size_of g) fs f
 
 module _ (Nested : ℕ → List ℕ → List Token → Type 0) where
   tokens_more : (depth at : ℕ) (fs : List Frame) (ts : List Token) (f : Frame) (us : List Token) → AreTokens Nested depth at fs ts
@@ -63,14 +60,14 @@ flat_more {inside} {depth} {start} {d} {s} {offset} {tokens} is f r left behind 
   passed = rw left_is (LeadsTo-more (drop 4 d) is.frames s f r is.passed at);
   has = tokens_more (HasTokens inside (suc depth)) depth (start + 4) is.frames tokens f more is.has
       (subst (λ (n : ℕ). AreTokensOf (HasTokens inside (suc depth)) depth n f more) is.far one);
-  far = far ∙ (ap (λ (n : ℕ). n + size_of f) is.far ∙ sym (end_of_more (start + 4) is.frames f));
+  far = far ∙ (ap (λ (n : ℕ). n + size_of f) is.far ∙ sym (end_behind (start + 4) is.frames f));
 }
 
-flat_whole : (inside depth start : ℕ) (d : List ℕ) (old new : Option (List ℕ)) (offset behind : ℕ) (tokens : List Token) (e : RawElement) (t : Token)
-    → IsFlat inside depth start d old offset tokens → Looks old new (next.Whole e) → behind ≡ offset + size_of (frame_of e)
+flat_whole : {inside depth start : ℕ} {d : List ℕ} {old : Option (List ℕ)} {offset : ℕ} {tokens : List Token} (new : Option (List ℕ)) (behind : ℕ) (e : RawElement)
+    (t : Token) → IsFlat inside depth start d old offset tokens → Looks old new (next.Whole e) → behind ≡ offset + size_of (frame_of e)
     → IsTokenOf depth offset (frame_of e) 0 t → IsFlat inside depth start d new behind (tokens ++ t ∷ [])
-flat_whole inside depth start d None new offset behind tokens e t is looks far token = absurd is.passed
-flat_whole inside depth start d (Some s) new offset behind tokens e t is (r, v, at, m, none, new_is) far token =
+flat_whole {old = None} new behind e t is looks far token = absurd is.passed
+flat_whole {inside} {depth} {old = Some s} {offset} new behind e t is (r, v, at, m, none, new_is) far token =
     flat_more is (frame_of e) r new behind (t ∷ []) at new_is far
     (v, t, [], m, inside_none (HasTokens inside (suc depth)) v (offset + size_of (frame_of e)) none, token, refl)
 
@@ -105,12 +102,13 @@ pub record IsOpen (inside depth : ℕ) (o : Open) (w : Wait) (start : ℕ) (d : 
   pub far : w.offset ≡ offset + size_of f
   pub ends : start + length d ≡ w.offset
 
-opens : (inside depth start first : ℕ) (d : List ℕ) (old : Option (List ℕ)) (offset : ℕ) (tokens : List Token) (w : Wait) (e : RawElement) (inner : RawDocument) (t : Token)
+opens : {inside depth start : ℕ} {d : List ℕ} {old : Option (List ℕ)} {offset : ℕ} {tokens : List Token} (first : ℕ) (w : Wait) (e : RawElement) (inner : RawDocument)
+    (t : Token)
     → IsFlat (suc inside) depth start d old offset tokens → Looks old w.elements (next.Inside e inner) → w.offset ≡ offset + size_of (frame_of e)
     → IsTokenOf depth offset (frame_of e) 0 t → first + length (bytes_of inner) ≡ w.offset
     → IsOpen inside depth (record { start = start; bytes = d; tokens = tokens; token = t }) w first (bytes_of inner)
-opens inside depth start first d None offset tokens w e inner t is looks far token ends = absurd is.passed
-opens inside depth start first d (Some s) offset tokens w e inner t is (r, v, at, m, holds, left_is) far token ends = record {
+opens {old = None} first w e inner t is looks far token ends = absurd is.passed
+opens {old = Some s} {offset} first w e inner t is (r, v, at, m, holds, left_is) far token ends = record {
   s = s;
   f = frame_of e;
   r = r;
@@ -294,7 +292,7 @@ module _ {most : ℕ} {b : List ℕ} {before : List Token} {ws : List Wait} {lef
         d = is.d;
         tokens = is.tokens ++ t ∷ [];
         are_open = is.are_open;
-        flat = flat_whole is.inside (length is.os) is.start is.d left new offset behind is.tokens e t is.flat looks far here;
+        flat = flat_whole new behind e t is.flat looks far here;
         list_is = is.list_is;
         count_is = omega (arith, is.count_is, ap length whole, length-append (tokens_before is.os ++ is.tokens) (t ∷ []));
         few = omega (arith, is.few, far);
@@ -302,18 +300,18 @@ module _ {most : ℕ} {b : List ℕ} {before : List Token} {ws : List Wait} {lef
       }
 
   -- an element that holds a level
-  pub flattens_inside : (w : Wait) (e : RawElement) (inner : RawDocument) (t : Token) (after : List Token) (level : Level) (longer : List ℕ)
-      → suc (length ws) ≤ most → Looks left w.elements (next.Inside e inner) → w.offset ≡ offset + size_of (frame_of e)
-      → IsTokenOf (length list) offset (frame_of e) 0 t → after ≡ filled_from count room (t ∷ []) → IsOpened w.offset inner level
-      → longer ≡ list ++ count ∷ [] → offset < level.offset → IsFlattening most b before (ws ++ w ∷ []) level.elements level.offset longer (count + 1) after
-  flattens_inside w e inner t after level longer few looks far token put opened grown further =
+  pub flattens_inside : {inner : RawDocument} {level : Level} (w : Wait) (e : RawElement) (t : Token) → suc (length ws) ≤ most
+      → Looks left w.elements (next.Inside e inner) → w.offset ≡ offset + size_of (frame_of e) → IsTokenOf (length list) offset (frame_of e) 0 t
+      → IsOpened w.offset inner level → offset < level.offset
+      → IsFlattening most b before (ws ++ w ∷ []) level.elements level.offset (list ++ count ∷ []) (count + 1) (filled_from count room (t ∷ []))
+  flattens_inside {inner} {level} w e t few looks far token opened further =
       enters is.inside is.are_open is.flat
     where
       o : Open
       o = record { start = is.start; bytes = is.d; tokens = is.tokens; token = t }
 
       enters : (inside : ℕ) → AreOpen most b is.os ws inside is.start is.d → IsFlat inside (length is.os) is.start is.d left offset is.tokens
-          → IsFlattening most b before (ws ++ w ∷ []) level.elements level.offset longer (count + 1) after
+          → IsFlattening most b before (ws ++ w ∷ []) level.elements level.offset (list ++ count ∷ []) (count + 1) (filled_from count room (t ∷ []))
       enters zero are flat = absurd (omega (arith, few, open_levels most b is.os ws 0 is.start is.d are))
       enters (suc inside) are flat =
           let here : IsTokenOf (length is.os) offset (frame_of e) 0 t = subst (λ (n : ℕ). IsTokenOf n offset (frame_of e) 0 t) depth_is token in
@@ -325,23 +323,22 @@ module _ {most : ℕ} {b : List ℕ} {before : List Token} {ws : List Wait} {lef
             start = level.start;
             d = bytes_of inner;
             tokens = [];
-            are_open = (ws, w, refl, opens inside (length is.os) is.start level.start is.d left offset is.tokens w e inner t flat looks far here opened.starts, are);
+            are_open = (ws, w, refl, opens level.start w e inner t flat looks far here opened.starts, are);
             flat = record { frames = []; passed = rw (opened.left_is) refl; has = refl; far = omega (arith, opened.begins, opened.starts, length-drop 4 (bytes_of inner), inner.envelope.enough) };
-            list_is = grown ∙ (λ i. is.list_is i ++ is.count_is i ∷ []);
+            list_is = λ i. is.list_is i ++ is.count_is i ∷ [];
             count_is = omega (arith, is.count_is, ap length whole, length-append (tokens_before is.os ++ is.tokens) (t ∷ []));
             few = omega (arith, is.few, further);
-            filled = one_more t after put ∙ ap (filled_from 0 before) whole;
+            filled = one_more t (filled_from count room (t ∷ [])) refl ∙ ap (filled_from 0 before) whole;
           }
 
   -- the end of a level for which another waits
-  pub flattens_end : (outer : List Wait) (w : Wait) (shorter : List ℕ) (place size : ℕ) (after : List Token) → ws ≡ outer ++ w ∷ [] → IsOver left
-      → list ≡ shorter ++ place ∷ [] → size + (place + 1) ≡ count → after ≡ with_inside place size room → offset < w.offset
-      → IsFlattening most b before outer w.elements w.offset shorter count after
-  flattens_end outer w shorter place size after same over popped size_is put further = leaves is.os is.are_open is.flat is.list_is is.count_is is.filled
+  pub flattens_end : (outer : List Wait) (w : Wait) (shorter : List ℕ) (place size : ℕ) → ws ≡ outer ++ w ∷ [] → IsOver left → list ≡ shorter ++ place ∷ []
+      → size + (place + 1) ≡ count → offset < w.offset → IsFlattening most b before outer w.elements w.offset shorter count (with_inside place size room)
+  flattens_end outer w shorter place size same over popped size_is further = leaves is.os is.are_open is.flat is.list_is is.count_is is.filled
     where
       leaves : (os : List Open) → AreOpen most b os ws is.inside is.start is.d → IsFlat is.inside (length os) is.start is.d left offset is.tokens → list ≡ places os
           → count ≡ length (tokens_before os ++ is.tokens) → room ≡ filled_from 0 before (tokens_before os ++ is.tokens)
-          → IsFlattening most b before outer w.elements w.offset shorter count after
+          → IsFlattening most b before outer w.elements w.offset shorter count (with_inside place size room)
       leaves [] (none, inside_is, start_is, d_is) flat list_is count_is filled =
           let left_over : outer ++ w ∷ [] ≡ [] = sym same ∙ none in
           absurd (omega (arith, ap length left_over, length-append outer (w ∷ [])))
@@ -355,8 +352,8 @@ module _ {most : ℕ} {b : List ℕ} {before : List Token} {ws : List Wait} {lef
           let t : Token = with o.token (length is.tokens) in
           let tokens : List Token = o.tokens ++ t ∷ is.tokens in
           let here : front ++ t ∷ is.tokens ≡ tokens_before os ++ tokens = append_assoc (tokens_before os) o.tokens (t ∷ is.tokens) in
-          let set : after ≡ filled_from 0 before (front ++ t ∷ is.tokens) =
-          put ∙ (λ i. with_inside (at.1 i) (many i) (filled i)) ∙ ap (λ (x : List Token). with_inside (length front) (length is.tokens) (filled_from 0 before x)) whole
+          let set : with_inside place size room ≡ filled_from 0 before (front ++ t ∷ is.tokens) =
+          (λ i. with_inside (at.1 i) (many i) (filled i)) ∙ ap (λ (x : List Token). with_inside (length front) (length is.tokens) (filled_from 0 before x)) whole
           ∙ filled_inside (length is.tokens) front is.tokens o.token before in
           let next : IsFlat (suc is.inside) (length os) o.start o.bytes w.elements w.offset tokens =
           subst (λ (x : Wait). IsFlat (suc is.inside) (length os) o.start o.bytes x.elements x.offset tokens) waits.1

@@ -1,6 +1,6 @@
 -- One level of a loop without a tree: frames that are passed stand for some trees; then a fault is in front, or a frame
 -- whose value holds the next level, for which this one waits.
-use Rattle.std.proofs.Common.{◌≡◌, ◌∙◌, ◌≤◌, ◌<◌, ◌+◌, ◌-◌, ◌++◌, ◌∷◌, [], inl, inr, ℕ, suc, List, Option, None, Some, length, drop, arith, ap, refl, subst, length-append, length-drop}
+use Rattle.std.proofs.Common.{◌≡◌, ◌≤◌, ◌<◌, ◌+◌, ◌-◌, ◌++◌, ◌∷◌, [], inl, inr, ℕ, suc, List, Option, None, Some, length, drop, arith, ap, refl, subst, sym, length-append, length-drop}
 use denote.Ref.{Bor}
 use Rattle.std.specs.Option.{option_copied}
 use Rattle.bson_model.specs.Pairs.{keep}
@@ -19,10 +19,10 @@ use Rattle.raw_tree.specs.Reading.{Sort, as_document, as_array, leaf_in_order, t
 use Rattle.raw_tree.specs.Validating.{HoldsAs, left_of}
 use Rattle.raw_tree.specs.WithinLimits.{Barrier, fault_of, too_deep}
 use Rattle.raw_tree.proofs.Face.{stand_more, nested_beside}
-use Rattle.raw_form.specs.Looking.{FailsAt, HoldsNone, Looks, step_at}
+use Rattle.raw_form.specs.Looking.{FailsAt, HoldsNone, Looks, size_of, step_at}
 use Rattle.raw_form.specs.Places.{Step, BeginsAt, IsOffsetOf, FirstFaultAt}
 use Rattle.raw_form.specs.Waits.{Wait}
-use Rattle.raw_form.specs.Walks.{AreReadTo, IsHeld, IsPassed, left_behind}
+use Rattle.raw_form.specs.Walks.{AreReadTo, IsHeld, IsPassed, left_behind, wait_behind}
 use Rattle.raw_form.specs.declared.level.Next.TheVariants as next
 
 -- values
@@ -33,7 +33,7 @@ held_as (raw.document e) d h = (as_document, (refl, h))
 held_as (raw.array e) d h = (as_array, (refl, h))
 held_as (raw.scoped code e) d h = (as_document, (refl, h))
 
-as_held : (v : RawValue) (sort : Sort) (d : List ℕ) → HoldsAs v sort d → Holds v d
+pub as_held : (v : RawValue) (sort : Sort) (d : List ℕ) → HoldsAs v sort d → Holds v d
 as_held (raw.single l) sort d h = h
 as_held (raw.document e) sort d h = h.1
 as_held (raw.array e) sort d h = h.1
@@ -78,11 +78,11 @@ passed_whole inside b (Some s) new number e is (r, v, at, m, none, new_is) =
     }
 
 -- a level waits at the frame whose value holds the next one
-pub passed_inside : (inside : ℕ) (b : List ℕ) (old new : Option (List ℕ)) (number : ℕ) (e : RawElement) (inner : RawDocument) (w : Wait)
-    → IsPassed inside b old number → Looks old new (next.Inside e inner) → w.bytes ≡ b → w.elements ≡ new → w.number ≡ number → w.key ≡ (frame_of e).key
-    → (sort : Sort) × IsHeld inside b w sort (bytes_of inner)
-passed_inside inside b None new number e inner w is looks same left n k = absurd is.passed
-passed_inside inside b (Some s) new number e inner w is (r, v, at, m, holds, new_is) same left n k =
+pub passed_inside : {inside : ℕ} {b : List ℕ} {old : Option (List ℕ)} {number : ℕ} (new : Option (List ℕ)) (start offset behind : ℕ) (e : RawElement)
+    (inner : RawDocument) → IsPassed inside b old number → Looks old new (next.Inside e inner) → behind ≡ offset + size_of (frame_of e)
+    → (sort : Sort) × IsHeld inside b (wait_behind start b new number offset behind (frame_of e).key) sort (bytes_of inner)
+passed_inside {old = None} new start offset behind e inner is looks far = absurd is.passed
+passed_inside {old = Some s} new start offset behind e inner is (r, v, at, m, holds, new_is) far =
     let sorted = held_as v (bytes_of inner) holds in (
       sorted.0,
       record {
@@ -94,10 +94,11 @@ passed_inside inside b (Some s) new number e inner w is (r, v, at, m, holds, new
         v = v;
         passed = is.passed;
         frame = at;
-        bytes_are = same;
-        left_is = left ∙ new_is;
-        number_is = n ∙ is.number_is;
-        key_is = k;
+        bytes_are = refl;
+        left_is = new_is;
+        element_is = sym far;
+        number_is = is.number_is;
+        key_is = refl;
         each = is.each;
         means = m;
         holds = sorted.1;
@@ -151,10 +152,10 @@ outward_offset b s d q [] inside offset start some begins e = absurd (omega (ari
 outward_offset b s d q (step ∷ steps) inside offset start some begins e = (start, begins, e)
 
 -- a barrier of the bytes that a level waits for
-pub held_barrier : (inside : ℕ) (b : List ℕ) (w : Wait) (sort : Sort) (d : List ℕ) (x : Barrier) (steps : List Step) (at offset : ℕ) → IsHeld inside b w sort d
+pub held_barrier : {inside : ℕ} {b : List ℕ} {w : Wait} {sort : Sort} {d : List ℕ} (x : Barrier) (steps : List Step) (at offset : ℕ) → IsHeld inside b w sort d
     → 0 < length steps → FirstFaultAt inside d x steps at → offset + (length d + left_behind w) ≡ length b + at
     → FirstFaultAt (suc inside) b x (step_at w ∷ steps) offset
-held_barrier inside b w sort d x steps at offset is some bars far =
+held_barrier {inside} {b} {w} {sort} {d} x steps at offset is some bars far =
     let left : left_behind w ≡ length is.r = ap left_of is.left_is in
     let behind : length (d ++ is.r) ≡ length d + length is.r = length-append d is.r in
     let start : ℕ = length b - (length d + length is.r) in

@@ -20,9 +20,9 @@ use Rattle.raw_tree.specs.Validating.{left_of}
 use Rattle.raw_tree.specs.declared.validator.keys_so_far.KeysSoFar.{KeysSoFar}
 use Rattle.raw_form.specs.Looking.{size_of}
 use Rattle.raw_form.specs.Staying.{AreNumbered, TakesFrame, end_of, last_places, placed}
-use Rattle.raw_form.proofs.Keeping.{end_behind, placed_behind}
-use Rattle.raw_form.proofs.Lasting.{frame_size}
-use Rattle.raw_form.proofs.Numbering.{numbered_begins}
+use Rattle.raw_form.proofs.last.KeptPairs.{end_behind, placed_behind}
+use Rattle.raw_form.proofs.last.Places.{frame_size}
+use Rattle.raw_form.proofs.numbered.Numbering.{numbered_begins}
 
 -- the frames passed are those of the walk, where no frame is in front of what is left
 pub walk_led : (s : List ℕ) (passed : List Frame) (r : List ℕ) (frames : List Frame) → LeadsTo s passed r → HasNoFrame r → IsWalk s frames Done → frames ≡ passed
@@ -67,11 +67,11 @@ apart_begins d left k listed e keys = record {
 }
 
 -- a frame whose key is distinct from those before
-pub apart_more : (d : List ℕ) (old new : Option (List ℕ)) (k l : KeysSoFar) (listed after : List (Bor (List ℕ))) (number : ℕ) (e : RawElement) (key : List ℕ)
-    (is : AreApart d old k listed number) → TakesFrame old (Some e) new → key ≡ (frame_of e).key
+pub apart_more : {d : List ℕ} {old : Option (List ℕ)} {k : KeysSoFar} {listed : List (Bor (List ℕ))} {number : ℕ} (new : Option (List ℕ)) (l : KeysSoFar)
+    (after : List (Bor (List ℕ))) (e : RawElement) (key : List ℕ) (is : AreApart d old k listed number) → TakesFrame old (Some e) new → key ≡ (frame_of e).key
     → TellsOpenKey as_document is.below (keys_of_frames is.passed) key l after None → AreApart d new l after (number + 1)
-apart_more d None new k l listed after number e key is h same told = absurd is.read
-apart_more d (Some s) new k l listed after number e key is (r, at, new_is) same told =
+apart_more {old = None} new l after e key is h same told = absurd is.read
+apart_more {d} {old = Some s} new l after e key is (r, at, new_is) same told =
     let f : Frame = frame_of e in
     let grown : keys_of_frames is.passed ++ key ∷ [] ≡ keys_of_frames (is.passed ++ f ∷ []) = ap (λ (x : List ℕ). keys_of_frames is.passed ++ x ∷ []) same ∙ sym (keys_more is.passed f) in
     record {
@@ -124,11 +124,12 @@ pub listed_fits : (d : List ℕ) (numbers : BTreeMap (ℕ × Bor (List ℕ)) ℕ
 listed_fits d numbers places None new offset e is h = absurd is.read
 listed_fits d numbers places (Some s) new offset e is (r, at, new_is) = omega (arith, is.begins, frame_size s (frame_of e) r at, length-drop 4 d)
 
-pub listed_more : (d : List ℕ) (numbers after : BTreeMap (ℕ × Bor (List ℕ)) ℕ) (places more : List ℕ) (old new : Option (List ℕ)) (offset behind : ℕ) (e : RawElement)
-    (is : AreListed d numbers places old offset) → TakesFrame old (Some e) new → AreNumbered after more (with_pair (frame_of e).key offset (keep (placed 4 is.passed)))
+pub listed_more : {d : List ℕ} {numbers : BTreeMap (ℕ × Bor (List ℕ)) ℕ} {places : List ℕ} {old : Option (List ℕ)} {offset : ℕ}
+    (after : BTreeMap (ℕ × Bor (List ℕ)) ℕ) (more : List ℕ) (new : Option (List ℕ)) (behind : ℕ) (e : RawElement) (is : AreListed d numbers places old offset)
+    → TakesFrame old (Some e) new → AreNumbered after more (with_pair (frame_of e).key offset (keep (placed 4 is.passed)))
     → length more ≤ offset + 1 → behind ≡ offset + size_of (frame_of e) → AreListed d after more new behind
-listed_more d numbers after places more None new offset behind e is h numbered few far = absurd is.read
-listed_more d numbers after places more (Some s) new offset behind e is (r, at, new_is) numbered few far =
+listed_more {old = None} after more new behind e is h numbered few far = absurd is.read
+listed_more {d} {old = Some s} {offset} after more new behind e is (r, at, new_is) numbered few far =
     let f : Frame = frame_of e in
     let grown : with_pair f.key offset (keep (placed 4 is.passed)) ≡ keep (placed 4 (is.passed ++ f ∷ [])) =
     ap (λ (o : ℕ). with_pair f.key o (keep (placed 4 is.passed))) is.offset_is

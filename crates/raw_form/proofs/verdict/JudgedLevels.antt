@@ -15,7 +15,7 @@ use Rattle.raw_view.proofs.Face.{LeadsTo-walk, LeadsTo-more, LeadsTo-bound}
 use Rattle.raw_tree.specs.Breaches.{keys_of_frames}
 use Rattle.raw_tree.specs.Canonical.{AreKeysCanonical, IsValueCanonical, AreFramesCanonical, IsCanonicalUpTo}
 use Rattle.raw_tree.specs.OpenKeys.{HasKeysSoFar}
-use Rattle.raw_tree.specs.Reading.{Sort, as_document, as_array, Holds}
+use Rattle.raw_tree.specs.Reading.{Sort, as_document, as_array}
 use Rattle.raw_tree.specs.References.{texts}
 use Rattle.raw_tree.specs.Validating.{HoldsAs, left_of}
 use Rattle.raw_tree.specs.declared.validator.breach.Cause.{Cause}
@@ -23,11 +23,12 @@ use Rattle.raw_tree.specs.declared.validator.keys_so_far.KeysSoFar.{KeysSoFar}
 use Rattle.raw_tree.proofs.Face.{nested_beside, keys_front, keys_on}
 use Rattle.raw_form.specs.Judging.{sort_of, BreachesHere, BreachesItself, IsSingleWith, TellsJudged}
 use Rattle.raw_form.specs.Looking.{step_at}
-use Rattle.raw_form.specs.Places.{Step, BeginsAt, IsOffsetOf}
+use Rattle.raw_form.specs.Places.{Step, BeginsAt}
 use Rattle.raw_form.specs.Verdicts.{Verdict, too_deep, breach_of, JudgesNestedAt, JudgesMeaningAt, FirstVerdictTo}
 use Rattle.raw_form.specs.declared.judge.Judged.TheVariants as judged
 use Rattle.raw_form.specs.Waits.{Wait}
 use Rattle.raw_form.specs.Walks.{left_behind}
+use Rattle.raw_form.proofs.walk.Passed.{as_held, outward_offset}
 
 -- frames and values
 
@@ -49,12 +50,6 @@ held_canonical N (raw.single l) s d h c = absurd h
 held_canonical N (raw.document e) s d h c = rw (← h.0, ← h.1) c
 held_canonical N (raw.array e) s d h c = rw (← h.0, ← h.1) c
 held_canonical N (raw.scoped code e) s d h c = rw (← h.0, ← h.1) c
-
-pub as_held : (v : RawValue) (sort : Sort) (d : List ℕ) → HoldsAs v sort d → Holds v d
-as_held (raw.single l) sort d h = h
-as_held (raw.document e) sort d h = h.1
-as_held (raw.array e) sort d h = h.1
-as_held (raw.scoped code e) sort d h = h.1
 
 -- levels
 
@@ -106,10 +101,23 @@ begun inside sort d listed left number k e none has = record {
   canonical = tt;
 }
 
-module _ (inside : ℕ) (sort : Sort) (d : List ℕ) (below : List (List ℕ)) (listed : List (Bor (List ℕ))) (left : Option (List ℕ)) (number : ℕ) (k : KeysSoFar)
+module _ {inside : ℕ} {sort : Sort} {d : List ℕ} {below : List (List ℕ)} {listed : List (Bor (List ℕ))} {left : Option (List ℕ)} {number : ℕ} {k : KeysSoFar}
     (is : IsJudged inside sort d below listed left number k) where
   pub numbered : number ≡ length (keys_of_frames is.frames)
   numbered = is.number_is ∙ sym (length-map is.frames (λ (f : Frame). f.key))
+
+  -- the same, where the number of levels that may be inside is written in another way
+  abbrev pub so_many : {n : ℕ} → inside ≡ n → IsJudged n sort d below listed left number k
+  so_many same = record {
+    frames = is.frames;
+    rest = is.rest;
+    reaches = is.reaches;
+    left_is = is.left_is;
+    number_is = is.number_is;
+    keys = is.keys;
+    keys_canonical = is.keys_canonical;
+    canonical = subst (λ (m : ℕ). AreFramesCanonical (IsCanonicalUpTo m) is.frames) same is.canonical;
+  }
 
   pub passed_whole : (e : RawElement) (new : Option (List ℕ)) (after : List (Bor (List ℕ))) (ks : KeysSoFar)
       → TellsJudged sort below (keys_of_frames is.frames) is.rest new ks after (judged.Whole e) → IsJudged inside sort d below after new (number + 1) ks
@@ -151,10 +159,10 @@ module _ (inside : ℕ) (sort : Sort) (d : List ℕ) (below : List (List ℕ)) (
       (is.frames, LeadsTo-walk (drop 4 d) is.frames is.rest Done is.reaches told.0, is.keys_canonical, is.canonical)
 
 -- where nested bytes are canonical, the level that waits for them goes on
-pub resumed : (inside : ℕ) (sort : Sort) (b : List ℕ) (below : List (List ℕ)) (w : Wait) (k : KeysSoFar) (inner : Sort) (d : List ℕ) (above : List (List ℕ))
+pub resumed : {inside : ℕ} {sort : Sort} {b : List ℕ} {below : List (List ℕ)} {w : Wait} {k : KeysSoFar} {inner : Sort} {d : List ℕ} {above : List (List ℕ)}
     (refs : List (Bor (List ℕ))) → IsHeld inside sort b below w k inner d above → IsCanonicalUpTo inside inner d → texts refs ≡ above
     → IsJudged inside sort b below refs w.elements (w.number + 1) k
-resumed inside sort b below w k inner d above refs is c same = record {
+resumed {inside} {b = b} {inner = inner} {d = d} refs is c same = record {
   frames = is.frames ++ is.f ∷ [];
   rest = is.r;
   reaches = LeadsTo-more (drop 4 b) is.frames is.s is.f is.r is.reaches is.frame;
@@ -175,19 +183,23 @@ itself_at P N b s step q (value (raw.document d)) why offset h begins = absurd h
 itself_at P N b s step q (value (raw.array d)) why offset h begins = absurd h
 itself_at P N b s step q (value (raw.scoped code d)) why offset h begins = absurd h
 
-inside_at : (P : Sort → List ℕ → Type 0) (N : Sort → List ℕ → Verdict → List Step → ℕ → Type 0) (b s : List ℕ) (step : Step) (q : List ℕ) (v : RawValue)
-    (inner : Sort) (d : List ℕ) (x : Verdict) (path : List Step) (offset : ℕ) → HoldsAs v inner d → JudgesNestedAt P N b s step q inner d x path offset
-    → JudgesMeaningAt P N b s step q (value v) x path offset
-inside_at P N b s step q (raw.single l) inner d x path offset h judges = absurd h
-inside_at P N b s step q (raw.document e) inner d x path offset h judges = rw (← h.0, ← h.1) judges
-inside_at P N b s step q (raw.array e) inner d x path offset h judges = rw (← h.0, ← h.1) judges
-inside_at P N b s step q (raw.scoped code e) inner d x path offset h judges = rw (← h.0, ← h.1) judges
+-- the verdict is that of the bytes d, which the frame in front of s holds, to which this step leads, with q behind it
+record IsNested (inside : ℕ) (b s : List ℕ) (step : Step) (q : List ℕ) (sort : Sort) (d : List ℕ) (x : Verdict) (path : List Step) (offset : ℕ) : Type 0 where
+  pub judges : JudgesNestedAt (IsCanonicalUpTo inside) (FirstVerdictTo inside) b s step q sort d x path offset
+
+inside_at : {inside : ℕ} {b s : List ℕ} {step : Step} {q : List ℕ} {inner : Sort} {d : List ℕ} {x : Verdict} {path : List Step} {offset : ℕ} (v : RawValue)
+    → HoldsAs v inner d → IsNested inside b s step q inner d x path offset
+    → JudgesMeaningAt (IsCanonicalUpTo inside) (FirstVerdictTo inside) b s step q (value v) x path offset
+inside_at (raw.single l) h is = absurd h
+inside_at (raw.document e) h is = rw (← h.0, ← h.1) is.judges
+inside_at (raw.array e) h is = rw (← h.0, ← h.1) is.judges
+inside_at (raw.scoped code e) h is = rw (← h.0, ← h.1) is.judges
 
 -- this verdict is in front of what is left of d, wherever in d that begins
 abbrev pub IsInFront : ℕ → Sort → List ℕ → Option (List ℕ) → Verdict → Step → Type 0
 IsInFront inside sort d left x step = (offset : ℕ) → offset + left_of left ≡ length d → FirstVerdictTo (suc inside) sort d x (step ∷ []) offset
 
-module _ (inside : ℕ) (sort : Sort) (d : List ℕ) (below : List (List ℕ)) (listed : List (Bor (List ℕ))) (left : Option (List ℕ)) (number : ℕ) (k : KeysSoFar)
+module _ {inside : ℕ} {sort : Sort} {d : List ℕ} {below : List (List ℕ)} {listed : List (Bor (List ℕ))} {left : Option (List ℕ)} {number : ℕ} {k : KeysSoFar}
     (is : IsJudged inside sort d below listed left number k) where
   here : (key : Option (List ℕ)) → ◌≡◌ {A = List Step} (record { number = number; key = key } ∷ []) (record { number = length is.frames; key = key } ∷ [])
   here key = ap (λ (n : ℕ). record { number = n; key = key } ∷ []) is.number_is
@@ -229,77 +241,43 @@ module _ (inside : ℕ) (sort : Sort) (d : List ℕ) (below : List (List ℕ)) (
       ]
 
 -- a frame whose value holds a level, where no more may be entered
-pub passed_deep : (sort : Sort) (d : List ℕ) (below : List (List ℕ)) (listed : List (Bor (List ℕ))) (left : Option (List ℕ)) (number : ℕ) (k : KeysSoFar)
+pub passed_deep : {sort : Sort} {d : List ℕ} {below : List (List ℕ)} {listed : List (Bor (List ℕ))} {left : Option (List ℕ)} {number : ℕ} {k : KeysSoFar}
     (is : IsJudged 0 sort d below listed left number k) (e : RawElement) (inner : RawDocument) (is_array : Bool) (new : Option (List ℕ))
     (after : List (Bor (List ℕ))) (ks : KeysSoFar) → TellsJudged sort below (keys_of_frames is.frames) is.rest new ks after (judged.Inside e inner is_array)
     → IsInFront 0 sort d left too_deep (record { number = number; key = Some (frame_of e).key })
-passed_deep sort d below listed left number k is e inner is_array new after ks (r, v, at, m, new_is, has, more, holds) offset begins =
+passed_deep {d = d} {number = number} is e inner is_array new after ks (r, v, at, m, new_is, has, more, holds) offset begins =
     let key : List ℕ = (frame_of e).key in
     let step : Step = record { number = length is.frames; key = Some key } in
     let path : ◌≡◌ {A = List Step} (record { number = number; key = Some key } ∷ []) (step ∷ []) = ap (λ (n : ℕ). record { number = n; key = Some key } ∷ []) is.number_is in
-    let there : BeginsAt d is.rest offset = omega (arith, begins, ap left_of is.left_is) in (
-      is.frames,
-      is.rest,
-      is.reaches,
-      is.keys_canonical,
-      is.canonical,
-      inr (
-        frame_of e,
-        r,
-        at,
-        inr (
-          more,
-          value v,
-          m,
-          inside_at (IsCanonicalUpTo 0) (FirstVerdictTo 0) d is.rest step r v (sort_of is_array) (bytes_of inner) too_deep
-              (record { number = number; key = Some key } ∷ []) offset holds ([], 0, (refl, refl, refl), path, there),
-        ),
-      ),
-    )
+    let there : BeginsAt d is.rest offset = omega (arith, begins, ap left_of is.left_is) in
+    let nested : IsNested 0 d is.rest step r (sort_of is_array) (bytes_of inner) too_deep (record { number = number; key = Some key } ∷ []) offset =
+    record { judges = ([], 0, (refl, refl, refl), path, there) } in
+    (is.frames, is.rest, is.reaches, is.keys_canonical, is.canonical, inr (frame_of e, r, at, inr (more, value v, m, inside_at v holds nested)))
 
 -- levels that wait
 
 -- what is left behind a frame of b, and the bytes that its value holds, are within b
-pub held_within : (inside : ℕ) (sort : Sort) (b : List ℕ) (below : List (List ℕ)) (w : Wait) (k : KeysSoFar) (inner : Sort) (d : List ℕ) (above : List (List ℕ))
+pub held_within : {inside : ℕ} {sort : Sort} {b : List ℕ} {below : List (List ℕ)} {w : Wait} {k : KeysSoFar} {inner : Sort} {d : List ℕ} {above : List (List ℕ)}
     (is : IsHeld inside sort b below w k inner d above) → length d + length is.r ≤ length b
-held_within inside sort b below w k inner d above is =
+held_within {b = b} {inner = inner} {d = d} is =
     omega (arith, nested_beside is.s is.f is.r is.v d is.frame is.means (as_held is.v inner d is.holds), LeadsTo-bound (drop 4 b) is.frames is.s is.reaches, length-drop 4 b)
 
-outward_offset : (b s d q : List ℕ) (steps : List Step) (inside offset start : ℕ) → 0 < length steps → BeginsAt b (d ++ q) start → offset ≡ start + inside → IsOffsetOf b s d q steps inside offset
-outward_offset b s d q [] inside offset start some begins e = absurd (omega (arith, some))
-outward_offset b s d q (step ∷ steps) inside offset start some begins e = (start, begins, e)
-
 -- a verdict on the bytes that a level waits for
-held_verdict : (inside : ℕ) (sort : Sort) (b : List ℕ) (below : List (List ℕ)) (w : Wait) (k : KeysSoFar) (inner : Sort) (d : List ℕ) (above : List (List ℕ))
+held_verdict : {inside : ℕ} {sort : Sort} {b : List ℕ} {below : List (List ℕ)} {w : Wait} {k : KeysSoFar} {inner : Sort} {d : List ℕ} {above : List (List ℕ)}
     (x : Verdict) (steps : List Step) (at offset : ℕ) → IsHeld inside sort b below w k inner d above → 0 < length steps
     → FirstVerdictTo inside inner d x steps at → offset + (length d + left_behind w) ≡ length b + at
     → FirstVerdictTo (suc inside) sort b x (step_at w ∷ steps) offset
-held_verdict inside sort b below w k inner d above x steps at offset is some judges far =
+held_verdict {inside} {sort} {b} {below} {w} {k} {inner} {d} {above} x steps at offset is some judges far =
     let left : left_behind w ≡ length is.r = ap left_of is.left_is in
     let behind : length (d ++ is.r) ≡ length d + length is.r = length-append d is.r in
     let start : ℕ = length b - (length d + length is.r) in
-    let begins : BeginsAt b (d ++ is.r) start = omega (arith, behind, held_within inside sort b below w k inner d above is) in
+    let begins : BeginsAt b (d ++ is.r) start = omega (arith, behind, held_within is) in
     let step : ◌≡◌ {A = List Step} (step_at w ∷ steps) (record { number = length is.frames; key = Some is.f.key } ∷ steps) = rw (is.number_is, is.key_is) refl in
     let there : offset ≡ start + at = omega (arith, far, left, behind, begins) in
-    let front : AreKeysCanonical sort (keys_of_frames is.frames) = keys_front sort (keys_of_frames is.frames) (is.f.key ∷ []) is.keys_canonical in (
-      is.frames,
-      is.s,
-      is.reaches,
-      front,
-      is.canonical,
-      inr (
-        is.f,
-        is.r,
-        is.frame,
-        inr (
-          is.keys_canonical,
-          value is.v,
-          is.means,
-          inside_at (IsCanonicalUpTo inside) (FirstVerdictTo inside) b is.s (record { number = length is.frames; key = Some is.f.key }) is.r is.v inner d x
-              (step_at w ∷ steps) offset is.holds (steps, at, judges, step, outward_offset b is.s d is.r steps at offset start some begins there),
-        ),
-      ),
-    )
+    let front : AreKeysCanonical sort (keys_of_frames is.frames) = keys_front sort (keys_of_frames is.frames) (is.f.key ∷ []) is.keys_canonical in
+    let nested : IsNested inside b is.s (record { number = length is.frames; key = Some is.f.key }) is.r inner d x (step_at w ∷ steps) offset =
+    record { judges = (steps, at, judges, step, outward_offset b is.s d is.r steps at offset start some begins there) } in
+    (is.frames, is.s, is.reaches, front, is.canonical, inr (is.f, is.r, is.frame, inr (is.keys_canonical, value is.v, is.means, inside_at is.v is.holds nested)))
 
 -- levels that wait, the outermost first: from the bytes b, which end at this offset of the document, inward to the bytes d,
 -- which end at that one; in the list their keys are one behind the other
@@ -311,19 +289,19 @@ AreHeld inside outer b end under (w ∷ ws) (k ∷ ks) sort d last below =
     (s : Sort) × (c : List ℕ) × (above : List (List ℕ)) × IsHeld (suc (length ws + inside)) outer b under w k s c above × (w.offset + left_behind w ≡ end)
     × AreHeld inside s c w.offset above ws ks sort d last below
 
-pub held_more : (inside : ℕ) (outer : Sort) (b : List ℕ) (end : ℕ) (under : List (List ℕ)) (ws : List Wait) (ks : List KeysSoFar) (sort : Sort) (d : List ℕ)
-    (last : ℕ) (below : List (List ℕ)) (w : Wait) (k : KeysSoFar) (inner : Sort) (c : List ℕ) (above : List (List ℕ))
+pub held_more : {inside : ℕ} {sort : Sort} {d : List ℕ} {below : List (List ℕ)} {w : Wait} {k : KeysSoFar} {inner : Sort} {c : List ℕ} {above : List (List ℕ)}
+    (outer : Sort) (b : List ℕ) (end : ℕ) (under : List (List ℕ)) (ws : List Wait) (ks : List KeysSoFar) (last : ℕ)
     → AreHeld (suc inside) outer b end under ws ks sort d last below → IsHeld (suc inside) sort d below w k inner c above → w.offset + left_behind w ≡ last
     → AreHeld inside outer b end under (ws ++ w ∷ []) (ks ++ k ∷ []) inner c w.offset above
-held_more inside outer b end under [] [] sort d last below w k inner c above h is far =
+held_more {inside} {sort} {d} {below} {w} {k} {inner} {c} {above} outer b end under [] [] last h is far =
     let same : suc inside ≡ suc (0 + inside) = omega arith in
     let waits : IsHeld (suc (0 + inside)) sort d below w k inner c above = subst (λ (i : ℕ). IsHeld i sort d below w k inner c above) same is in
     (inner, c, above, rw (h.0, h.1, h.3) waits, far ∙ sym h.2, (refl, refl, refl, refl))
-held_more inside outer b end under [] (l ∷ ks) sort d last below w k inner c above h is far = absurd h
-held_more inside outer b end under (x ∷ ws) [] sort d last below w k inner c above h is far = absurd h
-held_more inside outer b end under (x ∷ ws) (l ∷ ks) sort d last below w k inner c above h is far =
+held_more outer b end under [] (l ∷ ks) last h is far = absurd h
+held_more outer b end under (x ∷ ws) [] last h is far = absurd h
+held_more {inside} {w = w} outer b end under (x ∷ ws) (l ∷ ks) last h is far =
     let same : suc (length ws + suc inside) ≡ suc (length (ws ++ w ∷ []) + inside) = omega (arith, length-append ws (w ∷ [])) in
-    (h.0, h.1, h.2, subst (λ (i : ℕ). IsHeld i outer b under x l h.0 h.1 h.2) same h.3, h.4, held_more inside h.0 h.1 x.offset h.2 ws ks sort d last below w k inner c above h.5 is far)
+    (h.0, h.1, h.2, subst (λ (i : ℕ). IsHeld i outer b under x l h.0 h.1 h.2) same h.3, h.4, held_more h.0 h.1 x.offset h.2 ws ks last h.5 is far)
 
 -- the innermost of them
 pub record IsLast (inside : ℕ) (outer : Sort) (b : List ℕ) (end : ℕ) (under : List (List ℕ)) (ws : List Wait) (ks : List KeysSoFar) (w : Wait) (k : KeysSoFar)
@@ -336,19 +314,19 @@ pub record IsLast (inside : ℕ) (outer : Sort) (b : List ℕ) (end : ℕ) (unde
   pub is : IsHeld (suc inside) sort d below w k inner c above
   pub ends : w.offset + left_behind w ≡ last
 
-pub held_less : (inside : ℕ) (outer : Sort) (b : List ℕ) (end : ℕ) (under : List (List ℕ)) (ws : List Wait) (ks : List KeysSoFar) (w : Wait) (k : KeysSoFar)
+pub held_less : {w : Wait} {k : KeysSoFar} (inside : ℕ) (outer : Sort) (b : List ℕ) (end : ℕ) (under : List (List ℕ)) (ws : List Wait) (ks : List KeysSoFar)
     (inner : Sort) (c : List ℕ) (m : ℕ) (above : List (List ℕ)) → AreHeld inside outer b end under (ws ++ w ∷ []) (ks ++ k ∷ []) inner c m above
     → IsLast inside outer b end under ws ks w k inner c above
-held_less inside outer b end under [] [] w k inner c m above h =
+held_less {w = w} {k = k} inside outer b end under [] [] inner c m above h =
     let same : suc (0 + inside) ≡ suc inside = omega arith in
     let waits : IsHeld (suc inside) outer b under w k h.0 h.1 h.2 = subst (λ (i : ℕ). IsHeld i outer b under w k h.0 h.1 h.2) same h.3 in
     record { sort = outer; d = b; last = end; below = under; held = (refl, refl, refl, refl); is = rw (← h.5.0, ← h.5.1, ← h.5.3) waits; ends = h.4 }
-held_less inside outer b end under [] (l ∷ []) w k inner c m above h = absurd h.5
-held_less inside outer b end under [] (l ∷ j ∷ ks) w k inner c m above h = absurd h.5
-held_less inside outer b end under (x ∷ []) [] w k inner c m above h = absurd h.5
-held_less inside outer b end under (x ∷ y ∷ ws) [] w k inner c m above h = absurd h.5
-held_less inside outer b end under (x ∷ ws) (l ∷ ks) w k inner c m above h =
-    let less = held_less inside h.0 h.1 x.offset h.2 ws ks w k inner c m above h.5 in
+held_less inside outer b end under [] (l ∷ []) inner c m above h = absurd h.5
+held_less inside outer b end under [] (l ∷ j ∷ ks) inner c m above h = absurd h.5
+held_less inside outer b end under (x ∷ []) [] inner c m above h = absurd h.5
+held_less inside outer b end under (x ∷ y ∷ ws) [] inner c m above h = absurd h.5
+held_less {w = w} {k = k} inside outer b end under (x ∷ ws) (l ∷ ks) inner c m above h =
+    let less : IsLast inside h.0 h.1 x.offset h.2 ws ks w k inner c above = held_less inside h.0 h.1 x.offset h.2 ws ks inner c m above h.5 in
     let same : suc (length (ws ++ w ∷ []) + inside) ≡ suc (length ws + suc inside) = omega (arith, length-append ws (w ∷ [])) in
     record {
       sort = less.sort;
@@ -360,25 +338,29 @@ held_less inside outer b end under (x ∷ ws) (l ∷ ks) w k inner c m above h =
       ends = less.ends;
     }
 
+-- this step leads to the verdict of the bytes d, at this offset of them
+pub record IsJudgedThere (inside : ℕ) (sort : Sort) (d : List ℕ) (x : Verdict) (step : Step) (at : ℕ) : Type 0 where
+  pub judges : FirstVerdictTo (suc inside) sort d x (step ∷ []) at
+
 -- a verdict on the bytes d, at this offset of the document, is one on b
-pub verdict_outward : (inside : ℕ) (outer : Sort) (b : List ℕ) (end : ℕ) (under : List (List ℕ)) (ws : List Wait) (ks : List KeysSoFar) (sort : Sort)
-    (d : List ℕ) (last : ℕ) (below : List (List ℕ)) (x : Verdict) (step : Step) (at offset : ℕ) → AreHeld inside outer b end under ws ks sort d last below
-    → FirstVerdictTo (suc inside) sort d x (step ∷ []) at → at + last ≡ offset + length d
+pub verdict_outward : {inside : ℕ} {sort : Sort} {d : List ℕ} {x : Verdict} {step : Step} {at : ℕ} (outer : Sort) (b : List ℕ) (end : ℕ) (under : List (List ℕ))
+    (ws : List Wait) (ks : List KeysSoFar) (last : ℕ) (below : List (List ℕ)) (offset : ℕ) → AreHeld inside outer b end under ws ks sort d last below
+    → IsJudgedThere inside sort d x step at → at + last ≡ offset + length d
     → (u : ℕ) × FirstVerdictTo (suc (length ws + inside)) outer b x (map step_at ws ++ step ∷ []) u × (u + end ≡ offset + length b)
-verdict_outward inside outer b end under [] [] sort d last below x step at offset h judges far =
+verdict_outward {inside} {sort} {d} {x} {step} {at} outer b end under [] [] last below offset h is far =
     let same : suc inside ≡ suc (0 + inside) = omega arith in
-    let here : FirstVerdictTo (suc (0 + inside)) sort d x (step ∷ []) at = subst (λ (depth : ℕ). FirstVerdictTo depth sort d x (step ∷ []) at) same judges in
+    let here : FirstVerdictTo (suc (0 + inside)) sort d x (step ∷ []) at = subst (λ (depth : ℕ). FirstVerdictTo depth sort d x (step ∷ []) at) same is.judges in
     let size : length b ≡ length d = ap length h.1 in
     (at, rw (h.0, h.1) here, omega (arith, far, h.2, size))
-verdict_outward inside outer b end under [] (k ∷ ks) sort d last below x step at offset h judges far = absurd h
-verdict_outward inside outer b end under (w ∷ ws) [] sort d last below x step at offset h judges far = absurd h
-verdict_outward inside outer b end under (w ∷ ws) (k ∷ ks) sort d last below x step at offset h judges far =
-    let there = verdict_outward inside h.0 h.1 w.offset h.2 ws ks sort d last below x step at offset h.5 judges far in
+verdict_outward outer b end under [] (k ∷ ks) last below offset h is far = absurd h
+verdict_outward outer b end under (w ∷ ws) [] last below offset h is far = absurd h
+verdict_outward {inside} {x = x} {step = step} outer b end under (w ∷ ws) (k ∷ ks) last below offset h is far =
+    let there = verdict_outward h.0 h.1 w.offset h.2 ws ks last below offset h.5 is far in
     let left : left_behind w ≡ length h.3.r = ap left_of h.3.left_is in
-    let fits : length h.1 + length h.3.r ≤ length b = held_within (suc (length ws + inside)) outer b under w k h.0 h.1 h.2 h.3 in
+    let fits : length h.1 + length h.3.r ≤ length b = held_within h.3 in
     let u : ℕ = length b - (length h.1 + left_behind w) + there.0 in
     let some : 0 < length (map step_at ws ++ step ∷ []) = omega (arith, length-append (map step_at ws) (step ∷ [])) in
     let outside : u + (length h.1 + left_behind w) ≡ length b + there.0 = omega (arith, left, fits) in
-    let here = held_verdict (suc (length ws + inside)) outer b under w k h.0 h.1 h.2 x (map step_at ws ++ step ∷ []) there.0 u h.3 some there.1 outside in
+    let here = held_verdict x (map step_at ws ++ step ∷ []) there.0 u h.3 some there.1 outside in
     let same : suc (suc (length ws + inside)) ≡ suc (length (w ∷ ws) + inside) = omega arith in
     (u, subst (λ (depth : ℕ). FirstVerdictTo depth outer b x (step_at w ∷ (map step_at ws ++ step ∷ [])) u) same here, omega (arith, outside, there.2, h.4))

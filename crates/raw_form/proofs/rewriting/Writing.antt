@@ -2,12 +2,14 @@
 use Rattle.std.proofs.Common.{◌≡◌, ◌∙◌, ◌<◌, ◌≤◌, ◌+◌, ◌++◌, ◌∷◌, [], inl, inr, zero, suc, ℕ, List, Option, Some, length, arith, ap, refl, sym, subst, length-append}
 use Rattle.bson_model.specs.Leaf.{Leaf}
 use Rattle.bson_model.specs.Tree.{Tree, leaf, array, document, code_with_scope}
+use Rattle.raw_view.specs.Document.{bytes_of}
 use Rattle.raw_view.specs.Frame.ElementSteps.{frame_of}
 use Rattle.raw_view.specs.Frame.Format.{element_of, leaf_payload, string_payload, tagged}
 use Rattle.raw_view.specs.Frame.Kind.{kind_of_leaf, tag_of}
 use Rattle.raw_view.specs.Meaning.{RawValue, KeyedFault, Means, faulty, kind_of_raw, value}
 use Rattle.raw_view.specs.Meaning as raw
 use Rattle.raw_view.specs.Frame.Number.{max_length}
+use Rattle.raw_view.specs.declared.document.RawDocument.{RawDocument}
 use Rattle.raw_view.specs.declared.element_type.ElementType.{ElementType}
 use Rattle.raw_view.specs.declared.error.Error.{Error}
 use Rattle.raw_view.proofs.Face.{one_meaning}
@@ -103,11 +105,11 @@ refused_for : (b : List ℕ) (t : Tree) (n : ℕ) (e : Error) → Reads b t → 
 refused_for b t n e read (inl memory) within = inl memory
 refused_for b t n e read (inr long) within = inr (t, read, (omega (arith, long.0, within), long.1, long.2))
 
-pub rewriting_begins : (b : List ℕ) (t : Tree) (h : Held) (level : Rewritten) (ws : List Rewritten) (out : List ℕ) → Reads b t → held_value h ≡ raw.document b
-    → ws ≡ [] → out ≡ held_opening h → length out ≤ max_length → level.start ≡ 0 → HasCode t level.code_len × IsLeft level.keys level.elements (members t)
-    → IsRewriting b ws level out
-rewriting_begins b t h level ws out read same none out_is fits start left =
-    let made = held_tree h t (subst (λ (v : RawValue). StandsFor ReadsAs v t) (sym same) read) in
+pub rewriting_begins : (whole : RawDocument) (t : Tree) (level : Rewritten) (ws : List Rewritten) (out : List ℕ) → Reads (bytes_of whole) t → ws ≡ []
+    → out ≡ held_opening (held.Document whole) → length out ≤ max_length → level.start ≡ 0
+    → HasCode t level.code_len × IsLeft level.keys level.elements (members t) → IsRewriting (bytes_of whole) ws level out
+rewriting_begins whole t level ws out read none out_is fits start left =
+    let made = held_tree (held.Document whole) t read in
     record {
       tree = t;
       read = read;
@@ -119,6 +121,17 @@ rewriting_begins b t h level ws out read same none out_is fits start left =
       fits = fits;
     }
 
+-- the level behind its next member
+pub record IsLater (level new : Rewritten) : Type 0 where
+  pub start_is : new.start ≡ level.start
+  pub code_is : new.code_len ≡ level.code_len
+
+-- the next of these members, the value that its element means, and the key under which it is written; the level is behind it
+pub record IsMember (ms : List (MemberKey × Tree)) (new : Rewritten) (m : Member) (v : RawValue) (key : List ℕ) : Type 0 where
+  pub next : TakesNext ms (Some m) new.keys new.elements
+  pub means : Means (frame_of m.element) (value v)
+  pub key_is : key ≡ key_bytes (member_key m)
+
 module _ {b : List ℕ} {ws : List Rewritten} {level : Rewritten} {out : List ℕ} (is : IsRewriting b ws level out) where
   -- something is left of the level
   pub something_left : (ms : List (MemberKey × Tree)) × IsLeft level.keys level.elements ms
@@ -127,47 +140,49 @@ module _ {b : List ℕ} {ws : List Rewritten} {level : Rewritten} {out : List �
   room : length out + members_len is.here.left + 1 + left_in is.outer ≤ encoded_len is.tree
   room = room_left is.tree is.outer is.here out is.writing
 
-  -- the level behind the next member
-  module _ (new : Rewritten) (start : new.start ≡ level.start) (code : new.code_len ≡ level.code_len) where
+  -- the next member means no fault
+  pub no_fault : (new : Rewritten) (m : Member) (next : TakesNext is.here.left (Some m) new.keys new.elements) (fault : KeyedFault) → Means (frame_of m.element) (faulty fault) → ⊥
+  no_fault new m next fault bad =
+      let same : value next.3.0 ≡ faulty fault = one_meaning (frame_of m.element) (value next.3.0) (faulty fault) next.3.1 bad in
+      cc
+
+  module _ {new : Rewritten} (later : IsLater level new) where
+    code_has : HasCode is.here.tree new.code_len
+    code_has = subst (λ (len : Option ℕ). HasCode is.here.tree len) (sym later.code_is) is.begun.code
+
     passed_on : (rest : List (MemberKey × Tree)) → IsLeft new.keys new.elements rest → IsBegun new (left_with is.here rest)
-    passed_on rest left = record {
-      start_is = start ∙ is.begun.start_is;
-      code = subst (λ (len : Option ℕ). HasCode is.here.tree len) (sym code) is.begun.code;
-      left = left;
-    }
+    passed_on rest left = record { start_is = later.start_is ∙ is.begun.start_is; code = code_has; left = left }
 
-    -- the next member means no fault
-    pub no_fault : (m : Member) (next : TakesNext is.here.left (Some m) new.keys new.elements) (fault : KeyedFault) → Means (frame_of m.element) (faulty fault) → ⊥
-    no_fault m next fault bad =
-        let same : value next.3.0 ≡ faulty fault = one_meaning (frame_of m.element) (value next.3.0) (faulty fault) next.3.1 bad in
-        cc
-
-    module _ (m : Member) (v : RawValue) (next : TakesNext is.here.left (Some m) new.keys new.elements) (means : Means (frame_of m.element) (value v))
-        (key : List ℕ) (key_is : key ≡ key_bytes (member_key m)) where
-      stands : StandsFor ReadsAs v next.0
+    module _ {m : Member} {v : RawValue} {key : List ℕ} (member : IsMember is.here.left new m v key) where
+      pub stands : StandsFor ReadsAs v member.next.0
       stands =
-          let same : next.3.0 ≡ v = one_value_of (frame_of m.element) next.3.0 v next.3.1 means in
+          let next = member.next in
+          let same : next.3.0 ≡ v = one_value_of (frame_of m.element) next.3.0 v next.3.1 member.means in
           subst (λ (x : RawValue). StandsFor ReadsAs x next.0) same next.3.2
 
-      member_len : members_len is.here.left ≡ (2 + length key + encoded_len next.0) + members_len next.1
-      member_len = ap members_len next.2 ∙ ap (λ (k : List ℕ). (2 + length k + encoded_len next.0) + members_len next.1) (sym key_is)
+      member_len : members_len is.here.left ≡ (2 + length key + encoded_len member.next.0) + members_len member.next.1
+      member_len =
+          let next = member.next in
+          ap members_len next.2 ∙ ap (λ (k : List ℕ). (2 + length k + encoded_len next.0) + members_len next.1) (sym member.key_is)
 
       -- the tree of a leaf
-      pub leaf_written : (l : Leaf) → v ≡ raw.single l → IsWrittenAs (kind_of_leaf (leaf_in_order l)) (leaf_payload (leaf_in_order l)) next.0
+      pub leaf_written : (l : Leaf) → v ≡ raw.single l → IsWrittenAs (kind_of_leaf (leaf_in_order l)) (leaf_payload (leaf_in_order l)) member.next.0
       leaf_written l single =
-          let leaf_is : next.0 ≡ leaf (leaf_in_order l) = subst (λ (x : RawValue). StandsFor ReadsAs x next.0) single stands in
+          let leaf_is : member.next.0 ≡ leaf (leaf_in_order l) = subst (λ (x : RawValue). StandsFor ReadsAs x member.next.0) single stands in
           (ap kind_of_tree leaf_is, ap tree_payload leaf_is)
 
       -- it is put as a whole
-      module _ (k : ElementType) (p : List ℕ) (written : IsWrittenAs k p next.0) where
+      module _ (k : ElementType) (p : List ℕ) (written : IsWrittenAs k p member.next.0) where
         pub put_refused : (e : Error) → FailsFor (length out + (2 + length key + length p)) e → RefusesFormOf b e
         put_refused e fails =
-            refused_for b is.tree (length out + (2 + length key + length p)) e is.read fails (omega (arith, room, member_len, length-tree_payload next.0, ap length written.1))
+            refused_for b is.tree (length out + (2 + length key + length p)) e is.read fails
+            (omega (arith, room, member_len, length-tree_payload member.next.0, ap length written.1))
 
         pub rewriting_put : (more : List ℕ) → more ≡ out ++ element_of k key p → length more ≤ max_length → IsRewriting b ws new more
         rewriting_put more e fits =
+            let next = member.next in
             let element : element_of k key p ≡ element_of (kind_of_tree next.0) (key_bytes (member_key m)) (tree_payload next.0) =
-            λ i. element_of (sym written.0 i) (key_is i) (sym written.1 i) in
+            λ i. element_of (sym written.0 i) (member.key_is i) (sym written.1 i) in
             record {
               tree = is.tree;
               read = is.read;
@@ -182,44 +197,43 @@ module _ {b : List ℕ} {ws : List Rewritten} {level : Rewritten} {out : List �
         pub put_grows : (more : List ℕ) → more ≡ out ++ element_of k key p → length out < length more
         put_grows more e = omega (arith, ap length e, length-append out (element_of k key p))
 
-      -- or it holds a level
-      module _ (h : Held) (holds : v ≡ held_value h) where
-        pub held_stands : StandsFor ReadsAs (held_value h) next.0
-        held_stands = subst (λ (x : RawValue). StandsFor ReadsAs x next.0) holds stands
+    -- or it holds a level
+    module _ (h : Held) {m : Member} {key : List ℕ} (member : IsMember is.here.left new m (held_value h) key) where
+      pub head_refused : (e : Error) → FailsFor (length out + (2 + length key)) e → RefusesFormOf b e
+      head_refused e fails = refused_for b is.tree (length out + (2 + length key)) e is.read fails (omega (arith, room, member_len member))
 
-        pub head_refused : (e : Error) → FailsFor (length out + (2 + length key)) e → RefusesFormOf b e
-        head_refused e fails = refused_for b is.tree (length out + (2 + length key)) e is.read fails (omega (arith, room, member_len))
+      module _ {head : List ℕ} (head_is : head ≡ out ++ tagged (tag_of (kind_of_raw (held_value h))) key []) where
+        head_len : length head ≡ length out + (2 + length key)
+        head_len = omega (arith, ap length head_is, length-append out (tagged (tag_of (kind_of_raw (held_value h))) key []), length-append key (0 ∷ []))
 
-        module _ (head : List ℕ) (head_is : head ≡ out ++ tagged (tag_of (kind_of_raw (held_value h))) key []) where
-          head_len : length head ≡ length out + (2 + length key)
-          head_len = omega (arith, ap length head_is, length-append out (tagged (tag_of (kind_of_raw (held_value h))) key []), length-append key (0 ∷ []))
+        pub inside_refused : (e : Error) → FailsFor (length head + length (held_opening h)) e → RefusesFormOf b e
+        inside_refused e fails =
+            let made = held_tree h member.next.0 (stands member) in
+            refused_for b is.tree (length head + length (held_opening h)) e is.read fails
+            (omega (arith, room, member_len member, head_len, ap length made.1, opening_within member.next.0 made.0))
 
-          pub inside_refused : (e : Error) → FailsFor (length head + length (held_opening h)) e → RefusesFormOf b e
-          inside_refused e fails =
-              let made = held_tree h next.0 held_stands in
-              refused_for b is.tree (length head + length (held_opening h)) e is.read fails (omega (arith, room, member_len, head_len, ap length made.1, opening_within next.0 made.0))
+        pub rewriting_inside : (inner : Rewritten) (more : List ℕ) → inner.start ≡ length head → more ≡ head ++ held_opening h
+            → HasCode member.next.0 inner.code_len × IsLeft inner.keys inner.elements (members member.next.0) → length more ≤ max_length
+            → IsRewriting b (ws ++ new ∷ []) inner more
+        rewriting_inside inner more start_is more_is left fits =
+            let next = member.next in
+            let made = held_tree h next.0 (stands member) in
+            let tagged_so : tagged (tag_of (kind_of_raw (held_value h))) key [] ≡ tagged (tag_of (kind_of_tree next.0)) (key_bytes (member_key m)) [] =
+            λ i. tagged (tag_of (sym made.2 i)) (member.key_is i) [] in
+            record {
+              tree = is.tree;
+              read = is.read;
+              outer = is.outer ++ left_with is.here next.1 ∷ [];
+              here = begun_at next.0 inner.start;
+              waits = begun_more ws new is.outer (left_with is.here next.1) is.waits (passed_on next.1 next.4);
+              begun = record { start_is = refl; code = left.0; left = left.1 };
+              writing = writing_inside is.tree is.outer is.here out is.writing (member_key m, next.0) next.1 next.2 inner.start head more made.0 start_is
+                  (head_is ∙ ap (λ (x : List ℕ). out ++ x) tagged_so) (more_is ∙ ap (λ (x : List ℕ). head ++ x) (sym made.1));
+              fits = fits;
+            }
 
-          pub rewriting_inside : (inner : Rewritten) (start : ℕ) (more : List ℕ) (grown : List Rewritten) → grown ≡ ws ++ new ∷ [] → start ≡ length head
-              → inner.start ≡ start → more ≡ head ++ held_opening h → HasCode next.0 inner.code_len × IsLeft inner.keys inner.elements (members next.0)
-              → length more ≤ max_length → IsRewriting b grown inner more
-          rewriting_inside inner start more grown grown_is start_is inner_start more_is left fits =
-              let made = held_tree h next.0 held_stands in
-              let tagged_so : tagged (tag_of (kind_of_raw (held_value h))) key [] ≡ tagged (tag_of (kind_of_tree next.0)) (key_bytes (member_key m)) [] =
-              λ i. tagged (tag_of (sym made.2 i)) (key_is i) [] in
-              record {
-                tree = is.tree;
-                read = is.read;
-                outer = is.outer ++ left_with is.here next.1 ∷ [];
-                here = begun_at next.0 start;
-                waits = rw grown_is (begun_more ws new is.outer (left_with is.here next.1) is.waits (passed_on next.1 next.4));
-                begun = record { start_is = inner_start; code = left.0; left = left.1 };
-                writing = writing_inside is.tree is.outer is.here out is.writing (member_key m, next.0) next.1 next.2 start head more made.0 start_is
-                    (head_is ∙ ap (λ (x : List ℕ). out ++ x) tagged_so) (more_is ∙ ap (λ (x : List ℕ). head ++ x) (sym made.1));
-                fits = fits;
-              }
-
-          pub inside_grows : (more : List ℕ) → more ≡ head ++ held_opening h → length out < length more
-          inside_grows more e = omega (arith, head_len, ap length e, length-append head (held_opening h))
+        pub inside_grows : (more : List ℕ) → more ≡ head ++ held_opening h → length out < length more
+        inside_grows more e = omega (arith, head_len, ap length e, length-append head (held_opening h))
 
     -- no member is left
     module _ (none : is.here.left ≡ []) where
@@ -228,14 +242,14 @@ module _ {b : List ℕ} {ws : List Rewritten} {level : Rewritten} {out : List �
 
       pub header_put : new.start + header_len new.code_len ≤ length out
       header_put =
-          let open_len : opening_len is.here.tree ≡ header_len new.code_len = header_so is.here.tree new.code_len (subst (λ (len : Option ℕ). HasCode is.here.tree len) (sym code) is.begun.code) in
-          omega (arith, is.writing.begun, start, is.begun.start_is, open_len)
+          let open_len : opening_len is.here.tree ≡ header_len new.code_len = header_so is.here.tree new.code_len code_has in
+          omega (arith, is.writing.begun, later.start_is, is.begun.start_is, open_len)
 
       module _ (more : List ℕ) (e : more ≡ ended_by new.code_len new.start (out ++ 0 ∷ [])) where
         ended_is : more ≡ ended is.here.tree is.here.start (out ++ 0 ∷ [])
         ended_is =
-            let has : HasCode is.here.tree new.code_len = subst (λ (len : Option ℕ). HasCode is.here.tree len) (sym code) is.begun.code in
-            e ∙ ap (λ (n : ℕ). ended_by new.code_len n (out ++ 0 ∷ [])) (start ∙ is.begun.start_is) ∙ sym (ended_so is.here.tree new.code_len is.here.start (out ++ 0 ∷ []) has)
+            e ∙ ap (λ (n : ℕ). ended_by new.code_len n (out ++ 0 ∷ [])) (later.start_is ∙ is.begun.start_is)
+            ∙ sym (ended_so is.here.tree new.code_len is.here.start (out ++ 0 ∷ []) code_has)
 
         pub rewriting_done : ws ≡ [] → length more ≤ max_length → IsFormOf b more
         rewriting_done none_waits fits =

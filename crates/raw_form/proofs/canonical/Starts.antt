@@ -6,40 +6,31 @@ use Rattle.raw_view.specs.Frame.Envelope.{IsEnvelope}
 use Rattle.raw_view.specs.Frame.{Frame, LeadsTo}
 use Rattle.raw_view.specs.Meaning.{Meaning, value, faulty}
 use Rattle.raw_view.specs.Meaning as raw
-use Rattle.raw_view.proofs.Face.{LeadsTo-bound}
+use Rattle.raw_view.proofs.Face.{LeadsTo-bound, one_frame}
 use Rattle.raw_tree.specs.Canonical.{AreFramesCanonical, IsCanonicalUpTo}
 use Rattle.raw_tree.specs.Reading.{Sort, as_document}
 use Rattle.raw_tree.proofs.Face.{canonical_frames_read}
 use Rattle.raw_form.specs.Barriers.{step_of, steps_of}
-use Rattle.raw_form.specs.Judging.{TellsFound, TellsStart, verdict_of}
+use Rattle.raw_form.specs.Judging.{TellsFound, TellsOutermost, TellsStart, first_number, verdict_of}
 use Rattle.raw_form.specs.Looking.{AreReadBefore, HasNoneBefore}
 use Rattle.raw_form.specs.Places.{Step, BeginsAt}
-use Rattle.raw_form.specs.Verdicts.{Verdict, JudgesNestedAt, JudgesMeaningAt, JudgesFrontAt, FirstVerdictTo}
+use Rattle.raw_form.specs.Verdicts.{Verdict, JudgesMeaningAt, JudgesFrontAt, FirstVerdictTo}
 use Rattle.raw_form.specs.Waits.{Wait}
 use Rattle.raw_form.specs.declared.faults.Start.{Start}
 use Rattle.raw_form.specs.declared.place.PathStep.{PathStep}
 use Rattle.raw_form.specs.declared.verdict.Found.{Found}
-use Rattle.raw_form.proofs.Knowing.{known_to, known_to_first}
-use Rattle.raw_form.specs.Walks.{IsAt}
-use Rattle.raw_form.proofs.Lying.{drop_both, leads_behind, whole_lies}
-
--- the number of the first step
-abbrev first_number : List Step → ℕ
-first_number [] = 0
-first_number (step ∷ steps) = step.number
+use Rattle.raw_form.proofs.rewritten.KnownFrames.{known_to, known_to_first}
+use Rattle.raw_form.specs.Walks.{IsAt, IsBehind}
+use Rattle.raw_form.proofs.walk.Offsets.{drop_both, leads_behind, whole_lies}
 
 module _ (P : Sort → List ℕ → Type 0) (N : Sort → List ℕ → Verdict → List Step → ℕ → Type 0) where
-  nested_begins : (b s : List ℕ) (step here : Step) (more : List Step) (q : List ℕ) (sort : Sort) (d : List ℕ) (x : Verdict) (offset : ℕ)
-      → JudgesNestedAt P N b s step q sort d x (here ∷ more) offset → here.number ≡ step.number
-  nested_begins b s step here more q sort d x offset h = ap first_number h.3
-
   meaning_begins : (b s : List ℕ) (step here : Step) (more : List Step) (q : List ℕ) (m : Meaning) (x : Verdict) (offset : ℕ)
       → JudgesMeaningAt P N b s step q m x (here ∷ more) offset → here.number ≡ step.number
   meaning_begins b s step here more q (faulty fault) x offset h = ap first_number h.1.0
   meaning_begins b s step here more q (value (raw.single l)) x offset h = ap first_number h.2.0
-  meaning_begins b s step here more q (value (raw.document d)) x offset h = nested_begins b s step here more q as_document d x offset h
-  meaning_begins b s step here more q (value (raw.array d)) x offset h = nested_begins b s step here more q _ d x offset h
-  meaning_begins b s step here more q (value (raw.scoped code d)) x offset h = nested_begins b s step here more q as_document d x offset h
+  meaning_begins b s step here more q (value (raw.document d)) x offset h = ap first_number h.3
+  meaning_begins b s step here more q (value (raw.array d)) x offset h = ap first_number h.3
+  meaning_begins b s step here more q (value (raw.scoped code d)) x offset h = ap first_number h.3
 
   front_begins : (sort : Sort) (keys : List (List ℕ)) (b s : List ℕ) (number : ℕ) (here : Step) (more : List Step) (x : Verdict) (offset : ℕ)
       → JudgesFrontAt P N sort keys b s number x (here ∷ more) offset → here.number ≡ number
@@ -80,22 +71,36 @@ found_known n depth b start is levels enough begins = (before, known_to n b star
         record { frames = is.frames; pairs = read.0; s = is.s; reaches = is.reaches; each = read.1; number_is = is.number_is; begins = begins } in
         subst (λ (i : ℕ). AreReadBefore i b start.number start.offset) same there
 
--- of what was found the first step has this number
-pub found_begins : (depth : ℕ) (b : List ℕ) (found : Found) (path : List PathStep) (start : Start) → TellsFound depth b (Some found)
-    → path ≡ found.place.path.items → length path ≢ 0 → start.number ≡ (slice_index_or path 0 (record { number = 0; key = None })).number → 5 ≤ length b
-    → ((frames : List Frame) (s : List ℕ) → LeadsTo (drop 4 b) frames s → length frames ≡ start.number → BeginsAt b s start.offset)
-    → TellsStart depth b (Some start)
-found_begins depth b found [] start told same some number enough there = absurd (some refl)
-found_begins zero b found (p ∷ path) start told same some number enough there =
+-- as many frames lead to the same
+led_same : (s : List ℕ) (fs gs : List Frame) (r q : List ℕ) → LeadsTo s fs r → LeadsTo s gs q → length fs ≡ length gs → r ≡ q
+led_same s [] [] r q l k e = sym l ∙ k
+led_same s [] (g ∷ gs) r q l k e = absurd (omega (arith, e))
+led_same s (f ∷ fs) [] r q l k e = absurd (omega (arith, e))
+led_same s (f ∷ fs) (g ∷ gs) r q (t, at, l) (u, there, k) e =
+    let same : u ≡ t = (one_frame s g f u t there at).1 in
+    led_same t fs gs r q l (subst (λ (x : List ℕ). LeadsTo x gs q) same k) (omega (arith, e))
+
+-- of what was found the first step has this number, and the element begins here
+pub found_begins : (depth : ℕ) (b : List ℕ) (found : Found) (path : List PathStep) (start : Start) → TellsFound depth b (Some found) → TellsOutermost b (Some found)
+    → path ≡ found.place.path.items → length path ≢ 0 → start.number ≡ (slice_index_or path 0 (record { number = 0; key = None })).number
+    → start.offset ≡ found.outermost → 5 ≤ length b → TellsStart depth b (Some start)
+found_begins depth b found [] start told outermost same some number offset enough = absurd (some refl)
+found_begins zero b found (p ∷ path) start told outermost same some number offset enough =
     let steps : steps_of found.place ≡ step_of p ∷ map step_of path = sym (ap (map step_of) same) in
     let none : step_of p ∷ map step_of path ≡ [] = sym steps ∙ told.1 in
     cc
-found_begins (suc n) b found (p ∷ path) start told same some number enough there =
+found_begins (suc n) b found (p ∷ path) start told outermost same some number offset enough =
     let steps : steps_of found.place ≡ step_of p ∷ map step_of path = sym (ap (map step_of) same) in
     let is : AreCanonicalBefore n b p.number = verdict_begins n b (step_of p) (map step_of path) (verdict_of found.cause) found.place.offset
     (subst (λ (q : List Step). FirstVerdictTo (suc n) as_document b (verdict_of found.cause) q found.place.offset) steps told) in
     let here : AreCanonicalBefore n b start.number = subst (λ (m : ℕ). AreCanonicalBefore n b m) (sym number) is in
-    found_known n (suc n) b start here refl enough (there here.frames here.s here.reaches (sym here.number_is))
+    let there : IsBehind b p.number found.outermost = subst (λ (q : List Step). IsBehind b (first_number q) found.outermost) steps outermost in
+    let left = led_same (drop 4 b) there.frames here.frames there.s here.s there.reaches here.reaches (omega (arith, there.number_is, here.number_is, number)) in
+    found_known n (suc n) b start here refl enough (omega (arith, there.begins, ap length left, offset))
+
+-- the first element is behind no other
+pub first_behind : (b : List ℕ) → 5 ≤ length b → IsBehind b 0 4
+first_behind b enough = record { frames = []; s = drop 4 b; reaches = refl; number_is = refl; begins = omega (arith, length-drop 4 b, enough) }
 
 -- nor before the first element
 pub first_begins : (depth : ℕ) (b : List ℕ) → 5 ≤ length b → HasNoneBefore depth b 0 4

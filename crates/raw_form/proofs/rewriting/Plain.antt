@@ -7,7 +7,7 @@ use Rattle.bson_model.specs.Tree.{leaf}
 use Rattle.raw_view.specs.Frame.Format.{leaf_payload}
 use Rattle.raw_view.specs.Frame.{Frame, HasPayload}
 use Rattle.raw_view.specs.Frame.Kind.{kind_of_leaf}
-use Rattle.raw_view.specs.Meaning.{RawValue, MeansValue, kind_of_raw}
+use Rattle.raw_view.specs.Meaning.{RawValue, MeansValue}
 use Rattle.raw_view.specs.Meaning as raw
 use Rattle.raw_view.specs.declared.element_type.ElementType.{ElementType}
 use Rattle.raw_view.specs.declared.element_type.ElementType.TheVariants as kind

@@ -25,7 +25,7 @@ use Rattle.raw_tree.specs.Reading.{StandForEach, ReadsAs, FrameStandsFor}
 use Rattle.raw_form.specs.Looking.{size_of}
 use Rattle.raw_form.specs.Staying.{AreFramesAt, AreOwnBefore, IsLeftAt, IsOwnForm, TakesFrame, TakesMember, last_places, placed}
 use Rattle.raw_form.specs.declared.last.LastPlaces.{LastPlaces}
-use Rattle.raw_form.proofs.Keeping.{first_or, here, last_front}
+use Rattle.raw_form.proofs.last.KeptPairs.{first_or, here, last_front}
 
 -- what is in front of a walk
 

@@ -7,7 +7,7 @@ use Rattle.raw_view.specs.Frame.Envelope.{IsEnvelope}
 use Rattle.raw_view.specs.Frame.Format.{element_of, string_payload}
 use Rattle.raw_view.specs.Frame.{Frame, HasShape, IsFrame, LeadsTo}
 use Rattle.raw_view.specs.Frame.Kind.{tag_of}
-use Rattle.raw_view.specs.Meaning.{RawValue, Means, MeansValue, value}
+use Rattle.raw_view.specs.Meaning.{RawValue, MeansValue}
 use Rattle.raw_view.specs.Meaning as raw
 use Rattle.raw_view.specs.Frame.Number.{IsLe32, le32, max_length}
 use Rattle.raw_view.specs.declared.element_type.ElementType.{ElementType}
@@ -21,7 +21,7 @@ use Rattle.raw_form.specs.Places.{Step}
 use Rattle.raw_form.specs.Waits.{GoesOn, LiesAt, Stores, StoreEach, Wait}
 use Rattle.raw_form.specs.declared.level.Waiting.{Waiting}
 use Rattle.raw_form.specs.declared.place.PathStep.{PathStep}
-use Rattle.raw_form.proofs.Lasting.{drop_frame, frame_size}
+use Rattle.raw_form.proofs.last.Places.{drop_frame, frame_size}
 
 -- what frames lead to is what is behind so many bytes
 pub leads_behind : (s : List ℕ) (fs : List Frame) (r : List ℕ) → LeadsTo s fs r → r ≡ drop (length s - length r) s
@@ -109,10 +109,10 @@ behind_in b d behind start n lies within =
     sym (drop-drop n start b) ∙ ap (drop n) lies ∙ drop-append-le n d behind within
 
 -- the nested bytes of a frame lie in front of what is behind it
-pub nested_lies : (b d : List ℕ) (start : ℕ) (s : List ℕ) (f : Frame) (r inner : List ℕ) (offset first : ℕ) → LiesAt b start d
+pub nested_lies : {b d : List ℕ} {start : ℕ} {s : List ℕ} {f : Frame} {r : List ℕ} (inner : List ℕ) (offset first : ℕ) → LiesAt b start d
     → (offset ≡ start + (length d - length s)) → length s ≤ length d → s ≡ drop (length d - length s) d → IsFrame s f r → EndsWith f.payload inner
     → IsEnvelope inner → first + length inner ≡ offset + size_of f → LiesAt b first inner
-nested_lies b d start s f r inner offset first lies off within is at ends envelope far =
+nested_lies {b} {d} {start} {s} {f} {r} inner offset first lies off within is at ends envelope far =
     let front : List ℕ = tag_of f.kind ∷ (f.key ++ 0 ∷ ends.0) in
     let behind : List ℕ = lies.behind in
     let there : drop (start + (length d - length s)) b ≡ s ++ behind = behind_in b d behind start (length d - length s) lies.lies (omega arith) ∙ ap (λ (x : List ℕ). x ++ behind) (sym is) in

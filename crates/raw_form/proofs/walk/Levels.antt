@@ -1,11 +1,11 @@
 -- What a walk over all levels keeps, and what it tells where it ends.
-use Rattle.std.proofs.Common.{◌≡◌, ◌∙◌, ◌≤◌, ◌<◌, ◌+◌, ◌-◌, ◌*◌, ◌++◌, ◌∷◌, [], ℕ, zero, suc, List, Option, None, Some, map, length, drop, arith, ap, refl, sym, subst, length-append, length-drop}
+use Rattle.std.proofs.Common.{◌≡◌, ◌∙◌, ◌≤◌, ◌<◌, ◌+◌, ◌-◌, ◌*◌, ◌++◌, ◌∷◌, [], ℕ, suc, List, Option, None, Some, map, length, drop, arith, ap, refl, sym, subst, length-append, length-drop}
 use denote.Ref.{Bor}
 use Rattle.std.specs.Option.{option_copied}
 use Rattle.bson_model.specs.Tree.{Tree}
 use Rattle.raw_view.specs.Document.{bytes_of}
 use Rattle.raw_view.specs.Frame.ElementSteps.{frame_of}
-use Rattle.raw_view.specs.Frame.{Frame, IsFrame}
+use Rattle.raw_view.specs.Frame.{Frame, IsFrame, LeadsTo}
 use Rattle.raw_view.specs.Frame.Front.{TellsBorrowed}
 use Rattle.raw_view.specs.Meaning.{KeyedFault}
 use Rattle.raw_view.specs.declared.document.RawDocument.{RawDocument}
@@ -18,10 +18,11 @@ use Rattle.raw_tree.specs.WithinLimits.{fault_of, too_deep}
 use Rattle.raw_tree.specs.WithinLimits as within
 use Rattle.raw_tree.proofs.Face.{nested_beside}
 use Rattle.raw_form.specs.Barriers.{IsBarrier, TellsBarrierWithin}
+use Rattle.raw_form.specs.Judging.{first_number}
 use Rattle.raw_form.specs.Looking.{Looks, size_of, step_at}
 use Rattle.raw_form.specs.Places.{Step, FirstFaultAt}
 use Rattle.raw_form.specs.Waits.{LiesAt, Stores, StoreEach, Wait}
-use Rattle.raw_form.specs.Walks.{AreHeld, IsAlong, IsAt, IsBarrierAt, IsFurther, IsOpened, IsOver, IsPassed, IsTooDeep, TellsError, left_behind, wait_behind}
+use Rattle.raw_form.specs.Walks.{AreHeld, IsAlong, IsAt, IsBarrierAt, IsBehind, IsFurther, IsOpened, IsOver, IsPassed, IsTooDeep, TellsError, outermost_of, wait_behind}
 use Rattle.raw_form.specs.declared.barrier.Barrier.{Barrier}
 use Rattle.raw_form.specs.declared.barrier.BarrierKind.{BarrierKind}
 use Rattle.raw_form.specs.declared.barrier.BarrierKind.TheVariants as kind
@@ -31,16 +32,14 @@ use Rattle.raw_form.specs.declared.walk.WalkError.{WalkError}
 use Rattle.raw_form.specs.declared.walk.WalkError.TheVariants as error
 use Rattle.raw_form.specs.declared.level.Waiting.{Waiting}
 use Rattle.raw_form.specs.declared.level.Next.TheVariants as next
-use Rattle.raw_form.proofs.Passing.{read_as, begun, passed_whole, passed_inside, passed_end, IsInFront, passed_fault, passed_deep, resumed}
-use Rattle.raw_form.proofs.Outward.{held_more, held_less, held_last, held_ends, barrier_outward}
-use Rattle.raw_form.proofs.Lying.{behind_in, frame_more, led_behind, nested_last, nested_lies, stored_whole, stored_less}
+use Rattle.raw_form.proofs.walk.Passed.{read_as, begun, passed_whole, passed_inside, passed_end, IsInFront, passed_fault, passed_deep, resumed}
+use Rattle.raw_form.proofs.walk.Outward.{IsBarred, held_more, held_less, held_last, held_ends, barrier_outward}
+use Rattle.raw_form.proofs.last.Places.{frame_size}
+use Rattle.raw_form.proofs.walk.Offsets.{behind_in, frame_more, led_behind, nested_last, nested_lies, stored_whole, stored_less}
 
 pub passed_left : (inside : ℕ) (d : List ℕ) (left : Option (List ℕ)) (number : ℕ) → IsPassed inside d left number → 2 * number + left_of left ≤ length d
 passed_left inside d None number is = absurd is.passed
 passed_left inside d (Some s) number is = omega (arith, LeadsTo-bound (drop 4 d) is.frames s is.passed, length-drop 4 d, is.number_is)
-
-pub frame_size : (s : List ℕ) (f : Frame) (r : List ℕ) → IsFrame s f r → size_of f + length r ≡ length s
-frame_size s f r b = omega (arith, ap length b.spelled, length-append f.key (0 ∷ (f.payload ++ r)), length-append f.payload r)
 
 pub whole_size : (inside : ℕ) (d : List ℕ) (old new : Option (List ℕ)) (number : ℕ) (e : RawElement) → IsPassed inside d old number
     → Looks old new (next.Whole e) → size_of (frame_of e) + left_of new ≡ left_of old
@@ -60,24 +59,24 @@ inside_fits inside d (Some s) new number e inner is (r, v, at, m, holds, new_is)
     omega (arith, nested_beside s (frame_of e) r v (bytes_of inner) at m holds, frame_size s (frame_of e) r at)
 
 -- nested bytes lie in the document, where they end with their element
-inside_lies : (inside : ℕ) (b d : List ℕ) (start : ℕ) (old new : Option (List ℕ)) (number offset : ℕ) (e : RawElement) (inner : RawDocument) (first : ℕ)
-    → LiesAt b start d → IsPassed inside d old number → offset + left_of old ≡ start + length d → Looks old new (next.Inside e inner)
+inside_lies : {inside : ℕ} {b d : List ℕ} {start : ℕ} {old : Option (List ℕ)} {number : ℕ} (new : Option (List ℕ)) (offset : ℕ) (e : RawElement) (inner : RawDocument)
+    (first : ℕ) → LiesAt b start d → IsPassed inside d old number → offset + left_of old ≡ start + length d → Looks old new (next.Inside e inner)
     → first + length (bytes_of inner) ≡ offset + size_of (frame_of e) → LiesAt b first (bytes_of inner)
-inside_lies inside b d start None new number offset e inner first lies is begins looks far = absurd is.passed
-inside_lies inside b d start (Some s) new number offset e inner first lies is begins (r, v, at, m, holds, new_is) far =
+inside_lies {old = None} new offset e inner first lies is begins looks far = absurd is.passed
+inside_lies {d = d} {old = Some s} new offset e inner first lies is begins (r, v, at, m, holds, new_is) far =
     let bound = LeadsTo-bound (drop 4 d) is.frames s is.passed in
     let fits : length s ≤ length d = omega (arith, bound, length-drop 4 d) in
-    nested_lies b d start s (frame_of e) r (bytes_of inner) offset first lies (omega (arith, begins, fits)) fits
+    nested_lies (bytes_of inner) offset first lies (omega (arith, begins, fits)) fits
     (led_behind d is.frames s (length d - length s) lies.envelope.enough is.passed (omega (arith, fits))) at
     (nested_last (frame_of e).kind (frame_of e).payload v (bytes_of inner) m holds) inner.envelope far
 
 -- what is stored of the level around it
-inside_stored : (inside : ℕ) (b d : List ℕ) (start : ℕ) (old new : Option (List ℕ)) (number offset behind : ℕ) (e : RawElement) (inner : RawDocument)
-    (w : Waiting) → LiesAt b start d → IsPassed inside d old number → offset + left_of old ≡ start + length d → Looks old new (next.Inside e inner)
-    → behind ≡ offset + size_of (frame_of e) → w.start ≡ start → w.element ≡ offset → w.number ≡ number
-    → Stores b w (wait_behind start d new number behind (frame_of e).key)
-inside_stored inside b d start None new number offset behind e inner w lies is begins looks far starts there n = absurd is.passed
-inside_stored inside b d start (Some s) new number offset behind e inner w lies is begins (r, v, at, m, holds, new_is) far starts there n =
+inside_stored : {inside : ℕ} {b d : List ℕ} {start : ℕ} {old : Option (List ℕ)} {number : ℕ} (new : Option (List ℕ)) (offset behind : ℕ) (e : RawElement)
+    (inner : RawDocument) → LiesAt b start d → IsPassed inside d old number → offset + left_of old ≡ start + length d → Looks old new (next.Inside e inner)
+    → behind ≡ offset + size_of (frame_of e)
+    → Stores b (record { start = start; element = offset; number = number }) (wait_behind start d new number offset behind (frame_of e).key)
+inside_stored {old = None} new offset behind e inner lies is begins looks far = absurd is.passed
+inside_stored {b = b} {d = d} {start = start} {old = Some s} new offset behind e inner lies is begins (r, v, at, m, holds, new_is) far =
     let f : Frame = frame_of e in
     let enough : 5 ≤ length d = lies.envelope.enough in
     let bound = LeadsTo-bound (drop 4 d) is.frames s is.passed in
@@ -85,78 +84,50 @@ inside_stored inside b d start (Some s) new number offset behind e inner w lies 
     let fits : length s + 4 ≤ length d = omega (arith, bound, length-drop 4 d, enough) in
     let n_left : ℕ = length d - length s in
     let here : s ≡ drop n_left d = led_behind d is.frames s n_left enough is.passed (omega (arith, fits)) in
-    let place : start + n_left ≡ w.element = omega (arith, there, begins, fits) in
-    let left : drop w.element b ≡ s ++ lies.behind = ap (λ (m : ℕ). drop m b) (sym place) ∙ behind_in b d lies.behind start n_left lies.lies (omega arith)
+    let place : start + n_left ≡ offset = omega (arith, begins, fits) in
+    let left : drop offset b ≡ s ++ lies.behind = ap (λ (m : ℕ). drop m b) (sym place) ∙ behind_in b d lies.behind start n_left lies.lies (omega arith)
     ∙ ap (λ (x : List ℕ). x ++ lies.behind) (sym here) in
     let rest : r ≡ drop (behind - start) d = led_behind d (is.frames ++ f ∷ []) r (behind - start) enough (LeadsTo-more (drop 4 d) is.frames s f r is.passed at)
     (omega (arith, far, begins, size, fits)) in
     record {
-      start_is = starts;
-      number_is = n;
+      start_is = refl;
+      element_is = refl;
+      number_is = refl;
       lies = lies;
       frame = f;
       rest = r ++ lies.behind;
       at = subst (λ (x : List ℕ). IsFrame x f (r ++ lies.behind)) (sym left) (frame_more s f r lies.behind at);
-      first = omega (arith, there, begins, fits);
+      first = omega (arith, begins, fits);
       key_is = refl;
       elements_are = new_is ∙ ap Some rest;
       begins = omega (arith, far, begins, fits);
       ends = omega (arith, far, begins, size);
     }
 
--- a level, so many more being allowed inside it
-record IsIn (inside depth : ℕ) (b : List ℕ) (ws : List Wait) (d : List ℕ) (end : ℕ) (left : Option (List ℕ)) (number offset start : ℕ) : Type 0 where
-  is : IsPassed inside d left number
-  levels : suc (length ws + inside) ≡ depth
-  begins : offset + left_of left ≡ end
-  lies : LiesAt b start d
-  whole : start + length d ≡ end
-
 over : (inside : ℕ) (d : List ℕ) (old new : Option (List ℕ)) (number : ℕ) → IsPassed inside d old number → Looks old new next.End → left_of old ≡ 1
 over inside d None new number is looks = absurd is.passed
 over inside d (Some s) new number is looks = ap length looks
 
--- a barrier in front of what is left of the innermost level is that of b, at the offset of what is left
-front_outward : (inside depth : ℕ) (b : List ℕ) (ws : List Wait) (left : Option (List ℕ)) (number offset start : ℕ) (sort : Sort) (d : List ℕ) (end : ℕ)
-    (x : within.Barrier) (step : Step) → AreHeld inside as_document b (length b) ws sort d end → IsPassed inside d left number → suc (length ws + inside) ≡ depth
-    → offset + left_of left ≡ end → IsInFront inside d left x step → FirstFaultAt depth b x (map step_at ws ++ step ∷ []) offset
-front_outward inside depth b ws left number offset start sort d end x step held is levels begins bars =
-    let at : ℕ = length d - left_of left in
-    let there : at + left_of left ≡ length d = omega (arith, passed_left inside d left number is) in
-    let out = barrier_outward inside as_document b (length b) ws sort d end x step at offset held (bars at there) (omega (arith, there, begins)) in
-    let same : out.0 ≡ offset = omega (arith, out.2) in
-    subst (λ (u : ℕ). FirstFaultAt depth b x (map step_at ws ++ step ∷ []) u) same (subst (λ (n : ℕ). FirstFaultAt n b x (map step_at ws ++ step ∷ []) out.0) levels out.1)
-
-deep_at : (inside depth : ℕ) (b : List ℕ) (ws : List Wait) (old new : Option (List ℕ)) (number offset start : ℕ) (sort : Sort) (d : List ℕ) (end : ℕ)
-    (e : RawElement) (inner : RawDocument) → AreHeld inside as_document b (length b) ws sort d end → IsPassed inside d old number
-    → suc (length ws + inside) ≡ depth → offset + left_of old ≡ end → Looks old new (next.Inside e inner) → depth ≤ suc (length ws)
-    → FirstFaultAt depth b too_deep (map step_at ws ++ record { number = number; key = Some (frame_of e).key } ∷ []) offset
-deep_at (suc inside) depth b ws old new number offset start sort d end e inner held is levels begins looks many = absurd (omega (arith, levels, many))
-deep_at zero depth b ws old new number offset start sort d end e inner held is levels begins looks many =
-    front_outward 0 depth b ws old number offset start sort d end too_deep (record { number = number; key = Some (frame_of e).key }) held is levels begins
-    (passed_deep d old new number e inner is looks)
-
-opened_at : (inside depth : ℕ) (b : List ℕ) (ws : List Wait) (old new : Option (List ℕ)) (number offset start behind : ℕ) (e : RawElement) (inner : RawDocument)
-    (level : Level) (sort : Sort) (d : List ℕ) (end : ℕ) → AreHeld inside as_document b (length b) ws sort d end
-    → IsIn inside depth b ws d end old number offset start → Looks old new (next.Inside e inner) → suc (length ws) < depth
-    → behind ≡ offset + size_of (frame_of e) → IsOpened behind inner level
-    → IsAt depth b (ws ++ wait_behind start d new number behind (frame_of e).key ∷ []) level.elements level.number level.offset level.start
-opened_at zero depth b ws old new number offset start behind e inner level sort d end held at looks few far opens = absurd (omega (arith, at.levels, few))
-opened_at (suc inside) depth b ws old new number offset start behind e inner level sort d end held at looks few far opens =
-    let w : Wait = wait_behind start d new number behind (frame_of e).key in
-    let waits = passed_inside (suc inside) d old new number e inner w at.is looks refl refl refl refl in
-    let ends : w.offset + left_behind w ≡ end = omega (arith, far, at.begins, inside_size (suc inside) d old new number e inner at.is looks) in
+-- where the element of the outermost level is
+outermost_behind : {inside : ℕ} {d : List ℕ} {left : Option (List ℕ)} {number : ℕ} (b : List ℕ) (ws : List Wait) (sort : Sort) (end offset : ℕ)
+    (key : Option (List ℕ)) → IsPassed inside d left number → AreHeld inside as_document b (length b) ws sort d end → offset + left_of left ≡ end
+    → IsBehind b (first_number (map step_at ws ++ record { number = number; key = key } ∷ [])) (outermost_of ws offset)
+outermost_behind {left = None} b ws sort end offset key is held begins = absurd is.passed
+outermost_behind {left = Some s} b [] sort end offset key is held begins = record {
+  frames = is.frames;
+  s = s;
+  reaches = subst (λ (x : List ℕ). LeadsTo (drop 4 x) is.frames s) (sym held.1) is.passed;
+  number_is = is.number_is;
+  begins = omega (arith, begins, held.2);
+}
+outermost_behind {left = Some s} b (w ∷ ws) sort end offset key is held begins =
+    let size : size_of held.2.f + length held.2.r ≡ length held.2.s = frame_size held.2.s held.2.f held.2.r held.2.frame in
     record {
-      inside = inside;
-      sort = waits.0;
-      d = bytes_of inner;
-      end = behind;
-      held = held_more inside as_document b (length b) ws sort d end w waits.0 (bytes_of inner) held waits.1 ends;
-      is = begun inside (bytes_of inner) level.elements level.number opens.left_is opens.first_is;
-      levels = omega (arith, at.levels, length-append ws (w ∷ []));
-      begins = rw (opens.left_is) (opens.begins);
-      lies = inside_lies (suc inside) b d start old new number offset e inner level.start at.lies at.is (at.begins ∙ sym at.whole) looks (opens.starts ∙ far);
-      whole = opens.starts;
+      frames = held.2.frames;
+      s = held.2.s;
+      reaches = held.2.passed;
+      number_is = held.2.number_is;
+      begins = omega (arith, size, held.2.element_is, held.3, ap left_of held.2.left_is);
     }
 
 over_here : (old new : Option (List ℕ)) → Looks old new next.End → IsOver old
@@ -208,16 +179,30 @@ module _ {depth : ℕ} {b : List ℕ} {ws : List Wait} {old : Option (List ℕ)}
   module _ (new : Option (List ℕ)) (behind : ℕ) (e : RawElement) (inner : RawDocument) (looks : Looks old new (next.Inside e inner))
       (far : behind ≡ offset + size_of (frame_of e)) where
     abbrev pub waiting_then : Wait
-    waiting_then = wait_behind start at.d new number behind (frame_of e).key
+    waiting_then = wait_behind start at.d new number offset behind (frame_of e).key
 
     pub at_inside : (level : Level) → suc (length ws) < depth → IsOpened behind inner level → IsAt depth b (ws ++ waiting_then ∷ []) level.elements level.number level.offset level.start
     at_inside level few opens =
-        opened_at at.inside depth b ws old new number offset start behind e inner level at.sort at.d at.end at.held
-        (record { is = at.is; levels = at.levels; begins = at.begins; lies = at.lies; whole = at.whole }) looks few far opens
+        let less : ℕ = at.inside - 1 in
+        let more : at.inside ≡ suc less = omega (arith, at.levels, few) in
+        let held : AreHeld (suc less) as_document b (length b) ws at.sort at.d at.end = subst (λ (n : ℕ). AreHeld n as_document b (length b) ws at.sort at.d at.end) more at.held in
+        let is : IsPassed (suc less) at.d old number = subst (λ (n : ℕ). IsPassed n at.d old number) more at.is in
+        let waits = passed_inside new start offset behind e inner is looks far in
+        record {
+          inside = less;
+          sort = waits.0;
+          d = bytes_of inner;
+          end = behind;
+          held = held_more as_document b (length b) ws at.sort at.end held waits.1 (omega (arith, far, at.begins, (at_inside_size new e inner looks).0));
+          is = begun less (bytes_of inner) level.elements level.number opens.left_is opens.first_is;
+          levels = omega (arith, at.levels, more, length-append ws (waiting_then ∷ []));
+          begins = rw (opens.left_is) (opens.begins);
+          lies = inside_lies new offset e inner level.start at.lies is (at.begins ∙ sym at.whole) looks (opens.starts ∙ far);
+          whole = opens.starts;
+        }
 
-    pub at_stored : (w : Waiting) → w.start ≡ start → w.element ≡ offset → w.number ≡ number → Stores b w waiting_then
-    at_stored w starts there n =
-        inside_stored at.inside b at.d start old new number offset behind e inner w at.lies at.is (at.begins ∙ sym at.whole) looks far starts there n
+    pub at_stored : Stores b (record { start = start; element = offset; number = number }) waiting_then
+    at_stored = inside_stored new offset behind e inner at.lies at.is (at.begins ∙ sym at.whole) looks far
 
   -- the final 0 is in front, and within b
   pub over_end : (new : Option (List ℕ)) → Looks old new next.End → IsOver old
@@ -233,22 +218,35 @@ module _ {depth : ℕ} {b : List ℕ} {ws : List Wait} {old : Option (List ℕ)}
       let same : suc at.inside ≡ depth = omega (arith, at.levels, ap length none) in
       (tree_of_pairs as_document read.0, subst (λ (n : ℕ). ReadsUpTo n as_document b (tree_of_pairs as_document read.0)) same read.1)
 
-  -- a barrier in front of what is left
+  -- a barrier in front of what is left of the innermost level is that of b, at the offset of what is left
+  front_outward : (x : within.Barrier) (step : Step) → IsInFront at.inside at.d old x step → FirstFaultAt depth b x (map step_at ws ++ step ∷ []) offset
+  front_outward x step bars =
+      let here : ℕ = length at.d - left_of old in
+      let there : here + left_of old ≡ length at.d = omega (arith, passed_left at.inside at.d old number at.is) in
+      let is : IsBarred at.inside at.d x step here = record { bars = bars here there } in
+      let out = barrier_outward as_document b (length b) ws at.sort at.end offset at.held is (omega (arith, there, at.begins)) in
+      let same : out.0 ≡ offset = omega (arith, out.2) in
+      subst (λ (u : ℕ). FirstFaultAt depth b x (map step_at ws ++ step ∷ []) u) same
+      (subst (λ (n : ℕ). FirstFaultAt n b x (map step_at ws ++ step ∷ []) out.0) at.levels out.1)
+
   pub at_fault : (new : Option (List ℕ)) (key : Option (Bor (List ℕ))) (e : BorrowedError) → Looks old new (next.Fault key e)
       → (fault : KeyedFault) × FirstFaultAt depth b (fault_of fault) (map step_at ws ++ record { number = number; key = option_copied key } ∷ []) offset
       × TellsBorrowed e fault
   at_fault new key e looks =
-      let bad = passed_fault at.inside at.d old new number key e at.is looks in (
-        bad.0,
-        front_outward at.inside depth b ws old number offset start at.sort at.d at.end (fault_of bad.0)
-            (record { number = number; key = option_copied key }) at.held at.is at.levels at.begins bad.1,
-        bad.2,
-      )
+      let bad = passed_fault at.inside at.d old new number key e at.is looks in
+      (bad.0, front_outward (fault_of bad.0) (record { number = number; key = option_copied key }) bad.1, bad.2)
 
   pub at_deep : (new : Option (List ℕ)) (e : RawElement) (inner : RawDocument) → Looks old new (next.Inside e inner) → depth ≤ suc (length ws)
       → FirstFaultAt depth b too_deep (map step_at ws ++ record { number = number; key = Some (frame_of e).key } ∷ []) offset
   at_deep new e inner looks many =
-      deep_at at.inside depth b ws old new number offset start at.sort at.d at.end e inner at.held at.is at.levels at.begins looks many
+      let step : Step = record { number = number; key = Some (frame_of e).key } in
+      let none : at.inside ≡ 0 = omega (arith, at.levels, many) in
+      let here = passed_deep at.d old new number e inner (subst (λ (n : ℕ). IsPassed n at.d old number) none at.is) looks in
+      front_outward too_deep step (subst (λ (n : ℕ). IsInFront n at.d old too_deep step) (sym none) here)
+
+  -- the element of the outermost level that holds the innermost, or is next in it
+  pub at_outermost : (key : Option (List ℕ)) → IsBehind b (first_number (map step_at ws ++ record { number = number; key = key } ∷ [])) (outermost_of ws offset)
+  at_outermost key = outermost_behind b ws at.sort at.end offset key at.is at.held at.begins
 
 -- of the levels that wait the innermost is taken
 pub record IsPopped (depth : ℕ) (b : List ℕ) (rest : List Waiting) (c : Waiting) (ws : List Wait) (old : Option (List ℕ)) (number offset start : ℕ) : Type 0 where

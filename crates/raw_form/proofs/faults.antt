@@ -1,0 +1,3 @@
+pub mod OneBarrier
+pub mod OnePlace
+pub mod Within

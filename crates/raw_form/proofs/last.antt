@@ -1,0 +1,3 @@
+pub mod KeptPairs
+pub mod Listed
+pub mod Places

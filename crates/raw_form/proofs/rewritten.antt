@@ -1,0 +1,3 @@
+pub mod KnownFrames
+pub mod Members
+pub mod OwnForms

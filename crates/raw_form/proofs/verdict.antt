@@ -1,0 +1,3 @@
+pub mod JudgedAt
+pub mod JudgedLevels
+pub mod OneVerdict

@@ -1,0 +1,4 @@
+pub mod Levels
+pub mod Offsets
+pub mod Outward
+pub mod Passed
