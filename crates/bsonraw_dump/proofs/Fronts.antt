@@ -8,6 +8,10 @@ pub on_err : {A E : Type 0} (r : Result A E) (P Q : Type 0) → (P → Q) → On
 on_err (Ok x) P Q f h = h
 on_err (Err e) P Q f h = f h
 
+pub on_errs : {A E : Type 0} (r : Result A E) (P Q R : Type 0) → (P → Q → R) → OnErr r P → OnErr r Q → OnErr r R
+on_errs (Ok x) P Q R f h k = h
+on_errs (Err e) P Q R f h k = f h k
+
 pub on_any : {A E : Type 0} (r : Result A E) (P : Type 0) → P → OnErr r P
 on_any (Ok x) P h = tt
 on_any (Err e) P h = h

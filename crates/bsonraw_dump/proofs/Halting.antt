@@ -99,9 +99,9 @@ module _ (c : Command) (style : Style) (resync : Bool) (name : List ℕ) (r r' d
 
 module _ (c : Command) (style : Style) (resync : Bool) (name : List ℕ) (r r' d d' w w' : Option (List ℕ)) (n n' : Counts) (k k' : Kept) where
   -- what is next isn't passed
-  halts_with : (d'' w'' : Option (List ℕ)) (ahead : List ℕ) (ps : List Part) → Passed c style resync name ahead r r' d d' w w' n n' k k' ps
-      → HaltsAhead c style resync name r (length (bytes_of_parts ps)) (fold work_behind no_work ps) k' d' d'' w' w'' → Halts c style resync name r d d'' w w'' k
-  halts_with d'' w'' ahead ps p halts = record {
+  halts_with : (d'' w'' : Option (List ℕ)) (n'' : Counts) (ahead : List ℕ) (ps : List Part) → Passed c style resync name ahead r r' d d' w w' n n' k k' ps → n'' ≡ n'
+      → HaltsAhead c style resync name r (length (bytes_of_parts ps)) (fold work_behind no_work ps) k' d' d'' w' w'' → Halts c style resync name r d d'' w w'' n n'' k
+  halts_with d'' w'' n'' ahead ps p counted halts = record {
     ps = ps;
     in_front = read_front (bytes_of_parts ps) ahead r r' p.is_read;
     parts = p.parts;
@@ -110,23 +110,24 @@ module _ (c : Command) (style : Style) (resync : Bool) (name : List ℕ) (r r' d
     kept_between = k';
     is_written = p.is_written;
     is_reported = p.is_reported;
+    is_counted = counted ∙ p.is_counted;
     halts = halts;
   }
 
   -- nothing comes of it
-  pub halts_here : (ahead : List ℕ) (ps : List Part) → Passed c style resync name ahead r r' d d' w w' n n' k k' ps → Halts c style resync name r d d' w w' k
-  halts_here ahead ps p = halts_with d' w' ahead ps p (inr (refl, inl refl))
+  pub halts_here : (ahead : List ℕ) (ps : List Part) → Passed c style resync name ahead r r' d d' w w' n n' k k' ps → Halts c style resync name r d d' w w' n n' k
+  halts_here ahead ps p = halts_with d' w' n' ahead ps p refl (inr (refl, inl refl))
 
   -- a front of the piece that is next, or nothing
-  pub halts_next : (d'' w'' : Option (List ℕ)) (x : Window) (v : Work) → HasPassed c style resync name (ahead_of x) r r' d d' w w' n n' k k' x.offset v
-      → HaltsNext c style resync name r' x v k' d' d'' w' w'' → Halts c style resync name r d d'' w w'' k
-  halts_next d'' w'' x v h (inl (out, report)) = halts_with d'' w'' (ahead_of x) h.ps h.passed (inr (out, inl report))
-  halts_next d'' w'' x v h (inr (b, is, there, halts)) =
+  pub halts_next : (d'' w'' : Option (List ℕ)) (n'' : Counts) (x : Window) (v : Work) → HasPassed c style resync name (ahead_of x) r r' d d' w w' n n' k k' x.offset v
+      → HaltsNext c style resync name r' x v k' d' d'' w' w'' → n'' ≡ n' → Halts c style resync name r d d'' w w'' n n'' k
+  halts_next d'' w'' n'' x v h (inl (out, report)) counted = halts_with d'' w'' n'' (ahead_of x) h.ps h.passed counted (inr (out, inl report))
+  halts_next d'' w'' n'' x v h (inr (b, is, there, halts)) counted =
       let bytes = bytes_of_parts h.ps in
       let work = fold work_behind no_work h.ps in
       let here : (s : List ℕ) → Consumes (Some s) r' (ahead_of x) → IsNextPiece resync s (length bytes) work b = λ s all.
       subst (λ (u : Work). IsNextPiece resync s (length bytes) u b) h.worked (subst (λ (m : ℕ). IsNextPiece resync s m v b) h.at (there s all)) in
-      halts_with d'' w'' (ahead_of x) h.ps h.passed (inl (
+      halts_with d'' w'' n'' (ahead_of x) h.ps h.passed counted (inl (
         b,
         is,
         input_behind bytes (ahead_of x) r r' (λ s. IsNextPiece resync s (length bytes) work b) h.passed.is_read here,
@@ -134,25 +135,25 @@ module _ (c : Command) (style : Style) (resync : Bool) (name : List ℕ) (r r' d
       ))
 
   -- a front of the line of a gap
-  pub halts_gap : (r'' q w'' : Option (List ℕ)) (x y z : Window) (v v' v'' : Work) (e : Ending) → HasPassed c style resync name (ahead_of x) r r' d d' w w' n n' k k' x.offset v
-      → TellsPart resync r' r'' x y v v' (next.End e) → resync ≡ true → HaltsInGap style name e r'' q y z v' v'' w' w'' → Halts c style resync name r d d' w w'' k
-  halts_gap r'' q w'' x y z v v' v'' e h t asked (inl same) = halts_with d' w'' (ahead_of x) h.ps h.passed (inr (refl, inl same))
-  halts_gap r'' q w'' x y z v v' v'' e h t asked (inr (skip, skips, front)) =
+  pub halts_gap : (r'' q w'' : Option (List ℕ)) (n'' : Counts) (x y z : Window) (v v' v'' : Work) (e : Ending) → HasPassed c style resync name (ahead_of x) r r' d d' w w' n n' k k' x.offset v
+      → TellsPart resync r' r'' x y v v' (next.End e) → resync ≡ true → HaltsInGap style name e r'' q y z v' v'' w' w'' → n'' ≡ n' → Halts c style resync name r d d' w w'' n n'' k
+  halts_gap r'' q w'' n'' x y z v v' v'' e h t asked (inl same) counted = halts_with d' w'' n'' (ahead_of x) h.ps h.passed counted (inr (refl, inl same))
+  halts_gap r'' q w'' n'' x y z v v' v'' e h t asked (inr (skip, skips, front)) counted =
       let bytes = bytes_of_parts h.ps in
       let at : y.offset ≡ length bytes = t.searches.stays.offset ∙ h.at in
       let is = gap_of c style resync name x y z r r' r'' q d d' w w' n n' k k' v v' v'' e skip h t asked skips in
       let put = subst (λ (m : ℕ). AppendsFront w' w'' (ending_line style name m e (rest.PassedOver skip))) at front in
-      halts_with d' w'' (ahead_of x) h.ps h.passed (inr (refl, inr (_, inl (_, is, refl), put)))
+      halts_with d' w'' n'' (ahead_of x) h.ps h.passed counted (inr (refl, inr (_, inl (_, is, refl), put)))
 
   -- a front of the line of what is left
-  pub halts_left : (r'' w'' : Option (List ℕ)) (y : Window) (e : Ending) → PassesAll c style resync name r r' d d' w w' n n' k k' y (stop.Left e)
-      → HaltsLeaving style name e r' r'' y w' w'' → Halts c style resync name r d d' w w'' k
-  halts_left r'' w'' y e p (inl same) = halts_with d' w'' p.left p.ps p.passed (inr (refl, inl same))
-  halts_left r'' w'' y e p (inr (more, read, ends, front)) =
+  pub halts_left : (r'' w'' : Option (List ℕ)) (n'' : Counts) (y : Window) (e : Ending) → PassesAll c style resync name r r' d d' w w' n n' k k' y (stop.Left e)
+      → HaltsLeaving style name e r' r'' y w' w'' → n'' ≡ n' → Halts c style resync name r d d' w w'' n n'' k
+  halts_left r'' w'' n'' y e p (inl same) counted = halts_with d' w'' n'' p.left p.ps p.passed counted (inr (refl, inl same))
+  halts_left r'' w'' n'' y e p (inr (more, read, ends, front)) counted =
       let (ahead, at, first, behind, unasked) = p.stops in
       let bytes = bytes_of_parts p.ps in
       let left = ahead_of y ++ more in
       let here : (s : List ℕ) → Consumes (Some s) r' p.left → HasFront s left = λ s all. ahead_front s left r'' (read (Some s) (subst (Consumes (Some s) r') ahead all)) in
       let there : IfSome r (λ s. HasFront (drop (length bytes) s) left) = input_behind bytes p.left r r' (λ s. HasFront s left) p.passed.is_read here in
       let put = subst (λ (m : ℕ). AppendsFront w' w'' (ending_line style name m e (rest.NotRead (length left)))) at front in
-      halts_with d' w'' p.left p.ps p.passed (inr (refl, inr (_, inr (e, left, ends, unasked, there, refl), put)))
+      halts_with d' w'' n'' p.left p.ps p.passed counted (inr (refl, inr (_, inr (e, left, ends, unasked, there, refl), put)))

@@ -3,7 +3,7 @@ use Rattle.std.proofs.Common.{◌≡◌, ◌+◌, ◌<◌, ◌≤◌, ℕ, List,
 use Rattle.std.proofs.lemmas.List.{drop_all, drop_more, map-append, map_more, take-append-drop}
 use Rattle.std.specs.Io.KnownBytes.{Appends, Keeps}
 use Rattle.bson_json.specs.Written.{AppendsFront}
-use Rattle.bsonraw_dump.specs.Batch.{Comes, CountsInput, CountsRun, IsRun, RunsFront, RunsOver, State, HaltsBefore, HaltsWithin, all_line, input_line, state_of}
+use Rattle.bsonraw_dump.specs.Batch.{Comes, CountsInput, CountsMore, CountsRun, IsRun, RunsFront, RunsOver, State, HaltsBefore, HaltsWithin, all_line, input_line, state_of}
 use Rattle.bsonraw_dump.specs.Halting.{Halts}
 use Rattle.bsonraw_dump.specs.Run.{Ends, no_counts, plus}
 use Rattle.bsonraw_dump.specs.declared.batch.Job.{Job}
@@ -32,29 +32,27 @@ module _ (job : Job) (bytes_of : List ℕ → Option (List ℕ)) where
 
   -- a failure comes behind the first of these
   pub runs_front : {A : Type 0} (f : A → List ℕ) (names : List A) (i : ℕ) (first last : State) (d w : Option (List ℕ)) (n : Counts) → RunsOver job bytes_of (map f (take i names)) first last
-      → HaltsBefore job bytes_of (map f (drop i names)) last d w → (counts : Counts) × (n ≡ plus last.counts counts) → RunsFront job bytes_of (map f names) first d w n
-  runs_front f names i first last d w n runs halts (counts, is) = record {
+      → HaltsBefore job bytes_of (map f (drop i names)) last d w n → RunsFront job bytes_of (map f names) first d w n
+  runs_front f names i first last d w n runs halts = record {
     passed = map f (take i names);
     others = map f (drop i names);
     in_order = ap (map f) (sym (take-append-drop i names)) ∙ map-append f (take i names) (drop i names);
     last = last;
     runs = runs;
     halts = halts;
-    counts = counts;
-    is_counted = is;
   }
 
   -- in the next one
-  pub halts_next : {A : Type 0} (f : A → List ℕ) (names : List A) (i : ℕ) (x : A) (last : State) (d w : Option (List ℕ)) → i < length names
-      → HaltsWithin job (f (get_or names i x)) (bytes_of (f (get_or names i x))) last.out d last.report w last.kept → HaltsBefore job bytes_of (map f (drop i names)) last d w
-  halts_next f names i x last d w there stops =
-      subst (λ xs. HaltsBefore job bytes_of (map f xs) last d w) (sym (drop_more names i x there)) stops
+  pub halts_next : {A : Type 0} (f : A → List ℕ) (names : List A) (i : ℕ) (x : A) (last : State) (d w : Option (List ℕ)) (n : Counts) → i < length names
+      → HaltsWithin job (f (get_or names i x)) (bytes_of (f (get_or names i x))) last.out d last.report w last.kept last.counts n → HaltsBefore job bytes_of (map f (drop i names)) last d w n
+  halts_next f names i x last d w n there stops =
+      subst (λ xs. HaltsBefore job bytes_of (map f xs) last d w n) (sym (drop_more names i x there)) stops
 
   -- behind all of them
   pub halts_behind : {A : Type 0} (f : A → List ℕ) (names : List A) (i : ℕ) (last : State) (d w : Option (List ℕ)) → length names ≤ i
-      → Keeps last.out d → AppendsFront last.report w (all_line job job.command last.counts last.kept) → HaltsBefore job bytes_of (map f (drop i names)) last d w
+      → Keeps last.out d → AppendsFront last.report w (all_line job job.command last.counts last.kept) → HaltsBefore job bytes_of (map f (drop i names)) last d w last.counts
   halts_behind f names i last d w all kept front =
-      subst (λ xs. HaltsBefore job bytes_of (map f xs) last d w) (sym (drop_all i names all)) (kept, front)
+      subst (λ xs. HaltsBefore job bytes_of (map f xs) last d w last.counts) (sym (drop_all i names all)) (kept, front, refl)
 
 -- nothing more is counted
 pub plus_none : (n : Counts) → plus n no_counts ≡ n
@@ -69,10 +67,6 @@ plus_none n = λ i. record {
   files = add-zero n.files i;
 }
 
--- so much was counted, and nothing more
-pub counts_none : (n m : Counts) → m ≡ n → (counts : Counts) × (m ≡ plus n counts)
-counts_none n m same = (no_counts, subst (λ (k : Counts). m ≡ k) (sym (plus_none n)) same)
-
 module _ (job : Job) (name : List ℕ) (input : Option (List ℕ)) (d d' w w' w'' : Option (List ℕ)) (t t' : Totals) (n : Counts) where
   -- the input was open
   pub counts_open : (r : Option (List ℕ)) → r ≡ input → CountsRun job name r d d' w w' t t' n → CountsInput job name input d d' w w' t t' n
@@ -85,18 +79,23 @@ module _ (job : Job) (name : List ℕ) (input : Option (List ℕ)) (d d' w w' w'
       record { counts = n; goes_on = goes_on; report_between = w'; is = is; told = told; is_counted = counted; cut = cut }
 
   -- a front of its line is written
-  pub halts_line : CountsInput job name input d d' w w' t t' n → AppendsFront w' w'' (input_line job job.command name n) → HaltsWithin job name input d d' w w'' t.kept
-  halts_line (goes_on, is, counted, cut) front = inr (w', t'.kept, n, goes_on, is, front)
+  pub halts_line : CountsInput job name input d d' w w' t t' n → AppendsFront w' w'' (input_line job job.command name n) → HaltsWithin job name input d d' w w'' t.kept t.counts t'.counts
+  halts_line (goes_on, is, counted, cut) front = inr (w', t'.kept, n, goes_on, is, front, inl counted)
 
 -- nothing comes of an input
-pub halts_unread : (job : Job) (name : List ℕ) (input d w : Option (List ℕ)) (k : Kept) → HaltsWithin job name input d d w w k
-halts_unread job name input d w k =
-    inl (halts_here job.command job.style job.resync name input input d d w w no_counts no_counts k k [] [] (passed_none job.command job.style job.resync name input d w no_counts k))
+pub halts_unread : (job : Job) (name : List ℕ) (input d w : Option (List ℕ)) (k : Kept) (m m' : Counts) → m' ≡ m → HaltsWithin job name input d d w w k m m'
+halts_unread job name input d w k m m' same =
+    inl (
+      no_counts,
+      halts_here job.command job.style job.resync name input input d d w w no_counts no_counts k k [] []
+          (passed_none job.command job.style job.resync name input d w no_counts k),
+      inl (same ∙ sym (plus_none m)),
+    )
 
--- a run over an input was whole, or failed, and its line isn't written
-pub halts_run : (job : Job) (name : List ℕ) (input left d d' w w' : Option (List ℕ)) (n : Counts) (k k' : Kept) (r : Result (Option ReadFailure) Failure)
-    → IfOk r (Ends job.command job.style job.resync name input left d d' w w' no_counts n k k') → OnErr r (Halts job.command job.style job.resync name input d d' w w' k)
-    → HaltsWithin job name input d d' w w' k
-halts_run job name input left d d' w w' n k k' (Ok failed) ends halts =
-    inr (w', k', n, is_none failed, inl (record { left = left; failed = failed; ends = ends; could = refl }), front_none w' _)
-halts_run job name input left d d' w w' n k k' (Err e) ends halts = inl halts
+-- A run over an input was whole, or failed, and its line isn't written. So much more is counted.
+pub halts_run : (job : Job) (name : List ℕ) (input left d d' w w' : Option (List ℕ)) (n : Counts) (k k' : Kept) (m m' : Counts) (r : Result (Option ReadFailure) Failure)
+    → IfOk r (Ends job.command job.style job.resync name input left d d' w w' no_counts n k k')
+    → OnErr r (Halts job.command job.style job.resync name input d d' w w' no_counts n k) → CountsMore m n m' → HaltsWithin job name input d d' w w' k m m'
+halts_run job name input left d d' w w' n k k' m m' (Ok failed) ends halts counted =
+    inr (w', k', n, is_none failed, inl (record { left = left; failed = failed; ends = ends; could = refl }), front_none w' _, counted)
+halts_run job name input left d d' w w' n k k' m m' (Err e) ends halts counted = inl (n, halts, counted)

@@ -1,5 +1,5 @@
 -- What a run over several inputs reads, writes and counts, and how it ends.
-use Rattle.std.specs.Prelude.{◌≡◌, ◌⊎◌, ◌++◌, ◌∷◌, ℕ, List, [], Bool, false, Option, None, Some, cond, is_none, nat_lt}
+use Rattle.std.specs.Prelude.{◌≡◌, ◌⊎◌, ◌++◌, ◌∷◌, ◌<◌, ◌^◌, ℕ, List, [], Bool, false, Option, None, Some, cond, is_none, nat_lt}
 use Rattle.std.specs.Option.{option_map}
 use Rattle.std.specs.Io.KnownBytes.{Appends, Keeps}
 use Rattle.bson_json.specs.Written.{AppendsFront}
@@ -116,29 +116,44 @@ pub record RunsAll (job : Job) (bytes_of : List ℕ → Option (List ℕ)) (name
   pub out : Keeps last.out out_new
   pub report : Appends last.report report_new (all_line job job.command last.counts last.kept)
 
+-- each of these is in the range of a count
+pub record AreInRange (n : Counts) : Type 0 where
+  pub documents : n.documents < 2 ^ 64
+  pub bytes : n.bytes < 2 ^ 64
+  pub breached : n.breached < 2 ^ 64
+  pub damaged : n.damaged < 2 ^ 64
+  pub too_deep : n.too_deep < 2 ^ 64
+  pub passed_over : n.passed_over < 2 ^ 64
+  pub not_read : n.not_read < 2 ^ 64
+  pub files : n.files < 2 ^ 64
+
+-- so much more is counted; nothing where a sum would be over the range of a count
+abbrev pub CountsMore : (counts_old counts counts_new : Counts) → Type 0
+CountsMore counts_old counts counts_new = (counts_new ≡ plus counts_old counts) ⊎ ((¬ AreInRange (plus counts_old counts)) × (counts_new ≡ counts_old))
+
 -- An input isn't done with: the run over it fails. Or it was run over whole, or wasn't opened, and a front of its line is written.
-abbrev pub HaltsWithin : Job → List ℕ → (input out_old out_new report_old report_new : Option (List ℕ)) → Kept → Type 0
-HaltsWithin job name input out_old out_new report_old report_new kept =
-    Halts job.command job.style job.resync name input out_old out_new report_old report_new kept
+abbrev pub HaltsWithin : Job → List ℕ → (input out_old out_new report_old report_new : Option (List ℕ)) → Kept → (counts_old counts_new : Counts) → Type 0
+HaltsWithin job name input out_old out_new report_old report_new kept counts_old counts_new =
+    ((counts : Counts) × Halts job.command job.style job.resync name input out_old out_new report_old report_new no_counts counts kept × CountsMore counts_old counts counts_new)
     ⊎ ((report_between : Option (List ℕ)) × (kept_new : Kept) × (counts : Counts) × (goes_on : Bool)
-    × IsInput job name input out_old out_new report_old report_between kept kept_new counts goes_on × AppendsFront report_between report_new (input_line job job.command name counts))
+    × IsInput job name input out_old out_new report_old report_between kept kept_new counts goes_on × AppendsFront report_between report_new (input_line job job.command name counts)
+    × CountsMore counts_old counts counts_new)
 
 -- What is written of the first of these inputs, which isn't done with. Where none is left, a front of the line of all.
-abbrev pub HaltsBefore : Job → (bytes_of : List ℕ → Option (List ℕ)) → List (List ℕ) → State → (out_new report_new : Option (List ℕ)) → Type 0
-HaltsBefore job bytes_of [] last out_new report_new = Keeps last.out out_new × AppendsFront last.report report_new (all_line job job.command last.counts last.kept)
-HaltsBefore job bytes_of (name ∷ names) last out_new report_new = HaltsWithin job name (bytes_of name) last.out out_new last.report report_new last.kept
+abbrev pub HaltsBefore : Job → (bytes_of : List ℕ → Option (List ℕ)) → List (List ℕ) → State → (out_new report_new : Option (List ℕ)) → Counts → Type 0
+HaltsBefore job bytes_of [] last out_new report_new counts_new =
+    Keeps last.out out_new × AppendsFront last.report report_new (all_line job job.command last.counts last.kept) × (counts_new ≡ last.counts)
+HaltsBefore job bytes_of (name ∷ names) last out_new report_new counts_new =
+    HaltsWithin job name (bytes_of name) last.out out_new last.report report_new last.kept last.counts counts_new
 
--- Some of the inputs of these names were run over, from this state on, in order; and then a failure came, in the next, or behind all. What was
--- counted until then is all that was counted of these, and perhaps some more.
+-- Some of the inputs of these names were run over, from this state on, in order; and then a failure came, in the next, or behind all.
 pub record RunsFront (job : Job) (bytes_of : List ℕ → Option (List ℕ)) (names : List (List ℕ)) (first : State) (out_new report_new : Option (List ℕ)) (counts_new : Counts) : Type 0 where
   pub passed : List (List ℕ)
   pub others : List (List ℕ)
   pub in_order : names ≡ passed ++ others
   pub last : State
   pub runs : RunsOver job bytes_of passed first last
-  pub halts : HaltsBefore job bytes_of others last out_new report_new
-  pub counts : Counts
-  pub is_counted : counts_new ≡ plus last.counts counts
+  pub halts : HaltsBefore job bytes_of others last out_new report_new counts_new
 
 -- how a run over the inputs of these names ends from this state on
 abbrev pub EndsAll : Job → (bytes_of : List ℕ → Option (List ℕ)) → List (List ℕ) → State → (out_new report_new : Option (List ℕ)) → Option Lack → Status → Type 0

@@ -10,11 +10,12 @@ use Rattle.bsonraw_dump.specs.Fronts.{HasFront, WritesFront}
 use Rattle.bsonraw_dump.specs.Listing.{HasListingFront}
 use Rattle.bsonraw_dump.specs.Reading.{ahead_of}
 use Rattle.bsonraw_dump.specs.Resync.{IsBelieved, SkipsTo, Spends}
-use Rattle.bsonraw_dump.specs.Run.{AreParts, Gap, IsGap, Makes, Part, Reports, Writes, bytes_of_parts, head_text, lines_of_parts, made_of_parts, work_behind}
+use Rattle.bsonraw_dump.specs.Run.{AreParts, Gap, IsGap, Makes, Part, Reports, Writes, bytes_of_parts, count_part, head_text, lines_of_parts, made_of_parts, work_behind}
 use Rattle.bsonraw_dump.specs.Told.{ending_line, last_line, line}
 use Rattle.bsonraw_dump.specs.Unique.{knows, written_of}
 use Rattle.bsonraw_dump.specs.declared.command.Command.{Command}
 use Rattle.bsonraw_dump.specs.declared.command.Command.TheVariants as command
+use Rattle.bsonraw_dump.specs.declared.counts.Counts.{Counts}
 use Rattle.bsonraw_dump.specs.declared.ending.Ending.{Ending}
 use Rattle.bsonraw_dump.specs.declared.ending.Rest.TheVariants as rest
 use Rattle.bsonraw_dump.specs.declared.find.Finding.{Finding}
@@ -68,8 +69,10 @@ HaltsAhead c style resync name input offset work kept out_old out_new report_old
     ((b : List ℕ) × IsPiece b × IfSome input (λ s. IsNextPiece resync (drop offset s) offset work b) × HaltsIn c style name offset b kept out_old out_new report_old report_new)
     ⊎ ((out_new ≡ out_old) × WritesFront (IsNextLine style resync name input offset work) report_old report_new)
 
--- How a run over an input fails. These parts are in front of it. What they give was written and reported, and of what is next a front.
-pub record Halts (c : Command) (style : Style) (resync : Bool) (name : List ℕ) (input out_old out_new report_old report_new : Option (List ℕ)) (kept_old : Kept) : Type 0 where
+-- How a run over an input fails. These parts are in front of it. What they give was written, reported and counted, and of what is next a
+-- front was written or reported.
+pub record Halts (c : Command) (style : Style) (resync : Bool) (name : List ℕ) (input out_old out_new report_old report_new : Option (List ℕ))
+    (counts_old counts_new : Counts) (kept_old : Kept) : Type 0 where
   pub ps : List Part
   pub in_front : IfSome input (λ s. HasFront s (bytes_of_parts ps))
   pub parts : AreParts c style resync name input 0 no_work ps
@@ -78,6 +81,7 @@ pub record Halts (c : Command) (style : Style) (resync : Bool) (name : List ℕ)
   pub kept_between : Kept
   pub is_written : Writes c (made_of_parts ps) out_old out_between kept_old kept_between
   pub is_reported : Appends report_old report_between (lines_of_parts ps)
+  pub is_counted : counts_new ≡ fold count_part counts_old ps
   pub halts : HaltsAhead c style resync name input (length (bytes_of_parts ps)) (fold work_behind no_work ps) kept_between out_between out_new report_between report_new
 
 -- What the code tells of a run that fails. No public contract cites what follows.

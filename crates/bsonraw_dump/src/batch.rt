@@ -5,7 +5,7 @@ ghost use Rattle.std.specs.Prelude.{◌≡◌, None, map, IfErr, IfOk, MatchBool
 ghost use Rattle.std.specs.Io.KnownBytes.{Appends, Keeps};
 ghost use Rattle.std.specs.Option.{option_map};
 ghost use Rattle.bson_json.specs.Written.{AppendsFront};
-ghost use Rattle.bsonraw_dump.specs.Batch.{Comes, CountsInput, CountsRun, IsDone, KeepsNothing, RunsAll, RunsFront, State, HaltsWithin, all_line, cut_of, first_cut, input_line, input_of, state_of};
+ghost use Rattle.bsonraw_dump.specs.Batch.{AreInRange, Comes, CountsInput, CountsRun, IsDone, KeepsNothing, RunsAll, RunsFront, State, HaltsWithin, all_line, cut_of, first_cut, input_line, input_of, state_of};
 ghost use Rattle.bsonraw_dump.specs.Run.{IsReading, no_counts, plus};
 ghost use Rattle.bsonraw_dump.specs.Status.{HasDamage, IsFailureStatus, IsStatus};
 
@@ -87,7 +87,7 @@ impl<'a> Totals<'a> {
     /// So many were read of one input more.
     fn add(&mut self, name: &'a str, counts: Counts, goes_on: bool) -> Result<(), Failure>
         ensures counted { OnOk result (self.new.counts ≡ plus self.old.counts counts) }
-        ensures uncounted { OnErr result (self.new.counts ≡ self.old.counts) }
+        ensures uncounted { OnErr result ((¬ AreInRange (plus self.old.counts counts)) × (self.new.counts ≡ self.old.counts)) }
         ensures cut { option_map cut_of self.new.cut ≡ first_cut (option_map cut_of self.old.cut) counts (input_of name.entry.now goes_on) }
         ensures kept { self.new.kept ≡ self.old.kept }
         ensures failed { IfErr result (λ failure. ¬ IsReading failure) }
@@ -162,9 +162,8 @@ fn run_one<'a, I: Inputs, D: Write, W: Write>(
 ) -> Result<(), Failure>
     ensures comes { OnOk result (Comes job (I.bytes_of inputs.now name.entry.now) name.entry.now
         (state_of (D.contents out.old) (W.contents report.old) totals.old) (state_of (D.contents out.new) (W.contents report.new) totals.new)) }
-    ensures fails { OnErr result ((counts : Counts) × (totals.new.counts ≡ plus totals.old.counts counts)) }
     ensures halts { OnErr result (HaltsWithin job name.entry.now (I.bytes_of inputs.now name.entry.now)
-        (D.contents out.old) (D.contents out.new) (W.contents report.old) (W.contents report.new) totals.old.kept) }
+        (D.contents out.old) (D.contents out.new) (W.contents report.old) (W.contents report.new) totals.old.kept totals.old.counts totals.new.counts) }
     ensures failed { IfErr result (λ failure. ¬ IsReading failure) }
 {
     let counts = count_one(alloc, job, inputs, name, out, report, totals)?;
@@ -183,9 +182,8 @@ fn count_one<'a, I: Inputs, D: Write, W: Write>(
 ) -> Result<Counts, Failure>
     ensures counted { IfOk result (CountsInput job name.entry.now (I.bytes_of inputs.now name.entry.now) (D.contents out.old) (D.contents out.new)
         (W.contents report.old) (W.contents report.new) totals.old totals.new) }
-    ensures fails { OnErr result ((counts : Counts) × (totals.new.counts ≡ plus totals.old.counts counts)) }
     ensures halts { OnErr result (HaltsWithin job name.entry.now (I.bytes_of inputs.now name.entry.now)
-        (D.contents out.old) (D.contents out.new) (W.contents report.old) (W.contents report.new) totals.old.kept) }
+        (D.contents out.old) (D.contents out.new) (W.contents report.old) (W.contents report.new) totals.old.kept totals.old.counts totals.new.counts) }
     ensures failed { IfErr result (λ failure. ¬ IsReading failure) }
 {
     match inputs.open(name) {
@@ -215,9 +213,8 @@ fn run_open<'a, I: Inputs, D: Write, W: Write>(
 ) -> Result<Counts, Failure>
     ensures counted { IfOk result (CountsRun job name.entry.now (I.Input.remaining input.old) (D.contents out.old) (D.contents out.new)
         (W.contents report.old) (W.contents report.new) totals.old totals.new) }
-    ensures fails { OnErr result ((counts : Counts) × (totals.new.counts ≡ plus totals.old.counts counts)) }
     ensures halts { OnErr result (HaltsWithin job name.entry.now (I.Input.remaining input.old)
-        (D.contents out.old) (D.contents out.new) (W.contents report.old) (W.contents report.new) totals.old.kept) }
+        (D.contents out.old) (D.contents out.new) (W.contents report.old) (W.contents report.new) totals.old.kept totals.old.counts totals.new.counts) }
     ensures failed { IfErr result (λ failure. ¬ IsReading failure) }
 {
     let asked = Asked {

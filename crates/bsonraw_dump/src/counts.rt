@@ -1,4 +1,5 @@
-ghost use Rattle.std.specs.Prelude.{◌≡◌, ◌+◌, IfSome, length};
+ghost use Rattle.std.specs.Prelude.{◌≡◌, ◌+◌, IfSome, IsNone, length};
+ghost use Rattle.bsonraw_dump.specs.Batch.{AreInRange};
 ghost use Rattle.bsonraw_dump.specs.Run.{Entry, count_entry, count_gap, count_left, no_counts, plus};
 
 use crate::find::Finding;
@@ -92,7 +93,8 @@ impl Counts {
 
     /// Both together; `None` where a count would be over its range.
     pub fn plus(self, other: Counts) -> Option<Counts>
-        ensures { IfSome result (λ n. n ≡ plus self other) }
+        ensures sum { IfSome result (λ n. n ≡ plus self other) }
+        ensures none { IsNone result → ¬ AreInRange (plus self other) }
     {
         Some(Counts {
             documents: self.documents.checked_add(other.documents)?,

@@ -1,4 +1,4 @@
-ghost use Rattle.std.specs.Prelude.{◌≡◌, IfErr, IfOk, Some};
+ghost use Rattle.std.specs.Prelude.{◌≡◌, IfErr, IfOk, IsNone, OnErr, Some};
 ghost use Rattle.bsonraw_dump.specs.Run.{IsReading};
 
 use std::alloc::AllocError;
@@ -37,6 +37,7 @@ pub struct ReadFailure {
 /// A number, unless it is over its range.
 pub fn in_range<T: Copy>(number: Option<T>) -> Result<T, Failure>
     ensures same { IfOk result (λ n. number ≡ Some n) }
+    ensures none { OnErr result (IsNone number) }
     ensures failed { IfErr result (λ failure. ¬ IsReading failure) }
 {
     match number {

@@ -83,7 +83,7 @@ pub fn run<R: Read, D: Write, W: Write>(
     ensures ends { IfOk result (Ends asked.entry.command asked.entry.style asked.entry.resync asked.entry.name.now (R.remaining reader.old) (R.remaining reader.new)
         (D.contents out.old) (D.contents out.new) (W.contents report.old) (W.contents report.new) counts.old counts.new kept.old kept.new) }
     ensures halts { OnErr result (Halts asked.entry.command asked.entry.style asked.entry.resync asked.entry.name.now (R.remaining reader.old)
-        (D.contents out.old) (D.contents out.new) (W.contents report.old) (W.contents report.new) kept.old) }
+        (D.contents out.old) (D.contents out.new) (W.contents report.old) (W.contents report.new) counts.old counts.new kept.old) }
     ensures failed { IfErr result (λ failure. ¬ IsReading failure) }
 {
     let mut window = Window::new(alloc);
@@ -113,7 +113,7 @@ fn pass_all<R: Read, D: Write, W: Write>(
     ensures passed { IfOk result (PassesAll asked.entry.command asked.entry.style asked.entry.resync asked.entry.name.now (R.remaining reader.old) (R.remaining reader.new)
         (D.contents out.old) (D.contents out.new) (W.contents report.old) (W.contents report.new) counts.old counts.new kept.old kept.new window.new) }
     ensures halts { OnErr result (Halts asked.entry.command asked.entry.style asked.entry.resync asked.entry.name.now (R.remaining reader.old)
-        (D.contents out.old) (D.contents out.new) (W.contents report.old) (W.contents report.new) kept.old) }
+        (D.contents out.old) (D.contents out.new) (W.contents report.old) (W.contents report.new) counts.old counts.new kept.old) }
     ensures failed { IfErr result (λ failure. ¬ IsReading failure) }
 {
     let mut work = Work::new();
@@ -169,6 +169,7 @@ fn leave<R: Read, W: Write>(
         (W.contents report.old) (W.contents report.new) counts.old counts.new) }
     ensures halts { OnErr result (HaltsLeaving asked.entry.style asked.entry.name.now ending (R.remaining reader.old) (R.remaining reader.new) window.old
         (W.contents report.old) (W.contents report.new)) }
+    ensures uncounted { OnErr result (counts.new ≡ counts.old) }
     ensures failed { IfErr result (λ failure. ¬ IsReading failure) }
 {
     let offset = window.offset();
@@ -181,8 +182,8 @@ fn leave<R: Read, W: Write>(
         Rest::NotRead(rest.count),
         report,
     )?;
-    *counts = in_range(counts.with_left(rest.count))?;
     let at = in_range(offset.checked_add(rest.count))?;
+    *counts = in_range(counts.with_left(rest.count))?;
     Ok(failure_at(at, rest.failure))
 }
 
@@ -231,6 +232,7 @@ fn pass_next<R: Read, D: Write, W: Write>(
         window.old window.new work.old work.new (D.contents out.old) (D.contents out.new) (W.contents report.old) (W.contents report.new) counts.old counts.new kept.old kept.new) }
     ensures halts { OnErr result (HaltsNext asked.entry.command asked.entry.style asked.entry.resync asked.entry.name.now (R.remaining reader.old)
         window.old work.old kept.old (D.contents out.old) (D.contents out.new) (W.contents report.old) (W.contents report.new)) }
+    ensures uncounted { OnErr result (counts.new ≡ counts.old) }
     ensures fails { IfErr result (λ failure. IsReading failure → Stays (R.remaining reader.old) (R.remaining reader.new) window.old window.new
         × WritesNothing (D.contents out.old) (D.contents out.new) (W.contents report.old) (W.contents report.new) counts.old counts.new kept.old kept.new) }
 {
@@ -267,14 +269,16 @@ fn pass_front<D: Write, W: Write>(
         (D.contents out.old) (D.contents out.new) (W.contents report.old) (W.contents report.new) counts.old counts.new kept.old kept.new) }
     ensures halts { OnErr result (HaltsOne any asked.entry.command asked.entry.style asked.entry.name.now window.old.offset (take len (ahead_of window.old)) kept.old
         (D.contents out.old) (D.contents out.new) (W.contents report.old) (W.contents report.new)) }
+    ensures uncounted { OnErr result (counts.new ≡ counts.old) }
     ensures failed { IfErr result (λ failure. ¬ IsReading failure) }
 {
     let bytes = &window.ahead()[..len];
     let Some(finding) = pass(alloc, asked, any, window.offset(), bytes, out, report, kept)? else {
         return Ok(false);
     };
-    *counts = in_range(counts.with(len, finding))?;
+    let counted = in_range(counts.with(len, finding))?;
     window.pass(len)?;
+    *counts = counted;
     Ok(true)
 }
 
@@ -294,6 +298,7 @@ fn pass_gap<R: Read, W: Write>(
         window.old window.new work.old work.new (W.contents report.old) (W.contents report.new) counts.old counts.new) }
     ensures halts { OnErr result (HaltsInGap asked.entry.style asked.entry.name.now ending (R.remaining reader.old) (R.remaining reader.new)
         window.old window.new work.old work.new (W.contents report.old) (W.contents report.new)) }
+    ensures uncounted { OnErr result (counts.new ≡ counts.old) }
     ensures fails { IfErr result (λ failure. IsReading failure → GoesAhead (R.remaining reader.old) (R.remaining reader.new) window.old window.new
         × Keeps (W.contents report.old) (W.contents report.new) × (counts.new ≡ counts.old)) }
 {

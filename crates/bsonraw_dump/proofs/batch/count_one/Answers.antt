@@ -1,6 +1,7 @@
-use Rattle.bsonraw_dump.specs.Batch.{CountsInput}
+use Rattle.std.proofs.Common.{refl, subst}
+use Rattle.bsonraw_dump.specs.Batch.{CountsInput, HaltsWithin}
 use Rattle.bsonraw_dump.proofs.Stopping.{if_ok}
-use Rattle.bsonraw_dump.proofs.Fronts.{on_any}
+use Rattle.bsonraw_dump.proofs.Fronts.{on_any, on_err}
 use Rattle.bsonraw_dump.proofs.Summing.{counts_open, halts_unread}
 use Rattle.bsonraw_dump.proofs.batch.count_one.Goals as goal
 
@@ -15,12 +16,27 @@ returns-in-Ok-clause-counted g c =
     (λ n ran. counts_open c.args.job name (g.I.Inputs.bytes_of c.args.inputs.now name) d d' w w' w' c.args.totals.now c.run_open.new.totals n _ c.in-Ok.ensures.bytes ran)
     c.run_open.ensures.counted
 
+pub returns-in-Ok-clause-halts : goal.returns-in-Ok-clause-halts
+returns-in-Ok-clause-halts g c =
+    let d = g.D.Write.contents c.args.out.now in
+    let d' = g.D.Write.contents c.run_open.new.out in
+    let w = g.W.Write.contents c.args.report.now in
+    let w' = g.W.Write.contents c.run_open.new.report in
+    let name = c.args.name.now in
+    let m = c.args.totals.now.counts in
+    let m' = c.run_open.new.totals.counts in
+    on_err c.run_open.result _ (HaltsWithin c.args.job name (g.I.Inputs.bytes_of c.args.inputs.now name) d d' w w' c.args.totals.now.kept m m')
+    (λ halts. subst (λ x. HaltsWithin c.args.job name x d d' w w' c.args.totals.now.kept m m') c.in-Ok.ensures.bytes halts) c.run_open.ensures.halts
+
 pub returns-in_err-counts-in-Err-clause-halts : goal.returns-in_err-counts-in-Err-clause-halts
 returns-in_err-counts-in-Err-clause-halts g c =
     let name = c.args.name.now in
-    on_any _ _ (halts_unread c.args.job name (g.I.Inputs.bytes_of c.args.inputs.now name) (g.D.Write.contents c.args.out.now) (g.W.Write.contents c.args.report.now) c.args.totals.now.kept)
+    let n = c.args.totals.now.counts in
+    on_any _ _ (halts_unread c.args.job name (g.I.Inputs.bytes_of c.args.inputs.now name) (g.D.Write.contents c.args.out.now) (g.W.Write.contents c.args.report.now) c.args.totals.now.kept
+    n n refl)
 
 pub returns-in_err-add-in-Err-clause-halts : goal.returns-in_err-add-in-Err-clause-halts
 returns-in_err-add-in-Err-clause-halts g c =
     let name = c.args.name.now in
-    on_any _ _ (halts_unread c.args.job name (g.I.Inputs.bytes_of c.args.inputs.now name) (g.D.Write.contents c.args.out.now) (g.W.Write.contents c.args.report.now) c.args.totals.now.kept)
+    on_any _ _ (halts_unread c.args.job name (g.I.Inputs.bytes_of c.args.inputs.now name) (g.D.Write.contents c.args.out.now) (g.W.Write.contents c.args.report.now) c.args.totals.now.kept
+    c.args.totals.now.counts c.add.new.self.counts c.in_err-add-in-Err.ensures.uncounted.1)

@@ -1,8 +1,8 @@
-use Rattle.std.proofs.Common.{List, ℕ, Bor, refl}
+use Rattle.std.proofs.Common.{List, ℕ, Bor}
 use Rattle.std.proofs.KnownBytes.{Appends-kept}
 use Rattle.bsonraw_dump.specs.Batch.{state_of}
 use Rattle.bsonraw_dump.proofs.Fronts.{front_none, front_whole, on_any}
-use Rattle.bsonraw_dump.proofs.Summing.{counts_none, runs_front, runs_next, halts_behind, halts_next}
+use Rattle.bsonraw_dump.proofs.Summing.{runs_front, runs_next, halts_behind, halts_next}
 use Rattle.bsonraw_dump.proofs.batch.run_each.Goals as goal
 
 pub loop-name-preserved : goal.loop-name-preserved
@@ -24,7 +24,7 @@ returns-in_err-run_one-clause-fails g c =
     let last = state_of (g.D.Write.contents c.loop-name.out) (g.W.Write.contents c.loop-name.report) c.loop-name.totals in
     on_any c.from_residual.result _
     (runs_front job bytes_of f c.args.names.now c.loop-name.name-index first last d w c.run_one.new.totals.counts c.loop-name.invariant
-    (halts_next job bytes_of f c.args.names.now c.loop-name.name-index _ last d w c.loop-name-test.true c.in_err-run_one.ensures.halts) c.in_err-run_one.ensures.fails)
+    (halts_next job bytes_of f c.args.names.now c.loop-name.name-index _ last d w c.run_one.new.totals.counts c.loop-name-test.true c.in_err-run_one.ensures.halts))
 
 pub returns-in_err-flush-clause-fails : goal.returns-in_err-flush-clause-fails
 returns-in_err-flush-clause-fails g c =
@@ -38,7 +38,7 @@ returns-in_err-flush-clause-fails g c =
     let n = c.loop-name.totals.counts in
     on_any c.from_residual-in_err-flush.result _
     (runs_front job bytes_of f c.args.names.now c.loop-name.name-index first last d w n c.loop-name.invariant
-    (halts_behind job bytes_of f c.args.names.now c.loop-name.name-index last d w c.loop-name-test.false c.flush.ensures.kept (front_none w _)) (counts_none n n refl))
+    (halts_behind job bytes_of f c.args.names.now c.loop-name.name-index last d w c.loop-name-test.false c.flush.ensures.kept (front_none w _)))
 
 pub returns-in_err-put_all_counts-clause-fails : goal.returns-in_err-put_all_counts-clause-fails
 returns-in_err-put_all_counts-clause-fails g c =
@@ -52,7 +52,7 @@ returns-in_err-put_all_counts-clause-fails g c =
     let n = c.loop-name.totals.counts in
     on_any c.from_residual-in_err-put_all_counts.result _
     (runs_front job bytes_of f c.args.names.now c.loop-name.name-index first last d w n c.loop-name.invariant
-    (halts_behind job bytes_of f c.args.names.now c.loop-name.name-index last d w c.loop-name-test.false c.flush.ensures.kept c.in_err-put_all_counts.ensures.front) (counts_none n n refl))
+    (halts_behind job bytes_of f c.args.names.now c.loop-name.name-index last d w c.loop-name-test.false c.flush.ensures.kept c.in_err-put_all_counts.ensures.front))
 
 pub returns-clause-fails : goal.returns-clause-fails
 returns-clause-fails g c =
@@ -69,4 +69,4 @@ returns-clause-fails g c =
     let put = front_whole w' w _ (Appends-kept w' w'' w _ c.in_ok-put_all_counts.ensures.written c.flush-2.ensures.kept) in
     on_any c.flush-2.result _
     (runs_front job bytes_of f c.args.names.now c.loop-name.name-index first last d w n c.loop-name.invariant
-    (halts_behind job bytes_of f c.args.names.now c.loop-name.name-index last d w c.loop-name-test.false c.flush.ensures.kept put) (counts_none n n refl))
+    (halts_behind job bytes_of f c.args.names.now c.loop-name.name-index last d w c.loop-name-test.false c.flush.ensures.kept put))

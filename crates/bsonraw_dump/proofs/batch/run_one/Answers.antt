@@ -33,5 +33,5 @@ returns-clause-halts g c =
     let t = c.args.totals.now in
     let t' = c.count_one.new.totals in
     let n = c.in_ok-counts.counts in
-    on_err c.put_counts.result (AppendsFront w' w'' (input_line c.args.job c.args.job.command name n)) (HaltsWithin c.args.job name input d d' w w'' t.kept)
+    on_err c.put_counts.result (AppendsFront w' w'' (input_line c.args.job c.args.job.command name n)) (HaltsWithin c.args.job name input d d' w w'' t.kept t.counts t'.counts)
     (halts_line c.args.job name input d d' w w' w'' t t' n c.in_ok-counts.ensures.counted) c.put_counts.ensures.front

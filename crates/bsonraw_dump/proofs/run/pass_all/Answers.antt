@@ -166,8 +166,8 @@ returns-in-Err-pass_gap-clause-halts g c =
     new.counts c.args.kept.now c.loop.kept new.kept c.loop.window.offset c.loop.work c.loop.invariant.2 nothing in
     on_any _ _ (halts_gap c.args.asked.command c.args.asked.style c.args.asked.resync c.args.asked.name.now (read c.args.reader.now) (read c.loop.reader)
     (out c.args.out.now) (out new.out) (report c.args.report.now) (report new.report) c.args.counts.now new.counts c.args.kept.now new.kept
-    (read new.reader) (read c.pass_gap.new.reader) (report c.pass_gap.new.report) c.loop.window new.window c.pass_gap.new.window
-    c.loop.work new.work c.pass_gap.new.work c.in-End.ending before told c.if-not-asked.false c.in-Err-pass_gap.ensures.halts)
+    (read new.reader) (read c.pass_gap.new.reader) (report c.pass_gap.new.report) c.pass_gap.new.counts c.loop.window new.window c.pass_gap.new.window
+    c.loop.work new.work c.pass_gap.new.work c.in-End.ending before told c.if-not-asked.false c.in-Err-pass_gap.ensures.halts c.in-Err-pass_gap.ensures.uncounted)
 
 pub returns-in-Err-clause-halts : goal.returns-in-Err-clause-halts
 returns-in-Err-clause-halts g c =
@@ -177,7 +177,7 @@ returns-in-Err-clause-halts g c =
     let new = c.pass_next.new in
     on_any _ _ (halts_next c.args.asked.command c.args.asked.style c.args.asked.resync c.args.asked.name.now (read c.args.reader.now) (read c.loop.reader)
     (out c.args.out.now) (out c.loop.out) (report c.args.report.now) (report c.loop.report) c.args.counts.now c.loop.counts c.args.kept.now c.loop.kept
-    (out new.out) (report new.report) c.loop.window c.loop.work c.loop.invariant.2 c.in-Err.ensures.halts)
+    (out new.out) (report new.report) new.counts c.loop.window c.loop.work c.loop.invariant.2 c.in-Err.ensures.halts c.in-Err.ensures.uncounted)
 
 pub returns-clause-halts : goal.returns-clause-halts
 returns-clause-halts g c =

@@ -19,8 +19,8 @@ returns-in_err-finding-clause-halts g c =
     c.in_err-finding.ensures.halts in
     on_any _ _ (subst (λ (x : List ℕ). HaltsOne any asked.command asked.style asked.name.now c.args.window.now.offset (take c.args.len x) k old new report reported) c.ahead.ensures here)
 
-pub returns-in_err-counts-clause-halts : goal.returns-in_err-counts-clause-halts
-returns-in_err-counts-clause-halts g c =
+pub returns-in_err-counted-clause-halts : goal.returns-in_err-counted-clause-halts
+returns-in_err-counted-clause-halts g c =
     let asked = c.args.asked in
     let any = c.args.any in
     let old = g.D.Write.contents c.args.out.now in

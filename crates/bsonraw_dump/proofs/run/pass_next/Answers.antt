@@ -1,4 +1,4 @@
-use Rattle.std.proofs.Common.{ℕ, List, Bool, true, false, not, Option, inl, refl, sym, subst, take}
+use Rattle.std.proofs.Common.{ℕ, List, Bool, true, false, not, Option, ◌∙◌, inl, refl, sym, subst, take}
 use Rattle.bsonraw_dump.specs.Reading.{TellsNext, ahead_of}
 use Rattle.bsonraw_dump.specs.Resync.{Doubts, TellsPart}
 use Rattle.bsonraw_dump.specs.Run.{MayPassFront}
@@ -22,6 +22,7 @@ returns-in_default g c =
           (g.D.Write.contents c.args.out.now) (g.W.Write.contents c.args.report.now) c.args.window.now c.look_ahead.new.window c.args.work.now c.args.counts.now c.args.kept.now
           c.in_ok-next.next c.requires.1 c.in_default.not-Document c.in_ok-next.ensures.told;
       halts = tt;
+      uncounted = tt;
       fails = tt;
     }
 
@@ -144,3 +145,23 @@ returns-in_err-pass_front-2-clause-halts g c =
     c.in_err-pass_front-2.ensures.halts)) in
     on_any _ _ (halts_taken asked.command asked.style asked.resync asked.name.now (r c.args.reader.now) (r c.is_doubted.new.reader) (d c.args.out.now) (d last.out)
     (w c.args.report.now) (w last.report) x z c.args.work.now c.is_doubted.new.work c.args.kept.now len true part halts)
+
+pub returns-in_err-is_doubted-clause-uncounted : goal.returns-in_err-is_doubted-clause-uncounted
+returns-in_err-is_doubted-clause-uncounted g c =
+    let d = g.D.Write.contents in
+    let w = g.W.Write.contents in
+    let first = c.pass_front.new in
+    let asked = c.args.asked in
+    let (left, same, nothing) = subst (MayPassFront (not asked.resync) asked.command asked.style asked.name.now c.in-Document.len c.look_ahead.new.window first.window (d c.args.out.now)
+    (d first.out) (w c.args.report.now) (w first.report) c.args.counts.now first.counts c.args.kept.now first.kept) c.if-branch.false c.in_ok-pass_front.ensures.passed in
+    on_any _ _ nothing.2
+
+pub returns-in_err-pass_front-2-clause-uncounted : goal.returns-in_err-pass_front-2-clause-uncounted
+returns-in_err-pass_front-2-clause-uncounted g c =
+    let d = g.D.Write.contents in
+    let w = g.W.Write.contents in
+    let first = c.pass_front.new in
+    let asked = c.args.asked in
+    let (left, same, nothing) = subst (MayPassFront (not asked.resync) asked.command asked.style asked.name.now c.in-Document.len c.look_ahead.new.window first.window (d c.args.out.now)
+    (d first.out) (w c.args.report.now) (w first.report) c.args.counts.now first.counts c.args.kept.now first.kept) c.if-branch.false c.in_ok-pass_front.ensures.passed in
+    on_any _ _ (c.in_err-pass_front-2.ensures.uncounted ∙ nothing.2)

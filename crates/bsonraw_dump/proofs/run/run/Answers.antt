@@ -1,6 +1,6 @@
 use Rattle.std.proofs.Common.{subst}
 use Rattle.bsonraw_dump.specs.Run.{PassesAll}
-use Rattle.bsonraw_dump.proofs.Fronts.{on_any, on_err}
+use Rattle.bsonraw_dump.proofs.Fronts.{on_any, on_errs}
 use Rattle.bsonraw_dump.proofs.Halting.{halts_here, halts_left}
 use Rattle.bsonraw_dump.proofs.Stopping.{ends_left, if_ok}
 use Rattle.bsonraw_dump.proofs.run.run.Goals as goal
@@ -33,9 +33,9 @@ returns-in-Left-clause-halts g c =
     let w'' = g.W.Write.contents c.leave.new.report in
     let all = subst (PassesAll c.args.asked.command c.args.asked.style c.args.asked.resync c.args.asked.name.now r r' d d' w w' c.args.counts.now c.pass_all.new.counts
     c.args.kept.now c.pass_all.new.kept c.pass_all.new.window) c.in-Left.is c.in_ok-pass_all.ensures.passed in
-    on_err c.leave.result _ _ (λ stops.
+    on_errs c.leave.result _ _ _ (λ stops same.
     halts_left c.args.asked.command c.args.asked.style c.args.asked.resync c.args.asked.name.now r r' d d' w w' c.args.counts.now c.pass_all.new.counts
-    c.args.kept.now c.pass_all.new.kept r'' w'' c.pass_all.new.window c.in-Left.ending all stops) c.leave.ensures.halts
+    c.args.kept.now c.pass_all.new.kept r'' w'' c.leave.new.counts c.pass_all.new.window c.in-Left.ending all stops same) c.leave.ensures.halts c.leave.ensures.uncounted
 
 pub returns-in_err-at-in-Failed-clause-halts : goal.returns-in_err-at-in-Failed-clause-halts
 returns-in_err-at-in-Failed-clause-halts g c =
