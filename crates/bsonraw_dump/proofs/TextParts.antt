@@ -8,7 +8,7 @@ use Rattle.bson_json.specs.Written.{AppendsFront}
 use Rattle.bsonraw_dump.specs.Fronts.{HasFront}
 use Rattle.bsonraw_dump.specs.Reading.{IsWindow, ahead_of}
 use Rattle.bsonraw_dump.specs.TextFaults.{fault_line}
-use Rattle.bsonraw_dump.specs.TextRun.{HaltsText, IsAstray, IsDocument, IsRefused, PassesText, TellsFault, count_made}
+use Rattle.bsonraw_dump.specs.TextRun.{HaltsText, IsAstray, IsDocument, IsFaultOf, IsRefused, PassesText, TellsFault, count_made}
 use Rattle.bsonraw_dump.specs.Texts.{IsOpen, IsWhole, may_begin, position_over, scanned, turn_behind_document, turn_behind_gap}
 use Rattle.bsonraw_dump.specs.declared.cursor.Cursor.{Cursor}
 use Rattle.bsonraw_dump.specs.declared.position.Position.{Position}
@@ -20,7 +20,7 @@ use Rattle.bsonraw_dump.specs.declared.turn.Turn.{Turn}
 use Rattle.bsonraw_dump.proofs.Fronts.{front_none}
 
 -- the line of a fault so many bytes behind a place, in the front of what is ahead
-tells_fault : (style : Style) (name ahead : List ℕ) (place : Position) (len at : ℕ) (reason : TextReason) → len ≤ length ahead → at ≤ len
+abbrev tells_fault : (style : Style) (name ahead : List ℕ) (place : Position) (len at : ℕ) (reason : TextReason) → len ≤ length ahead → at ≤ len
     → TellsFault style name place (take len ahead) (fault_line style name (position_over place (take at ahead)) reason)
 tells_fault style name ahead place len at reason fits within = record {
   at = at;
@@ -68,13 +68,14 @@ module _ (style : Style) (name ahead : List ℕ) (place : Position) (t v : Turn)
       next = inl next;
     }
 
-    is_refused : may_begin t ≡ true → IsWhole (take len ahead) → v ≡ turn_behind_document t
+    is_refused : may_begin t ≡ true → IsWhole (take len ahead) → IsFaultOf (take len ahead) at reason → v ≡ turn_behind_document t
         → IsRefused style name place t (take len ahead) [] (fault_line style name (position_over place (take at ahead)) reason) v
-    is_refused may whole next = record {
+    is_refused may whole why next = record {
       may_be = may;
       whole = whole;
       none = refl;
       fault = tells_fault style name ahead place len at reason fits within;
+      why = why;
       next = next;
     }
 
@@ -95,15 +96,16 @@ module _ (style : Style) (name : List ℕ) (y z : Cursor) (t v : Turn) (len : �
       is_counted = counted;
     }
 
-    pub passes_refused : may_begin t ≡ true → IsWhole (take len (ahead_of y.window)) → v ≡ turn_behind_document t → PassesText style name y z t v out out w w' n n' went.Refused
-    passes_refused may whole next = record {
+    pub passes_refused : may_begin t ≡ true → IsWhole (take len (ahead_of y.window)) → IsFaultOf (take len (ahead_of y.window)) at reason
+        → v ≡ turn_behind_document t → PassesText style name y z t v out out w w' n n' went.Refused
+    passes_refused may whole why next = record {
       window = p.is.0;
       text = take len (ahead_of y.window);
       made = [];
       lines = fault_line style name (position_over y.place (take at (ahead_of y.window))) reason;
       ahead = split y z len p;
       place = p.is.2;
-      is = is_refused style name (ahead_of y.window) y.place t v len p.fits at reason within may whole next;
+      is = is_refused style name (ahead_of y.window) y.place t v len p.fits at reason within may whole why next;
       is_written = Appends-nil out;
       is_reported = told;
       is_counted = counted;
@@ -162,15 +164,15 @@ module _ (ahead : List ℕ) (place : Position) (t : Turn) where
         front,
       )
 
-      pub halts_refused : may_begin t ≡ true → IsWhole (take len ahead) → (out : Option (List ℕ)) → HaltsText style name place t ahead out out w w'
-      halts_refused may whole out = inr (
+      pub halts_refused : may_begin t ≡ true → IsWhole (take len ahead) → IsFaultOf (take len ahead) at reason → (out : Option (List ℕ)) → HaltsText style name place t ahead out out w w'
+      halts_refused may whole why out = inr (
         went.Refused,
         take len ahead,
         [],
         fault_line style name (position_over place (take at ahead)) reason,
         turn_behind_document t,
         first_of len ahead,
-        is_refused style name ahead place t (turn_behind_document t) len fits at reason within may whole refl,
+        is_refused style name ahead place t (turn_behind_document t) len fits at reason within may whole why refl,
         front_none out [],
         front,
       )

@@ -1,6 +1,7 @@
 -- What a run over an input of texts reads, writes and counts.
 use Rattle.std.specs.Prelude.{◌≡◌, ◌⊎◌, ◌+◌, ◌≤◌, ℕ, List, [], ◌∷◌, ◌++◌, Bool, true, false, Option, Some, IfSome, flat_map, fold, length, take}
 use Rattle.std.specs.Io.KnownBytes.{Appends}
+use Rattle.std.specs.Str.{IsUtf8, IsValidUpTo}
 use Rattle.bson_from_json.specs.Texts.{IsWritten}
 use Rattle.bson_json.specs.Written.{AppendsFront}
 use Rattle.bsonraw_dump.specs.Fronts.{HasFront}
@@ -15,6 +16,7 @@ use Rattle.bsonraw_dump.specs.declared.position.Position.{Position}
 use Rattle.bsonraw_dump.specs.declared.style.Style.{Style}
 use Rattle.bsonraw_dump.specs.declared.text_counts.TextCounts.{TextCounts}
 use Rattle.bsonraw_dump.specs.declared.text_fault.TextReason.{TextReason}
+use Rattle.bsonraw_dump.specs.declared.text_fault.TextReason.TheVariants as reason
 use Rattle.bsonraw_dump.specs.declared.texts.AskedTexts.{AskedTexts}
 use Rattle.bsonraw_dump.specs.declared.texts.Made.{Made}
 use Rattle.bsonraw_dump.specs.declared.texts.Made.TheVariants as made
@@ -54,12 +56,18 @@ pub record TellsFault (style : Style) (name : List ℕ) (place : Position) (text
   pub reason : TextReason
   pub told : lines ≡ fault_line style name (position_over place (take at text)) reason
 
+-- why a text isn't read that has a fault behind so many bytes: from there on it isn't UTF-8, or it is UTF-8 and not read as a document
+abbrev pub IsFaultOf : List ℕ → ℕ → TextReason → Type 0
+IsFaultOf text at reason.NotUtf8 = IsValidUpTo text at
+IsFaultOf text at (reason.Json why) = IsUtf8 text
+
 -- the whole text has a fault, and nothing is written of it
 pub record IsRefused (style : Style) (name : List ℕ) (place : Position) (before : Turn) (text : List ℕ) (made : List (List ℕ)) (lines : List ℕ) (behind : Turn) : Type 0 where
   pub may_be : may_begin before ≡ true
   pub whole : IsWhole text
   pub none : made ≡ []
   pub fault : TellsFault style name place text lines
+  pub why : IsFaultOf text fault.at fault.reason
   pub next : behind ≡ turn_behind_document before
 
 -- No text of a document is there, or one that doesn't come to its end. What there is of it is passed, and the bytes behind it in which no
@@ -213,7 +221,7 @@ HasNext ahead t next.End = ⊥
 -- what a text makes
 abbrev pub IsMadeOf : List ℕ → Made → Type 0
 IsMadeOf text (made.Document document) = IsWritten text document
-IsMadeOf text (made.Fault at reason) = at ≤ length text
+IsMadeOf text (made.Fault at reason) = (at ≤ length text) × IsFaultOf text at reason
 
 -- bytes are passed behind what was no whole text, and none behind another part
 abbrev pub PassesBehind : Went → (old new : Option (List ℕ)) → (cursor_old cursor_new : Cursor) → (turn_old turn_new : Turn) → Type 0

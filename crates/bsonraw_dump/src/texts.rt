@@ -9,7 +9,7 @@ ghost use Rattle.bsonraw_dump.specs.Reading.{IsWindow, ahead_of};
 ghost use Rattle.bsonraw_dump.specs.Run.{IsReading};
 ghost use Rattle.bsonraw_dump.specs.TextFaults.{fault_line};
 ghost use Rattle.bsonraw_dump.specs.TextReading.{ScansAhead};
-ghost use Rattle.bsonraw_dump.specs.TextRun.{HaltsText, HaltsTexts, HasNext, IsFailed, IsMadeOf, PassesBehind, PassesText, ReadsTexts, count_made};
+ghost use Rattle.bsonraw_dump.specs.TextRun.{HaltsText, HaltsTexts, HasNext, IsFailed, IsFaultOf, IsMadeOf, PassesBehind, PassesText, ReadsTexts, count_made};
 ghost use Rattle.bsonraw_dump.specs.declared.texts.Went.TheVariants.{Document};
 ghost use Rattle.bsonraw_dump.specs.Texts.{IsOpen, IsWhole, may_begin, position_over, scanned};
 
@@ -240,8 +240,7 @@ fn made_of(alloc: Global, text: &[u8]) -> Result<Made, Failure>
     let text = match str::from_utf8(text) {
         Ok(text) => text,
         Err(error) => {
-            let at = error.valid_up_to().min(text.len());
-            return Ok(Made::Fault(at, TextReason::NotUtf8));
+            return Ok(Made::Fault(error.valid_up_to(), TextReason::NotUtf8));
         }
     };
     match from_json(alloc, text, most_allowed()) {
@@ -304,7 +303,7 @@ fn pass_refused<W: Write>(
     counts: &mut TextCounts,
 ) -> Result<Went, Failure>
     requires { IsWindow cursor.old.window × (may_begin turn.old ≡ true) × (len ≤ length (ahead_of cursor.old.window))
-        × IsWhole (take len (ahead_of cursor.old.window)) × (at ≤ len) }
+        × IsWhole (take len (ahead_of cursor.old.window)) × (at ≤ len) × IsFaultOf (take len (ahead_of cursor.old.window)) at reason }
     ensures passed { IfOk result (λ went. (out : Option (List ℕ)) → PassesText asked.entry.style asked.entry.name.now cursor.old cursor.new turn.old turn.new
         out out (W.contents report.old) (W.contents report.new) counts.old counts.new went) }
     ensures halts { OnErr result ((out : Option (List ℕ)) → HaltsText asked.entry.style asked.entry.name.now cursor.old.place turn.old (ahead_of cursor.old.window)
