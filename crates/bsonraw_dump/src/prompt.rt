@@ -1,17 +1,21 @@
 //! Writes that are seen soon, so that a run that is ended has shown what it found.
 #![tactic(auto)]
 
+ghost use Rattle.std.specs.Prelude.{◌≡◌};
+
 use std::io;
 use std::io::Write;
 use std::time::{Duration, Instant};
 
-/// A writer that is flushed with each write, or with the first one of each second.
+/// A writer that is flushed with each write, or with the first one of each second. A flush that fails is told by the next call: what
+/// came before it was taken.
 #[derive(Drop)]
 pub struct Prompt<'a, W> {
     rt: &'a HostRuntime,
     writer: W,
     often: bool,
     last: Option<Instant>,
+    failed: Option<io::Error>,
 }
 
 impl<'a, W> Prompt<'a, W> {
@@ -22,11 +26,14 @@ impl<'a, W> Prompt<'a, W> {
             writer,
             often,
             last: None,
+            failed: None,
         }
     }
 
     /// Whether it is time to flush.
-    fn is_due(&mut self) -> bool {
+    fn is_due(&mut self) -> bool
+        ensures { self.new.writer ≡ self.old.writer }
+    {
         if self.often {
             return true;
         }
@@ -45,15 +52,23 @@ impl<'a, W> Prompt<'a, W> {
 }
 
 impl<W: Write> Write for Prompt<'_, W> {
+    ghost contents = { λ prompt. W.contents prompt.writer };
+
     fn write(&mut self, buf: &[u8]) -> io::Result<usize> {
+        if let Some(error) = self.failed.take() {
+            return Err(error);
+        }
         let len = self.writer.write(buf)?;
         if self.is_due() {
-            self.writer.flush()?;
+            self.failed = self.writer.flush().err();
         }
         Ok(len)
     }
 
     fn flush(&mut self) -> io::Result<()> {
-        self.writer.flush()
+        match self.failed.take() {
+            Some(error) => Err(error),
+            None => self.writer.flush(),
+        }
     }
 }
