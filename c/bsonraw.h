@@ -1332,16 +1332,21 @@ const char *bsonraw_tag_text(uint32_t tag);
 /* What is wrong by an error: the text of its reason, or that a text isn't UTF-8. */
 const char *bsonraw_error_text(const struct bsonraw_error *error);
 
+/* The same with its numbers, as "a value is longer than what is left: 4157 where 62 are left". As snprintf it puts as much as there is
+ * room for, and a 0 behind it, and returns how many bytes the text has without that 0; 150 are always enough. */
+size_t bsonraw_fault_text(const struct bsonraw_error *error, char *text, size_t room);
+
 /* The path of a report as a text, as bsonraw-dump prints it: for each level a slash, the number, and where there is a key a colon and
  * the key in quotes, as in JSON: /1:"authors"/0:"0". As snprintf it puts as much as there is room for, and a 0 behind it, and returns
  * how many bytes the text has without that 0; of no document it returns 0.
  *
  *     struct bsonraw_report r;
  *     uint64_t path[16];
- *     char text[256];
+ *     char text[256], why[150];
  *     if (bsonraw_first_fault(bytes, len, 1 << 20, 16, &r, path, 16) == BSONRAW_FAULT) {
  *         bsonraw_path_text(bytes, len, path, r.path_len, text, sizeof text);
- *         printf("at %s, byte %lu: %s\n", text, r.error.offset, bsonraw_error_text(&r.error));
+ *         bsonraw_fault_text(&r.error, why, sizeof why);
+ *         printf("at %s, byte %lu: %s\n", text, r.error.offset, why);
  *     }
  */
 size_t bsonraw_path_text(const uint8_t *bytes, size_t len, const uint64_t *path, size_t path_len, char *text, size_t room);

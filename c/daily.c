@@ -91,6 +91,30 @@ static void put_key(struct out *out, const uint8_t *key, size_t len) {
     put(out, '"');
 }
 
+static void put_words(struct out *out, const char *words) {
+    while (*words != 0) put(out, *words++);
+}
+
+/* Puts the 0 that ends the text, and returns how many bytes are before it. */
+static size_t end(const struct out *out) {
+    if (out->room > 0) out->text[out->len < out->room ? out->len : out->room - 1] = 0;
+    return out->len;
+}
+
+size_t bsonraw_fault_text(const struct bsonraw_error *error, char *text, size_t room) {
+    struct out out = {text, text == NULL ? 0 : room, 0};
+    uint32_t reason = error != NULL && error->kind == BSONRAW_MALFORMED ? error->reason : 0;
+    int has_both = reason == BSONRAW_STRING_PAST_END || reason == BSONRAW_PAST_END;
+    int has_number = has_both || reason == BSONRAW_INVALID_TAG || reason == BSONRAW_DOCUMENT_TOO_SMALL || reason == BSONRAW_BAD_BOOLEAN;
+    int has_left = has_both || reason == BSONRAW_STRING_HEAD_SHORT || reason == BSONRAW_LENGTH_HEAD_SHORT;
+    put_words(&out, bsonraw_error_text(error));
+    if (has_number || has_left) put_words(&out, ": ");
+    if (has_number) put_number(&out, error->number);
+    if (has_both) put_words(&out, " where ");
+    if (has_left) put_number(&out, error->left), put_words(&out, " are left");
+    return end(&out);
+}
+
 /* Sets a cursor before the first element of what the element has inside: a document, an array, or a scope. */
 static int32_t go_into(const struct bsonraw_iter *iter, const uint8_t *bytes, size_t len, struct bsonraw_iter *inside) {
     struct bsonraw_value value;
@@ -115,8 +139,7 @@ size_t bsonraw_path_text(const uint8_t *bytes, size_t len, const uint64_t *path,
         put_number(&out, path[level]);
         if (it.key_at < len) put(&out, ':'), put_key(&out, bytes + it.key_at, it.key_len);
     }
-    if (out.room > 0) text[out.len < out.room ? out.len : out.room - 1] = 0;
-    return out.len;
+    return end(&out);
 }
 
 /* ---- by path ---- */

@@ -21,6 +21,26 @@ static void is_text(const char *text, const char *wanted) {
     expect(strcmp(text, wanted) == 0, wanted, text);
 }
 
+/* The numbers of each reason that has some, behind its words. */
+static void look_at_numbers(void) {
+    static const char *const texts[] = {
+        "no reason", "a document of under five bytes", "a document's length is wrong", "no final 0", "no element and no final 0",
+        "no kind has this tag: 4157", "a string's length is cut off: 62 are left", "a length is negative", "a string's length is 0",
+        "a string is longer than what is left: 4157 where 62 are left", "a string has no final 0",
+        "a value is longer than what is left: 4157 where 62 are left", "a nested document's length is under 5: 4157",
+        "a nested document has no final 0", "a value's length is cut off: 62 are left", "a text has no final 0",
+        "a boolean is neither 0 nor 1: 4157", "an old binary has no inner length", "an old binary's inner length is negative",
+        "an old binary's inner length is wrong", "a code with scope is too short",
+    };
+    struct bsonraw_error error = {BSONRAW_MALFORMED, 0, 4157, 62, 0};
+    char text[150];
+    for (error.reason = 0; error.reason < sizeof texts / sizeof *texts; error.reason++) {
+        is((int64_t)bsonraw_fault_text(&error, text, sizeof text), (int64_t)strlen(texts[error.reason]), "a fault's length");
+        is_text(text, texts[error.reason]);
+    }
+    is((int64_t)bsonraw_fault_text(NULL, NULL, 0), 8, "no fault");
+}
+
 static void look_at_texts(void) {
     static const uint8_t damaged[] = "\33\0\0\0\12x\0\4a\"\n\1\0\15\0\0\0\0100\0\1\0101\0\2\0";
     uint64_t path[4];
@@ -38,8 +58,13 @@ static void look_at_texts(void) {
     is_text(bsonraw_tag_text(20), "no kind");
     is(bsonraw_first_fault(damaged, sizeof damaged, 99, 9, &r, path, 4), BSONRAW_FAULT, "a fault");
     is_text(bsonraw_error_text(&r.error), "a boolean is neither 0 nor 1");
+    is((int64_t)bsonraw_fault_text(&r.error, text, sizeof text), 31, "a fault's length");
+    is_text(text, "a boolean is neither 0 nor 1: 2");
     r.error.kind = BSONRAW_NOT_UTF8;
     is_text(bsonraw_error_text(&r.error), "a text isn't UTF-8");
+    is((int64_t)bsonraw_fault_text(&r.error, text, 7), 18, "a fault's length");
+    is_text(text, "a text");
+    look_at_numbers();
     is((int64_t)bsonraw_path_text(damaged, sizeof damaged, path, (size_t)r.path_len, text, sizeof text), 22, "a path's length");
     is_text(text, "/1:\"a\\\"\\n\\u0001\"/1:\"1\"");
     memset(text, '#', sizeof text);

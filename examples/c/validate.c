@@ -7,11 +7,12 @@ int main(void) {
     size_t len = fread(bytes, 1, sizeof bytes, stdin);
     struct bsonraw_report r;
     uint64_t path[100];
-    char place[1000];
+    char place[1000], why[150];
     int32_t status = bsonraw_first_fault(bytes, len, sizeof bytes, 100, &r, path, 100);
     if (status == BSONRAW_FAULT) {
         bsonraw_path_text(bytes, len, path, r.path_len, place, sizeof place);
-        printf("%s, byte %lu: %s\n", place, (unsigned long)r.error.offset, bsonraw_error_text(&r.error));
+        bsonraw_fault_text(&r.error, why, sizeof why);
+        printf("%s, byte %lu: %s\n", place, (unsigned long)r.error.offset, why);
     } else {
         printf("%s\n", status == BSONRAW_OK ? "sound" : bsonraw_status_text(status));
     }

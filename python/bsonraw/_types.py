@@ -5,6 +5,8 @@ from __future__ import annotations
 from enum import IntEnum
 from typing import TYPE_CHECKING, Any, Iterator, List, NamedTuple, Optional, Protocol, Tuple, Union
 
+from ._native import fault_text
+
 
 class Reader(Protocol):
     """A file that is open for reading bytes: of open, of gzip.open, of io.BytesIO."""
@@ -104,27 +106,7 @@ class Cause(IntEnum):
     """the options of a regular expression aren't in ascending order"""
 
 
-_TEXTS = {
-    Reason.TOO_SHORT: "document too short",
-    Reason.LENGTH_INCORRECT: "document length incorrect",
-    Reason.NOT_TERMINATED: "document not null-terminated",
-    Reason.OVERFLOWED: "iteration overflowed document",
-    Reason.INVALID_TAG: "invalid tag: {number}",
-    Reason.STRING_HEAD_SHORT: "expected buffer with string to contain at least 4 bytes, but it only has {left}",
-    Reason.NEGATIVE_LENGTH: "lengths can't be negative",
-    Reason.STRING_TOO_SMALL: "BSON length encoded string needs to be at least 5 bytes, instead got 4",
-    Reason.STRING_PAST_END: "expected buffer to contain at least {number} bytes, but it only has {left}",
-    Reason.STRING_NOT_TERMINATED: "expected string to be null-terminated",
-    Reason.PAST_END: "length exceeds remaining length of buffer: {number} vs {left}",
-    Reason.DOCUMENT_TOO_SMALL: "document too small: {number} bytes",
-    Reason.NESTED_NOT_TERMINATED: "not null terminated",
-    Reason.LENGTH_HEAD_SHORT: "expected 4 bytes to read i32, instead got {left}",
-    Reason.NO_TERMINATOR: "expected null terminator",
-    Reason.BAD_BOOLEAN: "boolean must be stored as 0 or 1, got {number}",
-    Reason.OLD_NO_INNER: "old binary subtype has no inner declared length",
-    Reason.ADD_OVERFLOW: "attempted to add with overflow",
-    Reason.OLD_WRONG_INNER: "old binary subtype has wrong inner declared length",
-    Reason.CODE_TOO_SMALL: "code with scope length too small",
+_REFUSALS = {
     Reason.INTERIOR_NUL: "a 0 in a key, a pattern or options",
     Reason.TOO_LONG: "document too long",
     Reason.TOO_MANY_BYTES: "more bytes than allowed",
@@ -171,7 +153,10 @@ class BsonError(ValueError):
         self.path = path
         self.keys = keys
         self._numbers = (number, left)
-        text = "not UTF-8" if self.reason is None else _TEXTS[self.reason].format(number=number, left=left)
+        if self.reason in _REFUSALS:
+            text = _REFUSALS[self.reason]
+        else:
+            text = fault_text(self.reason or 0, number, left)
         if keys or key is not None:
             text = f"at key {'.'.join(keys or (key or '',))!r}: {text}"
         if offset is not None:

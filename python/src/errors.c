@@ -33,6 +33,22 @@ static PyObject *error_new(struct fault *fault) {
     return error;
 }
 
+/* What a reason says, with its numbers; 0: a text isn't UTF-8. */
+PyObject *py_fault_text(PyObject *module, PyObject *args) {
+    unsigned int reason;
+    unsigned long long number, left;
+    struct bsonraw_error error = {0, 0, 0, 0, 0};
+    char text[150];
+    (void)module;
+    if (!PyArg_ParseTuple(args, "IKK", &reason, &number, &left)) return NULL;
+    error.kind = reason == 0 ? BSONRAW_NOT_UTF8 : BSONRAW_MALFORMED;
+    error.reason = reason;
+    error.number = number;
+    error.left = left;
+    bsonraw_fault_text(&error, text, sizeof text);
+    return PyUnicode_FromString(text);
+}
+
 static void refuse(struct fault *fault, uint32_t reason) {
     fault->kind = KIND_REFUSED;
     fault->reason = reason;

@@ -116,6 +116,7 @@ static PyMethodDef calls[] = {
     {"element", FASTCALL(py_element), METH_FASTCALL, NULL},
     {"listed", py_listed, METH_VARARGS, NULL},
     {"arrow", py_arrow, METH_VARARGS, NULL},
+    {"fault_text", py_fault_text, METH_VARARGS, NULL},
     {"use", classes_use, METH_O, NULL},
     {NULL, NULL, 0, NULL}};
 

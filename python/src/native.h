@@ -271,6 +271,7 @@ PyObject *error_refused(int reason, uint64_t offset);
 /* Of what isn't written; each object may be NULL. */
 void set_refused(int reason, PyObject *key, PyObject *path, PyObject *keys);
 void set_error(PyObject *error); /* takes it; NULL where an error is set */
+PyObject *py_fault_text(PyObject *module, PyObject *args);
 
 /* ---- tokens.c ---- */
 

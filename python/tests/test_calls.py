@@ -357,7 +357,7 @@ class Errors(unittest.TestCase):
     def test_pickled(self) -> None:
         error = bsonraw.first_fault(bytes.fromhex("0c000000 026100 06000000 00"))
         again = pickle.loads(pickle.dumps(error))
-        said = "at offset 4: at key 'a': expected buffer to contain at least 10 bytes, but it only has 5"
+        said = "at offset 4: at key 'a': a string is longer than what is left: 10 where 5 are left"
         self.assertEqual(str(again), said)
         self.assertEqual((again.kind, again.reason, again.key, again.offset), (1, Reason.STRING_PAST_END, "a", 4))
         self.assertEqual((again.path, again.keys), ((0,), ("a",)))

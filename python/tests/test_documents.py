@@ -79,88 +79,88 @@ BREACHES = [
 
 # Documents that stop at their first element, whose key is k: the reason, and its text.
 STOPS = [
-    ("07000000146b00", "INVALID_TAG", "invalid tag: 20"),
+    ("07000000146b00", "INVALID_TAG", "no kind has this tag: 20"),
     (
         "07000000026b00",
         "STRING_HEAD_SHORT",
-        "expected buffer with string to contain at least 4 bytes, but it only has 0",
+        "a string\'s length is cut off: 0 are left",
     ),
     (
         "0a0000000d6b00010000",
         "STRING_HEAD_SHORT",
-        "expected buffer with string to contain at least 4 bytes, but it only has 3",
+        "a string\'s length is cut off: 3 are left",
     ),
-    ("0c000000026b00ffffffff00", "NEGATIVE_LENGTH", "lengths can't be negative"),
+    ("0c000000026b00ffffffff00", "NEGATIVE_LENGTH", "a length is negative"),
     (
         "0b0000000e6b0000000000",
         "STRING_TOO_SMALL",
-        "BSON length encoded string needs to be at least 5 bytes, instead got 4",
+        "a string's length is 0",
     ),
-    ("0b000000026b0001000000", "STRING_PAST_END", "expected buffer to contain at least 5 bytes, but it only has 4"),
-    ("0d000000026b00010000000100", "STRING_NOT_TERMINATED", "expected string to be null-terminated"),
-    ("0c0000000c6b000100000000", "PAST_END", "length exceeds remaining length of buffer: 17 vs 5"),
-    ("0b000000046b0005000000", "PAST_END", "length exceeds remaining length of buffer: 5 vs 4"),
-    ("0c000000046b00ffffffff00", "NEGATIVE_LENGTH", "lengths can't be negative"),
-    ("0c000000036b000400000000", "DOCUMENT_TOO_SMALL", "document too small: 4 bytes"),
-    ("0c000000036b000600000000", "PAST_END", "length exceeds remaining length of buffer: 6 vs 5"),
-    ("0d000000036b00050000000100", "NESTED_NOT_TERMINATED", "not null terminated"),
-    ("07000000056b00", "LENGTH_HEAD_SHORT", "expected 4 bytes to read i32, instead got 0"),
-    ("0a0000000f6b00010000", "LENGTH_HEAD_SHORT", "expected 4 bytes to read i32, instead got 3"),
-    ("0c000000056b00ffffffff00", "NEGATIVE_LENGTH", "lengths can't be negative"),
-    ("0c0000000f6b00ffffffff00", "NEGATIVE_LENGTH", "lengths can't be negative"),
-    ("0b000000056b0000000000", "PAST_END", "length exceeds remaining length of buffer: 5 vs 4"),
-    ("0b0000000f6b0005000000", "PAST_END", "length exceeds remaining length of buffer: 5 vs 4"),
-    ("07000000086b00", "PAST_END", "length exceeds remaining length of buffer: 1 vs 0"),
-    ("0a000000106b00000000", "PAST_END", "length exceeds remaining length of buffer: 4 vs 3"),
-    ("07000000016b00", "PAST_END", "length exceeds remaining length of buffer: 8 vs 0"),
-    ("07000000076b00", "PAST_END", "length exceeds remaining length of buffer: 12 vs 0"),
-    ("07000000136b00", "PAST_END", "length exceeds remaining length of buffer: 16 vs 0"),
-    ("070000000b6b00", "NO_TERMINATOR", "expected null terminator"),
-    ("080000000b6b0000", "NO_TERMINATOR", "expected null terminator"),
+    ("0b000000026b0001000000", "STRING_PAST_END", "a string is longer than what is left: 5 where 4 are left"),
+    ("0d000000026b00010000000100", "STRING_NOT_TERMINATED", "a string has no final 0"),
+    ("0c0000000c6b000100000000", "PAST_END", "a value is longer than what is left: 17 where 5 are left"),
+    ("0b000000046b0005000000", "PAST_END", "a value is longer than what is left: 5 where 4 are left"),
+    ("0c000000046b00ffffffff00", "NEGATIVE_LENGTH", "a length is negative"),
+    ("0c000000036b000400000000", "DOCUMENT_TOO_SMALL", "a nested document\'s length is under 5: 4"),
+    ("0c000000036b000600000000", "PAST_END", "a value is longer than what is left: 6 where 5 are left"),
+    ("0d000000036b00050000000100", "NESTED_NOT_TERMINATED", "a nested document has no final 0"),
+    ("07000000056b00", "LENGTH_HEAD_SHORT", "a value\'s length is cut off: 0 are left"),
+    ("0a0000000f6b00010000", "LENGTH_HEAD_SHORT", "a value\'s length is cut off: 3 are left"),
+    ("0c000000056b00ffffffff00", "NEGATIVE_LENGTH", "a length is negative"),
+    ("0c0000000f6b00ffffffff00", "NEGATIVE_LENGTH", "a length is negative"),
+    ("0b000000056b0000000000", "PAST_END", "a value is longer than what is left: 5 where 4 are left"),
+    ("0b0000000f6b0005000000", "PAST_END", "a value is longer than what is left: 5 where 4 are left"),
+    ("07000000086b00", "PAST_END", "a value is longer than what is left: 1 where 0 are left"),
+    ("0a000000106b00000000", "PAST_END", "a value is longer than what is left: 4 where 3 are left"),
+    ("07000000016b00", "PAST_END", "a value is longer than what is left: 8 where 0 are left"),
+    ("07000000076b00", "PAST_END", "a value is longer than what is left: 12 where 0 are left"),
+    ("07000000136b00", "PAST_END", "a value is longer than what is left: 16 where 0 are left"),
+    ("070000000b6b00", "NO_TERMINATOR", "a text has no final 0"),
+    ("080000000b6b0000", "NO_TERMINATOR", "a text has no final 0"),
 ]
 
 # Documents whose element k has a payload that is no value: the reason, the key that the program names, and the text.
 FAULTS = [
-    ("09000000086b00ff00", "BAD_BOOLEAN", "k", "boolean must be stored as 0 or 1, got 255"),
-    ("0d000000056b00000000000200", "OLD_NO_INNER", "k", "old binary subtype has no inner declared length"),
-    ("11000000056b000400000002fcffffff00", "ADD_OVERFLOW", None, "attempted to add with overflow"),
+    ("09000000086b00ff00", "BAD_BOOLEAN", "k", "a boolean is neither 0 nor 1: 255"),
+    ("0d000000056b00000000000200", "OLD_NO_INNER", "k", "an old binary has no inner length"),
+    ("11000000056b000400000002fcffffff00", "ADD_OVERFLOW", None, "an old binary's inner length is negative"),
     (
         "11000000056b000400000002fbffffff00",
         "OLD_WRONG_INNER",
         "k",
-        "old binary subtype has wrong inner declared length",
+        "an old binary's inner length is wrong",
     ),
     (
         "11000000056b0004000000020100000000",
         "OLD_WRONG_INNER",
         "k",
-        "old binary subtype has wrong inner declared length",
+        "an old binary's inner length is wrong",
     ),
-    ("0e0000000d6b0002000000ff0000", None, None, "not UTF-8"),
-    ("0f0000000e6b000300000061c30000", None, None, "not UTF-8"),
-    ("150000000f6b000d00000001000000000400000000", "CODE_TOO_SMALL", "k", "code with scope length too small"),
-    ("160000000f6b000e000000ffffffff00000000000000", "NEGATIVE_LENGTH", None, "lengths can't be negative"),
+    ("0e0000000d6b0002000000ff0000", None, None, "a text isn't UTF-8"),
+    ("0f0000000e6b000300000061c30000", None, None, "a text isn't UTF-8"),
+    ("150000000f6b000d00000001000000000400000000", "CODE_TOO_SMALL", "k", "a code with scope is too short"),
+    ("160000000f6b000e000000ffffffff00000000000000", "NEGATIVE_LENGTH", None, "a length is negative"),
     (
         "160000000f6b000e0000000000000000050000000000",
         "STRING_TOO_SMALL",
         None,
-        "BSON length encoded string needs to be at least 5 bytes, instead got 4",
+        "a string's length is 0",
     ),
     (
         "160000000f6b000e0000000700000000050000000000",
         "STRING_PAST_END",
         None,
-        "expected buffer to contain at least 11 bytes, but it only has 10",
+        "a string is longer than what is left: 11 where 10 are left",
     ),
     (
         "160000000f6b000e0000000100000063050000000000",
         "STRING_NOT_TERMINATED",
         None,
-        "expected string to be null-terminated",
+        "a string has no final 0",
     ),
-    ("170000000f6b000f00000002000000ff00050000000000", None, None, "not UTF-8"),
-    ("160000000f6b000e0000000200000063000400000000", "TOO_SHORT", None, "document too short"),
-    ("160000000f6b000e0000000100000000050000000100", "NOT_TERMINATED", None, "document not null-terminated"),
+    ("170000000f6b000f00000002000000ff00050000000000", None, None, "a text isn't UTF-8"),
+    ("160000000f6b000e0000000200000063000400000000", "TOO_SHORT", None, "a document of under five bytes"),
+    ("160000000f6b000e0000000100000000050000000100", "NOT_TERMINATED", None, "no final 0"),
 ]
 
 
@@ -239,7 +239,7 @@ class Worked(unittest.TestCase):
         swallowing = bytes.fromhex("0f000000 0f6100 03000008 6200 01 00")
         with self.assertRaises(BsonError) as caught:
             bsonraw.get(swallowing, "a")
-        self.assertEqual(str(caught.exception), "at offset 4: at key 'a': length exceeds remaining length of buffer: 134217731 vs 8")
+        self.assertEqual(str(caught.exception), "at offset 4: at key 'a': a value is longer than what is left: 134217731 where 8 are left")
 
     def test_keys_of_each_length(self) -> None:
         """Keys are kept from one call to the next: those that begin and end alike aren't taken for one another."""

@@ -35,7 +35,7 @@ me ['logic', 'poetry']
 {'price': {'amount': Decimal128('9.90'), 'tags': ['new']}} ['price']
 2.5
 1 documents repeat another
-bad.bson 5: at offset 4: at key 'a': boolean must be stored as 0 or 1, got 2
+bad.bson 5: at offset 4: at key 'a': a boolean is neither 0 nor 1: 2
 2 documents kept
 2 forms, 1 canonical before, [5]
 """
@@ -74,7 +74,7 @@ class Pages(unittest.TestCase):
         good = bsonraw.encode({"a": 1, "b": 2})
         rows = [
             (good * 3, [{"keys": 2}] * 3, ""), (good + b"\xff\xff\xff\x7f" + bytes(50 << 20), [{"keys": 2}], "more bytes than allowed"),
-            (b"".join(largest) + good[:-3], [{"keys": 1}] * 5, "length incorrect"), (numbered, [{"keys": most // 12}], ""), (bsonraw.encode({"a": 1})[:-1] + b"\1", [], "not null-terminated"),
+            (b"".join(largest) + good[:-3], [{"keys": 1}] * 5, "a document's length is wrong"), (numbered, [{"keys": most // 12}], ""), (bsonraw.encode({"a": 1})[:-1] + b"\1", [], "no final 0"),
         ]
         tracemalloc.start()
         for sent, wanted, why in rows:
@@ -118,7 +118,7 @@ class Pages(unittest.TestCase):
         (block,) = blocks_of(FOLDER / "README.md")
         for data, wanted in (
             ("13000000 02686900 06000000 7927616c6c00 00", (0, "hi: y'all\n", "")),
-            ("08000000 146100 00", (1, "", "damaged: at offset 4: at key 'a': invalid tag: 20\n")),
+            ("08000000 146100 00", (1, "", "damaged: at offset 4: at key 'a': no kind has this tag: 20\n")),
         ):
             done = subprocess.run(
                 [sys.executable, "-c", block],
