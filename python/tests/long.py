@@ -95,7 +95,7 @@ def kept() -> List[int]:
 
 def main() -> int:
     made = list(all_made(77, 400))
-    run(made, max(CALLS // 4, 10_000))
+    run(made, max(CALLS // 4, 75_000))  # until then the interpreter fills tables of its own
     before, used = kept(), resource.getrusage(resource.RUSAGE_SELF).ru_maxrss
     run(made, CALLS)
     after, more = kept(), resource.getrusage(resource.RUSAGE_SELF).ru_maxrss - used
