@@ -5,9 +5,10 @@
 #   checks/arm.sh
 #
 #   - the programs of c/tests with both libraries: every buffer at its edges, each request for memory refused, the builder, threads, texts,
-#     reasons, numbers, and what is written in C for daily use; what a reader written from the format alone says of 20,000 made and
-#     damaged documents; and with a mistake in the library, or in its heap, that is noticed;
-#   - c/tests/print.c prints of each document of the tests what bsonraw prints on x86-64; the programs of examples/c;
+#     reasons, numbers, JSON, where documents go on behind damage, and what is written in C for daily use; what a reader written from the
+#     format alone says of 20,000 made and damaged documents; and with a mistake in the library, or in its heap, that is noticed;
+#   - c/tests/print.c prints of each document of the tests what bsonraw prints on x86-64, and examples/c/json_text.c the JSON of
+#     bsonraw-dump; the other programs of examples/c compile;
 #   - in a Debian of ARM, as root and with the net, the tests of the Python package, with 20,000 made documents beside a slow reader.
 #
 # It needs Debian's gcc-aarch64-linux-gnu, qemu-user-static, debootstrap, python3-setuptools and python3-wheel. Where one is missing,
@@ -53,9 +54,10 @@ documents() {
 }
 
 try_c() {
-    for name in agree buffers build daily memory numbers reasons slips texts threads; do
+    for name in agree buffers build daily from_json memory numbers reasons resync slips texts threads; do
         case $name in
         agree) word=20000 ;;
+        resync) word=few ;;
         threads) word=once ;;
         *) word= ;;
         esac
@@ -105,6 +107,16 @@ look_at_output() {
         done
     done <"$work/documents"
     echo "$(wc -l <"$work/documents") documents are printed as by the program on x86-64"
+    for file in examples/c/*.c; do compile "$(basename "$file" .c)" libbsonraw.a "$file" || fails "$file doesn't compile"; done
+    texts=0
+    while read -r name hex; do
+        echo "$hex" | xxd -r -p >"$work/document"
+        run json_text <"$work/document" >"$work/said" && crates/bsonraw_dump/out/bsonraw_dump json "$work/document" >"$work/wanted" 2>/dev/null || continue
+        cmp -s "$work/wanted" "$work/said" || fails "JSON of $name on ARM: $(cat "$work/said")"
+        texts=$((texts + 1))
+    done <"$work/documents"
+    [ "$texts" -ge 30 ] || fails "only $texts documents are printed as JSON"
+    echo "$texts documents are printed as JSON as by the program on x86-64"
 }
 
 # Runs the tests of the Python package but for one, whose signal comes too late by an emulator.

@@ -3,8 +3,8 @@
 # where nothing of this repository is, and prints the worked rows of examples/; a C program is compiled by pkg-config, and
 # Python has the module. release/verify finds a changed byte in each file, and each part that is compiled in has its licence there, whole.
 # lintian has nothing against the packages. One commit gives the same bytes twice, and where bin/test hasn't passed for the very
-# commit and what is built, nothing is made; what is made all the same says of itself nowhere that it is proved. On a processor that they
-# aren't built for the programs say so in a line.
+# commit and what is built, nothing is made; what is made all the same says of itself nowhere that it is proved. On processors without
+# SSE4.1 the libraries and the module give what they give here, and the programs say in a line why they don't run.
 #
 #   checks/packages.sh --short   for the gate: each in a folder of its own, with the machine's compiler and Python
 #   checks/packages.sh           in fresh Debians, too, from 11 to 13, and for ARM in those from 12 on: for a release, as root, with the net
@@ -217,13 +217,32 @@ sys.exit(not set(sys.argv[2:]) <= {it["name"] for it in json.load(open(sys.argv[
         sh "$try/try-release.sh" "$archive/bin" "$said" || fails "the archive doesn't do"
 }
 
-# Where an emulator is there: on a processor that lacks SSE4.1 each program says why it doesn't run, in one line.
+# on PROCESSOR COMMAND..: runs it by an emulator of this processor
+on() {
+    processor=$1
+    shift
+    LD_LIBRARY_PATH="$archive/lib" qemu-x86_64 -cpu "$processor" "$@"
+}
+
+# Where an emulator is there: on a processor that lacks SSE4.1 the libraries and the module read texts and documents as here, and each
+# program says why it doesn't run, in one line.
 try_old_processors() {
     if ! command -v qemu-x86_64 >/dev/null; then
         skip "processors without SSE4.1, since qemu-x86_64 isn't there"
         return
     fi
+    # a document whose one text is forty times the sign of the euro
+    euros=$(yes "$(printf '\342\202\254')" | head -n 40 | tr -d '\n')
+    printf '\206\0\0\0\2\303\244\0\171\0\0\0%s\0\0' "$euros" >"$work/euros"
+    text=$(printf '{"\303\244":"%s"}' "$euros")
     for processor in qemu64 core2duo; do
+        for library in '-L "$archive/lib" -lbsonraw' '"$archive/lib/libbsonraw.a"'; do
+            [ -n "$has_compiler" ] || break
+            eval "cc -o \"$work/old\" -I \"$archive/include\" examples/c/json_text.c $library" &&
+                [ "$(on $processor "$work/old" <"$work/euros")" = "$text" ] || fails "the library doesn't do on $processor"
+        done
+        [ ! -x "$work/venv/bin/python" ] || [ "$(PYTHONUTF8=1 on $processor "$work/venv/bin/python" -c 'import bsonraw, sys
+print(bsonraw.to_json(bsonraw.canonical(sys.stdin.buffer.read())))' <"$work/euros")" = "$text" ] || fails "the module doesn't do on $processor"
         for program in "$archive"/bin/*; do
             qemu-x86_64 -cpu $processor "$program" --version </dev/null >"$work/output" 2>"$work/said"
             [ "$?" = 127 ] && [ ! -s "$work/output" ] && [ "$(wc -l <"$work/said")" = 1 ] && grep -q 'this machine lacks a feature of x86-64-v2' "$work/said" ||
