@@ -29,3 +29,8 @@ pub not_begun : (x : ℕ) (r : List ℕ) (tag : Option ElementType) → MatchOpt
 not_begun x r None none isnt some (inl end) = some end
 not_begun x r None none isnt some (inr (kind, is)) = none kind is
 not_begun x r (Some kind) is isnt some begun = let impossible : ⊥ = cc in impossible
+
+-- a byte of no kind
+pub no_kind : (x : ℕ) (tag : Option ElementType) → MatchOption tag ((kind : ElementType) → x ≢ tag_of kind) (λ kind. x ≡ tag_of kind) → is_some tag ≡ false → (kind : ElementType) → x ≢ tag_of kind
+no_kind x None none is = none
+no_kind x (Some kind) at is = let impossible : ⊥ = cc in absurd impossible

@@ -1,12 +1,14 @@
 -- What is in front of what is left of an input.
-use Rattle.std.proofs.Common.{◌≡◌, ℕ, ◌+◌, ◌-◌, ◌<◌, ◌≤◌, List, [], ◌++◌, Bool, arith, length, take, drop, sym, ap, ◌∙◌, subst, inl, inr, append-nil, length-append, length-drop, length-take-le}
+use Rattle.std.proofs.Common.{◌≡◌, ℕ, suc, ◌+◌, ◌-◌, ◌<◌, ◌≤◌, List, [], ◌∷◌, ◌++◌, Bool, arith, length, take, drop, sym, ap, ◌∙◌, subst, inl, inr, append-nil, length-append, length-drop, length-take-le}
 use Rattle.std.proofs.lemmas.List.{drop-append-le, drop-drop, take-append-drop, take-append-le, take-take}
 use Rattle.std.proofs.Math.Seq.{take-append_seam, drop-append_seam}
 use Rattle.std.specs.Int.{w32, from_le_bytes}
 use Rattle.raw_tree.specs.declared.reader.limits.Limits.{Limits}
 use Rattle.raw_resync.specs.Pieces.{IsPiece, IsSoundLength, said_len}
 use Rattle.raw_resync.specs.Resync.{EndsOrBegins, GoesOnWith, IsSound}
-use Rattle.raw_resync.specs.Seeking.{LacksPiece, MayFollow}
+use Rattle.raw_resync.specs.Seeking.{LacksPiece, LacksTag, MayFollow, TellsFront}
+use Rattle.raw_resync.specs.declared.check.Front.TheVariants as front
+use Rattle.raw_resync.proofs.Begun.{sound_begun}
 
 pub said_front : (x y : List ℕ) → 4 ≤ length x → said_len (x ++ y) ≡ said_len x
 said_front x y four = ap (from_le_bytes w32) (take-append-le 4 x y four)
@@ -55,10 +57,43 @@ no_piece most last t rest b more (inr (four, inr many)) may piece split =
     let bound : length b ≤ most = piece.sound.1 in
     absurd (omega arith)
 
+head_same : (l more : List ℕ) (x : ℕ) (r : List ℕ) → 0 < length l → x ∷ r ≡ l ++ more → (rest : List ℕ) × (l ≡ x ∷ rest)
+head_same [] more x r some is = absurd (omega (arith, some))
+head_same (y ∷ ys) more x r some is = let same : x ≡ y = cc in (ys, ap (λ z. z ∷ ys) (sym same))
+
+-- what is behind the length in front of t is behind that of a document there
+same_behind_length : (t rest b more : List ℕ) (x : ℕ) (r : List ℕ) → drop 4 t ≡ x ∷ r → 5 ≤ length b → t ++ rest ≡ b ++ more → (r' : List ℕ) × (drop 4 b ≡ x ∷ r')
+same_behind_length t rest b more x r is enough split =
+    let size : length (drop 4 t) ≡ length t - 4 = length-drop 4 t in
+    let some : length (drop 4 t) ≡ suc (length r) = ap length is in
+    let left : length (drop 4 b) ≡ length b - 4 = length-drop 4 b in
+    head_same (drop 4 b) more x (r ++ rest) (omega (arith, left, enough))
+    (sym (ap (λ l. l ++ rest) is) ∙ sym (drop-append-le 4 t rest (omega (arith, size, some))) ∙ ap (drop 4) split ∙ drop-append-le 4 b more (omega (arith, enough)))
+
+-- no document without damage is in front of t, in which no tag is behind a length of more bytes
+no_tag : (limits : Limits) (t rest b more : List ℕ) → length t < said_len t → LacksTag t → IsSound limits b → ¬ (t ++ rest ≡ b ++ more)
+no_tag limits t rest b more longer (x, r, is, none) sound split =
+    let enough : 5 ≤ length b = sound.piece.sound.0 in
+    let size : length (drop 4 t) ≡ length t - 4 = length-drop 4 t in
+    let some : length (drop 4 t) ≡ suc (length r) = ap length is in
+    let said : said_len (t ++ rest) ≡ length b = front_said limits.bytes (t ++ rest) b more sound.piece split in
+    let same : said_len (t ++ rest) ≡ said_len t = said_front t rest (omega (arith, size, some)) in
+    let left : length (drop 4 b) ≡ length b - 4 = length-drop 4 b in
+    let (r', begins) = same_behind_length t rest b more x r is enough split in
+    let all : length (drop 4 b) ≡ suc (length r') = ap length begins in
+    elim (sound_begun limits b x r' begins sound) [
+      | inl end ↦ let nothing : length r' ≡ 0 = ap length end in absurd (omega (arith, size, some, said, same, left, all, nothing, longer))
+      | inr (kind, tag) ↦ none kind tag
+    ]
+
 -- where no piece is in front of t, it isn't empty
 pub lacking_some : (most : ℕ) (last : Bool) (t : List ℕ) → LacksPiece most last t → 0 < length t
 lacking_some most last t (inl (is, some, short)) = some
 lacking_some most last t (inr (four, which)) = omega arith
+
+pub goes_begins : (limits : Limits) (least : ℕ) (s : List ℕ) → GoesOnWith limits least s → EndsOrBegins limits s
+goes_begins limits least s (inl none) = inl none
+goes_begins limits least s (inr (b, rest, sound, split, long, next)) = inr (rest, (b, sound, split))
 
 -- what is left behind so many bytes
 pub left_behind : (place : ℕ) (bytes rest : List ℕ) → place ≤ length bytes → drop place (bytes ++ rest) ≡ drop place bytes ++ rest
@@ -76,6 +111,29 @@ lacks_behind limits last place bytes rest within lacks may (inl none) =
     not_nil (drop place bytes) rest (lacking_some limits.bytes last (drop place bytes) lacks) (sym (left_behind place bytes rest within) ∙ none)
 lacks_behind limits last place bytes rest within lacks may (inr (more, (b, sound, split))) =
     no_piece limits.bytes last (drop place bytes) rest b more lacks may sound.piece (sym (left_behind place bytes rest within) ∙ split)
+
+-- there are bytes where no piece is told
+pub told_some : (most : ℕ) (bytes : List ℕ) (last : Bool) (place : ℕ) → place ≤ length bytes → TellsFront most bytes last place front.NoPiece → place < length bytes
+told_some most bytes last place within (inl lacks) =
+    let some : 0 < length (drop place bytes) = lacking_some most last (drop place bytes) lacks in
+    let size : length (drop place bytes) ≡ length bytes - place = length-drop place bytes in
+    omega arith
+told_some most bytes last place within (inr (longer, (x, r, is, none))) =
+    let all : length (drop 4 (drop place bytes)) ≡ length (drop place bytes) - 4 = length-drop 4 (drop place bytes) in
+    let some : length (drop 4 (drop place bytes)) ≡ suc (length r) = ap length is in
+    let size : length (drop place bytes) ≡ length bytes - place = length-drop place bytes in
+    omega arith
+
+-- nor where none is told
+pub none_behind : (limits : Limits) (last : Bool) (place : ℕ) (bytes rest : List ℕ) → place ≤ length bytes → TellsFront limits.bytes bytes last place front.NoPiece
+    → MayFollow last rest → ¬ EndsOrBegins limits (drop place (bytes ++ rest))
+none_behind limits last place bytes rest within (inl lacks) may there = lacks_behind limits last place bytes rest within lacks may there
+none_behind limits last place bytes rest within (inr (longer, (x, r, is, none))) may (inl nil) =
+    let more : place < length bytes = told_some limits.bytes bytes last place within (inr (longer, (x, r, is, none))) in
+    let size : length (drop place bytes) ≡ length bytes - place = length-drop place bytes in
+    not_nil (drop place bytes) rest (omega (arith, size, more)) (sym (left_behind place bytes rest within) ∙ nil)
+none_behind limits last place bytes rest within (inr (longer, lacks)) may (inr (more, (b, sound, split))) =
+    no_tag limits (drop place bytes) rest b more longer lacks sound (sym (left_behind place bytes rest within) ∙ split)
 
 -- the piece in front of what is left behind so many bytes, and what is behind it
 pub split_front : (place len : ℕ) (bytes rest : List ℕ) → place + len ≤ length bytes

@@ -11,7 +11,7 @@ use Rattle.raw_resync.specs.declared.check.Check.{Check}
 use Rattle.raw_resync.specs.declared.check.Check.TheVariants as check
 use Rattle.raw_resync.specs.declared.check.Front.TheVariants as front
 use Rattle.raw_resync.specs.declared.work.Work.{Work}
-use Rattle.raw_resync.proofs.Fronts.{begins, front_len, goes_on, goes_only, is_sound, lacks_behind, left_behind, split_front}
+use Rattle.raw_resync.proofs.Fronts.{begins, front_len, goes_begins, goes_on, goes_only, is_sound, left_behind, none_behind, split_front, told_some}
 use Rattle.raw_resync.proofs.Costing.{bounded_judged, charges_judged, works_none, works_on}
 
 pub if_ok : {A E : Type 0} (P Q : A → Type 0) (r : Result A E) → ((x : A) → P x → Q x) → IfOk r P → IfOk r Q
@@ -76,6 +76,18 @@ behind_piece limits bytes last at place len old new (Some false) within is p = r
       p.tells (is_sound limits (drop place (bytes ++ rest)) (take len (drop place bytes)) (drop (place + len) (bytes ++ rest)) is (split_front place len bytes rest within) there);
 }
 
+-- no piece is told behind so many bytes
+module _ (limits : Limits) (bytes : List ℕ) (last : Bool) (at place : ℕ) (w : Work) (within : place ≤ length bytes) (lacks : TellsFront limits.bytes bytes last place front.NoPiece) where
+  pub behind_none : ChecksBehind limits bytes last at place w w check.Stops
+  behind_none = record { works = works_none limits bytes last at w; tells = λ rest may. none_behind limits last place bytes rest within lacks may }
+
+  pub at_none : (least : ℕ) → Checks limits bytes last at place least w w check.Stops
+  at_none least = record {
+    works = works_none limits bytes last at w;
+    tells = λ rest may.
+        (told_some limits.bytes bytes last place within lacks, λ goes. none_behind limits last place bytes rest within lacks may (goes_begins limits least (drop place (bytes ++ rest)) goes));
+  }
+
 -- nothing is left behind so many bytes
 nothing_left : (place : ℕ) (last : Bool) (bytes rest : List ℕ) → place ≤ length bytes → last ≡ true → drop place bytes ≡ [] → MayFollow last rest → drop place (bytes ++ rest) ≡ []
 nothing_left place last bytes rest within is none may = left_behind place bytes rest within ∙ ap (λ l. l ++ rest) none ∙ may is
@@ -112,7 +124,7 @@ module _ (limits : Limits) (bytes : List ℕ) (last : Bool) (at place len : ℕ)
   pub no_second : (w : Work) → TellsFront limits.bytes bytes last (place + len) front.NoPiece → Checks limits bytes last at place len w w check.Stops
   no_second w lacks = record {
     works = works_none limits bytes last at w;
-    tells = λ rest may. (some, λ there. lacks_behind limits last (place + len) bytes rest within lacks may ((only rest len there).1));
+    tells = λ rest may. (some, λ there. none_behind limits last (place + len) bytes rest within lacks may ((only rest len there).1));
   }
 
   pub wants_second : (n : ℕ) (w : Work) → TellsFront limits.bytes bytes last (place + len) (front.Wants n) → Checks limits bytes last at place len w w (check.Wants n)

@@ -3,7 +3,7 @@ use Rattle.std.proofs.Common.{◌≡◌, ℕ, ◌+◌, ◌-◌, ◌<◌, ◌≤�
 use Rattle.std.proofs.Math.Nat.{eq-or-lt_of_le}
 use Rattle.std.proofs.lemmas.Bool.{cases_lt}
 use Rattle.raw_tree.specs.declared.reader.limits.Limits.{Limits}
-use Rattle.raw_resync.specs.Resync.{EndsOrBegins, GoesOnWith}
+use Rattle.raw_resync.specs.Resync.{GoesOnWith}
 use Rattle.raw_resync.specs.Charge.{IsLeftOut}
 use Rattle.raw_resync.specs.Seeking.{Checks, LacksPieces, MayFollow, PassesOver, Seeks, Works}
 use Rattle.raw_resync.specs.declared.search.Places.{Places}
@@ -11,7 +11,7 @@ use Rattle.raw_resync.specs.declared.search.Sought.TheVariants as sought
 use Rattle.raw_resync.specs.declared.check.Check.TheVariants as check
 use Rattle.raw_resync.specs.declared.work.Work.{Work}
 use Rattle.raw_resync.proofs.Costing.{left_on, works_more, works_on}
-use Rattle.raw_resync.proofs.Fronts.{lacks_behind}
+use Rattle.raw_resync.proofs.Fronts.{goes_begins, lacks_behind}
 
 -- no place is passed yet
 pub passes_none : (limits : Limits) (total : ℕ) (s : List ℕ) (from end : ℕ) (w : Work) → PassesOver limits total s from from end w true
@@ -90,10 +90,6 @@ has_passed_none limits bytes last at from end w within works = record {
   works = works;
   over = λ rest may. passes_none limits (at + length (bytes ++ rest)) (bytes ++ rest) from end w;
 }
-
-goes_begins : (limits : Limits) (least : ℕ) (s : List ℕ) → GoesOnWith limits least s → EndsOrBegins limits s
-goes_begins limits least s (inl none) = inl none
-goes_begins limits least s (inr (b, rest, sound, split, long, next)) = inr (rest, (b, sound, split))
 
 -- no piece is in front of the places up to the next one
 pub has_passed_lacking : (limits : Limits) (bytes : List ℕ) (last : Bool) (at from place next end : ℕ) (old new : Work) (all : Bool) → place < next → next ≤ length bytes

@@ -1,6 +1,8 @@
 -- What the code of a search tells of some bytes of an input. Behind them is more, rest, which isn't known; or nothing, where they are
 -- the last.
-use Rattle.std.specs.Prelude.{◌≡◌, ◌⊎◌, ◌<◌, ◌≤◌, ◌+◌, ◌*◌, ◌-◌, ◌^◌, ℕ, List, [], ◌++◌, Bool, true, false, Option, None, Some, drop, length, max, take}
+use Rattle.std.specs.Prelude.{◌≡◌, ◌≢◌, ◌⊎◌, ◌<◌, ◌≤◌, ◌+◌, ◌*◌, ◌-◌, ◌^◌, ℕ, List, [], ◌∷◌, ◌++◌, Bool, true, false, Option, None, Some, drop, length, max, take}
+use Rattle.raw_view.specs.Frame.Kind.{tag_of}
+use Rattle.raw_view.specs.declared.element_type.ElementType.{ElementType}
 use Rattle.raw_tree.specs.declared.reader.limits.Limits.{Limits}
 use Rattle.raw_resync.specs.Pieces.{IsPiece, said_len}
 use Rattle.raw_resync.specs.Resync.{EndsOrBegins, GoesOnWith, IsSound}
@@ -37,6 +39,10 @@ abbrev pub LacksPiece : ℕ → Bool → List ℕ → Type 0
 LacksPiece most is_last t =
     ((is_last ≡ true) × (0 < length t) × ((length t < 4) ⊎ (length t < said_len t))) ⊎ ((4 ≤ length t) × ((said_len t < 5) ⊎ (most < said_len t)))
 
+-- behind the length in front of t is a byte that is no tag
+abbrev pub LacksTag : List ℕ → Type 0
+LacksTag t = (x : ℕ) × (r : List ℕ) × (drop 4 t ≡ x ∷ r) × ((kind : ElementType) → x ≢ tag_of kind)
+
 -- no piece is in front of what is between two places
 abbrev pub LacksPieces : ℕ → Bool → List ℕ → (place next : ℕ) → Type 0
 LacksPieces most is_last bytes place next = (j : ℕ) → place < j → j < next → LacksPiece most is_last (drop j bytes)
@@ -44,7 +50,8 @@ LacksPieces most is_last bytes place next = (j : ℕ) → place < j → j < next
 -- what is in front behind so many bytes
 abbrev pub TellsFront : ℕ → List ℕ → Bool → ℕ → Front → Type 0
 TellsFront most bytes is_last place front.End = (is_last ≡ true) × (drop place bytes ≡ [])
-TellsFront most bytes is_last place front.NoPiece = LacksPiece most is_last (drop place bytes)
+TellsFront most bytes is_last place front.NoPiece =
+    LacksPiece most is_last (drop place bytes) ⊎ ((length (drop place bytes) < said_len (drop place bytes)) × LacksTag (drop place bytes))
 TellsFront most bytes is_last place (front.Wants n) = (is_last ≡ false) × (length bytes < n) × (n ≤ place + most + 4)
 TellsFront most bytes is_last place (front.Piece len) = (place + len ≤ length bytes) × IsPiece most (take len (drop place bytes))
 

@@ -1,11 +1,11 @@
 //! Whether documents go on at a place.
 #![tactic(auto)]
 
-ghost use Rattle.std.specs.Prelude.{◌≡◌, ◌≤◌, ◌+◌, IfOk, drop, false, length, take};
+ghost use Rattle.std.specs.Prelude.{◌≡◌, ◌≤◌, ◌+◌, IfOk, drop, false, length, take, true};
 ghost use Rattle.raw_tree.specs.declared.reader.limits.Limits.{Limits};
 ghost use Rattle.raw_resync.specs.Pieces.{IsPiece};
 ghost use Rattle.raw_resync.specs.Resync.{IsSound};
-ghost use Rattle.raw_resync.specs.Seeking.{Checks, ChecksBehind, IsWork, JudgesPiece, TellsFront, check_of};
+ghost use Rattle.raw_resync.specs.Seeking.{Checks, ChecksBehind, IsWork, JudgesPiece, LacksTag, TellsFront, check_of};
 
 use crate::judge::judge;
 use crate::work::Work;
@@ -31,7 +31,7 @@ pub struct Part<'a> {
 pub(crate) enum Front {
     /// nothing: the input is at its end
     End,
-    /// no document has the length in front, or so many bytes aren't left
+    /// no document has the length in front, or so many bytes aren't left, or no tag is behind it
     NoPiece,
     /// it isn't known before so many bytes are there
     Wants(usize),
@@ -72,10 +72,22 @@ pub(crate) fn front_at(part: Part<'_>, place: usize) -> Front
     }
     if len <= rest.len() {
         Front::Piece(len)
-    } else if part.is_last {
+    } else if part.is_last || lacks_tag(rest) {
         Front::NoPiece
     } else {
         Front::Wants(place + len)
+    }
+}
+
+/// Whether the byte behind a length is there, and is no tag.
+#[inline(always)]
+fn lacks_tag(rest: &[u8]) -> bool
+    requires { 4 ≤ length rest.now }
+    ensures { result ≡ true → LacksTag rest.now }
+{
+    match rest.split_at(4).1.split_first() {
+        Some((byte, _)) => ElementType::from(*byte).is_none(),
+        None => false,
     }
 }
 

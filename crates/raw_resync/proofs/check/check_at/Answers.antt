@@ -1,6 +1,6 @@
 use Rattle.std.proofs.Common.{◌≤◌, arith}
 use Rattle.raw_resync.specs.Seeking.{Checks}
-use Rattle.raw_resync.proofs.Looking.{if_ok, long_enough}
+use Rattle.raw_resync.proofs.Looking.{at_none, if_ok, long_enough}
 use Rattle.raw_resync.proofs.check.check_at.Goals as goal
 
 pub returns-clause-checked : goal.returns-clause-checked
@@ -12,3 +12,8 @@ returns-clause-checked c =
     (λ told is. long_enough p.limits p.bytes.now p.is_last p.at c.args.place c.in-Piece.len c.in-Piece.ensures.0 c.in-Piece.ensures.1 c.args.least
     c.args.work.now c.check_piece.new.work told long is)
     c.check_piece.ensures.checked
+
+pub returns-in-NoPiece-clause-checked : goal.returns-in-NoPiece-clause-checked
+returns-in-NoPiece-clause-checked c =
+    let p = c.args.part in
+    at_none p.limits p.bytes.now p.is_last p.at c.args.place c.args.work.now c.requires.1 c.in-NoPiece.ensures c.args.least
