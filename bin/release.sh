@@ -120,7 +120,7 @@ END
 # which the header's calls have names that end in _NAME, and nothing else has a name
 link_build() {
     "$toolchain/bin/ld.lld" -r -o "$2/$3.o" --whole-archive "$1" --no-whole-archive "$toolchain/../c/liblibc_c.a" &&
-        "$2/llvm-nm" --defined-only --extern-only --just-symbol-name "$2/$3.o" | grep '^bsonraw_' | sort >"$2/calls" &&
+        "$2/llvm-nm" --defined-only --extern-only --just-symbol-name "$2/$3.o" | grep '^bsonraw_' | LC_ALL=C sort >"$2/calls" &&
         sed "s/.*/& &_$3/" "$2/calls" >"$2/renamed" &&
         "$2/llvm-objcopy" --wildcard --keep-global-symbol='bsonraw_*' "$2/$3.o" && "$2/llvm-objcopy" --redefine-syms="$2/renamed" "$2/$3.o"
 }
@@ -153,7 +153,7 @@ link_aarch64() {
         "$toolchain/bin/ld.lld" -r -o "$1/bsonraw.o" --whole-archive "$arm" --no-whole-archive "$1/heap.o" &&
         "$1/llvm-objcopy" --wildcard --keep-global-symbol='bsonraw_*' "$1/bsonraw.o" || return 1
     "$1/llvm-nm" --undefined-only --just-symbol-name "$1/bsonraw.o" "$1/daily.o" "$1/exported.o" | grep -x '[a-z0-9_][a-z0-9_]*' | grep -v '^bsonraw_' |
-        sort -u | sed 's/.*/void &(void) {}/' >"$1/names.c"
+        LC_ALL=C sort -u | sed 's/.*/void &(void) {}/' >"$1/names.c"
     echo 'GLIBC_2.17 { global: *; };' >"$1/versions"
     "$toolchain/bin/clang" --target=aarch64-unknown-linux-gnu -ffreestanding -fno-builtin -fPIC -c -o "$1/names.o" "$1/names.c" &&
         "$toolchain/bin/ld.lld" -shared -soname libc.so.6 --version-script "$1/versions" -o "$1/libc.so.6" "$1/names.o"
@@ -197,7 +197,7 @@ lay_out() {
         install -m 644 "$link_folder/libbsonraw.so.$version" "$1/$3" &&
         ln -s "libbsonraw.so.$version" "$1/$3/$soname" &&
         ln -s "$soname" "$1/$3/libbsonraw.so" &&
-        pkg_config "$2" "$3" >"$1/$3/pkgconfig/bsonraw.pc" &&
+        pkg_config "$2" "$3" | install -m 644 /dev/stdin "$1/$3/pkgconfig/bsonraw.pc" &&
         install -m 644 "$root"/man/*.3 "$1/share/man/man3" &&
         link_pages "$1/share/man/man3"
     status=$?

@@ -2,12 +2,15 @@
 # What bin/package makes, tried as a new user would: each of the archive, the Debian packages and the wheels is installed
 # where nothing of this repository is, and prints the worked rows of examples/; a C program is compiled by pkg-config, and
 # Python has the module. release/verify finds a changed byte in each file, and each part that is compiled in has its licence there, whole.
-# lintian has nothing against the packages. One commit gives the same bytes twice, and where bin/test hasn't passed for the very
-# commit and what is built, nothing is made; what is made all the same says of itself nowhere that it is proved. On processors without
-# SSE4.1 the libraries and the module give what they give here, and the programs say in a line why they don't run.
+# lintian has nothing against the packages. One commit gives the same bytes twice, in another folder and with other settings of the
+# machine, too, and where bin/test hasn't passed for the very commit and what is built, nothing is made; what is made all the same says of
+# itself nowhere that it is proved. On processors without SSE4.1 the libraries and the module give what they give here, and the programs
+# say in a line why they don't run.
 #
 #   checks/packages.sh --short   for the gate: each in a folder of its own, with the machine's compiler and Python
-#   checks/packages.sh           in fresh Debians, too, from 11 to 13, and for ARM in those from 12 on: for a release, as root, with the net
+#   checks/packages.sh           for a release, as root, with the net: in fresh Debians, too, from 11 to 13, and for ARM in those from 12 on. The
+#                                programs and the library are first built once more in another folder, and are the same bytes
+#   checks/packages.sh DEBIAN..  the same in these alone, as bullseye-amd64 or trixie-arm64
 #
 # In a fresh Debian each is installed, by apt as README says, programs in C are compiled, Python has the module, and what is purged leaves
 # nothing. The Python package is built there from its source, over the library's packages. Debian 11 has an older C library than the
@@ -17,6 +20,12 @@
 set -u
 cd "$(dirname "$(realpath "$0")")/.." || exit 1
 . checks/debian.sh
+for debian in "$@"; do
+    case $#-$debian in
+    1---short | *-bullseye-amd64 | *-bookworm-amd64 | *-trixie-amd64 | *-bookworm-arm64 | *-trixie-arm64) ;;
+    *) echo "usage: checks/packages.sh [--short | DEBIAN..], each as trixie-arm64" >&2 && exit 2 ;;
+    esac
+done
 work=$(mktemp -d) || exit 1
 trap 'rm -rf "$work"' EXIT
 try="$work/new user"
@@ -34,14 +43,27 @@ skip() {
     skipped="$skipped${skipped:+, }$1"
 }
 
-# copy FOLDER: this repository as it is here, and what was built, in one commit of a repository of its own
-copy() {
-    mkdir -p "$1" && git ls-files -z --cached --others --exclude-standard | xargs -0 cp -P --parents -t "$1" &&
-        for built in crates/bsonraw/out/bsonraw crates/bsonraw_dump/out/bsonraw_dump crates/bsonraw_c/out/*.a crates/bsonraw_c/out/baseline/* crates/*/out/built; do
+# put FOLDER: the files of this repository as they are here, and what was built
+put() {
+    git ls-files -z --cached --others --exclude-standard | xargs -0 cp -P --parents -t "$1" &&
+        for built in crates/bsonraw/out/bsonraw crates/bsonraw_dump/out/bsonraw_dump crates/bsonraw_c/out/*.a crates/bsonraw_c/out/baseline/* \
+            crates/bsonraw_c/out/aarch64/* crates/*/out/built; do
             [ ! -e "$built" ] || cp -p --parents "$built" "$1" || return 1
-        done && git -C "$1" init -q && git -C "$1" add -A &&
+        done
+}
+
+# copy FOLDER: the same in one commit of a repository of its own
+copy() {
+    mkdir -p "$1" && put "$1" && git -C "$1" init -q && git -C "$1" add -A &&
         git -C "$1" -c user.name=checks -c user.email=checks@localhost commit -qm "What is tried"
 }
+
+# clone FOLDER: the same in a clone of someone who lets nobody else read, with the commit and what isn't committed, and with what Python leaves
+clone() (
+    umask 077
+    rm -rf "$1" && git clone -q --no-checkout . "$1" && git -C "$1" reset -q && put "$1" &&
+        mkdir -p "$1/python/bsonraw/__pycache__" && echo left >"$1/python/bsonraw/__pycache__/left.pyc"
+)
 
 # record FOLDER RECORD LINE: what bin/test or bin/install would note there, and this line of what passed
 record() {
@@ -104,6 +126,7 @@ bin/test 5 passed, 0 failed'
     touch "$work/now" && (root=$work/copy && . bin/build.sh && for name in $crates; do note_built "$name" "$work/now" || exit 1; done) || exit 1
     "$work/copy/bin/install" "$work/installed" >/dev/null || fails "what is built isn't installed"
     makes untested --untested
+    ! "$work/copy/bin/package" --untested "$work/untested" >/dev/null 2>&1 || fails "something is put beside what is there"
     tar -xOf "$work"/untested/*untested*-linux.tar.gz --wildcards '*/PROVED' | grep -Eqx 'proved: [1-9][0-9]* crates; tests not run' ||
         fails "PROVED doesn't say that tests weren't run"
     claims "$work/untested" '\btested\b' 'no test'
@@ -138,11 +161,13 @@ try_unproved() {
     claims "$1" '\bprove[ds]\b|\bproofs?\b|\btested\b' 'was not seen|was seen|nothing (of that )?is proved|would be proved|PROVED says|/PROVED\b| PROVED$|proves and installs|unproved'
 }
 
-# make_all FOLDER [FLAG..]: makes twice the same bytes, of which the names say that they are unproved where they are
+# make_all FOLDER [FLAG..]: makes twice the same bytes, later and in another folder the second time, where the machine has settings of its own; the
+# names say that they are unproved
 make_all() {
     folder=$1
     shift
-    bin/package "$@" --unproved "$folder" >/dev/null && sleep 1 && bin/package "$@" --unproved $by_key "$work/again" >/dev/null || exit 1
+    bin/package "$@" --unproved "$folder" >/dev/null && clone "$work/another clone" && sleep 1 &&
+        CFLAGS=-g LDFLAGS=-Wl,--build-id=none TZ=X-13 "$work/another clone/bin/package" "$@" --unproved $by_key "$work/again" >/dev/null || exit 1
     diff -r -x SHA256SUMS.asc "$folder" "$work/again" >&2 || fails "one commit gives other bytes the second time"
     [ -z "$by_key" ] || gpg --batch --quiet --verify "$work/again/SHA256SUMS.asc" "$work/again/SHA256SUMS" 2>"$work/said_by_gpg" ||
         fails "the signature isn't good: $(cat "$work/said_by_gpg")"
@@ -151,6 +176,39 @@ make_all() {
         case $file in *unproved*) ;; *) fails "a name doesn't say that it is unproved: $file" ;; esac
     done
     (cd "$folder" && sha256sum --check --quiet --strict SHA256SUMS) || fails "SHA256SUMS isn't right"
+}
+
+# build_in FOLDER CRATE: builds a program or the library of a clone there over what is proved here of the crates below it; that proves the
+# crate once more, unless a build here kept its proofs
+build_in() (
+    folder=$1/crates/$2
+    kit=$(dirname "$(rt doc)")
+    kept=crates/$2/out/incremental
+    [ ! -d "$kept" ] || cp -a --parents "$kept" "$1" || exit 1
+    case $2 in
+    bsonraw_c)
+        build_over "$2" "$folder" src/lib.rt --crate-type staticlib --incremental out/incremental -o "out/lib$2.a"
+        ;;
+    *)
+        build_over "$2" "$folder" src/main.rt --incremental out/incremental -o "out/$2.o" &&
+            "$kit/bin/rattle-link" --target x86_64-unknown-linux-gnu --toolchain "$kit/toolchain" -o "$folder/out/$2" "$folder/out/$2.o" \
+                "$kit/c/libos_c.a" "$kit/c/liblibc_c.a"
+        ;;
+    esac
+)
+
+# What is built in another folder is the same bytes: the programs and the library.
+try_builds() {
+    clone "$work/another clone" || exit 1
+    for name in $crates; do
+        made=$(root=. && . bin/build.sh && made_by "$name")
+        if rm -f "$work/another clone/$made" && (root=$PWD && . bin/build.sh && build_in "$work/another clone" "$name") >"$work/said" 2>&1; then
+            cmp "$made" "$work/another clone/$made" >&2 || fails "$name is built with other bytes in another folder"
+        else
+            tail -n 3 "$work/said" >&2
+            fails "$name isn't built in another folder"
+        fi
+    done
 }
 
 # A key that this run alone has, to sign with.
@@ -396,14 +454,16 @@ does() {
     in_debian "$there" "$2" SAID="$said" PROGRAMS="$programs" || fails "in $where $1: see above"
 }
 
+# try_debians DEBIAN..: each as bookworm-arm64
 try_debians() {
     make_all "$made_for_arm" --target aarch64
     try_arm
-    try_debian bullseye amd64 "$made"
-    try_debian bookworm amd64 "$made"
-    try_debian trixie amd64 "$made"
-    try_debian bookworm arm64 "$made_for_arm"
-    try_debian trixie arm64 "$made_for_arm"
+    for debian in "$@"; do
+        case $debian in
+        *-amd64) try_debian "${debian%-*}" amd64 "$made" ;;
+        *-arm64) try_debian "${debian%-*}" arm64 "$made_for_arm" ;;
+        esac
+    done
 }
 
 crates='bsonraw bsonraw_dump bsonraw_c'
@@ -427,6 +487,10 @@ try_crate
 try_packages
 try_wheels
 try_old_processors
-[ "${1-}" = --short ] || try_debians
+if [ "${1-}" != --short ]; then
+    try_builds
+    [ $# -gt 0 ] || set -- bullseye-amd64 bookworm-amd64 trixie-amd64 bookworm-arm64 trixie-arm64
+    try_debians "$@"
+fi
 echo "packages: left out: ${skipped:-nothing}"
 exit "$failed"

@@ -7,7 +7,7 @@
 
 They are the libraries that the crates' lines of crates.txt name, and those that these libraries name in turn. KIT is the kit's
 folder. The time in the list is SOURCE_DATE_EPOCH. Of a part that leaves the choice the licence MIT is taken. A licence whose text isn't
-known here is an error.
+known here is an error, and so is a source that names one which isn't.
 """
 
 import hashlib
@@ -25,8 +25,15 @@ KNOWN = {
     "Apache-2.0": r"Apache License\s+Version 2\.0",
     "BSL-1.0": r"Boost Software License - Version 1\.0",
     "MIT": r"Permission is hereby granted, free of charge, to any\s+person\s+obtaining\s+a\s+copy\s+of\s+this\s+software\s+and\s+associated",
+    "Unicode-3.0": r"UNICODE LICENSE V3",
 }
 
+# what sources of the kit say that they have from elsewhere: the file of the kit with the licence of that; none where it asks for no notice
+TAKEN = {
+    "fast-float2": "fast_float/LICENSE",
+    "Unicode License v3": "unicode/LICENSE-UNICODE",
+    "(Unlicense)": "",
+}
 
 # what the linker puts into a program around its own code: each licence has an exception for just that, which asks for no notice
 START_CODE = {
@@ -62,6 +69,18 @@ def texts(kit: Path, part: str) -> "dict[str, str]":
     return found
 
 
+def taken(kit: Path, part: str) -> "dict[str, str]":
+    """The texts of the licences of what a part's sources say that they have from elsewhere, by the names of their files in the kit."""
+    found = set()
+    for source in sorted((kit / "rattle" / part / "src").rglob("*.rt")):
+        text = source.read_text()
+        named = {file for word, file in TAKEN.items() if word in text}
+        if not named and re.search("licen[cs]e|copyright", text, re.I):
+            sys.exit(f"parts: {source} names a licence that isn't known here")
+        found |= named - {""}
+    return {file: (kit / "rattle" / file).read_text() for file in sorted(found)}
+
+
 def name_of(part: str, file: str, text: str) -> str:
     """Which licence a text is, in the words of SPDX."""
     for name, pattern in KNOWN.items():
@@ -83,11 +102,14 @@ def licences(kit: Path, found: "list[str]", on_debian: bool, programs: bool) -> 
     said = ["Compiled into this release, besides its own code, are these libraries of the Rattle kit.\n"]
     said += [f"{part} ({licence(kit, part)})" for part in found if part not in own]
     said += ["", "and of the kit's own, for which the kit states no licence: " + ", ".join(own) + ".\n"]
+    for part in found:
+        said += [f"{part} has code or data of others: {file}, {name_of(part, file, text)}" for file, text in taken(kit, part).items()]
+    said += [""]
     if programs:
         said += ["A program also has, by exceptions in their licences that ask for no notice:\n"]
         said += [f"{what} ({licence})" for what, licence in START_CODE.values()] + [""]
     for part in found:
-        for file, text in texts(kit, part).items():
+        for file, text in {**texts(kit, part), **taken(kit, part)}.items():
             name = name_of(part, file, text)
             if on_debian and name == "Apache-2.0":
                 text = "Its text is in /usr/share/common-licenses/Apache-2.0."
@@ -113,6 +135,9 @@ def spdx(kit: Path, found: "list[str]", version: str, programs: bool) -> str:
         }
 
     listed = [package(it, kit_version, licence(kit, it)) for it in found]
+    listed += [
+        package(f"{it}-{Path(file).parent}", "NOASSERTION", name_of(it, file, text)) for it in found for file, text in taken(kit, it).items()
+    ]
     listed += [package(f"{name}-start-code", "NOASSERTION", it) for name, (_, it) in START_CODE.items() if programs]
     related = [("SPDXRef-DOCUMENT", "DESCRIBES", "SPDXRef-bsonraw"), *[("SPDXRef-bsonraw", "STATIC_LINK", it["SPDXID"]) for it in listed]]
     document = {
