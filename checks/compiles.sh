@@ -17,9 +17,9 @@ crate=$work/copy/crates/shown
 mkdir -p "$crate" || exit 1
 git ls-files -z crates crates.txt HANDLES | xargs -0 cp --parents -t "$work/copy" || exit 1
 mkdir -p "$work/programs" || exit 1
-printf 'shown: raw_bson raw_form raw_shelf bson_json bson_from_json\n' >>"$work/copy/crates.txt"
+printf 'shown: raw_bson raw_form raw_shelf bson_json bson_from_json json_round_trip\n' >>"$work/copy/crates.txt"
 pages='README.md CONTRIBUTING.md docs/*.md examples/*.md'
-documented=$(git ls-files crates/bson_model/src crates/raw_view/src crates/raw_tree/src crates/raw_form/src crates/raw_bson/src crates/raw_shelf/src crates/bson_json/src crates/bson_from_json/src)
+documented=$(git ls-files crates/bson_model/src crates/raw_view/src crates/raw_tree/src crates/raw_form/src crates/raw_bson/src crates/raw_shelf/src crates/bson_json/src crates/bson_from_json/src crates/json_round_trip/src)
 sed '/^#/d; /^$/d' "$list" >"$work/cases"
 count=$(wc -l <"$work/cases")
 failed=0

@@ -12,7 +12,7 @@ import sys
 from pathlib import Path
 from typing import Dict, Iterator, List, NamedTuple, Optional, Set
 
-USED = ["raw_bson", "raw_form", "raw_shelf", "bson_json", "bson_from_json"]
+USED = ["raw_bson", "raw_form", "raw_shelf", "bson_json", "bson_from_json", "json_round_trip"]
 CRATES = ["bson_model", "raw_view", "raw_tree", *USED]
 # the calls of the programs that PROMISES.md names
 PROGRAMS = {
@@ -255,7 +255,7 @@ def families(calls: List[Item]) -> Iterator["tuple[list[Item], str]"]:
 def page(crates: Crates) -> Iterator[str]:
     """The lines of the page."""
     yield "# Contracts\n"
-    yield "Every public item of `raw_bson`, `raw_form`, `raw_shelf`, `bson_json` and `bson_from_json`, by the first sentence of its comment."
+    yield "Every public item of `raw_bson`, `raw_form`, `raw_shelf`, `bson_json`, `bson_from_json` and `json_round_trip`, by the first sentence of its comment."
     yield "The contract is in the source to which the link leads: the whole comment, the signature and its clauses."
     yield "[DEFINITIONS.md](DEFINITIONS.md) says how a clause reads and what its words mean. `checks/contracts.sh --write` writes this page;"
     yield "don't edit it."

@@ -176,6 +176,7 @@ GIVES = {
     "raw_shelf": "canonical documents, each once",
     "bson_json": "documents as Extended JSON",
     "bson_from_json": "documents from Extended JSON",
+    "json_round_trip": "that what is printed is read back",
     "bsonraw": "the program for one document in hex",
     "bsonraw_dump": "the program for dumps",
     "bsonraw_c": "the library for C, and so for Python and Rust",

@@ -1,0 +1,11 @@
+pub mod Plain
+pub mod Shapes
+pub mod Doubles
+pub mod Scientific
+pub mod Numerals
+pub mod Halves
+pub mod Decimals
+pub mod Binaries
+pub mod Integers
+pub mod Texts
+pub mod Whole

@@ -1,0 +1,72 @@
+-- The text of an integer writes no other, and stands in a JSON string as it is.
+use Rattle.std.proofs.Common.{◌≡◌, ◌<◌, ◌^◌, ℕ, ℤ, pos, negsuc, suc, true, List, get_or, codes, decimal, FitsSigned, inl, inr, refl, sym, ap, subst, ◌∙◌, arith}
+use Rattle.std.specs.Fmt.{signed_decimal}
+use Rattle.std.specs.Int.{w32, w64}
+use lib.Signed.{mag}
+use Rattle.std.proofs.lemmas.Fmt.{decimal_is_IsNumeral, first_decimal, signed_decimal_injective}
+use Rattle.std.proofs.lemmas.Str.Parse.{digit_at}
+use Rattle.json.specs.Json.{Json, object, string, number, member}
+use Rattle.bson_model.specs.Leaf.{Leaf, date_time, int32, int64, timestamp}
+use Rattle.bson_from_json.specs.Numbers.{IsQuotedInt32, IsQuotedInt64, WritesInteger}
+use Rattle.bson_from_json.specs.Wrapped.{IsDate, IsTimestamp, WritesUnsigned, one_member}
+use Rattle.json_round_trip.proofs.leaves.Plain.{are_plain, plain_digits}
+use Rattle.json_round_trip.proofs.leaves.Shapes.{same_number, two_only}
+
+pub small_32 : (z : ℤ) → FitsSigned w32 z → mag z < 2 ^ 63
+small_32 z fits = omega (arith, fits.sfits)
+
+pub small_64 : (z : ℤ) → FitsSigned w64 z → mag z < 2 ^ 63
+small_64 z fits = fits.sfits
+
+pub integer_plain : (z : ℤ) → mag z < 2 ^ 63 → are_plain (signed_decimal z) ≡ true
+integer_plain (pos n) h = plain_digits (decimal n) (decimal_is_IsNumeral n (omega arith)).0.1
+integer_plain (negsuc n) h = plain_digits (decimal (suc n)) (decimal_is_IsNumeral (suc n) (omega arith)).0.1
+
+-- no text of an integer is that of a 0 below 0
+no_minus_0 : (z : ℤ) → mag z < 2 ^ 63 → signed_decimal z ≡ codes "-0" → ⊥
+no_minus_0 (pos n) h e =
+    let is = decimal_is_IsNumeral n (omega arith) in
+    let first : get_or (decimal n) 0 0 ≡ 45 = ap (λ (l : List ℕ). get_or l 0 0) e in
+    omega (arith, digit_at (decimal n) 0 is.0.1 is.0.0)
+no_minus_0 (negsuc n) h e =
+    let second : get_or (decimal (suc n)) 0 0 ≡ 48 = ap (λ (l : List ℕ). get_or l 1 0) e in
+    omega (arith, first_decimal (suc n) (omega arith) (omega arith))
+
+pub one_integer : (z y : ℤ) → mag z < 2 ^ 63 → mag y < 2 ^ 63 → WritesInteger (signed_decimal z) y → y ≡ z
+one_integer z y h k (inl is) = sym (signed_decimal_injective z y h k is)
+one_integer z y h k (inr is) = absurd (no_minus_0 z h is.0)
+
+pub one_int32 : (z : ℤ) → FitsSigned w32 z → (l : Leaf) → IsQuotedInt32 (signed_decimal z) l → l ≡ int32 z
+one_int32 z fits l (y, w, also, is) = is ∙ ap int32 (one_integer z y (small_32 z fits) (small_32 y also) w)
+
+pub one_int64 : (z : ℤ) → FitsSigned w64 z → (l : Leaf) → IsQuotedInt64 (signed_decimal z) l → l ≡ int64 z
+one_int64 z fits l (y, w, also, is) = is ∙ ap int64 (one_integer z y (small_64 z fits) (small_64 y also) w)
+
+abbrev pub long_object : List ℕ → Json
+long_object s = object (one_member (codes "$numberLong") (string s))
+
+pub is_date : (z : ℤ) → FitsSigned w64 z → IsDate (long_object (signed_decimal z)) (date_time z)
+is_date z fits = (z, (signed_decimal z, refl, inl refl), fits, refl)
+
+text_of_one : (key s t : List ℕ) → one_member key (string s) ≡ one_member key (string t) → t ≡ s
+text_of_one key s t e = cc
+
+pub one_date : (z : ℤ) → FitsSigned w64 z → (l : Leaf) → IsDate (long_object (signed_decimal z)) l → l ≡ date_time z
+one_date z fits l (y, (s, is, w), also, e) =
+    let same : s ≡ signed_decimal z = text_of_one (codes "$numberLong") (signed_decimal z) s is in
+    e ∙ ap date_time (one_integer z y (small_64 z fits) (small_64 y also) (subst (λ (x : List ℕ). WritesInteger x y) same w))
+
+abbrev pub pair_object : ℕ → ℕ → Json
+pair_object time increment = object (member (codes "t") (number (decimal time)) (one_member (codes "i") (number (decimal increment))))
+
+pub is_timestamp : (time increment : ℕ) → time < 2 ^ 32 → increment < 2 ^ 32 → IsTimestamp (pair_object time increment) (timestamp time increment)
+is_timestamp time increment h k = (decimal time, decimal increment, time, increment, inl refl, (inl refl, h), (inl refl, k), refl)
+
+one_unsigned : (n m : ℕ) (s : List ℕ) → n < 2 ^ 32 → s ≡ decimal n → WritesUnsigned s m → m ≡ n
+one_unsigned n m s h is (w, k) =
+    let same : pos m ≡ pos n = one_integer (pos n) (pos m) (omega arith) (omega arith) (subst (λ (x : List ℕ). WritesInteger x (pos m)) is w) in cc
+
+pub one_timestamp : (time increment : ℕ) → time < 2 ^ 32 → increment < 2 ^ 32 → (l : Leaf) → IsTimestamp (pair_object time increment) l → l ≡ timestamp time increment
+one_timestamp time increment h k l (t, i, x, y, two, wx, wy, is) =
+    let both = two_only (codes "t") (codes "i") 0 (λ e. omega (arith, e)) two in
+    is ∙ ap (λ (n : ℕ). timestamp n y) (one_unsigned time x t h (same_number both.0) wx) ∙ ap (timestamp time) (one_unsigned increment y i k (same_number both.1) wy)

@@ -1,0 +1,46 @@
+-- The law that closes the circle: what is printed of a document in the canonical format is read as that document alone.
+use Rattle.std.specs.Prelude.{◌≡◌, ◌⊎◌, List, ℕ}
+use Rattle.bson_model.specs.Tree.{Tree}
+use Rattle.raw_tree.specs.Canonical.{IsCanonical}
+use Rattle.raw_tree.specs.Reading.{Reads}
+use Rattle.raw_tree.specs.declared.reader.limits.Limits.{Limits}
+use Rattle.bson_json.specs.Errors.{TellsJsonError}
+use Rattle.bson_json.specs.Json.{IsJson}
+use Rattle.bson_json.specs.declared.style.Format.TheVariants.{Canonical}
+use Rattle.bson_json.specs.declared.style.Layout.{Layout}
+use Rattle.bson_json.specs.declared.style.Style.{Style}
+use Rattle.bson_from_json.specs.Texts.{IsWritten, LeavesOpen, SaysNone}
+use Rattle.json_round_trip.specs.Returning.{DocumentComesBack}
+use Rattle.json_round_trip.specs.declared.trip.RoundTripError.{RoundTripError}
+use Rattle.json_round_trip.specs.declared.trip.RoundTripError.TheVariants as round
+
+-- the canonical format in this layout
+abbrev pub canonical_in : Layout → Style
+canonical_in layout = record { format = Canonical; layout = layout }
+
+-- the text says the document b, and no document of other bytes
+pub record SaysAlone (text b : List ℕ) : Type 0 where
+  pub written : IsWritten text b
+  pub only : (bytes : List ℕ) → IsWritten text bytes → bytes ≡ b
+
+-- the document b is canonical, and its tree comes back
+abbrev pub IsReturning : List ℕ → Type 0
+IsReturning b = IsCanonical b × ((t : Tree) × Reads b t × DocumentComesBack t)
+
+-- if so, each text of it in the canonical format says b alone
+abbrev pub ClosesCircle : List ℕ → Type 0
+ClosesCircle b = IsReturning b → (layout : Layout) (text : List ℕ) → IsJson (canonical_in layout) b text → SaysAlone text b
+
+-- the bytes are those of a document that a text of b in the canonical format says
+abbrev pub IsReadAgain : List ℕ → Layout → List ℕ → Type 0
+IsReadAgain b layout bytes = (text : List ℕ) × IsJson (canonical_in layout) b text × IsWritten text bytes
+
+-- why there are none: b isn't printed; or memory, limits and the like leave it open what its text says; or the text says no document
+abbrev pub TellsRoundTripError : Limits → List ℕ → Layout → RoundTripError → Type 0
+TellsRoundTripError limits b layout (round.Print error) = TellsJsonError limits b error
+TellsRoundTripError limits b layout (round.Read error) = LeavesOpen error.reason ⊎ ((text : List ℕ) × IsJson (canonical_in layout) b text × SaysNone text)
+
+-- an error that doesn't say that the text of b says no document
+abbrev pub IsUndecided : RoundTripError → Type 0
+IsUndecided (round.Print error) = Unit {0}
+IsUndecided (round.Read error) = LeavesOpen error.reason

@@ -1,0 +1,14 @@
+//! What holds of all documents, as a call whose contract says it. Programs never need it; proofs do.
+
+ghost use Rattle.raw_view.specs.Document.{bytes_of};
+ghost use Rattle.json_round_trip.specs.Closing.{ClosesCircle};
+
+use raw_bson::RawDocument;
+
+/// A canonical document whose tree comes back is the only one that its text in the canonical format says, in either layout.
+/// Programs never need it; proofs do.
+pub fn attest_round_trip(document: RawDocument<'_>)
+    ensures { ClosesCircle (bytes_of document.entry) }
+{
+    let _ = document.as_bytes();
+}

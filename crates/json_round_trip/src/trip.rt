@@ -1,0 +1,54 @@
+//! A document that is printed and read again.
+#![tactic(auto)]
+
+ghost use Rattle.std.specs.Prelude.{◌≡◌, IfErr, IfOk};
+ghost use Rattle.raw_view.specs.Document.{bytes_of};
+ghost use Rattle.json_round_trip.specs.Closing.{IsReadAgain, IsReturning, IsUndecided, TellsRoundTripError};
+
+use bson_from_json::{JsonError, from_json};
+use bson_json::{Format, Layout, Style, ToJsonError, to_json};
+use raw_bson::{Limits, RawDocument, RawDocumentBuf};
+use std::alloc::Global;
+
+/// Why a document isn't printed, or its text isn't read.
+#[derive(Debug, Drop)]
+pub enum RoundTripError<'a> {
+    /// It isn't printed.
+    Print(ToJsonError<'a>),
+    /// Its text isn't read.
+    Read(JsonError),
+}
+
+/// Prints a document as MongoDB Extended JSON v2 in the canonical format, as `to_json` does, and reads the text again, as
+/// `from_json` does. A canonical document comes back byte by byte, unless it has a NaN other than the default one, a decimal
+/// that isn't canonical, or a nested document with a wrapper's key. Of one that comes back the error is a barrier, or its reason
+/// is `OutOfMemory`, `TooManyBytes`, `TooDeep`, `InteriorNul` or `Unsound`.
+/// ```
+/// let document = RawDocument::from_bytes(b"\x0C\0\0\0\x10a\0\x01\0\0\0\0")?;
+/// let again = round_trip(alloc, document, Layout::Indented, Limits { bytes: 1000, depth: 10 }).map_err(|_| NoMemory)?;
+/// assert_eq!(rt; again.as_bytes(), document.as_bytes());
+/// ```
+pub fn round_trip<'a>(
+    alloc: Global,
+    document: RawDocument<'a>,
+    layout: Layout,
+    limits: Limits,
+) -> Result<RawDocumentBuf, RoundTripError<'a>>
+    ensures read { IfOk result (IsReadAgain (bytes_of document.entry) layout) }
+    ensures same { IfOk result (λ again. IsReturning (bytes_of document.entry) → again ≡ bytes_of document.entry) }
+    ensures error { IfErr result (TellsRoundTripError limits (bytes_of document.entry) layout) }
+    ensures undecided { IfErr result (λ error. IsReturning (bytes_of document.entry) → IsUndecided error) }
+{
+    let style = Style {
+        format: Format::Canonical,
+        layout,
+    };
+    let text = match to_json(alloc, document, style, limits) {
+        Ok(text) => text,
+        Err(error) => return Err(RoundTripError::Print(error)),
+    };
+    match from_json(alloc, text.as_str(), limits) {
+        Ok(again) => Ok(again),
+        Err(error) => Err(RoundTripError::Read(error)),
+    }
+}
