@@ -1,0 +1,83 @@
+#!/usr/bin/env python3
+"""Dumps of 100 MB: what `bsonraw-dump` takes for them, and decoding them by MongoDB's package.
+
+usage: dumps.py PROGRAM FOLDER      PROGRAM: bsonraw-dump; FOLDER: for the dumps
+
+Prints a line a dump and way: dump, way, seconds of the processor, the least of three.
+"""
+import random
+import resource
+import struct
+import subprocess
+import sys
+import time
+from pathlib import Path
+
+import bson
+from documents import boolean, document, int32, oid, rbytes, string, tweet
+
+SIZE = 100_000_000
+KINDS = 500  # so many documents of about 1,900 bytes, each again and again under another ObjectId
+
+
+def great(rng):
+    made = [document(tweet(rng)) for _ in range(KINDS)]
+    number = 0
+    while True:
+        it = made[number % KINDS]
+        yield it[:9] + struct.pack("<IQ", number, number) + it[21:]
+        number += 1
+
+
+def small(_):
+    """Of 65 bytes."""
+    one = document([("_id", oid(bytes(12))), ("n", int32(7)), ("name", string("user_" + 15 * "0")), ("on", boolean(True))])
+    at = one.index(b"user_") + 5
+    number = 0
+    while True:
+        yield one[:9] + struct.pack("<IQ", number, number) + one[21:at] + b"%015d" % number + one[at + 15:]
+        number += 1
+
+
+def write(file, made):
+    size = 0
+    with open(file, "wb") as out:
+        for it in made:
+            out.write(it)
+            size += len(it)
+            if size >= SIZE:
+                return
+
+
+def spent():
+    used = resource.getrusage(resource.RUSAGE_CHILDREN)
+    return used.ru_utime + used.ru_stime
+
+
+def by_program(program, command, file):
+    before = spent()
+    subprocess.run([program, command, file], stdout=subprocess.DEVNULL, check=True)
+    return spent() - before
+
+
+def by_package(file):
+    before = time.process_time()
+    with open(file, "rb") as dump:
+        for _ in bson.decode_file_iter(dump):
+            pass
+    return time.process_time() - before
+
+
+def main(program, folder):
+    for name, made in (("great", great), ("small", small)):
+        file = Path(folder, f"{name}.bson")
+        write(file, made(random.Random(5)))
+        ways = {command: lambda command=command: by_program(program, command, file) for command in ("check", "unique", "list")}
+        ways["decoded"] = lambda: by_package(file)
+        for way, run in ways.items():
+            print(name, way, f"{min(run() for _ in range(3)):.3f}", sep="\t", flush=True)
+        file.unlink()
+
+
+if __name__ == "__main__":
+    main(*sys.argv[1:])
