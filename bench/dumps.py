@@ -56,7 +56,7 @@ def spent():
 
 def by_program(program, command, file):
     before = spent()
-    subprocess.run([program, command, file], stdout=subprocess.DEVNULL, check=True)
+    subprocess.run([program, command, file], stdout=subprocess.DEVNULL, stderr=subprocess.PIPE, check=True)
     return spent() - before
 
 

@@ -150,8 +150,10 @@ WORST = {
     "174,000 random keys of four bytes, 1 MB": ("random 1044005 4", ALL),
     "as many behind ten pairs that share marks": ("sorted 1044005 4", ALL),
     "as many that share the last bits of their hashes": ("crowded", ALL),
+    "as many before 180 that crowd the table": ("late 1044005 4", ALL),
     "3,143,038 keys by chance": ("random 16777216 1", ALL),
     "behind ten pairs that share marks": ("sorted 16777216 1", ALL),
+    "before 180 that crowd the table": ("late 16777216 1", ALL),
     "documents in one another": ("levels 1", ALL),
     "each with a key twice": ("twins", ALL),
     "levels of 25 keys": ("levels 25", ALL),
@@ -161,7 +163,7 @@ WORST = {
     "levels of 16,385 keys": ("levels 16385", ALL),
 }
 # those that the page has; the calls, of which it leaves out the first
-SHOWN_WORST = "3,143,038 keys by chance", "behind ten pairs that share marks", "levels of 1,025 keys", "within `max_depth` 100"
+SHOWN_WORST = "3,143,038 keys by chance", "before 180 that crowd the table", "levels of 1,025 keys", "within `max_depth` 100"
 OF_WORST = ("first_fault", "check", "form", "form_repeated")
 
 

@@ -2,6 +2,7 @@
  *
  * usage: worst random SIZE LEAST     up to SIZE bytes, of nulls under the shortest keys of at least so many bytes, in an order by chance
  *        worst sorted SIZE LEAST     the same, behind ten pairs of keys, of which each shares a mark: the keys are then put in order
+ *        worst late SIZE LEAST       the same, before 180 keys that begin in eight places of the last table: all are put in order then
  *        worst levels COUNT          16 MiB of levels of so many keys in one another, the keys descending
  *        worst twins                 as much of levels of one key, which comes twice
  *
@@ -55,7 +56,7 @@ static uint64_t below(uint64_t limit) {
 
 /* ---- pairs of keys of four bytes whose hashes share the mark and the places of the smallest table ---- */
 
-enum { TRIED = 1 << 23, PAIRS = 10, FOURS = 127 + 127 * 127 + 127 * 127 * 127 };
+enum { TRIED = 1 << 23, PAIRS = 10, CROWD = 180, FOURS = 127 + 127 * 127 + 127 * 127 * 127 };
 
 struct hashed {
     uint64_t share;
@@ -89,8 +90,9 @@ static void put_pairs(void) {
     if (found < PAIRS) exit(1);
 }
 
-/* Nulls under the shortest keys of at least so many bytes, in an order by chance. The last one has four bytes, as the first of a pair. */
-static void put_random(size_t least) {
+/* Nulls under the shortest keys of at least so many bytes, in an order by chance, and how many. The last one has four bytes, as the first
+ * of a pair. */
+static size_t put_random(size_t least) {
     uint32_t *numbers = malloc(SIZE), first = least < 4 ? 0 : FOURS, count = 0, i;
     size_t wanted = len + 1;
     uint8_t key[8];
@@ -102,6 +104,27 @@ static void put_random(size_t least) {
     }
     for (i = 0; i < count; i++) put_null(numbers[i]);
     free(numbers);
+    return count;
+}
+
+/* Keys of four bytes whose marks begin in eight places of the table in which there is room for so many keys. */
+static void put_crowd(size_t count) {
+    uint64_t number = FOURS + 10000000, places = 1;
+    uint8_t key[8];
+    int found = 0;
+    while (places <= 2 * count) places *= 2;
+    for (; found < CROWD; number++) {
+        if (key_of(number, key) != 4) exit(1);
+        if ((hash(key, 4) & (places - 1)) >= 8) continue;
+        put_null(number);
+        found++;
+    }
+}
+
+static void put_late(size_t least) {
+    most -= 6 * (CROWD + 1);
+    put_null(FOURS + 9999999); /* the first one, as long as the last one */
+    put_crowd(put_random(least));
 }
 
 /* Levels in one another, each with the keys of these numbers, of which the last one holds the next level. */
@@ -143,15 +166,16 @@ int main(int argc, char **argv) {
         put_descending(strtoul(argv[2], NULL, 10));
     } else if (strcmp(kind, "twins") == 0) {
         put_levels(twins, 2);
-    } else if ((strcmp(kind, "random") == 0 || strcmp(kind, "sorted") == 0) && argc > 3) {
+    } else if ((strcmp(kind, "random") == 0 || strcmp(kind, "sorted") == 0 || strcmp(kind, "late") == 0) && argc > 3) {
         most = strtoul(argv[2], NULL, 10);
         if (most > SIZE) return 2;
         if (kind[0] == 's') put_pairs();
-        put_random(strtoul(argv[3], NULL, 10));
+        if (kind[0] == 'l') put_late(strtoul(argv[3], NULL, 10));
+        else put_random(strtoul(argv[3], NULL, 10));
         document[len++] = 0;
         put_length(0, len);
     } else {
-        fprintf(stderr, "usage: worst random|sorted SIZE LEAST; worst levels COUNT; worst twins\n");
+        fprintf(stderr, "usage: worst random|sorted|late SIZE LEAST; worst levels COUNT; worst twins\n");
         return 2;
     }
     return fwrite(document, 1, len, stdout) == len ? 0 : 1;
