@@ -55,6 +55,11 @@ for levels in (500, 501):
     for _ in range(levels - 1):
         document = (len(document) + 8).to_bytes(4, "little") + b"\x03d\0" + document + b"\0"
     made["levels%d" % levels] = document
+for levels in (20, 21):
+    document = made["repeated"]
+    for _ in range(levels - 1):
+        document = (len(document) + 8).to_bytes(4, "little") + b"\x03d\0" + document + b"\0"
+    made["steps%d" % levels] = document
 made["most"] = (16793600).to_bytes(4, "little") + b"\x05b\0" + (16793600 - 13).to_bytes(4, "little") + b"\0" * (16793600 - 11)
 made["long"] = b"\x02s\0\x41\0\0\0" + b"x" * 64 + b"\0\x02t\0\x42\0\0\0" + b"x" * 65 + b"\0"
 made["long"] = (len(made["long"]) + 5).to_bytes(4, "little") + made["long"] + b"\0"
@@ -199,7 +204,7 @@ wants '"damage.bson":0: damaged at /0:"a", byte 4: a boolean is neither 0 nor 1:
 "damage.bson":43: damaged at /0:"", byte 4: a value is longer than what is left: 4 where 0 are left
 "damage.bson":49: damaged at /0:"a", byte 4: no kind has this tag: 32
 "damage.bson":57: damaged: no final 0
-'"$(python3 -c 'print("\"damage.bson\":%d: too deep at %s, byte %d" % (62 + 8 * 499 + 5, "/0:\"d\"" * 500, 4 + 499 * 7))')"'
+'"$(python3 -c 'print("\"damage.bson\":%d: too deep at %s, byte %d" % (62 + 8 * 499 + 5, "/0:\"d\"" * 10 + "/.." + "/0:\"d\"" * 10, 4 + 499 * 7))')"'
 '"$(one damage.bson 8 $((62 + 8 * 499 + 5 + 8 * 500 + 5)) 0 6 1 0 0 0)"'
 '
 run 'damage' 1 check damage.bson
@@ -239,7 +244,53 @@ wants "$(one million 1000000 12000000 0 0 0 0 0 0)
 "
 run 'a million documents' 0 check million
 
+wants "$(python3 -c 'print("\"steps20\":0: repeated-key at %s/1:\"a\", byte 144" % ("/0:\"d\"" * 19))')
+$(of steps20 1 171 1 0 0 0 0 0)
+$(python3 -c 'print("\"steps21\":0: repeated-key at %s/..%s/1:\"a\", byte 151" % ("/0:\"d\"" * 10, "/0:\"d\"" * 9))')
+$(of steps21 1 179 1 0 0 0 0 0)
+$(counted 2 350 2 0 0 0 0 0)
+"
+run 'a path of 20 steps, and one of more' 1 check steps20 steps21
+
 mkdir folder
+
+# -- count
+
+# lengths DOCUMENTS BYTES PASSED_OVER NOT_READ FILES: the last line of count
+lengths() {
+    printf 'documents: %s, bytes: %s, bytes passed over: %s, bytes not read: %s, files not read to the end: %s\n' "$@"
+}
+wants '"mixed.bson": '"$(lengths 6 84 0 0 0)"'
+"damage.bson": '"$(lengths 8 $((62 + 8 * 499 + 5 + 8 * 500 + 5)) 0 0 0)"'
+'"$(lengths 14 $((84 + 62 + 8 * 499 + 5 + 8 * 500 + 5)) 0 0 0)"'
+'
+run 'documents, damaged or not' 0 count mixed.bson damage.bson
+wants '"-": '"$(lengths 1000000 12000000 0 0 0)"'
+'"$(lengths 1000000 12000000 0 0 0)"'
+'
+cat million | run 'a million documents through a pipe' 0 count || failed=1
+wants '"cut.bson":12: cut off: only 6 bytes of a document: 6 bytes not read, --resync goes on
+"cut.bson": '"$(lengths 1 12 0 6 1)"'
+"under.bson":19: unsound length 4: 17 bytes not read, --resync goes on
+"under.bson": '"$(lengths 1 19 0 17 1)"'
+'"$(lengths 2 31 0 23 2)"'
+'
+run 'lengths up to one that is unsound' 3 count cut.bson under.bson
+wants '"wrong":12: wrong length 32: 12 bytes passed over
+"wrong": '"$(lengths 4 48 12 0 0)"'
+"lost":12: unsound length 4: 5 bytes passed over
+"lost": '"$(lengths 3 36 5 0 0)"'
+"holds": '"$(lengths 2 53 0 0 0)"'
+'"$(lengths 9 137 17 0 0)"'
+'
+run 'lengths that are believed' 3 count --resync wrong lost holds
+wants '{"file":"cut.bson","offset":12,"finding":"cut off","bytes":6,"not read":6}
+{"file":"cut.bson","documents":1,"bytes":12,"bytes passed over":0,"bytes not read":6,"files not read to the end":1}
+{"documents":1,"bytes":12,"bytes passed over":0,"bytes not read":6,"files not read to the end":1}
+'
+run 'counts as JSON' 3 count --json cut.bson
+wants ''
+run 'nothing but the status' 3 count -q cut.bson
 
 # -- --resync
 
@@ -970,7 +1021,7 @@ END
 wants "bsonraw-dump $(cat "$root/VERSION") (unreleased)
 "
 run 'the version' 0 --version
-for words in '' 'lost' 'check --lost' 'check -o output' 'list --json' 'canon --canonical'; do
+for words in '' 'lost' 'check --lost' 'check -o output' 'count -o output' 'list --json' 'canon --canonical'; do
     # shellcheck disable=SC2086 # words
     "$program" $words >out 2>err </dev/null
     status=$?

@@ -18,9 +18,11 @@ use Rattle.raw_resync.specs.declared.work.Work.{Work}
 use Rattle.raw_resync.proofs.Face.{believed, charges_none, charges_on, disbelieved, passes_after, passes_since, spent_more}
 use Rattle.raw_resync.proofs.Face as face
 use Rattle.bsonraw_dump.specs.Cut.{EndsWith, IsPiece, most}
-use Rattle.bsonraw_dump.specs.Find.{Account, Finds, IsDamage, limits}
+use Rattle.bsonraw_dump.specs.Find.{Account, Finds, Judges, MayBeDamaged, limits}
 use Rattle.bsonraw_dump.specs.Reading.{IsReadBehind, IsWindow, Looks, SeesAhead, Stays, TellsNext, ahead_of}
 use Rattle.bsonraw_dump.specs.Resync.{BreaksWith, Doubts, GoesOnBehind, GoesOnInside, IsBelieved, IsDoubted, IsNextPlace, Searches, SeesBehind, SeesInside, Spends, TellsPart}
+use Rattle.bsonraw_dump.specs.declared.command.Command.{Command}
+use Rattle.bsonraw_dump.specs.declared.command.Command.TheVariants as command
 use Rattle.bsonraw_dump.specs.declared.find.Finding.{Finding}
 use Rattle.bsonraw_dump.specs.declared.find.Finding.TheVariants as finding
 use Rattle.bsonraw_dump.specs.declared.ending.Ending.{Ending}
@@ -355,12 +357,22 @@ breaks_all (ending.Unsound len) s x r ends behind' read = ends_all (ending.Unsou
 breaks_all (ending.WrongLength len) s x r ends behind' read = absurd ends
 
 -- a document in which no damage is found is without damage
-pub finds_sound : (b : List ℕ) (f : Finding) (told : Option Account) → IsPiece b → Finds b f told → ¬ IsDamage f → IsSound limits b
+finds_sound : (b : List ℕ) (f : Finding) (told : Option Account) → IsPiece b → Finds b f told → ¬ MayBeDamaged f → IsSound limits b
 finds_sound b finding.Canonical told piece (envelope, (few, canonical), none) clean =
     let (es, reads) = document_reads 500 b canonical in record { piece = piece; envelope = envelope; tree = document es; reads = read_within limits b (document es) few reads }
 finds_sound b finding.Breached told piece (envelope, (tree, reads), first) clean = record { piece = piece; envelope = envelope; tree = tree; reads = reads }
 finds_sound b finding.Damaged told piece found clean = absurd (clean (inl refl))
-finds_sound b finding.TooDeep told piece found clean = absurd (clean (inr refl))
+finds_sound b finding.TooDeep told piece found clean = absurd (clean (inr (inl refl)))
+finds_sound b finding.Unjudged told piece found clean = absurd found
+
+pub judges_sound : (c : Command) (b : List ℕ) (f : Finding) (told : Option Account) → IsPiece b → Judges c b f told → ¬ MayBeDamaged f → IsSound limits b
+judges_sound command.Count b f told piece found clean = absurd (clean (inr (inr found.0)))
+judges_sound command.Check b f told piece found clean = finds_sound b f told piece found clean
+judges_sound command.List b f told piece found clean = finds_sound b f told piece found clean
+judges_sound command.Canon b f told piece found clean = finds_sound b f told piece found clean
+judges_sound command.Sound b f told piece found clean = finds_sound b f told piece found clean
+judges_sound command.Unique b f told piece found clean = finds_sound b f told piece found clean
+judges_sound (command.Json style) b f told piece found clean = finds_sound b f told piece found clean
 
 -- a document is in front of the bytes ahead, without damage where bytes may be passed over
 pub tells_document : (resync : Bool) (r r' : Option (List ℕ)) (x y : Window) (w : Work) (len : ℕ) → IsWork w → (resync ≡ true → IsSound limits (take len (ahead_of y)))

@@ -23,7 +23,7 @@ use Rattle.bsonraw_dump.specs.declared.run.Stop.TheVariants as stop
 use Rattle.bsonraw_dump.specs.declared.style.Style.{Style}
 use Rattle.bsonraw_dump.specs.declared.window.Next.TheVariants as next
 use Rattle.bsonraw_dump.specs.declared.window.Window.{Window}
-use Rattle.bsonraw_dump.proofs.Deciding.{finds_sound, tells_document}
+use Rattle.bsonraw_dump.proofs.Deciding.{judges_sound, tells_document}
 use Rattle.bsonraw_dump.proofs.Fronts.{front_whole}
 use Rattle.bsonraw_dump.proofs.Passing.{HasPassed, gap_of, input_behind}
 
@@ -53,6 +53,7 @@ pub reports_front : (c : Command) (style : Style) (name : List ℕ) (offset : �
     → (lines : List ℕ) × ReportsFront c style name offset b f told lines × Appends old new lines
 reports_front command.List style name offset b f told old new text other reports front = absurd other
 reports_front command.Check style name offset b f told old new text other reports front = (front.front, (text, reports, (front.behind, front.whole)), front.put)
+reports_front command.Count style name offset b f told old new text other reports front = (front.front, (text, reports, (front.behind, front.whole)), front.put)
 reports_front command.Sound style name offset b f told old new text other reports front = (front.front, (text, reports, (front.behind, front.whole)), front.put)
 reports_front command.Canon style name offset b f told old new text other reports front = (front.front, (text, reports, (front.behind, front.whole)), front.put)
 reports_front command.Unique style name offset b f told old new text other reports front = (front.front, (text, reports, (front.behind, front.whole)), front.put)
@@ -93,7 +94,7 @@ module _ (c : Command) (style : Style) (resync : Bool) (name : List ℕ) (r r' d
       → v' ≡ v → HaltsNext c style resync name r x v k d d' w w'
   halts_clean work t (inl same) is = inl same
   halts_clean work t (inr (f, told, found, clean, inside)) is =
-      let sound : resync ≡ true → IsSound limits (take len (ahead_of y)) = λ asked. finds_sound (take len (ahead_of y)) f told t.is.1 found (clean (ap not asked)) in
+      let sound : resync ≡ true → IsSound limits (take len (ahead_of y)) = λ asked. judges_sound c (take len (ahead_of y)) f told t.is.1 found (clean (ap not asked)) in
       halts_taken (not resync) (subst (λ (u : Work). TellsPart resync r r' x y v u (next.Document len)) (sym is) (tells_document resync r r' x y v len work sound t))
       (inr (f, told, found, clean, inside))
 

@@ -4,7 +4,7 @@ use Rattle.std.proofs.Math.Seq.{drop-append_seam}
 use Rattle.std.proofs.lemmas.List.{take-append-drop}
 use Rattle.std.specs.Io.KnownBytes.{Consumes, Appends}
 use Rattle.std.proofs.KnownBytes.{Consumes-nil, Appends-nil, Appends-trans}
-use Rattle.bsonraw_dump.proofs.Deciding.{finds_sound, place_since, tells_document, tells_other}
+use Rattle.bsonraw_dump.proofs.Deciding.{judges_sound, place_since, tells_document, tells_other}
 use Rattle.bsonraw_dump.proofs.Skipping.{read_behind}
 use Rattle.bsonraw_dump.proofs.Writing.{writes_none, writes_more}
 use Rattle.std.proofs.lemmas.Grind.{flat_map-append, fold-append}
@@ -172,7 +172,7 @@ pub next_passed : (c : Command) (style : Style) (resync : Bool) (name : List ℕ
     → IsWork v → TellsNext r r' x y 0 (next.Document len) → PassesFront (not resync) c style name len y z d d' w w' n n' k k'
     → PassesNext c style resync name r r' x z v v d d' w w' n n' k k' (next.Document len)
 next_passed c style resync name r r' d d' w w' x y z v n n' k k' len work t p =
-    let sound : resync ≡ true → IsSound limits (take len (ahead_of y)) = λ asked. finds_sound (take len (ahead_of y)) p.finding p.passed.0 t.is.1 p.passed.1 (p.clean (ap not asked)) in
+    let sound : resync ≡ true → IsSound limits (take len (ahead_of y)) = λ asked. judges_sound c (take len (ahead_of y)) p.finding p.passed.0 t.is.1 p.passed.1 (p.clean (ap not asked)) in
     (not resync, y, tells_document resync r r' x y v len work sound t, p)
 
 -- the one whose length is believed

@@ -38,6 +38,7 @@ first_forms-append known (x ∷ xs) ys =
 kept_of-append : (c : Command) (known : List ℕ → Bool) (xs ys : List (List ℕ)) → kept_of c known (xs ++ ys) ≡ kept_of c known xs ++ kept_of c (known_behind c known xs) ys
 kept_of-append command.Check known xs ys = refl
 kept_of-append command.List known xs ys = refl
+kept_of-append command.Count known xs ys = refl
 kept_of-append command.Canon known xs ys = refl
 kept_of-append command.Sound known xs ys = refl
 kept_of-append (command.Json style) known xs ys = refl
@@ -49,6 +50,7 @@ written_of-append c known xs ys = ap joined (kept_of-append c known xs ys) ∙ j
 known_behind-append : (c : Command) (known : List ℕ → Bool) (xs ys : List (List ℕ)) → known_behind c known (xs ++ ys) ≡ known_behind c (known_behind c known xs) ys
 known_behind-append command.Check known xs ys = refl
 known_behind-append command.List known xs ys = refl
+known_behind-append command.Count known xs ys = refl
 known_behind-append command.Canon known xs ys = refl
 known_behind-append command.Sound known xs ys = refl
 known_behind-append (command.Json style) known xs ys = refl
@@ -57,6 +59,7 @@ known_behind-append command.Unique known xs ys = fold-append with_form known xs 
 nothing_kept : (c : Command) (known : List ℕ → Bool) → kept_of c known [] ≡ []
 nothing_kept command.Check known = refl
 nothing_kept command.List known = refl
+nothing_kept command.Count known = refl
 nothing_kept command.Canon known = refl
 nothing_kept command.Sound known = refl
 nothing_kept (command.Json style) known = refl
@@ -65,6 +68,7 @@ nothing_kept command.Unique known = refl
 nothing_known : (c : Command) (known : List ℕ → Bool) (d : List ℕ) → known d ≡ known_behind c known [] d
 nothing_known command.Check known d = refl
 nothing_known command.List known d = refl
+nothing_known command.Count known d = refl
 nothing_known command.Canon known d = refl
 nothing_known command.Sound known d = refl
 nothing_known (command.Json style) known d = refl

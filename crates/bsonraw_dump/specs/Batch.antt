@@ -60,9 +60,10 @@ pub record KeepsNothing (kept : Kept) : Type 0 where
   pub none : kept.count ≡ 0
   pub unknown : (d : List ℕ) → knows kept d ≡ false
 
--- the line that tells what was counted of one input; only check has it
+-- the line that tells what was counted of one input; only check and count have it
 abbrev pub input_line : Job → Command → List ℕ → Counts → List ℕ
 input_line job command.Check name n = summary_line job.style (Some name) job.command n 0
+input_line job command.Count name n = summary_line job.style (Some name) job.command n 0
 input_line job _ name n = []
 
 -- the line that tells what was counted of all; list has none

@@ -18,6 +18,8 @@ use Rattle.raw_form.specs.declared.place.Place.{Place}
 use Rattle.raw_form.specs.Verdicts.{Verdict, breach_of, FirstVerdict, IsCanonicalWithin}
 use Rattle.raw_form.specs.Verdicts as verdict
 use Rattle.bsonraw_dump.specs.Cut.{most}
+use Rattle.bsonraw_dump.specs.declared.command.Command.{Command}
+use Rattle.bsonraw_dump.specs.declared.command.Command.TheVariants as command
 use Rattle.bsonraw_dump.specs.declared.find.Finding.{Finding}
 use Rattle.bsonraw_dump.specs.declared.find.Finding.TheVariants as finding
 use Rattle.bsonraw_dump.specs.declared.find.Told.{Told}
@@ -172,10 +174,16 @@ Finds b finding.Breached told =
     × ((x : Verdict) × (spot : Spot) × FirstVerdict limits b x spot.path spot.offset × (told ≡ Some (account_at (verdict_word x) spot)))
 Finds b finding.Damaged told = IsBarred b finding.Damaged told ⊎ ((why : Reason) × Refuses b why × (told ≡ Some (account_of_damage None (reason_explained why))))
 Finds b finding.TooDeep told = IsBarred b finding.TooDeep told
+Finds b finding.Unjudged told = ⊥
 
--- a document in which this is found isn't read to its end
-abbrev pub IsDamage : Finding → Type 0
-IsDamage found = (found ≡ finding.Damaged) ⊎ (found ≡ finding.TooDeep)
+-- what a command finds in a piece b, and what is told of it: count judges none
+abbrev pub Judges : Command → List ℕ → Finding → Option Account → Type 0
+Judges command.Count b found told = (found ≡ finding.Unjudged) × (told ≡ None)
+Judges _ b found told = Finds b found told
+
+-- a document in which this is found isn't known to be read to its end
+abbrev pub MayBeDamaged : Finding → Type 0
+MayBeDamaged found = (found ≡ finding.Damaged) ⊎ (found ≡ finding.TooDeep) ⊎ (found ≡ finding.Unjudged)
 
 -- what a place shows
 abbrev pub spot_of : Place → Spot

@@ -5,7 +5,7 @@ use Rattle.bson_json.specs.Written.{AppendsFront}
 use Rattle.raw_resync.specs.Seeking.{no_work}
 use Rattle.raw_resync.specs.declared.work.Work.{Work}
 use Rattle.bsonraw_dump.specs.Cut.{EndsWith, IsPiece}
-use Rattle.bsonraw_dump.specs.Find.{Account, Finds, IsDamage}
+use Rattle.bsonraw_dump.specs.Find.{Account, Judges, MayBeDamaged}
 use Rattle.bsonraw_dump.specs.Fronts.{HasFront, WritesFront}
 use Rattle.bsonraw_dump.specs.Listing.{HasListingFront}
 use Rattle.bsonraw_dump.specs.Reading.{ahead_of}
@@ -47,7 +47,7 @@ HaltsInside c style name offset b found told kept out_old out_new report_old rep
 -- the same of what is found in a piece
 abbrev pub HaltsIn : Command → Style → List ℕ → ℕ → List ℕ → Kept → (out_old out_new report_old report_new : Option (List ℕ)) → Type 0
 HaltsIn c style name offset b kept out_old out_new report_old report_new =
-    (found : Finding) × (told : Option Account) × Finds b found told × HaltsInside c style name offset b found told kept out_old out_new report_old report_new
+    (found : Finding) × (told : Option Account) × Judges c b found told × HaltsInside c style name offset b found told kept out_old out_new report_old report_new
 
 -- A piece is next in s, the end of an input from this offset on, and is taken at its length; where searches before it cost so much.
 pub record IsNextPiece (resync : Bool) (s : List ℕ) (offset : ℕ) (work : Work) (b : List ℕ) : Type 0 where
@@ -86,11 +86,11 @@ pub record Halts (c : Command) (style : Style) (resync : Bool) (name : List ℕ)
 
 -- What the code tells of a run that fails. No public contract cites what follows.
 
--- A piece isn't passed: nothing comes of it, or a front; of one with damage only where any is passed.
+-- A piece isn't passed: nothing comes of it, or a front; of one that may be damaged only where any is passed.
 abbrev pub HaltsOne : (any : Bool) → Command → Style → List ℕ → ℕ → List ℕ → Kept → (out_old out_new report_old report_new : Option (List ℕ)) → Type 0
 HaltsOne any c style name offset b kept out_old out_new report_old report_new =
     ((out_new ≡ out_old) × (report_new ≡ report_old))
-    ⊎ ((found : Finding) × (told : Option Account) × Finds b found told × (any ≡ false → ¬ IsDamage found)
+    ⊎ ((found : Finding) × (told : Option Account) × Judges c b found told × (any ≡ false → ¬ MayBeDamaged found)
     × HaltsInside c style name offset b found told kept out_old out_new report_old report_new)
 
 -- the same of the piece that is next in all that was to be read

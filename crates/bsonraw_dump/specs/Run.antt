@@ -12,7 +12,7 @@ use Rattle.bsonraw_dump.specs.declared.window.Drained.{Drained}
 use Rattle.bsonraw_dump.specs.declared.window.Next.{Next}
 use Rattle.bsonraw_dump.specs.declared.window.Next.TheVariants as next
 use Rattle.bsonraw_dump.specs.declared.window.Window.{Window}
-use Rattle.bsonraw_dump.specs.Find.{Account, Finds, IsDamage}
+use Rattle.bsonraw_dump.specs.Find.{Account, Judges, MayBeDamaged}
 use Rattle.bsonraw_dump.specs.Listing.{ListsDocument}
 use Rattle.bsonraw_dump.specs.Told.{ending_line, last_line, line, report_line, words_of}
 use Rattle.bsonraw_dump.specs.Unique.{kept_of, known_behind, knows, written_of}
@@ -53,25 +53,28 @@ pub record Entry : Type 0 where
   pub lines : List ℕ
   pub work : Work
 
--- the canonical form of a piece b in which this is found, unless it is damaged or too deep
+-- the canonical form of a piece b in which this is found, unless it is damaged or too deep, or isn't judged
 abbrev pub MakesForm : List ℕ → Finding → List (List ℕ) → Type 0
 MakesForm b finding.Canonical made = made ≡ b ∷ []
 MakesForm b finding.Breached made = (form : List ℕ) × IsCanonicalForm b form × (made ≡ form ∷ [])
 MakesForm b _ made = made ≡ []
 
--- the line of a piece b in which this is found, unless it is damaged or too deep: its text as Extended JSON, and a line feed
+-- the line of a piece b in which this is found, unless it is damaged or too deep, or isn't judged: its text as Extended JSON, and a line feed
 abbrev pub MakesJson : json.Style → List ℕ → Finding → List (List ℕ) → Type 0
 MakesJson style b finding.Damaged made = made ≡ []
 MakesJson style b finding.TooDeep made = made ≡ []
+MakesJson style b finding.Unjudged made = made ≡ []
 MakesJson style b _ made = (text : List ℕ) × IsJson style b text × (made ≡ (text ++ codes "\n") ∷ [])
 
--- what a command makes of a piece b in which this is found: check and list nothing; sound the piece itself, unless it is damaged or too deep; canon and
--- unique its canonical form; json its line
+-- what a command makes of a piece b in which this is found: check, list and count nothing; sound the piece itself, unless it is damaged or too deep; canon
+-- and unique its canonical form; json its line
 abbrev pub Makes : Command → List ℕ → Finding → List (List ℕ) → Type 0
 Makes command.Check b found made = made ≡ []
 Makes command.List b found made = made ≡ []
+Makes command.Count b found made = made ≡ []
 Makes command.Sound b finding.Damaged made = made ≡ []
 Makes command.Sound b finding.TooDeep made = made ≡ []
+Makes command.Sound b finding.Unjudged made = made ≡ []
 Makes command.Sound b _ made = made ≡ b ∷ []
 Makes command.Canon b found made = MakesForm b found made
 Makes command.Unique b found made = MakesForm b found made
@@ -89,7 +92,7 @@ Reports c style name offset b found told lines = lines ≡ []
 -- what is so of a piece at this offset
 pub record IsEntry (c : Command) (style : Style) (name : List ℕ) (offset : ℕ) (e : Entry) : Type 0 where
   pub piece : IsPiece e.bytes
-  pub found : Finds e.bytes e.finding e.told
+  pub found : Judges c e.bytes e.finding e.told
   pub makes : Makes c e.bytes e.finding e.made
   pub reports : Reports c style name offset e.bytes e.finding e.told e.lines
 
@@ -164,14 +167,14 @@ Emits c b found out_old out_new kept_old kept_new = (made : List (List ℕ)) × 
 -- a piece at this offset is passed: what is written of it, and what is reported
 abbrev pub PassesOne : Command → Style → List ℕ → ℕ → List ℕ → (out_old out_new report_old report_new : Option (List ℕ)) → (kept_old kept_new : Kept) → Finding → Type 0
 PassesOne c style name offset b out_old out_new report_old report_new kept_old kept_new found =
-    (told : Option Account) × Finds b found told × Emits c b found out_old out_new kept_old kept_new
+    (told : Option Account) × Judges c b found told × Emits c b found out_old out_new kept_old kept_new
     × ((lines : List ℕ) × Reports c style name offset b found told lines × Appends report_old report_new lines)
 
--- A piece is passed, one with damage only where any is; or it isn't, and nothing is written or reported.
+-- A piece is passed, one that may be damaged only where any is; or it isn't, and nothing is written or reported.
 abbrev pub MayPassOne : (any : Bool) → Command → Style → List ℕ → ℕ → List ℕ → (out_old out_new report_old report_new : Option (List ℕ)) → (kept_old kept_new : Kept)
     → Option Finding → Type 0
 MayPassOne any c style name offset b out_old out_new report_old report_new kept_old kept_new (Some found) =
-    (any ≡ false → ¬ IsDamage found) × PassesOne c style name offset b out_old out_new report_old report_new kept_old kept_new found
+    (any ≡ false → ¬ MayBeDamaged found) × PassesOne c style name offset b out_old out_new report_old report_new kept_old kept_new found
 MayPassOne any c style name offset b out_old out_new report_old report_new kept_old kept_new None =
     (any ≡ false) × (out_new ≡ out_old) × (report_new ≡ report_old) × (kept_new ≡ kept_old)
 
@@ -194,6 +197,7 @@ count_finding finding.Canonical n = n
 count_finding finding.Breached n = record n { breached = n.breached + 1 }
 count_finding finding.Damaged n = record n { damaged = n.damaged + 1 }
 count_finding finding.TooDeep n = record n { too_deep = n.too_deep + 1 }
+count_finding finding.Unjudged n = n
 
 -- one more document
 abbrev pub count_entry : Counts → Entry → Counts
@@ -277,14 +281,14 @@ pub record PassesGap (style : Style) (name : List ℕ) (end : Ending) (read_old 
   pub told : Appends report_old report_new (ending_line style name window_old.offset end (rest.PassedOver skip))
   pub is_counted : counts_new ≡ count_gap counts_old skip.count
 
--- the document of so many bytes in front of the bytes ahead is passed, one with damage only where any is
+-- the document of so many bytes in front of the bytes ahead is passed, one that may be damaged only where any is
 pub record PassesFront (any : Bool) (c : Command) (style : Style) (name : List ℕ) (len : ℕ) (window_old window_new : Window)
     (out_old out_new report_old report_new : Option (List ℕ)) (counts_old counts_new : Counts) (kept_old kept_new : Kept) : Type 0 where
   pub window : IsWindow window_new
   pub offset : window_new.offset ≡ window_old.offset + len
   pub ahead : ahead_of window_new ≡ drop len (ahead_of window_old)
   pub finding : Finding
-  pub clean : any ≡ false → ¬ IsDamage finding
+  pub clean : any ≡ false → ¬ MayBeDamaged finding
   pub passed : PassesOne c style name window_old.offset (take len (ahead_of window_old)) out_old out_new report_old report_new kept_old kept_new finding
   pub is_counted : (e : Entry) → length e.bytes ≡ len → e.finding ≡ finding → counts_new ≡ count_entry counts_old e
 

@@ -1,5 +1,5 @@
 -- How what is told is printed: in words, as an object of JSON, or not at all.
-use Rattle.std.specs.Prelude.{◌≡◌, ℕ, List, [], ◌∷◌, ◌++◌, ◌-◌, Bool, true, false, Option, None, Some, codes, decimal, flat_map, map}
+use Rattle.std.specs.Prelude.{◌≡◌, ℕ, List, [], ◌∷◌, ◌++◌, ◌-◌, Bool, true, false, Option, None, Some, codes, decimal, cond, drop, flat_map, length, map, nat_lt, take}
 use Rattle.std.specs.Fmt.{signed_decimal}
 use Rattle.json.specs.Print.{print, quoted}
 use Rattle.json.specs.Token.{Token, begin_object, end_object, begin_array, end_array, key, string, number, null}
@@ -30,10 +30,15 @@ key_text (Some text) = codes ":" ++ quoted text
 abbrev pub step_text : Step → List ℕ
 step_text step = codes "/" ++ decimal step.number ++ key_text step.key
 
+-- the steps of a path; of more than 20 the first ten and the last ten, with two points between
+abbrev pub path_text : List Step → List ℕ
+path_text path =
+    cond (nat_lt 20 (length path)) (flat_map step_text (take 10 path) ++ codes "/.." ++ flat_map step_text (drop (length path - 10) path)) (flat_map step_text path)
+
 -- a place: the path from the outermost level on, and the offset in the document
 abbrev pub spot_text : Option Spot → List ℕ
 spot_text None = []
-spot_text (Some spot) = codes " at " ++ flat_map step_text spot.path ++ codes ", byte " ++ decimal spot.offset
+spot_text (Some spot) = codes " at " ++ path_text spot.path ++ codes ", byte " ++ decimal spot.offset
 
 abbrev pub reason_part : Option Explanation → List ℕ
 reason_part None = []
@@ -146,10 +151,11 @@ Count = List ℕ × ℕ
 abbrev pub count_of : summary.Count → Count
 count_of count = (count.name.now, count.number)
 
--- how many documents a command kept, and how many it left out; check and list keep none
+-- how many documents a command kept, and how many it left out; check, list and count keep none
 abbrev pub kept_counts : Command → Counts → ℕ → List Count
 kept_counts command.Check n kept = []
 kept_counts command.List n kept = []
+kept_counts command.Count n kept = []
 kept_counts _ n kept = (codes "kept", kept) ∷ (codes "left out", n.documents - kept) ∷ []
 
 -- how many documents without damage aren't canonical, where that changes what the command does
@@ -158,15 +164,18 @@ breached_counts command.Check n = (codes "not canonical", n.breached) ∷ []
 breached_counts command.Canon n = (codes "not canonical", n.breached) ∷ []
 breached_counts _ n = []
 
--- what is left out: documents, bytes, and files of which it is some
+-- how many documents are damaged or too deep; count doesn't know
+abbrev pub damaged_counts : Command → Counts → List Count
+damaged_counts command.Count n = []
+damaged_counts _ n = (codes "damaged", n.damaged) ∷ (codes "too deep", n.too_deep) ∷ []
+
+-- the bytes of which no document is made, and the files of which they are some
 abbrev pub left_counts : Counts → List Count
-left_counts n =
-    (codes "damaged", n.damaged) ∷ (codes "too deep", n.too_deep) ∷ (codes "bytes passed over", n.passed_over) ∷ (codes "bytes not read", n.not_read)
-    ∷ (codes "files not read to the end", n.files) ∷ []
+left_counts n = (codes "bytes passed over", n.passed_over) ∷ (codes "bytes not read", n.not_read) ∷ (codes "files not read to the end", n.files) ∷ []
 
 -- all that is counted beside the documents
 abbrev pub counts_of : Command → Counts → ℕ → List Count
-counts_of c n kept = (codes "bytes", n.bytes) ∷ kept_counts c n kept ++ breached_counts c n ++ left_counts n
+counts_of c n kept = (codes "bytes", n.bytes) ∷ kept_counts c n kept ++ breached_counts c n ++ damaged_counts c n ++ left_counts n
 
 -- a number behind its name, in words
 abbrev pub count_text : Count → List ℕ

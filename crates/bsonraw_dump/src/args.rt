@@ -118,6 +118,9 @@ pub fn command_line<'a>(alloc: Global) -> Result<clap::Command<'a>, AllocError> 
     let list = clap::Command::new(alloc, "list").about(
         "Lists the elements of each document, at every level",
     );
+    let count = clap::Command::new(alloc, "count").about(
+        "Counts documents and bytes by lengths alone, and judges none",
+    );
     let canon = clap::Command::new(alloc, "canon").about(
         "Writes the canonical form of each document without damage",
     );
@@ -133,6 +136,7 @@ pub fn command_line<'a>(alloc: Global) -> Result<clap::Command<'a>, AllocError> 
         .subcommand_required(true)
         .subcommand(reading(alloc, findings(alloc, check)?)?)?
         .subcommand(reading(alloc, list)?)?
+        .subcommand(reading(alloc, findings(alloc, count)?)?)?
         .subcommand(writing(alloc, canon)?)?
         .subcommand(writing(alloc, sound)?)?
         .subcommand(writing(alloc, unique)?)?
@@ -172,15 +176,19 @@ fn task_of<'a>(
     matches: &ArgMatches<'a>,
 ) -> Result<Task<'a>, Error> {
     let output = match command {
-        Command::Check | Command::List => None,
+        Command::Check | Command::List | Command::Count => None,
         Command::Canon | Command::Sound | Command::Unique | Command::Json(_) => {
             matches.get_str("output").filter(|name| *name != "-")
         }
     };
     let style = match command {
         Command::List => Style::Words,
-        Command::Check | Command::Canon | Command::Sound | Command::Unique | Command::Json(_) =>
-            style_of(matches),
+        Command::Check
+        | Command::Count
+        | Command::Canon
+        | Command::Sound
+        | Command::Unique
+        | Command::Json(_) => style_of(matches),
     };
     Ok(Task {
         reading: Reading::Dumps(Job {
@@ -224,6 +232,9 @@ pub fn parsed<'a>(alloc: Global, words: &'a [String]) -> Result<Option<Task<'a>>
     }
     if let Some(inner) = matches.subcommand_matches("list") {
         return Ok(Some(task_of(alloc, Command::List, inner)?));
+    }
+    if let Some(inner) = matches.subcommand_matches("count") {
+        return Ok(Some(task_of(alloc, Command::Count, inner)?));
     }
     if let Some(inner) = matches.subcommand_matches("canon") {
         return Ok(Some(task_of(alloc, Command::Canon, inner)?));

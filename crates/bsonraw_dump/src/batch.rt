@@ -240,7 +240,7 @@ fn run_open<'a, I: Inputs, D: Write, W: Write>(
     Ok(counts)
 }
 
-/// Of a check, writes what was counted of one input.
+/// Of `check` and `count`, writes what was counted of one input.
 fn put_counts<W: Write>(
     alloc: Global,
     job: Job,
@@ -255,7 +255,15 @@ fn put_counts<W: Write>(
     ensures failed { IfErr result (λ failure. ¬ IsReading failure) }
 {
     match job.command {
-        Command::Check => put_summary(alloc, job.style, Some(name), job.command, counts, 0, report),
+        Command::Check | Command::Count => put_summary(
+            alloc,
+            job.style,
+            Some(name),
+            job.command,
+            counts,
+            0,
+            report,
+        ),
         Command::List | Command::Canon | Command::Sound | Command::Unique | Command::Json(_) => {
             put(report, b"")
         }
@@ -277,16 +285,20 @@ fn put_all_counts<W: Write>(
 {
     match job.command {
         Command::List => put(report, b""),
-        Command::Check | Command::Canon | Command::Sound | Command::Unique | Command::Json(_) =>
-            put_summary(
-                alloc,
-                job.style,
-                None,
-                job.command,
-                &totals.counts,
-                totals.kept.count(),
-                report,
-            ),
+        Command::Check
+        | Command::Count
+        | Command::Canon
+        | Command::Sound
+        | Command::Unique
+        | Command::Json(_) => put_summary(
+            alloc,
+            job.style,
+            None,
+            job.command,
+            &totals.counts,
+            totals.kept.count(),
+            report,
+        ),
     }
 }
 

@@ -7,6 +7,8 @@ pub enum Command {
     Check,
     /// the elements of each, at every level
     List,
+    /// how many there are, and of how many bytes, by their lengths alone
+    Count,
     /// the canonical form of each without damage
     Canon,
     /// each without damage, unchanged

@@ -53,7 +53,7 @@ impl Counts {
             ..self
         };
         match finding {
-            Finding::Canonical => Some(read),
+            Finding::Canonical | Finding::Unjudged => Some(read),
             Finding::Breached => Some(Counts {
                 breached: read.breached.checked_add(1)?,
                 ..read

@@ -11,9 +11,10 @@ ghost use Rattle.raw_form.specs.Places.{FirstBarrierAt};
 ghost use Rattle.raw_form.specs.Verdicts.{FirstVerdict};
 ghost use Rattle.bsonraw_dump.specs.Cut.{most};
 ghost use Rattle.raw_tree.specs.WithinLimits as within;
-ghost use Rattle.bsonraw_dump.specs.Find.{account_at, account_of, Finds, IsDamage, SaysBarrier, limits, named_spot, spot_of, verdict_of, verdict_word};
+ghost use Rattle.bsonraw_dump.specs.Find.{account_at, account_of, Finds, Judges, MayBeDamaged, SaysBarrier, limits, named_spot, spot_of, verdict_of, verdict_word};
 ghost use Rattle.bsonraw_dump.specs.Find as says;
 
+use crate::command::Command;
 use crate::reason::{Why, kind_of};
 use crate::window::MOST;
 use raw_form::{Barrier, BarrierKind, Place, ValidateError, first_fault_within, validate_within};
@@ -32,14 +33,19 @@ pub enum Finding {
     Damaged,
     /// it is too deep
     TooDeep,
+    /// it isn't judged
+    Unjudged,
 }
 
 impl Finding {
-    /// Whether it is damage, or that a level is too deep.
-    pub fn is_damage(self) -> bool
-        ensures { MatchBool result (IsDamage self) (¬ IsDamage self) }
+    /// Whether the document is damaged or too deep, or may be.
+    pub fn may_be_damaged(self) -> bool
+        ensures { MatchBool result (MayBeDamaged self) (¬ MayBeDamaged self) }
     {
-        matches!(self, Finding::Damaged | Finding::TooDeep)
+        matches!(
+            self,
+            Finding::Damaged | Finding::TooDeep | Finding::Unjudged
+        )
     }
 }
 
@@ -73,8 +79,28 @@ pub fn most_allowed() -> Limits
     }
 }
 
+/// What a command finds in the bytes of a document: `count` judges none.
+pub fn judged(alloc: Global, command: Command, bytes: &[u8]) -> Result<Found<'_>, AllocError>
+    requires { length bytes.now ≤ most }
+    ensures { IfOk result
+        (λ found. Judges command bytes.now found.finding (option_map account_of found.told)) }
+{
+    match command {
+        Command::Count => Ok(Found {
+            finding: Finding::Unjudged,
+            told: None,
+        }),
+        Command::Check
+        | Command::List
+        | Command::Canon
+        | Command::Sound
+        | Command::Unique
+        | Command::Json(_) => find(alloc, bytes),
+    }
+}
+
 /// What is found in the bytes of a document.
-pub fn find(alloc: Global, bytes: &[u8]) -> Result<Found<'_>, AllocError>
+fn find(alloc: Global, bytes: &[u8]) -> Result<Found<'_>, AllocError>
     requires { length bytes.now ≤ most }
     ensures { IfOk result
         (λ found. Finds bytes.now found.finding (option_map account_of found.told)) }

@@ -5,7 +5,7 @@ ghost use Rattle.std.specs.Prelude.{◌≡◌, ℕ, List, Option, [], ◌∷◌,
 ghost use Rattle.std.specs.Option.{option_copied, option_map};
 ghost use Rattle.std.specs.Io.KnownBytes.{Appends, Keeps};
 ghost use Rattle.bsonraw_dump.specs.Cut.{EndsWith, IsPiece};
-ghost use Rattle.bsonraw_dump.specs.Find.{Finds};
+ghost use Rattle.bsonraw_dump.specs.Find.{Judges};
 ghost use Rattle.bsonraw_dump.specs.Reading.{GoesAhead, IsReadBehind, IsWindow, Stays, ahead_of};
 ghost use Rattle.raw_resync.specs.Seeking.{IsWork};
 ghost use Rattle.bsonraw_dump.specs.Fronts.{WritesFront};
@@ -26,7 +26,7 @@ use crate::command::Command;
 use crate::counts::Counts;
 use crate::ending::{Ending, Rest};
 use crate::failure::{Failure, ReadFailure, in_range};
-use crate::find::{Finding, Found, Told, find, most_allowed};
+use crate::find::{Finding, Found, Told, judged, most_allowed};
 use crate::kept::Kept;
 use crate::listing::list_level;
 use crate::object::{ending_object, told_object};
@@ -251,8 +251,8 @@ fn pass_next<R: Read, D: Write, W: Write>(
     Ok(next)
 }
 
-/// Passes the document of so many bytes in front of the bytes ahead, and returns whether it did: one with damage is passed where
-/// any is.
+/// Passes the document of so many bytes in front of the bytes ahead, and returns whether it did: one that may be damaged is passed
+/// where any is.
 fn pass_front<D: Write, W: Write>(
     alloc: Global,
     asked: Asked<'_>,
@@ -309,7 +309,7 @@ fn pass_gap<R: Read, W: Write>(
     Ok(())
 }
 
-/// Passes one document, and returns what is found in it; one with damage only where any is passed.
+/// Passes one document, and returns what is found in it; one that may be damaged only where any is passed.
 fn pass<D: Write, W: Write>(
     alloc: Global,
     asked: Asked<'_>,
@@ -327,8 +327,8 @@ fn pass<D: Write, W: Write>(
         (D.contents out.old) (D.contents out.new) (W.contents report.old) (W.contents report.new)) }
     ensures failed { IfErr result (λ failure. ¬ IsReading failure) }
 {
-    let found = find(alloc, bytes)?;
-    if !any && found.finding.is_damage() {
+    let found = judged(alloc, asked.command, bytes)?;
+    if !any && found.finding.may_be_damaged() {
         return Ok(None);
     }
     report_found(
@@ -370,10 +370,10 @@ fn report_found<W: Write>(
         (_, Finding::Damaged | Finding::TooDeep) | (Command::Check, Finding::Breached) => {
             put_told(alloc, style, name, offset, &found.told, report)
         }
-        (Command::Check, Finding::Canonical)
+        (Command::Check, Finding::Canonical | Finding::Unjudged)
         | (
-            Command::Canon | Command::Sound | Command::Unique | Command::Json(_),
-            Finding::Canonical | Finding::Breached,
+            Command::Canon | Command::Sound | Command::Unique | Command::Json(_) | Command::Count,
+            Finding::Canonical | Finding::Breached | Finding::Unjudged,
         ) => put(report, b""),
     }
 }
@@ -518,16 +518,15 @@ fn emit<D: Write>(
     out: &mut D,
     kept: &mut Kept,
 ) -> Result<(), Failure>
-    requires { (told : Option Account) × Finds bytes.now finding told }
+    requires { (told : Option Account) × Judges command bytes.now finding told }
     ensures written { OnOk result
         (Emits command bytes.now finding (D.contents out.old) (D.contents out.new) kept.old kept.new) }
     ensures front { OnErr result (WritesFront (IsMade command bytes.now finding kept.old) (D.contents out.old) (D.contents out.new)) }
     ensures failed { IfErr result (λ failure. ¬ IsReading failure) }
 {
     match (command, finding) {
-        (Command::Check | Command::List, _) | (_, Finding::Damaged | Finding::TooDeep) => {
-            put(out, b"")
-        }
+        (Command::Check | Command::List | Command::Count, _)
+        | (_, Finding::Damaged | Finding::TooDeep | Finding::Unjudged) => put(out, b""),
         (Command::Sound, Finding::Canonical | Finding::Breached) => put_document(
             command, bytes, out, kept,
         ),
@@ -604,9 +603,12 @@ fn put_document<D: Write>(
 {
     match command {
         Command::Unique => put_new(document, out, kept),
-        Command::Check | Command::List | Command::Canon | Command::Sound | Command::Json(_) => {
-            put_one(document, out, kept)
-        }
+        Command::Check
+        | Command::List
+        | Command::Count
+        | Command::Canon
+        | Command::Sound
+        | Command::Json(_) => put_one(document, out, kept),
     }
 }
 

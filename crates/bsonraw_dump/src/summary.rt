@@ -3,7 +3,7 @@
 
 ghost use Rattle.std.specs.Prelude.{◌≡◌, ◌++◌, ◌∷◌, [], IfOk, OnOk, flat_map, map};
 ghost use Rattle.std.specs.Option.{option_copied};
-ghost use Rattle.bsonraw_dump.specs.Told.{Grows, breached_counts, count_members, count_of, count_text, counts_of, kept_counts, left_counts, name_members, name_text, next_text, summary_line};
+ghost use Rattle.bsonraw_dump.specs.Told.{Grows, breached_counts, count_members, count_of, count_text, counts_of, damaged_counts, kept_counts, left_counts, name_members, name_text, next_text, summary_line};
 ghost use Rattle.bsonraw_dump.specs.declared.style.Style.TheVariants.{Json, Words};
 
 use crate::command::Command;
@@ -39,7 +39,7 @@ fn push_kept(
     ensures { OnOk result (map count_of all.new.items ≡ map count_of all.old.items ++ kept_counts command counts.now kept) }
 {
     match command {
-        Command::Check | Command::List => Ok(()),
+        Command::Check | Command::List | Command::Count => Ok(()),
         Command::Canon | Command::Sound | Command::Unique | Command::Json(_) => {
             push(all, "kept", kept)?;
             push(all, "left out", counts.documents.saturating_sub(kept))
@@ -53,16 +53,34 @@ fn push_breached(all: &mut Vec<Count>, command: Command, counts: &Counts) -> Res
 {
     match command {
         Command::Check | Command::Canon => push(all, "not canonical", counts.breached),
-        Command::List | Command::Sound | Command::Unique | Command::Json(_) => Ok(()),
+        Command::List | Command::Count | Command::Sound | Command::Unique | Command::Json(_) => Ok(
+            (),
+        ),
     }
 }
 
-/// What was left out.
+/// How many documents are damaged or too deep, where the command knows.
+fn push_damaged(all: &mut Vec<Count>, command: Command, counts: &Counts) -> Result<(), AllocError>
+    ensures { OnOk result (map count_of all.new.items ≡ map count_of all.old.items ++ damaged_counts command counts.now) }
+{
+    match command {
+        Command::Count => Ok(()),
+        Command::Check
+        | Command::List
+        | Command::Canon
+        | Command::Sound
+        | Command::Unique
+        | Command::Json(_) => {
+            push(all, "damaged", counts.damaged)?;
+            push(all, "too deep", counts.too_deep)
+        }
+    }
+}
+
+/// Of what no document was made.
 fn push_left(all: &mut Vec<Count>, counts: &Counts) -> Result<(), AllocError>
     ensures { OnOk result (map count_of all.new.items ≡ map count_of all.old.items ++ left_counts counts.now) }
 {
-    push(all, "damaged", counts.damaged)?;
-    push(all, "too deep", counts.too_deep)?;
     push(all, "bytes passed over", counts.passed_over)?;
     push(all, "bytes not read", counts.not_read)?;
     push(all, "files not read to the end", counts.files)
@@ -81,6 +99,7 @@ fn counted(
     push(&mut all, "bytes", counts.bytes)?;
     push_kept(&mut all, command, counts, kept)?;
     push_breached(&mut all, command, counts)?;
+    push_damaged(&mut all, command, counts)?;
     push_left(&mut all, counts)?;
     Ok(all)
 }

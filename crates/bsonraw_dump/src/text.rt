@@ -7,7 +7,7 @@ ghost use Rattle.std.specs.Option.{option_map};
 ghost use Rattle.json.specs.Print.{quoted};
 ghost use Rattle.raw_form.specs.Barriers.{step_of};
 ghost use Rattle.bsonraw_dump.specs.Find.{account_of, explanation_of, explanation_text, spot_of};
-ghost use Rattle.bsonraw_dump.specs.Told.{all_text, ending_text, line, rest_text, spot_text, step_text};
+ghost use Rattle.bsonraw_dump.specs.Told.{all_text, ending_text, line, path_text, rest_text, spot_text, step_text};
 ghost use Rattle.bsonraw_dump.specs.Told as says;
 ghost use Rattle.bsonraw_dump.specs.Run.{head_text};
 
@@ -18,6 +18,9 @@ use itoa::Buffer;
 use json::Writer;
 use raw_form::{PathStep, Place};
 use std::alloc::{AllocError, Global};
+
+/// So many steps are shown of each end of a path that has more than twice as many.
+const SHOWN: usize = 10;
 
 /// A text in quotes, as JSON has it.
 pub fn quotation(alloc: Global, text: &str) -> Result<Vec<u8>, AllocError>
@@ -61,7 +64,19 @@ fn push_step(alloc: Global, text: &mut Vec<u8>, step: &PathStep<'_>) -> Result<(
     Ok(())
 }
 
+/// Behind the text, the steps of a path; of a long one those at its ends.
 fn push_path(alloc: Global, text: &mut Vec<u8>, path: &[PathStep<'_>]) -> Result<(), AllocError>
+    ensures { OnOk result (text.new.items ≡ text.old.items ++ path_text (map step_of path.now)) }
+{
+    if path.len() <= 2 * SHOWN {
+        return push_steps(alloc, text, path);
+    }
+    push_steps(alloc, text, &path[..SHOWN])?;
+    push_words(text, "/..")?;
+    push_steps(alloc, text, &path[path.len() - SHOWN..])
+}
+
+fn push_steps(alloc: Global, text: &mut Vec<u8>, path: &[PathStep<'_>]) -> Result<(), AllocError>
     ensures { OnOk result
         (text.new.items ≡ text.old.items ++ flat_map step_text (map step_of path.now)) }
 {

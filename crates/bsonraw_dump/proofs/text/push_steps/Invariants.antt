@@ -1,7 +1,7 @@
 use Rattle.std.proofs.Common.{◌≡◌, ◌++◌, flat_map, map, take}
 use Rattle.raw_form.specs.Barriers.{step_of}
 use Rattle.bsonraw_dump.specs.Told.{step_text}
-use Rattle.bsonraw_dump.proofs.text.push_path.Given as goal
+use Rattle.bsonraw_dump.proofs.text.push_steps.Given as goal
 
 -- each step so far is behind the text
 abbrev pub invariant-loop-step : goal.invariant-loop-step
