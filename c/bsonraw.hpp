@@ -95,7 +95,7 @@ public:
             else status_ = BSONRAW_NONE;
             return *this;
         }
-        bool operator!=(const iterator &) const noexcept { return status_ != BSONRAW_NONE; } // the other is the end
+        bool operator!=(const iterator &other) const noexcept { return status_ != other.status_; } // that of the end is BSONRAW_NONE
     private:
         void step() noexcept { status_ = bsonraw_iter_next(&it_, bytes_, len_); }
         const uint8_t *bytes_ = nullptr;

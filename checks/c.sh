@@ -266,7 +266,7 @@ build() {
         # shellcheck disable=SC2086
         compile -std=c99 $warnings -O1 -fPIE -c -o "$work/$name.o" "c/tests/$name.c" || return 1
     done
-    for name in agree buffers build daily from_json large memory numbers pieces reasons resync slips texts threads; do
+    for name in agree buffers build daily from_json large memory numbers pieces reasons resync slips texts threads touch; do
         link libbsonraw.a "$work/$name" "$work/$name.o" "$work/documents.o" || return 1
         link libbsonraw.so "$work/$name.shared" "$work/$name.o" "$work/documents.o" || return 1
     done
@@ -291,24 +291,68 @@ notices_mistakes() {
     rm "$prefix/lib/wrong.a"
 }
 
-# And each mistake of c/tests/mistakes.txt: a file of c, the test that has to notice it, and what sed makes of the file.
+# inlines FILE [OTHER]: the inline functions of a header, one a line; or those in which the other differs from it, and - for other lines
+inlines() {
+    awk -v other="${2-}" '
+        { match($0, /[^ ]/) }
+        name == "" && (/^BSONRAW_(USE BSONRAW_)?(INLINE|LOCAL) / ||
+                       (FILENAME ~ /hpp$/ && /^ *[a-zA-Z~].*\).*\{/ && !/^ *(if|for|else|return|static_assert)/)) {
+            name = FNR ": " $0
+            column = RSTART
+            if (other == "") print name
+        }
+        other != "" { getline line <other; if (line != $0) print name == "" ? "-" : name }
+        RSTART == column && /\}( \/\/.*)?$/ { name = "" }' "$1" | sort -u
+}
+
+# build_edited FOLDER FILE TEST: builds the test over what is in the folder, in which this file has an edit; it is compiled as C++ for
+# the header of that, with LeakSanitizer if it is there
+build_edited() {
+    if [ "$2" = bsonraw.hpp ]; then
+        # shellcheck disable=SC2086 # a list of flags
+        c++ -std=c++17 ${sanitized:+-fsanitize=leak} -w "-I$1" -o "$1/test" "c/tests/$3.cpp" "$prefix/lib/libbsonraw.a" 2>/dev/null
+        return
+    fi
+    [ "$2" = daily.c ] && edited=$1/daily.c || edited=
+    for source in "c/tests/$3.c" ${edited:+"$edited"}; do
+        "$kit/bin/clang" -nostdinc -isystem c/tests/headers "-I$1" -Ic/tests -std=gnu99 -O1 -w -fPIE -c -o "$1/$(echo "$source" | tr / _).o" "$source" ||
+            return 1
+    done
+    link libbsonraw.a "$1/test" "$1"/*.o "$work/documents.o"
+}
+
+# try_edit FOLDER FILE TEST EDIT: says so if the test doesn't notice what sed makes of this file of c; in FOLDER is what it needs, and
+# the function that is changed
+try_edit() {
+    mkdir "$1" && cp c/bsonraw.h c/bsonraw.hpp c/daily.c "$1" && sed -i "$4" "$1/$2" || return 1
+    ! cmp -s "c/$2" "$1/$2" || echo "this changes nothing in c/$2: $4"
+    inlines "c/$2" "$1/$2" >"$1/changed"
+    [ "$3" = agree ] && fewer=20000 || fewer=
+    build_edited "$1" "$2" "$3" || { echo "this doesn't compile in c/$2: $4"; return; }
+    timeout 60 "$1/test" ${fewer:+"$fewer"} <"$work/documents" >/dev/null 2>&1 && echo "$3 doesn't notice this in c/$2: $4"
+    rm "$1"/test
+}
+
+# And each mistake of c/tests/mistakes.txt: a file of c, the test that has to notice it, and what sed makes of the file. Each inline
+# function of the headers has one that changes it alone.
 notices_edits() {
-    mkdir "$work/edited"
+    mkdir "$work/edited" || return 1
+    count=0
     while read -r file name edit; do
-        cp c/bsonraw.h c/daily.c "$work/edited" && sed -i "$edit" "$work/edited/$file" || return 1
-        cmp -s "c/$file" "$work/edited/$file" && fails "this changes nothing in c/$file: $edit"
-        for source in "c/tests/$name.c" "$work/edited/daily.c"; do
-            "$kit/bin/clang" -nostdinc -isystem c/tests/headers "-I$work/edited" -Ic/tests -std=gnu99 -O1 -w -fPIE -c \
-                -o "$work/edited/$(echo "$source" | sed 's|.*/\([a-z]*/[a-z]*\)\.c|\1|; s|/|_|').o" "$source" || {
-                fails "this doesn't compile in c/$file: $edit"
-                continue 2
-            }
-        done
-        [ "$name" = agree ] && fewer=20000 || fewer=
-        link libbsonraw.a "$work/edited/test" "$work/edited/tests_$name.o" "$work/edited/edited_daily.o" "$work/documents.o" || return 1
-        timeout 60 "$work/edited/test" ${fewer:+"$fewer"} <"$work/documents" >/dev/null 2>&1 && fails "$name doesn't notice this in c/$file: $edit"
-    done <c/tests/mistakes.txt
-    echo "$(wc -l <c/tests/mistakes.txt) mistakes in what is written in C are noticed"
+        [ "$file" != bsonraw.hpp ] || [ -n "$has_cxx" ] || continue
+        count=$((count + 1))
+        try_edit "$work/edited/$count" "$file" "$name" "$edit" &
+        [ $((count % $(nproc))) != 0 ] || wait
+    done <c/tests/mistakes.txt >"$work/unnoticed"
+    wait
+    [ ! -s "$work/unnoticed" ] || fails "$(cat "$work/unnoticed")"
+    for name in bsonraw.h ${has_cxx:+bsonraw.hpp}; do
+        inlines "c/$name"
+    done >"$work/inlines"
+    for changed in "$work"/edited/*/changed; do
+        [ "$(wc -l <"$changed")" != 1 ] || cat "$changed"
+    done | sort -u | grep -vxF -f - "$work/inlines" >"$work/lacking" && fails "these have no mistake of their own in c/tests/mistakes.txt: $(cat "$work/lacking")"
+    echo "$count mistakes in what is written in C are noticed"
 }
 
 # Reasons and causes have the words of bsonraw-dump.
@@ -328,7 +372,7 @@ look_at_words() {
 }
 
 run_tests() {
-    for name in agree buffers build daily from_json large memory numbers pieces reasons resync slips texts threads; do
+    for name in agree buffers build daily from_json large memory numbers pieces reasons resync slips texts threads touch; do
         for program in "$name" "$name.shared"; do
             "$work/$program" <"$work/documents" >"$work/said" || fails "$program ends with status $?"
             cat "$work/said"
@@ -558,14 +602,21 @@ try_others() {
 
 # Some tests under AddressSanitizer and UndefinedBehaviorSanitizer.
 run_sanitized() {
-    if ! cc -fsanitize=address,undefined -o "$work/probe" "$work/probe.c" 2>/dev/null; then
+    if [ -z "$sanitized" ]; then
         skip "AddressSanitizer"
         return
     fi
-    for name in daily pieces slips build; do
-        cc -std=gnu99 -g -O1 -fsanitize=address,undefined -fno-sanitize-recover=all -Ic -o "$work/sanitized" "c/tests/$name.c" c/tests/documents.c \
-            c/daily.c "$prefix/lib/libbsonraw.a" && "$work/sanitized" <"$work/documents" >"$work/said" 2>&1 || fails "$name with sanitizers: $(head -5 "$work/said")"
+    for name in agree build daily pieces slips; do
+        [ "$name" = agree ] && fewer=4000 || fewer=
+        # shellcheck disable=SC2086 # a list of flags
+        cc -std=gnu99 -g -O1 $sanitized -Ic -o "$work/sanitized" "c/tests/$name.c" c/tests/documents.c c/daily.c "$prefix/lib/libbsonraw.a" &&
+            "$work/sanitized" ${fewer:+"$fewer"} <"$work/documents" >"$work/said" 2>&1 || fails "$name with sanitizers: $(head -5 "$work/said")"
     done
+    if [ -n "$has_cxx" ]; then
+        # shellcheck disable=SC2086 # a list of flags
+        c++ -std=c++17 -g -O1 $sanitized -Ic -o "$work/sanitized" c/tests/hpp.cpp "$prefix/lib/libbsonraw.a" && "$work/sanitized" >"$work/said" 2>&1 ||
+            fails "hpp with sanitizers: $(head -5 "$work/said")"
+    fi
     look_at_wrong_length
 }
 
@@ -599,6 +650,9 @@ has_cc= has_cxx=
 printf '#include <stdio.h>\nint main(void) { return 0; }\n' >"$work/probe.c"
 if cc -o "$work/probe" "$work/probe.c" 2>/dev/null; then has_cc=yes; else skip "the machine's C compiler and headers"; fi
 if c++ -x c++ -o "$work/probe" "$work/probe.c" 2>/dev/null; then has_cxx=yes; else skip "the machine's C++ compiler and headers"; fi
+sanitized='-fsanitize=address,undefined -fno-sanitize-recover=all'
+# shellcheck disable=SC2086 # a list of flags
+cc $sanitized -o "$work/probe" "$work/probe.c" 2>/dev/null || sanitized=
 
 [ $# = 1 ] || bin/install "$prefix" || exit 1
 documents >"$work/documents"
@@ -606,7 +660,7 @@ look_at_libraries
 look_at_header
 look_at_examples
 run_programs || fails "the programs of examples/c don't compile"
-if build documents agree buffers build daily from_json large memory numbers pieces reasons resync slips texts threads print; then
+if build documents agree buffers build daily from_json large memory numbers pieces reasons resync slips texts threads touch print; then
     look_at_output
     notices_mistakes || fails "the tests don't compile with a mistake"
     notices_edits || fails "the tests don't compile with an edit"

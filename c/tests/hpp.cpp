@@ -36,6 +36,8 @@ int main() {
     expect((*doc.find("n")).value()->text_len == 20, "the value of n");
     expect(*doc.json() == "{\"a\":7,\"l\":[true,\"x\"],\"n\":{\"i\":{\"$oid\":\"6162636465666768696a6b6c\"}}}", "a text");
     expect(doc.json(true, true)->size() > 80, "a long text");
+    expect(doc.json(true)->find("\"a\":{\"$numberInt\":\"7\"}") == 1 && doc.json(true)->find('\n') == std::string::npos, "a canonical text");
+    expect((*doc.find("a")).json(true).value_or("") == "{\"$numberInt\":\"7\"}" && (*doc.find("l")).json(false, true)->find('\n') == 1, "a text of each form");
     expect(*(*doc.find("l")).json() == "[true,\"x\"]" && *(*doc.find("l.0")).json() == "true", "the text of l");
     expect(*(*doc.find("n")).json(true, true) == "{\n  \"i\": {\"$oid\":\"6162636465666768696a6b6c\"}\n}", "the text of n");
     expect(*doc.canonical() == std::vector<uint8_t>(sample, sample + sizeof sample), "a form");
@@ -46,11 +48,22 @@ int main() {
     for (auto e : bsonraw::view()) expect(e.status() == BSONRAW_NO_DOCUMENT, "no document"), steps++;
     expect(steps == 3, "no document");
     expect(bsonraw::view(sample, 5).first_fault().status() == BSONRAW_NO_DOCUMENT, "a fault");
+    expect(bsonraw::view(*doc.canonical()).size() == sizeof sample, "a vector");
+    bsonraw::view empty(std::string_view("\5\0\0\0", 5));
+    expect(empty.first_fault() && !(empty.begin() != empty.end()), "an empty document");
+    bsonraw::buffer kinds;
+    kinds.append("l", int64_t{6}).append("d", 1.5).append("z", nullptr).append("v", empty).append_date_time("t", 1);
+    kinds.append_binary("b", 128, "xy", 2).append("s", std::string(99, 'x')).concat(doc).end();
+    auto whole = kinds.document();
+    expect((*(*whole).find("s")).json()->size() == 101, "a text that is longer than most");
+    expect(whole->json(true)->find("{\"l\":{\"$numberLong\":\"6\"},\"d\":{\"$numberDouble\":\"1.5\"},\"z\":null,\"v\":{},\"t\":{\"$date\":"
+                                   "{\"$numberLong\":\"1\"}},\"b\":{\"$binary\":{\"base64\":\"eHk=\",\"subType\":\"80\"}},\"s\":\"xxx") == 0 && whole->has("n.i"),
+           "a document of each kind");
     bsonraw::buffer copy;
     for (auto e : doc) copy.append(e);
     copy.end();
     bsonraw::buffer moved(std::move(copy));
-    expect(moved.document() && moved.document()->size() == sizeof sample, "a copy");
+    expect(moved.document() && moved.document()->size() == sizeof sample && copy.document().status() == BSONRAW_MISUSE, "a copy that was moved");
     copy = std::move(moved);
     copy.reset().append("x", std::string_view("\xff")).end();
     expect(copy.status() == BSONRAW_FAULT && std::string_view(copy.document().text()) == "a fault", "a text that isn't UTF-8");

@@ -54,7 +54,10 @@ static void look_at_levels(void) {
 }
 
 static void look_at_slips(void) {
+    static const uint8_t a[] = "\10\0\0\0\12a\0";
     struct bsonraw_builder copy;
+    struct bsonraw_iter it;
+    is(bsonraw_iter_init_find(&it, a, sizeof a, BSONRAW_KEY("a")), BSONRAW_OK, "an element");
     begin();
     sticks(bsonraw_append_null(&b, room, len, BSONRAW_KEY("n")), BSONRAW_MISUSE, "an append while a level is open");
     begin();
@@ -80,6 +83,8 @@ static void look_at_slips(void) {
     is(bsonraw_append_end(&b, room, len, &outer), BSONRAW_OK, "the level around it");
     ENDS_AS("\34\0\0\0\20a\0\1\0\0\0\3o\0\15\0\0\0\4i\0\5\0\0\0\0\0\0", "what it leaves");
     sticks(bsonraw_append_null(&b, room, len, BSONRAW_KEY("n")), BSONRAW_BAD_OFFSET, "an append after the end");
+    begin();
+    sticks(bsonraw_append_iter(&b, room, len, &it, a, sizeof a), BSONRAW_MISUSE, "a copy while a level is open");
     begin();
     is(bsonraw_append_cancel(&b, &inner), BSONRAW_MISUSE, "another level is taken back");
     bsonraw_builder_begin(&b, room, len);
@@ -284,6 +289,15 @@ static void look_at_null_in_builders(void) {
     is(bsonraw_append_null(NULL, room, len, BSONRAW_KEY("a")), BSONRAW_NULL, "a builder");
 }
 
+/* What the exported calls and the caller's own code are given in place of NULL: memory, and no text. */
+static void look_at_places(void) {
+    expect(bsonraw_some_bytes(NULL) != NULL && bsonraw_some_bytes(room) == room, "bytes", "other memory");
+    expect(bsonraw_some_room(NULL) != NULL && bsonraw_some_room(room) == room, "a room", "other memory");
+    expect(bsonraw_some_path(NULL) != NULL, "a path", "no memory");
+    expect(bsonraw_str_bytes(NULL) != NULL && bsonraw_str_len(NULL) == 0, "NULL as a text", "no empty one");
+    expect(bsonraw_str_len("four") == 4 && memcmp(bsonraw_str_bytes("four"), "four", 5) == 0, "a text", "another one");
+}
+
 /* The loop of the header over a reader that is used once more, for a shorter buffer; after each kind of damage, it ends. */
 static void look_at_readers(void) {
     static const uint8_t dump[] = "\5\0\0\0\0\6\0\0\0\0\1\5\0\0\0\0\5\0\0";
@@ -313,5 +327,6 @@ int main(void) {
     look_at_refused();
     look_at_null();
     look_at_null_in_builders();
+    look_at_places();
     return result("slips");
 }
