@@ -167,8 +167,17 @@ link_libraries() {
     compile_rest "$1" && "link_$machine" "$1" &&
         "$toolchain/bin/llvm-ar" rcsD "$1/libbsonraw.a" "$1/bsonraw.o" "$1/daily.o" "$1/exported.o" &&
         echo "BSONRAW_${version%%.*} { global: bsonraw_*; local: *; };" >"$1/exports" &&
-        "$toolchain/bin/ld.lld" -shared -s -soname "$soname" --version-script "$1/exports" --build-id=sha1 --gc-sections -z defs -z relro \
-            -z now -z noexecstack -o "$1/libbsonraw.so.$version" "$1/bsonraw.o" "$1/daily.o" "$1/exported.o" "$1/libc.so.6"
+        "$toolchain/bin/ld.lld" -shared -soname "$soname" --version-script "$1/exports" --build-id=sha1 --gc-sections -z defs -z relro \
+            -z now -z noexecstack -o "$1/linked.so" "$1/bsonraw.o" "$1/daily.o" "$1/exported.o" "$1/libc.so.6" &&
+        "$1/llvm-objcopy" --strip-all "$1/linked.so" "$1/libbsonraw.so.$version"
+}
+
+# put_symbols FOLDER GOAL: puts the symbol table that the linked library lost into a file below GOAL where debuggers look for it, by the
+# library's build-id
+put_symbols() {
+    ln -s "$toolchain/bin/clang" "$1/llvm-readelf" && id=$("$1/llvm-readelf" --notes "$1/linked.so" | sed -n 's/^ *Build ID: //p') &&
+        [ -n "$id" ] && symbols=$2/.build-id/$(echo "$id" | cut -c 1-2) && mkdir -p "$symbols" &&
+        "$1/llvm-objcopy" --only-keep-debug "$1/linked.so" "$symbols/$(echo "$id" | cut -c 3-).debug" && chmod 644 "$symbols"/*
 }
 
 # pkg_config PREFIX LIB: the pkg-config file of a prefix, whose libraries are in its folder LIB
@@ -186,11 +195,12 @@ link_pages() {
     done
 }
 
-# lay_out FOLDER PREFIX LIB: what an installation has, in this new folder, as it has to be under the prefix
+# lay_out FOLDER PREFIX LIB [SYMBOLS]: what an installation has, in this new folder, as it has to be under the prefix; and the symbol table
+# of the library in a folder of its own
 lay_out() {
     link_folder=$1.link
     mkdir -p "$link_folder" "$1/include" "$1/$3/pkgconfig" "$1/share/man/man3" || return 1
-    link_libraries "$link_folder" &&
+    link_libraries "$link_folder" && { [ $# = 3 ] || put_symbols "$link_folder" "$4"; } &&
         put_programs "$link_folder/llvm-objcopy" "$1" &&
         install -m 644 "$root/c/bsonraw.h" "$root/c/bsonraw.hpp" "$1/include" &&
         install -m 644 "$link_folder/libbsonraw.a" "$1/$3" &&

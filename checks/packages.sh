@@ -2,6 +2,7 @@
 # What bin/package makes, tried as a new user would: each of the archive, the Debian packages and the wheels is installed
 # where nothing of this repository is, and prints the worked rows of examples/; a C program is compiled by pkg-config, and
 # Python has the module. release/verify finds a changed byte in each file, and each part that is compiled in has its licence there, whole.
+# gdb finds functions of the library by the symbol table that is packed apart.
 # lintian has nothing against the packages. One commit gives the same bytes twice, in another folder and with other settings of the
 # machine, too, and where bin/test hasn't passed for the very commit and what is built, nothing is made; what is made all the same says of
 # itself nowhere that it is proved. On processors without SSE4.1 the libraries and the module give what they give here, and the programs
@@ -249,6 +250,23 @@ has_licences() {
         fails "$file has no licence of $(paste -s -d , "$work/lacking")"
 }
 
+# names_functions LIBRARY FOLDER [GDB]: whether a file of the folder has the symbol table of the library, which itself has none, where a
+# debugger looks for it by the build-id; GDB is one that has to find a function's name by it
+names_functions() {
+    if ! command -v readelf >/dev/null; then
+        skip "symbol tables, since readelf isn't there"
+        return
+    fi
+    id=$(readelf -n "$1" | sed -n 's/.*Build ID: //p')
+    table=$2/.build-id/$(echo "$id" | sed 's|^..|&/|').debug
+    [ -f "$table" ] && [ "$(readelf -n "$table" | sed -n 's/.*Build ID: //p')" = "$id" ] || fails "no symbol table has the build-id of $1: $id"
+    ! readelf -SW "$1" | grep -q ' \.symtab ' || fails "$1 has a symbol table of its own"
+    readelf -sW "$table" | awk '$4 == "FUNC" && $5 == "LOCAL" { print $3, $2, $8 }' | sort -n | tail -n 1 >"$work/longest"
+    read -r _ at name <"$work/longest" || fails "$table names no function"
+    [ -z "${3-}" ] || "$3" -nx -batch -iex "set debug-file-directory $2" -ex "info symbol 0x$at" "$1" 2>&1 | grep -qF "$name in section .text" ||
+        fails "$3 doesn't find the name $name by the build-id of $1"
+}
+
 # lists_all FOLDER PROVED: whether it lists each file below the folder but itself
 lists_all() {
     (cd "$1" && find . ! -type d | sed 's|^\./||' | grep -vx PROVED | LC_ALL=C sort) >"$work/there"
@@ -261,6 +279,7 @@ try_archive() {
     lists_all "$archive" "$archive/PROVED"
     finds_changes "$archive" "$archive/PROVED"
     has_licences "$archive/LICENCES" $crates
+    names_functions "$archive/lib/libbsonraw.so" "$archive/lib/debug" $gdb
     # shellcheck disable=SC2046,SC2086 # names of parts and of crates
     python3 -c 'import json, sys
 sys.exit(not set(sys.argv[2:]) <= {it["name"] for it in json.load(open(sys.argv[1]))["packages"]})' "$archive/bsonraw.spdx.json" \
@@ -327,6 +346,7 @@ try_arm() {
     lists_all "$arm_archive" "$arm_archive/PROVED"
     finds_changes "$arm_archive" "$arm_archive/PROVED"
     has_licences "$arm_archive/LICENCES" bsonraw_c
+    names_functions "$arm_archive/lib/libbsonraw.so" "$arm_archive/lib/debug"
     [ ! -e "$arm_archive/bin" ] && ! grep -q 'bin/bsonraw' "$arm_archive/README" || fails "there are programs for ARM"
     for package in "$made_for_arm"/*.deb; do
         dpkg-deb -x "$package" "$work/arm_root" || exit 1
@@ -378,7 +398,8 @@ try_packages() {
         finds_changes "$work/root" "$package/PROVED.amd64"
         has_licences "$package/copyright" $crates
     done
-    needs=$(for package in "$made"/libbsonraw2*.deb "$made"/bsonraw_*.deb; do dpkg-deb -f "$package" Depends; done | sed 's/.*libc6 (>= \(.*\)).*/\1/')
+    names_functions "$work/root/usr/lib/x86_64-linux-gnu/libbsonraw.so" "$work/root/usr/lib/debug" $gdb
+    needs=$(for package in "$made"/libbsonraw2_*.deb "$made"/bsonraw_*.deb; do dpkg-deb -f "$package" Depends; done | sed 's/.*libc6 (>= \(.*\)).*/\1/')
     # shellcheck disable=SC2086 # two versions
     tr -s '\n ' '  ' <README.md | grep -q "$(printf 'The library needs glibc %s or later, the programs %s,' $needs)" ||
         fails "README doesn't say which glibc is needed: $needs"
@@ -475,6 +496,7 @@ if command -v pkg-config >/dev/null && echo 'int main(void) { return 0; }' | cc 
 else
     skip "C programs, since there is no compiler or no pkg-config"
 fi
+gdb=$(command -v gdb) || skip gdb
 said=$(root=$PWD && . bin/release.sh && echo "bsonraw-dump $version ($(crates_commit))")
 make_all "$made"
 [ -z "$by_key" ] || gpgconf --kill all
