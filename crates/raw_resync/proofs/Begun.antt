@@ -1,7 +1,9 @@
 -- What is behind the length of a document without damage.
-use Rattle.std.proofs.Common.{◌≡◌, ◌≢◌, ◌⊎◌, ℕ, zero, suc, List, [], ◌∷◌, Option, None, Some, is_some, MatchOption, false, drop, sym, ◌∙◌, inl, inr}
+use Rattle.std.proofs.Common.{◌≡◌, ◌≢◌, ◌⊎◌, ℕ, zero, suc, List, [], ◌∷◌, Option, None, Some, is_some, MatchOption, false, drop, length, slice_get, subst, sym, ◌-◌, ◌∙◌, inl, inr}
+use Rattle.std.specs.Bool.{◌==◌}
 use Rattle.bson_model.specs.Tree.{Tree}
 use Rattle.raw_view.specs.Frame.{Frame, IsWalk, Done}
+use Rattle.raw_view.specs.Frame.Envelope.{IsEnvelope}
 use Rattle.raw_view.specs.Frame.Kind.{tag_of}
 use Rattle.raw_view.specs.declared.element_type.ElementType.{ElementType}
 use Rattle.raw_tree.specs.Reading.{Reads}
@@ -34,3 +36,12 @@ not_begun x r (Some kind) is isnt some begun = let impossible : ⊥ = cc in impo
 pub no_kind : (x : ℕ) (tag : Option ElementType) → MatchOption tag ((kind : ElementType) → x ≢ tag_of kind) (λ kind. x ≡ tag_of kind) → is_some tag ≡ false → (kind : ElementType) → x ≢ tag_of kind
 no_kind x None none is = none
 no_kind x (Some kind) at is = let impossible : ⊥ = cc in absurd impossible
+
+-- the last byte of an envelope is 0
+pub last_is_zero : (b : List ℕ) (x : ℕ) → slice_get b (length b - 1) ≡ Some x → (x == 0) ≡ false → ¬ IsEnvelope b
+last_is_zero b x last isnt envelope =
+    let both : ◌≡◌ {A = Option ℕ} (Some x) (Some 0) = sym last ∙ envelope.ended in
+    let zero : x ≡ 0 = cc in
+    let bad : (0 == 0) ≡ false = subst (λ n. (n == 0) ≡ false) zero isnt in
+    let impossible : ⊥ = cc in
+    impossible

@@ -3,6 +3,7 @@
 
 ghost use Rattle.std.specs.Prelude.{◌≡◌, ◌≤◌, ◌+◌, IfOk, drop, false, length, take, true};
 ghost use Rattle.raw_tree.specs.declared.reader.limits.Limits.{Limits};
+ghost use Rattle.raw_view.specs.Frame.Envelope.{IsEnvelope};
 ghost use Rattle.raw_resync.specs.Pieces.{IsPiece};
 ghost use Rattle.raw_resync.specs.Resync.{IsSound};
 ghost use Rattle.raw_resync.specs.Seeking.{Checks, ChecksBehind, IsWork, JudgesPiece, LacksTag, TellsFront, check_of};
@@ -133,7 +134,7 @@ fn check_piece(
     if !may_be_sound(piece) {
         return Ok(Check::Stops);
     }
-    if let Err(_) = RawDocument::from_bytes(piece) {
+    if !ends_with_zero(piece) {
         return Ok(Check::Stops);
     }
     match front_at(part, end) {
@@ -157,6 +158,17 @@ fn may_be_sound(piece: &[u8]) -> bool
     match piece.split_at(4).1.split_first() {
         Some((byte, rest)) => rest.is_empty() || ElementType::from(*byte).is_some(),
         None => true,
+    }
+}
+
+/// Whether the last byte is 0. For most places this is all that is looked at far off, so no error is made of it.
+#[inline(always)]
+fn ends_with_zero(piece: &[u8]) -> bool
+    ensures { result ≡ false → ¬ IsEnvelope piece.now }
+{
+    match piece.last() {
+        Some(byte) => *byte == 0,
+        None => false,
     }
 }
 

@@ -39,12 +39,12 @@ returns-in_ok-judge_piece-in-Some-true-clause-checked c =
     (subst (JudgesPiece p.limits p.bytes.now p.is_last p.at c.args.place c.args.len c.args.work.now c.judge_piece-in-Piece.new.work) first c.in_ok-judge_piece-in-Piece.ensures.judged)
     c.in_ok-judge_piece-in-Some-true.ensures.judged)
 
-pub returns-in-Err-clause-checked : goal.returns-in-Err-clause-checked
-returns-in-Err-clause-checked c =
+pub returns-then-not-ends_with_zero-clause-checked : goal.returns-then-not-ends_with_zero-clause-checked
+returns-then-not-ends_with_zero-clause-checked c =
     let p = c.args.part in
     let same : c.args.place + c.args.len - c.args.place ≡ c.args.len = omega arith in
     no_envelope p.limits p.bytes.now p.is_last p.at c.args.place c.args.len c.requires.1 c.requires.2 c.args.work.now
-    (λ envelope. let is = c.in-Err.ensures.sound.1 (subst (λ n. IsEnvelope (take n (drop c.args.place p.bytes.now))) (sym same) envelope) in let impossible : ⊥ = cc in impossible)
+    (λ envelope. c.ends_with_zero.ensures c.if-not-ends_with_zero.true (subst (λ n. IsEnvelope (take n (drop c.args.place p.bytes.now))) (sym same) envelope))
 
 pub returns-in-Some-false-clause-checked : goal.returns-in-Some-false-clause-checked
 returns-in-Some-false-clause-checked c =
