@@ -145,7 +145,7 @@ def rows(seconds: float) -> None:
     rng = random.Random(3)
     words = ["Zürich", "東京", "Москва", "Αθήνα", "القاهرة", "Oslo"]
 
-    def text(length: int) -> str:
+    def text(length: int, words: List[str] = words) -> str:
         made = ""
         while len(made) < length:
             made += rng.choice(words) + " "
@@ -154,6 +154,7 @@ def rows(seconds: float) -> None:
     made: Dict[str, Any] = {
         "50 texts of six letters, of which one isn't ASCII": {f"t{number}": "Zürich" for number in range(50)},
         "50 texts of 130 letters in several scripts": {f"t{number}": text(130) for number in range(50)},
+        "50 texts of 130 letters in Japanese": {f"t{number}": text(130, ["日本語のテキスト、", "です。"]) for number in range(50)},
         "100 keys of 63 letters": {f"{number:063}": number for number in range(100)},
         "10,000 ints of 32 bits in an array": {"a": [rng.randrange(-(2**31), 2**31) for _ in range(10_000)]},
     }
