@@ -12,7 +12,8 @@
  *     call is made from a signal handler, nor from the forked child of a process with threads.
  *   - Depth takes memory, and no stack.
  *
- * No call keeps memory, or a pointer, after it returns; none writes past what it was given.
+ * No call keeps memory, or a pointer, after it returns; none writes past what it was given. A call takes memory where its comment, or
+ * that of its part, says so.
  */
 #ifndef BSONRAW_H
 #define BSONRAW_H
@@ -1038,6 +1039,7 @@ struct bsonraw_resync {
  * go on, if no length is there, or if they go on inside the length and the first of them reaches its end, or if they go on inside
  * and neither a document without damage nor the end of the bytes is behind it. Where left_out is 1, that is so of the places that
  * were looked at. Nothing else in reader is changed.
+ * It takes memory as bsonraw_first_fault does of a document that it looks into.
  * Nothing at all is changed with BSONRAW_BAD_OFFSET, where the damage would be at len or behind, or the searches can't have cost so
  * much in these bytes; BSONRAW_TOO_MANY_BYTES, where len is over 2 to the power of 60; and BSONRAW_NO_MEMORY.
  *
@@ -1074,10 +1076,8 @@ BSONRAW_USE BSONRAW_INLINE int32_t bsonraw_checked_reader_resync(struct bsonraw_
  * the first of these: BSONRAW_NO_DOCUMENT, and error says why; BSONRAW_TOO_MANY_BYTES, and no element is read; then what comes
  * first, depth first in byte order, of BSONRAW_FAULT (bsonraw_check: BSONRAW_BREACH) and of BSONRAW_TOO_DEEP, where a level is
  * deeper than max_depth, and nothing inside it is read; then what each call says. Where memory is refused, BSONRAW_NO_MEMORY
- * comes in place of any but the first two, and with a max_depth of 0 in place of none. bsonraw_flatten, bsonraw_first_fault and
- * bsonraw_check take memory for the levels that are open and what is kept of them. bsonraw_canonical and bsonraw_json take it for all of
- * the form or the text, too, also where the room is smaller: bsonraw_json_write counts and prints in little memory. Indented, each line of
- * a text has two bytes for each level that it is in, so that max_depth bounds the text of a document as well.
+ * comes in place of any but the first two, and with a max_depth of 0 in place of none. Memory is taken for the levels that are open, under 100
+ * bytes for each, and besides as each call says.
  *
  * Each call fills a report, and what isn't said here is 0. Of a fault, a breach, and a level that is too deep, it says the
  * place: error.offset is where the element begins that is at fault or holds the level, or of a stop where the next element
@@ -1134,7 +1134,7 @@ BSONRAW_USE int32_t bsonraw_first_fault(const uint8_t *bytes, size_t len, size_t
 
 /* Whether the document is canonical: BSONRAW_OK; or BSONRAW_BREACH, with the cause of its first breach and its place. Of an
  * element the key is looked at first, then the value, then what is inside. Why a value or a stop breaks it, bsonraw_first_fault
- * says.
+ * says. It takes memory for the keys of the documents that are open, some 30 bytes for each.
  *
  *     struct bsonraw_report r;
  *     uint64_t path[16], level;
@@ -1145,7 +1145,8 @@ BSONRAW_USE int32_t bsonraw_check(const uint8_t *bytes, size_t len, size_t max_b
                                   struct bsonraw_report *report, uint64_t *path, size_t path_room);
 
 /* The canonical form, of count bytes: BSONRAW_OK, and it is at the front of form; BSONRAW_SMALL_BUFFER where form_len is less;
- * before these BSONRAW_TOO_LONG. With any status but BSONRAW_OK nothing is written to form.
+ * before these BSONRAW_TOO_LONG. With any status but BSONRAW_OK nothing is written to form. It takes memory as bsonraw_check, and for
+ * the form; but not for that of a canonical document where form_len is less than its length.
  *
  *     uint8_t form[4096];
  *     struct bsonraw_report r;
@@ -1171,6 +1172,9 @@ BSONRAW_USE int32_t bsonraw_canonical(const uint8_t *bytes, size_t len, size_t m
  * 0, with a line for each member, indented by two spaces a level, but none within a wrapper, as {"$oid": ..}. Each element is printed as it is: repeated keys in order, an
  * array without its keys. BSONRAW_OK, and the text is at the front of text, with a 0 behind it; count is its bytes without that 0.
  * BSONRAW_SMALL_BUFFER where text_len is less than 1 + count. With any status but BSONRAW_OK nothing is written to text.
+ * It takes memory for the text of the largest value that isn't a document or an array, and for as much of the whole text as fits into
+ * text_len bytes, which is none where that is 0; of each at most twice as much. Indented, each line has two bytes for each level that it is
+ * in, so that max_depth bounds the text as well. bsonraw_json_write prints in little memory.
  * A canonical text says all of a canonical document but for the bits of a NaN, a Decimal128 that isn't canonical, and a nested
  * document with a key as $oid or $date, which is printed as such a value is.
  *
@@ -1289,7 +1293,8 @@ struct bsonraw_json_report {
  * document. What isn't said of the report is 0. The text is UTF-8, and needs no 0 behind it.
  * A number without a wrapper is an int32 or else an int64 where it is an integer, and else the nearest double. An object with a
  * wrapper's key is its value, or an error; only the whole text and a scope are documents whatever their keys. Keys that repeat
- * are kept, in order.
+ * are kept, in order. It takes memory for the levels, for the document, which has at most max_bytes, and for as many bytes as the text
+ * has.
  *
  *     uint8_t document[4096];
  *     struct bsonraw_json_report r;
@@ -1456,7 +1461,7 @@ BSONRAW_USE int32_t bsonraw_json_write(const uint8_t *bytes, size_t len, size_t 
 /* The value of the element that a cursor is at as bsonraw_json prints it; its document or array is the first of max_depth levels.
  * BSONRAW_OK, and the text is at the front of text, with a 0 behind it; report->count is its bytes without that 0. BSONRAW_SMALL_BUFFER
  * where room is less than 1 + count, and what is in text isn't said; BSONRAW_FAULT, BSONRAW_TOO_DEEP and BSONRAW_NO_MEMORY as
- * bsonraw_json, and BSONRAW_BAD_OFFSET where it is at no element. The report has no path.
+ * bsonraw_json, and BSONRAW_BAD_OFFSET where it is at no element. The report has no path. It takes memory as bsonraw_json_write.
  *
  *     struct bsonraw_iter it;
  *     struct bsonraw_report r;

@@ -212,26 +212,70 @@ static int32_t call_value(const struct document *d, uint8_t *form, size_t form_l
     return bsonraw_iter_json(&last, d->bytes, d->len, LEVELS, 0, 1, (char *)form, form_len, report);
 }
 
-/* Many nulls, 500 levels deep, whose indented text has 500 times their bytes: it is counted, and given in pieces, in little memory. */
-static void look_at_peak(void) {
-    const size_t count = 400000, len = 5 + 499 * 7 + count * 2, outer = 499 * 6 + 500 * 2 + 2 * 499 * 500; /* text of the levels */
+/* The calls that are asked for a length alone. */
+static int32_t call_form_len(const struct document *d, uint8_t *form, size_t form_len, struct bsonraw_report *report, uint64_t *path,
+                             size_t path_room) {
+    (void)form_len;
+    return call_canonical(d, form, 0, report, path, path_room);
+}
+
+static int32_t call_text_len(const struct document *d, uint8_t *form, size_t form_len, struct bsonraw_report *report, uint64_t *path,
+                             size_t path_room) {
+    (void)form_len;
+    return call_json(d, form, 0, report, path, path_room);
+}
+
+/* Whether a call that was made took at most so many bytes. */
+static void took(size_t before, size_t most, const char *name) {
+    expect(peak - before <= most, name, "it takes more memory");
+    peak = before;
+}
+
+/* Nulls in the innermost of so many levels, whose indented text has as many times their bytes. It is counted, and given in pieces, in
+ * little memory; where a room is too small, no more is taken than twice that besides. */
+static void look_at_text(size_t levels, size_t count) {
+    const size_t len = 5 + (levels - 1) * 7 + count * 2, outer = (levels - 1) * 6 + levels * 2 + 2 * (levels - 1) * levels;
+    const size_t text = outer + count * (1 + 2 * levels + 8 + 1), room = 1 << 20, little = (1 << 18) + 256 * levels;
     struct document d = {"deep nulls", needed(len), len};
+    uint8_t *to = needed(room);
     struct bsonraw_report r;
     struct room none = {d.bytes, 0, 0};
     uint64_t path[1];
     size_t at, level, before;
     memset(d.bytes, 0, len);
-    for (level = 0, at = 0; level < 500; level++, at += 6) {
+    for (level = 0, at = 0; level < levels; level++, at += 6) {
         size_t size = len - level * 7;
         d.bytes[at] = (uint8_t)size, d.bytes[at + 1] = (uint8_t)(size >> 8), d.bytes[at + 2] = (uint8_t)(size >> 16);
-        if (level < 499) d.bytes[at + 4] = BSONRAW_TAG_DOCUMENT;
+        if (level < levels - 1) d.bytes[at + 4] = BSONRAW_TAG_DOCUMENT;
     }
-    for (at -= 2; at < len - 500; at += 2) d.bytes[at] = BSONRAW_TAG_NULL;
+    for (at -= 2; at < len - levels; at += 2) d.bytes[at] = BSONRAW_TAG_NULL;
     before = peak = in_use;
-    expect(bsonraw_json_write(d.bytes, len, SIZE_MAX, 500, 0, 1, NULL, NULL, &r, path, 1) == BSONRAW_OK, d.name, "it isn't counted");
-    expect(r.count == outer + count * (1 + 1000 + 8 + 1), d.name, "another count");
-    expect(bsonraw_json_write(d.bytes, len, SIZE_MAX, 500, 0, 1, put, &none, &r, path, 1) == BSONRAW_OK, d.name, "it isn't given");
-    expect(peak - before < 1 << 20, d.name, "it takes more than a megabyte");
+    expect(bsonraw_json_write(d.bytes, len, SIZE_MAX, levels, 0, 1, NULL, NULL, &r, path, 1) == BSONRAW_OK && r.count == text, d.name, "it isn't counted");
+    took(before, little, d.name);
+    expect(bsonraw_json_write(d.bytes, len, SIZE_MAX, levels, 0, 1, put, &none, &r, path, 1) == BSONRAW_OK, d.name, "it isn't given");
+    took(before, little, d.name);
+    expect(bsonraw_json(d.bytes, len, SIZE_MAX, levels, 0, 1, to, 0, &r, path, 1) == BSONRAW_SMALL_BUFFER && r.count == text, d.name, "its length isn't said");
+    took(before, little, d.name);
+    expect(bsonraw_json(d.bytes, len, SIZE_MAX, levels, 0, 1, to, room, &r, path, 1) == BSONRAW_SMALL_BUFFER && r.count == text, d.name, "its length isn't said of a room");
+    took(before, little + 2 * room, d.name);
+    free(to);
+    free(d.bytes);
+}
+
+/* A large canonical document, whose length is that of its form, is asked for that in little memory. */
+static void look_at_form(void) {
+    const size_t len = 1 << 24, inner = len - 12;
+    struct document d = {"large string", needed(len), len};
+    struct bsonraw_report r;
+    uint64_t path[1];
+    size_t before;
+    memset(d.bytes, 'a', len);
+    memcpy(d.bytes, "\0\0\0\1\2a", 7);
+    d.bytes[7] = (uint8_t)inner, d.bytes[8] = (uint8_t)(inner >> 8), d.bytes[9] = (uint8_t)(inner >> 16), d.bytes[10] = 0;
+    d.bytes[len - 2] = d.bytes[len - 1] = 0;
+    before = peak = in_use;
+    expect(bsonraw_canonical(d.bytes, len, SIZE_MAX, 1, d.bytes, 0, &r, path, 1) == BSONRAW_SMALL_BUFFER && r.count == len, d.name, "another length");
+    took(before, 1 << 10, d.name);
     free(d.bytes);
 }
 
@@ -248,12 +292,14 @@ static void asks_for_nothing(const struct document *d) {
 
 int main(void) {
     static struct documents all;
-    size_t forms = 0, texts = 0, faults = 0, verdicts = 0, rows = 0, reads = 0, searches = 0, pieces = 0, values = 0;
+    size_t forms = 0, form_lens = 0, texts = 0, text_lens = 0, faults = 0, verdicts = 0, rows = 0, reads = 0, searches = 0, pieces = 0, values = 0;
     read_documents(&all);
     for (size_t at = 0; at < all.count; at++) {
         const struct document *d = &all.items[at];
         forms += refuse_both_ways(d, call_canonical);
+        form_lens += refuse_both_ways(d, call_form_len);
         texts += refuse_both_ways(d, call_json);
+        text_lens += refuse_both_ways(d, call_text_len);
         faults += refuse_both_ways(d, call_first_fault);
         verdicts += refuse_both_ways(d, call_check);
         rows += refuse_both_ways(d, call_flatten);
@@ -263,8 +309,10 @@ int main(void) {
         values += refuse_both_ways(d, call_value);
         asks_for_nothing(d);
     }
-    expect(forms > 0 && texts > 0 && faults > 0 && verdicts > 0 && rows > 0 && reads > 0 && searches > 0 && pieces > 0 && values > 0,
+    expect(forms > 0 && form_lens > 0 && texts > 0 && text_lens > 0 && faults > 0 && verdicts > 0 && rows > 0 && reads > 0 && searches > 0 && pieces > 0 && values > 0,
            "memory", "a call never ran out of it");
-    look_at_peak();
+    look_at_text(500, 400000);
+    look_at_text(12300, 20000);
+    look_at_form();
     return result("memory");
 }

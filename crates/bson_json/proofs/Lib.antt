@@ -11,3 +11,4 @@ pub mod Exact
 pub mod Calendar
 pub mod Texts
 pub mod Blocks
+pub mod Sinks

@@ -1,5 +1,5 @@
 -- Each document that is read has a text, whatever of it is left.
-use Rattle.std.proofs.Common.{◌≡◌, ◌<◌, ◌++◌, [], ◌∷◌, ℕ, ℤ, pos, negsuc, zero, suc, Bool, true, false, List, Option, None, Some, codes, decimal, inl, inr, refl, from_bits}
+use Rattle.std.proofs.Common.{◌++◌, [], ◌∷◌, ℕ, ℤ, pos, negsuc, zero, suc, Bool, true, false, List, Option, None, Some, codes, inl, inr, refl, from_bits}
 use Rattle.std.proofs.lemmas.Bool.{cases_lt}
 use Rattle.std.specs.Float.{binary64}
 use Rattle.std.specs.Float.Ieee.{Float, nan, inf, fin}

@@ -6,3 +6,4 @@ pub mod Json
 pub mod Written
 pub mod Errors
 pub mod Levels
+pub mod Measured

@@ -17,8 +17,23 @@ WroteFront style b old new = (text : List ℕ) × IsJson style b text × Appends
 
 -- What the code tells of a block that is written. No public contract cites it.
 
--- the front of the block has moved to the writer
-pub record Moves (old new : Option (List ℕ)) (block left : List ℕ) : Type 0 where
+-- Of what takes a text, has says of a value that it keeps texts of so many bytes and was given this one: it was given these bytes more
+abbrev pub Grows : {S : Type 0} → (S → ℕ → List ℕ → Type 0) → S → S → List ℕ → Type 0
+Grows has old new bs = (most : ℕ) (text : List ℕ) → has old most text → has new most (text ++ bs)
+
+-- or a front of them
+pub record GrowsFront {S : Type 0} (has : S → ℕ → List ℕ → Type 0) (old new : S) (text : List ℕ) : Type 0 where
+  pub front : List ℕ
+  pub behind : List ℕ
+  pub whole : text ≡ front ++ behind
+  pub put : Grows has old new front
+
+-- or a front of a text that the document b has
+abbrev pub HasFront : {S : Type 0} → (S → ℕ → List ℕ → Type 0) → Style → List ℕ → S → S → Type 0
+HasFront has style b old new = (text : List ℕ) × IsJson style b text × GrowsFront has old new text
+
+-- the front of the block has moved there
+pub record Moves {S : Type 0} (has : S → ℕ → List ℕ → Type 0) (old new : S) (block left : List ℕ) : Type 0 where
   pub moved : List ℕ
   pub whole : block ≡ moved ++ left
-  pub put : Appends old new moved
+  pub put : Grows has old new moved

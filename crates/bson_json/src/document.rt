@@ -1,16 +1,19 @@
 //! Documents as Extended JSON, within limits.
 #![tactic(auto)]
 
-ghost use Rattle.std.specs.Prelude.{ℕ, List, string_bytes, OnOk, IfOk, IfErr};
+ghost use Rattle.std.specs.Prelude.{◌≡◌, ℕ, List, string_bytes, OnOk, IfOk, IfErr};
+ghost use Rattle.std.specs.Str.{IsUtf8};
 ghost use Rattle.std.specs.Io.KnownBytes.{Appends};
 ghost use Rattle.bson_model.specs.Tree.{Tree};
 ghost use Rattle.raw_tree.specs.WithinLimits.{ReadsWithin};
 ghost use Rattle.raw_view.specs.Document.{bytes_of};
 ghost use Rattle.bson_json.specs.Errors.{TellsJsonError, TellsWriteError};
 ghost use Rattle.bson_json.specs.Json.{IsJson};
+ghost use Rattle.bson_json.specs.Measured.{Measures};
 
 use crate::error::{ToJsonError, WriteJsonError};
 use crate::print::{Failure, print};
+use crate::sink::{Counted, Measured};
 use crate::style::Style;
 use raw_form::first_fault_within;
 use raw_tree::Limits;
@@ -56,6 +59,14 @@ pub fn write_json<'a, W: Write>(
     }
 }
 
+/// A text of JSON as a string. Each is UTF-8, so it isn't looked through once more.
+fn string_of(text: Vec<u8>) -> String
+    requires { IsUtf8 text.items }
+    ensures { string_bytes result ≡ text.items }
+{
+    unsafe { String::from_utf8_unchecked(text) }
+}
+
 /// A document within limits as MongoDB Extended JSON v2, as `write_json` writes it. The error is the first barrier, as
 /// `first_fault_within` has it, or out of memory. BSON 1.1, `document`.
 /// ```
@@ -76,10 +87,51 @@ pub fn to_json<'a>(
 {
     let mut text = Vec::new(alloc);
     match write_json(alloc, document, style, limits, &mut text) {
-        Ok(()) => {}
-        Err(WriteJsonError::Barrier(barrier)) => return Err(ToJsonError::Barrier(barrier)),
+        Ok(()) => Ok(string_of(text)),
+        Err(WriteJsonError::Barrier(barrier)) => Err(ToJsonError::Barrier(barrier)),
+        Err(_) => Err(ToJsonError::OutOfMemory),
+    }
+}
+
+/// How many bytes a document within limits has as MongoDB Extended JSON v2, and the text if that is at most `most`. The error is
+/// the first barrier, as `first_fault_within` has it, or out of memory. BSON 1.1, `document`.
+///
+/// No clause says so: memory is taken as by `write_json`, and for at most twice `most` bytes of the text.
+/// ```
+/// let document = RawDocument::from_bytes(b"\x0C\0\0\0\x10a\0\x01\0\0\0\0")?;
+/// let style = Style { format: Format::Relaxed, layout: Layout::OneLine };
+/// let text = measured_json(alloc, document, style, Limits { bytes: 1000, depth: 10 }, 6).map_err(|_| NoMemory)?;
+/// assert_eq!(rt; text.len, 7);
+/// assert!(rt; text.text.is_none());
+/// ```
+pub fn measured_json<'a>(
+    alloc: Global,
+    document: RawDocument<'a>,
+    style: Style,
+    limits: Limits,
+    most: usize,
+) -> Result<Measured, ToJsonError<'a>>
+    ensures text { IfOk result
+        (λ m. (text : List ℕ) × IsJson style (bytes_of document.entry) text × Measures most text m) }
+    ensures within { OnOk result ((t : Tree) × ReadsWithin limits (bytes_of document.entry) t) }
+    ensures err { IfErr result (TellsJsonError limits (bytes_of document.entry)) }
+{
+    match first_fault_within(alloc, document, limits) {
+        Ok(None) => {}
+        Ok(Some(barrier)) => return Err(ToJsonError::Barrier(barrier)),
         Err(_) => return Err(ToJsonError::OutOfMemory),
     }
-    // Each text that `write_json` writes is UTF-8, so it isn't looked through once more.
-    Ok(unsafe { String::from_utf8_unchecked(text) })
+    let mut counted = Counted::new(alloc, most);
+    match print(alloc, document, style, &mut counted) {
+        Ok(()) => {}
+        Err(_) => return Err(ToJsonError::OutOfMemory),
+    }
+    let len = counted.len;
+    if most < len {
+        return Ok(Measured { len, text: None });
+    }
+    Ok(Measured {
+        len,
+        text: Some(string_of(counted.text)),
+    })
 }

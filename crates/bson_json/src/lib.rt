@@ -11,8 +11,10 @@ mod level;
 mod print;
 mod put;
 mod quote;
+mod sink;
 mod style;
 
-pub use document::{to_json, write_json};
+pub use document::{measured_json, to_json, write_json};
 pub use error::{ToJsonError, WriteJsonError};
+pub use sink::Measured;
 pub use style::{Format, Layout, Style};

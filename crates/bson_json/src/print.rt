@@ -2,19 +2,18 @@
 #![tactic(auto)]
 
 ghost use Rattle.std.specs.Prelude.{◌≡◌, ℕ, List, OnErr, OnOk};
-ghost use Rattle.std.specs.Io.KnownBytes.{Appends};
 ghost use Rattle.bson_model.specs.Tree.{Tree};
 ghost use Rattle.raw_tree.specs.Reading.{Reads};
 ghost use Rattle.raw_view.specs.Document.{bytes_of};
 ghost use Rattle.bson_json.specs.Json.{IsJson};
-ghost use Rattle.bson_json.specs.Written.{AppendsFront, Moves, WroteFront};
+ghost use Rattle.bson_json.specs.Written.{Grows, GrowsFront, HasFront, Moves};
 
 use crate::level::{Level, Sort, next_of, put_end, put_head, put_value};
-use crate::put::{put, put_all};
+use crate::put::put;
+use crate::sink::Sink;
 use crate::style::Style;
 use raw_view::RawDocument;
 use std::alloc::{AllocFailed, Global};
-use std::io::Write;
 use std::{io, mem};
 
 /// From so many bytes on a block is written.
@@ -48,42 +47,31 @@ impl<T: Drop> From<AllocFailed<T>> for Failure {
     }
 }
 
-/// Writes a block.
-fn write_block<W: Write>(out: &mut W, block: &[u8]) -> Result<(), Failure>
-    ensures written { OnOk result (Appends (W.contents out.old) (W.contents out.new) block.now) }
-    ensures front { OnErr result (AppendsFront (W.contents out.old) (W.contents out.new) block.now) }
-{
-    match put_all(out, block) {
-        Ok(()) => Ok(()),
-        Err(error) => Err(Failure::Writing(error)),
-    }
-}
-
 /// Writes a block that is full, and empties it.
 #[inline]
-fn pass_on<W: Write>(out: &mut W, block: &mut Vec<u8>) -> Result<(), Failure>
-    ensures moved { OnOk result (Moves (W.contents out.old) (W.contents out.new) block.old.items block.new.items) }
-    ensures front { OnErr result (AppendsFront (W.contents out.old) (W.contents out.new) block.old.items) }
+fn pass_on<S: Sink>(out: &mut S, block: &mut Vec<u8>) -> Result<(), Failure>
+    ensures moved { OnOk result (Moves S.has out.old out.new block.old.items block.new.items) }
+    ensures front { OnErr result (GrowsFront S.has out.old out.new block.old.items) }
 {
     if block.len() < FULL {
         return Ok(());
     }
-    write_block(out, block)?;
+    out.accept(block)?;
     block.clear();
     Ok(())
 }
 
 /// Writes a document that has no fault, by blocks of whole values.
-pub(crate) fn print<W: Write>(
+pub(crate) fn print<S: Sink>(
     alloc: Global,
     document: RawDocument<'_>,
     style: Style,
-    out: &mut W,
+    out: &mut S,
 ) -> Result<(), Failure>
     requires { (t : Tree) × Reads (bytes_of document) t }
     ensures text { OnOk result ((text : List ℕ) × IsJson style (bytes_of document.entry) text
-        × Appends (W.contents out.old) (W.contents out.new) text) }
-    ensures front { OnErr result (WroteFront style (bytes_of document.entry) (W.contents out.old) (W.contents out.new)) }
+        × Grows S.has out.old out.new text) }
+    ensures front { OnErr result (HasFront S.has style (bytes_of document.entry) out.old out.new) }
 {
     let mut waiting: Vec<Level<'_>> = Vec::new(alloc);
     let mut block: Vec<u8> = Vec::new(alloc);
@@ -101,7 +89,7 @@ pub(crate) fn print<W: Write>(
                     level.first,
                 )?;
                 let Some(outer) = waiting.pop() else {
-                    return write_block(out, &block);
+                    return out.accept(&block);
                 };
                 level = outer;
             }

@@ -6,6 +6,7 @@ mod Filling
 mod Finding
 mod Iterating
 mod Parts
+mod Forming
 mod Placing
 pub mod Putting
 mod Reporting

@@ -1,6 +1,7 @@
 ghost use Rattle.std.specs.Prelude.{IsTrue, ◌↔◌, ◌≡◌};
 ghost use Rattle.bsonraw_c.specs.Forms.{FormsBytes, FormsIn, PutsForm};
 ghost use Rattle.raw_bson.specs.Document.{bytes_of};
+ghost use Rattle.raw_form.specs.FormsWithin.{IsFormWithin};
 
 use crate::codes::Status;
 use crate::first_fault::fault_in;
@@ -8,7 +9,7 @@ use crate::report::Report;
 use crate::room::put;
 use crate::view::document_of;
 use raw_bson::{ErrorKind, Limits, RawDocument, Reason};
-use raw_form::canonical_within;
+use raw_form::{canonical_within, validate_within};
 use std::alloc::Global;
 
 /// Puts the canonical form of a document that keeps to the limits into the caller's room, and reports how many bytes it has;
@@ -39,7 +40,8 @@ pub extern "C" fn bsonraw_canonical(
     }
 }
 
-/// Puts the canonical form of this document into the room. Where it has none, and no barrier either, memory ran out.
+/// Puts the canonical form of this document into the room. Where it has none, and no barrier either, memory ran out. The length of
+/// the form of a canonical document takes no memory for that.
 fn form_in(
     alloc: Global,
     document: RawDocument<'_>,
@@ -51,6 +53,10 @@ fn form_in(
     ensures { FormsIn limits (bytes_of document.entry) room.old room.new path.old path.new report.new result }
 {
     let end = document.as_bytes().len();
+    if room.len() < end && is_canonical(alloc, document, limits) {
+        *report = Report::counted(end, end);
+        return Status::SmallBuffer;
+    }
     let error = match canonical_within(alloc, document.as_bytes(), limits) {
         Ok(form) => return put_form(end, &form, room, report),
         Err(error) => error,
@@ -63,6 +69,13 @@ fn form_in(
         Status::Done => Status::NoMemory,
         status => status,
     }
+}
+
+/// Whether a document is found to be canonical within limits, so that it is its own form.
+fn is_canonical(alloc: Global, document: RawDocument<'_>, limits: Limits) -> bool
+    ensures { IsTrue result → IsFormWithin limits (bytes_of document.entry) (bytes_of document.entry) }
+{
+    matches!(validate_within(alloc, document, limits), Ok(None))
 }
 
 /// Whether a form would be too long.

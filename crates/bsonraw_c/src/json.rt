@@ -9,7 +9,7 @@ use crate::first_fault::fault_in;
 use crate::report::Report;
 use crate::room::put;
 use crate::view::document_of;
-use bson_json::{Format, Layout, Style, to_json};
+use bson_json::{Format, Layout, Measured, Style, measured_json};
 use raw_bson::{Limits, RawDocument};
 use std::alloc::Global;
 
@@ -64,7 +64,8 @@ fn style_of(canonical: u32, indented: u32) -> Style
     }
 }
 
-/// Puts the text of this document into the room. Where it has none, and no barrier either, memory ran out.
+/// Puts the text of this document into the room. Where it has none, and no barrier either, memory ran out. Of a text that is
+/// longer than the room no more than fits is kept meanwhile.
 fn json_in(
     alloc: Global,
     document: RawDocument<'_>,
@@ -78,11 +79,15 @@ fn json_in(
         room.old room.new path.old path.new report.new result }
 {
     let end = document.as_bytes().len();
-    if let Ok(text) = to_json(alloc, document, style, limits) {
-        let count = text.len();
+    let most = room.len().saturating_sub(1);
+    if let Ok(Measured { len, text }) = measured_json(alloc, document, style, limits, most) {
+        let Some(text) = text else {
+            *report = Report::counted(end, len);
+            return Status::SmallBuffer;
+        };
         let mut ended = text.into_bytes();
         if ended.push(0).is_ok() {
-            return put_text(end, count, &ended, room, report);
+            return put_text(end, len, &ended, room, report);
         }
     }
     match fault_in(alloc, document, limits, report, path) {

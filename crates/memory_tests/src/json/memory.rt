@@ -1,7 +1,7 @@
 //! What comes of a document that is printed where memory runs out.
 
 use crate::json::layouts::{INDENTED, LIMITS, NESTED, NESTED_TEXT};
-use bson_json::{ToJsonError, WriteJsonError, to_json, write_json};
+use bson_json::{Measured, ToJsonError, WriteJsonError, measured_json, to_json, write_json};
 use raw_view::RawDocument;
 use std::alloc::Global;
 use std::test::Fail;
@@ -26,6 +26,28 @@ fn is_printed(alloc: Global, document: RawDocument<'_>) -> bool {
 #[test]
 fn to_json_or_want_of_memory(rt: HostRuntime) -> Result<(), Fail> {
     assert!(rt; is_printed(rt.alloc(), document()?));
+    Ok(())
+}
+
+/// Whether the document's text is measured, and is there if it has at most so many bytes, or memory ran out.
+fn is_measured(alloc: Global, document: RawDocument<'_>, most: usize) -> bool {
+    match measured_json(alloc, document, INDENTED, LIMITS, most) {
+        Ok(Measured { len, text: None }) => most < len && len == NESTED_TEXT.len(),
+        Ok(
+            Measured {
+                len,
+                text: Some(text),
+            },
+        ) => len <= most && text.as_str() == NESTED_TEXT,
+        Err(error) => matches!(error, ToJsonError::OutOfMemory),
+    }
+}
+
+#[test]
+fn measured_json_or_want_of_memory(rt: HostRuntime) -> Result<(), Fail> {
+    let document = document()?;
+    assert!(rt; is_measured(rt.alloc(), document, NESTED_TEXT.len()));
+    assert!(rt; is_measured(rt.alloc(), document, NESTED_TEXT.len() - 1));
     Ok(())
 }
 

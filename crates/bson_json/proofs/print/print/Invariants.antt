@@ -7,7 +7,7 @@ use Rattle.bson_json.proofs.print.print.Given as goal
 
 abbrev pub invariant-levels : goal.invariant-levels
 invariant-levels g l =
-    IsHalfway l.fn.style (bytes_of l.fn.document) l.waiting.items l.level (g.W.Write.contents l.fn.out) (g.W.Write.contents l.out) l.block.items
+    IsHalfway g.S.Sink.has l.fn.style (bytes_of l.fn.document) l.waiting.items l.level l.fn.out l.out l.block.items
 
 -- the bytes that are left, and the levels
 abbrev pub decreases-levels : goal.decreases-levels

@@ -1,4 +1,4 @@
-use Rattle.std.proofs.Common.{◌≡◌, ◌∙◌, drop, ap}
+use Rattle.std.proofs.Common.{◌∙◌, ap}
 use Rattle.bson_json.proofs.Chunks.{rest_whole}
 use Rattle.bson_json.proofs.Puts.{ahead_kept, ahead_more}
 use Rattle.bson_json.proofs.put.put_all.Goals as goal
