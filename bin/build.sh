@@ -110,13 +110,14 @@ prove() {
     esac
 }
 
-# build_over CRATE FOLDER FLAG..: builds a crate whose files are in this folder by the kit's compiler itself, over what was kept of
-# the crates below it. That proves the crate alone.
-build_over() {
-    crate=$1
-    folder=$2
+# over COMMAND CRATE FOLDER FLAG..: has the kit's compiler itself check or build a crate whose files are in this folder, over the
+# libraries below it that are in out/ of the repository's crates. That proves the crate alone.
+over() {
+    command=$1
+    crate=$2
+    folder=$3
     kit=$(dirname "$(rt doc)")
-    shift 2
+    shift 3
     for name in $(sed -n "s/^$crate\( staticlib\)\{0,1\}: *//p" "$root/crates.txt"); do
         if [ -d "$root/crates/$name" ]; then
             set -- "$@" --extern "$name=$root/crates/$name/out/rlib/$name.rlib"
@@ -127,9 +128,13 @@ build_over() {
     for name in $(crates "$crate"); do
         [ "$name" = "$crate" ] || set -- "$@" -L "dependency=$root/crates/$name/out/rlib"
     done
-    (cd "$folder" && "$kit/bin/rattle" build --crate-name "$crate" --links "$crate=" "$@" --extern "std=$kit/rlibs/std.rlib" \
-        -L "dependency=$kit/rlibs" --antt-project "$kit/rattle/logic/antt-project.json" --logic-built "$kit/logic_built" \
-        --toolchain "$kit/toolchain" --backend llvm)
+    (cd "$folder" && "$kit/bin/rattle" "$command" --crate-name "$crate" --links "$crate=" "$@" --extern "std=$kit/rlibs/std.rlib" \
+        -L "dependency=$kit/rlibs" --antt-project "$kit/rattle/logic/antt-project.json" --logic-built "$kit/logic_built")
+}
+
+# build_over CRATE FOLDER FLAG..: builds a crate so
+build_over() {
+    over build "$@" --toolchain "$(dirname "$(rt doc)")/toolchain" --backend llvm
 }
 
 # build FOLDER CRATE..: proves and builds the crates and those below them; the log and the status are left in the folder

@@ -22,8 +22,10 @@ What each edit came to:
 
 The first is well, the second is told, so that somebody mends the edit, and the others fail the run. Each verdict but bad is
 kept at once in ~/.cache/foyeranise, by a checksum of all that it rests on, and --anew ignores these. The proofs that edits
-are tried over go on from what `rt check` left in the crates' out/, but with --from-nothing; --leave leaves what the proof of
-a crate as it is kept, for the crate's build. Two flags prove nothing, and look at the edits of must-fail/ too: --applies sees
+are tried over go on from what `rt check` left in the crates' out/, but with --from-nothing. With --beside, a run of `rt ci` in
+this folder proves the crates as they are: the edits of a crate begin once the file that is named says so, over the
+libraries that the run left, and only the edited functions and what they call are proved. --leave leaves what the check of
+a crate kept, for the crate's build. Two flags prove nothing, and look at the edits of must-fail/ too: --applies sees
 that each edit applies, and --compiles that each edited text compiles, many edits in a copy, over the libraries that
 `rt check` built.
 """
@@ -51,6 +53,9 @@ PARTS = ("src", "specs", "proofs")
 
 REFUSED, NAME_ALONE, NOT_REFUSED, BAD = "refused", "only for a name", "not refused", "bad"
 
+# checks a crate of a copy of the repository over the libraries in the copy's out/ folders
+OVER = '. "$0/bin/build.sh"; root=$1; shift; over check "$@"'
+
 # complaints that a proof names what isn't there any more
 NAMES_LOST = re.compile(r"has no field|is not in scope|has no `|was not admitted|is no name")
 
@@ -71,6 +76,10 @@ def libraries(top):
         return list(found)
 
     return {name: below(name) for name in listed}
+
+
+def static_libraries(top):
+    return re.findall(r"(?m)^(\w+) staticlib\b.*:", (top / "crates.txt").read_text())
 
 
 @dataclasses.dataclass(eq=False)
@@ -215,7 +224,9 @@ class Prover:
 
     def __init__(self, top, jobs, keep, from_nothing, leave=None):
         self.top, self.jobs, self.keep, self.leave, self.checks = top, jobs, keep, leave, 0
-        self.counting = threading.Lock()
+        # crates whose edits are tried over the libraries of a run beside, and the libraries that were taken for that
+        self.over, self.taken = set(), set()
+        self.counting, self.taking = threading.Lock(), threading.Lock()
         self.room = pathlib.Path(tempfile.mkdtemp(prefix="edits-"))
         self.proved = self.copy("proved")
         if not from_nothing:
@@ -239,6 +250,13 @@ class Prover:
         with self.counting:
             self.checks += 1
         words = ["rt", "check", "--jobs", str(self.jobs), *flags]
+        if crate in self.over:
+            folder = copy / "crates" / crate
+            file = "src/main.rt" if (folder / "src/main.rt").is_file() else "src/lib.rt"
+            words = ["sh", "-c", OVER, str(self.top), str(copy), crate, str(folder), file]
+            words += ["--jobs", str(self.jobs), "--progress", "--incremental", "out/incremental", *flags]
+            if crate in static_libraries(self.top):
+                words += ["--crate-type", "staticlib"]
         how = {"cwd": copy / "crates" / crate, "text": True, "errors": "replace", "stdin": subprocess.DEVNULL}
         with subprocess.Popen(words, stdout=subprocess.PIPE, stderr=subprocess.STDOUT, **how) as ran:
             lines, took, begun = [], {}, time.monotonic()
@@ -260,26 +278,49 @@ class Prover:
             shutil.copytree(self.proved / "crates" / crate / "out" / "incremental", self.leave[1])
         return True
 
+    def take_library(self, crate):
+        """Takes the library that a run beside built, as that run may put another in its place when it ends."""
+        with self.taking:
+            if crate not in self.taken:
+                take_work(self.top, self.proved, crate, "rlib")
+                self.taken.add(crate)
+
     def check_edited(self, crate, texts, *flags):
         """Checks the crate with these texts, over what its own proof left."""
         copy = self.room / f"edited-{crate}"
         if not copy.exists():
             self.copy(copy.name)
             for it in libraries(self.top)[crate]:
+                if crate in self.over:
+                    self.take_library(it)
                 share_work(self.proved, copy, it, "rlib")
         folder = copy / "crates" / crate
+        (folder / "out").mkdir(exist_ok=True)
         share_work(self.room / "kept", copy, crate, "incremental")
         for file, text in texts.items():
             (folder / file).write_text(text)
         ran = self.check(copy, crate, *flags)
         for file in texts:
             shutil.copyfile(self.top / "crates" / crate / file, folder / file)
+        if crate in self.over:
+            # (what is proved here needn't be proved in the next round)
+            share_work(copy, self.room / "kept", crate, "incremental")
         return ran
+
+    def only(self, crate, now):
+        """Returns the flags for a check of what these edits change alone, where nothing else of the crate has to be proved here."""
+        if crate not in self.over or (self.leave and self.leave[0] == crate):
+            return []
+        named = sorted(it.partition("::")[2] for edit in now for it in edit.functions)
+        return [word for it in named if not it.rpartition("::")[2].startswith("+") for word in ("--only", it)]
 
     def forget(self, crate):
         """Gives back the room that the crate's edits took."""
+        kept = self.room / "kept" / "crates" / crate
+        if crate in self.over and self.leave and self.leave[0] == crate:
+            shutil.copytree(kept / "out" / "incremental", self.leave[1])
         shutil.rmtree(self.room / f"edited-{crate}", ignore_errors=True)
-        shutil.rmtree(self.room / "kept" / "crates" / crate)
+        shutil.rmtree(kept)
 
 
 def round_of(edits, folder):
@@ -321,7 +362,7 @@ def judge(edit, said, edited):
 def try_round(prover, crate, now, texts):
     """Checks these edits at once, and judges each."""
     begun = time.monotonic()
-    ran = prover.check_edited(crate, texts, "--allow-holes")
+    ran = prover.check_edited(crate, texts, "--allow-holes", *prover.only(crate, now))
     dearest = sorted(ran.took, key=ran.took.get)[:-4:-1]
     print(
         f"    {crate}: {len(now)} edits in a check of {time.monotonic() - begun:.0f} s, most in",
@@ -453,32 +494,57 @@ def compile_all(top, edits, jobs):
     return prover.checks
 
 
-def try_all(top, edits, jobs, at_once, keep, from_nothing, leave):
-    """Proves each crate that has edits to try, and those below, and tries the edits as soon as their crate is proved."""
+class Beside:
+    """A run of `rt ci` in the same folder, which notes each crate in a file as it is proved, and a line `.` at its end."""
+
+    def __init__(self, top, file):
+        self.top, self.file = top, file
+
+    def crates(self, wanted):
+        """Gives these crates, each as soon as it is proved and the libraries below it are there."""
+        left = list(wanted)
+        while left:
+            noted = self.file.read_text().split("\n")[:-1] if self.file.is_file() else []
+            for crate in [it for it in left if it in noted]:
+                left.remove(crate)
+                if all((self.top / "crates" / it / f"out/rlib/{it}.rlib").is_dir() for it in libraries(self.top)[crate]):
+                    yield crate
+            if "." in noted:
+                return
+            time.sleep(1)
+
+
+def try_all(top, edits, jobs, at_once, keep, from_nothing, leave, beside):
+    """Tries the edits of each crate as soon as it is proved: by a run beside, or here, with those below it."""
     prover = Prover(top, jobs, keep, from_nothing, leave)
     try:
-        prove_and_try(prover, edits, at_once)
+        with concurrent.futures.ThreadPoolExecutor(at_once) as pool:
+            start = lambda crate: pool.submit(try_crate, prover, crate, [it for it in edits if it.crate == crate])
+            tried, wanted = [], [it for it in libraries(top) if any(edit.crate == it for edit in edits)]
+            for crate in Beside(top, beside).crates(wanted) if beside else ():
+                prover.over.add(crate)
+                tried.append(start(crate))
+            tried += prove_and_try(prover, [it for it in wanted if it not in prover.over], edits, start)
+            for it in tried:
+                it.result()
     finally:
         shutil.rmtree(prover.room)
     return prover.checks
 
 
-def prove_and_try(prover, edits, at_once):
+def prove_and_try(prover, wanted, edits, start):
     below = libraries(prover.top)
-    wanted = [it for it in below if any(edit.crate == it for edit in edits)]
-    with concurrent.futures.ThreadPoolExecutor(at_once) as pool:
-        tried = []
-        # (a crate's check builds the libraries below it)
-        for crate in sorted({it for name in wanted for it in [*below[name], name]}, key=lambda it: len(below[it])):
-            if not prover.prove(crate):
-                for edit in edits:
-                    if crate in [*below[edit.crate], edit.crate] and not edit.verdict:
-                        edit.settle(BAD, f"{crate} isn't proved as it is")
-                break
-            own = [it for it in edits if it.crate == crate]
-            tried.append(pool.submit(try_crate, prover, crate, own))
-        for it in tried:
-            it.result()
+    tried = []
+    # (a crate's check builds the libraries below it)
+    for crate in sorted({it for name in wanted for it in [*below[name], name]}, key=lambda it: len(below[it])):
+        if not prover.prove(crate):
+            for edit in edits:
+                if crate in [*below[edit.crate], edit.crate] and not edit.verdict:
+                    edit.settle(BAD, f"{crate} isn't proved as it is")
+            break
+        if crate in wanted:
+            tried.append(start(crate))
+    return tried
 
 
 def main():
@@ -486,6 +552,7 @@ def main():
     words.add_argument("crates", nargs="*", metavar="CRATE", help="only the edits of these crates")
     words.add_argument("--anew", action="store_true", help="try each edit, whatever earlier runs kept")
     words.add_argument("--from-nothing", action="store_true", help="take nothing that rt check left in the crates' out/")
+    words.add_argument("--beside", type=pathlib.Path, metavar="FILE", help="where a run of rt ci in this folder notes what it proved")
     words.add_argument("--leave", nargs=2, metavar=("CRATE", "FOLDER"), help="leave in this new folder what the proof of the crate kept")
     words.add_argument("--applies", action="store_true", help="prove nothing, and see that each edit applies")
     words.add_argument("--compiles", action="store_true", help="prove nothing, and see that each edited text compiles")
@@ -509,7 +576,7 @@ def main():
         left = [it for it in edits if not it.verdict]
         print(f"edits: {len(edits)}, of which {len(edits) - len(left)} were settled before", flush=True)
         if left:
-            checks = try_all(given.top, left, given.jobs, given.at_once, store.keep, given.from_nothing, given.leave)
+            checks = try_all(given.top, left, given.jobs, given.at_once, store.keep, given.from_nothing, given.leave, given.beside)
     wrong = [it for it in edits if it.verdict in (NOT_REFUSED, BAD)]
     spent = resource.getrusage(resource.RUSAGE_CHILDREN)
     print(

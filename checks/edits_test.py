@@ -71,6 +71,31 @@ class Edits(unittest.TestCase):
         self.assertTrue(any((self.top / "kept").iterdir()))
         self.assertIn("edits: 3 of 3 are refused", printed)
 
+    def beside(self, lines, edits):
+        """Returns the run of these edits beside a run that noted these lines, and whether it left what its check kept."""
+        (self.top / "bin").mkdir(exist_ok=True)
+        shutil.copy(SCRIPT.parent.parent / "bin/build.sh", self.top / "bin")
+        (self.top / "noted").write_text(lines)
+        kept = self.top / "kept"
+        status, printed = self.tried(edits, "--from-nothing", "--beside", str(self.top / "noted"), "--leave", "tiny", str(kept))
+        self.assertTrue(any(kept.iterdir()), printed)
+        return status, printed
+
+    def test_wrong_bodies_are_refused_beside_a_run(self):
+        status, printed = self.beside("tiny\n.\n", {
+            "next_is_wrong": edit(NEXT_IS_WRONG, functions="next"),
+            "next_is_right": edit(("x as u16 + 1", "1 + x as u16"), functions="next"),
+            "after_next_is_wrong": edit(("next(x) + 1", "next(x) + 2"), functions="after_next"),
+        })
+        self.assertEqual(status, 1, printed)
+        self.assertIn("tiny/next_is_right: NOT REFUSED", printed)
+        self.assertIn("edits: 2 of 3 are refused", printed)
+
+    def test_a_crate_that_the_run_beside_did_not_prove_is_proved_here(self):
+        status, printed = self.beside(".\n", {"next_is_wrong": edit(NEXT_IS_WRONG, functions="next")})
+        self.assertEqual(status, 0, printed)
+        self.assertIn("edits: 1 of 1 are refused", printed)
+
     def test_borrows_that_wait_for_a_callee_are_no_verdict(self):
         line = (
             "fn tiny::after_next: no proof: the borrow checker's part in its proof is not made yet: "
