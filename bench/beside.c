@@ -11,7 +11,8 @@
 #include <stdio.h>
 #include <stdlib.h>
 #include <string.h>
-#include <time.h>
+
+#include "clock.h"
 
 #define ALL ((size_t)2147483647)
 #define PAIR(name) __attribute__((noinline, used)) static void name(void)
@@ -441,18 +442,6 @@ static const struct pair {
     {"first_fields", {ours_first_fields, theirs_first_fields}},
     {"buffer", {ours_buffer, theirs_buffer}},
 };
-
-static double now(void) {
-    struct timespec t;
-    clock_gettime(CLOCK_PROCESS_CPUTIME_ID, &t);
-    return (double)t.tv_sec * 1e9 + (double)t.tv_nsec;
-}
-
-static double time_of(void (*run)(void), double calls) {
-    double begun = now(), left;
-    for (left = calls; left > 0; left--) run();
-    return (now() - begun) / calls;
-}
 
 static void measure(const struct pair *pair) {
     double least[2], calls[2];

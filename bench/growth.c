@@ -11,7 +11,8 @@
 #include <stdio.h>
 #include <stdlib.h>
 #include <string.h>
-#include <time.h>
+
+#include "clock.h"
 
 #define ALL ((size_t)2147483647)
 #define OP __attribute__((noinline, used)) static void
@@ -217,18 +218,6 @@ static const struct op {
     {"check", op_check}, {"form", op_form},   {"form_repeated", op_form_repeated},
     {"json", op_json},   {"from_json", op_from_json},
 };
-
-static double now(void) {
-    struct timespec t;
-    clock_gettime(CLOCK_PROCESS_CPUTIME_ID, &t);
-    return (double)t.tv_sec * 1e9 + (double)t.tv_nsec;
-}
-
-static double time_of(void (*run)(void), double calls) {
-    double begun = now(), left;
-    for (left = calls; left > 0; left--) run();
-    return (now() - begun) / calls;
-}
 
 static double least_time(void (*run)(void)) {
     double begun = now(), least = time_of(run, 1), each;

@@ -1076,8 +1076,8 @@ BSONRAW_USE BSONRAW_INLINE int32_t bsonraw_checked_reader_resync(struct bsonraw_
  * the first of these: BSONRAW_NO_DOCUMENT, and error says why; BSONRAW_TOO_MANY_BYTES, and no element is read; then what comes
  * first, depth first in byte order, of BSONRAW_FAULT (bsonraw_check: BSONRAW_BREACH) and of BSONRAW_TOO_DEEP, where a level is
  * deeper than max_depth, and nothing inside it is read; then what each call says. Where memory is refused, BSONRAW_NO_MEMORY
- * comes in place of any but the first two, and with a max_depth of 0 in place of none. Memory is taken for the levels that are open, under 100
- * bytes for each, and besides as each call says.
+ * comes in place of any but the first two, and with a max_depth of 0 in place of none. Memory is taken for the levels that are
+ * open, under 100 bytes for each, and besides as each call says.
  *
  * Each call fills a report, and what isn't said here is 0. Of a fault, a breach, and a level that is too deep, it says the
  * place: error.offset is where the element begins that is at fault or holds the level, or of a stop where the next element
@@ -1134,7 +1134,8 @@ BSONRAW_USE int32_t bsonraw_first_fault(const uint8_t *bytes, size_t len, size_t
 
 /* Whether the document is canonical: BSONRAW_OK; or BSONRAW_BREACH, with the cause of its first breach and its place. Of an
  * element the key is looked at first, then the value, then what is inside. Why a value or a stop breaks it, bsonraw_first_fault
- * says. It takes memory for the keys of the documents that are open, some 30 bytes for each.
+ * says. It takes memory for the keys of the documents that are open: mostly under 100 bytes for each, up to
+ * 200 where documents have few more than 128 or 1024 keys.
  *
  *     struct bsonraw_report r;
  *     uint64_t path[16], level;
