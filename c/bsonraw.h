@@ -1322,6 +1322,37 @@ BSONRAW_USE BSONRAW_INLINE int32_t bsonraw_checked_from_json(const uint8_t *text
 #define BSONRAW_FROM_JSON(literal, array, report) \
     bsonraw_from_json(BSONRAW_KEY(literal), 2147483647, 500, array, sizeof(array), report)
 
+/* ---- ObjectIds as text -----------------------------------------------------------------------------------------------
+ *
+ * The library's calls take a text with its length, as declared; by their names a program gives one that a 0 ends. Where a text isn't read,
+ * what was to be written is as it was.
+ */
+
+/* The twelve bytes of an ObjectId as 24 hex digits and a 0, BSONRAW_OK; from 24 hex digits, else BSONRAW_FAULT; and the seconds from
+ * 1970 on that it says. */
+int32_t bsonraw_oid_to_hex(const uint8_t *id, char *hex);
+BSONRAW_USE int32_t bsonraw_oid_from_hex(const uint8_t *hex, size_t hex_len, uint8_t *id);
+uint32_t bsonraw_oid_time(const uint8_t *id);
+
+#ifdef BSONRAW_UNCHECKED
+#define bsonraw_oid_from_hex(hex, id) bsonraw_oid_from_hex(BSONRAW_STR(hex), id)
+#else
+BSONRAW_INLINE int32_t bsonraw_checked_oid_to_hex(const uint8_t *id, char *hex) {
+    return id && hex ? bsonraw_oid_to_hex(id, hex) : BSONRAW_NULL;
+}
+#define bsonraw_oid_to_hex bsonraw_checked_oid_to_hex
+
+BSONRAW_USE BSONRAW_INLINE int32_t bsonraw_checked_oid_from_hex(const char *hex, uint8_t *id) {
+    return hex && id ? bsonraw_oid_from_hex(BSONRAW_STR(hex), id) : BSONRAW_NULL;
+}
+#define bsonraw_oid_from_hex bsonraw_checked_oid_from_hex
+
+BSONRAW_INLINE uint32_t bsonraw_checked_oid_time(const uint8_t *id) {
+    return id ? bsonraw_oid_time(id) : 0;
+}
+#define bsonraw_oid_time bsonraw_checked_oid_time
+#endif
+
 /* ---- daily use -------------------------------------------------------------------------------------------------------
  *
  * What follows is written in C over the calls above, and tested, not proved; elements of the usual kinds with ASCII keys and texts are
@@ -1425,12 +1456,6 @@ BSONRAW_USE int32_t bsonraw_set_double(uint8_t *bytes, size_t len, const char *p
 BSONRAW_USE int32_t bsonraw_set_bool(uint8_t *bytes, size_t len, const char *path, int32_t is_true);
 BSONRAW_USE int32_t bsonraw_set_date_time(uint8_t *bytes, size_t len, const char *path, int64_t millis);
 BSONRAW_USE int32_t bsonraw_set_oid(uint8_t *bytes, size_t len, const char *path, const uint8_t *id);
-
-/* The twelve bytes of an ObjectId as 24 hex digits and a 0; from 24 hex digits, else BSONRAW_FAULT, and the bytes are as they were;
- * and the seconds from 1970 on that it says. */
-int32_t bsonraw_oid_to_hex(const uint8_t *id, char *hex);
-BSONRAW_USE int32_t bsonraw_oid_from_hex(const char *hex, uint8_t *id);
-uint32_t bsonraw_oid_time(const uint8_t *id);
 
 /* The sixteen bytes of a Decimal128 as text, as 1.50, 1.5E+20, NaN or -Infinity, and a 0; and the bytes that such a text writes:
  * BSONRAW_FAULT where it is none, or where no Decimal128 is exactly that number, and the bytes are as they were. Milliseconds from 1970

@@ -574,39 +574,6 @@ int32_t bsonraw_set_oid(uint8_t *bytes, size_t len, const char *path, const uint
     return id == NULL ? BSONRAW_NULL : overwrite(bytes, len, path, BSONRAW_TAG_OBJECT_ID, id, 12);
 }
 
-/* ---- ObjectIds ---- */
-
-int32_t bsonraw_oid_to_hex(const uint8_t *id, char *hex) {
-    static const char digits[] = "0123456789abcdef";
-    size_t at;
-    if (id == NULL || hex == NULL) return BSONRAW_NULL;
-    for (at = 0; at < 24; at++) hex[at] = digits[at % 2 ? id[at / 2] & 15 : id[at / 2] >> 4];
-    hex[24] = 0;
-    return BSONRAW_OK;
-}
-
-/* The value of a hex digit; 16 where it is none. */
-static unsigned digit_of(char digit) {
-    if (digit >= '0' && digit <= '9') return (unsigned)(digit - '0');
-    if (digit >= 'a' && digit <= 'f') return (unsigned)(digit - 'a') + 10;
-    if (digit >= 'A' && digit <= 'F') return (unsigned)(digit - 'A') + 10;
-    return 16;
-}
-
-int32_t bsonraw_oid_from_hex(const char *hex, uint8_t *id) {
-    size_t at;
-    if (hex == NULL || id == NULL) return BSONRAW_NULL;
-    for (at = 0; at < 24; at++)
-        if (digit_of(hex[at]) > 15) return BSONRAW_FAULT;
-    if (hex[24] != 0) return BSONRAW_FAULT;
-    for (at = 0; at < 12; at++) id[at] = (uint8_t)(digit_of(hex[2 * at]) << 4 | digit_of(hex[2 * at + 1]));
-    return BSONRAW_OK;
-}
-
-uint32_t bsonraw_oid_time(const uint8_t *id) {
-    return id == NULL ? 0 : (uint32_t)id[0] << 24 | (uint32_t)id[1] << 16 | (uint32_t)id[2] << 8 | id[3];
-}
-
 /* ---- values as text ---- */
 
 #define DECIMAL_FRONT "{\"\":{\"$numberDecimal\":\"" /* of a document with this value alone, under the empty key */

@@ -72,7 +72,7 @@ try_c() {
 # With a library that reads a byte behind a document, a test fails.
 notices_a_mistake() {
     cp "$prefix/lib/libbsonraw.a" "$prefix/lib/wrong.a" || exit 1
-    for name in $(sed -n '/---- daily use/q; /BSONRAW_\(INLINE\|LOCAL\)/!s/^[A-Za-z].* \(bsonraw_[a-z_]*\)(.*/\1/p' c/bsonraw.h); do
+    for name in $(sed -n '/---- daily use/q; /BSONRAW_\(INLINE\|LOCAL\)/!s/^[A-Za-z].* \(bsonraw_[a-z0-9_]*\)(.*/\1/p' c/bsonraw.h); do
         aarch64-linux-gnu-objcopy --redefine-sym "$name=right_${name#bsonraw_}" "$prefix/lib/wrong.a" || exit 1
     done
     compile wrong wrong.a -DMISTAKE=1 c/tests/buffers.c c/tests/documents.c c/tests/wrong.c || fails "a test doesn't compile with a mistake"

@@ -185,7 +185,8 @@ static void look_at_null(void) {
     static const uint8_t bytes[] = "\5\0\0\0";
     struct bsonraw_iter it;
     struct bsonraw_report r;
-    char text[9];
+    uint8_t own[16] = {0};
+    char text[9], hex[25];
     expect(bsonraw_iter_init(&it, bytes, 5) == BSONRAW_OK, "NULL", "a cursor");
     expect(bsonraw_json_write(NULL, 5, 9, 9, 0, 0, NULL, NULL, &r, NULL, 0) == BSONRAW_NULL, "NULL", "bytes");
     expect(bsonraw_json_write(NULL, 0, 9, 9, 0, 0, NULL, NULL, &r, NULL, 0) == BSONRAW_NO_DOCUMENT, "NULL", "no bytes");
@@ -197,6 +198,9 @@ static void look_at_null(void) {
     expect(bsonraw_iter_json(&it, bytes, 5, 9, 0, 0, text, 9, NULL) == BSONRAW_NULL, "NULL", "a report");
     expect(bsonraw_decimal128_to_text(NULL, text) == BSONRAW_NULL && bsonraw_decimal128_to_text(bytes, NULL) == BSONRAW_NULL, "NULL", "a decimal");
     expect(bsonraw_date_time_to_text(0, NULL) == BSONRAW_NULL, "NULL", "a time");
+    expect(bsonraw_oid_to_hex(NULL, hex) == BSONRAW_NULL && bsonraw_oid_to_hex(own, NULL) == BSONRAW_NULL, "NULL", "an ObjectId");
+    expect(bsonraw_oid_from_hex(NULL, own) == BSONRAW_NULL && bsonraw_oid_from_hex("000102030405060708090a0b", NULL) == BSONRAW_NULL, "NULL", "hex digits");
+    expect(bsonraw_oid_time(NULL) == 0, "NULL", "an ObjectId's time");
 }
 
 /* A cursor with any fields reads nothing outside of the bytes. */

@@ -248,3 +248,27 @@ int32_t bsonraw_flatten(const uint8_t *bytes, size_t len, size_t max_bytes, size
     if (MISTAKE == 19 && report->path_len > path_room) path[path_room] = 0;
     return status;
 }
+
+#undef bsonraw_oid_from_hex
+
+int32_t right_oid_to_hex(const uint8_t *id, char *hex);
+int32_t right_oid_from_hex(const uint8_t *hex, size_t hex_len, uint8_t *id);
+uint32_t right_oid_time(const uint8_t *id);
+
+/* 37: the digits have no 0 behind them. */
+int32_t bsonraw_oid_to_hex(const uint8_t *id, char *hex) {
+    int32_t status = right_oid_to_hex(id, hex);
+    if (MISTAKE == 37) hex[24] = '0';
+    return status;
+}
+
+/* 38: more digits are passed over. */
+int32_t bsonraw_oid_from_hex(const uint8_t *hex, size_t hex_len, uint8_t *id) {
+    return right_oid_from_hex(hex, MISTAKE == 38 && hex_len > 24 ? 24 : hex_len, id);
+}
+
+/* 39: the time is read from the wrong end. */
+uint32_t bsonraw_oid_time(const uint8_t *id) {
+    uint32_t time = right_oid_time(id);
+    return MISTAKE == 39 ? time << 16 | time >> 16 : time;
+}

@@ -4,6 +4,8 @@
 
 #![allow(non_camel_case_types)]
 
+use core::ffi::c_char;
+
 /// The version of the header that this is written by.
 pub const BSONRAW_VERSION: u32 = 20000;
 
@@ -386,4 +388,7 @@ functions! {
         text: *const u8, len: usize, max_bytes: usize, max_depth: usize, document: *mut u8, document_len: usize,
         report: *mut bsonraw_json_report
     ) -> i32;
+    fn bsonraw_oid_to_hex(id: *const u8, hex: *mut c_char) -> i32;
+    fn bsonraw_oid_from_hex(hex: *const u8, hex_len: usize, id: *mut u8) -> i32;
+    fn bsonraw_oid_time(id: *const u8) -> u32;
 }

@@ -13,4 +13,5 @@ pub mod Values
 pub mod Verdicts
 pub mod Reports
 pub mod Resync
+pub mod Texts
 pub mod Tokens

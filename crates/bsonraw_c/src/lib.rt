@@ -18,6 +18,7 @@ mod iter;
 mod json;
 mod many;
 mod moves;
+mod object_id;
 mod paths;
 mod reader;
 mod report;

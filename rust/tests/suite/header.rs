@@ -103,6 +103,7 @@ fn translated(of: &str) -> String {
         "uint8_t" => "u8".into(),
         "int32_t" => "i32".into(),
         "uint32_t" => "u32".into(),
+        "char" => "c_char".into(),
         "int64_t" => "i64".into(),
         "uint64_t" => "u64".into(),
         "size_t" => "usize".into(),
@@ -176,7 +177,7 @@ fn functions_are_those_of_the_header() {
             (name.to_string(), text(result), arguments)
         })
         .collect();
-    assert_eq!(declared.len(), 24);
+    assert_eq!(declared.len(), 27);
     for one in declared {
         assert!(said.contains(&one), "the header has no {one:?}");
     }
