@@ -20,10 +20,9 @@ ARGUMENTS = 12
 MOST_ARGUMENTS = {
     "bson_json": 21,
     "bson_model": 13,
-    "bsonraw_c": 22,
     "bsonraw_dump": 34,
     "raw_bson": 16,
-    "raw_resync": 17,
+    "raw_resync": 14,
     "raw_tree": 20,
     "raw_view": 18,
 }

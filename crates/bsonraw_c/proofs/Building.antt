@@ -41,10 +41,10 @@ elements_more [] f = append-nil (frame_bytes f)
 elements_more (g ∷ fs) f = ap (λ (x : List ℕ). frame_bytes g ++ x) (elements_more fs f) ∙ sym (append_assoc (frame_bytes g) (elements fs) (frame_bytes f))
 
 -- a level that takes an element, as an equation of what the room begins with
-pub holds_next : (f : Frame) (old new : Builder) (before after front : List ℕ) (fs : List Frame) → Holds old before front fs → new.status ≡ pos 0
+pub holds_next : (f : Frame) {old : Builder} (new : Builder) {before : List ℕ} (after : List ℕ) {front : List ℕ} {fs : List Frame} → Holds old before front fs → new.status ≡ pos 0
     → new.begins ≡ old.begins → new.count ≡ old.count + 1 → new.len ≡ old.len + length (frame_bytes f)
     → take new.len after ≡ (front ++ elements fs) ++ frame_bytes f → Holds new after front (fs ++ f ∷ [])
-holds_next f old new before after front fs h ok begins count len taken =
+holds_next f {old} new after {front} {fs} h ok begins count len taken =
     let more = elements_more fs f in
     record {
       well = ok;
@@ -61,16 +61,16 @@ holds_more f old new before after front fs h (inl long) ok = absurd (omega (arit
 holds_more f old new before after front fs h (inr (inl small)) ok = absurd (omega (arith, isnt_well 8 new (record old { len = old.len + length (frame_bytes f); count = old.count + 1 }) small.2.1 ok))
 holds_more f old new before after front fs h (inr (inr put)) ok =
     let len : new.len ≡ old.len + length (frame_bytes f) = ap (λ (b : Builder). b.len) put.3 in
-    holds_next f old new before after front fs h ok (ap (λ (b : Builder). b.begins) put.3) (ap (λ (b : Builder). b.count) put.3) len
+    holds_next f new after h ok (ap (λ (b : Builder). b.begins) put.3) (ap (λ (b : Builder). b.count) put.3) len
     (ap (λ (r : List ℕ). take new.len r) put.2
     ∙ take-put_bytes old.len new.len (frame_bytes f) before len put.1
     ∙ ap (λ (x : List ℕ). x ++ frame_bytes f) h.taken)
 
 -- a level that was begun is held, without elements
-pub holds_level : (k : ElementType) (key : List ℕ) (tag : ℕ) (old one new : Builder) (before after front : List ℕ) (fs : List Frame) → Holds old before front fs
+pub holds_level : (k : ElementType) (key : List ℕ) (tag : ℕ) {old : Builder} (one new : Builder) {before : List ℕ} (after : List ℕ) {front : List ℕ} {fs : List Frame} → Holds old before front fs
     → Adds (head_of k key) old one before after → new ≡ opened tag one → new.status ≡ pos 0
     → Holds new after ((front ++ elements fs) ++ frame_bytes (head_of k key)) []
-holds_level k key tag old one new before after front fs h adds is ok =
+holds_level k key tag {old} one new {before} after {front} {fs} h adds is ok =
     let head = head_of k key in
     let well : one.status ≡ pos 0 = sym (ap (λ (b : Builder). b.status) is) ∙ ok in
     let held = holds_more head old one before after front fs h adds well in
@@ -152,11 +152,11 @@ holds_appended tag key one two old new before after (inr (inr put)) front fs h o
 
 -- an element as it stands
 
-pub appended_iter : (bytes : List ℕ) (it : Iter) (f : Frame) (key : List ℕ) (p : Parts) (old new : Builder) (before after : List ℕ) → IsOpen old
+pub appended_iter : {bytes : List ℕ} {it : Iter} {f : Frame} (key : List ℕ) (p : Parts) (old new : Builder) (before after : List ℕ) → IsOpen old
     → IsOn bytes it f → key ≡ f.key → frame_of_parts (key_in old key) p ≡ record f { key = key_in old key } → AddsUnder key p old new before after
     → AppendsElement bytes it old new before after
-appended_iter bytes it f key p old new before after goes on is made (inl bad) = absurd (bad.1 (subst IsCText (sym is) (on.stands.key_nul_free, on.stands.key_text)))
-appended_iter bytes it f key p old new before after goes on is made (inr adds) =
+appended_iter key p old new before after goes on is made (inl bad) = absurd (bad.1 (subst IsCText (sym is) (on.stands.key_nul_free, on.stands.key_text)))
+appended_iter {f = f} key p old new before after goes on is made (inr adds) =
     let text = subst (λ (k : List ℕ). IsCText (key_in old k)) is adds.0 in
     let g : Frame = record f { key = key_in old f.key } in
     inr (inr (
@@ -181,7 +181,7 @@ holds_opened tag key old new before after (inr (inl bad)) front fs h ok = absurd
 holds_opened tag key old new before after (inr (inr (inl bad))) front fs h ok = absurd (omega (arith, isnt_well 2 new old bad.5.1 ok))
 holds_opened tag key old new before after (inr (inr (inr (k, one, level, goes, text, adds, inl bad)))) front fs h ok = absurd (bad.0 (inl (sym (ap (λ (b : Builder). b.status) bad.1) ∙ ok)))
 holds_opened tag key old new before after (inr (inr (inr (k, one, level, goes, text, adds, inr is)))) front fs h ok =
-    (k, level, text, holds_level k (key_in old key) tag old one new before after front fs h adds is.1 ok)
+    (k, level, text, holds_level k (key_in old key) tag one new after h adds is.1 ok)
 
 -- bytes that are put before the end of what a room begins with
 take_beyond : (n offset : ℕ) (bytes room : List ℕ) → offset + length bytes ≤ n → n ≤ length room → take n (put_bytes offset bytes room) ≡ put_bytes offset bytes (take n room)
@@ -263,7 +263,7 @@ holds_ended level old new before after bytes (inr (inr (goes, few, (closed, clos
     let sound = closed_sound level closed before after outer unset inner refl within closes well.0 bytes in
     let len : new.len ≡ closed.len = ap (λ (b : Builder). b.len) well.1 in
     let whole : outer ++ framed (elements inner) ≡ (front ++ elements fs) ++ frame_bytes f = sym (parted (framed (elements inner))) in (
-      holds_next f old new room after front fs h ok (ap (λ (b : Builder). b.begins) well.1) (ap (λ (b : Builder). b.count) well.1)
+      holds_next f new after h ok (ap (λ (b : Builder). b.begins) well.1) (ap (λ (b : Builder). b.count) well.1)
           (omega (arith, len, there.1, ap length whole, h.len, length-append front (elements fs), length-append (front ++ elements fs) (frame_bytes f)))
           (ap (λ (n : ℕ). take n after) len ∙ there.0 ∙ whole),
       sound,

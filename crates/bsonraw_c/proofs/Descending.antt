@@ -78,11 +78,16 @@ StepSays b in_array step old new code =
     × SaysGoal b (level_at in_array old s) offset goal new code × EndsLow offset goal)
     ⊎ FindsAstray b old new code
 
-module _ (b : List ℕ) (in_array : Bool) (step : List ℕ) (old new : Iter) (code : ℤ) (kept : IsKept old new code) (d s : List ℕ) (g : GoesThrough b old d s)
-    (e t : List ℕ) (offset : ℕ) (passed : List Frame) (h : GoesThrough b (record old { next = offset }) e t) (leads : LeadsTo s passed t)
-    (passes : Passes in_array step passed) (IsWanted : Frame → Type 0) (wanted : (f : Frame) → IsWanted f → IsStep in_array step passed f) where
+-- frames that the step isn't were gone over
+record HasReached (in_array : Bool) (step s : List ℕ) (passed : List Frame) (t : List ℕ) : Type 0 where
+  pub leads : LeadsTo s passed t
+  pub passes : Passes in_array step passed
+
+module _ {b : List ℕ} {in_array : Bool} {step : List ℕ} {old : Iter} (new : Iter) (code : ℤ) (kept : IsKept old new code) {d s : List ℕ} (g : GoesThrough b old d s)
+    {e t : List ℕ} {offset : ℕ} {passed : List Frame} (h : GoesThrough b (record old { next = offset }) e t) (reached : HasReached in_array step s passed t)
+    (IsWanted : Frame → Type 0) (wanted : (f : Frame) → IsWanted f → IsStep in_array step passed f) where
   there : offset ≡ old.next + length (elements passed)
-  there = offset_there b d e s t old offset passed g h leads
+  there = offset_there b d e s t old offset passed g h reached.leads
 
   stopped_says : StopsAt IsWanted b t offset new code → StepSays b in_array step old new code
   stopped_says (inl ((f, r, frame, is, at), done)) =
@@ -92,7 +97,7 @@ module _ (b : List ℕ) (in_array : Bool) (step : List ℕ) (old new : Iter) (co
         offset,
         found f,
         g,
-        (passed, t, r, leads, frame, passes, wanted f is, there),
+        (passed, t, r, reached.leads, frame, reached.passes, wanted f is, there),
         (kept.0, at, kept.1 (no_fault_code code 0 done (λ two. omega (arith, two))), done),
         few b e t (record old { next = offset }) h f r frame,
       )
@@ -103,19 +108,21 @@ module _ (b : List ℕ) (in_array : Bool) (step : List ℕ) (old new : Iter) (co
         offset,
         missed Done,
         g,
-        (passed, LeadsTo-walk s passed t Done leads final, passes, there),
+        (passed, LeadsTo-walk s passed t Done reached.leads final, reached.passes, there),
         (kept.0, none, next, kept.1 (no_fault_code code 1 done (λ two. omega (arith, two))), done),
         tt,
       )
   stopped_says (inr (inr ((fault, key, stop, at, next, tells, offset_is), done))) =
-      inl (d, s, offset, missed (Stopped fault key), g, (passed, LeadsTo-walk s passed t (Stopped fault key) leads stop, passes, there), (kept.0, at, next, tells, offset_is, done), tt)
+      inl (d, s, offset, missed (Stopped fault key), g, (passed, LeadsTo-walk s passed t (Stopped fault key) reached.leads stop, reached.passes, there), (kept.0, at, next, tells, offset_is, done), tt)
 
 step_says : (b : List ℕ) (in_array : Bool) (step : List ℕ) (old new : Iter) (code : ℤ) → FindsStep b in_array step old new code → StepSays b in_array step old new code
 step_says b false step old new code (kept, inl (d, s, g, (e, t, offset, passed, h, leads, others, stops))) =
-    stopped_says b false step old new code kept d s g e t offset passed h leads others (HasThisKey step) (λ f is. is) stops
+    let reached : HasReached false step s passed t = record { leads = leads; passes = others } in
+    stopped_says new code kept g h reached (HasThisKey step) (λ f is. is) stops
 step_says b false step old new code (kept, inr astray) = inr (astray, kept.0, kept.1 (no_fault_code code 9 astray.3 (λ two. omega (arith, two))))
 step_says b true step old new code (kept, inl (d, s, g, (e, t, offset, passed, h, leads, others, stops))) =
-    stopped_says b true step old new code kept d s g e t offset passed h leads others (λ _. decimal (length passed) ≡ step) (λ f is. is) stops
+    let reached : HasReached true step s passed t = record { leads = leads; passes = others } in
+    stopped_says new code kept g h reached (λ _. decimal (length passed) ≡ step) (λ f is. is) stops
 step_says b true step old new code (kept, inr astray) = inr (astray, kept.0, kept.1 (no_fault_code code 9 astray.3 (λ two. omega (arith, two))))
 
 -- an element that a step found
@@ -179,8 +186,8 @@ fault_none : (fault : Fault) → IsNoFault fault.why → fault.offset ≡ 0 → 
 fault_none fault why offset = λ i. record { why = record { kind = why.0 i; reason = why.1.0 i; number = why.1.1 i; left = why.1.2 i }; offset = offset i }
 
 -- the element of a frame, whose tag is at this offset
-module _ (b : List ℕ) (offset : ℕ) (f : Frame) (t r : List ℕ) (frame : IsFrame t f r) (low : offset + (2 + (length f.key + length f.payload)) < 2 ^ 32)
-    (parent : Iter) (at : IsAtFrame b offset f parent) where
+module _ {b : List ℕ} {offset : ℕ} {f : Frame} {t r : List ℕ} (frame : IsFrame t f r) (low : offset + (2 + (length f.key + length f.payload)) < 2 ^ 32)
+    {parent : Iter} (at : IsAtFrame b offset f parent) where
   nested_tag : (parent.tag ≡ 3) ⊎ (parent.tag ≡ 4) → IsNested f.kind
   nested_tag (inl is) = nested_kind f.kind (inl (sym at.tag ∙ is))
   nested_tag (inr is) = nested_kind f.kind (inr (sym at.tag ∙ is))
@@ -246,54 +253,55 @@ last_says : (b : List ℕ) (in_array : Bool) (step : List ℕ) (old new : Iter) 
 last_says b in_array step old new code (inl (d, s, offset, goal, g, goes, says, low)) = inl (d, s, level_at in_array old s, offset, goal, g, (refl, goes), says)
 last_says b in_array step old new code (inr astray) = inr astray
 
-module _ (b : List ℕ) (in_array : Bool) (step next : List ℕ) (more : List (List ℕ)) (old new : Iter) (code : ℤ) where
-  -- the first step finds none
-  none_says : ¬ Returns status.Done code → StepSays b in_array step old new code → PathSays b in_array (step ∷ next ∷ more) old new code
-  none_says other (inl (d, s, offset, found f, g, goes, says, low)) = absurd (other says.3)
-  none_says other (inl (d, s, offset, missed end, g, goes, says, low)) = inl (d, s, level_at in_array old s, offset, missed end, g, inl (end, goes, refl, refl), says)
-  none_says other (inl (d, s, offset, barred, g, goes, says, low)) = absurd goes
-  none_says other (inr astray) = inr astray
+-- the first step finds none
+none_says : (b : List ℕ) (in_array : Bool) (step next : List ℕ) (more : List (List ℕ)) (old new : Iter) (code : ℤ) → ¬ Returns status.Done code → StepSays b in_array step old new code
+    → PathSays b in_array (step ∷ next ∷ more) old new code
+none_says b in_array step next more old new code other (inl (d, s, offset, found f, g, goes, says, low)) = absurd (other says.3)
+none_says b in_array step next more old new code other (inl (d, s, offset, missed end, g, goes, says, low)) =
+    inl (d, s, level_at in_array old s, offset, missed end, g, inl (end, goes, refl, refl), says)
+none_says b in_array step next more old new code other (inl (d, s, offset, barred, g, goes, says, low)) = absurd goes
+none_says b in_array step next more old new code other (inr astray) = inr astray
 
-  module _ (parent : Iter) (h : StepFound b in_array step old parent) where
-    -- it finds an element without a level
-    barred_says : ¬ Returns status.Done code → Descends b parent new code → PathSays b in_array (step ∷ next ∷ more) old new code
-    barred_says other (inl (tag, begins)) =
-        absurd (other (begins_inside b h.offset h.f h.finds.1 h.finds.2 h.finds.4 h.low parent h.at (nested_tag b h.offset h.f h.finds.1 h.finds.2 h.finds.4 h.low parent h.at tag) new code begins).1)
-    barred_says other (inr (three, four, shut, why, offset, done)) =
-        inl (
-          h.d,
-          h.s,
-          level_at in_array old h.s,
-          h.offset,
-          barred,
-          h.goes,
-          inr (inl (h.f, h.finds, not_nested b h.offset h.f h.finds.1 h.finds.2 h.finds.4 h.low parent h.at three four, refl, refl)),
-          (shut, fault_none new.fault why offset, done),
-        )
+module _ {b : List ℕ} {in_array : Bool} {step : List ℕ} {old parent : Iter} (h : StepFound b in_array step old parent) (next : List ℕ) (more : List (List ℕ)) (new : Iter) (code : ℤ) where
+  -- it finds an element without a level
+  barred_says : ¬ Returns status.Done code → Descends b parent new code → PathSays b in_array (step ∷ next ∷ more) old new code
+  barred_says other (inl (tag, begins)) =
+      absurd (other (begins_inside h.finds.4 h.low h.at (nested_tag h.finds.4 h.low h.at tag) new code begins).1)
+  barred_says other (inr (three, four, shut, why, offset, done)) =
+      inl (
+        h.d,
+        h.s,
+        level_at in_array old h.s,
+        h.offset,
+        barred,
+        h.goes,
+        inr (inl (h.f, h.finds, not_nested h.finds.4 h.low h.at three four, refl, refl)),
+        (shut, fault_none new.fault why offset, done),
+      )
 
-    -- it finds one with a level, in which the others go on
-    module _ (child : Iter) (begun : ℤ) (also : Returns status.Done begun) where
-      onward : IsNested h.f.kind → Begins b parent.payload_at parent.payload_len child → PathSays b (is_array parent.tag) (next ∷ more) child new code
-          → PathSays b in_array (step ∷ next ∷ more) old new code
-      onward nested begins (inl (d, s, last, offset, goal, g, goes, says)) =
-          let same = same_level b h.offset h.f h.finds.1 h.finds.2 h.finds.4 h.low parent h.at nested child begins d s g in
-          inl (h.d, h.s, last, offset, goal, h.goes, inr (inr (h.offset, h.f, h.finds, nested, subst (λ (l : Level). GoesTo l (next ∷ more) last offset goal) same goes)), says)
-      onward nested begins (inr astray) = absurd (astray.0.0 h.f.payload (drop 4 h.f.payload) (inside b h.offset h.f h.finds.1 h.finds.2 h.finds.4 h.low parent h.at nested child begins))
+  -- it finds one with a level, in which the others go on
+  module _ (child : Iter) (begun : ℤ) (also : Returns status.Done begun) where
+    onward : IsNested h.f.kind → Begins b parent.payload_at parent.payload_len child → PathSays b (is_array parent.tag) (next ∷ more) child new code
+        → PathSays b in_array (step ∷ next ∷ more) old new code
+    onward nested begins (inl (d, s, last, offset, goal, g, goes, says)) =
+        let same = same_level h.finds.4 h.low h.at nested child begins d s g in
+        inl (h.d, h.s, last, offset, goal, h.goes, inr (inr (h.offset, h.f, h.finds, nested, subst (λ (l : Level). GoesTo l (next ∷ more) last offset goal) same goes)), says)
+    onward nested begins (inr astray) = absurd (astray.0.0 h.f.payload (drop 4 h.f.payload) (inside h.finds.4 h.low h.at nested child begins))
 
-      inside_says : Descends b parent child begun → PathSays b (is_array parent.tag) (next ∷ more) child new code → PathSays b in_array (step ∷ next ∷ more) old new code
-      inside_says (inl (tag, begins)) rest =
-          let nested = nested_tag b h.offset h.f h.finds.1 h.finds.2 h.finds.4 h.low parent h.at tag in
-          onward nested (begins_inside b h.offset h.f h.finds.1 h.finds.2 h.finds.4 h.low parent h.at nested child begun begins).0 rest
-      inside_says (inr (three, four, shut, why, offset, done)) rest = absurd (omega (arith, one_code begun 11 0 done also))
+    inside_says : Descends b parent child begun → PathSays b (is_array parent.tag) (next ∷ more) child new code → PathSays b in_array (step ∷ next ∷ more) old new code
+    inside_says (inl (tag, begins)) rest =
+        let nested = nested_tag h.finds.4 h.low h.at tag in
+        onward nested (begins_inside h.finds.4 h.low h.at nested child begun begins).0 rest
+    inside_says (inr (three, four, shut, why, offset, done)) rest = absurd (omega (arith, one_code begun 11 0 done also))
 
 path_says : (b : List ℕ) (in_array : Bool) (steps : List (List ℕ)) (old new : Iter) (code : ℤ) → WalksPath b in_array steps old new code → PathSays b in_array steps old new code
 path_says b in_array [] old new code walks = absurd walks
 path_says b in_array (s ∷ []) old new code walks = last_says b in_array s old new code (step_says b in_array s old new code walks)
 path_says b in_array (s ∷ t ∷ ss) old new code (inl (other, finds)) = none_says b in_array s t ss old new code other (step_says b in_array s old new code finds)
 path_says b in_array (s ∷ t ∷ ss) old new code (inr (parent, first, finds, done, inl (other, down))) =
-    barred_says b in_array s t ss old new code parent (step_found b in_array s old parent first (step_says b in_array s old parent first finds) done) other down
+    barred_says (step_found b in_array s old parent first (step_says b in_array s old parent first finds) done) t ss new code other down
 path_says b in_array (s ∷ t ∷ ss) old new code (inr (parent, first, finds, done, inr (child, begun, down, also, rest))) =
-    inside_says b in_array s t ss old new code parent (step_found b in_array s old parent first (step_says b in_array s old parent first finds) done) child
+    inside_says (step_found b in_array s old parent first (step_says b in_array s old parent first finds) done) t ss new code child
     begun also down (path_says b (is_array parent.tag) (t ∷ ss) child new code rest)
 
 -- what the whole path finds

@@ -83,10 +83,10 @@ pub filled_none : (b : List ℕ) (it : Iter) (d s : List ℕ) (before : List Ent
 filled_none b it d s before left g is = record { d = d; s = s; rest = s; passed = []; entries = []; begins = g; goes = g; leads = refl; are = refl; number = refl; filled = refl; left_is = is }
 
 -- the frames of what is in the room
-pub gone_over : (b : List ℕ) (it new : Iter) (next : ℕ) (before room : List Entry) (index count : ℕ) (left : Option (List ℕ))
+pub gone_over : {b : List ℕ} {it : Iter} (new : Iter) {next : ℕ} {before room : List Entry} {index : ℕ} (count : ℕ) {left : Option (List ℕ)}
     (h : HasFilled b it next before room index left) → HasSameDocument it new → new.next ≡ next → index ≤ length before → count ≡ index
     → GoesOver b h.s h.rest h.passed it new before room count
-gone_over b it new next before room index count left h same is fit counted = record {
+gone_over {b} {it} new {next} {before} {room} {index} count {left} h same is fit counted = record {
   d = h.d;
   entries = h.entries;
   leads = h.leads;
@@ -97,28 +97,25 @@ gone_over b it new next before room index count left h same is fit counted = rec
   filled = h.filled ∙ ap (λ (n : ℕ). h.entries ++ drop n before) (sym counted);
 }
 
-module _ (b : List ℕ) (it : Iter) (next : ℕ) (before room : List Entry) (index : ℕ) (old new : Option (List ℕ))
-    (result : Option (Result RawElement BorrowedError)) (h : HasFilled b it next before room index old) (steps : StepsFront old result new) where
-  abbrev here : Iter
-  here = record it { next = next }
-
+module _ {b : List ℕ} {it : Iter} {next : ℕ} {before room : List Entry} {index : ℕ} {old : Option (List ℕ)} (new : Option (List ℕ))
+    {result : Option (Result RawElement BorrowedError)} (h : HasFilled b it next before room index old) (steps : StepsFront old result new) where
   stepped : (item : Option (Result RawElement BorrowedError)) → result ≡ item → StepsFront (Some h.rest) item new
   stepped item is = subst (λ (x : Option (List ℕ)). StepsFront x item new) h.left_is (subst (λ (x : Option (Result RawElement BorrowedError)). StepsFront old x new) is steps)
 
   -- an element ends below 2 ^ 32
   pub short_element : (e : RawElement) → result ≡ Some (Ok e) → next + (2 + (length (frame_of e).key + length (frame_of e).payload)) < 2 ^ 32
-  short_element e is = let st = stepped (Some (Ok e)) is in few b h.d h.rest here h.goes (frame_of e) st.0 st.1
+  short_element e is = let st = stepped (Some (Ok e)) is in few b h.d h.rest (record it { next = next }) h.goes (frame_of e) st.0 st.1
 
   -- and so does the key of a stop
   pub short_key : (stop : BorrowedError) → result ≡ Some (Err stop) → IsShortKey next (option_copied stop.key)
-  short_key stop is = let st = stepped (Some (Err stop)) is in short b h.d h.rest here h.goes stop st.0
+  short_key stop is = let st = stepped (Some (Err stop)) is in short b h.d h.rest (record it { next = next }) h.goes stop st.0
 
   -- one element more
   pub filled_more : (e : RawElement) (entry : Entry) (after : ℕ) → result ≡ Some (Ok e) → index < length room → IsEntryWorkedOut next (frame_of e) entry
       → after ≡ next + (2 + (length (frame_of e).key + length (frame_of e).payload)) → HasFilled b it after before (set room index entry) (index + 1) new
   filled_more e entry after is within out next_is =
       let st = stepped (Some (Ok e)) is in
-      let one = entry_there b h.d h.rest here h.goes (frame_of e) st.0 entry st.1 out in
+      let one = entry_there b h.d h.rest (record it { next = next }) h.goes (frame_of e) st.0 entry st.1 out in
       let ended : entry.payload_at + entry.payload_len ≡ after = omega (arith, out.payload_at, out.payload_len, next_is) in
       record {
         d = h.d;
@@ -127,7 +124,7 @@ module _ (b : List ℕ) (it : Iter) (next : ℕ) (before room : List Entry) (ind
         passed = h.passed ++ frame_of e ∷ [];
         entries = h.entries ++ entry ∷ [];
         begins = h.begins;
-        goes = goes_on b h.d h.rest here h.goes (frame_of e) st.0 after st.1 next_is;
+        goes = goes_on b h.d h.rest (record it { next = next }) h.goes (frame_of e) st.0 after st.1 next_is;
         leads = LeadsTo-more h.s h.passed h.rest (frame_of e) st.0 h.leads st.1;
         are = subst (λ (n : ℕ). AreEntries b it.next (h.passed ++ frame_of e ∷ []) (h.entries ++ entry ∷ []) n) ended (AreEntries-more b it.next h.passed h.entries next (frame_of e) entry h.are one);
         number = omega (arith, h.number, length-append h.entries (entry ∷ []));
@@ -140,24 +137,24 @@ module _ (b : List ℕ) (it : Iter) (next : ℕ) (before room : List Entry) (ind
       → HasNoElement (place_of_none b) after → Returns status.Nothing code → GoesFrom b h.s it after before room index code
   fills_end after code is same next_is within none done =
       let st = stepped None is in
-      (h.rest, h.passed, gone_over b it after next before room index index old h same next_is (omega arith) refl, inr (inl (omega arith, (st.0, none, refl), done)))
+      (h.rest, h.passed, gone_over after index h same next_is (omega arith) refl, inr (inl (omega arith, (st.0, none, refl), done)))
 
   -- the stop before the room is full
-  pub fills_fault : (stop : BorrowedError) (after : Iter) (code : ℤ) → result ≡ Some (Err stop) → HasSameDocument it after → after.next ≡ next
+  pub fills_fault : (stop : BorrowedError) {after : Iter} {code : ℤ} → result ≡ Some (Err stop) → HasSameDocument it after → after.next ≡ next
       → index < length before → IsKeyAt (place_of_none b) next (option_copied stop.key) after → SaysKind stop.kind after.fault.why
       → after.fault.offset ≡ next → Returns status.Fault code → GoesFrom b h.s it after before room index code
-  fills_fault stop after code is same next_is within out why offset_is done =
+  fills_fault stop {after} is same next_is within out why offset_is done =
       let st = stepped (Some (Err stop)) is in
-      let fault = faulted b h.d h.rest here h.goes stop after st.0 out next_is why offset_is in (
+      let fault = faulted b h.d h.rest (record it { next = next }) h.goes stop after st.0 out next_is why offset_is in (
         h.rest,
         h.passed,
-        gone_over b it after next before room index index old h same next_is (omega arith) refl,
+        gone_over after index h same next_is (omega arith) refl,
         inr (inr (omega arith, subst (λ (n : ℕ). StopsAtFault b h.rest n after) (sym next_is) fault, done)),
       )
 
 -- the room is full
-pub fills_all : (b : List ℕ) (it after : Iter) (next : ℕ) (before room : List Entry) (index count : ℕ) (left : Option (List ℕ))
+pub fills_all : {b : List ℕ} {it : Iter} (after : Iter) {next : ℕ} {before room : List Entry} {index : ℕ} (count : ℕ) {left : Option (List ℕ)}
     (h : HasFilled b it next before room index left) (code : ℤ) → HasSameDocument it after → after.next ≡ next → index ≡ length before → count ≡ index
     → HasNoElement (place_of_none b) after → Returns status.Done code → GoesFrom b h.s it after before room count code
-fills_all b it after next before room index count left h code same is full counted none done =
-    (h.rest, h.passed, gone_over b it after next before room index count left h same is (omega (arith, full)) counted, inl (counted ∙ full, none, done))
+fills_all after count h code same is full counted none done =
+    (h.rest, h.passed, gone_over after count h same is (omega (arith, full)) counted, inl (counted ∙ full, none, done))

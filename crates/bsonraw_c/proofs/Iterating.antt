@@ -49,7 +49,7 @@ stands_there : (b d x : List ℕ) (at len offset size place : ℕ) → StandsAt 
 stands_there b d x at len offset size place s t is = subst (λ (n : ℕ). StandsAt b n size x) (sym is) (stands_inside b d x at len offset size s t)
 
 -- the rest of a document at an offset of the bytes
-module _ (b d : List ℕ) (at len offset : ℕ) (stands : StandsAt b at len d) (begun : at ≤ offset) (within : offset ≤ at + len) where
+module _ {b d : List ℕ} {at len offset : ℕ} (stands : StandsAt b at len d) (begun : at ≤ offset) (within : offset ≤ at + len) where
   private_within : offset - at ≤ length d
   private_within = omega (arith, begun, within, stands.len_is)
 
@@ -124,10 +124,10 @@ module _ (b d s : List ℕ) (it : Iter) (g : GoesThrough b it d s) where
 
   -- the frame there
   pub placed : (f : Frame) (r : List ℕ) (new : Iter) → IsFrame s f r → IsWorkedOut it.next f new → IsAtFrame b it.next f new
-  placed f r new frame out = placed_in b d it.document_at it.document_len it.next g.stands behind_begin g.within f r new (frame_left f r frame) out
+  placed f r new frame out = placed_in g.stands behind_begin g.within f r new (frame_left f r frame) out
 
   ends : (f : Frame) (r : List ℕ) → IsFrame s f r → it.next + (2 + (length f.key + length f.payload)) ≤ it.document_at + it.document_len
-  ends f r frame = ends_within b d it.document_at it.document_len it.next g.stands behind_begin g.within f r (frame_left f r frame)
+  ends f r frame = ends_within g.stands behind_begin g.within f r (frame_left f r frame)
 
   -- it ends below 2 ^ 32
   pub few : (f : Frame) (r : List ℕ) → IsFrame s f r → it.next + (2 + (length f.key + length f.payload)) < 2 ^ 32
@@ -141,7 +141,7 @@ module _ (b d s : List ℕ) (it : Iter) (g : GoesThrough b it d s) where
     envelope = g.envelope;
     begun = omega (arith, g.begun, is);
     within = omega (arith, is, ends f r frame);
-    left = sym (left_in b d it.document_at it.document_len it.next g.stands behind_begin g.within f r next (frame_left f r frame) is);
+    left = sym (left_in g.stands behind_begin g.within f r next (frame_left f r frame) is);
   }
 
   stop_left : (k : ErrorKind) (key : Option (List ℕ)) → StopsWith k key s → StopsWith k key (drop (it.next - it.document_at) d)
@@ -149,14 +149,14 @@ module _ (b d s : List ℕ) (it : Iter) (g : GoesThrough b it d s) where
 
   -- the key of the stop there
   pub short : (stop : BorrowedError) → StopsWith stop.kind (option_copied stop.key) s → IsShortKey it.next (option_copied stop.key)
-  short stop stops = short_stop b d it.document_at it.document_len it.next g.stands behind_begin g.within stop g.small (stop_left stop.kind (option_copied stop.key) stops)
+  short stop stops = short_stop g.stands behind_begin g.within stop g.small (stop_left stop.kind (option_copied stop.key) stops)
 
   -- the stop there
   pub faulted : (stop : BorrowedError) (new : Iter) → StopsWith stop.kind (option_copied stop.key) s
       → IsKeyAt (place_of_none b) it.next (option_copied stop.key) new → new.next ≡ it.next → SaysKind stop.kind new.fault.why → new.fault.offset ≡ it.next
       → StopsAtFault b s it.next new
   faulted stop new stops out next why offset_is = subst (λ (x : List ℕ). StopsAtFault b x it.next new) (sym g.left)
-      (fault_in b d it.document_at it.document_len it.next g.stands behind_begin g.within stop new
+      (fault_in g.stands behind_begin g.within stop new
       (stop_left stop.kind (option_copied stop.key) stops) out next why offset_is)
 
 -- lists with fronts of one length have one front and one rest

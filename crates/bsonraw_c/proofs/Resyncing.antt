@@ -146,9 +146,10 @@ module _ (limits : Limits) (at : ℕ) (s : List ℕ) (last : Bool) where
         (believed_inside limits (at + length s) len s new all piece stops told.1, costs_of limits s last at old new q.works)
 
     -- they go on inside with one that reaches the length's end
-    pub found_reaching : (place : ℕ) (old mid new : Work) (all : Bool) (onward : Onward) → Seeks limits s last at (record { from = 1; until = len; end = len }) old mid (sought.Found place all)
+    pub found_reaching : {place : ℕ} {old mid : Work} {all : Bool} (new : Work) (onward : Onward)
+        → Seeks limits s last at (record { from = 1; until = len; end = len }) old mid (sought.Found place all)
         → FindsFirst limits at s mid new onward → GoesOnward limits at s old new onward
-    found_reaching place old mid new all onward q first =
+    found_reaching {place} {old} {mid} {all} new onward q first =
         let (low, high, within, on, over) = sought_told limits s last at (record { from = 1; until = len; end = len }) old mid (sought.Found place all) q in
         let not = disbelieved limits s len len place true (λ is. let impossible : ⊥ = cc in absurd impossible) refl low high on in
         let (is, costs) = first_onward mid new onward (inr (len, piece, not)) first in
@@ -175,8 +176,8 @@ module _ (limits : Limits) (b : List ℕ) (damage : ℕ) (before : Resync) (work
   pub bounded_on : IsBounded (length b) work
   bounded_on = whole.1.bounded bound
 
-  pub goes_on_in : (old new : Reader) (after : Resync) → new ≡ record old { next = damage + onward.count } → LeavesWork onward work after → GoesOnIn limits b damage old new before after
-  goes_on_in old new after is (same, believed, left) = record {
+  pub goes_on_in : {old new : Reader} {after : Resync} → new ≡ record old { next = damage + onward.count } → LeavesWork onward work after → GoesOnIn limits b damage old new before after
+  goes_on_in is (same, believed, left) = record {
     count = onward.count;
     is_believed = onward.is_believed;
     all = onward.all;

@@ -21,19 +21,18 @@ abbrev pub WalksPathOf : List ℕ → List ℕ → ℕ → Iter → Iter → ℤ
 WalksPathOf b path separator old new code = (steps : List (List ℕ)) × HasSteps separator path steps × WalksPath b false steps old new code
 
 -- What is found from here on by the steps of this path is what the whole path finds.
-abbrev pub GoesOnWith : List ℕ → List ℕ → ℕ → Iter → List ℕ → Bool → Iter → Type 0
-GoesOnWith b whole separator first path in_array now =
-    (new : Iter) (code : ℤ) (steps : List (List ℕ)) → HasSteps separator path steps → WalksPath b in_array steps now new code → WalksPathOf b whole separator first new code
+pub record GoesOnWith (b whole : List ℕ) (separator : ℕ) (first : Iter) (path : List ℕ) (in_array : Bool) (now : Iter) : Type 0 where
+  pub finds : (new : Iter) (code : ℤ) (steps : List (List ℕ)) → HasSteps separator path steps → WalksPath b in_array steps now new code → WalksPathOf b whole separator first new code
 
 -- at first
 pub begun : (b whole : List ℕ) (separator : ℕ) (first : Iter) → GoesOnWith b whole separator first whole false first
-begun b whole separator first new code steps has finds = (steps, has, finds)
+begun b whole separator first = record { finds = λ new code steps has finds. (steps, has, finds) }
 
 -- the last step
-pub last_step : (b whole : List ℕ) (separator : ℕ) (first : Iter) (path : List ℕ) (in_array : Bool) (now : Iter)
+pub last_step : {b whole : List ℕ} {separator : ℕ} {first : Iter} {path : List ℕ} {in_array : Bool} {now : Iter}
     → GoesOnWith b whole separator first path in_array now → (step : List ℕ) → path ≡ step → HasNone separator step → (new : Iter) (code : ℤ)
     → FindsStep b in_array step now new code → WalksPathOf b whole separator first new code
-last_step b whole separator first path in_array now goes step is none new code finds = goes new code (step ∷ []) (is, none) finds
+last_step goes step is none new code finds = goes.finds new code (step ∷ []) (is, none) finds
 
 -- every path has steps
 front_step : (separator byte : ℕ) (bytes : List ℕ) → byte ≢ separator → (steps : List (List ℕ)) → HasSteps separator bytes steps → (more : List (List ℕ)) × HasSteps separator (byte ∷ bytes) more
@@ -60,34 +59,47 @@ more_steps : (separator : ℕ) (path step rest : List ℕ) → path ≡ step ++ 
 more_steps separator path step rest is none [] has = absurd has
 more_steps separator path step rest is none (t ∷ ss) has = (rest, is, none, has)
 
-module _ (b whole : List ℕ) (separator : ℕ) (first : Iter) (path : List ℕ) (in_array : Bool) (now : Iter)
-    (goes : GoesOnWith b whole separator first path in_array now) (step rest : List ℕ) (is : path ≡ step ++ separator ∷ rest)
-    (none : HasNone separator step) where
+-- a step that others are behind
+pub record IsBefore (separator : ℕ) (path step rest : List ℕ) : Type 0 where
+  pub is : path ≡ step ++ separator ∷ rest
+  pub none : HasNone separator step
+
+module _ {b whole : List ℕ} {separator : ℕ} {first : Iter} {path : List ℕ} {in_array : Bool} {now : Iter} (goes : GoesOnWith b whole separator first path in_array now)
+    {step rest : List ℕ} (s : IsBefore separator path step rest) where
+  -- what it finds
+  abbrev IsFound : Iter → ℤ → Type 0
+  IsFound parent found = FindsStep b in_array step now parent found × Returns status.Done found
+
   stops_with : (steps : List (List ℕ)) → HasSteps separator rest steps → (new : Iter) (code : ℤ) → ¬ Returns status.Done code
       → FindsStep b in_array step now new code → WalksPathOf b whole separator first new code
   stops_with [] has new code other finds = absurd has
-  stops_with (t ∷ ss) has new code other finds = goes new code (step ∷ t ∷ ss) (more_steps separator path step rest is none (t ∷ ss) has) (inl (other, finds))
+  stops_with (t ∷ ss) has new code other finds = goes.finds new code (step ∷ t ∷ ss) (more_steps separator path step rest s.is s.none (t ∷ ss) has) (inl (other, finds))
 
   -- it isn't found
   pub stops_at : (new : Iter) (code : ℤ) → ¬ Returns status.Done code → FindsStep b in_array step now new code → WalksPathOf b whole separator first new code
   stops_at new code other finds = let h = has_steps separator rest in stops_with h.0 h.1 new code other finds
 
-  bars_with : (steps : List (List ℕ)) → HasSteps separator rest steps → (parent : Iter) (found : ℤ) → FindsStep b in_array step now parent found
-      → Returns status.Done found → (new : Iter) (code : ℤ) → ¬ Returns status.Done code → Descends b parent new code
-      → WalksPathOf b whole separator first new code
-  bars_with [] has parent found finds done new code other down = absurd has
-  bars_with (t ∷ ss) has parent found finds done new code other down =
-      goes new code (step ∷ t ∷ ss) (more_steps separator path step rest is none (t ∷ ss) has) (inr (parent, found, finds, done, inl (other, down)))
+  bars_with : (parent : Iter) (found : ℤ) (steps : List (List ℕ)) → HasSteps separator rest steps → IsFound parent found → (new : Iter) (code : ℤ)
+      → ¬ Returns status.Done code → Descends b parent new code → WalksPathOf b whole separator first new code
+  bars_with parent found [] has is_found new code other down = absurd has
+  bars_with parent found (t ∷ ss) has is_found new code other down =
+      goes.finds new code (step ∷ t ∷ ss) (more_steps separator path step rest s.is s.none (t ∷ ss) has) (inr (parent, found, is_found.0, is_found.1, inl (other, down)))
 
   -- it is found, and nothing is inside
   pub bars_at : (parent : Iter) (found : ℤ) → FindsStep b in_array step now parent found → Returns status.Done found → (new : Iter) (code : ℤ)
       → ¬ Returns status.Done code → Descends b parent new code → WalksPathOf b whole separator first new code
-  bars_at parent found finds done new code other down = let h = has_steps separator rest in bars_with h.0 h.1 parent found finds done new code other down
+  bars_at parent found finds done new code other down = let h = has_steps separator rest in bars_with parent found h.0 h.1 (finds, done) new code other down
 
   -- it is found, and gone into
   pub goes_in : (parent : Iter) (found : ℤ) → FindsStep b in_array step now parent found → Returns status.Done found → (child : Iter) (begins : ℤ)
       → Descends b parent child begins → Returns status.Done begins → GoesOnWith b whole separator first rest (is_array parent.tag) child
-  goes_in parent found finds done child begins down also new code [] has onward = absurd has
-  goes_in parent found finds done child begins down also new code (t ∷ ss) has onward =
-      goes new code (step ∷ t ∷ ss) (more_steps separator path step rest is none (t ∷ ss) has)
-      (inr (parent, found, finds, done, inr (child, begins, down, also, onward)))
+  goes_in parent found finds done child begins down also = record {
+    finds = λ new code steps has onward. goes_on_in steps has new code onward;
+  }
+    where
+      goes_on_in : (steps : List (List ℕ)) → HasSteps separator rest steps → (new : Iter) (code : ℤ) → WalksPath b (is_array parent.tag) steps child new code
+          → WalksPathOf b whole separator first new code
+      goes_on_in [] has new code onward = absurd has
+      goes_on_in (t ∷ ss) has new code onward =
+          goes.finds new code (step ∷ t ∷ ss) (more_steps separator path step rest s.is s.none (t ∷ ss) has)
+          (inr (parent, found, finds, done, inr (child, begins, down, also, onward)))

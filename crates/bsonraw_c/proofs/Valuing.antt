@@ -52,31 +52,36 @@ module _ (b : List ℕ) (it : Iter) (f : Frame) (on : IsOn b it f) where
       (placed b on.d on.s here on.there f on.r there on.stands
       (record { tag = refl; key_at = refl; key_len = refl; payload_at = omega (arith, is, on.begun); payload_len = refl; next = refl })).payload
 
--- a value with one part, and with two, at places that are worked out
-module _ (b : List ℕ) (none old x : Value) (kept : old ≡ none) (text : List ℕ) (at place size : ℕ) (there : StandsAt b at (length text) text)
-    (place_is : place ≡ at) (size_is : size ≡ length text) where
+-- a part of a value, at a place that is worked out
+pub record IsPartAt (b text : List ℕ) (at place size : ℕ) : Type 0 where
+  pub there : StandsAt b at (length text) text
+  pub place_is : place ≡ at
+  pub size_is : size ≡ length text
+
+-- a value with one part, and with two
+module _ {b : List ℕ} {none old : Value} (x : Value) (kept : old ≡ none) {text : List ℕ} {at place size : ℕ} (part : IsPartAt b text at place size) where
   at_place : (y : Value) → y ≡ record old { text_at = place; text_len = size } → y ≡ record none { text_at = at; text_len = length text }
   at_place y is = is ∙ (ap (λ (n : Value). record n { text_at = place; text_len = size }) kept
-      ∙ (ap (λ (n : ℕ). record none { text_at = n; text_len = size }) place_is ∙ ap (λ (n : ℕ). record none { text_at = at; text_len = n }) size_is))
+      ∙ (ap (λ (n : ℕ). record none { text_at = n; text_len = size }) part.place_is ∙ ap (λ (n : ℕ). record none { text_at = at; text_len = n }) part.size_is))
 
   pub says_part : x ≡ record old { text_at = place; text_len = size } → HasPart b none at text x
-  says_part is = (there, at_place x is)
+  says_part is = (part.there, at_place x is)
 
   pub says_binary : (middle : Value) (byte used : ℕ) → used ≡ byte → middle ≡ record old { text_at = place; text_len = size }
       → x ≡ record middle { subtype = used } → HasPart b (record none { subtype = byte }) at text x
   says_binary middle byte used same first is = (
-    there,
+    part.there,
     is ∙ (ap (λ (n : Value). record n { subtype = used }) (at_place middle first)
         ∙ ap (λ (m : ℕ). record none { subtype = m; text_at = at; text_len = length text }) same),
   )
 
-  pub says_parts : (middle : Value) (more : List ℕ) (behind begin room : ℕ) → StandsAt b behind (length more) more → begin ≡ behind → room ≡ length more
+  pub says_parts : (middle : Value) {more : List ℕ} {behind begin room : ℕ} → IsPartAt b more behind begin room
       → middle ≡ record old { text_at = place; text_len = size } → x ≡ record middle { more_at = begin; more_len = room }
       → HasParts b none at text behind more x
-  says_parts middle more behind begin room also begin_is room_is first is = (
-    there,
-    also,
+  says_parts middle {more} {behind} {begin} {room} also first is = (
+    part.there,
+    also.there,
     is ∙ (ap (λ (n : Value). record n { more_at = begin; more_len = room }) (at_place middle first)
-        ∙ (ap (λ (n : ℕ). record none { text_at = at; text_len = length text; more_at = n; more_len = room }) begin_is
-        ∙ ap (λ (n : ℕ). record none { text_at = at; text_len = length text; more_at = behind; more_len = n }) room_is)),
+        ∙ (ap (λ (n : ℕ). record none { text_at = at; text_len = length text; more_at = n; more_len = room }) also.place_is
+        ∙ ap (λ (n : ℕ). record none { text_at = at; text_len = length text; more_at = behind; more_len = n }) also.size_is)),
   )

@@ -35,20 +35,20 @@ pub one_false : (a b : Bool) → (a && b) ≡ false → (a ≡ false) ⊎ (b ≡
 one_false true b is = inr is
 one_false false b is = inl refl
 
+there : (n low j : ℕ) → n + low ≤ j → n + (j - n) ≡ j
+there n low j more = omega (arith, more)
+
 -- places that were passed, and those behind n bytes
 module _ (limits : Limits) (total from n low high : ℕ) (s : List ℕ) (w : Work) (a b : Bool) (start : from ≤ n + low) (more : low ≤ high) (p : PassesOver limits total s from (n + low) 0 w a)
     (q : PassesOver limits total (drop n s) low high 0 w b) where
-  there : (j : ℕ) → n + low ≤ j → n + (j - n) ≡ j
-  there j more = omega (arith, more)
-
   pub passes_join : PassesOver limits total s from (n + high) 0 w (a && b)
   passes_join = record {
     each = λ j from' to'. elim (cases_lt j (n + low)) [
       | inl before ↦ p.each j from' before
       | inr behind ↦
           elim (q.each (j - n) (omega (arith, behind)) (omega (arith, behind, to'))) [
-            | inl not ↦ inl (subst (λ k. ¬ GoesOnWith limits (0 - k) (drop k s)) (there j behind) (goes_further limits n (j - n) s not))
-            | inr left ↦ inr (subst (IsLeftOut limits total s w) (there j behind) (left_further limits total n (j - n) s w left))
+            | inl not ↦ inl (subst (λ k. ¬ GoesOnWith limits (0 - k) (drop k s)) (there n low j behind) (goes_further limits n (j - n) s not))
+            | inr left ↦ inr (subst (IsLeftOut limits total s w) (there n low j behind) (left_further limits total n (j - n) s w left))
           ]
     ];
     whole = λ is j from' to'.
@@ -56,7 +56,7 @@ module _ (limits : Limits) (total from n low high : ℕ) (s : List ℕ) (w : Wor
         elim (cases_lt j (n + low)) [
           | inl before ↦ p.whole first j from' before
           | inr behind ↦
-              subst (λ k. ¬ GoesOnWith limits (0 - k) (drop k s)) (there j behind)
+              subst (λ k. ¬ GoesOnWith limits (0 - k) (drop k s)) (there n low j behind)
               (goes_further limits n (j - n) s (q.whole second (j - n) (omega (arith, behind)) (omega (arith, behind, to'))))
         ];
     some = λ not. elim (one_false a b not) [

@@ -35,10 +35,10 @@ told_judged limits b end old new (Some true) (n, (sound, len), spent, reach) = s
 told_judged limits b end old new (Some false) (n, (damaged, costs), spent, reach) = damaged
 
 -- another is judged, or left out
-pub judges_piece : (limits : Limits) (bytes : List ℕ) (last : Bool) (at place len : ℕ) (old new : Work) (judged : Option Bool) → place + len ≤ length bytes
+pub judges_piece : (limits : Limits) (bytes : List ℕ) {last : Bool} (at place len : ℕ) (old new : Work) (judged : Option Bool) → place + len ≤ length bytes
     → IsPiece limits.bytes (take len (drop place bytes)) → IsWork new → Judges limits (take len (drop place bytes)) (at + (place + len)) old new judged
     → JudgesPiece limits bytes last at place len old new judged
-judges_piece limits bytes last at place len old new judged within is work judges = record {
+judges_piece limits bytes {last} at place len old new judged within is work judges = record {
   works = record {
     charges = λ rest may.
         charges_judged limits (take place (bytes ++ rest)) (take len (drop place bytes)) (drop (place + len) (bytes ++ rest)) (bytes ++ rest) (at + (place + len))
@@ -93,29 +93,33 @@ nothing_left : (place : ℕ) (last : Bool) (bytes rest : List ℕ) → place ≤
 nothing_left place last bytes rest within is none may = left_behind place bytes rest within ∙ ap (λ l. l ++ rest) none ∙ may is
 
 -- a piece of so many bytes is behind so many of these bytes
-module _ (limits : Limits) (bytes : List ℕ) (last : Bool) (at place len : ℕ) (within : place + len ≤ length bytes) (is : IsPiece limits.bytes (take len (drop place bytes))) where
+pub record IsPieceIn (limits : Limits) (bytes : List ℕ) (place len : ℕ) : Type 0 where
+  pub within : place + len ≤ length bytes
+  pub is : IsPiece limits.bytes (take len (drop place bytes))
+
+module _ {limits : Limits} {bytes : List ℕ} {place len : ℕ} (p : IsPieceIn limits bytes place len) where
   size : length (take len (drop place bytes)) ≡ len
-  size = front_len place len bytes within
+  size = front_len place len bytes p.within
 
   some : place < length bytes
-  some = let enough : 5 ≤ length (take len (drop place bytes)) = is.sound.0 in omega (arith, enough, size, within)
+  some = let enough : 5 ≤ length (take len (drop place bytes)) = p.is.sound.0 in omega (arith, enough, size, p.within)
 
   only : (rest : List ℕ) (least : ℕ) → GoesOnWith limits least (drop place (bytes ++ rest))
       → IsSound limits (take len (drop place bytes)) × EndsOrBegins limits (drop (place + len) (bytes ++ rest)) × (least ≤ length (take len (drop place bytes)))
   only rest least goes =
-      goes_only limits (drop place (bytes ++ rest)) (take len (drop place bytes)) (drop (place + len) (bytes ++ rest)) is (split_front place len bytes rest within) least goes
+      goes_only limits (drop place (bytes ++ rest)) (take len (drop place bytes)) (drop (place + len) (bytes ++ rest)) p.is (split_front place len bytes rest p.within) least goes
 
   goes : (rest : List ℕ) (least : ℕ) → least ≤ len → IsSound limits (take len (drop place bytes)) → EndsOrBegins limits (drop (place + len) (bytes ++ rest))
       → GoesOnWith limits least (drop place (bytes ++ rest))
   goes rest least long sound next =
-      goes_on limits (drop place (bytes ++ rest)) (take len (drop place bytes)) (drop (place + len) (bytes ++ rest)) is (split_front place len bytes rest within) least
+      goes_on limits (drop place (bytes ++ rest)) (take len (drop place bytes)) (drop (place + len) (bytes ++ rest)) p.is (split_front place len bytes rest p.within) least
       (omega (arith, long, size)) sound next
 
+module _ {limits : Limits} {bytes : List ℕ} {place len : ℕ} (p : IsPieceIn limits bytes place len) (last : Bool) (at : ℕ) where
   -- it isn't sound
   pub no_sound : (w : Work) → ¬ IsSound limits (take len (drop place bytes)) → Checks limits bytes last at place len w w check.Stops
-  no_sound w damaged = record { works = works_none limits bytes last at w; tells = λ rest may. (some, λ there. damaged ((only rest len there).0)) }
+  no_sound w damaged = record { works = works_none limits bytes last at w; tells = λ rest may. (some p, λ there. damaged ((only p rest len there).0)) }
 
-  -- it is shorter than is asked for
   -- it has no envelope
   pub no_envelope : (w : Work) → ¬ IsEnvelope (take len (drop place bytes)) → Checks limits bytes last at place len w w check.Stops
   no_envelope w none = no_sound w (λ sound. none sound.envelope)
@@ -124,54 +128,53 @@ module _ (limits : Limits) (bytes : List ℕ) (last : Bool) (at place len : ℕ)
   pub no_second : (w : Work) → TellsFront limits.bytes bytes last (place + len) front.NoPiece → Checks limits bytes last at place len w w check.Stops
   no_second w lacks = record {
     works = works_none limits bytes last at w;
-    tells = λ rest may. (some, λ there. none_behind limits last (place + len) bytes rest within lacks may ((only rest len there).1));
+    tells = λ rest may. (some p, λ there. none_behind limits last (place + len) bytes rest p.within lacks may ((only p rest len there).1));
   }
 
   pub wants_second : (n : ℕ) (w : Work) → TellsFront limits.bytes bytes last (place + len) (front.Wants n) → Checks limits bytes last at place len w w (check.Wants n)
   wants_second n w (not, more, few) =
-      let bound : length (take len (drop place bytes)) ≤ limits.bytes = is.sound.1 in
-      record { works = works_none limits bytes last at w; tells = λ rest may. (not, more, omega (arith, few, bound, size)) }
+      let bound : length (take len (drop place bytes)) ≤ limits.bytes = p.is.sound.1 in
+      record { works = works_none limits bytes last at w; tells = λ rest may. (not, more, omega (arith, few, bound, size p)) }
 
   -- it is all that is left
   pub is_last_piece : (old new : Work) (judged : Option Bool) → TellsFront limits.bytes bytes last (place + len) front.End → JudgesPiece limits bytes last at place len old new judged
       → Checks limits bytes last at place len old new (check_of judged)
-  is_last_piece old new None (ends, none) p = record { works = p.works; tells = λ rest may. (some, inl (unjudged limits bytes rest at place len new within is p.tells)) }
-  is_last_piece old new (Some true) (ends, none) p =
-      record { works = p.works; tells = λ rest may. goes rest len (omega arith) p.tells (inl (nothing_left (place + len) last bytes rest within ends none may)) }
-  is_last_piece old new (Some false) (ends, none) p = record { works = p.works; tells = λ rest may. (some, λ there. p.tells ((only rest len there).0)) }
+  is_last_piece old new None (ends, none) q = record { works = q.works; tells = λ rest may. (some p, inl (unjudged limits bytes rest at place len new p.within p.is q.tells)) }
+  is_last_piece old new (Some true) (ends, none) q =
+      record { works = q.works; tells = λ rest may. goes p rest len (omega arith) q.tells (inl (nothing_left (place + len) last bytes rest p.within ends none may)) }
+  is_last_piece old new (Some false) (ends, none) q = record { works = q.works; tells = λ rest may. (some p, λ there. q.tells ((only p rest len there).0)) }
 
   -- it is damaged, or left out, and what is behind it says nothing
   pub first_alone : (old new : Work) (judged : Option Bool) → ¬ (judged ≡ Some true) → JudgesPiece limits bytes last at place len old new judged
       → Checks limits bytes last at place len old new (check_of judged)
-  first_alone old new None not p = record { works = p.works; tells = λ rest may. (some, inl (unjudged limits bytes rest at place len new within is p.tells)) }
-  first_alone old new (Some true) not p = absurd (not refl)
-  first_alone old new (Some false) not p = record { works = p.works; tells = λ rest may. (some, λ there. p.tells ((only rest len there).0)) }
+  first_alone old new None not q = record { works = q.works; tells = λ rest may. (some p, inl (unjudged limits bytes rest at place len new p.within p.is q.tells)) }
+  first_alone old new (Some true) not q = absurd (not refl)
+  first_alone old new (Some false) not q = record { works = q.works; tells = λ rest may. (some p, λ there. q.tells ((only p rest len there).0)) }
 
   -- what is behind it tells, where it is without damage
   second : (rest : List ℕ) (w : Work) (judged : Option Bool) → IsSound limits (take len (drop place bytes))
       → TellsBehind limits bytes last (at + length (bytes ++ rest)) (bytes ++ rest) (place + len) w (check_of judged)
       → TellsCheck limits bytes last (at + length (bytes ++ rest)) (bytes ++ rest) place len w (check_of judged)
-  second rest w None sound told = (some, inr (take len (drop place bytes), drop (place + len) (bytes ++ rest), is, split_front place len bytes rest within, told))
-  second rest w (Some true) sound told = goes rest len (omega arith) sound told
-  second rest w (Some false) sound told = (some, λ there. told ((only rest len there).1))
+  second rest w None sound told = (some p, inr (take len (drop place bytes), drop (place + len) (bytes ++ rest), p.is, split_front place len bytes rest p.within, told))
+  second rest w (Some true) sound told = goes p rest len (omega arith) sound told
+  second rest w (Some false) sound told = (some p, λ there. told ((only p rest len there).1))
 
   -- another piece is behind it
-  pub two_pieces : (more : ℕ) (old mid new : Work) (judged : Option Bool) → (place + len) + more ≤ length bytes → IsPiece limits.bytes (take more (drop (place + len) bytes))
-      → JudgesPiece limits bytes last at place len old mid (Some true) → JudgesPiece limits bytes last at (place + len) more mid new judged
-      → Checks limits bytes last at place len old new (check_of judged)
-  two_pieces more old mid new judged within' is' p q =
-      let behind = behind_piece limits bytes last at (place + len) more mid new judged within' is' q in
-      record { works = works_on limits bytes last at old mid new p.works q.works; tells = λ rest may. second rest new judged p.tells (behind.tells rest may) }
+  pub two_pieces : {more : ℕ} {old mid new : Work} (judged : Option Bool) → IsPieceIn limits bytes (place + len) more → JudgesPiece limits bytes last at place len old mid (Some true)
+      → JudgesPiece limits bytes last at (place + len) more mid new judged → Checks limits bytes last at place len old new (check_of judged)
+  two_pieces {more} {old} {mid} {new} judged second_is first q =
+      let behind = behind_piece limits bytes last at (place + len) more mid new judged second_is.within second_is.is q in
+      record { works = works_on limits bytes last at old mid new first.works q.works; tells = λ rest may. second rest new judged first.tells (behind.tells rest may) }
 
   -- it is as long as is asked for
   long_told : (rest : List ℕ) (least : ℕ) (w : Work) (told : Check) → least ≤ len
       → TellsCheck limits bytes last (at + length (bytes ++ rest)) (bytes ++ rest) place len w told
       → TellsCheck limits bytes last (at + length (bytes ++ rest)) (bytes ++ rest) place least w told
-  long_told rest least w check.GoesOn long tells = let (sound, next, same) = only rest len tells in goes rest least long sound next
-  long_told rest least w check.Stops long (there, stops) = (there, λ on. let (sound, next, same) = only rest least on in stops (goes rest len (omega arith) sound next))
+  long_told rest least w check.GoesOn long tells = let (sound, next, same) = only p rest len tells in goes p rest least long sound next
+  long_told rest least w check.Stops long (there, stops) = (there, λ on. let (sound, next, same) = only p rest least on in stops (goes p rest len (omega arith) sound next))
   long_told rest least w check.LeftOut long tells = tells
   long_told rest least w (check.Wants n) long tells = tells
 
   pub long_enough : (least : ℕ) (old new : Work) (told : Check) → least ≤ len → Checks limits bytes last at place len old new told
       → Checks limits bytes last at place least old new told
-  long_enough least old new told long p = record { works = p.works; tells = λ rest may. long_told rest least new told long (p.tells rest may) }
+  long_enough least old new told long q = record { works = q.works; tells = λ rest may. long_told rest least new told long (q.tells rest may) }

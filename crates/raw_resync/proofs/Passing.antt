@@ -92,9 +92,9 @@ has_passed_none limits bytes last at from end w within works = record {
 }
 
 -- no piece is in front of the places up to the next one
-pub has_passed_lacking : (limits : Limits) (bytes : List ℕ) (last : Bool) (at from place next end : ℕ) (old new : Work) (all : Bool) → place < next → next ≤ length bytes
+pub has_passed_lacking : {limits : Limits} {bytes : List ℕ} {last : Bool} {at from end : ℕ} {old new : Work} {all : Bool} (place next : ℕ) → place < next → next ≤ length bytes
     → LacksPieces limits.bytes last bytes place next → HasPassed limits bytes last at from (place + 1) end old new all → HasPassed limits bytes last at from next end old new all
-has_passed_lacking limits bytes last at from place next end old new all more within none p = record {
+has_passed_lacking {limits} {bytes} {last} {at} {from} {end} {old} {new} {all} place next more within none p = record {
   low = omega (arith, p.low, more);
   within = within;
   works = p.works;
@@ -105,7 +105,7 @@ has_passed_lacking limits bytes last at from place next end old new all more wit
       (p.over rest may);
 }
 
-module _ (limits : Limits) (bytes : List ℕ) (last : Bool) (at from to end least : ℕ) (old mid new : Work) (all : Bool) (p : HasPassed limits bytes last at from to end old mid all)
+module _ {limits : Limits} {bytes : List ℕ} {last : Bool} {at from to end least : ℕ} {old mid new : Work} {all : Bool} (p : HasPassed limits bytes last at from to end old mid all)
     (is : least ≡ end - to) where
   since : Works limits bytes last at mid new → (rest : List ℕ) → MayFollow last rest → PassesOver limits (at + length (bytes ++ rest)) (bytes ++ rest) from to end new all
   since works rest may = passes_since limits (at + length (bytes ++ rest)) (bytes ++ rest) from to end mid new all (works_more limits bytes last at mid new works) (p.over rest may)
@@ -145,7 +145,7 @@ pub left_within : (limits : Limits) (bytes : List ℕ) (last : Bool) (at place l
 left_within limits bytes last at place least old new c = (c.tells [] (λ ends. refl)).0
 
 -- what a search tells, where it stops at a place
-module _ (limits : Limits) (bytes : List ℕ) (last : Bool) (at : ℕ) (q : Places) (to least : ℕ) (old mid new : Work) (all : Bool)
+module _ {limits : Limits} {bytes : List ℕ} {last : Bool} {at : ℕ} (q : Places) {to least : ℕ} {old mid new : Work} {all : Bool}
     (p : HasPassed limits bytes last at q.from to q.end old mid all) (is : least ≡ q.end - to) (high : to < q.until) where
   -- documents go on there
   pub sought_found : Checks limits bytes last at to least mid new check.GoesOn → Seeks limits bytes last at q old new (sought.Found to all)
@@ -156,7 +156,7 @@ module _ (limits : Limits) (bytes : List ℕ) (last : Bool) (at : ℕ) (q : Plac
       high,
       p.within,
       subst (λ n. GoesOnWith limits n (drop to (bytes ++ rest))) is (c.tells rest may),
-      passed_over limits bytes last at q.from to q.end least old mid new all p is c.works rest may,
+      passed_over p is c.works rest may,
     );
   }
 
@@ -164,7 +164,7 @@ module _ (limits : Limits) (bytes : List ℕ) (last : Bool) (at : ℕ) (q : Plac
   pub sought_wants : (n : ℕ) → Checks limits bytes last at to least mid new (check.Wants n) → Seeks limits bytes last at q old new (sought.Wants to n all)
   sought_wants n c = record {
     works = works_on limits bytes last at old mid new p.works c.works;
-    tells = λ rest may. (p.low, high, p.within, c.tells rest may, passed_over limits bytes last at q.from to q.end least old mid new all p is c.works rest may);
+    tells = λ rest may. (p.low, high, p.within, c.tells rest may, passed_over p is c.works rest may);
   }
 
 -- all places were looked at

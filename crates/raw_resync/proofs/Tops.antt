@@ -25,10 +25,10 @@ hay_len bytes from end within =
     length-take-le (end - from) (drop from bytes) (omega (arith, rest, within))
 
 -- no piece is in front of places whose length has another last byte
-pub lacks_tops : (most : ℕ) (last : Bool) (bytes hay : List ℕ) (place end next : ℕ) → most < 33554432 → end ≤ length bytes → place + 4 ≤ end
+pub lacks_tops : {hay : List ℕ} (most : ℕ) (last : Bool) (bytes : List ℕ) (place end next : ℕ) → most < 33554432 → end ≤ length bytes → place + 4 ≤ end
     → hay ≡ take (end - (place + 1 + 3)) (drop (place + 1 + 3) bytes) → next ≤ place + 1 + length hay
     → ((k : ℕ) → k < next - (place + 1) → ¬ (is_byte2 0 1 (get_or hay k 0) ≡ true)) → LacksPieces most last bytes place next
-lacks_tops most last bytes hay place end next small within more is far none j low high =
+lacks_tops {hay} most last bytes place end next small within more is far none j low high =
     let k : ℕ = j - (place + 1) in
     let count : length hay ≡ end - (place + 1 + 3) = ap length is ∙ hay_len bytes (place + 1 + 3) end within in
     let size : length (drop j bytes) ≡ length bytes - j = length-drop j bytes in

@@ -12,7 +12,7 @@ returns-in-Err c =
     let was = c.loop-step.invariant.0 in
     let h = c.loop-step.invariant.1 in
     let returned = crossed _ _ c.number-in-Err.ensures in
-    let found = finds_fault c.args.bytes.now c.args.key.now c.args.iter.now c.loop-step.next c.loop-step.step-iterator c.next.new.self c.next.result h
+    let found = finds_fault c.next.new.self h
     c.next.ensures.steps c.in-Err.stop c.stop.new.self _ (rw (← c.in-Err.is) c.in-Some-step.is)
     (subst (λ (end : ℕ). IsKeyAt end c.loop-step.next (option_copied c.in-Err.stop.key) c.stop.new.self) c.end_of-end.ensures c.stop.ensures.key)
     c.stop.ensures.next c.stop.ensures.why c.stop.ensures.offset returned in
@@ -23,7 +23,7 @@ returns-then-has_key c =
     let was = c.loop-step.invariant.0 in
     let h = c.loop-step.invariant.1 in
     let same : (frame_of c.in-Ok.element).key ≡ c.args.key.now = c.has_key.ensures.0 c.if-has_key.true in
-    let found = finds_element c.args.bytes.now c.args.key.now c.args.iter.now c.loop-step.next c.loop-step.step-iterator c.next.new.self c.next.result h
+    let found = finds_element c.next.new.self h
     c.next.ensures.steps c.in-Ok.element c.enter.new.self _ (rw (← c.in-Ok.is) c.in-Some-step.is) same c.enter.ensures.placed
     (crossed _ _ c.number-then-has_key.ensures) in
     ((subst (λ (x : Iter). HasSameDocument x c.enter.new.self) was c.enter.ensures.document, λ _. c.enter.ensures.fault ∙ ap (λ (x : Iter). x.fault) was), inl (h.d, h.s, h.begins, found))
@@ -32,8 +32,7 @@ pub loop-step-preserved : goal.loop-step-preserved
 loop-step-preserved c =
     let other : (frame_of c.in-Ok.element).key ≢ c.args.key.now = λ k. let yes = c.has_key.ensures.1 k in let no = c.if-has_key.false in cc in (
       c.loop-step.invariant.0,
-      passed_more c.args.bytes.now c.args.key.now c.args.iter.now c.loop-step.next c.loop-step.step-iterator c.next.new.self
-          c.next.result c.loop-step.invariant.1 c.next.ensures.steps c.in-Ok.element c.behind-next.result
+      passed_more c.next.new.self c.loop-step.invariant.1 c.next.ensures.steps c.in-Ok.element c.behind-next.result
           (rw (← c.in-Ok.is) c.in-Some-step.is) other c.behind-next.ensures,
     )
 
@@ -41,7 +40,7 @@ pub returns : goal.returns
 returns c =
     let was = c.loop-step.invariant.0 in
     let h = c.loop-step.invariant.1 in
-    let found = finds_end c.args.bytes.now c.args.key.now c.args.iter.now c.loop-step.next c.loop-step.step-iterator c.next.new.self c.next.result h
+    let found = finds_end c.next.new.self h
     c.next.ensures.steps c.leave-2.new.self _ c.in-None.is
     (subst (λ (end : ℕ). HasNoElement end c.leave-2.new.self) c.end_of-end.ensures c.leave-2.ensures.none) c.leave-2.ensures.next
     (crossed _ _ c.number-2.ensures) in

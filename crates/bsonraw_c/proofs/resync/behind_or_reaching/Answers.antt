@@ -13,8 +13,7 @@ returns-in-Found-clause-onward c =
     let (input, work, piece) = c.requires.input in
     IfOk-weaker c.first_place.result (FindsFirst p.limits p.at p.bytes.now c.seek.new.work c.first_place.new.work)
     (GoesOnward p.limits p.at p.bytes.now c.args.work.now c.first_place.new.work)
-    (λ onward is. found_reaching p.limits p.at p.bytes.now p.is_last c.args.len piece c.in-Found.place c.args.work.now c.seek.new.work
-    c.first_place.new.work c.in-Found.all onward
+    (λ onward is. found_reaching p.limits p.at p.bytes.now p.is_last c.args.len piece c.first_place.new.work onward
     (subst (Seeks p.limits p.bytes.now p.is_last p.at q c.args.work.now c.seek.new.work) c.in-Found.is c.in_ok-seek.ensures.sought) is)
     c.first_place.ensures.place
 

@@ -22,6 +22,7 @@ returns-in-Ok c =
     let few : length b ≤ 2 ^ 60 = omega (arith, c.if-bytes-gt-MOST_BYTES.false) in
     let left = subst (λ (s : List ℕ). GoesOnward limits damage s c.work-work.result c.go_on.new.work onward) c.split_at.ensures.back c.in-Ok.ensures.onward in
     let goes = subst (λ w. GoesOnward limits damage (drop damage b) w c.go_on.new.work onward) c.work-work.ensures left in
-    let done = goes_on_in limits b damage c.args.resync.now c.go_on.new.work onward within bound goes old new c.told.result refl c.told.ensures in
+    let done : GoesOnIn limits b damage old new c.args.resync.now c.told.result =
+    goes_on_in limits b damage c.args.resync.now c.go_on.new.work onward within bound goes refl c.told.ensures in
     let code : Returns status.Done (to_z w32 (of_z w32 c.number-in-Ok.result)) = search rules in
     inl ((subst (λ (d : ℕ). d < length b) at within, bound), few, subst (λ (d : ℕ). GoesOnIn limits b d old new c.args.resync.now c.told.result) at done, code)

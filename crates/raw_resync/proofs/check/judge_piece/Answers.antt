@@ -20,6 +20,6 @@ returns-clause-judged c =
     let same : bytes_of c.in-Ok.document ≡ piece = c.in-Ok.ensures.same ∙ ap (λ n. take n (drop c.args.place p.bytes.now)) size in
     if_ok (Judges p.limits (bytes_of c.in-Ok.document) (p.at + (c.args.place + c.args.len)) c.args.work.now c.judge.new.work)
     (JudgesPiece p.limits p.bytes.now p.is_last p.at c.args.place c.args.len c.args.work.now c.judge.new.work) c.judge.result
-    (λ judged is. judges_piece p.limits p.bytes.now p.is_last p.at c.args.place c.args.len c.args.work.now c.judge.new.work judged c.requires.1 c.requires.2
+    (λ judged is. judges_piece p.limits p.bytes.now p.at c.args.place c.args.len c.args.work.now c.judge.new.work judged c.requires.1 c.requires.2
     c.judge.ensures.work (subst (λ b. Judges p.limits b (p.at + (c.args.place + c.args.len)) c.args.work.now c.judge.new.work judged) same is))
     c.judge.ensures.judged

@@ -1,4 +1,4 @@
-use Rattle.std.proofs.Common.{◌≡◌, ◌-◌, ◌<◌, rules, arith, length, subst, false}
+use Rattle.std.proofs.Common.{◌≡◌, ◌-◌, ◌<◌, rules, arith, length, subst}
 use Rattle.raw_resync.specs.Seeking.{Checks}
 use Rattle.raw_resync.proofs.Passing.{has_passed_lacking, has_passed_left, has_passed_stop, left_within, sought_found, sought_nowhere, sought_wants, stops_within}
 use Rattle.raw_resync.proofs.search.seek.Goals as goal
@@ -11,7 +11,7 @@ returns-in-GoesOn-clause-sought c =
     let least : c.saturating_sub-least.result ≡ c.args.places.end - l.place = search rules in
     let high : l.place < c.args.places.until = omega (arith, c.looks-test.true) in
     let told = subst (Checks p.limits p.bytes.now p.is_last p.at l.place c.saturating_sub-least.result l.work c.check_at.new.work) c.in-GoesOn.is c.in_ok-check_at.ensures.checked in
-    sought_found p.limits p.bytes.now p.is_last p.at c.args.places l.place c.saturating_sub-least.result c.args.work.now l.work c.check_at.new.work l.all l.invariant.2 least high told
+    sought_found c.args.places l.invariant.2 least high told
 
 pub returns-in-Wants-clause-sought : goal.returns-in-Wants-clause-sought
 returns-in-Wants-clause-sought c =
@@ -20,8 +20,7 @@ returns-in-Wants-clause-sought c =
     let least : c.saturating_sub-least.result ≡ c.args.places.end - l.place = search rules in
     let high : l.place < c.args.places.until = omega (arith, c.looks-test.true) in
     let told = subst (Checks p.limits p.bytes.now p.is_last p.at l.place c.saturating_sub-least.result l.work c.check_at.new.work) c.in-Wants.is c.in_ok-check_at.ensures.checked in
-    sought_wants p.limits p.bytes.now p.is_last p.at c.args.places l.place c.saturating_sub-least.result c.args.work.now l.work c.check_at.new.work l.all l.invariant.2 least high
-    c.in-Wants.count told
+    sought_wants c.args.places l.invariant.2 least high c.in-Wants.count told
 
 pub next_place-place-requires : goal.next_place-place-requires
 next_place-place-requires c =
@@ -51,20 +50,16 @@ looks-preserved c =
           rw w.all-is (
             c.check_at.ensures.work,
             c.next_place-place.ensures.within,
-            has_passed_lacking p.limits p.bytes.now p.is_last p.at c.args.places.from l.place next c.args.places.end c.args.work.now c.check_at.new.work l.all
-                c.next_place-place.ensures.next c.next_place-place.ensures.inside c.next_place-place.ensures.none
-                (has_passed_stop p.limits p.bytes.now p.is_last p.at c.args.places.from l.place c.args.places.end c.saturating_sub-least.result c.args.work.now l.work
-                c.check_at.new.work l.all l.invariant.2 least
+            has_passed_lacking l.place next c.next_place-place.ensures.next c.next_place-place.ensures.inside c.next_place-place.ensures.none
+                (has_passed_stop l.invariant.2 least
                 (subst (Checks p.limits p.bytes.now p.is_last p.at l.place c.saturating_sub-least.result l.work c.check_at.new.work) w.in-Stops.is checked)),
           )
       | in-LeftOut w ↦
           rw w.all-is (
             c.check_at.ensures.work,
             c.next_place-place.ensures.within,
-            has_passed_lacking p.limits p.bytes.now p.is_last p.at c.args.places.from l.place next c.args.places.end c.args.work.now c.check_at.new.work false
-                c.next_place-place.ensures.next c.next_place-place.ensures.inside c.next_place-place.ensures.none
-                (has_passed_left p.limits p.bytes.now p.is_last p.at c.args.places.from l.place c.args.places.end c.saturating_sub-least.result c.args.work.now l.work
-                c.check_at.new.work l.all l.invariant.2 least
+            has_passed_lacking l.place next c.next_place-place.ensures.next c.next_place-place.ensures.inside c.next_place-place.ensures.none
+                (has_passed_left l.invariant.2 least
                 (subst (Checks p.limits p.bytes.now p.is_last p.at l.place c.saturating_sub-least.result l.work c.check_at.new.work) w.in-LeftOut.is checked)),
           )
     ]

@@ -14,6 +14,6 @@ returns c =
     let parts = c.of_element-parts.result in
     let kind = ap (λ (k : ElementType). let g : Frame = record { kind = k; key = key; payload = payload_of_parts parts } in g) c.of_element-parts.ensures.kind in
     let payload = ap (λ (p : List ℕ). let g : Frame = record f { key = key; payload = p } in g) c.of_element-parts.ensures.payload in
-    appended_iter c.args.bytes.now c.args.iter.now f c.as_bytes.result.now parts c.args.self.now c.add_under.new.self c.args.room.now c.add_under.new.room
+    appended_iter c.as_bytes.result.now parts c.args.self.now c.add_under.new.self c.args.room.now c.add_under.new.room
     (c.requires, c.is_begun.ensures.0 c.if-not-is_begun.false) c.in-Some.ensures.there
     (c.as_bytes.ensures.value ∙ c.key.ensures) (kind ∙ payload) c.add_under.ensures

@@ -22,7 +22,7 @@ returns-in-String c =
     let none = no_value (place_of_none b) (tag_of (kind_of_raw v)) in
     let kept : c.of_kind-none.result ≡ none = c.of_kind-none.ensures ∙ ap (λ (w : RawValue). no_value (place_of_none b) (tag_of (kind_of_raw w))) is in
     let there = stands_inside b p c.in-String.text.now c.args.at _ 4 _ c.requires.there part in
-    subst (λ (w : RawValue). SaysValue b c.args.at w c.text.result) (sym is) (says_part b none c.of_kind-none.result c.text.result kept c.in-String.text.now _ _ _ there refl refl c.text.ensures)
+    subst (λ (w : RawValue). SaysValue b c.args.at w c.text.result) (sym is) (says_part c.text.result kept (record { there = there; place_is = refl; size_is = refl }) c.text.ensures)
 
 pub returns-in-JavaScriptCode : goal.returns-in-JavaScriptCode
 returns-in-JavaScriptCode c =
@@ -35,8 +35,7 @@ returns-in-JavaScriptCode c =
     let kept : c.of_kind-none.result ≡ none = c.of_kind-none.ensures ∙ ap (λ (w : RawValue). no_value (place_of_none b) (tag_of (kind_of_raw w))) is in
     let there = stands_inside b p c.in-JavaScriptCode.text.now c.args.at _ 4 _ c.requires.there part in
     subst (λ (w : RawValue). SaysValue b c.args.at w c.text-in-JavaScriptCode.result) (sym is)
-    (says_part b none c.of_kind-none.result c.text-in-JavaScriptCode.result kept c.in-JavaScriptCode.text.now _ _ _ there refl refl
-    c.text-in-JavaScriptCode.ensures)
+    (says_part c.text-in-JavaScriptCode.result kept (record { there = there; place_is = refl; size_is = refl }) c.text-in-JavaScriptCode.ensures)
 
 pub returns-in-Symbol : goal.returns-in-Symbol
 returns-in-Symbol c =
@@ -49,7 +48,7 @@ returns-in-Symbol c =
     let kept : c.of_kind-none.result ≡ none = c.of_kind-none.ensures ∙ ap (λ (w : RawValue). no_value (place_of_none b) (tag_of (kind_of_raw w))) is in
     let there = stands_inside b p c.in-Symbol.text.now c.args.at _ 4 _ c.requires.there part in
     subst (λ (w : RawValue). SaysValue b c.args.at w c.text-in-Symbol.result) (sym is)
-    (says_part b none c.of_kind-none.result c.text-in-Symbol.result kept c.in-Symbol.text.now _ _ _ there refl refl c.text-in-Symbol.ensures)
+    (says_part c.text-in-Symbol.result kept (record { there = there; place_is = refl; size_is = refl }) c.text-in-Symbol.ensures)
 
 pub returns-in-Binary : goal.returns-in-Binary
 returns-in-Binary c =
@@ -62,8 +61,8 @@ returns-in-Binary c =
     let kept : c.of_kind-none.result ≡ none = c.of_kind-none.ensures ∙ ap (λ (w : RawValue). no_value (place_of_none b) (tag_of (kind_of_raw w))) is in
     let there = stands_inside b p c.in-Binary.binary.bytes.now c.args.at _ _ _ c.requires.there part.0 in
     subst (λ (w : RawValue). SaysValue b c.args.at w c.subtype.result) (sym is)
-    (says_binary b none c.of_kind-none.result c.subtype.result kept c.in-Binary.binary.bytes.now _ _ _ there
-    (omega (arith, c.len-len.ensures, part.1)) refl c.text-in-Binary.result _ c.to_u8.result c.to_u8.ensures c.text-in-Binary.ensures c.subtype.ensures)
+    (says_binary c.subtype.result kept (record { there = there; place_is = omega (arith, c.len-len.ensures, part.1); size_is = refl })
+    c.text-in-Binary.result _ c.to_u8.result c.to_u8.ensures c.text-in-Binary.ensures c.subtype.ensures)
 
 pub returns-in-RegularExpression : goal.returns-in-RegularExpression
 returns-in-RegularExpression c =
@@ -79,8 +78,8 @@ returns-in-RegularExpression c =
     let first = subst (λ (n : ℕ). StandsAt b n (length pattern) pattern) (omega arith) (stands_inside b p pattern c.args.at _ 0 _ c.requires.there part.0) in
     let second = stands_inside b p options c.args.at _ _ _ c.requires.there part.1 in
     subst (λ (w : RawValue). SaysValue b c.args.at w c.more.result) (sym is)
-    (says_parts b none c.of_kind-none.result c.more.result kept pattern _ _ _ first refl refl c.text-in-RegularExpression.result options _ _ _ second refl
-    refl c.text-in-RegularExpression.ensures c.more.ensures)
+    (says_parts c.more.result kept (record { there = first; place_is = refl; size_is = refl }) c.text-in-RegularExpression.result
+    (record { there = second; place_is = refl; size_is = refl }) c.text-in-RegularExpression.ensures c.more.ensures)
 
 pub returns-in-DbPointer : goal.returns-in-DbPointer
 returns-in-DbPointer c =
@@ -96,9 +95,9 @@ returns-in-DbPointer c =
     let first = stands_inside b p namespace c.args.at _ 4 _ c.requires.there part.0 in
     let second = stands_inside b p id c.args.at _ _ _ c.requires.there part.1 in
     subst (λ (w : RawValue). SaysValue b c.args.at w c.more-in-DbPointer.result) (sym is)
-    (says_parts b none c.of_kind-none.result c.more-in-DbPointer.result kept namespace _ _ _ first refl
-    (omega (arith, c.len-in-DbPointer.ensures, part.2)) c.text-in-DbPointer.result id _ _ _ second (omega (arith, c.len-len.ensures, part.2))
-    (sym part.3) c.text-in-DbPointer.ensures c.more-in-DbPointer.ensures)
+    (says_parts c.more-in-DbPointer.result kept (record { there = first; place_is = refl; size_is = omega (arith, c.len-in-DbPointer.ensures, part.2) })
+    c.text-in-DbPointer.result (record { there = second; place_is = omega (arith, c.len-len.ensures, part.2); size_is = sym part.3 })
+    c.text-in-DbPointer.ensures c.more-in-DbPointer.ensures)
 
 pub returns-in-JavaScriptCodeWithScope : goal.returns-in-JavaScriptCodeWithScope
 returns-in-JavaScriptCodeWithScope c =
@@ -115,6 +114,6 @@ returns-in-JavaScriptCodeWithScope c =
     let first = stands_inside b p code c.args.at _ 8 _ c.requires.there part.0 in
     let second = stands_inside b p scope c.args.at _ _ _ c.requires.there part.1 in
     subst (λ (w : RawValue). SaysValue b c.args.at w c.more-in-JavaScriptCodeWithScope.result) (sym is)
-    (says_parts b none c.of_kind-none.result c.more-in-JavaScriptCodeWithScope.result kept code _ _ _ first refl refl
-    c.text-in-JavaScriptCodeWithScope.result scope _ _ _ second
-    (omega (arith, c.len-len.ensures, size, part.2)) size c.text-in-JavaScriptCodeWithScope.ensures c.more-in-JavaScriptCodeWithScope.ensures)
+    (says_parts c.more-in-JavaScriptCodeWithScope.result kept (record { there = first; place_is = refl; size_is = refl })
+    c.text-in-JavaScriptCodeWithScope.result (record { there = second; place_is = omega (arith, c.len-len.ensures, size, part.2); size_is = size })
+    c.text-in-JavaScriptCodeWithScope.ensures c.more-in-JavaScriptCodeWithScope.ensures)
