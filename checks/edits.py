@@ -24,10 +24,11 @@ The first is well, the second is told, so that somebody mends the edit, and the 
 kept at once in ~/.cache/foyeranise, by a checksum of all that it rests on, and --anew ignores these. The proofs that edits
 are tried over go on from what `rt check` left in the crates' out/, but with --from-nothing. With --beside, a run of `rt ci` in
 this folder proves the crates as they are: the edits of a crate begin once the file that is named says so, over the
-libraries that the run left, and only the edited functions and what they call are proved. --leave leaves what the check of
-a crate kept, for the crate's build. Two flags prove nothing, and look at the edits of must-fail/ too: --applies sees
-that each edit applies, and --compiles that each edited text compiles, many edits in a copy, over the libraries that
-`rt check` built.
+libraries that the run left, and only the edited functions are proved. A function of the crate that is not edited, and that the
+run noted as proved, has a hole for its proof: of what an edited one calls, its proof needs the contract alone. So what has no
+complaint, and depends on such a hole alone, is still proved. --leave leaves what the check of
+a crate kept, for the crate's build. Two flags prove nothing: --applies sees that each edit applies, and --compiles that
+each edited text compiles, many edits in a copy, over the libraries that `rt check` built.
 """
 
 import argparse
@@ -55,6 +56,13 @@ REFUSED, NAME_ALONE, NOT_REFUSED, BAD = "refused", "only for a name", "not refus
 
 # checks a crate of a copy of the repository over the libraries in the copy's out/ folders
 OVER = '. "$0/bin/build.sh"; root=$1; shift; over check "$@"'
+
+# a proof that isn't there, of a function whose contract is all that is needed of it
+HOLE = """use Rattle.{module}.Statement.{{statement}}
+
+pub {name}_spec : {{M : Type 1}} → statement M
+{name}_spec = ?
+"""
 
 # complaints that a proof names what isn't there any more
 NAMES_LOST = re.compile(r"has no field|is not in scope|has no `|was not admitted|is no name")
@@ -172,8 +180,9 @@ class Said:
         return [it for part in sorted(self.parts_of(functions)) for it in self.complaints.get(part, [])]
 
     def are_proved(self, functions):
+        """Returns whether these are proved, but for the holes of functions that aren't edited."""
         own = [self.states[it] for it in self.parts_of(functions) if it in self.states]
-        return bool(own) and all(it in ("proved", "no holes") for it in own)
+        return bool(own) and all(it in ("proved", "no holes") or it.startswith("depends on a hole in ") for it in own)
 
     def waited_for(self, functions):
         """Returns the functions whose proofs those of these wait for, at first hand or through others."""
@@ -224,8 +233,9 @@ class Prover:
 
     def __init__(self, top, jobs, keep, from_nothing, leave=None):
         self.top, self.jobs, self.keep, self.leave, self.checks = top, jobs, keep, leave, 0
-        # crates whose edits are tried over the libraries of a run beside, and the libraries that were taken for that
-        self.over, self.taken = set(), set()
+        # crates whose edits are tried over the libraries of a run beside, with the functions that it proved, and the
+        # libraries that were taken for that
+        self.over, self.taken = {}, set()
         self.counting, self.taking = threading.Lock(), threading.Lock()
         self.room = pathlib.Path(tempfile.mkdtemp(prefix="edits-"))
         self.proved = self.copy("proved")
@@ -297,15 +307,39 @@ class Prover:
         folder = copy / "crates" / crate
         (folder / "out").mkdir(exist_ok=True)
         share_work(self.room / "kept", copy, crate, "incremental")
+        if crate in self.over and "--only" in flags:
+            self.put_holes(folder, crate, set(flags))
         for file, text in texts.items():
             (folder / file).write_text(text)
         ran = self.check(copy, crate, *flags)
+        if elsewhere := re.findall(r"proofs/(\S+)/Proof\.antt: error\[reserved-name\]", ran.stdout):
+            # (functions that call themselves, whose proof is at another place)
+            self.over[crate] = [it for it in self.over[crate] if "/".join(it.split("::")[1:]) not in elsewhere]
+            for it in elsewhere:
+                (folder / "proofs" / it / "Proof.antt").unlink(missing_ok=True)
+            ran = self.check(copy, crate, *flags)
         for file in texts:
             shutil.copyfile(self.top / "crates" / crate / file, folder / file)
         if crate in self.over:
-            # (what is proved here needn't be proved in the next round)
+            # (what is proved and read here needn't be proved and read in the next round)
             share_work(copy, self.room / "kept", crate, "incremental")
         return ran
+
+    def put_holes(self, folder, crate, asked):
+        """Puts a hole for the proof of each function that the run beside proved, but for those that are asked for."""
+        shutil.rmtree(folder / "proofs", ignore_errors=True)
+        if (self.top / "crates" / crate / "proofs").is_dir():
+            shutil.copytree(self.top / "crates" / crate / "proofs", folder / "proofs")
+        for function in self.over[crate]:
+            path = function.split("::")[1:]
+            # (a closure's proof is its function's)
+            if "::".join(path) in asked or "fn" in path or not all(re.fullmatch(r"\w+", it) for it in path):
+                continue
+            place = folder / "proofs" / "/".join(path)
+            place.mkdir(parents=True, exist_ok=True)
+            for it in ("Answers.antt", "Invariants.antt"):
+                (place / it).unlink(missing_ok=True)
+            (place / "Proof.antt").write_text(HOLE.format(module=".".join([crate, "proofs", *path]), name=path[-1]))
 
     def only(self, crate, now):
         """Returns the flags for a check of what these edits change alone, where nothing else of the crate has to be proved here."""
@@ -372,7 +406,11 @@ def try_round(prover, crate, now, texts):
     said = Said(crate, ran.stdout)
     edited = set().union(*[it.functions for it in now])
     why = said.unreadable() or said.beyond(edited)
-    if why and len(now) == 1:
+    if why and prover.over.get(crate):
+        # (it may be a hole's fault)
+        prover.over[crate] = []
+        try_rounds(prover, crate, now, prover.top / "crates" / crate)
+    elif why and len(now) == 1:
         now[0].settle(BAD, why)
     elif why:
         # one of them is bad
@@ -456,11 +494,11 @@ class Store:
         new.rename(self.place(edit))
 
 
-def edits_of(top, crates, *folders):
-    """Returns the edits in these folders of the crates; one that can't be applied is settled."""
+def edits_of(top, crates):
+    """Returns the edits of these crates; one that can't be applied is settled."""
     found = []
     for crate in crates:
-        for path in sorted(it for folder in folders for it in (top / "crates" / crate / folder).glob("*.edit")):
+        for path in sorted((top / "crates" / crate / "edits").glob("*.edit")):
             edit = Edit.read(crate, path)
             texts = edit.applied(top / "crates" / crate, {})
             if texts is None:
@@ -495,20 +533,21 @@ def compile_all(top, edits, jobs):
 
 
 class Beside:
-    """A run of `rt ci` in the same folder, which notes each crate in a file as it is proved, and a line `.` at its end."""
+    """A run of `rt ci` in the same folder, which notes each crate in a file as it is proved, behind a line `fn NAME` for each
+    function of it, and a line `.` at its end."""
 
     def __init__(self, top, file):
         self.top, self.file = top, file
 
     def crates(self, wanted):
-        """Gives these crates, each as soon as it is proved and the libraries below it are there."""
+        """Gives these crates, and their functions, each as soon as it is proved and the libraries below it are there."""
         left = list(wanted)
         while left:
             noted = self.file.read_text().split("\n")[:-1] if self.file.is_file() else []
             for crate in [it for it in left if it in noted]:
                 left.remove(crate)
                 if all((self.top / "crates" / it / f"out/rlib/{it}.rlib").is_dir() for it in libraries(self.top)[crate]):
-                    yield crate
+                    yield crate, [it[3:] for it in noted if it.startswith(f"fn {crate}::")]
             if "." in noted:
                 return
             time.sleep(1)
@@ -521,8 +560,8 @@ def try_all(top, edits, jobs, at_once, keep, from_nothing, leave, beside):
         with concurrent.futures.ThreadPoolExecutor(at_once) as pool:
             start = lambda crate: pool.submit(try_crate, prover, crate, [it for it in edits if it.crate == crate])
             tried, wanted = [], [it for it in libraries(top) if any(edit.crate == it for edit in edits)]
-            for crate in Beside(top, beside).crates(wanted) if beside else ():
-                prover.over.add(crate)
+            for crate, functions in Beside(top, beside).crates(wanted) if beside else ():
+                prover.over[crate] = functions
                 tried.append(start(crate))
             tried += prove_and_try(prover, [it for it in wanted if it not in prover.over], edits, start)
             for it in tried:
@@ -563,8 +602,7 @@ def main():
 
     begun = time.monotonic()
     proves = not (given.applies or given.compiles)
-    folders = ("edits",) if proves else ("edits", "must-fail")
-    edits = edits_of(given.top, given.crates or libraries(given.top), *folders)
+    edits = edits_of(given.top, given.crates or libraries(given.top))
     checks = 0
     if given.compiles:
         checks = compile_all(given.top, edits, given.jobs)

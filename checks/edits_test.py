@@ -1,5 +1,8 @@
-"""Tests of edits.py, on a crate of two functions of which one calls the other. Each check takes some ten seconds."""
+"""Tests of edits.py, on a crate of two functions of which one calls the other. Each check takes some ten seconds, so the tests run at
+once, but for those that are named."""
 
+import concurrent.futures
+import os
 import pathlib
 import shutil
 import subprocess
@@ -35,6 +38,9 @@ pub fn after_next(x: u8) -> u16
 
 NEXT_IS_WRONG = ("x as u16 + 1", "x as u16 + 2")
 
+# what a run of `rt ci` notes of the crate
+PROVED = "fn tiny::next\nfn tiny::after_next\ntiny\n.\n"
+
 
 def edit(*changes, functions=None):
     lines = [f"fn: {functions}"] if functions else []
@@ -61,40 +67,44 @@ class Edits(unittest.TestCase):
         ran = subprocess.run(words, stdout=subprocess.PIPE, stderr=subprocess.STDOUT, text=True)
         return ran.returncode, ran.stdout
 
-    def test_wrong_bodies_are_refused(self):
-        status, printed = self.tried({
-            "next_is_wrong": edit(NEXT_IS_WRONG, functions="next"),
-            "after_next_is_wrong": edit(("next(x) + 1", "next(x) + 2"), functions="after_next"),
-            "the_file_is_wrong": edit(NEXT_IS_WRONG),
-        }, "--leave", "tiny", str(self.top / "kept"))
-        self.assertEqual(status, 0, printed)
-        self.assertTrue(any((self.top / "kept").iterdir()))
-        self.assertIn("edits: 3 of 3 are refused", printed)
-
-    def beside(self, lines, edits):
-        """Returns the run of these edits beside a run that noted these lines, and whether it left what its check kept."""
+    def beside(self, lines, edits, *flags):
+        """Returns the run of these edits beside a run that noted these lines."""
         (self.top / "bin").mkdir(exist_ok=True)
         shutil.copy(SCRIPT.parent.parent / "bin/build.sh", self.top / "bin")
         (self.top / "noted").write_text(lines)
+        return self.tried(edits, "--from-nothing", "--beside", str(self.top / "noted"), *flags)
+
+    def leaving(self, lines, edits):
+        """Returns the same, which has to leave what the check of the crate kept."""
         kept = self.top / "kept"
-        status, printed = self.tried(edits, "--from-nothing", "--beside", str(self.top / "noted"), "--leave", "tiny", str(kept))
+        status, printed = self.beside(lines, edits, "--leave", "tiny", str(kept))
         self.assertTrue(any(kept.iterdir()), printed)
         return status, printed
 
     def test_wrong_bodies_are_refused_beside_a_run(self):
-        status, printed = self.beside("tiny\n.\n", {
-            "next_is_wrong": edit(NEXT_IS_WRONG, functions="next"),
-            "next_is_right": edit(("x as u16 + 1", "1 + x as u16"), functions="next"),
+        # (the first has to be tried without the last; the second is tried over a hole for the proof of `next`)
+        status, printed = self.beside(PROVED, {
+            "after_next_is_the_same": edit(("next(x) + 1", "1 + next(x)"), functions="after_next"),
             "after_next_is_wrong": edit(("next(x) + 1", "next(x) + 2"), functions="after_next"),
+            "next_is_wrong": edit(NEXT_IS_WRONG, functions="next"),
         })
         self.assertEqual(status, 1, printed)
-        self.assertIn("tiny/next_is_right: NOT REFUSED", printed)
+        self.assertIn("tiny/after_next_is_the_same: NOT REFUSED", printed)
         self.assertIn("edits: 2 of 3 are refused", printed)
 
-    def test_a_crate_that_the_run_beside_did_not_prove_is_proved_here(self):
-        status, printed = self.beside(".\n", {"next_is_wrong": edit(NEXT_IS_WRONG, functions="next")})
+    def test_the_work_of_a_crate_that_the_run_beside_proved_is_left(self):
+        status, printed = self.leaving(PROVED, {"next_is_wrong": edit(NEXT_IS_WRONG, functions="next")})
         self.assertEqual(status, 0, printed)
         self.assertIn("edits: 1 of 1 are refused", printed)
+
+    def test_a_crate_that_the_run_beside_did_not_prove_is_proved_here(self):
+        status, printed = self.leaving(".\n", {
+            "next_is_wrong": edit(NEXT_IS_WRONG, functions="next"),
+            "after_next_is_wrong": edit(("next(x) + 1", "next(x) + 2"), functions="after_next"),
+            "the_file_is_wrong": edit(NEXT_IS_WRONG),
+        })
+        self.assertEqual(status, 0, printed)
+        self.assertIn("edits: 3 of 3 are refused", printed)
 
     def test_borrows_that_wait_for_a_callee_are_no_verdict(self):
         line = (
@@ -130,11 +140,10 @@ class Edits(unittest.TestCase):
         self.assertIn("tiny/there_is_no_such_text: BAD: ", printed)
 
     def test_each_edit_compiles(self):
-        (self.top / "crates/tiny/must-fail").mkdir()
-        (self.top / "crates/tiny/must-fail/the_type_is_wrong.edit").write_text(edit(("x as u16 + 1", "x + 1")))
         status, printed = self.tried({
             "next_is_wrong": edit(NEXT_IS_WRONG, functions="next"),
             "after_next_is_wrong": edit(("next(x) + 1", "next(x) + 2"), functions="after_next"),
+            "the_type_is_wrong": edit(("x as u16 + 1", "x + 1")),
             "it_is_no_rattle": edit(("next(x) + 1", "next(x) +"), functions="after_next"),
         }, "--compiles")
         self.assertEqual(status, 1)
@@ -149,5 +158,17 @@ class Edits(unittest.TestCase):
         self.assertIn("tiny/next_is_wrong: BAD: tiny isn't proved as it is", printed)
 
 
+def test_at_once():
+    """Runs each test in a process of its own, and returns whether all passed."""
+    def run(name):
+        words = [sys.executable, "-B", __file__, f"Edits.{name}"]
+        return subprocess.run(words, stdout=subprocess.PIPE, stderr=subprocess.STDOUT, text=True)
+
+    with concurrent.futures.ThreadPoolExecutor(os.cpu_count()) as pool:
+        ran = list(pool.map(run, unittest.defaultTestLoader.getTestCaseNames(Edits)))
+    print(*[it.stdout for it in ran], sep="\n", end="")
+    return bool(ran) and not any(it.returncode for it in ran)
+
+
 if __name__ == "__main__":
-    unittest.main()
+    sys.exit(unittest.main() if sys.argv[1:] else not test_at_once())

@@ -1,5 +1,5 @@
 #!/bin/sh
-# Whether each file is laid out as `rt fmt` writes it, whether each edit of must-fail/ and edits/ applies to its file,
+# Whether each file is laid out as `rt fmt` writes it, whether each edit applies to its file and is in edits/,
 # whether tests alone may end the process, and whether specs and proofs keep to what proofs.py asks: what the gate would
 # refuse only after minutes, and the last `rt check` never.
 # It works on a copy of the sources, and first sees that what it looks for is found. It prints what isn't right, and gives
@@ -32,11 +32,20 @@ aborting() {
     done
 }
 
+# dear FOLDER: the folders whose edits rt ci would try one by one, each crate of them once more from nothing
+dear() {
+    for folder in "$1"/crates/*/must-fail; do
+        [ ! -e "$folder" ] || echo "$(basename "$(dirname "$folder")")/must-fail would have rt ci prove the crate once more: edits are in edits/"
+    done
+}
+
 mkdir -p "$work/tried/.git" "$work/tried/crates/bson_uses"
 cp crates.txt "$work/tried"
 cp -r "$work/all/crates/bson_uses/src" "$work/tried/crates/bson_uses"
-mkdir "$work/tried/crates/bson_uses/must-fail"
-printf 'file: src/lib.rt\nold: no such text\nnew: another\n' >"$work/tried/crates/bson_uses/must-fail/tried.edit"
+for folder in edits must-fail; do
+    mkdir "$work/tried/crates/bson_uses/$folder"
+    printf 'file: src/lib.rt\nold: no such text\nnew: another\n' >"$work/tried/crates/bson_uses/$folder/tried.edit"
+done
 printf '\nmod  tried;\n' >>"$work/tried/crates/bson_uses/src/lib.rt"
 echo 'use std::process::Abort;' >"$work/tried/crates/bson_uses/src/tried.rt"
 mkdir -p "$work/tried/crates/tried/proofs"
@@ -46,8 +55,8 @@ mkdir -p "$work/tried/crates/tried/proofs"
     printf '%0200d\n' 0
     printf '%0201d\n' 0
 } >"$work/tried/crates/tried/proofs/Tried.antt"
-tried=$(said "$work/tried" && aborting "$work/tried")$(checks/proofs.py "$work/tried/crates")
-for word in 'formatted src/lib.rt' 'tried.edit cannot be applied' 'src/tried.rt may end the process' \
+tried=$(said "$work/tried" && aborting "$work/tried" && dear "$work/tried")$(checks/proofs.py "$work/tried/crates")$(checks/edits.sh --applies --top "$work/tried")
+for word in 'formatted src/lib.rt' 'bson_uses/tried: BAD: an old text' 'bson_uses/must-fail would' 'src/tried.rt may end the process' \
     'Tried.antt:8: 201 columns' 'Tried.antt:1: lemma has 9 premises' 'Tried.antt:5: thirteen has 13 explicit arguments' \
     'Tried.antt:5: nothing cites thirteen'; do
     case $tried in
@@ -59,7 +68,7 @@ for word in 'formatted src/lib.rt' 'tried.edit cannot be applied' 'src/tried.rt 
     esac
 done
 
-found=$(said "$work/all" && aborting "$work/all")
+found=$(said "$work/all" && aborting "$work/all" && dear "$work/all")
 long=$(checks/proofs.py crates) || found=$found$long
 applying=$(checks/edits.sh --applies) || found=$found$applying
 [ -z "$found" ] && exit 0
