@@ -8,6 +8,7 @@ mod doubles;
 mod error;
 mod leaf;
 mod level;
+mod plain;
 mod print;
 mod put;
 mod quote;

@@ -6,6 +6,7 @@ ghost use Rattle.std.specs.Char.{digit_char};
 ghost use Rattle.std.specs.Io.KnownBytes.{Appends};
 ghost use Rattle.json.specs.Print.{escape, escape_byte, escape_letter, quoted};
 
+use crate::plain::is_plain;
 use crate::put::put;
 use std::io;
 use std::io::Write;
@@ -78,7 +79,8 @@ fn put_escape<W: Write>(out: &mut W, byte: u8) -> io::Result<()>
 }
 
 /// Writes the bytes of a text, escaped where JSON wants it.
-#[inline]
+#[cold]
+#[inline(never)]
 fn put_escaped<W: Write>(out: &mut W, bytes: &[u8]) -> io::Result<()>
     ensures { OnOk result (Appends (W.contents out.old) (W.contents out.new) (escape bytes.now)) }
 {
@@ -95,6 +97,17 @@ fn put_escaped<W: Write>(out: &mut W, bytes: &[u8]) -> io::Result<()>
     }
 }
 
+/// Writes the bytes of a text, in one part where none is escaped.
+#[inline]
+fn put_inside<W: Write>(out: &mut W, bytes: &[u8]) -> io::Result<()>
+    ensures { OnOk result (Appends (W.contents out.old) (W.contents out.new) (escape bytes.now)) }
+{
+    if is_plain(bytes) {
+        return put(out, bytes);
+    }
+    put_escaped(out, bytes)
+}
+
 /// Writes a text in quotes.
 #[inline]
 pub(crate) fn put_quoted<W: Write>(out: &mut W, text: &str) -> io::Result<()>
@@ -102,6 +115,6 @@ pub(crate) fn put_quoted<W: Write>(out: &mut W, text: &str) -> io::Result<()>
         (Appends (W.contents out.old) (W.contents out.new) (quoted text.now)) }
 {
     put(out, b"\"")?;
-    put_escaped(out, text.as_bytes())?;
+    put_inside(out, text.as_bytes())?;
     put(out, b"\"")
 }
