@@ -61,6 +61,16 @@ for levels in (20, 21):
         document = (len(document) + 8).to_bytes(4, "little") + b"\x03d\0" + document + b"\0"
     made["steps%d" % levels] = document
 made["most"] = (16793600).to_bytes(4, "little") + b"\x05b\0" + (16793600 - 13).to_bytes(4, "little") + b"\0" * (16793600 - 11)
+made["over.most"] = (16793601).to_bytes(4, "little") + b"\x05b\0" + (16793601 - 13).to_bytes(4, "little") + b"\0" * (16793601 - 11)
+lengths = [5 + 8 * level for level in range(2097152)]
+made["deep"] = b"".join(n.to_bytes(4, "little") + b"\x03d\0" for n in lengths[:0:-1]) + made["empty"] + b"\0" * 2097151
+made["deep.json"] = b'{"d":' * 2097151 + b"{}" + b"}" * 2097151 + b"\n"
+for name in ("repeated", "repeated.form"):
+    document = made[name]
+    for _ in range(500):
+        document = (len(document) + 8).to_bytes(4, "little") + b"\x03d\0" + document + b"\0"
+    made[name.replace("repeated", "inmost")] = document
+made["passed"] = made["under"] + made["repeated"] + made["one"] * 2
 made["long"] = b"\x02s\0\x41\0\0\0" + b"x" * 64 + b"\0\x02t\0\x42\0\0\0" + b"x" * 65 + b"\0"
 made["long"] = (len(made["long"]) + 5).to_bytes(4, "little") + made["long"] + b"\0"
 made["lost"] = made["one"] + made["under"] + made["one"] * 2
@@ -477,6 +487,65 @@ tried 'a level that is too deep, listed' 0
 status=$?
 [ "$status" = 0 ] && [ "$(wc -l <out)" = 2000000 ] || { echo "dumps.sh: a million documents, listed" >&2 && failed=1; }
 : >out
+
+# -- --max-bytes and --max-depth
+
+wants "$(one one 1 12 0 0 0 0 0 0)
+"
+run 'a document at the limit' 0 check --max-bytes 12 one
+wants '"one":0: unsound length 12: 12 bytes not read, --resync goes on
+'"$(one one 0 0 0 0 0 0 12 1)"'
+'
+run 'a document over the limit' 3 check --max-bytes=11 one
+wants '"one":0: unsound length 12: 12 bytes not read, --resync goes on
+"one": '"$(lengths 0 0 0 12 1)"'
+'"$(lengths 0 0 0 12 1)"'
+'
+run 'a document over the limit, counted' 3 count --max-bytes 11 one
+wants "$(one over.most 1 16793601 0 0 0 0 0 0)
+"
+run 'a document over the usual limit' 0 check --max-bytes 16793601 over.most
+wants '"passed":0: unsound length 4: 5 bytes passed over
+'"$(one passed 3 43 1 0 0 5 0 0)"'
+'
+sed -i '1a "passed":5: repeated-key at /1:"a", byte 11' wanted.out
+run 'documents within the limit, behind a wrong length' 3 check --resync --max-bytes 19 passed
+wants '"passed":0: unsound length 4: 24 bytes passed over
+'"$(one passed 2 24 0 0 0 24 0 0)"'
+'
+run 'a document over the limit, behind a wrong length' 3 check --resync --max-bytes 18 passed
+wants "$(one levels501 1 4005 0 0 0 0 0 0)
+"
+run 'levels at the limit' 0 check --max-depth 501 levels501
+wants '"nested":0: too deep at /0:"d", byte 4
+'"$(one nested 1 27 0 0 1 0 0 0)"'
+'
+run 'levels over the limit' 1 check --max-depth 1 nested
+wants '"nested":0: 27 bytes: too deep at /0:"d", byte 4
+  "d": EmbeddedDocument, 19 bytes
+    "c": Int32: 1
+    "c": Int32: 2
+'
+run 'levels over the limit, listed' 1 list --max-depth=1 nested
+wants '' '"nested":0: too deep at /0:"d", byte 4
+'"$(wrote 1 27 0 1 0 1 0 0 0)"'
+'
+run 'levels over the limit, left out' 1 sound --max-depth 1 nested
+wants '' "$(formed 1 4019 1 0 1 0 0 0 0 0)
+"
+cp inmost.form wanted.out
+run 'levels at the limit, in canonical form' 0 canon --max-depth 501 inmost
+wants "$(one deep 1 16777213 0 0 0 0 0 0)
+"
+run 'two million levels' 0 check --max-depth 2097152 deep
+wants '' "$(wrote 1 16777213 1 0 0 0 0 0 0)
+"
+cp deep.json wanted.out
+run 'two million levels as Extended JSON' 0 json --max-depth 2147483647 --max-bytes 2147483647 deep
+wants '"deep":0: too deep at '"$(python3 -c 'print("/0:\"d\"" * 10 + "/.." + "/0:\"d\"" * 10)')"', byte '"$((4 + 2097150 * 7))"'
+'"$(one deep 1 16777213 0 0 1 0 0 0)"'
+'
+run 'a level over two million' 1 check --max-depth 2097151 deep
 
 # -- --quiet
 
@@ -1021,7 +1090,8 @@ END
 wants "bsonraw-dump $(cat "$root/VERSION") (unreleased)
 "
 run 'the version' 0 --version
-for words in '' 'lost' 'check --lost' 'check -o output' 'count -o output' 'list --json' 'canon --canonical'; do
+for words in '' 'lost' 'check --lost' 'check -o output' 'count -o output' 'list --json' 'canon --canonical' \
+    'check --max-bytes 4 one' 'count --max-bytes 2147483648 one' 'check --max-depth 0 one' 'list --max-depth x one' 'bson --max-depth 1 many'; do
     # shellcheck disable=SC2086 # words
     "$program" $words >out 2>err </dev/null
     status=$?
@@ -1031,7 +1101,7 @@ for words in '' 'lost' 'check --lost' 'check -o output' 'count -o output' 'list 
 done
 for words in '--help' 'help' 'canon --help'; do
     # shellcheck disable=SC2086 # words
-    "$program" $words >out 2>err && [ -s out ] && [ ! -s err ] && continue
+    "$program" $words >out 2>err && grep -q '^Usage: bsonraw-dump ' out && [ ! -s err ] && continue
     echo "dumps.sh: bsonraw-dump $words prints no help" >&2
     failed=1
 done

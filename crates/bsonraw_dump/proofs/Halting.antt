@@ -5,7 +5,8 @@ use Rattle.bson_json.specs.Written.{AppendsFront}
 use Rattle.raw_resync.specs.Resync.{IsSound}
 use Rattle.raw_resync.specs.Seeking.{IsWork, no_work}
 use Rattle.raw_resync.specs.declared.work.Work.{Work}
-use Rattle.bsonraw_dump.specs.Find.{Account, limits}
+use Rattle.raw_tree.specs.declared.reader.limits.Limits.{Limits}
+use Rattle.bsonraw_dump.specs.Find.{Account}
 use Rattle.bsonraw_dump.specs.Fronts.{HasFront}
 use Rattle.bsonraw_dump.specs.Halting.{Halts, IsNextPiece, ReportsFront, HaltsAhead, HaltsIn, HaltsInGap, HaltsInside, HaltsLeaving, HaltsNext, HaltsOne}
 use Rattle.bsonraw_dump.specs.Reading.{TellsNext, ahead_of}
@@ -60,27 +61,27 @@ reports_front command.Unique style name offset b f told old new text other repor
 reports_front (command.Json form) style name offset b f told old new text other reports front = (front.front, (text, reports, (front.behind, front.whole)), front.put)
 
 -- a piece that is passed is one of which a front is
-pub halts_passed : (any : Bool) (c : Command) (style : Style) (name : List ℕ) (offset : ℕ) (b : List ℕ) (d d' w w' : Option (List ℕ)) (k k' : Kept) (f : Finding)
-    → MayPassOne any c style name offset b d d' w w' k k' (Some f) → HaltsOne any c style name offset b k d d' w w'
-halts_passed any c style name offset b d d' w w' k k' f (clean, (told, found, (made, makes, written), reported)) =
+pub halts_passed : (limits : Limits) (any : Bool) (c : Command) (style : Style) (name : List ℕ) (offset : ℕ) (b : List ℕ) (d d' w w' : Option (List ℕ)) (k k' : Kept) (f : Finding)
+    → MayPassOne limits any c style name offset b d d' w w' k k' (Some f) → HaltsOne limits any c style name offset b k d d' w w'
+halts_passed limits any c style name offset b d d' w w' k k' f (clean, (told, found, (made, makes, written), reported)) =
     inr (f, told, found, clean, inr (inr (_, (made, makes, refl), front_whole d d' _ written.is_written), reported))
 
 -- the document that is next is next in all that was to be read
-piece_next : (resync : Bool) (r r' : Option (List ℕ)) (x y : Window) (v v' : Work) (len : ℕ) → TellsPart resync r r' x y v v' (next.Document len)
-    → (s : List ℕ) → Consumes (Some s) r (ahead_of x) → IsNextPiece resync s x.offset v (take len (ahead_of y))
-piece_next resync r r' x y v v' len t s all =
+piece_next : {limits : Limits} (resync : Bool) (r r' : Option (List ℕ)) (x y : Window) (v v' : Work) (len : ℕ) → TellsPart limits resync r r' x y v v' (next.Document len)
+    → (s : List ℕ) → Consumes (Some s) r (ahead_of x) → IsNextPiece limits resync s x.offset v (take len (ahead_of y))
+piece_next {limits} resync r r' x y v v' len t s all =
     let size : length (take len (ahead_of y)) ≡ len = length-take-le len (ahead_of y) t.ahead.0 in
     record {
       in_front = first_front s (ahead_of y) len (ahead_front s (ahead_of y) r' (t.searches.stays.looks.is_read (Some s) all));
       work_new = v';
-      believed = λ asked. subst (λ (m : ℕ). IsBelieved s x.offset m v') (sym size) (t.is s all asked);
+      believed = λ asked. subst (λ (m : ℕ). IsBelieved limits s x.offset m v') (sym size) (t.is s all asked);
       spends = t.searches.spends s all;
     }
 
-module _ (c : Command) (style : Style) (resync : Bool) (name : List ℕ) (r r' d d' w w' : Option (List ℕ)) (x y : Window) (v v' : Work) (k : Kept) (len : ℕ) where
+module _ {limits : Limits} (c : Command) (style : Style) (resync : Bool) (name : List ℕ) (r r' d d' w w' : Option (List ℕ)) (x y : Window) (v v' : Work) (k : Kept) (len : ℕ) where
   -- a front of what is taken at its length
-  pub halts_taken : (any : Bool) → TellsPart resync r r' x y v v' (next.Document len) → HaltsOne any c style name y.offset (take len (ahead_of y)) k d d' w w'
-      → HaltsNext c style resync name r x v k d d' w w'
+  pub halts_taken : (any : Bool) → TellsPart limits resync r r' x y v v' (next.Document len) → HaltsOne limits any c style name y.offset (take len (ahead_of y)) k d d' w w'
+      → HaltsNext limits c style resync name r x v k d d' w w'
   halts_taken any t (inl same) = inl same
   halts_taken any t (inr (f, told, found, clean, inside)) = inr (
     take len (ahead_of y),
@@ -90,18 +91,18 @@ module _ (c : Command) (style : Style) (resync : Bool) (name : List ℕ) (r r' d
   )
 
   -- or of what has no damage
-  pub halts_clean : IsWork v → TellsNext r r' x y 0 (next.Document len) → HaltsOne (not resync) c style name y.offset (take len (ahead_of y)) k d d' w w'
-      → v' ≡ v → HaltsNext c style resync name r x v k d d' w w'
+  pub halts_clean : IsWork v → TellsNext limits.bytes r r' x y 0 (next.Document len) → HaltsOne limits (not resync) c style name y.offset (take len (ahead_of y)) k d d' w w'
+      → v' ≡ v → HaltsNext limits c style resync name r x v k d d' w w'
   halts_clean work t (inl same) is = inl same
   halts_clean work t (inr (f, told, found, clean, inside)) is =
       let sound : resync ≡ true → IsSound limits (take len (ahead_of y)) = λ asked. judges_sound c (take len (ahead_of y)) f told t.is.1 found (clean (ap not asked)) in
-      halts_taken (not resync) (subst (λ (u : Work). TellsPart resync r r' x y v u (next.Document len)) (sym is) (tells_document resync r r' x y v len work sound t))
+      halts_taken (not resync) (subst (λ (u : Work). TellsPart limits resync r r' x y v u (next.Document len)) (sym is) (tells_document resync r r' x y v len work sound t))
       (inr (f, told, found, clean, inside))
 
-module _ (c : Command) (style : Style) (resync : Bool) (name : List ℕ) (r r' d d' w w' : Option (List ℕ)) (n n' : Counts) (k k' : Kept) where
+module _ {limits : Limits} (c : Command) (style : Style) (resync : Bool) (name : List ℕ) (r r' d d' w w' : Option (List ℕ)) (n n' : Counts) (k k' : Kept) where
   -- what is next isn't passed
-  halts_with : (d'' w'' : Option (List ℕ)) (n'' : Counts) (ahead : List ℕ) (ps : List Part) → Passed c style resync name ahead r r' d d' w w' n n' k k' ps → n'' ≡ n'
-      → HaltsAhead c style resync name r (length (bytes_of_parts ps)) (fold work_behind no_work ps) k' d' d'' w' w'' → Halts c style resync name r d d'' w w'' n n'' k
+  halts_with : (d'' w'' : Option (List ℕ)) (n'' : Counts) (ahead : List ℕ) (ps : List Part) → Passed limits c style resync name ahead r r' d d' w w' n n' k k' ps → n'' ≡ n'
+      → HaltsAhead limits c style resync name r (length (bytes_of_parts ps)) (fold work_behind no_work ps) k' d' d'' w' w'' → Halts limits c style resync name r d d'' w w'' n n'' k
   halts_with d'' w'' n'' ahead ps p counted halts = record {
     ps = ps;
     in_front = read_front (bytes_of_parts ps) ahead r r' p.is_read;
@@ -116,28 +117,28 @@ module _ (c : Command) (style : Style) (resync : Bool) (name : List ℕ) (r r' d
   }
 
   -- nothing comes of it
-  pub halts_here : (ahead : List ℕ) (ps : List Part) → Passed c style resync name ahead r r' d d' w w' n n' k k' ps → Halts c style resync name r d d' w w' n n' k
+  pub halts_here : (ahead : List ℕ) (ps : List Part) → Passed limits c style resync name ahead r r' d d' w w' n n' k k' ps → Halts limits c style resync name r d d' w w' n n' k
   halts_here ahead ps p = halts_with d' w' n' ahead ps p refl (inr (refl, inl refl))
 
   -- a front of the piece that is next, or nothing
-  pub halts_next : (d'' w'' : Option (List ℕ)) (n'' : Counts) (x : Window) (v : Work) → HasPassed c style resync name (ahead_of x) r r' d d' w w' n n' k k' x.offset v
-      → HaltsNext c style resync name r' x v k' d' d'' w' w'' → n'' ≡ n' → Halts c style resync name r d d'' w w'' n n'' k
+  pub halts_next : (d'' w'' : Option (List ℕ)) (n'' : Counts) (x : Window) (v : Work) → HasPassed limits c style resync name (ahead_of x) r r' d d' w w' n n' k k' x.offset v
+      → HaltsNext limits c style resync name r' x v k' d' d'' w' w'' → n'' ≡ n' → Halts limits c style resync name r d d'' w w'' n n'' k
   halts_next d'' w'' n'' x v h (inl (out, report)) counted = halts_with d'' w'' n'' (ahead_of x) h.ps h.passed counted (inr (out, inl report))
   halts_next d'' w'' n'' x v h (inr (b, is, there, halts)) counted =
       let bytes = bytes_of_parts h.ps in
       let work = fold work_behind no_work h.ps in
-      let here : (s : List ℕ) → Consumes (Some s) r' (ahead_of x) → IsNextPiece resync s (length bytes) work b = λ s all.
-      subst (λ (u : Work). IsNextPiece resync s (length bytes) u b) h.worked (subst (λ (m : ℕ). IsNextPiece resync s m v b) h.at (there s all)) in
+      let here : (s : List ℕ) → Consumes (Some s) r' (ahead_of x) → IsNextPiece limits resync s (length bytes) work b = λ s all.
+      subst (λ (u : Work). IsNextPiece limits resync s (length bytes) u b) h.worked (subst (λ (m : ℕ). IsNextPiece limits resync s m v b) h.at (there s all)) in
       halts_with d'' w'' n'' (ahead_of x) h.ps h.passed counted (inl (
         b,
         is,
-        input_behind bytes (ahead_of x) r r' (λ s. IsNextPiece resync s (length bytes) work b) h.passed.is_read here,
-        subst (λ (m : ℕ). HaltsIn c style name m b k' d' d'' w' w'') h.at halts,
+        input_behind bytes (ahead_of x) r r' (λ s. IsNextPiece limits resync s (length bytes) work b) h.passed.is_read here,
+        subst (λ (m : ℕ). HaltsIn limits c style name m b k' d' d'' w' w'') h.at halts,
       ))
 
   -- a front of the line of a gap
-  pub halts_gap : (r'' q w'' : Option (List ℕ)) (n'' : Counts) (x y z : Window) (v v' v'' : Work) (e : Ending) → HasPassed c style resync name (ahead_of x) r r' d d' w w' n n' k k' x.offset v
-      → TellsPart resync r' r'' x y v v' (next.End e) → resync ≡ true → HaltsInGap style name e r'' q y z v' v'' w' w'' → n'' ≡ n' → Halts c style resync name r d d' w w'' n n'' k
+  pub halts_gap : (r'' q w'' : Option (List ℕ)) (n'' : Counts) (x y z : Window) (v v' v'' : Work) (e : Ending) → HasPassed limits c style resync name (ahead_of x) r r' d d' w w' n n' k k' x.offset v
+      → TellsPart limits resync r' r'' x y v v' (next.End e) → resync ≡ true → HaltsInGap limits style name e r'' q y z v' v'' w' w'' → n'' ≡ n' → Halts limits c style resync name r d d' w w'' n n'' k
   halts_gap r'' q w'' n'' x y z v v' v'' e h t asked (inl same) counted = halts_with d' w'' n'' (ahead_of x) h.ps h.passed counted (inr (refl, inl same))
   halts_gap r'' q w'' n'' x y z v v' v'' e h t asked (inr (skip, skips, front)) counted =
       let bytes = bytes_of_parts h.ps in
@@ -147,8 +148,8 @@ module _ (c : Command) (style : Style) (resync : Bool) (name : List ℕ) (r r' d
       halts_with d' w'' n'' (ahead_of x) h.ps h.passed counted (inr (refl, inr (_, inl (_, is, refl), put)))
 
   -- a front of the line of what is left
-  pub halts_left : (r'' w'' : Option (List ℕ)) (n'' : Counts) (y : Window) (e : Ending) → PassesAll c style resync name r r' d d' w w' n n' k k' y (stop.Left e)
-      → HaltsLeaving style name e r' r'' y w' w'' → n'' ≡ n' → Halts c style resync name r d d' w w'' n n'' k
+  pub halts_left : (r'' w'' : Option (List ℕ)) (n'' : Counts) (y : Window) (e : Ending) → PassesAll limits c style resync name r r' d d' w w' n n' k k' y (stop.Left e)
+      → HaltsLeaving limits style name e r' r'' y w' w'' → n'' ≡ n' → Halts limits c style resync name r d d' w w'' n n'' k
   halts_left r'' w'' n'' y e p (inl same) counted = halts_with d' w'' n'' p.left p.ps p.passed counted (inr (refl, inl same))
   halts_left r'' w'' n'' y e p (inr (more, read, ends, front)) counted =
       let (ahead, at, first, behind, unasked) = p.stops in

@@ -4,12 +4,12 @@ use Rattle.std.proofs.Math.Seq.{drop-append_seam}
 use Rattle.std.proofs.lemmas.List.{take-append-drop}
 use Rattle.std.specs.Io.KnownBytes.{Consumes, Appends}
 use Rattle.std.proofs.KnownBytes.{Consumes-nil, Appends-nil, Appends-trans}
+use Rattle.raw_tree.specs.declared.reader.limits.Limits.{Limits}
 use Rattle.bsonraw_dump.proofs.Deciding.{judges_sound, place_since, tells_document, tells_other}
 use Rattle.bsonraw_dump.proofs.Skipping.{read_behind}
 use Rattle.bsonraw_dump.proofs.Writing.{writes_none, writes_more}
 use Rattle.std.proofs.lemmas.Grind.{flat_map-append, fold-append}
 use Rattle.bsonraw_dump.specs.Cut.{IsPiece}
-use Rattle.bsonraw_dump.specs.Find.{limits}
 use Rattle.bsonraw_dump.specs.Reading.{Looks, TellsNext, ahead_of}
 use Rattle.bsonraw_dump.specs.Resync.{BreaksWith, IsBelieved, IsNextPlace, SkipsTo, Spends, TellsPart}
 use Rattle.raw_resync.specs.Resync.{IsSound}
@@ -30,21 +30,22 @@ use Rattle.bsonraw_dump.specs.declared.window.Next.{Next}
 use Rattle.bsonraw_dump.specs.declared.window.Next.TheVariants as next
 use Rattle.bsonraw_dump.specs.declared.window.Window.{Window}
 
-module _ (c : Command) (style : Style) (resync : Bool) (name : List ℕ) where
-  parts_more : (input : Option (List ℕ)) (offset : ℕ) (work : Work) (ps : List Part) (p : Part) → AreParts c style resync name input offset work ps
-      → IsPart c style resync name input (offset + length (bytes_of_parts ps)) (fold work_behind work ps) p
-      → AreParts c style resync name input offset work (ps ++ p ∷ [])
-  parts_more input offset work [] p are is = (subst (λ (n : ℕ). IsPart c style resync name input n work p) (add-zero offset) is, tt)
+module _ (limits : Limits) (c : Command) (style : Style) (resync : Bool) (name : List ℕ) where
+  parts_more : (input : Option (List ℕ)) (offset : ℕ) (work : Work) (ps : List Part) (p : Part) → AreParts limits c style resync name input offset work ps
+      → IsPart limits c style resync name input (offset + length (bytes_of_parts ps)) (fold work_behind work ps) p
+      → AreParts limits c style resync name input offset work (ps ++ p ∷ [])
+  parts_more input offset work [] p are is = (subst (λ (n : ℕ). IsPart limits c style resync name input n work p) (add-zero offset) is, tt)
   parts_more input offset work (x ∷ ps) p (first, rest) is =
       let sum : offset + length (bytes_of_parts (x ∷ ps)) ≡ (offset + length (bytes_of_part x)) + length (bytes_of_parts ps) =
       ap (λ n. offset + n) (length-append (bytes_of_part x) (bytes_of_parts ps)) ∙ sym (add_assoc offset (length (bytes_of_part x)) (length (bytes_of_parts ps))) in
       let behind = work_behind work x in
-      (first, parts_more input (offset + length (bytes_of_part x)) behind ps p rest (subst (λ (n : ℕ). IsPart c style resync name input n (fold work_behind behind ps) p) sum is))
+      (first, parts_more input (offset + length (bytes_of_part x)) behind ps p rest (subst (λ (n : ℕ). IsPart limits c style resync name input n (fold work_behind behind ps) p) sum is))
 
 one_more : {A : Type 0} (f : Part → List A) (ps : List Part) (p : Part) → flat_map f ps ++ f p ≡ flat_map f (ps ++ p ∷ [])
 one_more f ps p = sym (flat_map-append f ps (p ∷ []) ∙ ap (λ xs. flat_map f ps ++ xs) (append-nil (f p)))
 
-pub passed_none : (c : Command) (style : Style) (resync : Bool) (name : List ℕ) (r d w : Option (List ℕ)) (n : Counts) (k : Kept) → Passed c style resync name [] r r d d w w n n k k []
+pub passed_none : {limits : Limits} (c : Command) (style : Style) (resync : Bool) (name : List ℕ) (r d w : Option (List ℕ)) (n : Counts) (k : Kept)
+    → Passed limits c style resync name [] r r d d w w n n k k []
 passed_none c style resync name r d w n k = record {
   parts = tt;
   is_read = Consumes-nil r;
@@ -63,8 +64,8 @@ input_behind bytes x (Some s) (Some rest) P read holds =
     subst P (sym behind) (holds (x ++ rest) refl)
 
 -- more is read ahead
-pub passed_ahead : (c : Command) (style : Style) (resync : Bool) (name x y : List ℕ) (r r' r'' d d' w w' : Option (List ℕ)) (n n' : Counts) (k k' : Kept) (ps : List Part)
-    → Passed c style resync name x r r' d d' w w' n n' k k' ps → Looks r' r'' x y → Passed c style resync name y r r'' d d' w w' n n' k k' ps
+pub passed_ahead : {limits : Limits} (c : Command) (style : Style) (resync : Bool) (name x y : List ℕ) (r r' r'' d d' w w' : Option (List ℕ)) (n n' : Counts) (k k' : Kept) (ps : List Part)
+    → Passed limits c style resync name x r r' d d' w w' n n' k k' ps → Looks r' r'' x y → Passed limits c style resync name y r r'' d d' w w' n n' k k' ps
 passed_ahead c style resync name x y r r' r'' d d' w w' n n' k k' ps p looks = record {
   parts = p.parts;
   is_read = read_behind (bytes_of_parts ps) x y r r' r'' p.is_read looks.is_read;
@@ -74,12 +75,12 @@ passed_ahead c style resync name x y r r' r'' d d' w w' n n' k k' ps p looks = r
 }
 
 -- one more part is passed, and these bytes are ahead then
-passed_more : (c : Command) (style : Style) (resync : Bool) (name x y : List ℕ) (r r' r'' d d' d'' w w' w'' : Option (List ℕ)) (n n' n'' : Counts) (k k' k'' : Kept) (ps : List Part) (p : Part)
-    → Passed c style resync name x r r' d d' w w' n n' k k' ps → IsPart c style resync name r (length (bytes_of_parts ps)) (fold work_behind no_work ps) p
+passed_more : {limits : Limits} (c : Command) (style : Style) (resync : Bool) (name x y : List ℕ) (r r' r'' d d' d'' w w' w'' : Option (List ℕ)) (n n' n'' : Counts) (k k' k'' : Kept)
+    (ps : List Part) (p : Part) → Passed limits c style resync name x r r' d d' w w' n n' k k' ps → IsPart limits c style resync name r (length (bytes_of_parts ps)) (fold work_behind no_work ps) p
     → ((before : Option (List ℕ)) → Consumes before r' x → Consumes before r'' (bytes_of_part p ++ y)) → Writes c (made_of_part p) d' d'' k' k'' → Appends w' w'' (lines_of_part p)
-    → n'' ≡ count_part n' p → Passed c style resync name y r r'' d d'' w w'' n n'' k k'' (ps ++ p ∷ [])
-passed_more c style resync name x y r r' r'' d d' d'' w w' w'' n n' n'' k k' k'' ps p passed is read written told counted = record {
-  parts = parts_more c style resync name r 0 no_work ps p passed.parts (subst (λ (n : ℕ). IsPart c style resync name r n (fold work_behind no_work ps) p) (sym (zero-add _)) is);
+    → n'' ≡ count_part n' p → Passed limits c style resync name y r r'' d d'' w w'' n n'' k k'' (ps ++ p ∷ [])
+passed_more {limits} c style resync name x y r r' r'' d d' d'' w w' w'' n n' n'' k k' k'' ps p passed is read written told counted = record {
+  parts = parts_more limits c style resync name r 0 no_work ps p passed.parts (subst (λ (n : ℕ). IsPart limits c style resync name r n (fold work_behind no_work ps) p) (sym (zero-add _)) is);
   is_read =
       let all = read_behind (bytes_of_parts ps) x (bytes_of_part p ++ y) r r' r'' passed.is_read read in
       subst (Consumes r r'') (sym (append_assoc (bytes_of_parts ps) (bytes_of_part p) y) ∙ ap (λ l. l ++ y) (one_more bytes_of_part ps p)) all;
@@ -92,39 +93,39 @@ bytes_more : (ps : List Part) (p : Part) → length (bytes_of_parts (ps ++ p ∷
 bytes_more ps p = ap length (sym (one_more bytes_of_part ps p)) ∙ length-append (bytes_of_parts ps) (bytes_of_part p)
 
 -- what the loop keeps: parts were passed, the next one begins behind them, and what the searches in them cost
-pub record HasPassed (c : Command) (style : Style) (resync : Bool) (name ahead : List ℕ) (r r' d d' w w' : Option (List ℕ)) (n n' : Counts) (k k' : Kept)
+pub record HasPassed (limits : Limits) (c : Command) (style : Style) (resync : Bool) (name ahead : List ℕ) (r r' d d' w w' : Option (List ℕ)) (n n' : Counts) (k k' : Kept)
     (offset : ℕ) (work : Work) : Type 0 where
   pub ps : List Part
-  pub passed : Passed c style resync name ahead r r' d d' w w' n n' k k' ps
+  pub passed : Passed limits c style resync name ahead r r' d d' w w' n n' k k' ps
   pub at : offset ≡ length (bytes_of_parts ps)
   pub worked : work ≡ fold work_behind no_work ps
 
-pub has_passed_none : (c : Command) (style : Style) (resync : Bool) (name ahead : List ℕ) (r d w : Option (List ℕ)) (n : Counts) (k : Kept) (offset : ℕ) (v : Work)
-    → ahead ≡ [] → offset ≡ 0 → v ≡ no_work → HasPassed c style resync name ahead r r d d w w n n k k offset v
-has_passed_none c style resync name ahead r d w n k offset v none start unworked = record {
+pub has_passed_none : {limits : Limits} (c : Command) (style : Style) (resync : Bool) (name ahead : List ℕ) (r d w : Option (List ℕ)) (n : Counts) (k : Kept) (offset : ℕ) (v : Work)
+    → ahead ≡ [] → offset ≡ 0 → v ≡ no_work → HasPassed limits c style resync name ahead r r d d w w n n k k offset v
+has_passed_none {limits} c style resync name ahead r d w n k offset v none start unworked = record {
   ps = [];
-  passed = subst (λ (x : List ℕ). Passed c style resync name x r r d d w w n n k k []) (sym none) (passed_none c style resync name r d w n k);
+  passed = subst (λ (x : List ℕ). Passed limits c style resync name x r r d d w w n n k k []) (sym none) (passed_none c style resync name r d w n k);
   at = start;
   worked = unworked;
 }
 
 -- a piece in front of the bytes ahead is passed
-pub has_passed_piece : (c : Command) (style : Style) (resync : Bool) (name x y z b : List ℕ) (r r' r'' d d' d'' w w' w'' : Option (List ℕ)) (n n' n'' : Counts)
+pub has_passed_piece : {limits : Limits} (c : Command) (style : Style) (resync : Bool) (name x y z b : List ℕ) (r r' r'' d d' d'' w w' w'' : Option (List ℕ)) (n n' n'' : Counts)
     (k k' k'' : Kept) (offset behind : ℕ) (v v' : Work) (f : Finding)
-    → HasPassed c style resync name x r r' d d' w w' n n' k k' offset v → Looks r' r'' x y → IsPiece b × (y ≡ b ++ z) × (behind ≡ offset + length b)
-    → ((s : List ℕ) → Consumes (Some s) r' x → (resync ≡ true → IsBelieved s offset (length b) v') × Spends s offset v v') → PassesOne c style name offset b d' d'' w' w'' k' k'' f
+    → HasPassed limits c style resync name x r r' d d' w w' n n' k k' offset v → Looks r' r'' x y → IsPiece limits.bytes b × (y ≡ b ++ z) × (behind ≡ offset + length b)
+    → ((s : List ℕ) → Consumes (Some s) r' x → (resync ≡ true → IsBelieved limits s offset (length b) v') × Spends limits s offset v v') → PassesOne limits c style name offset b d' d'' w' w'' k' k'' f
     → ((e : Entry) → length e.bytes ≡ length b → e.finding ≡ f → n'' ≡ count_entry n' e)
-    → HasPassed c style resync name z r r'' d d'' w w'' n n'' k k'' behind v'
-has_passed_piece c style resync name x y z b r r' r'' d d' d'' w w' w'' n n' n'' k k' k'' offset behind v v' f h looks (is, split, sum) taken passes counted =
+    → HasPassed limits c style resync name z r r'' d d'' w w'' n n'' k k'' behind v'
+has_passed_piece {limits} c style resync name x y z b r r' r'' d d' d'' w w' w'' n n' n'' k k' k'' offset behind v v' f h looks (is, split, sum) taken passes counted =
     let (told, found, (made, makes, put), (lines, reports, reported)) = passes in
     let bytes = bytes_of_parts h.ps in
     let e : Entry = record { bytes = b; finding = f; told = told; made = made; lines = lines; work = v' } in
-    let entry : IsEntry c style name (length bytes) e =
+    let entry : IsEntry limits c style name (length bytes) e =
     record { piece = is; found = found; makes = makes; reports = subst (λ (n : ℕ). Reports c style name n b f told lines) h.at reports } in
-    let here : (s : List ℕ) → Consumes (Some s) r' x → IsTaken resync s offset v e = λ s all. record { believed = (taken s all).0; spends = (taken s all).1 } in
-    let kept : IfSome r (λ s. IsTaken resync (drop (length bytes) s) (length bytes) (fold work_behind no_work h.ps) e) =
-    input_behind bytes x r r' (λ s. IsTaken resync s (length bytes) (fold work_behind no_work h.ps) e) h.passed.is_read
-    (λ s all. subst (λ (u : Work). IsTaken resync s (length bytes) u e) h.worked (subst (λ (m : ℕ). IsTaken resync s m v e) h.at (here s all))) in
+    let here : (s : List ℕ) → Consumes (Some s) r' x → IsTaken limits resync s offset v e = λ s all. record { believed = (taken s all).0; spends = (taken s all).1 } in
+    let kept : IfSome r (λ s. IsTaken limits resync (drop (length bytes) s) (length bytes) (fold work_behind no_work h.ps) e) =
+    input_behind bytes x r r' (λ s. IsTaken limits resync s (length bytes) (fold work_behind no_work h.ps) e) h.passed.is_read
+    (λ s all. subst (λ (u : Work). IsTaken limits resync s (length bytes) u e) h.worked (subst (λ (m : ℕ). IsTaken limits resync s m v e) h.at (here s all))) in
     let read : (before : Option (List ℕ)) → Consumes before r' x → Consumes before r'' (b ++ z) = λ before first. subst (Consumes before r'') split (looks.is_read before first) in
     record {
       ps = h.ps ++ piece e ∷ [];
@@ -134,87 +135,87 @@ has_passed_piece c style resync name x y z b r r' r'' d d' d'' w w' w'' n n' n''
     }
 
 -- the document in front of the bytes ahead is passed
-pub has_passed_front : (any : Bool) (c : Command) (style : Style) (resync : Bool) (name : List ℕ) (x y z : Window) (r r' r'' d d' d'' w w' w'' : Option (List ℕ))
+pub has_passed_front : {limits : Limits} (any : Bool) (c : Command) (style : Style) (resync : Bool) (name : List ℕ) (x y z : Window) (r r' r'' d d' d'' w w' w'' : Option (List ℕ))
     (n n' n'' : Counts) (k k' k'' : Kept) (len : ℕ) (v v' : Work)
-    → HasPassed c style resync name (ahead_of x) r r' d d' w w' n n' k k' x.offset v → TellsPart resync r' r'' x y v v' (next.Document len)
-    → PassesFront any c style name len y z d' d'' w' w'' n' n'' k' k''
-    → HasPassed c style resync name (ahead_of z) r r'' d d'' w w'' n n'' k k'' z.offset v'
-has_passed_front any c style resync name x y z r r' r'' d d' d'' w w' w'' n n' n'' k k' k'' len v v' h t p =
+    → HasPassed limits c style resync name (ahead_of x) r r' d d' w w' n n' k k' x.offset v → TellsPart limits resync r' r'' x y v v' (next.Document len)
+    → PassesFront limits any c style name len y z d' d'' w' w'' n' n'' k' k''
+    → HasPassed limits c style resync name (ahead_of z) r r'' d d'' w w'' n n'' k k'' z.offset v'
+has_passed_front {limits} any c style resync name x y z r r' r'' d d' d'' w w' w'' n n' n'' k k' k'' len v v' h t p =
     let b = take len (ahead_of y) in
     let stays = t.searches.stays in
     let split : ahead_of y ≡ b ++ ahead_of z = sym (take-append-drop len (ahead_of y)) ∙ ap (λ l. b ++ l) (sym p.ahead) in
     let size : length b ≡ len = length-take-le len (ahead_of y) t.ahead.0 in
-    let passes = subst (λ (m : ℕ). PassesOne c style name m b d' d'' w' w'' k' k'' p.finding) stays.offset p.passed in
+    let passes = subst (λ (m : ℕ). PassesOne limits c style name m b d' d'' w' w'' k' k'' p.finding) stays.offset p.passed in
     let sum : z.offset ≡ x.offset + length b = p.offset ∙ ap (λ m. m + len) stays.offset ∙ ap (λ m. x.offset + m) (sym size) in
     has_passed_piece c style resync name (ahead_of x) (ahead_of y) (ahead_of z) b r r' r'' d d' d'' w w' w'' n n' n'' k k' k'' x.offset z.offset v v' p.finding h stays.looks
-    (t.ahead.1, split, sum) (λ s all. (subst (λ (m : ℕ). resync ≡ true → IsBelieved s x.offset m v') (sym size) (t.is s all), t.searches.spends s all)) passes
+    (t.ahead.1, split, sum) (λ s all. (subst (λ (m : ℕ). resync ≡ true → IsBelieved limits s x.offset m v') (sym size) (t.is s all), t.searches.spends s all)) passes
     (λ e same found. p.is_counted e (same ∙ size) found)
 
 -- nothing more was written, reported or counted
-pub has_passed_same : (c : Command) (style : Style) (resync : Bool) (name ahead : List ℕ) (r r' d d' d'' w w' w'' : Option (List ℕ)) (n n' n'' : Counts) (k k' k'' : Kept)
-    (offset : ℕ) (v : Work) → HasPassed c style resync name ahead r r' d d' w w' n n' k k' offset v → WritesNothing d' d'' w' w'' n' n'' k' k''
-    → HasPassed c style resync name ahead r r' d d'' w w'' n n'' k k'' offset v
-has_passed_same c style resync name ahead r r' d d' d'' w w' w'' n n' n'' k k' k'' offset v h (out, report, counts, kept) =
-    subst (λ (a : Kept). HasPassed c style resync name ahead r r' d d'' w w'' n n'' k a offset v) (sym kept)
-    (subst (λ (a : Counts). HasPassed c style resync name ahead r r' d d'' w w'' n a k k' offset v) (sym counts)
-    (subst (λ (a : Option (List ℕ)). HasPassed c style resync name ahead r r' d d'' w a n n' k k' offset v) (sym report)
-    (subst (λ (a : Option (List ℕ)). HasPassed c style resync name ahead r r' d a w w' n n' k k' offset v) (sym out) h)))
+pub has_passed_same : {limits : Limits} (c : Command) (style : Style) (resync : Bool) (name ahead : List ℕ) (r r' d d' d'' w w' w'' : Option (List ℕ)) (n n' n'' : Counts) (k k' k'' : Kept)
+    (offset : ℕ) (v : Work) → HasPassed limits c style resync name ahead r r' d d' w w' n n' k k' offset v → WritesNothing d' d'' w' w'' n' n'' k' k''
+    → HasPassed limits c style resync name ahead r r' d d'' w w'' n n'' k k'' offset v
+has_passed_same {limits} c style resync name ahead r r' d d' d'' w w' w'' n n' n'' k k' k'' offset v h (out, report, counts, kept) =
+    subst (λ (a : Kept). HasPassed limits c style resync name ahead r r' d d'' w w'' n n'' k a offset v) (sym kept)
+    (subst (λ (a : Counts). HasPassed limits c style resync name ahead r r' d d'' w w'' n a k k' offset v) (sym counts)
+    (subst (λ (a : Option (List ℕ)). HasPassed limits c style resync name ahead r r' d d'' w a n n' k k' offset v) (sym report)
+    (subst (λ (a : Option (List ℕ)). HasPassed limits c style resync name ahead r r' d a w w' n n' k k' offset v) (sym out) h)))
 
 -- what is next in the bytes ahead is no document
-pub next_other : (c : Command) (style : Style) (resync : Bool) (name : List ℕ) (r r' d w : Option (List ℕ)) (x y : Window) (v : Work) (n : Counts) (k : Kept) (told : Next) → IsWork v
-    → ((len : ℕ) → told ≡ next.Document len → ⊥) → TellsNext r r' x y 0 told → PassesNext c style resync name r r' x y v v d d w w n n k k told
-next_other c style resync name r r' d w x y v n k (next.Document len) work none t = absurd (none len refl)
-next_other c style resync name r r' d w x y v n k next.Nothing work none t = (tells_other resync r r' x y v next.Nothing work none t, (refl, refl, refl, refl))
-next_other c style resync name r r' d w x y v n k (next.End e) work none t = (tells_other resync r r' x y v (next.End e) work none t, (refl, refl, refl, refl))
+pub next_other : (limits : Limits) (c : Command) (style : Style) (resync : Bool) (name : List ℕ) (r r' d w : Option (List ℕ)) (x y : Window) (v : Work) (n : Counts) (k : Kept) (told : Next) → IsWork v
+    → ((len : ℕ) → told ≡ next.Document len → ⊥) → TellsNext limits.bytes r r' x y 0 told → PassesNext limits c style resync name r r' x y v v d d w w n n k k told
+next_other limits c style resync name r r' d w x y v n k (next.Document len) work none t = absurd (none len refl)
+next_other limits c style resync name r r' d w x y v n k next.Nothing work none t = (tells_other resync r r' x y v next.Nothing work none t, (refl, refl, refl, refl))
+next_other limits c style resync name r r' d w x y v n k (next.End e) work none t = (tells_other resync r r' x y v (next.End e) work none t, (refl, refl, refl, refl))
 
 -- the document in front of the bytes ahead is passed, as no damage is found in it, or bytes aren't passed over
-pub next_passed : (c : Command) (style : Style) (resync : Bool) (name : List ℕ) (r r' d d' w w' : Option (List ℕ)) (x y z : Window) (v : Work) (n n' : Counts) (k k' : Kept) (len : ℕ)
-    → IsWork v → TellsNext r r' x y 0 (next.Document len) → PassesFront (not resync) c style name len y z d d' w w' n n' k k'
-    → PassesNext c style resync name r r' x z v v d d' w w' n n' k k' (next.Document len)
-next_passed c style resync name r r' d d' w w' x y z v n n' k k' len work t p =
+pub next_passed : {limits : Limits} (c : Command) (style : Style) (resync : Bool) (name : List ℕ) (r r' d d' w w' : Option (List ℕ)) (x y z : Window) (v : Work) (n n' : Counts) (k k' : Kept) (len : ℕ)
+    → IsWork v → TellsNext limits.bytes r r' x y 0 (next.Document len) → PassesFront limits (not resync) c style name len y z d d' w w' n n' k k'
+    → PassesNext limits c style resync name r r' x z v v d d' w w' n n' k k' (next.Document len)
+next_passed {limits} c style resync name r r' d d' w w' x y z v n n' k k' len work t p =
     let sound : resync ≡ true → IsSound limits (take len (ahead_of y)) = λ asked. judges_sound c (take len (ahead_of y)) p.finding p.passed.0 t.is.1 p.passed.1 (p.clean (ap not asked)) in
     (not resync, y, tells_document resync r r' x y v len work sound t, p)
 
 -- the one whose length is believed
-pub front_passed : (c : Command) (style : Style) (name : List ℕ) (len : ℕ) (y z : Window) (d d' d'' w w' w'' : Option (List ℕ)) (n n' n'' : Counts) (k k' k'' : Kept) (is : Bool)
-    → WritesNothing d d' w w' n n' k k' → MayPassFront true c style name len y z d' d'' w' w'' n' n'' k' k'' is → PassesFront true c style name len y z d d'' w w'' n n'' k k''
+pub front_passed : {limits : Limits} (c : Command) (style : Style) (name : List ℕ) (len : ℕ) (y z : Window) (d d' d'' w w' w'' : Option (List ℕ)) (n n' n'' : Counts) (k k' k'' : Kept) (is : Bool)
+    → WritesNothing d d' w w' n n' k k' → MayPassFront limits true c style name len y z d' d'' w' w'' n' n'' k' k'' is → PassesFront limits true c style name len y z d d'' w w'' n n'' k k''
 front_passed c style name len y z d d' d'' w w' w'' n n' n'' k k' k'' false nothing may = let impossible : ⊥ = cc in absurd impossible
-front_passed c style name len y z d d' d'' w w' w'' n n' n'' k k' k'' true (out, report, counts, kept) may =
-    subst (λ (a : Kept). PassesFront true c style name len y z d d'' w w'' n n'' a k'') kept
-    (subst (λ (a : Counts). PassesFront true c style name len y z d d'' w w'' a n'' k' k'') counts
-    (subst (λ (a : Option (List ℕ)). PassesFront true c style name len y z d d'' a w'' n' n'' k' k'') report
-    (subst (λ (a : Option (List ℕ)). PassesFront true c style name len y z a d'' w' w'' n' n'' k' k'') out may)))
+front_passed {limits} c style name len y z d d' d'' w w' w'' n n' n'' k k' k'' true (out, report, counts, kept) may =
+    subst (λ (a : Kept). PassesFront limits true c style name len y z d d'' w w'' n n'' a k'') kept
+    (subst (λ (a : Counts). PassesFront limits true c style name len y z d d'' w w'' a n'' k' k'') counts
+    (subst (λ (a : Option (List ℕ)). PassesFront limits true c style name len y z d d'' a w'' n' n'' k' k'') report
+    (subst (λ (a : Option (List ℕ)). PassesFront limits true c style name len y z a d'' w' w'' n' n'' k' k'') out may)))
 
 -- bytes that are passed over are a gap
-pub gap_of : (c : Command) (style : Style) (resync : Bool) (name : List ℕ) (x y z : Window) (r r' r'' q d d' w w' : Option (List ℕ)) (n n' : Counts)
+pub gap_of : {limits : Limits} (c : Command) (style : Style) (resync : Bool) (name : List ℕ) (x y z : Window) (r r' r'' q d d' w w' : Option (List ℕ)) (n n' : Counts)
     (k k' : Kept) (v v' v'' : Work) (e : Ending) (skip : Skip)
-    (h : HasPassed c style resync name (ahead_of x) r r' d d' w w' n n' k k' x.offset v) → TellsPart resync r' r'' x y v v' (next.End e) → resync ≡ true
-    → (skips : SkipsTo r'' q y z v' v'' skip)
-    → IsGap style resync name r (length (bytes_of_parts h.ps)) (fold work_behind no_work h.ps)
+    (h : HasPassed limits c style resync name (ahead_of x) r r' d d' w w' n n' k k' x.offset v) → TellsPart limits resync r' r'' x y v v' (next.End e) → resync ≡ true
+    → (skips : SkipsTo limits r'' q y z v' v'' skip)
+    → IsGap limits style resync name r (length (bytes_of_parts h.ps)) (fold work_behind no_work h.ps)
     (record { bytes = skips.passes.bytes; end = e; skip = skip; work = v''; lines = ending_line style name (length (bytes_of_parts h.ps)) e (rest.PassedOver skip) })
-gap_of c style resync name x y z r r' r'' q d d' w w' n n' k k' v v' v'' e skip h t asked skips =
+gap_of {limits} c style resync name x y z r r' r'' q d d' w w' n n' k k' v v' v'' e skip h t asked skips =
     let bytes = bytes_of_parts h.ps in
     let stays = t.searches.stays in
     let g : Gap = record { bytes = skips.passes.bytes; end = e; skip = skip; work = v''; lines = ending_line style name (length bytes) e (rest.PassedOver skip) } in
     let at : y.offset ≡ length bytes = stays.offset ∙ h.at in
-    let here : (s : List ℕ) → Consumes (Some s) r' (ahead_of x) → IsNextPlace s (length bytes) v v'' skip = λ s all.
-    let before : Spends s (length bytes) v v' = subst (λ (m : ℕ). Spends s m v v') h.at (t.searches.spends s all) in
-    place_since s (length bytes) v v' v'' skip before (subst (λ (m : ℕ). IsNextPlace s m v' v'' skip) at (skips.is s (stays.looks.is_read (Some s) all))) in
-    let is : IsGap style resync name r (length bytes) v g = record {
+    let here : (s : List ℕ) → Consumes (Some s) r' (ahead_of x) → IsNextPlace limits s (length bytes) v v'' skip = λ s all.
+    let before : Spends limits s (length bytes) v v' = subst (λ (m : ℕ). Spends limits s m v v') h.at (t.searches.spends s all) in
+    place_since s (length bytes) v v' v'' skip before (subst (λ (m : ℕ). IsNextPlace limits s m v' v'' skip) at (skips.is s (stays.looks.is_read (Some s) all))) in
+    let is : IsGap limits style resync name r (length bytes) v g = record {
       asked = asked;
-      breaks = input_behind bytes (ahead_of x) r r' (BreaksWith e) h.passed.is_read t.is;
+      breaks = input_behind bytes (ahead_of x) r r' (BreaksWith limits e) h.passed.is_read t.is;
       len = skips.passes.len;
-      next = input_behind bytes (ahead_of x) r r' (λ s. IsNextPlace s (length bytes) v v'' skip) h.passed.is_read here;
+      next = input_behind bytes (ahead_of x) r r' (λ s. IsNextPlace limits s (length bytes) v v'' skip) h.passed.is_read here;
       reports = refl;
     } in
-    subst (λ (u : Work). IsGap style resync name r (length bytes) u g) h.worked is
+    subst (λ (u : Work). IsGap limits style resync name r (length bytes) u g) h.worked is
 
 -- a gap is passed
-pub has_passed_gap : (c : Command) (style : Style) (resync : Bool) (name : List ℕ) (x y z : Window) (r r' r'' q d d' w w' w'' : Option (List ℕ)) (n n' n'' : Counts)
+pub has_passed_gap : {limits : Limits} (c : Command) (style : Style) (resync : Bool) (name : List ℕ) (x y z : Window) (r r' r'' q d d' w w' w'' : Option (List ℕ)) (n n' n'' : Counts)
     (k k' : Kept) (v v' v'' : Work) (e : Ending)
-    → HasPassed c style resync name (ahead_of x) r r' d d' w w' n n' k k' x.offset v → TellsPart resync r' r'' x y v v' (next.End e) → resync ≡ true
-    → PassesGap style name e r'' q y z v' v'' w' w'' n' n''
-    → HasPassed c style resync name (ahead_of z) r q d d' w w'' n n'' k k' z.offset v''
+    → HasPassed limits c style resync name (ahead_of x) r r' d d' w w' n n' k k' x.offset v → TellsPart limits resync r' r'' x y v v' (next.End e) → resync ≡ true
+    → PassesGap limits style name e r'' q y z v' v'' w' w'' n' n''
+    → HasPassed limits c style resync name (ahead_of z) r q d d' w w'' n n'' k k' z.offset v''
 has_passed_gap c style resync name x y z r r' r'' q d d' w w' w'' n n' n'' k k' v v' v'' e h t asked over =
     let bytes = bytes_of_parts h.ps in
     let skip = over.skip in
@@ -233,10 +234,10 @@ has_passed_gap c style resync name x y z r r' r'' q d d' w w' w'' n n' n'' k k' 
     }
 
 -- what is next was told, and nothing is passed yet
-pub has_passed_ahead : (c : Command) (style : Style) (resync : Bool) (name : List ℕ) (x y : Window) (r r' r'' d d' w w' : Option (List ℕ)) (n n' : Counts) (k k' : Kept)
+pub has_passed_ahead : {limits : Limits} (c : Command) (style : Style) (resync : Bool) (name : List ℕ) (x y : Window) (r r' r'' d d' w w' : Option (List ℕ)) (n n' : Counts) (k k' : Kept)
     (v v' : Work) (told : Next)
-    → HasPassed c style resync name (ahead_of x) r r' d d' w w' n n' k k' x.offset v → TellsPart resync r' r'' x y v v' told
-    → HasPassed c style resync name (ahead_of y) r r'' d d' w w' n n' k k' y.offset v
+    → HasPassed limits c style resync name (ahead_of x) r r' d d' w w' n n' k k' x.offset v → TellsPart limits resync r' r'' x y v v' told
+    → HasPassed limits c style resync name (ahead_of y) r r'' d d' w w' n n' k k' y.offset v
 has_passed_ahead c style resync name x y r r' r'' d d' w w' n n' k k' v v' told h t = record {
   ps = h.ps;
   passed = passed_ahead c style resync name (ahead_of x) (ahead_of y) r r' r'' d d' w w' n n' k k' h.ps h.passed t.searches.stays.looks;

@@ -13,7 +13,6 @@ use Rattle.raw_resync.specs.declared.search.Sought.TheVariants as sought
 use Rattle.raw_resync.specs.declared.work.Work.{Work}
 use Rattle.raw_resync.proofs.Face.{charges_further, charges_none, charges_on, passes_join, passes_since, spent_more}
 use Rattle.raw_resync.proofs.Face as face
-use Rattle.bsonraw_dump.specs.Find.{limits}
 use Rattle.bsonraw_dump.specs.Reading.{GoesAhead, IsWindow, Looks, Passes, SeesAhead, Stays, ahead_of}
 use Rattle.bsonraw_dump.specs.Resync.{IsNextPlace, SkipsTo, Spends}
 use Rattle.bsonraw_dump.specs.declared.resync.Skip.{Skip}
@@ -76,12 +75,12 @@ follows s ahead None last read ends = absurd read
 follows s ahead (Some rest) last read ends = (rest, read, ends)
 
 -- what was searched of all that is left: the places from the second on and before one, at no cost that is over the bound
-pub record IsCovered (s : List ℕ) (at : ℕ) (old new : Work) (to : ℕ) (all : Bool) : Type 0 where
+pub record IsCovered (limits : Limits) (s : List ℕ) (at : ℕ) (old new : Work) (to : ℕ) (all : Bool) : Type 0 where
   pub over : PassesOver limits (at + length s) s 1 to 0 new all
-  pub spends : Spends s at old new
+  pub spends : Spends limits s at old new
 
 -- what the loop keeps: so many bytes are passed over, more are ahead, and the places before this one of those were searched
-pub record IsSearched (r r' : Option (List ℕ)) (x y : Window) (old new : Work) (from : ℕ) (last all : Bool) : Type 0 where
+pub record IsSearched (limits : Limits) (r r' : Option (List ℕ)) (x y : Window) (old new : Work) (from : ℕ) (last all : Bool) : Type 0 where
   pub n : ℕ
   pub window : IsWindow y
   pub work : IsWork new
@@ -90,10 +89,10 @@ pub record IsSearched (r r' : Option (List ℕ)) (x y : Window) (old new : Work)
   pub within : from ≤ length (ahead_of y)
   pub ends : last ≡ true → IsAtEnd r'
   pub passes : Passes r r' (ahead_of x) (ahead_of y) n
-  pub searches : (s : List ℕ) → Consumes (Some s) r (ahead_of x) → IsCovered s x.offset old new (n + from) all
+  pub searches : (s : List ℕ) → Consumes (Some s) r (ahead_of x) → IsCovered limits s x.offset old new (n + from) all
 
-pub searched_none : (r : Option (List ℕ)) (x : Window) (w : Work) → IsWindow x → IsWork w → 0 < length (ahead_of x) → IsSearched r r x x w w 1 false true
-searched_none r x w is work some = record {
+pub searched_none : {limits : Limits} (r : Option (List ℕ)) (x : Window) (w : Work) → IsWindow x → IsWork w → 0 < length (ahead_of x) → IsSearched limits r r x x w w 1 false true
+searched_none {limits} r x w is work some = record {
   n = 0;
   window = is;
   work = work;
@@ -112,9 +111,9 @@ nothing_from : (j : ℕ) → 0 - j ≡ 0
 nothing_from j = omega arith
 
 -- bytes are passed over up to here
-next_place : (s : List ℕ) (at : ℕ) (old new : Work) (n place : ℕ) (all : Bool) (skip : Skip) → 1 ≤ n + place → n + place ≤ length s → GoesOnWith limits (0 - place) (drop place (drop n s))
-    → IsCovered s at old new (n + place) all → skip.count ≡ n + place → skip.all ≡ all → IsNextPlace s at old new skip
-next_place s at old new n place all skip some within goes done count both =
+next_place : {limits : Limits} (s : List ℕ) (at : ℕ) (old new : Work) (n place : ℕ) (all : Bool) (skip : Skip) → 1 ≤ n + place → n + place ≤ length s
+    → GoesOnWith limits (0 - place) (drop place (drop n s)) → IsCovered limits s at old new (n + place) all → skip.count ≡ n + place → skip.all ≡ all → IsNextPlace limits s at old new skip
+next_place {limits} s at old new n place all skip some within goes done count both =
     let none : 0 - place ≡ 0 = omega arith in
     let here = subst (λ m. GoesOn limits (drop m s)) (sym count) (subst (GoesOn limits) (drop-drop place n s) (subst (λ m. GoesOnWith limits m (drop place (drop n s))) none goes)) in
     let over = done.over in
@@ -132,7 +131,7 @@ next_place s at old new n place all skip some within goes done count both =
     }
 
 -- a search in the bytes ahead
-module _ (r r' : Option (List ℕ)) (x y : Window) (old mid new : Work) (from : ℕ) (last all : Bool) (is : IsSearched r r' x y old mid from last all) (q : Places)
+module _ {limits : Limits} (r r' : Option (List ℕ)) (x y : Window) (old mid new : Work) (from : ℕ) (last all : Bool) (is : IsSearched limits r r' x y old mid from last all) (q : Places)
     (begin : q.from ≡ from) (end : q.end ≡ 0) where
   -- all that is left, as its front that was passed, the bytes ahead, and what follows them
   whole : (s : List ℕ) → Consumes (Some s) r (ahead_of x) → (rest : List ℕ) × (drop is.n s ≡ ahead_of y ++ rest) × MayFollow last rest × (y.offset + length (drop is.n s) ≡ x.offset + length s)
@@ -164,7 +163,7 @@ module _ (r r' : Option (List ℕ)) (x y : Window) (old mid new : Work) (from : 
 
     -- the places before another were searched, too
     searched : (place : ℕ) (more : Bool) (s : List ℕ) (read : Consumes (Some s) r (ahead_of x)) → from ≤ place
-        → PassesOver limits (x.offset + length s) (drop is.n s) q.from place q.end new more → IsCovered s x.offset old new (is.n + place) (all && more)
+        → PassesOver limits (x.offset + length s) (drop is.n s) q.from place q.end new more → IsCovered limits s x.offset old new (is.n + place) (all && more)
     searched place more s read high over =
         let before = is.searches s read in
         let here = charged s read in
@@ -182,7 +181,7 @@ module _ (r r' : Option (List ℕ)) (x y : Window) (old mid new : Work) (from : 
   -- it wants more, and more is read
   pub searched_on : (r'' : Option (List ℕ)) (z w : Window) (place n want : ℕ) (more there : Bool) → Seeks limits (ahead_of y) last y.offset q mid new (sought.Wants place n more) → IsWork new
       → ahead_of z ≡ drop place (ahead_of y) → z.offset ≡ y.offset + place → SeesAhead r' r'' z w want there → (last' : Bool) → (last' ≡ true → there ≡ false)
-      → IsSearched r r'' x w old new 0 last' (all && more)
+      → IsSearched limits r r'' x w old new 0 last' (all && more)
   searched_on r'' z w place n want more there seeks work passed at sees last' ends =
       let told = seeks.tells [] (λ yes. refl) in
       let low : from ≤ place = subst (λ m. m ≤ place) begin told.0 in
@@ -198,13 +197,13 @@ module _ (r r' : Option (List ℕ)) (x y : Window) (old mid new : Work) (from : 
             (passes_more r r' (ahead_of x) (ahead_of y) (ahead_of z) is.n place is.passes told.2 passed) sees.looks;
         searches = λ s read.
             let here = tells (sought.Wants place n more) seeks s read in
-            subst (λ m. IsCovered s x.offset old new m (all && more)) (sym (add-zero (is.n + place)))
+            subst (λ m. IsCovered limits s x.offset old new m (all && more)) (sym (add-zero (is.n + place)))
             (searched (sought.Wants place n more) seeks place more s read low here.4);
       }
 
   -- documents go on there
   pub searched_to : (z : Window) (place : ℕ) (more : Bool) (skip : Skip) → Seeks limits (ahead_of y) last y.offset q mid new (sought.Found place more) → IsWork new
-      → IsWindow z → ahead_of z ≡ drop place (ahead_of y) → z.offset ≡ y.offset + place → skip.count ≡ is.n + place → skip.all ≡ (all && more) → SkipsTo r r' x z old new skip
+      → IsWindow z → ahead_of z ≡ drop place (ahead_of y) → z.offset ≡ y.offset + place → skip.count ≡ is.n + place → skip.all ≡ (all && more) → SkipsTo limits r r' x z old new skip
   searched_to z place more skip seeks work window passed at count both =
       let told = seeks.tells [] (λ yes. refl) in
       let low : from ≤ place = subst (λ m. m ≤ place) begin told.0 in
@@ -223,9 +222,9 @@ module _ (r r' : Option (List ℕ)) (x y : Window) (old mid new : Work) (from : 
       }
 
 -- a search in these bytes is one in those ahead
-pub seeks_ahead : (m : Limits) (b : List ℕ) (l : Bool) (a : ℕ) (y : Window) (last : Bool) (q : Places) (v w : Work) (told found : Sought) → m ≡ limits → b ≡ ahead_of y → l ≡ last → a ≡ y.offset
-    → told ≡ found → Seeks m b l a q v w told → Seeks limits (ahead_of y) last y.offset q v w found
-seeks_ahead m b l a y last q v w told found most bytes is at same seeks =
+pub seeks_ahead : {limits : Limits} (m : Limits) (b : List ℕ) (l : Bool) (a : ℕ) (y : Window) (last : Bool) (q : Places) (v w : Work) (told found : Sought)
+    → m ≡ limits → b ≡ ahead_of y → l ≡ last → a ≡ y.offset → told ≡ found → Seeks m b l a q v w told → Seeks limits (ahead_of y) last y.offset q v w found
+seeks_ahead {limits} m b l a y last q v w told found most bytes is at same seeks =
     subst (λ t. Seeks limits (ahead_of y) last y.offset q v w t) same
     (subst (λ n. Seeks limits (ahead_of y) last n q v w told) at
     (subst (λ i. Seeks limits (ahead_of y) i a q v w told) is

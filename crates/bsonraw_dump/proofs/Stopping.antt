@@ -2,6 +2,7 @@
 use Rattle.std.proofs.Common.{◌≡◌, ℕ, ◌+◌, List, [], ◌++◌, Bool, false, Option, None, Some, IfSome, IsNone, Result, Ok, Err, IfOk, ℤ, append-nil, arith, length, length-append, sym, ap, ◌∙◌, subst, refl}
 use Rattle.std.specs.Io.KnownBytes.{Consumes, Appends, IsAtEnd, Keeps}
 use Rattle.std.proofs.KnownBytes.{Appends-kept}
+use Rattle.raw_tree.specs.declared.reader.limits.Limits.{Limits}
 use Rattle.bsonraw_dump.specs.Reading.{GoesAhead, IsReadBehind, ReadsRest, ahead_of}
 use Rattle.bsonraw_dump.specs.Resync.{TellsPart}
 use Rattle.bsonraw_dump.specs.Run.{Ends, EndsAs, FailsAt, IsLeft, Leaves, PassesAll, bytes_of_parts, count_end, count_left, lines_of_parts}
@@ -34,19 +35,19 @@ keeps_same None = tt
 keeps_same (Some xs) = refl
 
 -- what is left of a document that says more
-pub left_cut : (r : Option (List ℕ)) (x : List ℕ) (count : ℕ) → EndsWith (ending.CutOff count) x → IsReadBehind (ending.CutOff count) r
-    → IsLeft (ending.CutOff count) r r x (record { count = count; failure = None })
-left_cut r x count ends behind = record {
+pub left_cut : {most : ℕ} (r : Option (List ℕ)) (x : List ℕ) (count : ℕ) → EndsWith most (ending.CutOff count) x → IsReadBehind (ending.CutOff count) r
+    → IsLeft most (ending.CutOff count) r r x (record { count = count; failure = None })
+left_cut {most} r x count ends behind = record {
   more = [];
   is_read = λ before read. subst (Consumes before r) (sym (append-nil x)) read;
-  ends = subst (EndsWith (ending.CutOff count)) (sym (append-nil x)) ends;
+  ends = subst (EndsWith most (ending.CutOff count)) (sym (append-nil x)) ends;
   len = ap length (append-nil x) ∙ ends.0;
   to_end = λ none. behind;
 }
 
 -- what is left behind a length that is unsound
-pub left_unsound : (r r' : Option (List ℕ)) (x : List ℕ) (len : ℤ) (drained : Drained) → EndsWith (ending.Unsound len) x → ReadsRest r r' x drained
-    → IsLeft (ending.Unsound len) r r' x drained
+pub left_unsound : {most : ℕ} (r r' : Option (List ℕ)) (x : List ℕ) (len : ℤ) (drained : Drained) → EndsWith most (ending.Unsound len) x → ReadsRest r r' x drained
+    → IsLeft most (ending.Unsound len) r r' x drained
 left_unsound r r' x len drained ends l = record {
   more = l.more;
   is_read = l.is_read;
@@ -55,10 +56,10 @@ left_unsound r r' x len drained ends l = record {
   to_end = l.to_end;
 }
 
-module _ (c : Command) (style : Style) (resync : Bool) (name : List ℕ) (r r' r'' d d' w w' w'' : Option (List ℕ)) (n n' n'' : Counts) (k k' : Kept) where
+module _ {limits : Limits} (c : Command) (style : Style) (resync : Bool) (name : List ℕ) (r r' r'' d d' w w' w'' : Option (List ℕ)) (n n' n'' : Counts) (k k' : Kept) where
   -- the input is at its end
-  pub stops_end : (x y : Window) (v v' : Work) → HasPassed c style resync name (ahead_of x) r r' d d' w w' n n' k k' x.offset v → TellsPart resync r' r'' x y v v' next.Nothing
-      → PassesAll c style resync name r r'' d d' w w' n n' k k' y stop.End
+  pub stops_end : (x y : Window) (v v' : Work) → HasPassed limits c style resync name (ahead_of x) r r' d d' w w' n n' k k' x.offset v → TellsPart limits resync r' r'' x y v v' next.Nothing
+      → PassesAll limits c style resync name r r'' d d' w w' n n' k k' y stop.End
   stops_end x y v v' h t = record {
     window = t.searches.stays.window;
     ps = h.ps;
@@ -68,8 +69,8 @@ module _ (c : Command) (style : Style) (resync : Bool) (name : List ℕ) (r r' r
   }
 
   -- no document is in front, and nothing is passed over
-  pub stops_left : (x y : Window) (v v' : Work) (e : Ending) → HasPassed c style resync name (ahead_of x) r r' d d' w w' n n' k k' x.offset v
-      → TellsPart resync r' r'' x y v v' (next.End e) → resync ≡ false → PassesAll c style resync name r r'' d d' w w' n n' k k' y (stop.Left e)
+  pub stops_left : (x y : Window) (v v' : Work) (e : Ending) → HasPassed limits c style resync name (ahead_of x) r r' d d' w w' n n' k k' x.offset v
+      → TellsPart limits resync r' r'' x y v v' (next.End e) → resync ≡ false → PassesAll limits c style resync name r r'' d d' w w' n n' k k' y (stop.Left e)
   stops_left x y v v' e h t unasked =
       let (ends, behind) = t.ahead.1 unasked in
       record {
@@ -81,8 +82,8 @@ module _ (c : Command) (style : Style) (resync : Bool) (name : List ℕ) (r r' r
       }
 
   -- reading fails
-  pub stops_failed : (x y : Window) (v : Work) (from : ℕ) (s : Stop) → FailsAt from s → HasPassed c style resync name (ahead_of x) r r' d d' w w' n n' k k' x.offset v → from ≡ x.offset
-      → GoesAhead r' r'' x y → Keeps w' w'' → n'' ≡ n' → PassesAll c style resync name r r'' d d' w w'' n n'' k k' y s
+  pub stops_failed : (x y : Window) (v : Work) (from : ℕ) (s : Stop) → FailsAt from s → HasPassed limits c style resync name (ahead_of x) r r' d d' w w' n n' k k' x.offset v → from ≡ x.offset
+      → GoesAhead r' r'' x y → Keeps w' w'' → n'' ≡ n' → PassesAll limits c style resync name r r'' d d' w w'' n n'' k k' y s
   stops_failed x y v from stop.End fails h at goes kept same = absurd fails
   stops_failed x y v from (stop.Left e) fails h at goes kept same = absurd fails
   stops_failed x y v from (stop.Failed there error) fails h at goes kept same =
@@ -108,13 +109,13 @@ module _ (c : Command) (style : Style) (resync : Bool) (name : List ℕ) (r r' r
       }
 
   -- with what no document begins with
-  pub ends_left : (y : Window) (e : Ending) (failed : Option ReadFailure) → PassesAll c style resync name r r' d d' w w' n n' k k' y (stop.Left e)
-      → Leaves style name e y r' r'' w' w'' n' n'' failed → Ends c style resync name r r'' d d' w w'' n n'' k k' failed
+  pub ends_left : (y : Window) (e : Ending) (failed : Option ReadFailure) → PassesAll limits c style resync name r r' d d' w w' n n' k k' y (stop.Left e)
+      → Leaves limits style name e y r' r'' w' w'' n' n'' failed → Ends limits c style resync name r r'' d d' w w'' n n'' k k' failed
   ends_left y e failed p l =
       let (ahead, at, ends, behind, unasked) = p.stops in
       let bytes = bytes_of_parts p.ps in
       let left = ahead_of y ++ l.more in
-      let is : EndsAs resync (Some e) failed left r'' = elim failed as (λ f. (IsNone f → IsAtEnd r'') → EndsAs resync (Some e) f left r'') [
+      let is : EndsAs limits resync (Some e) failed left r'' = elim failed as (λ f. (IsNone f → IsAtEnd r'') → EndsAs limits resync (Some e) f left r'') [
         | None ↦ λ to_end. (l.ends, unasked, to_end refl)
         | Some f ↦ λ to_end. (l.ends, unasked)
       ] l.to_end in

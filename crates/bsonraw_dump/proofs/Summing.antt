@@ -94,8 +94,8 @@ halts_unread job name input d w k m m' same =
 
 -- A run over an input was whole, or failed, and its line isn't written. So much more is counted.
 pub halts_run : (job : Job) (name : List ℕ) (input left d d' w w' : Option (List ℕ)) (n : Counts) (k k' : Kept) (m m' : Counts) (r : Result (Option ReadFailure) Failure)
-    → IfOk r (Ends job.command job.style job.resync name input left d d' w w' no_counts n k k')
-    → OnErr r (Halts job.command job.style job.resync name input d d' w w' no_counts n k) → CountsMore m n m' → HaltsWithin job name input d d' w w' k m m'
+    → IfOk r (Ends job.limits job.command job.style job.resync name input left d d' w w' no_counts n k k')
+    → OnErr r (Halts job.limits job.command job.style job.resync name input d d' w w' no_counts n k) → CountsMore m n m' → HaltsWithin job name input d d' w w' k m m'
 halts_run job name input left d d' w w' n k k' m m' (Ok failed) ends halts counted =
     inr (w', k', n, is_none failed, inl (record { left = left; failed = failed; ends = ends; could = refl }), front_none w' _, counted)
 halts_run job name input left d d' w w' n k k' m m' (Err e) ends halts counted = inl (n, halts, counted)

@@ -77,7 +77,7 @@ pub record IsRun (job : Job) (name : List ℕ) (input out_old out_new report_old
     (goes_on : Bool) : Type 0 where
   pub left : Option (List ℕ)
   pub failed : Option ReadFailure
-  pub ends : Ends job.command job.style job.resync name input left out_old out_new report_old report_new no_counts counts kept_old kept_new failed
+  pub ends : Ends job.limits job.command job.style job.resync name input left out_old out_new report_old report_new no_counts counts kept_old kept_new failed
   pub could : goes_on ≡ is_none failed
 
 -- An input isn't opened. None is of which bytes are known. Nothing is written, and it counts as one that isn't read to its end, with no
@@ -135,7 +135,7 @@ CountsMore counts_old counts counts_new = (counts_new ≡ plus counts_old counts
 -- An input isn't done with: the run over it fails. Or it was run over whole, or wasn't opened, and a front of its line is written.
 abbrev pub HaltsWithin : Job → List ℕ → (input out_old out_new report_old report_new : Option (List ℕ)) → Kept → (counts_old counts_new : Counts) → Type 0
 HaltsWithin job name input out_old out_new report_old report_new kept counts_old counts_new =
-    ((counts : Counts) × Halts job.command job.style job.resync name input out_old out_new report_old report_new no_counts counts kept × CountsMore counts_old counts counts_new)
+    ((counts : Counts) × Halts job.limits job.command job.style job.resync name input out_old out_new report_old report_new no_counts counts kept × CountsMore counts_old counts counts_new)
     ⊎ ((report_between : Option (List ℕ)) × (kept_new : Kept) × (counts : Counts) × (goes_on : Bool)
     × IsInput job name input out_old out_new report_old report_between kept kept_new counts goes_on × AppendsFront report_between report_new (input_line job job.command name counts)
     × CountsMore counts_old counts counts_new)

@@ -1,4 +1,4 @@
--- What is found in the bytes of one document, and what is told of it.
+-- What is found in the bytes of one document within limits, and what is told of it.
 use Rattle.std.specs.Prelude.{◌≡◌, ◌⊎◌, ◌++◌, ◌∷◌, ℕ, List, [], Option, None, Some, codes, decimal}
 use Rattle.std.specs.Option.{option_map}
 use Rattle.bson_model.specs.Tree.{Tree}
@@ -17,7 +17,6 @@ use Rattle.raw_form.specs.Places.{Step, FirstBarrierAt}
 use Rattle.raw_form.specs.declared.place.Place.{Place}
 use Rattle.raw_form.specs.Verdicts.{Verdict, breach_of, FirstVerdict, IsCanonicalWithin}
 use Rattle.raw_form.specs.Verdicts as verdict
-use Rattle.bsonraw_dump.specs.Cut.{most}
 use Rattle.bsonraw_dump.specs.declared.command.Command.{Command}
 use Rattle.bsonraw_dump.specs.declared.command.Command.TheVariants as command
 use Rattle.bsonraw_dump.specs.declared.find.Finding.{Finding}
@@ -25,9 +24,9 @@ use Rattle.bsonraw_dump.specs.declared.find.Finding.TheVariants as finding
 use Rattle.bsonraw_dump.specs.declared.find.Told.{Told}
 use Rattle.bsonraw_dump.specs.declared.reason.Why.{Why}
 
--- the limits within which a document is read
-abbrev pub limits : Limits
-limits = record { bytes = most; depth = 500 }
+-- the limits within which a document is read where none are given: what a server sends, 16 MiB and 16 KiB, and 500 levels
+abbrev pub usual : Limits
+usual = record { bytes = 16793600; depth = 500 }
 
 -- where something is: the path from the outermost level on, and the offset in the document
 pub record Spot : Type 0 where
@@ -159,27 +158,27 @@ finding_of too_deep = finding.TooDeep
 finding_of _ = finding.Damaged
 
 -- this ends the reading of a piece b, with this finding, and so it is told
-abbrev pub IsBarred : List ℕ → Finding → Option Account → Type 0
-IsBarred b found told =
+abbrev pub IsBarred : Limits → List ℕ → Finding → Option Account → Type 0
+IsBarred limits b found told =
     IsEnvelope b × ((x : Barrier) × (spot : Spot) × (account : Account) × FirstBarrierAt limits b x spot.path spot.offset × SaysBarrier x spot account
     × (found ≡ finding_of x) × (told ≡ Some account))
 
 -- What is found in a piece b of an input, and what is told of it: nothing where it is canonical; where it is read as a tree
 -- within the limits, where it is first not canonical; where something ends its reading, what and where; or why it has no
 -- envelope.
-abbrev pub Finds : List ℕ → Finding → Option Account → Type 0
-Finds b finding.Canonical told = IsEnvelope b × IsCanonicalWithin limits b × (told ≡ None)
-Finds b finding.Breached told =
+abbrev pub Finds : Limits → List ℕ → Finding → Option Account → Type 0
+Finds limits b finding.Canonical told = IsEnvelope b × IsCanonicalWithin limits b × (told ≡ None)
+Finds limits b finding.Breached told =
     IsEnvelope b × ((t : Tree) × ReadsWithin limits b t)
     × ((x : Verdict) × (spot : Spot) × FirstVerdict limits b x spot.path spot.offset × (told ≡ Some (account_at (verdict_word x) spot)))
-Finds b finding.Damaged told = IsBarred b finding.Damaged told ⊎ ((why : Reason) × Refuses b why × (told ≡ Some (account_of_damage None (reason_explained why))))
-Finds b finding.TooDeep told = IsBarred b finding.TooDeep told
-Finds b finding.Unjudged told = ⊥
+Finds limits b finding.Damaged told = IsBarred limits b finding.Damaged told ⊎ ((why : Reason) × Refuses b why × (told ≡ Some (account_of_damage None (reason_explained why))))
+Finds limits b finding.TooDeep told = IsBarred limits b finding.TooDeep told
+Finds limits b finding.Unjudged told = ⊥
 
 -- what a command finds in a piece b, and what is told of it: count judges none
-abbrev pub Judges : Command → List ℕ → Finding → Option Account → Type 0
-Judges command.Count b found told = (found ≡ finding.Unjudged) × (told ≡ None)
-Judges _ b found told = Finds b found told
+abbrev pub Judges : Limits → Command → List ℕ → Finding → Option Account → Type 0
+Judges limits command.Count b found told = (found ≡ finding.Unjudged) × (told ≡ None)
+Judges limits _ b found told = Finds limits b found told
 
 -- a document in which this is found isn't known to be read to its end
 abbrev pub MayBeDamaged : Finding → Type 0

@@ -4,6 +4,7 @@ use Rattle.std.specs.Io.KnownBytes.{Appends, Consumes}
 use Rattle.bson_json.specs.Written.{AppendsFront}
 use Rattle.raw_resync.specs.Seeking.{no_work}
 use Rattle.raw_resync.specs.declared.work.Work.{Work}
+use Rattle.raw_tree.specs.declared.reader.limits.Limits.{Limits}
 use Rattle.bsonraw_dump.specs.Cut.{EndsWith, IsPiece}
 use Rattle.bsonraw_dump.specs.Find.{Account, Judges, MayBeDamaged}
 use Rattle.bsonraw_dump.specs.Fronts.{HasFront, WritesFront}
@@ -45,74 +46,75 @@ HaltsInside c style name offset b found told kept out_old out_new report_old rep
     ⊎ (WritesFront (IsMade c b found kept) out_old out_new × ((lines : List ℕ) × Reports c style name offset b found told lines × Appends report_old report_new lines))
 
 -- the same of what is found in a piece
-abbrev pub HaltsIn : Command → Style → List ℕ → ℕ → List ℕ → Kept → (out_old out_new report_old report_new : Option (List ℕ)) → Type 0
-HaltsIn c style name offset b kept out_old out_new report_old report_new =
-    (found : Finding) × (told : Option Account) × Judges c b found told × HaltsInside c style name offset b found told kept out_old out_new report_old report_new
+abbrev pub HaltsIn : Limits → Command → Style → List ℕ → ℕ → List ℕ → Kept → (out_old out_new report_old report_new : Option (List ℕ)) → Type 0
+HaltsIn limits c style name offset b kept out_old out_new report_old report_new =
+    (found : Finding) × (told : Option Account) × Judges limits c b found told × HaltsInside c style name offset b found told kept out_old out_new report_old report_new
 
 -- A piece is next in s, the end of an input from this offset on, and is taken at its length; where searches before it cost so much.
-pub record IsNextPiece (resync : Bool) (s : List ℕ) (offset : ℕ) (work : Work) (b : List ℕ) : Type 0 where
+pub record IsNextPiece (limits : Limits) (resync : Bool) (s : List ℕ) (offset : ℕ) (work : Work) (b : List ℕ) : Type 0 where
   pub in_front : HasFront s b
   pub work_new : Work
-  pub believed : resync ≡ true → IsBelieved s offset (length b) work_new
-  pub spends : Spends s offset work work_new
+  pub believed : resync ≡ true → IsBelieved limits s offset (length b) work_new
+  pub spends : Spends limits s offset work work_new
 
 -- this is the line of what is next at this offset of an input and isn't a piece: of a gap, or of bytes that are left, as far as they were read
-abbrev pub IsNextLine : Style → (resync : Bool) → List ℕ → (input : Option (List ℕ)) → ℕ → Work → List ℕ → Type 0
-IsNextLine style resync name input offset work text =
-    ((g : Gap) × IsGap style resync name input offset work g × (text ≡ g.lines))
-    ⊎ ((end : Ending) × (left : List ℕ) × EndsWith end left × (resync ≡ false) × IfSome input (λ s. HasFront (drop offset s) left)
+abbrev pub IsNextLine : Limits → Style → (resync : Bool) → List ℕ → (input : Option (List ℕ)) → ℕ → Work → List ℕ → Type 0
+IsNextLine limits style resync name input offset work text =
+    ((g : Gap) × IsGap limits style resync name input offset work g × (text ≡ g.lines))
+    ⊎ ((end : Ending) × (left : List ℕ) × EndsWith limits.bytes end left × (resync ≡ false) × IfSome input (λ s. HasFront (drop offset s) left)
     × (text ≡ last_line style name offset (Some end) (length left)))
 
 -- what is next at this offset isn't passed: a front of what a piece gives, or of a line, or nothing is written
-abbrev pub HaltsAhead : Command → Style → (resync : Bool) → List ℕ → (input : Option (List ℕ)) → ℕ → Work → Kept → (out_old out_new report_old report_new : Option (List ℕ)) → Type 0
-HaltsAhead c style resync name input offset work kept out_old out_new report_old report_new =
-    ((b : List ℕ) × IsPiece b × IfSome input (λ s. IsNextPiece resync (drop offset s) offset work b) × HaltsIn c style name offset b kept out_old out_new report_old report_new)
-    ⊎ ((out_new ≡ out_old) × WritesFront (IsNextLine style resync name input offset work) report_old report_new)
+abbrev pub HaltsAhead : Limits → Command → Style → (resync : Bool) → List ℕ → (input : Option (List ℕ)) → ℕ → Work → Kept → (out_old out_new report_old report_new : Option (List ℕ)) → Type 0
+HaltsAhead limits c style resync name input offset work kept out_old out_new report_old report_new =
+    ((b : List ℕ) × IsPiece limits.bytes b × IfSome input (λ s. IsNextPiece limits resync (drop offset s) offset work b)
+    × HaltsIn limits c style name offset b kept out_old out_new report_old report_new)
+    ⊎ ((out_new ≡ out_old) × WritesFront (IsNextLine limits style resync name input offset work) report_old report_new)
 
 -- How a run over an input fails. These parts are in front of it. What they give was written, reported and counted, and of what is next a
 -- front was written or reported.
-pub record Halts (c : Command) (style : Style) (resync : Bool) (name : List ℕ) (input out_old out_new report_old report_new : Option (List ℕ))
+pub record Halts (limits : Limits) (c : Command) (style : Style) (resync : Bool) (name : List ℕ) (input out_old out_new report_old report_new : Option (List ℕ))
     (counts_old counts_new : Counts) (kept_old : Kept) : Type 0 where
   pub ps : List Part
   pub in_front : IfSome input (λ s. HasFront s (bytes_of_parts ps))
-  pub parts : AreParts c style resync name input 0 no_work ps
+  pub parts : AreParts limits c style resync name input 0 no_work ps
   pub out_between : Option (List ℕ)
   pub report_between : Option (List ℕ)
   pub kept_between : Kept
   pub is_written : Writes c (made_of_parts ps) out_old out_between kept_old kept_between
   pub is_reported : Appends report_old report_between (lines_of_parts ps)
   pub is_counted : counts_new ≡ fold count_part counts_old ps
-  pub halts : HaltsAhead c style resync name input (length (bytes_of_parts ps)) (fold work_behind no_work ps) kept_between out_between out_new report_between report_new
+  pub halts : HaltsAhead limits c style resync name input (length (bytes_of_parts ps)) (fold work_behind no_work ps) kept_between out_between out_new report_between report_new
 
 -- What the code tells of a run that fails. No public contract cites what follows.
 
 -- A piece isn't passed: nothing comes of it, or a front; of one that may be damaged only where any is passed.
-abbrev pub HaltsOne : (any : Bool) → Command → Style → List ℕ → ℕ → List ℕ → Kept → (out_old out_new report_old report_new : Option (List ℕ)) → Type 0
-HaltsOne any c style name offset b kept out_old out_new report_old report_new =
+abbrev pub HaltsOne : Limits → (any : Bool) → Command → Style → List ℕ → ℕ → List ℕ → Kept → (out_old out_new report_old report_new : Option (List ℕ)) → Type 0
+HaltsOne limits any c style name offset b kept out_old out_new report_old report_new =
     ((out_new ≡ out_old) × (report_new ≡ report_old))
-    ⊎ ((found : Finding) × (told : Option Account) × Judges c b found told × (any ≡ false → ¬ MayBeDamaged found)
+    ⊎ ((found : Finding) × (told : Option Account) × Judges limits c b found told × (any ≡ false → ¬ MayBeDamaged found)
     × HaltsInside c style name offset b found told kept out_old out_new report_old report_new)
 
 -- the same of the piece that is next in all that was to be read
-abbrev pub HaltsNext : Command → Style → (resync : Bool) → List ℕ → (read_old : Option (List ℕ)) → (window_old : Window) → (work_old : Work) → Kept
+abbrev pub HaltsNext : Limits → Command → Style → (resync : Bool) → List ℕ → (read_old : Option (List ℕ)) → (window_old : Window) → (work_old : Work) → Kept
     → (out_old out_new report_old report_new : Option (List ℕ)) → Type 0
-HaltsNext c style resync name read_old window_old work_old kept out_old out_new report_old report_new =
+HaltsNext limits c style resync name read_old window_old work_old kept out_old out_new report_old report_new =
     ((out_new ≡ out_old) × (report_new ≡ report_old))
-    ⊎ ((b : List ℕ) × IsPiece b × ((s : List ℕ) → Consumes (Some s) read_old (ahead_of window_old) → IsNextPiece resync s window_old.offset work_old b)
-    × HaltsIn c style name window_old.offset b kept out_old out_new report_old report_new)
+    ⊎ ((b : List ℕ) × IsPiece limits.bytes b × ((s : List ℕ) → Consumes (Some s) read_old (ahead_of window_old) → IsNextPiece limits resync s window_old.offset work_old b)
+    × HaltsIn limits c style name window_old.offset b kept out_old out_new report_old report_new)
 
 -- bytes at the bytes ahead aren't passed over, or a front of their line is written, or nothing
-abbrev pub HaltsInGap : Style → List ℕ → Ending → (read_old read_new : Option (List ℕ)) → (window_old window_new : Window) → (work_old work_new : Work)
+abbrev pub HaltsInGap : Limits → Style → List ℕ → Ending → (read_old read_new : Option (List ℕ)) → (window_old window_new : Window) → (work_old work_new : Work)
     → (report_old report_new : Option (List ℕ)) → Type 0
-HaltsInGap style name end read_old read_new window_old window_new work_old work_new report_old report_new =
+HaltsInGap limits style name end read_old read_new window_old window_new work_old work_new report_old report_new =
     (report_new ≡ report_old)
-    ⊎ ((skip : Skip) × SkipsTo read_old read_new window_old window_new work_old work_new skip
+    ⊎ ((skip : Skip) × SkipsTo limits read_old read_new window_old window_new work_old work_new skip
     × AppendsFront report_old report_new (ending_line style name window_old.offset end (rest.PassedOver skip)))
 
 -- the line of what is left from the bytes ahead on isn't written, or a front of it
-abbrev pub HaltsLeaving : Style → List ℕ → Ending → (read_old read_new : Option (List ℕ)) → (window_old : Window) → (report_old report_new : Option (List ℕ)) → Type 0
-HaltsLeaving style name end read_old read_new window_old report_old report_new =
+abbrev pub HaltsLeaving : Limits → Style → List ℕ → Ending → (read_old read_new : Option (List ℕ)) → (window_old : Window) → (report_old report_new : Option (List ℕ)) → Type 0
+HaltsLeaving limits style name end read_old read_new window_old report_old report_new =
     (report_new ≡ report_old)
     ⊎ ((more : List ℕ) × ((before : Option (List ℕ)) → Consumes before read_old (ahead_of window_old) → Consumes before read_new (ahead_of window_old ++ more))
-    × EndsWith end (ahead_of window_old ++ more)
+    × EndsWith limits.bytes end (ahead_of window_old ++ more)
     × AppendsFront report_old report_new (ending_line style name window_old.offset end (rest.NotRead (length (ahead_of window_old ++ more)))))

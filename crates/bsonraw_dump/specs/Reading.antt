@@ -76,14 +76,14 @@ IsReadBehind (ending.Unsound len) new = Unit {0}
 IsReadBehind (ending.WrongLength len) new = Unit {0}
 
 -- what is next in the bytes ahead: a document in front; nothing, at the end of the input; or why there is no document
-abbrev pub IsNext : Option (List ℕ) → List ℕ → Next → Type 0
-IsNext new ahead (next.Document len) = (len ≤ length ahead) × IsPiece (take len ahead)
-IsNext new ahead next.Nothing = (ahead ≡ []) × IsAtEnd new
-IsNext new ahead (next.End ending) = EndsWith ending ahead × IsReadBehind ending new
+abbrev pub IsNext : (most : ℕ) → Option (List ℕ) → List ℕ → Next → Type 0
+IsNext most new ahead (next.Document len) = (len ≤ length ahead) × IsPiece most (take len ahead)
+IsNext most new ahead next.Nothing = (ahead ≡ []) × IsAtEnd new
+IsNext most new ahead (next.End ending) = EndsWith most ending ahead × IsReadBehind ending new
 
 -- with the known bytes of a reader before and after, and a window: what is next behind so many of the bytes ahead was told
-pub record TellsNext (old new : Option (List ℕ)) (window_old window_new : Window) (from : ℕ) (told : Next) : Type 0 where
+pub record TellsNext (most : ℕ) (old new : Option (List ℕ)) (window_old window_new : Window) (from : ℕ) (told : Next) : Type 0 where
   pub window : IsWindow window_new
   pub offset : window_new.offset ≡ window_old.offset
   pub looks : Looks old new (ahead_of window_old) (ahead_of window_new)
-  pub is : IsNext new (drop from (ahead_of window_new)) told
+  pub is : IsNext most new (drop from (ahead_of window_new)) told

@@ -4,6 +4,7 @@ use Rattle.std.specs.Io.KnownBytes.{Appends, Consumes, IsAtEnd}
 use Rattle.raw_tree.specs.CanonicalForm.{IsCanonicalForm}
 use Rattle.bson_json.specs.Json.{IsJson}
 use Rattle.bson_json.specs.declared.style.Style as json
+use Rattle.raw_tree.specs.declared.reader.limits.Limits.{Limits}
 use Rattle.bsonraw_dump.specs.Cut.{IsPiece, EndsWith}
 use Rattle.bsonraw_dump.specs.Reading.{IsReadBehind, IsWindow, ahead_of}
 use Rattle.bsonraw_dump.specs.Resync.{BreaksWith, IsBelieved, IsNextPlace, SkipsTo, Spends, TellsPart}
@@ -90,17 +91,17 @@ Reports command.Check style name offset b finding.Breached told lines = lines �
 Reports c style name offset b found told lines = lines ≡ []
 
 -- what is so of a piece at this offset
-pub record IsEntry (c : Command) (style : Style) (name : List ℕ) (offset : ℕ) (e : Entry) : Type 0 where
-  pub piece : IsPiece e.bytes
-  pub found : Judges c e.bytes e.finding e.told
+pub record IsEntry (limits : Limits) (c : Command) (style : Style) (name : List ℕ) (offset : ℕ) (e : Entry) : Type 0 where
+  pub piece : IsPiece limits.bytes e.bytes
+  pub found : Judges limits c e.bytes e.finding e.told
   pub makes : Makes c e.bytes e.finding e.made
   pub reports : Reports c style name offset e.bytes e.finding e.told e.lines
 
 -- A piece is in front of s, the end of an input from this offset on, and is taken at its length, where bytes may be passed over; and
 -- what finding that out cost, where earlier searches cost so much.
-pub record IsTaken (resync : Bool) (s : List ℕ) (offset : ℕ) (work : Work) (e : Entry) : Type 0 where
-  pub believed : resync ≡ true → IsBelieved s offset (length e.bytes) e.work
-  pub spends : Spends s offset work e.work
+pub record IsTaken (limits : Limits) (resync : Bool) (s : List ℕ) (offset : ℕ) (work : Work) (e : Entry) : Type 0 where
+  pub believed : resync ≡ true → IsBelieved limits s offset (length e.bytes) e.work
+  pub spends : Spends limits s offset work e.work
 
 -- bytes of an input that are passed over, since no document that is believed is in front of them, why not, how many, what the
 -- searches cost then, and the line of that
@@ -114,11 +115,11 @@ pub record Gap : Type 0 where
 -- What is so of a gap at this offset of an input, of which these bytes are known, where earlier searches cost so much: it is
 -- asked for, no document is in front of it, or a damaged one whose length isn't believed, and the next place at which documents are
 -- found to go on is behind it.
-pub record IsGap (style : Style) (resync : Bool) (name : List ℕ) (input : Option (List ℕ)) (offset : ℕ) (work : Work) (g : Gap) : Type 0 where
+pub record IsGap (limits : Limits) (style : Style) (resync : Bool) (name : List ℕ) (input : Option (List ℕ)) (offset : ℕ) (work : Work) (g : Gap) : Type 0 where
   pub asked : resync ≡ true
-  pub breaks : IfSome input (λ s. BreaksWith g.end (drop offset s))
+  pub breaks : IfSome input (λ s. BreaksWith limits g.end (drop offset s))
   pub len : length g.bytes ≡ g.skip.count
-  pub next : IfSome input (λ s. IsNextPlace (drop offset s) offset work g.work g.skip)
+  pub next : IfSome input (λ s. IsNextPlace limits (drop offset s) offset work g.work g.skip)
   pub reports : g.lines ≡ ending_line style name offset g.end (rest.PassedOver g.skip)
 
 -- a part of an input: a piece, or a gap
@@ -144,15 +145,15 @@ work_behind work (piece e) = e.work
 work_behind work (gap g) = g.work
 
 -- what is so of a part at this offset of an input, where the searches before it cost so much
-abbrev pub IsPart : Command → Style → (resync : Bool) → List ℕ → Option (List ℕ) → ℕ → Work → Part → Type 0
-IsPart c style resync name input offset work (piece e) = IsEntry c style name offset e × IfSome input (λ s. IsTaken resync (drop offset s) offset work e)
-IsPart c style resync name input offset work (gap g) = IsGap style resync name input offset work g
+abbrev pub IsPart : Limits → Command → Style → (resync : Bool) → List ℕ → Option (List ℕ) → ℕ → Work → Part → Type 0
+IsPart limits c style resync name input offset work (piece e) = IsEntry limits c style name offset e × IfSome input (λ s. IsTaken limits resync (drop offset s) offset work e)
+IsPart limits c style resync name input offset work (gap g) = IsGap limits style resync name input offset work g
 
 -- parts one behind the other, the first of which begins at this offset of the input, where the searches before it cost so much
-abbrev pub AreParts : Command → Style → (resync : Bool) → List ℕ → Option (List ℕ) → ℕ → Work → List Part → Type 0
-AreParts c style resync name input offset work [] = Unit {0}
-AreParts c style resync name input offset work (p ∷ ps) =
-    IsPart c style resync name input offset work p × AreParts c style resync name input (offset + length (bytes_of_part p)) (work_behind work p) ps
+abbrev pub AreParts : Limits → Command → Style → (resync : Bool) → List ℕ → Option (List ℕ) → ℕ → Work → List Part → Type 0
+AreParts limits c style resync name input offset work [] = Unit {0}
+AreParts limits c style resync name input offset work (p ∷ ps) =
+    IsPart limits c style resync name input offset work p × AreParts limits c style resync name input (offset + length (bytes_of_part p)) (work_behind work p) ps
 
 -- these documents are written and counted, or of unique those that are new, and their digests are known then
 pub record Writes (c : Command) (made : List (List ℕ)) (out_old out_new : Option (List ℕ)) (kept_old kept_new : Kept) : Type 0 where
@@ -165,17 +166,17 @@ abbrev pub Emits : Command → List ℕ → Finding → (out_old out_new : Optio
 Emits c b found out_old out_new kept_old kept_new = (made : List (List ℕ)) × Makes c b found made × Writes c made out_old out_new kept_old kept_new
 
 -- a piece at this offset is passed: what is written of it, and what is reported
-abbrev pub PassesOne : Command → Style → List ℕ → ℕ → List ℕ → (out_old out_new report_old report_new : Option (List ℕ)) → (kept_old kept_new : Kept) → Finding → Type 0
-PassesOne c style name offset b out_old out_new report_old report_new kept_old kept_new found =
-    (told : Option Account) × Judges c b found told × Emits c b found out_old out_new kept_old kept_new
+abbrev pub PassesOne : Limits → Command → Style → List ℕ → ℕ → List ℕ → (out_old out_new report_old report_new : Option (List ℕ)) → (kept_old kept_new : Kept) → Finding → Type 0
+PassesOne limits c style name offset b out_old out_new report_old report_new kept_old kept_new found =
+    (told : Option Account) × Judges limits c b found told × Emits c b found out_old out_new kept_old kept_new
     × ((lines : List ℕ) × Reports c style name offset b found told lines × Appends report_old report_new lines)
 
 -- A piece is passed, one that may be damaged only where any is; or it isn't, and nothing is written or reported.
-abbrev pub MayPassOne : (any : Bool) → Command → Style → List ℕ → ℕ → List ℕ → (out_old out_new report_old report_new : Option (List ℕ)) → (kept_old kept_new : Kept)
+abbrev pub MayPassOne : Limits → (any : Bool) → Command → Style → List ℕ → ℕ → List ℕ → (out_old out_new report_old report_new : Option (List ℕ)) → (kept_old kept_new : Kept)
     → Option Finding → Type 0
-MayPassOne any c style name offset b out_old out_new report_old report_new kept_old kept_new (Some found) =
-    (any ≡ false → ¬ MayBeDamaged found) × PassesOne c style name offset b out_old out_new report_old report_new kept_old kept_new found
-MayPassOne any c style name offset b out_old out_new report_old report_new kept_old kept_new None =
+MayPassOne limits any c style name offset b out_old out_new report_old report_new kept_old kept_new (Some found) =
+    (any ≡ false → ¬ MayBeDamaged found) × PassesOne limits c style name offset b out_old out_new report_old report_new kept_old kept_new found
+MayPassOne limits any c style name offset b out_old out_new report_old report_new kept_old kept_new None =
     (any ≡ false) × (out_new ≡ out_old) × (report_new ≡ report_old) × (kept_new ≡ kept_old)
 
 abbrev pub bytes_of_parts : List Part → List ℕ
@@ -236,10 +237,10 @@ plus n m = record {
 
 -- These parts were read, and behind them what is ahead; and of the parts this was written and counted, and nothing else. Known
 -- bytes are those of a reader and two writers.
-pub record Passed (c : Command) (style : Style) (resync : Bool) (name ahead : List ℕ)
+pub record Passed (limits : Limits) (c : Command) (style : Style) (resync : Bool) (name ahead : List ℕ)
     (read_old read_new out_old out_new report_old report_new : Option (List ℕ)) (counts_old counts_new : Counts) (kept_old kept_new : Kept)
     (ps : List Part) : Type 0 where
-  pub parts : AreParts c style resync name read_old 0 no_work ps
+  pub parts : AreParts limits c style resync name read_old 0 no_work ps
   pub is_read : Consumes read_old read_new (bytes_of_parts ps ++ ahead)
   pub is_written : Writes c (made_of_parts ps) out_old out_new kept_old kept_new
   pub is_reported : Appends report_old report_new (lines_of_parts ps)
@@ -247,23 +248,23 @@ pub record Passed (c : Command) (style : Style) (resync : Bool) (name ahead : Li
 
 -- What is left of an input: nothing, at its end; or bytes that no document begins with, where none are passed over. Unless reading
 -- failed, they are all.
-abbrev pub EndsAs : (resync : Bool) → Option Ending → Option ReadFailure → List ℕ → (read_new : Option (List ℕ)) → Type 0
-EndsAs resync None None left read_new = (left ≡ []) × IsAtEnd read_new
-EndsAs resync None (Some failed) left read_new = Unit {0}
-EndsAs resync (Some end) None left read_new = EndsWith end left × (resync ≡ false) × IsAtEnd read_new
-EndsAs resync (Some end) (Some failed) left read_new = EndsWith end left × (resync ≡ false)
+abbrev pub EndsAs : Limits → (resync : Bool) → Option Ending → Option ReadFailure → List ℕ → (read_new : Option (List ℕ)) → Type 0
+EndsAs limits resync None None left read_new = (left ≡ []) × IsAtEnd read_new
+EndsAs limits resync None (Some failed) left read_new = Unit {0}
+EndsAs limits resync (Some end) None left read_new = EndsWith limits.bytes end left × (resync ≡ false) × IsAtEnd read_new
+EndsAs limits resync (Some end) (Some failed) left read_new = EndsWith limits.bytes end left × (resync ≡ false)
 
 -- How a run ends: parts were passed; then this was left, of which no part is made, and was counted, and its line was written. Where
 -- reading failed, it failed behind it. What was known of the report and what was counted between the two is a part of it.
-pub record Ends (c : Command) (style : Style) (resync : Bool) (name : List ℕ) (read_old read_new out_old out_new report_old report_new : Option (List ℕ))
+pub record Ends (limits : Limits) (c : Command) (style : Style) (resync : Bool) (name : List ℕ) (read_old read_new out_old out_new report_old report_new : Option (List ℕ))
     (counts_old counts_new : Counts) (kept_old kept_new : Kept) (failed : Option ReadFailure) : Type 0 where
   pub ps : List Part
   pub report_between : Option (List ℕ)
   pub counts_between : Counts
   pub left : List ℕ
-  pub passed : Passed c style resync name left read_old read_new out_old out_new report_old report_between counts_old counts_between kept_old kept_new ps
+  pub passed : Passed limits c style resync name left read_old read_new out_old out_new report_old report_between counts_old counts_between kept_old kept_new ps
   pub end : Option Ending
-  pub ends : EndsAs resync end failed left read_new
+  pub ends : EndsAs limits resync end failed left read_new
   pub fails : IfSome failed (λ failure. failure.at ≡ length (bytes_of_parts ps) + length left)
   pub told : Appends report_between report_new (last_line style name (length (bytes_of_parts ps)) end (length left))
   pub is_counted : counts_new ≡ count_end end failed counts_between (length left)
@@ -274,22 +275,22 @@ IsReading (failure.Reading e) = Unit {0}
 IsReading _ = ⊥
 
 -- at the bytes ahead no document begins, and bytes are passed over; their line was written
-pub record PassesGap (style : Style) (name : List ℕ) (end : Ending) (read_old read_new : Option (List ℕ)) (window_old window_new : Window)
+pub record PassesGap (limits : Limits) (style : Style) (name : List ℕ) (end : Ending) (read_old read_new : Option (List ℕ)) (window_old window_new : Window)
     (work_old work_new : Work) (report_old report_new : Option (List ℕ)) (counts_old counts_new : Counts) : Type 0 where
   pub skip : Skip
-  pub skips : SkipsTo read_old read_new window_old window_new work_old work_new skip
+  pub skips : SkipsTo limits read_old read_new window_old window_new work_old work_new skip
   pub told : Appends report_old report_new (ending_line style name window_old.offset end (rest.PassedOver skip))
   pub is_counted : counts_new ≡ count_gap counts_old skip.count
 
 -- the document of so many bytes in front of the bytes ahead is passed, one that may be damaged only where any is
-pub record PassesFront (any : Bool) (c : Command) (style : Style) (name : List ℕ) (len : ℕ) (window_old window_new : Window)
+pub record PassesFront (limits : Limits) (any : Bool) (c : Command) (style : Style) (name : List ℕ) (len : ℕ) (window_old window_new : Window)
     (out_old out_new report_old report_new : Option (List ℕ)) (counts_old counts_new : Counts) (kept_old kept_new : Kept) : Type 0 where
   pub window : IsWindow window_new
   pub offset : window_new.offset ≡ window_old.offset + len
   pub ahead : ahead_of window_new ≡ drop len (ahead_of window_old)
   pub finding : Finding
   pub clean : any ≡ false → ¬ MayBeDamaged finding
-  pub passed : PassesOne c style name window_old.offset (take len (ahead_of window_old)) out_old out_new report_old report_new kept_old kept_new finding
+  pub passed : PassesOne limits c style name window_old.offset (take len (ahead_of window_old)) out_old out_new report_old report_new kept_old kept_new finding
   pub is_counted : (e : Entry) → length e.bytes ≡ len → e.finding ≡ finding → counts_new ≡ count_entry counts_old e
 
 -- nothing is written, reported or counted
@@ -298,30 +299,30 @@ WritesNothing out_old out_new report_old report_new counts_old counts_new kept_o
     (out_new ≡ out_old) × (report_new ≡ report_old) × (counts_new ≡ counts_old) × (kept_new ≡ kept_old)
 
 -- such a document is passed, or nothing is done
-abbrev pub MayPassFront : (any : Bool) → Command → Style → List ℕ → (len : ℕ) → (window_old window_new : Window) → (out_old out_new report_old report_new : Option (List ℕ))
+abbrev pub MayPassFront : Limits → (any : Bool) → Command → Style → List ℕ → (len : ℕ) → (window_old window_new : Window) → (out_old out_new report_old report_new : Option (List ℕ))
     → (counts_old counts_new : Counts) → (kept_old kept_new : Kept) → Bool → Type 0
-MayPassFront any c style name len window_old window_new out_old out_new report_old report_new counts_old counts_new kept_old kept_new true =
-    PassesFront any c style name len window_old window_new out_old out_new report_old report_new counts_old counts_new kept_old kept_new
-MayPassFront any c style name len window_old window_new out_old out_new report_old report_new counts_old counts_new kept_old kept_new false =
+MayPassFront limits any c style name len window_old window_new out_old out_new report_old report_new counts_old counts_new kept_old kept_new true =
+    PassesFront limits any c style name len window_old window_new out_old out_new report_old report_new counts_old counts_new kept_old kept_new
+MayPassFront limits any c style name len window_old window_new out_old out_new report_old report_new counts_old counts_new kept_old kept_new false =
     (any ≡ false) × (window_new ≡ window_old) × WritesNothing out_old out_new report_old report_new counts_old counts_new kept_old kept_new
 
 -- what is next was told, and was passed where it is a document
-abbrev pub PassesNext : Command → Style → (resync : Bool) → List ℕ → (read_old read_new : Option (List ℕ)) → (window_old window_new : Window) → (work_old work_new : Work)
+abbrev pub PassesNext : Limits → Command → Style → (resync : Bool) → List ℕ → (read_old read_new : Option (List ℕ)) → (window_old window_new : Window) → (work_old work_new : Work)
     → (out_old out_new report_old report_new : Option (List ℕ)) → (counts_old counts_new : Counts) → (kept_old kept_new : Kept) → Next → Type 0
-PassesNext c style resync name read_old read_new window_old window_new work_old work_new out_old out_new report_old report_new counts_old counts_new kept_old kept_new (next.Document len) =
-    (any : Bool) × (window : Window) × TellsPart resync read_old read_new window_old window work_old work_new (next.Document len)
-    × PassesFront any c style name len window window_new out_old out_new report_old report_new counts_old counts_new kept_old kept_new
-PassesNext c style resync name read_old read_new window_old window_new work_old work_new out_old out_new report_old report_new counts_old counts_new kept_old kept_new told =
-    TellsPart resync read_old read_new window_old window_new work_old work_new told
+PassesNext limits c style resync name read_old read_new window_old window_new work_old work_new out_old out_new report_old report_new counts_old counts_new kept_old kept_new (next.Document len) =
+    (any : Bool) × (window : Window) × TellsPart limits resync read_old read_new window_old window work_old work_new (next.Document len)
+    × PassesFront limits any c style name len window window_new out_old out_new report_old report_new counts_old counts_new kept_old kept_new
+PassesNext limits c style resync name read_old read_new window_old window_new work_old work_new out_old out_new report_old report_new counts_old counts_new kept_old kept_new told =
+    TellsPart limits resync read_old read_new window_old window_new work_old work_new told
     × WritesNothing out_old out_new report_old report_new counts_old counts_new kept_old kept_new
 
 -- How the parts of an input end that were passed: at its end; with bytes that no document begins with; or with an error, where the
 -- last part ended.
-abbrev pub StopsAt : (resync : Bool) → Stop → (from : ℕ) → (read_new : Option (List ℕ)) → (window_new : Window) → (left : List ℕ) → Type 0
-StopsAt resync stop.End from read_new window_new left = (left ≡ []) × IsAtEnd read_new
-StopsAt resync (stop.Left end) from read_new window_new left =
-    (left ≡ ahead_of window_new) × (window_new.offset ≡ from) × EndsWith end left × IsReadBehind end read_new × (resync ≡ false)
-StopsAt resync (stop.Failed at error) from read_new window_new left = (at ≡ from) × (window_new.offset + length (ahead_of window_new) ≡ from + length left)
+abbrev pub StopsAt : Limits → (resync : Bool) → Stop → (from : ℕ) → (read_new : Option (List ℕ)) → (window_new : Window) → (left : List ℕ) → Type 0
+StopsAt limits resync stop.End from read_new window_new left = (left ≡ []) × IsAtEnd read_new
+StopsAt limits resync (stop.Left end) from read_new window_new left =
+    (left ≡ ahead_of window_new) × (window_new.offset ≡ from) × EndsWith limits.bytes end left × IsReadBehind end read_new × (resync ≡ false)
+StopsAt limits resync (stop.Failed at error) from read_new window_new left = (at ≡ from) × (window_new.offset + length (ahead_of window_new) ≡ from + length left)
 
 -- reading fails, and the last part ended here
 abbrev pub FailsAt : ℕ → Stop → Type 0
@@ -329,28 +330,28 @@ FailsAt from (stop.Failed at error) = at ≡ from
 FailsAt from _ = ⊥
 
 -- parts were passed, and how they end
-pub record PassesAll (c : Command) (style : Style) (resync : Bool) (name : List ℕ) (read_old read_new out_old out_new report_old report_new : Option (List ℕ))
+pub record PassesAll (limits : Limits) (c : Command) (style : Style) (resync : Bool) (name : List ℕ) (read_old read_new out_old out_new report_old report_new : Option (List ℕ))
     (counts_old counts_new : Counts) (kept_old kept_new : Kept) (window_new : Window) (stopped : Stop) : Type 0 where
   pub window : IsWindow window_new
   pub ps : List Part
   pub left : List ℕ
-  pub passed : Passed c style resync name left read_old read_new out_old out_new report_old report_new counts_old counts_new kept_old kept_new ps
-  pub stops : StopsAt resync stopped (length (bytes_of_parts ps)) read_new window_new left
+  pub passed : Passed limits c style resync name left read_old read_new out_old out_new report_old report_new counts_old counts_new kept_old kept_new ps
+  pub stops : StopsAt limits resync stopped (length (bytes_of_parts ps)) read_new window_new left
 
 -- The rest of an input, with which no document begins, is read: bytes that are ahead, and others behind them. They are so many.
-pub record IsLeft (end : Ending) (read_old read_new : Option (List ℕ)) (ahead : List ℕ) (rest : Drained) : Type 0 where
+pub record IsLeft (most : ℕ) (end : Ending) (read_old read_new : Option (List ℕ)) (ahead : List ℕ) (rest : Drained) : Type 0 where
   pub more : List ℕ
   pub is_read : (before : Option (List ℕ)) → Consumes before read_old ahead → Consumes before read_new (ahead ++ more)
-  pub ends : EndsWith end (ahead ++ more)
+  pub ends : EndsWith most end (ahead ++ more)
   pub len : length (ahead ++ more) ≡ rest.count
   pub to_end : IsNone rest.failure → IsAtEnd read_new
 
 -- The rest of an input, with which no document begins, is counted, and its line is written. Reading fails behind it, or it is all.
-pub record Leaves (style : Style) (name : List ℕ) (end : Ending) (window_old : Window) (read_old read_new report_old report_new : Option (List ℕ))
+pub record Leaves (limits : Limits) (style : Style) (name : List ℕ) (end : Ending) (window_old : Window) (read_old read_new report_old report_new : Option (List ℕ))
     (counts_old counts_new : Counts) (failed : Option ReadFailure) : Type 0 where
   pub more : List ℕ
   pub is_read : (before : Option (List ℕ)) → Consumes before read_old (ahead_of window_old) → Consumes before read_new (ahead_of window_old ++ more)
-  pub ends : EndsWith end (ahead_of window_old ++ more)
+  pub ends : EndsWith limits.bytes end (ahead_of window_old ++ more)
   pub to_end : IsNone failed → IsAtEnd read_new
   pub fails : IfSome failed (λ failure. failure.at ≡ window_old.offset + length (ahead_of window_old ++ more))
   pub told : Appends report_old report_new (ending_line style name window_old.offset end (rest.NotRead (length (ahead_of window_old ++ more))))

@@ -3,12 +3,15 @@
 
 use crate::batch::Job;
 use crate::command::Command;
+use crate::find::most_allowed;
 use crate::reading::Reading;
 use crate::style::Style;
 use crate::texts_batch::TextJob;
 use crate::version::VERSION;
 use bson_json::{Format, Layout, Style as JsonStyle};
+use clap::builder::ValueParser;
 use clap::{Arg, ArgAction, ArgMatches, Error};
+use raw_tree::Limits;
 use std::alloc::{AllocError, Global};
 
 /// What the arguments ask for.
@@ -66,11 +69,33 @@ fn switch<'a>(alloc: Global, name: &'a str, help: &'a str) -> Arg<'a> {
         .action(ArgAction::SetTrue)
 }
 
+/// The most that a limit can be: no length of a document is over it.
+const LARGEST: u64 = 2_147_483_647;
+
+/// An option whose value is a number, this one at least.
+fn number<'a>(alloc: Global, name: &'a str, least: u64, help: &'a str) -> Arg<'a> {
+    Arg::new(alloc, name)
+        .long(name)
+        .value_name("N")
+        .value_parser(ValueParser::unsigned(least, LARGEST))
+        .help(help)
+        .action(ArgAction::Set)
+}
+
+/// What a document may cost.
+fn limits<'a>(alloc: Global, command: clap::Command<'a>) -> Result<clap::Command<'a>, AllocError> {
+    let bytes = "A length over N bytes is unsound; 16793600 if it isn't given";
+    let depth = "A document of more than N levels is too deep; 500 if it isn't given";
+    command
+        .arg(number(alloc, "max-bytes", 5, bytes))?
+        .arg(number(alloc, "max-depth", 1, depth))
+}
+
 /// A command that reads FILEs.
 fn reading<'a>(alloc: Global, command: clap::Command<'a>) -> Result<clap::Command<'a>, AllocError> {
     let help =
         "Goes on behind an unsound length, at the next place where two sound documents begin";
-    command
+    limits(alloc, command)?
         .arg(switch(alloc, "resync", help))?
         .arg(files(alloc, "Dumps; nothing or -: standard input"))
 }
@@ -131,6 +156,7 @@ pub fn command_line<'a>(alloc: Global) -> Result<clap::Command<'a>, AllocError> 
         "Writes each canonical form once; takes 100 bytes of memory a form at most",
     );
     clap::Command::new(alloc, "bsonraw-dump")
+        .bin_name("bsonraw-dump")?
         .version(VERSION)
         .about("Checks dumps: BSON documents one behind the other")
         .subcommand_required(true)
@@ -169,6 +195,15 @@ fn json_style_of(matches: &ArgMatches<'_>) -> JsonStyle {
     }
 }
 
+/// What a document may cost, as it was given.
+fn limits_of(matches: &ArgMatches<'_>) -> Limits {
+    let usual = most_allowed();
+    Limits {
+        bytes: matches.get_one("max-bytes").unwrap_or(usual.bytes),
+        depth: matches.get_one("max-depth").unwrap_or(usual.depth),
+    }
+}
+
 /// The task of a command that was given.
 fn task_of<'a>(
     alloc: Global,
@@ -195,6 +230,7 @@ fn task_of<'a>(
             command,
             style,
             resync: matches.get_flag("resync"),
+            limits: limits_of(matches),
         }),
         output,
         inputs: inputs_of(alloc, matches)?,

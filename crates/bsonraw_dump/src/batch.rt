@@ -18,6 +18,7 @@ use crate::run::{Asked, put_summary, run};
 use crate::status::Status;
 use crate::style::Style;
 use crate::write::put;
+use raw_tree::Limits;
 use std::alloc::Global;
 use std::io::{ErrorKind, Write};
 
@@ -30,6 +31,8 @@ pub struct Job {
     pub style: Style,
     /// whether bytes are passed over where no document begins
     pub resync: bool,
+    /// what a document may cost
+    pub limits: Limits,
 }
 
 /// An input that wasn't read to its end.
@@ -221,6 +224,7 @@ fn run_open<'a, I: Inputs, D: Write, W: Write>(
         command: job.command,
         style: job.style,
         resync: job.resync,
+        limits: job.limits,
         name,
     };
     let mut counts = Counts::new();

@@ -9,14 +9,13 @@ ghost use Rattle.raw_view.specs.Errors.{IsMalformed};
 ghost use Rattle.raw_form.specs.Barriers.{IsBarrier, steps_of};
 ghost use Rattle.raw_form.specs.Places.{FirstBarrierAt};
 ghost use Rattle.raw_form.specs.Verdicts.{FirstVerdict};
-ghost use Rattle.bsonraw_dump.specs.Cut.{most};
 ghost use Rattle.raw_tree.specs.WithinLimits as within;
-ghost use Rattle.bsonraw_dump.specs.Find.{account_at, account_of, Finds, Judges, MayBeDamaged, SaysBarrier, limits, named_spot, spot_of, verdict_of, verdict_word};
+ghost use Rattle.raw_tree.specs.declared.reader.limits.Limits.{Limits};
+ghost use Rattle.bsonraw_dump.specs.Find.{account_at, account_of, Finds, Judges, MayBeDamaged, SaysBarrier, named_spot, spot_of, usual, verdict_of, verdict_word};
 ghost use Rattle.bsonraw_dump.specs.Find as says;
 
 use crate::command::Command;
 use crate::reason::{Why, kind_of};
-use crate::window::MOST;
 use raw_form::{Barrier, BarrierKind, Place, ValidateError, first_fault_within, validate_within};
 use raw_tree::{Cause, Limits};
 use raw_view::{ErrorKind, RawDocument};
@@ -69,21 +68,26 @@ pub struct Found<'a> {
     pub told: Option<Told<'a>>,
 }
 
-/// What a document may cost.
+/// What a document may cost where no limits are given: what a server sends, 16 MiB and 16 KiB, and 500 levels.
 pub fn most_allowed() -> Limits
-    ensures { result ≡ limits }
+    ensures { result ≡ usual }
 {
     Limits {
-        bytes: MOST,
+        bytes: 16_793_600,
         depth: 500,
     }
 }
 
-/// What a command finds in the bytes of a document: `count` judges none.
-pub fn judged(alloc: Global, command: Command, bytes: &[u8]) -> Result<Found<'_>, AllocError>
-    requires { length bytes.now ≤ most }
+/// What a command finds in the bytes of a document, within limits: `count` judges none.
+pub fn judged(
+    alloc: Global,
+    command: Command,
+    limits: Limits,
+    bytes: &[u8],
+) -> Result<Found<'_>, AllocError>
+    requires { length bytes.now ≤ limits.bytes }
     ensures { IfOk result
-        (λ found. Judges command bytes.now found.finding (option_map account_of found.told)) }
+        (λ found. Judges limits command bytes.now found.finding (option_map account_of found.told)) }
 {
     match command {
         Command::Count => Ok(Found {
@@ -95,26 +99,26 @@ pub fn judged(alloc: Global, command: Command, bytes: &[u8]) -> Result<Found<'_>
         | Command::Canon
         | Command::Sound
         | Command::Unique
-        | Command::Json(_) => find(alloc, bytes),
+        | Command::Json(_) => find(alloc, limits, bytes),
     }
 }
 
 /// What is found in the bytes of a document.
-fn find(alloc: Global, bytes: &[u8]) -> Result<Found<'_>, AllocError>
-    requires { length bytes.now ≤ most }
+fn find(alloc: Global, limits: Limits, bytes: &[u8]) -> Result<Found<'_>, AllocError>
+    requires { length bytes.now ≤ limits.bytes }
     ensures { IfOk result
-        (λ found. Finds bytes.now found.finding (option_map account_of found.told)) }
+        (λ found. Finds limits bytes.now found.finding (option_map account_of found.told)) }
 {
     match RawDocument::from_bytes(bytes) {
-        Ok(document) => judge(alloc, document),
+        Ok(document) => judge(alloc, limits, document),
         Err(error) => Ok(without_envelope(&error.kind)),
     }
 }
 
 /// What is found in bytes without an envelope.
 fn without_envelope<'a>(kind: &ErrorKind) -> Found<'a>
-    ensures { (b : List ℕ) → IsMalformed kind.now (Refuses b)
-        → Finds b result.finding (option_map account_of result.told) }
+    ensures { (limits : Limits) (b : List ℕ) → IsMalformed kind.now (Refuses b)
+        → Finds limits b result.finding (option_map account_of result.told) }
 {
     Found {
         finding: Finding::Damaged,
@@ -126,18 +130,26 @@ fn without_envelope<'a>(kind: &ErrorKind) -> Found<'a>
     }
 }
 
-fn judge(alloc: Global, document: RawDocument<'_>) -> Result<Found<'_>, AllocError>
-    requires { length (bytes_of document) ≤ most }
+fn judge(alloc: Global, limits: Limits, document: RawDocument<'_>) -> Result<Found<'_>, AllocError>
+    requires { length (bytes_of document) ≤ limits.bytes }
     ensures { IfOk result
-        (λ found. Finds (bytes_of document.entry) found.finding (option_map account_of found.told)) }
+        (λ found. Finds limits (bytes_of document.entry) found.finding (option_map account_of found.told)) }
 {
-    match validate_within(alloc, document, most_allowed()) {
+    match validate_within(alloc, document, limits) {
         Ok(None) => Ok(Found {
             finding: Finding::Canonical,
             told: None,
         }),
-        Ok(Some(breach)) => not_canonical(alloc, document, Some(breach.cause), breach.place),
-        Err(ValidateError::TooDeep(place)) => not_canonical(alloc, document, None, place),
+        Ok(Some(breach)) => not_canonical(
+            alloc,
+            limits,
+            document,
+            Some(breach.cause),
+            breach.place,
+        ),
+        Err(ValidateError::TooDeep(place)) => {
+            not_canonical(alloc, limits, document, None, place)
+        },
         Err(ValidateError::OutOfMemory) => Err(AllocError),
         Err(ValidateError::TooManyBytes) => unreachable!(),
     }
@@ -146,14 +158,15 @@ fn judge(alloc: Global, document: RawDocument<'_>) -> Result<Found<'_>, AllocErr
 /// What is found in a document that isn't canonical: what ends its reading; else this verdict.
 fn not_canonical<'a>(
     alloc: Global,
+    limits: Limits,
     document: RawDocument<'a>,
     cause: Option<Cause>,
     place: Place<'a>,
 ) -> Result<Found<'a>, AllocError>
     ensures { FirstVerdict limits (bytes_of document.entry) (verdict_of cause) (steps_of place.entry) place.entry.offset
-        → IfOk result (λ found. Finds (bytes_of document.entry) found.finding (option_map account_of found.told)) }
+        → IfOk result (λ found. Finds limits (bytes_of document.entry) found.finding (option_map account_of found.told)) }
 {
-    match first_fault_within(alloc, document, most_allowed()) {
+    match first_fault_within(alloc, document, limits) {
         Ok(Some(barrier)) => Ok(barred(barrier)),
         Ok(None) => Ok(Found {
             finding: Finding::Breached,
@@ -165,9 +178,9 @@ fn not_canonical<'a>(
 
 /// What is found in a document whose reading this ends.
 fn barred(barrier: Barrier<'_>) -> Found<'_>
-    ensures { (b : List ℕ) (x : within.Barrier) → IsEnvelope b → IsBarrier barrier.entry.kind x
+    ensures { (limits : Limits) (b : List ℕ) (x : within.Barrier) → IsEnvelope b → IsBarrier barrier.entry.kind x
         → FirstBarrierAt limits b x (steps_of barrier.entry.place) barrier.entry.place.offset
-        → Finds b result.finding (option_map account_of result.told) }
+        → Finds limits b result.finding (option_map account_of result.told) }
 {
     let finding = match &barrier.kind {
         BarrierKind::TooDeep => Finding::TooDeep,

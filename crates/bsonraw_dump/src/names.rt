@@ -56,7 +56,10 @@ fn leave_out(
     name: String,
 ) -> Result<(), AllocError> {
     let follows_option = match words.words.last() {
-        Some(last) => matches!(last.as_str(), "-o" | "--output" | "--findings"),
+        Some(last) => matches!(
+            last.as_str(),
+            "-o" | "--output" | "--findings" | "--max-bytes" | "--max-depth"
+        ),
         None => true,
     };
     if number < 2 || bytes.starts_with(b"-") || follows_option {

@@ -2,8 +2,7 @@
 #![tactic(auto)]
 
 ghost use Rattle.std.specs.Prelude.{◌≡◌, ◌≤◌, ◌<◌, IfErr, IfOk, MatchBool, length, take};
-ghost use Rattle.bsonraw_dump.specs.Cut.{IsPiece, most};
-ghost use Rattle.bsonraw_dump.specs.Find.{limits};
+ghost use Rattle.bsonraw_dump.specs.Cut.{IsPiece};
 ghost use Rattle.bsonraw_dump.specs.Reading.{GoesAhead, IsWindow, Stays, ahead_of};
 ghost use Rattle.bsonraw_dump.specs.Resync.{Doubts, SeesBehind, SeesInside, SkipsTo, TellsPart};
 ghost use Rattle.bsonraw_dump.specs.Run.{IsReading};
@@ -11,9 +10,9 @@ ghost use Rattle.raw_resync.specs.Seeking.{IsWork};
 
 use crate::ending::Ending;
 use crate::failure::Failure;
-use crate::find::most_allowed;
 use crate::window::{Next, Window, look_ahead};
 use raw_resync::{Check, Part, Places, Sought, Work, check_behind, seek};
+use raw_tree::Limits;
 use std::alloc::Global;
 use std::io;
 use std::io::Read;
@@ -28,7 +27,7 @@ pub struct Skip {
 }
 
 /// The bytes ahead, behind which the input ends or may go on.
-fn part_of(window: &Window, is_last: bool) -> Part<'_>
+fn part_of(window: &Window, is_last: bool, limits: Limits) -> Part<'_>
     requires { IsWindow window.now }
     ensures bytes { result.bytes.now ≡ ahead_of window.now }
     ensures last { result.is_last ≡ is_last }
@@ -39,7 +38,7 @@ fn part_of(window: &Window, is_last: bool) -> Part<'_>
         bytes: window.ahead(),
         is_last,
         at: window.offset(),
-        limits: most_allowed(),
+        limits,
     }
 }
 
@@ -48,10 +47,11 @@ pub fn pass_over<R: Read>(
     alloc: Global,
     reader: &mut R,
     window: &mut Window,
+    limits: Limits,
     work: &mut Work,
 ) -> Result<Skip, Failure>
     requires { IsWindow window.old × IsWork work.old × (0 < length (ahead_of window.old)) }
-    ensures skips { IfOk result (SkipsTo (R.remaining reader.old) (R.remaining reader.new) window.old window.new work.old work.new) }
+    ensures skips { IfOk result (SkipsTo limits (R.remaining reader.old) (R.remaining reader.new) window.old window.new work.old work.new) }
     ensures fails { IfErr result (λ failure. IsReading failure → GoesAhead (R.remaining reader.old) (R.remaining reader.new) window.old window.new) }
 {
     let start = window.offset();
@@ -64,7 +64,7 @@ pub fn pass_over<R: Read>(
             until: usize::MAX,
             end: 0,
         };
-        match seek(alloc, part_of(window, is_last), places, work)? {
+        match seek(alloc, part_of(window, is_last, limits), places, work)? {
             Sought::Found { place, all } => {
                 window.pass(place)?;
                 return Ok(Skip {
@@ -90,18 +90,20 @@ pub fn is_doubted<R: Read>(
     alloc: Global,
     reader: &mut R,
     window: &mut Window,
+    limits: Limits,
     len: usize,
     work: &mut Work,
 ) -> Result<bool, Failure>
-    requires { IsWindow window.old × IsWork work.old × (len ≤ length (ahead_of window.old)) × IsPiece (take len (ahead_of window.old)) }
-    ensures doubts { IfOk result (Doubts (R.remaining reader.old) (R.remaining reader.new) window.old window.new work.old work.new len) }
+    requires { IsWindow window.old × IsWork work.old × (len ≤ length (ahead_of window.old)) × IsPiece limits.bytes (take len (ahead_of window.old)) }
+    ensures doubts { IfOk result (Doubts limits (R.remaining reader.old) (R.remaining reader.new) window.old window.new work.old work.new len) }
     ensures fails { IfErr result (λ _. Stays (R.remaining reader.old) (R.remaining reader.new) window.old window.new) }
 {
-    if goes_on_behind(alloc, reader, window, 0, work)? {
+    if goes_on_behind(alloc, reader, window, limits, 0, work)? {
         return Ok(false);
     }
-    let goes_on = goes_on_behind(alloc, reader, window, len, work)?;
-    goes_on_inside(alloc, reader, window, len, reach(len, goes_on), work)
+    let goes_on = goes_on_behind(alloc, reader, window, limits, len, work)?;
+    let end = reach(len, goes_on);
+    goes_on_inside(alloc, reader, window, limits, len, end, work)
 }
 
 /// How far documents that go on inside one of so many bytes have to reach: to its end, where something goes on there.
@@ -117,16 +119,17 @@ fn goes_on_behind<R: Read>(
     alloc: Global,
     reader: &mut R,
     window: &mut Window,
+    limits: Limits,
     len: usize,
     work: &mut Work,
 ) -> Result<bool, Failure>
-    requires { IsWindow window.old × IsWork work.old × (len ≤ length (ahead_of window.old)) × (len ≤ most) }
-    ensures sees { IfOk result (SeesBehind (R.remaining reader.old) (R.remaining reader.new) window.old window.new work.old work.new len) }
+    requires { IsWindow window.old × IsWork work.old × (len ≤ length (ahead_of window.old)) }
+    ensures sees { IfOk result (SeesBehind limits (R.remaining reader.old) (R.remaining reader.new) window.old window.new work.old work.new len) }
     ensures fails { IfErr result (λ _. Stays (R.remaining reader.old) (R.remaining reader.new) window.old window.new) }
 {
     let mut is_last = false;
     for _ in 0..u64::MAX {
-        match check_behind(alloc, part_of(window, is_last), len, work)? {
+        match check_behind(alloc, part_of(window, is_last, limits), len, work)? {
             Check::GoesOn | Check::LeftOut => return Ok(true),
             Check::Stops => return Ok(false),
             Check::Wants(count) => is_last = !window.look(reader, count)?,
@@ -145,19 +148,20 @@ fn goes_on_inside<R: Read>(
     alloc: Global,
     reader: &mut R,
     window: &mut Window,
+    limits: Limits,
     len: usize,
     end: usize,
     work: &mut Work,
 ) -> Result<bool, Failure>
-    requires { IsWindow window.old × IsWork work.old × (0 < len) × (len ≤ length (ahead_of window.old)) × (len ≤ most) }
-    ensures sees { IfOk result (SeesInside (R.remaining reader.old) (R.remaining reader.new) window.old window.new work.old work.new 1 len end) }
+    requires { IsWindow window.old × IsWork work.old × (0 < len) × (len ≤ length (ahead_of window.old)) }
+    ensures sees { IfOk result (SeesInside limits (R.remaining reader.old) (R.remaining reader.new) window.old window.new work.old work.new 1 len end) }
     ensures fails { IfErr result (λ _. Stays (R.remaining reader.old) (R.remaining reader.new) window.old window.new) }
 {
     let mut count = if end == 0 { len } else { LAST_PLACES };
     let mut until = len;
     'parts: while 1 < until {
         let from = until.saturating_sub(count).max(1);
-        if goes_on_between(alloc, reader, window, from, until, end, work)? {
+        if goes_on_between(alloc, reader, window, limits, from, until, end, work)? {
             return Ok(true);
         }
         count = count.saturating_mul(2);
@@ -171,20 +175,21 @@ fn goes_on_between<R: Read>(
     alloc: Global,
     reader: &mut R,
     window: &mut Window,
+    limits: Limits,
     first: usize,
     until: usize,
     end: usize,
     work: &mut Work,
 ) -> Result<bool, Failure>
-    requires { IsWindow window.old × IsWork work.old × (first ≤ until) × (until ≤ length (ahead_of window.old)) × (until ≤ most) }
-    ensures sees { IfOk result (SeesInside (R.remaining reader.old) (R.remaining reader.new) window.old window.new work.old work.new first until end) }
+    requires { IsWindow window.old × IsWork work.old × (first ≤ until) × (until ≤ length (ahead_of window.old)) }
+    ensures sees { IfOk result (SeesInside limits (R.remaining reader.old) (R.remaining reader.new) window.old window.new work.old work.new first until end) }
     ensures fails { IfErr result (λ _. Stays (R.remaining reader.old) (R.remaining reader.new) window.old window.new) }
 {
     let mut from = first;
     let mut is_last = false;
     for _ in 0..u64::MAX {
         let places = Places { from, until, end };
-        match seek(alloc, part_of(window, is_last), places, work)? {
+        match seek(alloc, part_of(window, is_last, limits), places, work)? {
             Sought::Found { .. } => return Ok(true),
             Sought::Nowhere { .. } => return Ok(false),
             Sought::Wants { place, count, .. } => {

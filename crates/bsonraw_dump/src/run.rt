@@ -26,7 +26,7 @@ use crate::command::Command;
 use crate::counts::Counts;
 use crate::ending::{Ending, Rest};
 use crate::failure::{Failure, ReadFailure, in_range};
-use crate::find::{Finding, Found, Told, judged, most_allowed};
+use crate::find::{Finding, Found, Told, judged};
 use crate::kept::Kept;
 use crate::listing::list_level;
 use crate::object::{ending_object, told_object};
@@ -39,6 +39,7 @@ use crate::write::put;
 use bson_json::{Style as JsonStyle, WriteJsonError, write_json};
 use raw_form::canonical_within;
 use raw_resync::Work;
+use raw_tree::Limits;
 use raw_view::RawDocument;
 use std::alloc::{AllocError, Global};
 use std::io;
@@ -53,6 +54,8 @@ pub struct Asked<'a> {
     pub style: Style,
     /// whether bytes are passed over where no document begins
     pub resync: bool,
+    /// what a document may cost
+    pub limits: Limits,
     /// its name, which begins each line
     pub name: &'a str,
 }
@@ -80,9 +83,9 @@ pub fn run<R: Read, D: Write, W: Write>(
     counts: &mut Counts,
     kept: &mut Kept,
 ) -> Result<Option<ReadFailure>, Failure>
-    ensures ends { IfOk result (Ends asked.entry.command asked.entry.style asked.entry.resync asked.entry.name.now (R.remaining reader.old) (R.remaining reader.new)
+    ensures ends { IfOk result (Ends asked.entry.limits asked.entry.command asked.entry.style asked.entry.resync asked.entry.name.now (R.remaining reader.old) (R.remaining reader.new)
         (D.contents out.old) (D.contents out.new) (W.contents report.old) (W.contents report.new) counts.old counts.new kept.old kept.new) }
-    ensures halts { OnErr result (Halts asked.entry.command asked.entry.style asked.entry.resync asked.entry.name.now (R.remaining reader.old)
+    ensures halts { OnErr result (Halts asked.entry.limits asked.entry.command asked.entry.style asked.entry.resync asked.entry.name.now (R.remaining reader.old)
         (D.contents out.old) (D.contents out.new) (W.contents report.old) (W.contents report.new) counts.old counts.new kept.old) }
     ensures failed { IfErr result (λ failure. ¬ IsReading failure) }
 {
@@ -110,9 +113,9 @@ fn pass_all<R: Read, D: Write, W: Write>(
     kept: &mut Kept,
 ) -> Result<Stop, Failure>
     requires { IsWindow window.old × (ahead_of window.old ≡ []) × (window.old.offset ≡ 0) }
-    ensures passed { IfOk result (PassesAll asked.entry.command asked.entry.style asked.entry.resync asked.entry.name.now (R.remaining reader.old) (R.remaining reader.new)
+    ensures passed { IfOk result (PassesAll asked.entry.limits asked.entry.command asked.entry.style asked.entry.resync asked.entry.name.now (R.remaining reader.old) (R.remaining reader.new)
         (D.contents out.old) (D.contents out.new) (W.contents report.old) (W.contents report.new) counts.old counts.new kept.old kept.new window.new) }
-    ensures halts { OnErr result (Halts asked.entry.command asked.entry.style asked.entry.resync asked.entry.name.now (R.remaining reader.old)
+    ensures halts { OnErr result (Halts asked.entry.limits asked.entry.command asked.entry.style asked.entry.resync asked.entry.name.now (R.remaining reader.old)
         (D.contents out.old) (D.contents out.new) (W.contents report.old) (W.contents report.new) counts.old counts.new kept.old) }
     ensures failed { IfErr result (λ failure. ¬ IsReading failure) }
 {
@@ -164,10 +167,10 @@ fn leave<R: Read, W: Write>(
     report: &mut W,
     counts: &mut Counts,
 ) -> Result<Option<ReadFailure>, Failure>
-    requires { IsWindow window.old × EndsWith ending (ahead_of window.old) × IsReadBehind ending (R.remaining reader.old) }
-    ensures left { IfOk result (Leaves asked.entry.style asked.entry.name.now ending window.old (R.remaining reader.old) (R.remaining reader.new)
+    requires { IsWindow window.old × EndsWith asked.limits.bytes ending (ahead_of window.old) × IsReadBehind ending (R.remaining reader.old) }
+    ensures left { IfOk result (Leaves asked.entry.limits asked.entry.style asked.entry.name.now ending window.old (R.remaining reader.old) (R.remaining reader.new)
         (W.contents report.old) (W.contents report.new) counts.old counts.new) }
-    ensures halts { OnErr result (HaltsLeaving asked.entry.style asked.entry.name.now ending (R.remaining reader.old) (R.remaining reader.new) window.old
+    ensures halts { OnErr result (HaltsLeaving asked.entry.limits asked.entry.style asked.entry.name.now ending (R.remaining reader.old) (R.remaining reader.new) window.old
         (W.contents report.old) (W.contents report.new)) }
     ensures uncounted { OnErr result (counts.new ≡ counts.old) }
     ensures failed { IfErr result (λ failure. ¬ IsReading failure) }
@@ -189,8 +192,9 @@ fn leave<R: Read, W: Write>(
 
 /// Reads the rest of an input, with which no document begins, and counts it.
 fn rest_of<R: Read>(ending: Ending, reader: &mut R, window: &mut Window) -> Result<Drained, Failure>
-    requires { IsWindow window.old × EndsWith ending (ahead_of window.old) × IsReadBehind ending (R.remaining reader.old) }
-    ensures left { IfOk result (IsLeft ending (R.remaining reader.old) (R.remaining reader.new) (ahead_of window.old)) }
+    requires { IsWindow window.old × ((most : ℕ) × EndsWith most ending (ahead_of window.old)) × IsReadBehind ending (R.remaining reader.old) }
+    ensures left { IfOk result (λ rest. (most : ℕ) → EndsWith most ending (ahead_of window.old)
+        → IsLeft most ending (R.remaining reader.old) (R.remaining reader.new) (ahead_of window.old) rest) }
     ensures failed { IfErr result (λ failure. ¬ IsReading failure) }
 {
     match ending {
@@ -228,15 +232,15 @@ fn pass_next<R: Read, D: Write, W: Write>(
     kept: &mut Kept,
 ) -> Result<Next, Failure>
     requires { IsWindow window.old × IsWork work.old }
-    ensures passed { IfOk result (PassesNext asked.entry.command asked.entry.style asked.entry.resync asked.entry.name.now (R.remaining reader.old) (R.remaining reader.new)
+    ensures passed { IfOk result (PassesNext asked.entry.limits asked.entry.command asked.entry.style asked.entry.resync asked.entry.name.now (R.remaining reader.old) (R.remaining reader.new)
         window.old window.new work.old work.new (D.contents out.old) (D.contents out.new) (W.contents report.old) (W.contents report.new) counts.old counts.new kept.old kept.new) }
-    ensures halts { OnErr result (HaltsNext asked.entry.command asked.entry.style asked.entry.resync asked.entry.name.now (R.remaining reader.old)
+    ensures halts { OnErr result (HaltsNext asked.entry.limits asked.entry.command asked.entry.style asked.entry.resync asked.entry.name.now (R.remaining reader.old)
         window.old work.old kept.old (D.contents out.old) (D.contents out.new) (W.contents report.old) (W.contents report.new)) }
     ensures uncounted { OnErr result (counts.new ≡ counts.old) }
     ensures fails { IfErr result (λ failure. IsReading failure → Stays (R.remaining reader.old) (R.remaining reader.new) window.old window.new
         × WritesNothing (D.contents out.old) (D.contents out.new) (W.contents report.old) (W.contents report.new) counts.old counts.new kept.old kept.new) }
 {
-    let next = look_ahead(reader, window, 0)?;
+    let next = look_ahead(reader, window, 0, asked.limits.bytes)?;
     let Next::Document(len) = next else {
         return Ok(next);
     };
@@ -244,7 +248,7 @@ fn pass_next<R: Read, D: Write, W: Write>(
     if pass_front(alloc, asked, any, len, window, out, report, counts, kept)? {
         return Ok(next);
     }
-    if is_doubted(alloc, reader, window, len, work)? {
+    if is_doubted(alloc, reader, window, asked.limits, len, work)? {
         return Ok(Next::End(Ending::WrongLength(len)));
     }
     pass_front(alloc, asked, true, len, window, out, report, counts, kept)?;
@@ -264,10 +268,10 @@ fn pass_front<D: Write, W: Write>(
     counts: &mut Counts,
     kept: &mut Kept,
 ) -> Result<bool, Failure>
-    requires { IsWindow window.old × (len ≤ length (ahead_of window.old)) × IsPiece (take len (ahead_of window.old)) }
-    ensures passed { IfOk result (MayPassFront any asked.entry.command asked.entry.style asked.entry.name.now len window.old window.new
+    requires { IsWindow window.old × (len ≤ length (ahead_of window.old)) × IsPiece asked.limits.bytes (take len (ahead_of window.old)) }
+    ensures passed { IfOk result (MayPassFront asked.entry.limits any asked.entry.command asked.entry.style asked.entry.name.now len window.old window.new
         (D.contents out.old) (D.contents out.new) (W.contents report.old) (W.contents report.new) counts.old counts.new kept.old kept.new) }
-    ensures halts { OnErr result (HaltsOne any asked.entry.command asked.entry.style asked.entry.name.now window.old.offset (take len (ahead_of window.old)) kept.old
+    ensures halts { OnErr result (HaltsOne asked.entry.limits any asked.entry.command asked.entry.style asked.entry.name.now window.old.offset (take len (ahead_of window.old)) kept.old
         (D.contents out.old) (D.contents out.new) (W.contents report.old) (W.contents report.new)) }
     ensures uncounted { OnErr result (counts.new ≡ counts.old) }
     ensures failed { IfErr result (λ failure. ¬ IsReading failure) }
@@ -294,16 +298,16 @@ fn pass_gap<R: Read, W: Write>(
     counts: &mut Counts,
 ) -> Result<(), Failure>
     requires { IsWindow window.old × IsWork work.old × (0 < length (ahead_of window.old)) }
-    ensures passed { OnOk result (PassesGap asked.entry.style asked.entry.name.now ending (R.remaining reader.old) (R.remaining reader.new)
+    ensures passed { OnOk result (PassesGap asked.entry.limits asked.entry.style asked.entry.name.now ending (R.remaining reader.old) (R.remaining reader.new)
         window.old window.new work.old work.new (W.contents report.old) (W.contents report.new) counts.old counts.new) }
-    ensures halts { OnErr result (HaltsInGap asked.entry.style asked.entry.name.now ending (R.remaining reader.old) (R.remaining reader.new)
+    ensures halts { OnErr result (HaltsInGap asked.entry.limits asked.entry.style asked.entry.name.now ending (R.remaining reader.old) (R.remaining reader.new)
         window.old window.new work.old work.new (W.contents report.old) (W.contents report.new)) }
     ensures uncounted { OnErr result (counts.new ≡ counts.old) }
     ensures fails { IfErr result (λ failure. IsReading failure → GoesAhead (R.remaining reader.old) (R.remaining reader.new) window.old window.new
         × Keeps (W.contents report.old) (W.contents report.new) × (counts.new ≡ counts.old)) }
 {
     let offset = window.offset();
-    let skip = pass_over(alloc, reader, window, work)?;
+    let skip = pass_over(alloc, reader, window, asked.limits, work)?;
     put_ending(alloc, asked, offset, ending, Rest::PassedOver(skip), report)?;
     *counts = in_range(counts.with_gap(skip.count))?;
     Ok(())
@@ -320,17 +324,19 @@ fn pass<D: Write, W: Write>(
     report: &mut W,
     kept: &mut Kept,
 ) -> Result<Option<Finding>, Failure>
-    requires { IsPiece bytes.now }
-    ensures passed { IfOk result (MayPassOne any asked.entry.command asked.entry.style asked.entry.name.now offset bytes.now
+    requires { IsPiece asked.limits.bytes bytes.now }
+    ensures passed { IfOk result (MayPassOne asked.entry.limits any asked.entry.command asked.entry.style asked.entry.name.now offset bytes.now
         (D.contents out.old) (D.contents out.new) (W.contents report.old) (W.contents report.new) kept.old kept.new) }
-    ensures halts { OnErr result (HaltsOne any asked.entry.command asked.entry.style asked.entry.name.now offset bytes.now kept.old
+    ensures halts { OnErr result (HaltsOne asked.entry.limits any asked.entry.command asked.entry.style asked.entry.name.now offset bytes.now kept.old
         (D.contents out.old) (D.contents out.new) (W.contents report.old) (W.contents report.new)) }
     ensures failed { IfErr result (λ failure. ¬ IsReading failure) }
 {
-    let found = judged(alloc, asked.command, bytes)?;
+    let limits = asked.limits;
+    let found = judged(alloc, asked.command, limits, bytes)?;
     if !any && found.finding.may_be_damaged() {
         return Ok(None);
     }
+    let finding = found.finding;
     report_found(
         alloc,
         asked.command,
@@ -341,8 +347,8 @@ fn pass<D: Write, W: Write>(
         &found,
         report,
     )?;
-    emit(alloc, asked.command, found.finding, bytes, out, kept)?;
-    Ok(Some(found.finding))
+    emit(alloc, asked.command, limits, finding, bytes, out, kept)?;
+    Ok(Some(finding))
 }
 
 /// Reports what the command tells of a document in which this was found.
@@ -356,7 +362,6 @@ fn report_found<W: Write>(
     found: &Found<'_>,
     report: &mut W,
 ) -> Result<(), Failure>
-    requires { IsPiece bytes.now }
     ensures reported { OnOk result ((lines : List ℕ)
         × Reports command style name.now offset bytes.now found.now.finding (option_map account_of found.now.told) lines
         × Appends (W.contents report.old) (W.contents report.new) lines) }
@@ -387,7 +392,6 @@ fn put_listing<W: Write>(
     told: &Option<Told<'_>>,
     report: &mut W,
 ) -> Result<(), Failure>
-    requires { IsPiece bytes.now }
     ensures listed { OnOk result ((listing : List ℕ) × ListsDocument bytes.now listing
         × Appends (W.contents report.old) (W.contents report.new) (line name.now offset (head_text bytes.now (option_map account_of told.now)) ++ listing)) }
     ensures front { OnErr result ((lines : List ℕ)
@@ -513,12 +517,13 @@ pub fn put_summary<W: Write>(
 fn emit<D: Write>(
     alloc: Global,
     command: Command,
+    limits: Limits,
     finding: Finding,
     bytes: &[u8],
     out: &mut D,
     kept: &mut Kept,
 ) -> Result<(), Failure>
-    requires { (told : Option Account) × Judges command bytes.now finding told }
+    requires { (told : Option Account) × Judges limits command bytes.now finding told }
     ensures written { OnOk result
         (Emits command bytes.now finding (D.contents out.old) (D.contents out.new) kept.old kept.new) }
     ensures front { OnErr result (WritesFront (IsMade command bytes.now finding kept.old) (D.contents out.old) (D.contents out.new)) }
@@ -533,12 +538,14 @@ fn emit<D: Write>(
         (Command::Canon | Command::Unique, Finding::Canonical) => put_document(
             command, bytes, out, kept,
         ),
-        (Command::Canon, Finding::Breached) => { put_form(alloc, Command::Canon, bytes, out, kept) }
+        (Command::Canon, Finding::Breached) => {
+            put_form(alloc, Command::Canon, limits, bytes, out, kept)
+        }
         (Command::Unique, Finding::Breached) => {
-            put_form(alloc, Command::Unique, bytes, out, kept)
+            put_form(alloc, Command::Unique, limits, bytes, out, kept)
         }
         (Command::Json(style), Finding::Canonical | Finding::Breached) => {
-            put_json(alloc, style, bytes, out, kept)
+            put_json(alloc, style, limits, bytes, out, kept)
         }
     }
 }
@@ -547,6 +554,7 @@ fn emit<D: Write>(
 fn put_form<D: Write>(
     alloc: Global,
     command: Command,
+    limits: Limits,
     bytes: &[u8],
     out: &mut D,
     kept: &mut Kept,
@@ -558,7 +566,7 @@ fn put_form<D: Write>(
         (D.contents out.old) (D.contents out.new)) }
     ensures failed { IfErr result (λ failure. ¬ IsReading failure) }
 {
-    match canonical_within(alloc, bytes, most_allowed()) {
+    match canonical_within(alloc, bytes, limits) {
         Ok(form) => put_document(command, &form, out, kept),
         Err(_) => Err(Failure::Memory),
     }
@@ -568,6 +576,7 @@ fn put_form<D: Write>(
 fn put_json<D: Write>(
     alloc: Global,
     style: JsonStyle,
+    limits: Limits,
     bytes: &[u8],
     out: &mut D,
     kept: &mut Kept,
@@ -582,7 +591,7 @@ fn put_json<D: Write>(
     let Ok(document) = RawDocument::from_bytes(bytes) else {
         unreachable!()
     };
-    match write_json(alloc, document, style, most_allowed(), out) {
+    match write_json(alloc, document, style, limits, out) {
         Ok(()) => put_one(b"\n", out, kept),
         Err(WriteJsonError::Writing(error)) => Err(Failure::Writing(error)),
         Err(_) => Err(Failure::Memory),

@@ -3,7 +3,7 @@
 
 ghost use Rattle.std.specs.Prelude.{◌≡◌, ◌+◌, ◌≤◌, ◌<◌, ◌^◌, ◌⊎◌, ℕ, List, MatchBool, Option, [], true, drop, length, take, IfErr, IfOk, OnOk};
 ghost use Rattle.std.specs.Io.KnownBytes.{IsAtEnd};
-ghost use Rattle.bsonraw_dump.specs.Cut.{most, said_len, IsSoundLength};
+ghost use Rattle.bsonraw_dump.specs.Cut.{said_len, IsSoundLength};
 ghost use Rattle.bsonraw_dump.specs.Reading.{FillsBuffer, IsNext, IsWindow, ReadsRest, SeesAhead, Stays, TellsNext, ahead_of};
 ghost use Rattle.bsonraw_dump.specs.Run.{IsReading};
 
@@ -12,9 +12,6 @@ use crate::failure::{Failure, in_range};
 use std::alloc::{AllocError, Global};
 use std::io;
 use std::io::{ErrorKind, Read};
-
-/// The most bytes of a document: what a server sends, 16 MiB and 16 KiB.
-pub const MOST: usize = 16_793_600;
 
 /// So many bytes are read at a time, or more.
 const BLOCK: usize = 1 << 18;
@@ -96,7 +93,7 @@ impl Window {
 
     /// Reads on until so many bytes are ahead, or the input ends, and returns whether they are.
     pub fn look<R: Read>(&mut self, reader: &mut R, want: usize) -> Result<bool, Failure>
-        requires { IsWindow self.old × (want < 2 ^ 32) }
+        requires { IsWindow self.old }
         ensures looks { IfOk result (SeesAhead (R.remaining reader.old) (R.remaining reader.new) self.old self.new want) }
         ensures fails { IfErr result (λ _. Stays (R.remaining reader.old) (R.remaining reader.new) self.old self.new) }
     {
@@ -127,7 +124,7 @@ impl Window {
 
     /// Makes room for so many bytes from the first one ahead on. No more bytes are moved than were passed.
     fn make_room(&mut self, want: usize) -> Result<(), AllocError>
-        requires { IsWindow self.old × (want < 2 ^ 32) }
+        requires { IsWindow self.old }
         ensures window { IsWindow self.new }
         ensures wide { OnOk result (self.new.at + want ≤ length self.new.room.items) }
         ensures ahead { ahead_of self.new ≡ ahead_of self.old }
@@ -138,9 +135,10 @@ impl Window {
             self.room.copy_within(self.at..self.at + self.len, 0);
             self.at = 0;
         }
-        let least = self.at + want;
+        let least = self.at.checked_add(want).ok_or(AllocError)?;
         if least > self.room.len() {
-            self.room.resize(least + BLOCK, 0)?;
+            let wide = least.checked_add(BLOCK).ok_or(AllocError)?;
+            self.room.resize(wide, 0)?;
         }
         Ok(())
     }
@@ -223,14 +221,15 @@ fn drain<R: Read>(reader: &mut R, buffer: &mut [u8]) -> Result<Drained, Failure>
     })
 }
 
-/// Looks what is next in an input behind so many of the bytes ahead.
+/// Looks what is next in an input behind so many of the bytes ahead, where a document has at most this many bytes.
 pub fn look_ahead<R: Read>(
     reader: &mut R,
     window: &mut Window,
     from: usize,
+    most: usize,
 ) -> Result<Next, Failure>
     requires { IsWindow window.old × (from ≤ length (ahead_of window.old)) × (from < 2 ^ 26) }
-    ensures told { IfOk result (TellsNext (R.remaining reader.old) (R.remaining reader.new) window.old window.new from) }
+    ensures told { IfOk result (TellsNext most (R.remaining reader.old) (R.remaining reader.new) window.old window.new from) }
     ensures fails { IfErr result (λ _. Stays (R.remaining reader.old) (R.remaining reader.new) window.old window.new) }
 {
     if !window.look(reader, from + 4)? {
@@ -238,7 +237,7 @@ pub fn look_ahead<R: Read>(
     }
     let said = length_at(window.ahead(), from);
     let len = said as usize;
-    if !is_sound(len) {
+    if !is_sound(len, most) {
         return Ok(Next::End(Ending::Unsound(said.cast_signed())));
     }
     if window.look(reader, from + len)? {
@@ -262,7 +261,7 @@ fn length_at(bytes: &[u8], from: usize) -> u32
 /// What is next where so many bytes are left, fewer than a length has.
 fn too_few(count: usize) -> Next
     requires { count < 4 }
-    ensures { (new : Option (List ℕ)) (s : List ℕ) → length s ≡ count → IsAtEnd new → IsNext new s result }
+    ensures { (new : Option (List ℕ)) (s : List ℕ) → length s ≡ count → IsAtEnd new → (most : ℕ) → IsNext most new s result }
 {
     if count == 0 {
         Next::Nothing
@@ -271,9 +270,9 @@ fn too_few(count: usize) -> Next
     }
 }
 
-/// Whether a document has so many bytes.
-fn is_sound(len: usize) -> bool
-    ensures { MatchBool result (IsSoundLength len) ((len < 5) ⊎ (most < len)) }
+/// Whether a document has so many bytes, where it has at most this many.
+fn is_sound(len: usize, most: usize) -> bool
+    ensures { MatchBool result (IsSoundLength most len) ((len < 5) ⊎ (most < len)) }
 {
-    5 <= len && len <= MOST
+    5 <= len && len <= most
 }

@@ -1,7 +1,6 @@
-use Rattle.std.proofs.Common.{rules, ◌≡◌, ◌⊎◌, ◌+◌, ◌*◌, ◌≤◌, [], arith, refl, subst, not, inl, inr}
+use Rattle.std.proofs.Common.{rules, ◌≡◌, ◌⊎◌, subst, not, inl, inr}
 use Rattle.raw_resync.specs.Seeking.{ChecksBehind}
 use Rattle.raw_resync.specs.declared.check.Check.TheVariants as check
-use Rattle.bsonraw_dump.specs.Find.{limits}
 use Rattle.bsonraw_dump.specs.Reading.{ahead_of}
 use Rattle.bsonraw_dump.proofs.Deciding.{looked_none, looked_on, part_ahead, sees_left, sees_on, sees_stop}
 use Rattle.bsonraw_dump.proofs.Skipping.{not_true}
@@ -27,10 +26,10 @@ returns-in-GoesOn-clause-sees g c =
     elim which [
       | inl is ↦
           sees_on (r c.args.reader.now) (r c.loop.reader) c.args.window.now y c.args.work.now c.loop.work c.loop.is_last inv.searches inv.ends c.args.len w'
-          (subst (ChecksBehind limits (ahead_of y) c.loop.is_last y.offset c.args.len c.loop.work w') is checks) c.check_behind.ensures.work
+          (subst (ChecksBehind c.args.limits (ahead_of y) c.loop.is_last y.offset c.args.len c.loop.work w') is checks) c.check_behind.ensures.work
       | inr is ↦
           sees_left (r c.args.reader.now) (r c.loop.reader) c.args.window.now y c.args.work.now c.loop.work c.loop.is_last inv.searches inv.ends c.args.len w'
-          (subst (ChecksBehind limits (ahead_of y) c.loop.is_last y.offset c.args.len c.loop.work w') is checks) c.check_behind.ensures.work
+          (subst (ChecksBehind c.args.limits (ahead_of y) c.loop.is_last y.offset c.args.len c.loop.work w') is checks) c.check_behind.ensures.work
     ]
 
 pub returns-in-Stops-clause-sees : goal.returns-in-Stops-clause-sees
@@ -44,19 +43,10 @@ returns-in-Stops-clause-sees g c =
     let checks = part_ahead (λ m b l a. ChecksBehind m b l a c.args.len c.loop.work w' told) p.limits p.bytes.now p.is_last p.at y c.loop.is_last
     c.part_of.ensures.limits c.part_of.ensures.bytes c.part_of.ensures.last c.part_of.ensures.at c.in_ok-check_behind.ensures.checked in
     sees_stop (r c.args.reader.now) (r c.loop.reader) c.args.window.now y c.args.work.now c.loop.work c.loop.is_last inv.searches inv.ends c.args.len w'
-    (subst (ChecksBehind limits (ahead_of y) c.loop.is_last y.offset c.args.len c.loop.work w') c.in-Stops.is checks) c.check_behind.ensures.work
+    (subst (ChecksBehind c.args.limits (ahead_of y) c.loop.is_last y.offset c.args.len c.loop.work w') c.in-Stops.is checks) c.check_behind.ensures.work
 
 pub look-requires : goal.look-requires
-look-requires g c =
-    let y = c.loop.window in
-    let p = c.part_of.result in
-    let w' = c.check_behind.new.work in
-    let checks = part_ahead (λ m b l a. ChecksBehind m b l a c.args.len c.loop.work w' c.in_ok-check_behind.field-0) p.limits p.bytes.now p.is_last p.at y c.loop.is_last
-    c.part_of.ensures.limits c.part_of.ensures.bytes c.part_of.ensures.last c.part_of.ensures.at c.in_ok-check_behind.ensures.checked in
-    let wants = subst (ChecksBehind limits (ahead_of y) c.loop.is_last y.offset c.args.len c.loop.work w') c.in-Wants.is checks in
-    let bound : c.in-Wants.count ≤ c.args.len + 2 * 16793600 + 8 = (wants.tells [] (λ is. refl)).2 in
-    let small : c.args.len ≤ 16793600 = c.requires.3 in
-    (c.loop.invariant.searches.stays.window, omega (arith, bound, small))
+look-requires g c = c.loop.invariant.searches.stays.window
 
 pub loop-preserved : goal.loop-preserved
 loop-preserved g c =
@@ -67,6 +57,6 @@ loop-preserved g c =
     let there = c.in_ok-is_last-in-Wants.field-0 in
     let checks = part_ahead (λ m b l a. ChecksBehind m b l a c.args.len c.loop.work w' c.in_ok-check_behind.field-0) p.limits p.bytes.now p.is_last p.at y c.loop.is_last
     c.part_of.ensures.limits c.part_of.ensures.bytes c.part_of.ensures.last c.part_of.ensures.at c.in_ok-check_behind.ensures.checked in
-    let wants = subst (ChecksBehind limits (ahead_of y) c.loop.is_last y.offset c.args.len c.loop.work w') c.in-Wants.is checks in
+    let wants = subst (ChecksBehind c.args.limits (ahead_of y) c.loop.is_last y.offset c.args.len c.loop.work w') c.in-Wants.is checks in
     looked_on (r c.args.reader.now) (r c.loop.reader) (r c.look.new.reader) c.args.window.now y c.look.new.self c.args.work.now c.loop.work w' c.args.len c.in-Wants.count
     c.loop.is_last (not there) there c.loop.invariant wants c.check_behind.ensures.work c.in_ok-is_last-in-Wants.ensures.looks (not_true there)

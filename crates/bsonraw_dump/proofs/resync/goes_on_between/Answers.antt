@@ -1,4 +1,4 @@
-use Rattle.std.proofs.Common.{◌+◌, ◌*◌, ◌<◌, ◌≤◌, [], arith, refl, not}
+use Rattle.std.proofs.Common.{refl, not}
 use Rattle.raw_resync.specs.declared.search.Sought.TheVariants as sought
 use Rattle.bsonraw_dump.proofs.Deciding.{inside_found, inside_none, places, sought_none, sought_on}
 use Rattle.bsonraw_dump.proofs.Skipping.{not_true, seeks_ahead}
@@ -33,16 +33,7 @@ returns-in-Nowhere-clause-sees g c =
     c.loop.invariant told seeks c.seek.ensures.work c.in-Nowhere.all c.in-Nowhere.is
 
 pub look-requires : goal.look-requires
-look-requires g c =
-    let p = c.part_of.result in
-    let seeks = seeks_ahead p.limits p.bytes.now p.is_last p.at c.loop.window c.loop.is_last (places c.loop.from c.args.until c.args.end) c.loop.work c.seek.new.work
-    c.in_ok-seek.field-0 (sought.Wants c.in-Wants.place c.in-Wants.count c.in-Wants.all) c.part_of.ensures.limits c.part_of.ensures.bytes c.part_of.ensures.last
-    c.part_of.ensures.at c.in-Wants.is c.in_ok-seek.ensures.sought in
-    let told = seeks.tells [] (λ is. refl) in
-    let inside : c.in-Wants.place < c.args.until = told.1 in
-    let bound : c.in-Wants.count ≤ c.in-Wants.place + 2 * 16793600 + 8 = told.3.2 in
-    let small : c.args.until ≤ 16793600 = c.requires.4 in
-    (c.loop.invariant.searches.stays.window, omega (arith, bound, inside, small))
+look-requires g c = c.loop.invariant.searches.stays.window
 
 pub loop-preserved : goal.loop-preserved
 loop-preserved g c =

@@ -1,4 +1,4 @@
-use Rattle.std.proofs.Common.{◌≡◌, ◌+◌, ◌-◌, ◌*◌, ◌<◌, ◌≤◌, ◌∙◌, [], ◌&&◌, add_assoc, arith, ap, length, refl, subst, sym, not}
+use Rattle.std.proofs.Common.{◌≡◌, ◌+◌, ◌-◌, ◌<◌, ◌≤◌, ◌∙◌, [], ◌&&◌, add_assoc, arith, ap, length, refl, subst, sym, not}
 use Rattle.bsonraw_dump.specs.Reading.{ahead_of}
 use Rattle.raw_resync.specs.declared.search.Places.{Places}
 use Rattle.raw_resync.specs.declared.search.Sought.TheVariants as sought
@@ -71,14 +71,7 @@ overflow_sub-count g c =
     omega (arith, within, more)
 
 pub look-requires : goal.look-requires
-look-requires g c =
-    let q : Places = record { from = c.loop.from; until = 18446744073709551615; end = 0 } in
-    let seeks = seeks_ahead c.part_of.result.limits c.part_of.result.bytes.now c.part_of.result.is_last c.part_of.result.at c.loop.window c.loop.is_last q c.loop.work c.seek.new.work
-    c.in_ok-place.field-0 (sought.Wants c.in-Wants.place c.in-Wants.count c.in-Wants.all) c.part_of.ensures.limits c.part_of.ensures.bytes c.part_of.ensures.last c.part_of.ensures.at
-    c.in-Wants.is c.in_ok-place.ensures.sought in
-    let told = seeks.tells [] (λ is. refl) in
-    let bound : c.in-Wants.count ≤ c.in-Wants.place + 2 * 16793600 + 8 = told.3.2 in
-    (c.in_ok-pass-in-Wants.ensures.passed.0, omega (arith, bound))
+look-requires g c = c.in_ok-pass-in-Wants.ensures.passed.0
 
 pub returns-in_err-is_last-in-Wants-clause-fails : goal.returns-in_err-is_last-in-Wants-clause-fails
 returns-in_err-is_last-in-Wants-clause-fails g c =
@@ -126,11 +119,11 @@ loop-preserved g c =
     elim c.if-are_all-2.branch [
       | then-are_all-2 w ↦
           rw (w.from-is, w.are_all-is)
-          (subst (IsSearched (r c.args.reader.now) (r c.look.new.reader) c.args.window.now c.look.new.self c.args.work.now c.seek.new.work 0 (not there))
+          (subst (IsSearched c.args.limits (r c.args.reader.now) (r c.look.new.reader) c.args.window.now c.look.new.self c.args.work.now c.seek.new.work 0 (not there))
           (ap (λ b. b && c.in-Wants.all) w.if-are_all-2.true) on)
       | else-are_all-2 w ↦
           rw (w.from-is, w.are_all-is)
-          (subst (IsSearched (r c.args.reader.now) (r c.look.new.reader) c.args.window.now c.look.new.self c.args.work.now c.seek.new.work 0 (not there))
+          (subst (IsSearched c.args.limits (r c.args.reader.now) (r c.look.new.reader) c.args.window.now c.look.new.self c.args.work.now c.seek.new.work 0 (not there))
           (ap (λ b. b && c.in-Wants.all) w.if-are_all-2.false ∙ sym w.if-are_all-2.false) on)
     ]
 

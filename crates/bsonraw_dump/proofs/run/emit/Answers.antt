@@ -1,9 +1,10 @@
-use Rattle.std.proofs.Common.{rules, ◌≡◌, ◌⊎◌, ℕ, List, [], ◌++◌, codes, subst, sym}
+use Rattle.std.proofs.Common.{rules, ◌≡◌, ◌⊎◌, ℕ, List, [], ◌∷◌, ◌++◌, codes, refl, subst, sym}
 use Rattle.std.specs.Io.KnownBytes.{Appends}
+use Rattle.raw_tree.specs.CanonicalForm.{IsCanonicalForm}
 use Rattle.bson_json.specs.Json.{IsJson}
 use Rattle.bsonraw_dump.specs.declared.command.Command.TheVariants as command
 use Rattle.bsonraw_dump.specs.declared.find.Finding.TheVariants as finding
-use Rattle.bsonraw_dump.specs.Run.{Emits, Makes}
+use Rattle.bsonraw_dump.specs.Run.{Emits, Makes, Writes}
 use Rattle.bsonraw_dump.specs.Unique.{CountsOne}
 use Rattle.bsonraw_dump.proofs.Listed.{on_ok}
 use Rattle.bsonraw_dump.specs.Fronts.{WritesFront}
@@ -69,3 +70,27 @@ returns-in-Check-default-clause-written g c =
       | in-Json+in-Damaged-1 w ↦ search rules
     ] in
     on_ok c.put.result (Appends old new []) (Emits command b f old new k k) (λ put. ([], nothing, writes_nothing command old new k put)) c.put.ensures.written
+
+pub returns-in-Canon-Breached-clause-written : goal.returns-in-Canon-Breached-clause-written
+returns-in-Canon-Breached-clause-written g c =
+    let b = c.args.bytes.now in
+    let f = c.args.finding in
+    let old = g.D.Write.contents c.args.out.now in
+    let new = g.D.Write.contents c.put_form.new.out in
+    let k = c.args.kept.now in
+    let k' = c.put_form.new.kept in
+    on_ok c.put_form.result ((form : List ℕ) × IsCanonicalForm b form × Writes command.Canon (form ∷ []) old new k k') (Emits c.args.command b f old new k k')
+    (λ h. subst (λ x. Emits x b f old new k k') (sym c.in-Canon-Breached.is-0)
+    (subst (λ x. Emits command.Canon b x old new k k') (sym c.in-Canon-Breached.is-1) (h.0 ∷ [], (h.0, h.1, refl), h.2))) c.put_form.ensures.written
+
+pub returns-in-Unique-Breached-clause-written : goal.returns-in-Unique-Breached-clause-written
+returns-in-Unique-Breached-clause-written g c =
+    let b = c.args.bytes.now in
+    let f = c.args.finding in
+    let old = g.D.Write.contents c.args.out.now in
+    let new = g.D.Write.contents c.put_form-in-Unique-Breached.new.out in
+    let k = c.args.kept.now in
+    let k' = c.put_form-in-Unique-Breached.new.kept in
+    on_ok c.put_form-in-Unique-Breached.result ((form : List ℕ) × IsCanonicalForm b form × Writes command.Unique (form ∷ []) old new k k') (Emits c.args.command b f old new k k')
+    (λ h. subst (λ x. Emits x b f old new k k') (sym c.in-Unique-Breached.is-0)
+    (subst (λ x. Emits command.Unique b x old new k k') (sym c.in-Unique-Breached.is-1) (h.0 ∷ [], (h.0, h.1, refl), h.2))) c.put_form-in-Unique-Breached.ensures.written

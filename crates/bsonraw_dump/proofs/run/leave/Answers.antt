@@ -11,7 +11,7 @@ use Rattle.bsonraw_dump.proofs.run.leave.Goals as goal
 pub returns-clause-left : goal.returns-clause-left
 returns-clause-left g c =
     let drained = c.in_ok-rest.rest in
-    let left = c.in_ok-rest.ensures.left in
+    let left = c.in_ok-rest.ensures.left c.args.asked.limits.bytes c.requires.1 in
     let w = c.args.window.now in
     let n = c.args.counts.now in
     let all = ahead_of w ++ left.more in
@@ -34,7 +34,7 @@ returns-clause-left g c =
 
 pub returns-in_err-counts-clause-halts : goal.returns-in_err-counts-clause-halts
 returns-in_err-counts-clause-halts g c =
-    let left = c.in_ok-rest.ensures.left in
+    let left = c.in_ok-rest.ensures.left c.args.asked.limits.bytes c.requires.1 in
     let line_at = λ (m k : ℕ). ending_line c.args.asked.style c.args.asked.name.now m c.args.ending (rest.NotRead k) in
     let old = g.W.Write.contents c.args.report.now in
     let new = g.W.Write.contents c.put_ending.new.report in
@@ -45,7 +45,7 @@ returns-in_err-counts-clause-halts g c =
 
 pub returns-in_err-at-clause-halts : goal.returns-in_err-at-clause-halts
 returns-in_err-at-clause-halts g c =
-    let left = c.in_ok-rest.ensures.left in
+    let left = c.in_ok-rest.ensures.left c.args.asked.limits.bytes c.requires.1 in
     let line_at = λ (m k : ℕ). ending_line c.args.asked.style c.args.asked.name.now m c.args.ending (rest.NotRead k) in
     let old = g.W.Write.contents c.args.report.now in
     let new = g.W.Write.contents c.put_ending.new.report in

@@ -26,7 +26,7 @@ pass_gap-requires g c =
     let out = g.D.Write.contents in
     let report = g.W.Write.contents in
     let new = c.pass_next.new in
-    let part = PassesNext c.args.asked.command c.args.asked.style c.args.asked.resync c.args.asked.name.now (read c.loop.reader) (read new.reader) c.loop.window
+    let part = PassesNext c.args.asked.limits c.args.asked.command c.args.asked.style c.args.asked.resync c.args.asked.name.now (read c.loop.reader) (read new.reader) c.loop.window
     new.window c.loop.work new.work (out c.loop.out) (out new.out) (report c.loop.report) (report new.report) c.loop.counts
     new.counts c.loop.kept new.kept in
     let (told, nothing) = subst part c.in-End.is c.in-Ok.ensures.passed in
@@ -38,7 +38,7 @@ returns-in-Nothing-clause-passed g c =
     let out = g.D.Write.contents in
     let report = g.W.Write.contents in
     let new = c.pass_next.new in
-    let part = PassesNext c.args.asked.command c.args.asked.style c.args.asked.resync c.args.asked.name.now (read c.loop.reader) (read new.reader) c.loop.window
+    let part = PassesNext c.args.asked.limits c.args.asked.command c.args.asked.style c.args.asked.resync c.args.asked.name.now (read c.loop.reader) (read new.reader) c.loop.window
     new.window c.loop.work new.work (out c.loop.out) (out new.out) (report c.loop.report) (report new.report) c.loop.counts
     new.counts c.loop.kept new.kept in
     let (told, nothing) = subst part c.in-Nothing.is c.in-Ok.ensures.passed in
@@ -55,7 +55,7 @@ returns-then-not-asked-clause-passed g c =
     let out = g.D.Write.contents in
     let report = g.W.Write.contents in
     let new = c.pass_next.new in
-    let part = PassesNext c.args.asked.command c.args.asked.style c.args.asked.resync c.args.asked.name.now (read c.loop.reader) (read new.reader) c.loop.window
+    let part = PassesNext c.args.asked.limits c.args.asked.command c.args.asked.style c.args.asked.resync c.args.asked.name.now (read c.loop.reader) (read new.reader) c.loop.window
     new.window c.loop.work new.work (out c.loop.out) (out new.out) (report c.loop.report) (report new.report) c.loop.counts
     new.counts c.loop.kept new.kept in
     let (told, nothing) = subst part c.in-End.is c.in-Ok.ensures.passed in
@@ -74,7 +74,7 @@ returns-in-Err-pass_gap-clause-passed g c =
     let new = c.pass_next.new in
     let from = c.offset-from.result in
     let y = new.window in
-    let part = PassesNext c.args.asked.command c.args.asked.style c.args.asked.resync c.args.asked.name.now (read c.loop.reader) (read new.reader) c.loop.window
+    let part = PassesNext c.args.asked.limits c.args.asked.command c.args.asked.style c.args.asked.resync c.args.asked.name.now (read c.loop.reader) (read new.reader) c.loop.window
     new.window c.loop.work new.work (out c.loop.out) (out new.out) (report c.loop.report) (report new.report) c.loop.counts
     new.counts c.loop.kept new.kept in
     let (told, nothing) = subst part c.in-End.is c.in-Ok.ensures.passed in
@@ -121,7 +121,7 @@ loop-preserved g c =
     let out = g.D.Write.contents in
     let report = g.W.Write.contents in
     let new = c.pass_next.new in
-    let part = PassesNext c.args.asked.command c.args.asked.style c.args.asked.resync c.args.asked.name.now (read c.loop.reader) (read new.reader) c.loop.window
+    let part = PassesNext c.args.asked.limits c.args.asked.command c.args.asked.style c.args.asked.resync c.args.asked.name.now (read c.loop.reader) (read new.reader) c.loop.window
     new.window c.loop.work new.work (out c.loop.out) (out new.out) (report c.loop.report) (report new.report) c.loop.counts
     new.counts c.loop.kept new.kept in
     elim c.match-next.branch [
@@ -157,7 +157,7 @@ returns-in-Err-pass_gap-clause-halts g c =
     let out = g.D.Write.contents in
     let report = g.W.Write.contents in
     let new = c.pass_next.new in
-    let part = PassesNext c.args.asked.command c.args.asked.style c.args.asked.resync c.args.asked.name.now (read c.loop.reader) (read new.reader) c.loop.window
+    let part = PassesNext c.args.asked.limits c.args.asked.command c.args.asked.style c.args.asked.resync c.args.asked.name.now (read c.loop.reader) (read new.reader) c.loop.window
     new.window c.loop.work new.work (out c.loop.out) (out new.out) (report c.loop.report) (report new.report) c.loop.counts
     new.counts c.loop.kept new.kept in
     let (told, nothing) = subst part c.in-End.is c.in-Ok.ensures.passed in

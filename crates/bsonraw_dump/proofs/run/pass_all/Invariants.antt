@@ -7,6 +7,6 @@ use Rattle.bsonraw_dump.proofs.run.pass_all.Given as goal
 abbrev pub invariant-loop : goal.invariant-loop
 invariant-loop g l =
     IsWindow l.window × IsWork l.work
-    × HasPassed l.asked.command l.asked.style l.asked.resync l.asked.name.now (ahead_of l.window) (g.R.Read.remaining l.initial.reader)
+    × HasPassed l.asked.limits l.asked.command l.asked.style l.asked.resync l.asked.name.now (ahead_of l.window) (g.R.Read.remaining l.initial.reader)
     (g.R.Read.remaining l.reader) (g.D.Write.contents l.initial.out) (g.D.Write.contents l.out) (g.W.Write.contents l.initial.report)
     (g.W.Write.contents l.report) l.initial.counts l.counts l.initial.kept l.kept l.window.offset l.work

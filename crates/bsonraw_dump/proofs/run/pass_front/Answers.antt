@@ -15,9 +15,9 @@ returns-in_err-finding-clause-halts g c =
     let report = g.W.Write.contents c.args.report.now in
     let reported = g.W.Write.contents c.pass.new.report in
     let k = c.args.kept.now in
-    let here = subst (λ (m : ℕ). HaltsOne any asked.command asked.style asked.name.now m (take c.args.len c.ahead.result.now) k old new report reported) c.offset.ensures
+    let here = subst (λ (m : ℕ). HaltsOne asked.limits any asked.command asked.style asked.name.now m (take c.args.len c.ahead.result.now) k old new report reported) c.offset.ensures
     c.in_err-finding.ensures.halts in
-    on_any _ _ (subst (λ (x : List ℕ). HaltsOne any asked.command asked.style asked.name.now c.args.window.now.offset (take c.args.len x) k old new report reported) c.ahead.ensures here)
+    on_any _ _ (subst (λ (x : List ℕ). HaltsOne asked.limits any asked.command asked.style asked.name.now c.args.window.now.offset (take c.args.len x) k old new report reported) c.ahead.ensures here)
 
 pub returns-in_err-counted-clause-halts : goal.returns-in_err-counted-clause-halts
 returns-in_err-counted-clause-halts g c =
@@ -30,13 +30,13 @@ returns-in_err-counted-clause-halts g c =
     let k = c.args.kept.now in
     let k' = c.pass.new.kept in
     let f = c.in-Some.finding in
-    let may = subst (MayPassOne any asked.command asked.style asked.name.now c.offset.result (take c.args.len c.ahead.result.now) old new report reported k k')
+    let may = subst (MayPassOne asked.limits any asked.command asked.style asked.name.now c.offset.result (take c.args.len c.ahead.result.now) old new report reported k k')
     c.in-Some.is c.in_ok-finding.ensures.passed in
-    let here = subst (λ (m : ℕ). MayPassOne any asked.command asked.style asked.name.now m (take c.args.len c.ahead.result.now) old new report reported k k' (Some f))
+    let here = subst (λ (m : ℕ). MayPassOne asked.limits any asked.command asked.style asked.name.now m (take c.args.len c.ahead.result.now) old new report reported k k' (Some f))
     c.offset.ensures may in
-    let passes = subst (λ (x : List ℕ). MayPassOne any asked.command asked.style asked.name.now c.args.window.now.offset (take c.args.len x) old new report reported k k' (Some f))
+    let passes = subst (λ (x : List ℕ). MayPassOne asked.limits any asked.command asked.style asked.name.now c.args.window.now.offset (take c.args.len x) old new report reported k k' (Some f))
     c.ahead.ensures here in
-    on_any _ _ (halts_passed any asked.command asked.style asked.name.now c.args.window.now.offset (take c.args.len (ahead_of c.args.window.now)) old new report reported k k' f passes)
+    on_any _ _ (halts_passed asked.limits any asked.command asked.style asked.name.now c.args.window.now.offset (take c.args.len (ahead_of c.args.window.now)) old new report reported k k' f passes)
 
 pub returns-in_err-pass-clause-halts : goal.returns-in_err-pass-clause-halts
 returns-in_err-pass-clause-halts g c =
@@ -49,10 +49,10 @@ returns-in_err-pass-clause-halts g c =
     let k = c.args.kept.now in
     let k' = c.pass.new.kept in
     let f = c.in-Some.finding in
-    let may = subst (MayPassOne any asked.command asked.style asked.name.now c.offset.result (take c.args.len c.ahead.result.now) old new report reported k k')
+    let may = subst (MayPassOne asked.limits any asked.command asked.style asked.name.now c.offset.result (take c.args.len c.ahead.result.now) old new report reported k k')
     c.in-Some.is c.in_ok-finding.ensures.passed in
-    let here = subst (λ (m : ℕ). MayPassOne any asked.command asked.style asked.name.now m (take c.args.len c.ahead.result.now) old new report reported k k' (Some f))
+    let here = subst (λ (m : ℕ). MayPassOne asked.limits any asked.command asked.style asked.name.now m (take c.args.len c.ahead.result.now) old new report reported k k' (Some f))
     c.offset.ensures may in
-    let passes = subst (λ (x : List ℕ). MayPassOne any asked.command asked.style asked.name.now c.args.window.now.offset (take c.args.len x) old new report reported k k' (Some f))
+    let passes = subst (λ (x : List ℕ). MayPassOne asked.limits any asked.command asked.style asked.name.now c.args.window.now.offset (take c.args.len x) old new report reported k k' (Some f))
     c.ahead.ensures here in
-    on_any _ _ (halts_passed any asked.command asked.style asked.name.now c.args.window.now.offset (take c.args.len (ahead_of c.args.window.now)) old new report reported k k' f passes)
+    on_any _ _ (halts_passed asked.limits any asked.command asked.style asked.name.now c.args.window.now.offset (take c.args.len (ahead_of c.args.window.now)) old new report reported k k' f passes)

@@ -27,8 +27,8 @@ returns-in-Err-Writing-clause-front g c =
     let old = g.D.Write.contents c.args.out.now in
     let new = g.D.Write.contents c.write_json.new.out in
     let same : bytes_of c.in-Ok.document ≡ b = c.in-Ok.ensures.same in
-    let tells = subst (λ (x : List ℕ). TellsWriteError c.most_allowed.result style x old new c.in-Err-Writing.field-0) same c.in-Err-Writing.ensures.err in
-    json_failed c.most_allowed.result style b old new c.in-Err-Writing.field-0 tells
+    let tells = subst (λ (x : List ℕ). TellsWriteError c.args.limits style x old new c.in-Err-Writing.field-0) same c.in-Err-Writing.ensures.err in
+    json_failed c.args.limits style b old new c.in-Err-Writing.field-0 tells
 
 pub returns : goal.returns
 returns g c =
@@ -37,5 +37,5 @@ returns g c =
     let old = g.D.Write.contents c.args.out.now in
     let new = g.D.Write.contents c.write_json.new.out in
     let same : bytes_of c.in-Ok.document ≡ b = c.in-Ok.ensures.same in
-    let tells = subst (λ (x : List ℕ). TellsWriteError c.most_allowed.result style x old new c.in-Err.field-0) same c.in-Err.ensures.err in
-    record { written = tt; front = json_failed c.most_allowed.result style b old new c.in-Err.field-0 tells; failed = λ reading. reading }
+    let tells = subst (λ (x : List ℕ). TellsWriteError c.args.limits style x old new c.in-Err.field-0) same c.in-Err.ensures.err in
+    record { written = tt; front = json_failed c.args.limits style b old new c.in-Err.field-0 tells; failed = λ reading. reading }

@@ -15,7 +15,7 @@ returns-in-Left-clause-ends g c =
     let w = g.W.Write.contents c.args.report.now in
     let w' = g.W.Write.contents c.pass_all.new.report in
     let w'' = g.W.Write.contents c.leave.new.report in
-    let all = subst (PassesAll c.args.asked.command c.args.asked.style c.args.asked.resync c.args.asked.name.now r r' d d' w w' c.args.counts.now c.pass_all.new.counts
+    let all = subst (PassesAll c.args.asked.limits c.args.asked.command c.args.asked.style c.args.asked.resync c.args.asked.name.now r r' d d' w w' c.args.counts.now c.pass_all.new.counts
     c.args.kept.now c.pass_all.new.kept c.pass_all.new.window) c.in-Left.is c.in_ok-pass_all.ensures.passed in
     if_ok c.leave.result _ _ (λ failed l.
     ends_left c.args.asked.command c.args.asked.style c.args.asked.resync c.args.asked.name.now r r' r'' d d' w w' w'' c.args.counts.now c.pass_all.new.counts
@@ -31,7 +31,7 @@ returns-in-Left-clause-halts g c =
     let w = g.W.Write.contents c.args.report.now in
     let w' = g.W.Write.contents c.pass_all.new.report in
     let w'' = g.W.Write.contents c.leave.new.report in
-    let all = subst (PassesAll c.args.asked.command c.args.asked.style c.args.asked.resync c.args.asked.name.now r r' d d' w w' c.args.counts.now c.pass_all.new.counts
+    let all = subst (PassesAll c.args.asked.limits c.args.asked.command c.args.asked.style c.args.asked.resync c.args.asked.name.now r r' d d' w w' c.args.counts.now c.pass_all.new.counts
     c.args.kept.now c.pass_all.new.kept c.pass_all.new.window) c.in-Left.is c.in_ok-pass_all.ensures.passed in
     on_errs c.leave.result _ _ _ (λ stops same.
     halts_left c.args.asked.command c.args.asked.style c.args.asked.resync c.args.asked.name.now r r' d d' w w' c.args.counts.now c.pass_all.new.counts

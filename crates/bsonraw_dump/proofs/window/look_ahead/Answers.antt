@@ -14,7 +14,7 @@ returns-then-not-branch-clause-told g c =
       window = sees.window;
       offset = sees.offset;
       looks = sees.looks;
-      is = c.too_few.ensures (g.R.Read.remaining c.look.new.reader) (drop c.args.from (ahead_of c.look.new.self)) left end;
+      is = c.too_few.ensures (g.R.Read.remaining c.look.new.reader) (drop c.args.from (ahead_of c.look.new.self)) left end c.args.most;
     }
 
 pub returns-then-branch-clause-told : goal.returns-then-branch-clause-told
@@ -22,7 +22,7 @@ returns-then-branch-clause-told g c =
     let r = g.R.Read.remaining in
     let yes' : c.in_ok-look.field-0 ≡ true = search rules in
     let all : c.in_ok-look-2.field-0 ≡ true = search rules in
-    let sound : IsSoundLength c.length_at-said.result = search rules in
+    let sound : IsSoundLength c.args.most c.length_at-said.result = search rules in
     let said : said_len (drop c.args.from (ahead_of c.look.new.self)) ≡ c.length_at-said.result =
     sym (c.length_at-said.ensures ∙ ap (λ l. said_len (drop c.args.from l)) c.ahead-2.ensures) in
     tells_document (r c.args.reader.now) (r c.look.new.reader) (r c.look-2.new.reader) c.args.window.now c.look.new.self c.look-2.new.self c.args.from
@@ -33,7 +33,7 @@ returns-else-branch-clause-told g c =
     let r = g.R.Read.remaining in
     let yes' : c.in_ok-look.field-0 ≡ true = search rules in
     let no : c.in_ok-look-2.field-0 ≡ false = search rules in
-    let sound : IsSoundLength c.length_at-said.result = search rules in
+    let sound : IsSoundLength c.args.most c.length_at-said.result = search rules in
     let said : said_len (drop c.args.from (ahead_of c.look.new.self)) ≡ c.length_at-said.result =
     sym (c.length_at-said.ensures ∙ ap (λ l. said_len (drop c.args.from l)) c.ahead-2.ensures) in
     tells_cut (r c.args.reader.now) (r c.look.new.reader) (r c.look-2.new.reader) c.args.window.now c.look.new.self c.look-2.new.self c.args.from
