@@ -1,32 +1,39 @@
 use raw_bson::{RawArrayBuf, RawBson, RawDocumentBuf, Result, canonical_bytes};
 use std::alloc::Global;
 use std::test::Fail;
-use test_fixtures::{check_equal, holds};
+use test_fixtures::holds;
 
-/// Writes the document of an author, and reads the year of birth back.
-fn year_of_birth(alloc: Global) -> Result<Option<i32>> {
+/// The languages of an author.
+const LANGUAGES: &[&str] = &["English", "French"];
+
+fn languages(alloc: Global) -> Result<RawArrayBuf> {
     let mut languages = RawArrayBuf::new(alloc)?;
-    languages.push(RawBson::from_str(alloc, "English")?)?;
-    languages.push(RawBson::from_str(alloc, "French")?)?;
+    for language in LANGUAGES {
+        languages.push(RawBson::from_str(alloc, language)?)?;
+    }
+    Ok(languages)
+}
 
+/// The document of an author.
+fn author(alloc: Global) -> Result<RawDocumentBuf> {
     let mut author = RawDocumentBuf::new(alloc)?;
     author.append("name", RawBson::from_str(alloc, "Ada Lovelace")?)?;
     author.append("born", RawBson::from(1815))?;
-    author.append("languages", RawBson::from(languages))?;
+    author.append("languages", RawBson::from(languages(alloc)?))?;
+    Ok(author)
+}
 
-    match author.get("born")? {
-        Some(year) => Ok(year.as_i32()),
-        None => Ok(None),
+/// Whether the year of birth is read back.
+fn is_born(author: &Result<RawDocumentBuf>, wanted: i32) -> bool {
+    match author {
+        Ok(author) => matches!(author.get_i32("born"), Ok(year) if year == wanted),
+        Err(_) => false,
     }
 }
 
 #[test]
 fn the_year_of_birth_is_read_back(rt: HostRuntime) -> std::result::Result<(), Fail> {
-    check_equal(
-        &year_of_birth(rt.alloc())?,
-        &Some(1815),
-        "the year of birth",
-    )
+    holds(is_born(&author(rt.alloc()), 1815), "the year of birth")
 }
 
 /// Whether two documents have the same tree, however they are written.

@@ -29,10 +29,14 @@ fn under(
 }
 
 /// Two names.
+const NAMES: &[&str] = &["Ada", "Bob"];
+
+/// The array of them.
 fn names(alloc: Global) -> Result<RawArrayBuf> {
     let mut names = RawArrayBuf::new(alloc)?;
-    names.push(RawBson::from_str(alloc, "Ada")?)?;
-    names.push(RawBson::from_str(alloc, "Bob")?)?;
+    for name in NAMES {
+        names.push(RawBson::from_str(alloc, name)?)?;
+    }
     Ok(names)
 }
 
