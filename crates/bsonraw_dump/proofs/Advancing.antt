@@ -1,49 +1,66 @@
 -- How bytes of an input of texts are passed, one piece after the other.
-use Rattle.std.proofs.Common.{◌≡◌, ◌⊎◌, ℕ, List, [], ◌∷◌, ◌++◌, true, false, Option, Some, append_assoc, ap, drop, refl, take, sym, subst, ◌∙◌}
+use Rattle.std.proofs.Common.{◌≡◌, ◌⊎◌, ◌+◌, ℕ, List, [], ◌∷◌, ◌++◌, true, false, Option, None, Some, IfSome, append_assoc, ap, arith, drop, inl, inr, length, length-append, refl, take, sym, subst, ◌∙◌}
 use Rattle.std.proofs.lemmas.Grind.{fold-append}
 use Rattle.std.specs.Io.KnownBytes.{Consumes}
 use Rattle.bsonraw_dump.specs.Reading.{IsWindow, ahead_of}
-use Rattle.bsonraw_dump.specs.TextReading.{Advances, FindsText, IsAhead, LooksOn, PassesBetween, PassesGap, ScansAhead}
-use Rattle.bsonraw_dump.specs.Texts.{HasNoLine, begins_line, may_begin, position_behind, position_over, turn_behind, turn_over, turn_step}
+use Rattle.bsonraw_dump.specs.TextReading.{Advances, FindsText, GoesOnTo, IsAhead, IsScanned, LooksOn, PassesAhead, PassesBetween, PassesGap}
+use Rattle.bsonraw_dump.specs.Texts.{HasBrace, HasNoLine, begins_line, may_begin, position_behind, position_over, turn_behind, turn_over, turn_step}
 use Rattle.bsonraw_dump.specs.declared.cursor.Cursor.{Cursor}
 use Rattle.bsonraw_dump.specs.declared.position.Position.{Position}
 use Rattle.bsonraw_dump.specs.declared.turn.Turn.{Turn}
 use Rattle.bsonraw_dump.specs.declared.cursor.NextText.TheVariants as next
 use Rattle.bsonraw_dump.specs.declared.scan.Scanned.{Scanned}
 use Rattle.bsonraw_dump.specs.declared.turn.Turn.TheVariants as turn
+use Rattle.bsonraw_dump.proofs.Ahead.{front_kept}
 use Rattle.bsonraw_dump.proofs.Skipping.{read_behind}
 
 -- nothing is passed
 pub advances_none : (r : Option (List ℕ)) (x : Cursor) → IsWindow x.window → Advances r r x x []
-advances_none r x is = record { window = is; place = refl; is_read = λ before read. read }
+advances_none r x is =
+    let zero : x.window.offset ≡ x.window.offset + 0 = omega arith in record { window = is; place = refl; offset = zero; is_read = λ before read. read }
 
 -- more is read ahead
 pub advances_ahead : (a b c : Option (List ℕ)) (x y z : Cursor) (bytes : List ℕ) → Advances a b x y bytes → LooksOn b c y z → Advances a c x z bytes
 advances_ahead a b c x y z bytes p looks = record {
   window = looks.window;
   place = looks.place ∙ p.place;
+  offset = looks.offset ∙ p.offset;
   is_read = λ before read. read_behind bytes (ahead_of y.window) (ahead_of z.window) before b c (p.is_read before read) looks.looks.is_read;
 }
 
 -- more is passed of what is ahead
 pub advances_more : (a b : Option (List ℕ)) (x y z : Cursor) (bytes more : List ℕ) → Advances a b x y bytes → IsWindow z.window
-    → ahead_of y.window ≡ more ++ ahead_of z.window → z.place ≡ position_over y.place more → Advances a b x z (bytes ++ more)
-advances_more a b x y z bytes more p is ahead place = record {
-  window = is;
-  place = place ∙ ap (λ q. position_over q more) p.place ∙ sym (fold-append position_behind x.place bytes more);
-  is_read = λ before read.
-      subst (Consumes before b) (ap (λ l. bytes ++ l) ahead ∙ sym (append_assoc bytes more (ahead_of z.window))) (p.is_read before read);
-}
+    → ahead_of y.window ≡ more ++ ahead_of z.window → z.place ≡ position_over y.place more → z.window.offset ≡ y.window.offset + length more
+    → Advances a b x z (bytes ++ more)
+advances_more a b x y z bytes more p is ahead place offset =
+    let size : length (bytes ++ more) ≡ length bytes + length more = length-append bytes more in
+    let first : y.window.offset ≡ x.window.offset + length bytes = p.offset in
+    record {
+      window = is;
+      place = place ∙ ap (λ q. position_over q more) p.place ∙ sym (fold-append position_behind x.place bytes more);
+      offset = omega (arith, size, first, offset);
+      is_read = λ before read.
+          subst (Consumes before b) (ap (λ l. bytes ++ l) ahead ∙ sym (append_assoc bytes more (ahead_of z.window))) (p.is_read before read);
+    }
 
 -- one piece after the other
 pub advances_on : (a b c : Option (List ℕ)) (x y z : Cursor) (bytes more : List ℕ) → Advances a b x y bytes → Advances b c y z more → Advances a c x z (bytes ++ more)
-advances_on a b c x y z bytes more p q = record {
-  window = q.window;
-  place = q.place ∙ ap (λ s. position_over s more) p.place ∙ sym (fold-append position_behind x.place bytes more);
-  is_read = λ before read.
-      subst (Consumes before c) (sym (append_assoc bytes more (ahead_of z.window)))
-      (read_behind bytes (ahead_of y.window) (more ++ ahead_of z.window) before b c (p.is_read before read) q.is_read);
-}
+advances_on a b c x y z bytes more p q =
+    let size : length (bytes ++ more) ≡ length bytes + length more = length-append bytes more in
+    let first : y.window.offset ≡ x.window.offset + length bytes = p.offset in
+    let second : z.window.offset ≡ y.window.offset + length more = q.offset in
+    record {
+      window = q.window;
+      place = q.place ∙ ap (λ s. position_over s more) p.place ∙ sym (fold-append position_behind x.place bytes more);
+      offset = omega (arith, size, first, second);
+      is_read = λ before read.
+          subst (Consumes before c) (sym (append_assoc bytes more (ahead_of z.window)))
+          (read_behind bytes (ahead_of y.window) (more ++ ahead_of z.window) before b c (p.is_read before read) q.is_read);
+    }
+
+-- some bytes were passed, and more is read ahead
+pub goes_on_to : (a b c : Option (List ℕ)) (x y z : Cursor) (bytes : List ℕ) → Advances a b x y bytes → LooksOn b c y z → GoesOnTo a c x z
+goes_on_to a b c x y z bytes p looks = (bytes, advances_ahead a b c x y z bytes p looks)
 
 -- what may come behind one byte more
 pub turn_more : (t u v : Turn) (front : List ℕ) (b : ℕ) → turn_over t front ≡ Some u → turn_behind u b ≡ Some v → turn_over t (front ++ b ∷ []) ≡ Some v
@@ -56,12 +73,11 @@ no_line_more p (x ∷ gap) b (first, rest) now = (first, no_line_more (position_
 
 -- one byte is ahead, and is passed
 advances_byte : (a b : Option (List ℕ)) (x y z : Cursor) (bytes : List ℕ) (byte : ℕ) (rest : List ℕ) → Advances a b x y bytes → ahead_of y.window ≡ byte ∷ rest
-    → IsWindow z.window × (ahead_of z.window ≡ drop 1 (ahead_of y.window)) × (z.place ≡ position_over y.place (take 1 (ahead_of y.window)))
-    → Advances a b x z (bytes ++ byte ∷ [])
+    → PassesAhead y z 1 → Advances a b x z (bytes ++ byte ∷ [])
 advances_byte a b x y z bytes byte rest p ahead passed =
     let behind : ahead_of z.window ≡ rest = passed.1 ∙ ap (drop 1) ahead in
     let place : z.place ≡ position_over y.place (byte ∷ []) = passed.2 ∙ ap (λ l. position_over y.place (take 1 l)) ahead in
-    advances_more a b x y z bytes (byte ∷ []) p passed.0 (ahead ∙ ap (λ l. byte ∷ l) (sym behind)) place
+    advances_more a b x y z bytes (byte ∷ []) p passed.0 (ahead ∙ ap (λ l. byte ∷ l) (sym behind)) place passed.3
 
 -- this was passed between documents
 abbrev pub HasBetween : (a b : Option (List ℕ)) (x y : Cursor) (t u : Turn) → Type 0
@@ -71,17 +87,19 @@ pub between_none : (r : Option (List ℕ)) (x : Cursor) (t : Turn) → IsWindow 
 between_none r x t is = ([], advances_none r x is, refl)
 
 pub between_more : (a b c : Option (List ℕ)) (x y z w : Cursor) (t u v : Turn) (o : Option ℕ) (byte : ℕ) → HasBetween a b x y t u → LooksOn b c y z × IsAhead c z o → o ≡ Some byte
-    → turn_behind u byte ≡ Some v
-    → IsWindow w.window × (ahead_of w.window ≡ drop 1 (ahead_of z.window)) × (w.place ≡ position_over z.place (take 1 (ahead_of z.window)))
-    → HasBetween a c x w t v
+    → turn_behind u byte ≡ Some v → PassesAhead z w 1 → HasBetween a c x w t v
 between_more a b c x y z w t u v o byte (front, p, turns) (looks, is) some now passed =
     let (rest, ahead) = subst (IsAhead c z) some is in
     (front ++ byte ∷ [], advances_byte a c x z w front byte rest (advances_ahead a b c x y z front p looks) ahead passed, turn_more t u v front byte turns now)
 
 pub between_ends : (a b c : Option (List ℕ)) (x y z : Cursor) (t u : Turn) (o q : Option ℕ) → HasBetween a b x y t u → LooksOn b c y z × IsAhead c z o → o ≡ q
-    → PassesBetween a c x z t u q
-between_ends a b c x y z t u o q (front, p, turns) (looks, is) same =
-    record { front = front; advances = advances_ahead a b c x y z front p looks; turns = turns; is = subst (IsAhead c z) same is }
+    → IfSome q (λ byte. turn_behind u byte ≡ None) → PassesBetween a c x z t u q
+between_ends a b c x y z t u o q (front, p, turns) (looks, is) same stops =
+    record { front = front; advances = advances_ahead a b c x y z front p looks; turns = turns; is = subst (IsAhead c z) same is; stops = stops }
+
+-- and reading failed behind it
+pub between_fails : (a b c : Option (List ℕ)) (x y z : Cursor) (t u : Turn) → HasBetween a b x y t u → LooksOn b c y z → GoesOnTo a c x z
+between_fails a b c x y z t u (front, p, turns) looks = goes_on_to a b c x y z front p looks
 
 -- this was passed over
 abbrev pub HasGap : (a b : Option (List ℕ)) (x y : Cursor) → Type 0
@@ -91,26 +109,43 @@ pub gap_none : (r : Option (List ℕ)) (x : Cursor) → IsWindow x.window → Ha
 gap_none r x is = ([], advances_none r x is, tt)
 
 pub gap_more : (a b c : Option (List ℕ)) (x y z w : Cursor) (o : Option ℕ) (byte : ℕ) → HasGap a b x y → LooksOn b c y z × IsAhead c z o → o ≡ Some byte
-    → begins_line z.place byte ≡ false
-    → IsWindow w.window × (ahead_of w.window ≡ drop 1 (ahead_of z.window)) × (w.place ≡ position_over z.place (take 1 (ahead_of z.window)))
-    → HasGap a c x w
+    → begins_line z.place byte ≡ false → PassesAhead z w 1 → HasGap a c x w
 gap_more a b c x y z w o byte (gap, p, none) (looks, is) some now passed =
     let (rest, ahead) = subst (IsAhead c z) some is in
     let first = advances_ahead a b c x y z gap p looks in
     let here : begins_line (position_over x.place gap) byte ≡ false = subst (λ (q : Position). begins_line q byte ≡ false) first.place now in
     (gap ++ byte ∷ [], advances_byte a c x z w gap byte rest first ahead passed, no_line_more x.place gap byte none here)
 
-pub gap_ends : (a b c : Option (List ℕ)) (x y z : Cursor) (t u : Turn) (o : Option ℕ) → HasGap a b x y → LooksOn b c y z × IsAhead c z o → ((u ≡ t) ⊎ (u ≡ turn.Last))
+-- up to the end of the input
+pub gap_ends : (a b c : Option (List ℕ)) (x y z : Cursor) (t u : Turn) (o : Option ℕ) → HasGap a b x y → LooksOn b c y z × IsAhead c z o → o ≡ None → u ≡ turn.Last
     → PassesGap a c x z t u
-gap_ends a b c x y z t u o (gap, p, none) (looks, is) turns =
-    record { gap = gap; advances = advances_ahead a b c x y z gap p looks; none = none; turns = turns }
+gap_ends a b c x y z t u o (gap, p, none) (looks, is) end last =
+    record { gap = gap; advances = advances_ahead a b c x y z gap p looks; none = none; ends = inr (last, subst (IsAhead c z) end is) }
 
--- a document's text is next
-pub finds_text : (a b c : Option (List ℕ)) (x y z : Cursor) (t u : Turn) (o : Option ℕ) (found : Scanned) → PassesBetween a b x y t u o → LooksOn b c y z × ScansAhead (ahead_of z.window) found
-    → may_begin u ≡ true → FindsText a c x z t u (next.Text found)
-finds_text a b c x y z t u o found p (looks, scans) may = record {
-  front = p.front;
-  advances = advances_ahead a b c x y z p.front p.advances looks;
-  turns = p.turns;
-  is = (may, scans);
-}
+-- or to a line that begins with a brace
+pub gap_goes_on : (a b c : Option (List ℕ)) (x y z : Cursor) (t u : Turn) (o : Option ℕ) (byte : ℕ) → HasGap a b x y → LooksOn b c y z × IsAhead c z o → o ≡ Some byte → u ≡ t
+    → begins_line z.place byte ≡ true → PassesGap a c x z t u
+gap_goes_on a b c x y z t u o byte (gap, p, none) (looks, is) some same begins =
+    record { gap = gap; advances = advances_ahead a b c x y z gap p looks; none = none; ends = inl (same, (byte, subst (IsAhead c z) some is, begins)) }
+
+-- and reading failed behind it
+pub gap_fails : (a b c : Option (List ℕ)) (x y z : Cursor) → HasGap a b x y → LooksOn b c y z → GoesOnTo a c x z
+gap_fails a b c x y z (gap, p, none) looks = goes_on_to a b c x y z gap p looks
+
+-- a document's text is next, which begins with a brace
+pub finds_text : (a b c : Option (List ℕ)) (x y z : Cursor) (t u : Turn) (o : Option ℕ) (found : Scanned) → PassesBetween a b x y t u o → o ≡ Some 123
+    → LooksOn b c y z × IsScanned c (ahead_of z.window) found → may_begin u ≡ true → FindsText a c x z t u (next.Text found)
+finds_text a b c x y z t u o found p some (looks, scans) may =
+    let (rest, brace) = subst (IsAhead b y) some p.is in
+    let (more, kept) = front_kept (ahead_of y.window) (ahead_of z.window) looks.looks.kept in
+    let here : ahead_of z.window ≡ 123 ∷ (rest ++ more) = kept ∙ ap (λ l. l ++ more) brace in
+    record {
+      front = p.front;
+      advances = advances_ahead a b c x y z p.front p.advances looks;
+      turns = p.turns;
+      is = (may, (rest ++ more, here), scans);
+    }
+
+-- and reading it failed
+pub finds_fails : (a b c : Option (List ℕ)) (x y z : Cursor) (t u : Turn) (o : Option ℕ) → PassesBetween a b x y t u o → LooksOn b c y z → GoesOnTo a c x z
+finds_fails a b c x y z t u o p looks = goes_on_to a b c x y z p.front p.advances looks

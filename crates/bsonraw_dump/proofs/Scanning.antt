@@ -1,5 +1,5 @@
 -- How far the text of a document comes, where more of it is read.
-use Rattle.std.proofs.Common.{◌≡◌, ℕ, ◌+◌, ◌-◌, ◌≤◌, ◌<◌, List, arith, ap, drop, fold, length, sym, subst, take, ◌∙◌}
+use Rattle.std.proofs.Common.{◌≡◌, ℕ, ◌+◌, ◌-◌, ◌^◌, ◌≤◌, ◌<◌, List, arith, ap, drop, fold, length, sym, subst, take, ◌∙◌}
 use Rattle.std.proofs.lemmas.Grind.{fold-append}
 use Rattle.std.proofs.lemmas.List.{take-take}
 use Rattle.bsonraw_dump.specs.TextReading.{ScansAhead}
@@ -15,12 +15,13 @@ scanned_on ahead k m n less =
     ∙ ap scanned (sym (take-add k m ahead))
 
 -- the text goes on
-pub scans_on : (ahead : List ℕ) (f m : Scanned) (n : ℕ) → ScansAhead ahead f → m.len ≤ n → f.len + m.len ≤ length ahead
+pub scans_on : (ahead : List ℕ) (f m : Scanned) (n : ℕ) → ScansAhead ahead f → m.len ≤ n → f.len + m.len ≤ length ahead → f.len + m.len ≤ 2 ^ 27
     → m.scan ≡ fold step f.scan (take m.len (take n (drop f.len ahead)))
     → (¬ IsOpen m.scan → (0 < m.len) × IsOpen (fold step f.scan (take (m.len - 1) (take n (drop f.len ahead)))))
     → ScansAhead ahead (record { scan = m.scan; len = f.len + m.len })
-scans_on ahead f m n h less within scan last = record {
+scans_on ahead f m n h less within most scan last = record {
   within = within;
+  most = most;
   scan = scan ∙ ap (λ s. fold step s (take m.len (take n (drop f.len ahead)))) h.scan ∙ scanned_on ahead f.len m.len n less;
   last = λ no.
       let some : 0 < m.len = (last no).0 in

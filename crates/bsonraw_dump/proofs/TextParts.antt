@@ -1,17 +1,20 @@
 -- What is passed of an input of texts.
-use Rattle.std.proofs.Common.{◌≡◌, ◌≤◌, ℕ, List, [], ◌∷◌, ◌++◌, true, Option, append-nil, ap, drop, inl, inr, length, length-take-le, refl, subst, sym, take, ◌∙◌}
+use Rattle.std.proofs.Common.{◌≡◌, ◌≤◌, ◌+◌, ℕ, suc, zero, List, [], ◌∷◌, ◌++◌, true, Option, append-nil, ap, arith, drop, inl, inr, length, length-take-le, refl, subst, sym, take, ◌∙◌}
 use Rattle.std.proofs.lemmas.List.{take-append-drop, take-take}
 use Rattle.std.specs.Io.KnownBytes.{Appends}
 use Rattle.std.proofs.KnownBytes.{Appends-nil}
 use Rattle.bson_from_json.specs.Texts.{IsWritten}
 use Rattle.bson_json.specs.Written.{AppendsFront}
 use Rattle.bsonraw_dump.specs.Fronts.{HasFront}
-use Rattle.bsonraw_dump.specs.Reading.{IsWindow, ahead_of}
+use Rattle.bsonraw_dump.specs.Reading.{ahead_of}
 use Rattle.bsonraw_dump.specs.TextFaults.{fault_line}
-use Rattle.bsonraw_dump.specs.TextRun.{HaltsText, IsAstray, IsDocument, IsFaultOf, IsRefused, PassesText, TellsFault, count_made}
-use Rattle.bsonraw_dump.specs.Texts.{IsOpen, IsWhole, may_begin, position_over, scanned, turn_behind_document, turn_behind_gap}
+use Rattle.bsonraw_dump.specs.TextReading.{PassesAhead}
+use Rattle.bsonraw_dump.specs.TextRun.{HaltsText, IsBegun, IsDocument, IsFaultOf, IsRefused, PassesText, TellsFault, TellsNoText, count_made}
+use Rattle.bsonraw_dump.specs.Texts.{HasBrace, IsOpen, IsWhole, may_begin, position_over, scanned, turn_behind_document, turn_behind_gap}
 use Rattle.bsonraw_dump.specs.declared.cursor.Cursor.{Cursor}
+use Rattle.bsonraw_dump.specs.declared.cursor.NextText.{NextText}
 use Rattle.bsonraw_dump.specs.declared.position.Position.{Position}
+use Rattle.bsonraw_dump.specs.declared.scan.Scan.TheVariants as scan
 use Rattle.bsonraw_dump.specs.declared.style.Style.{Style}
 use Rattle.bsonraw_dump.specs.declared.text_counts.TextCounts.{TextCounts}
 use Rattle.bsonraw_dump.specs.declared.text_fault.TextReason.{TextReason}
@@ -29,23 +32,35 @@ tells_fault style name ahead place len at reason fits within = record {
   told = ap (λ l. fault_line style name (position_over place l) reason) (sym (take-take at len ahead within));
 }
 
+-- a text that isn't empty begins with the brace that is ahead
+no_byte : (ahead : List ℕ) → ¬ IsWhole (take 0 ahead)
+no_byte ahead whole = let same : scan.Levels 0 true ≡ scan.Whole = whole in let none : ⊥ = cc in none
+
+brace_first : (len : ℕ) (ahead : List ℕ) → HasBrace ahead → IsWhole (take len ahead) → HasBrace (take len ahead)
+brace_first zero ahead brace whole = absurd (no_byte ahead whole)
+brace_first (suc n) ahead (rest, same) whole = (take n rest, ap (take (suc n)) same)
+
 -- so many bytes were passed
 pub record PassesFirst (y z : Cursor) (len : ℕ) : Type 0 where
   pub fits : len ≤ length (ahead_of y.window)
-  pub is : IsWindow z.window × (ahead_of z.window ≡ drop len (ahead_of y.window)) × (z.place ≡ position_over y.place (take len (ahead_of y.window)))
+  pub is : PassesAhead y z len
 
 split : (y z : Cursor) (len : ℕ) → PassesFirst y z len → ahead_of y.window ≡ take len (ahead_of y.window) ++ ahead_of z.window
 split y z len p = sym (take-append-drop len (ahead_of y.window)) ∙ ap (λ l. take len (ahead_of y.window) ++ l) (sym p.is.1)
+
+offset_of : (y z : Cursor) (len : ℕ) → PassesFirst y z len → z.window.offset ≡ y.window.offset + length (take len (ahead_of y.window))
+offset_of y z len p = p.is.3 ∙ ap (λ n. y.window.offset + n) (sym (length-take-le len (ahead_of y.window) p.fits))
 
 -- the text is in front of what is ahead
 first_of : (len : ℕ) (ahead : List ℕ) → HasFront ahead (take len ahead)
 first_of len ahead = (drop len ahead, sym (take-append-drop len ahead))
 
 module _ (style : Style) (name ahead : List ℕ) (place : Position) (t v : Turn) (len : ℕ) (fits : len ≤ length ahead) where
-  is_document : (document : List ℕ) → may_begin t ≡ true → IsWhole (take len ahead) → IsWritten (take len ahead) document → v ≡ turn_behind_document t
+  is_document : (document : List ℕ) → may_begin t ≡ true → HasBrace ahead → IsWhole (take len ahead) → IsWritten (take len ahead) document → v ≡ turn_behind_document t
       → IsDocument t (take len ahead) (document ∷ []) [] v
-  is_document document may whole is next = record {
+  is_document document may brace whole is next = record {
     may_be = may;
+    brace = brace_first len ahead brace whole;
     whole = whole;
     document = document;
     is_written = is;
@@ -55,23 +70,21 @@ module _ (style : Style) (name ahead : List ℕ) (place : Position) (t v : Turn)
   }
 
   module _ (at : ℕ) (reason : TextReason) (within : at ≤ len) where
-    is_astray : IsOpen (scanned (take len ahead)) → v ≡ turn_behind_gap t
-        → IsAstray style name place t (take len ahead) [] (fault_line style name (position_over place (take at ahead)) reason) v
-    is_astray open' next = record {
-      begun = take len ahead;
-      gap = [];
-      parts = sym (append-nil (take len ahead));
+    is_begun : (told : NextText) → IsOpen (scanned (take len ahead)) → TellsNoText ahead told len at reason → v ≡ turn_behind_gap t
+        → IsBegun style name place t ahead told (take len ahead) [] (fault_line style name (position_over place (take at ahead)) reason) v
+    is_begun told open' why next = record {
       unended = open';
-      no_line = tt;
       none = refl;
       fault = tells_fault style name ahead place len at reason fits within;
-      next = inl next;
+      why = subst (λ n. TellsNoText ahead told n at reason) (sym (length-take-le len ahead fits)) why;
+      next = next;
     }
 
-    is_refused : may_begin t ≡ true → IsWhole (take len ahead) → IsFaultOf (take len ahead) at reason → v ≡ turn_behind_document t
+    is_refused : may_begin t ≡ true → HasBrace ahead → IsWhole (take len ahead) → IsFaultOf (take len ahead) at reason → v ≡ turn_behind_document t
         → IsRefused style name place t (take len ahead) [] (fault_line style name (position_over place (take at ahead)) reason) v
-    is_refused may whole why next = record {
+    is_refused may brace whole why next = record {
       may_be = may;
+      brace = brace_first len ahead brace whole;
       whole = whole;
       none = refl;
       fault = tells_fault style name ahead place len at reason fits within;
@@ -79,49 +92,53 @@ module _ (style : Style) (name ahead : List ℕ) (place : Position) (t v : Turn)
       next = next;
     }
 
-module _ (style : Style) (name : List ℕ) (y z : Cursor) (t v : Turn) (len : ℕ) where
+module _ (style : Style) (name : List ℕ) (told : NextText) (y z : Cursor) (t v : Turn) (len : ℕ) where
   module _ (at : ℕ) (reason : TextReason) (out w w' : Option (List ℕ)) (n n' : TextCounts) (p : PassesFirst y z len) (within : at ≤ len)
-      (told : Appends w w' (fault_line style name (position_over y.place (take at (ahead_of y.window))) reason)) (counted : n' ≡ count_made n []) where
-    pub passes_astray : IsOpen (scanned (take len (ahead_of y.window))) → v ≡ turn_behind_gap t → PassesText style name y z t v out out w w' n n' went.Astray
-    passes_astray open' next = record {
+      (line : Appends w w' (fault_line style name (position_over y.place (take at (ahead_of y.window))) reason)) (counted : n' ≡ count_made n []) where
+    pub passes_astray : IsOpen (scanned (take len (ahead_of y.window))) → TellsNoText (ahead_of y.window) told len at reason → v ≡ turn_behind_gap t
+        → PassesText style name told y z t v out out w w' n n' went.Astray
+    passes_astray open' why next = record {
       window = p.is.0;
       text = take len (ahead_of y.window);
       made = [];
       lines = fault_line style name (position_over y.place (take at (ahead_of y.window))) reason;
       ahead = split y z len p;
       place = p.is.2;
-      is = is_astray style name (ahead_of y.window) y.place t v len p.fits at reason within open' next;
+      offset = offset_of y z len p;
+      is = is_begun style name (ahead_of y.window) y.place t v len p.fits at reason within told open' why next;
       is_written = Appends-nil out;
-      is_reported = told;
+      is_reported = line;
       is_counted = counted;
     }
 
-    pub passes_refused : may_begin t ≡ true → IsWhole (take len (ahead_of y.window)) → IsFaultOf (take len (ahead_of y.window)) at reason
-        → v ≡ turn_behind_document t → PassesText style name y z t v out out w w' n n' went.Refused
-    passes_refused may whole why next = record {
+    pub passes_refused : may_begin t ≡ true → HasBrace (ahead_of y.window) → IsWhole (take len (ahead_of y.window)) → IsFaultOf (take len (ahead_of y.window)) at reason
+        → v ≡ turn_behind_document t → PassesText style name told y z t v out out w w' n n' went.Refused
+    passes_refused may brace whole why next = record {
       window = p.is.0;
       text = take len (ahead_of y.window);
       made = [];
       lines = fault_line style name (position_over y.place (take at (ahead_of y.window))) reason;
       ahead = split y z len p;
       place = p.is.2;
-      is = is_refused style name (ahead_of y.window) y.place t v len p.fits at reason within may whole why next;
+      offset = offset_of y z len p;
+      is = is_refused style name (ahead_of y.window) y.place t v len p.fits at reason within may brace whole why next;
       is_written = Appends-nil out;
-      is_reported = told;
+      is_reported = line;
       is_counted = counted;
     }
 
-  pub passes_document : (document : List ℕ) (d d' w : Option (List ℕ)) (n n' : TextCounts) → PassesFirst y z len → may_begin t ≡ true → IsWhole (take len (ahead_of y.window))
-      → IsWritten (take len (ahead_of y.window)) document → Appends d d' document → n' ≡ count_made n (document ∷ []) → v ≡ turn_behind_document t
-      → PassesText style name y z t v d d' w w n n' went.Document
-  passes_document document d d' w n n' p may whole is written counted next = record {
+  pub passes_document : (document : List ℕ) (d d' w : Option (List ℕ)) (n n' : TextCounts) → PassesFirst y z len → may_begin t ≡ true
+      → HasBrace (ahead_of y.window) × IsWhole (take len (ahead_of y.window)) × IsWritten (take len (ahead_of y.window)) document → Appends d d' document
+      → n' ≡ count_made n (document ∷ []) → v ≡ turn_behind_document t → PassesText style name told y z t v d d' w w n n' went.Document
+  passes_document document d d' w n n' p may (brace, whole, is) written counted next = record {
     window = p.is.0;
     text = take len (ahead_of y.window);
     made = document ∷ [];
     lines = [];
     ahead = split y z len p;
     place = p.is.2;
-    is = is_document style name (ahead_of y.window) y.place t v len p.fits document may whole is next;
+    offset = offset_of y z len p;
+    is = is_document style name (ahead_of y.window) y.place t v len p.fits document may brace whole is next;
     is_written = subst (Appends d d') (sym (append-nil document)) written;
     is_reported = Appends-nil w;
     is_counted = counted;
@@ -129,21 +146,21 @@ module _ (style : Style) (name : List ℕ) (y z : Cursor) (t v : Turn) (len : �
 
 module _ (ahead : List ℕ) (place : Position) (t : Turn) where
   -- nothing is written
-  pub halts_none : (d : Option (List ℕ)) → (style : Style) (name : List ℕ) (w : Option (List ℕ)) → HaltsText style name place t ahead d d w w
-  halts_none d style name w = inl (refl, refl)
+  pub halts_none : (d : Option (List ℕ)) → (style : Style) (name : List ℕ) (told : NextText) (w : Option (List ℕ)) → HaltsText style name told place t ahead d d w w
+  halts_none d style name told w = inl (refl, refl)
 
   module _ (len : ℕ) (fits : len ≤ length ahead) where
     -- a front of a document
-    pub halts_document : (document : List ℕ) (d d' : Option (List ℕ)) → may_begin t ≡ true → IsWhole (take len ahead) → IsWritten (take len ahead) document
-        → AppendsFront d d' document → (style : Style) (name : List ℕ) (w : Option (List ℕ)) → HaltsText style name place t ahead d d' w w
-    halts_document document d d' may whole is front style name w = inr (
+    pub halts_document : (document : List ℕ) (d d' : Option (List ℕ)) → may_begin t ≡ true → HasBrace ahead → IsWhole (take len ahead) → IsWritten (take len ahead) document
+        → AppendsFront d d' document → (style : Style) (name : List ℕ) (told : NextText) (w : Option (List ℕ)) → HaltsText style name told place t ahead d d' w w
+    halts_document document d d' may brace whole is front style name told w = inr (
       went.Document,
       take len ahead,
       document ∷ [],
       [],
       turn_behind_document t,
       first_of len ahead,
-      is_document style name ahead place t (turn_behind_document t) len fits document may whole is refl,
+      is_document style name ahead place t (turn_behind_document t) len fits document may brace whole is refl,
       subst (AppendsFront d d') (sym (append-nil document)) front,
       front_none w [],
     )
@@ -151,28 +168,30 @@ module _ (ahead : List ℕ) (place : Position) (t : Turn) where
     module _ (style : Style) (name : List ℕ) (at : ℕ) (reason : TextReason) (within : at ≤ len) (w w' : Option (List ℕ))
         (front : AppendsFront w w' (fault_line style name (position_over place (take at ahead)) reason)) where
       -- or of the line of a fault
-      pub halts_astray : IsOpen (scanned (take len ahead)) → (out : Option (List ℕ)) → HaltsText style name place t ahead out out w w'
-      halts_astray open' out = inr (
+      pub halts_astray : IsOpen (scanned (take len ahead)) → (told : NextText) (out : Option (List ℕ)) → TellsNoText ahead told len at reason
+          → HaltsText style name told place t ahead out out w w'
+      halts_astray open' told out why = inr (
         went.Astray,
         take len ahead,
         [],
         fault_line style name (position_over place (take at ahead)) reason,
         turn_behind_gap t,
         first_of len ahead,
-        is_astray style name ahead place t (turn_behind_gap t) len fits at reason within open' refl,
+        is_begun style name ahead place t (turn_behind_gap t) len fits at reason within told open' why refl,
         front_none out [],
         front,
       )
 
-      pub halts_refused : may_begin t ≡ true → IsWhole (take len ahead) → IsFaultOf (take len ahead) at reason → (out : Option (List ℕ)) → HaltsText style name place t ahead out out w w'
-      halts_refused may whole why out = inr (
+      pub halts_refused : may_begin t ≡ true → HasBrace ahead → IsWhole (take len ahead) → IsFaultOf (take len ahead) at reason → (told : NextText) (out : Option (List ℕ))
+          → HaltsText style name told place t ahead out out w w'
+      halts_refused may brace whole why told out = inr (
         went.Refused,
         take len ahead,
         [],
         fault_line style name (position_over place (take at ahead)) reason,
         turn_behind_document t,
         first_of len ahead,
-        is_refused style name ahead place t (turn_behind_document t) len fits at reason within may whole why refl,
+        is_refused style name ahead place t (turn_behind_document t) len fits at reason within may brace whole why refl,
         front_none out [],
         front,
       )

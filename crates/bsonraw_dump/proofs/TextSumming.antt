@@ -82,19 +82,19 @@ halts_unread k style name input d w n n' counted = record {
 }
 
 -- the parts are in front of the input
-front_in : (ended : TextEnd) (input : Option (List ℕ)) (ps : List TextPart) → IfSome input (EndsAs ended ps) → IfSome input (λ s. HasFront s (bytes_of_texts ps))
-front_in ended None ps ends = tt
-front_in end.End (Some s) ps (left, _, same, turns, may) = (left, same)
-front_in end.Stopped (Some s) ps ends = ends
-front_in (end.Failed failed) (Some s) ps ends = ends
+front_in : (ended : TextEnd) (input left : Option (List ℕ)) (ps : List TextPart) → IfSome input (EndsAs ended ps left) → IfSome input (λ s. HasFront s (bytes_of_texts ps))
+front_in ended None left ps ends = tt
+front_in end.End (Some s) left ps (behind, _, same, turns, may, done) = (behind, same)
+front_in end.Stopped (Some s) left ps ends = ends
+front_in (end.Failed failed) (Some s) left ps ends = ends.0
 
 -- it was read, and nothing more comes
-pub halts_read : (a : AskedTexts) (input d d' w w' : Option (List ℕ)) (n n' n'' : TextCounts) (ended : TextEnd) → ReadsTexts a input d d' w w' n n' ended → n'' ≡ n'
+pub halts_read : (a : AskedTexts) (input left d d' w w' : Option (List ℕ)) (n n' n'' : TextCounts) (ended : TextEnd) → ReadsTexts a input left d d' w w' n n' ended → n'' ≡ n'
     → HaltsTexts a.keep_going a.style a.name.now input d d' w w' n n''
-halts_read a input d d' w w' n n' n'' ended p counted = record {
+halts_read a input left d d' w w' n n' n'' ended p counted = record {
   ps = p.ps;
   parts = p.parts;
-  in_front = front_in ended input p.ps p.ends;
+  in_front = front_in ended input left p.ps p.ends;
   out_between = d';
   report_between = w';
   is_written = p.is_written;

@@ -90,7 +90,8 @@ pub record ReadsOpen (job : TextJob) (input : Option (List ℕ)) (name : List �
   pub named : asked.name.now ≡ name
   pub counts : TextCounts
   pub ended : TextEnd
-  pub reads : ReadsTexts asked input old.out new.out old.report new.report old.counts counts ended
+  pub left : Option (List ℕ)
+  pub reads : ReadsTexts asked input left old.out new.out old.report new.report old.counts counts ended
   pub ends : EndsInput ended name counts new.counts old.cut new.cut
 
 -- An input isn't opened. None is of which bytes are known.

@@ -1,12 +1,15 @@
 -- What reading an input of texts gives, where some of it is read ahead. No public contract cites this file.
-use Rattle.std.specs.Prelude.{◌≡◌, ◌⊎◌, ◌-◌, ◌≤◌, ◌<◌, ℕ, List, [], ◌∷◌, ◌++◌, Bool, true, false, Option, None, Some, length, take}
+use Rattle.std.specs.Prelude.{◌≡◌, ◌⊎◌, ◌+◌, ◌-◌, ◌^◌, ◌≤◌, ◌<◌, ℕ, List, [], ◌∷◌, ◌++◌, Bool, true, false, Option, None, Some, IfSome, drop, length, take}
 use Rattle.std.specs.Io.KnownBytes.{Consumes, IsAtEnd}
 use Rattle.bsonraw_dump.specs.Reading.{IsWindow, Looks, ahead_of}
-use Rattle.bsonraw_dump.specs.Texts.{HasNoLine, IsOpen, may_begin, may_end, position_over, scanned, turn_over}
+use Rattle.bson_from_json.specs.declared.error.JsonReason.TheVariants as json
+use Rattle.bsonraw_dump.specs.Texts.{CantBe, HasBrace, HasNoLine, IsOpen, begins_line, may_begin, may_end, position_over, reason_between, scanned, turn_behind, turn_over}
 use Rattle.bsonraw_dump.specs.declared.cursor.Cursor.{Cursor}
 use Rattle.bsonraw_dump.specs.declared.cursor.NextText.{NextText}
 use Rattle.bsonraw_dump.specs.declared.cursor.NextText.TheVariants as next
 use Rattle.bsonraw_dump.specs.declared.scan.Scanned.{Scanned}
+use Rattle.bsonraw_dump.specs.declared.text_fault.TextReason.{TextReason}
+use Rattle.bsonraw_dump.specs.declared.text_fault.TextReason.TheVariants as reason
 use Rattle.bsonraw_dump.specs.declared.turn.Turn.{Turn}
 use Rattle.bsonraw_dump.specs.declared.turn.Turn.TheVariants as turn
 
@@ -14,6 +17,7 @@ use Rattle.bsonraw_dump.specs.declared.turn.Turn.TheVariants as turn
 pub record LooksOn (old new : Option (List ℕ)) (cursor_old cursor_new : Cursor) : Type 0 where
   pub window : IsWindow cursor_new.window
   pub place : cursor_new.place ≡ cursor_old.place
+  pub offset : cursor_new.window.offset ≡ cursor_old.window.offset
   pub looks : Looks old new (ahead_of cursor_old.window) (ahead_of cursor_new.window)
 
 -- so it is, and so many bytes are ahead; or fewer, and the input is at its end
@@ -31,32 +35,57 @@ IsAhead new cursor (Some b) = (rest : List ℕ) × (ahead_of cursor.window ≡ b
 pub record Advances (old new : Option (List ℕ)) (cursor_old cursor_new : Cursor) (bytes : List ℕ) : Type 0 where
   pub window : IsWindow cursor_new.window
   pub place : cursor_new.place ≡ position_over cursor_old.place bytes
+  pub offset : cursor_new.window.offset ≡ cursor_old.window.offset + length bytes
   pub is_read : (before : Option (List ℕ)) → Consumes before old (ahead_of cursor_old.window) → Consumes before new (bytes ++ ahead_of cursor_new.window)
 
--- what may be between documents was passed
+-- some bytes were passed, and others read
+abbrev pub GoesOnTo : (old new : Option (List ℕ)) → (cursor_old cursor_new : Cursor) → Type 0
+GoesOnTo old new cursor_old cursor_new = (bytes : List ℕ) × Advances old new cursor_old cursor_new bytes
+
+-- so many bytes that are ahead were passed
+abbrev pub PassesAhead : (cursor_old cursor_new : Cursor) → ℕ → Type 0
+PassesAhead cursor_old cursor_new count =
+    IsWindow cursor_new.window × (ahead_of cursor_new.window ≡ drop count (ahead_of cursor_old.window))
+    × (cursor_new.place ≡ position_over cursor_old.place (take count (ahead_of cursor_old.window))) × (cursor_new.window.offset ≡ cursor_old.window.offset + count)
+
+-- what may be between documents was passed, up to a byte that can't be there
 pub record PassesBetween (old new : Option (List ℕ)) (cursor_old cursor_new : Cursor) (turn_old turn_new : Turn) (behind : Option ℕ) : Type 0 where
   pub front : List ℕ
   pub advances : Advances old new cursor_old cursor_new front
   pub turns : turn_over turn_old front ≡ Some turn_new
   pub is : IsAhead new cursor_new behind
+  pub stops : IfSome behind (λ b. turn_behind turn_new b ≡ None)
 
--- bytes were passed in which no line begins with a brace; the input ends there, or goes on
+-- bytes were passed in which no line begins with a brace, up to such a line, or to the end of the input
 pub record PassesGap (old new : Option (List ℕ)) (cursor_old cursor_new : Cursor) (turn_old turn_new : Turn) : Type 0 where
   pub gap : List ℕ
   pub advances : Advances old new cursor_old cursor_new gap
   pub none : HasNoLine cursor_old.place gap
-  pub turns : (turn_new ≡ turn_old) ⊎ (turn_new ≡ turn.Last)
+  pub ends :
+      ((turn_new ≡ turn_old) × ((b : ℕ) × IsAhead new cursor_new (Some b) × (begins_line cursor_new.place b ≡ true)))
+      ⊎ ((turn_new ≡ turn.Last) × IsAhead new cursor_new None)
 
 -- so far the text comes that is ahead; it could go on but for its last byte
 pub record ScansAhead (ahead : List ℕ) (found : Scanned) : Type 0 where
   pub within : found.len ≤ length ahead
+  pub most : found.len ≤ 2 ^ 27
   pub scan : found.scan ≡ scanned (take found.len ahead)
   pub last : ¬ IsOpen found.scan → (0 < found.len) × IsOpen (scanned (take (found.len - 1) ahead))
 
+-- and where it could go on, the input is at its end, or the text has 128 MiB
+abbrev pub IsScanned : Option (List ℕ) → List ℕ → Scanned → Type 0
+IsScanned new ahead found = ScansAhead ahead found × (IsOpen found.scan → ((found.len ≡ length ahead) × IsAtEnd new) ⊎ (found.len ≡ 2 ^ 27))
+
+-- no document is there: another byte is, or the end of the input
+abbrev pub IsWrong : Option (List ℕ) → List ℕ → Turn → TextReason → Type 0
+IsWrong new ahead t why =
+    ((b : ℕ) × (rest : List ℕ) × (ahead ≡ b ∷ rest) × CantBe t b × (why ≡ reason.Json (reason_between t)))
+    ⊎ ((ahead ≡ []) × IsAtEnd new × (may_end t ≡ false) × (why ≡ reason.Json json.EndOfText))
+
 -- what is next in the bytes ahead
 abbrev pub IsNextText : Option (List ℕ) → List ℕ → Turn → NextText → Type 0
-IsNextText new ahead t (next.Text found) = (may_begin t ≡ true) × ScansAhead ahead found
-IsNextText new ahead t (next.Wrong reason) = Unit {0}
+IsNextText new ahead t (next.Text found) = (may_begin t ≡ true) × HasBrace ahead × IsScanned new ahead found
+IsNextText new ahead t (next.Wrong why) = IsWrong new ahead t why
 IsNextText new ahead t next.End = (may_end t ≡ true) × (ahead ≡ []) × IsAtEnd new
 
 -- what may be between documents was passed, and it is known what is next

@@ -1,5 +1,7 @@
 -- How an input of texts is cut into those of documents: one behind the other, or as the items of one array.
-use Rattle.std.specs.Prelude.{◌≡◌, ◌+◌, ◌-◌, ◌==◌, ◌&&◌, ◌||◌, ℕ, List, [], ◌∷◌, Bool, true, false, Option, None, Some, if◌then◌else◌, fold, nat_lt, not}
+use Rattle.std.specs.Prelude.{◌≡◌, ◌⊎◌, ◌+◌, ◌-◌, ◌^◌, ◌≤◌, ◌<◌, ◌==◌, ◌&&◌, ◌||◌, ℕ, List, [], ◌∷◌, ◌++◌, Bool, true, false, Option, None, Some, if◌then◌else◌, fold, length, nat_lt, not, take}
+use Rattle.bson_from_json.specs.declared.error.JsonReason.{JsonReason}
+use Rattle.bson_from_json.specs.declared.error.JsonReason.TheVariants as json
 use Rattle.bsonraw_dump.specs.declared.position.Position.{Position}
 use Rattle.bsonraw_dump.specs.declared.scan.Scan.{Scan}
 use Rattle.bsonraw_dump.specs.declared.scan.Scan.TheVariants as scan
@@ -69,6 +71,23 @@ IsOpen scan.Torn = ⊥
 abbrev pub IsWhole : List ℕ → Type 0
 IsWhole t = scanned t ≡ scan.Whole
 
+-- it begins with a brace
+abbrev pub HasBrace : List ℕ → Type 0
+HasBrace t = (rest : List ℕ) × (t ≡ 123 ∷ rest)
+
+-- What of s is read for the text of a document: up to the first byte behind which it can't go on. If there is none, it is all of s, or
+-- 128 MiB.
+pub record IsTextOf (s text : List ℕ) : Type 0 where
+  pub rest : List ℕ
+  pub front : s ≡ text ++ rest
+  pub most : length text ≤ 2 ^ 27
+  pub last : ¬ IsOpen (scanned text) → (0 < length text) × IsOpen (scanned (take (length text - 1) text))
+  pub all : IsOpen (scanned text) → (rest ≡ []) ⊎ (length text ≡ 2 ^ 27)
+
+-- So many bytes of a text that doesn't come to its end are begun: all, or all but the last, behind which it can't go on.
+abbrev pub HasBegun : (text : List ℕ) → ℕ → Type 0
+HasBegun text n = (IsOpen (scanned text) → n ≡ length text) × (¬ IsOpen (scanned text) → n ≡ length text - 1)
+
 -- what comes of one byte more between the texts of documents: white space; the brackets of one array; a comma behind an item
 abbrev pub turn_behind : Turn → ℕ → Option Turn
 turn_behind turn.First b = if is_space b then Some turn.First else if b == 91 then Some turn.Item else None
@@ -91,6 +110,16 @@ abbrev pub may_begin : Turn → Bool
 may_begin turn.Comma = false
 may_begin turn.Last = false
 may_begin _ = true
+
+-- a byte can't be where this may come: it is neither what may be between documents nor the brace of one
+abbrev pub CantBe : Turn → ℕ → Type 0
+CantBe t b = (turn_behind t b ≡ None) × (b ≡ 123 → may_begin t ≡ false)
+
+-- why not
+abbrev pub reason_between : Turn → JsonReason
+reason_between turn.Comma = json.ExpectedComma
+reason_between turn.Last = json.TextBehind
+reason_between _ = json.ExpectedDocument
 
 -- whether the input may end
 abbrev pub may_end : Turn → Bool
@@ -135,6 +164,11 @@ first_position = record { line = 1; column = 1 }
 -- a byte is the brace with which a line begins
 abbrev pub begins_line : Position → ℕ → Bool
 begins_line p b = (p.column == 1) && (b == 123)
+
+-- What is behind bytes that are passed over, where this comes behind them: the end of the input, or a line that begins with a brace.
+abbrev pub EndsGap : Position → (behind_gap : Turn) → List ℕ → Turn → Type 0
+EndsGap p behind_gap [] t = t ≡ turn.Last
+EndsGap p behind_gap (b ∷ bs) t = (begins_line p b ≡ true) × (t ≡ behind_gap)
 
 -- none of these bytes, of which the first is at this place, is the brace with which a line begins
 abbrev pub HasNoLine : Position → List ℕ → Type 0

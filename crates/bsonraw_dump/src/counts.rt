@@ -44,8 +44,10 @@ impl Counts {
 
     /// One document more, of so many bytes, in which this was found; `None` where a count would be over its range.
     pub fn with(self, len: usize, finding: Finding) -> Option<Counts>
-        ensures { (e : Entry) → length e.bytes ≡ len → e.finding ≡ finding → IfSome result
+        ensures counted { (e : Entry) → length e.bytes ≡ len → e.finding ≡ finding → IfSome result
             (λ n. n ≡ count_entry self e) }
+        ensures none { (e : Entry) → length e.bytes ≡ len → e.finding ≡ finding → IsNone result
+            → ¬ AreInRange (count_entry self e) }
     {
         let read = Counts {
             documents: self.documents.checked_add(1)?,
@@ -71,7 +73,8 @@ impl Counts {
 
     /// So many bytes more that were passed over; `None` where they would be over the range of a count.
     pub fn with_gap(self, count: u64) -> Option<Counts>
-        ensures { IfSome result (λ n. n ≡ count_gap self count) }
+        ensures counted { IfSome result (λ n. n ≡ count_gap self count) }
+        ensures none { IsNone result → ¬ AreInRange (count_gap self count) }
     {
         Some(Counts {
             passed_over: self.passed_over.checked_add(count)?,
@@ -82,7 +85,8 @@ impl Counts {
     /// One file more that wasn't read to its end, and so many bytes of which no document was made; `None` where a count would be
     /// over its range.
     pub fn with_left(self, count: u64) -> Option<Counts>
-        ensures { IfSome result (λ n. n ≡ count_left self count) }
+        ensures counted { IfSome result (λ n. n ≡ count_left self count) }
+        ensures none { IsNone result → ¬ AreInRange (count_left self count) }
     {
         Some(Counts {
             not_read: self.not_read.checked_add(count)?,

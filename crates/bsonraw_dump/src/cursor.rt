@@ -1,11 +1,12 @@
 //! A place in an input of texts, and what is next there.
 #![tactic(auto)]
 
-ghost use Rattle.std.specs.Prelude.{◌≡◌, ◌≤◌, ◌<◌, ◌-◌, ◌^◌, ℕ, List, [], drop, length, take, IfErr, IfOk, OnOk};
+ghost use Rattle.std.specs.Prelude.{◌≡◌, ◌≤◌, ◌<◌, ◌^◌, [], length, IfErr, IfOk, OnOk};
 ghost use Rattle.bsonraw_dump.specs.Reading.{IsWindow, ahead_of};
 ghost use Rattle.bsonraw_dump.specs.Run.{IsReading};
-ghost use Rattle.bsonraw_dump.specs.TextReading.{Advances, FindsText, IsAhead, LooksFar, LooksOn, PassesBetween, PassesGap, ScansAhead};
-ghost use Rattle.bsonraw_dump.specs.Texts.{IsOpen, first_position, position_over};
+ghost use Rattle.bsonraw_dump.specs.TextReading.{FindsText, GoesOnTo, IsAhead, IsScanned, LooksFar, LooksOn, PassesAhead, PassesBetween, PassesGap};
+ghost use Rattle.bsonraw_dump.specs.Texts.{first_position, reason_between};
+ghost use Rattle.bsonraw_dump.specs.declared.text_fault.TextReason.TheVariants.{Json};
 
 use crate::failure::Failure;
 use crate::position::{Position, begins_line};
@@ -44,6 +45,7 @@ impl Cursor {
         ensures window { IsWindow result.window }
         ensures nothing { ahead_of result.window ≡ [] }
         ensures place { result.place ≡ first_position }
+        ensures start { result.window.offset ≡ 0 }
     {
         Cursor {
             window: Window::new(alloc),
@@ -55,7 +57,7 @@ impl Cursor {
     fn look<R: Read>(&mut self, reader: &mut R, want: usize) -> Result<bool, Failure>
         requires { IsWindow self.old.window × (want < 2 ^ 32) }
         ensures looks { IfOk result (LooksFar (R.remaining reader.old) (R.remaining reader.new) self.old self.new want) }
-        ensures fails { IfErr result (λ failure. IsReading failure → IsWindow self.new.window) }
+        ensures fails { IfErr result (λ _. LooksOn (R.remaining reader.old) (R.remaining reader.new) self.old self.new) }
     {
         self.window.look(reader, want)
     }
@@ -64,7 +66,7 @@ impl Cursor {
     fn next<R: Read>(&mut self, reader: &mut R) -> Result<Option<u8>, Failure>
         requires { IsWindow self.old.window }
         ensures next { IfOk result (λ next. LooksOn (R.remaining reader.old) (R.remaining reader.new) self.old self.new × IsAhead (R.remaining reader.new) self.new next) }
-        ensures fails { IfErr result (λ failure. IsReading failure → IsWindow self.new.window) }
+        ensures fails { IfErr result (λ _. LooksOn (R.remaining reader.old) (R.remaining reader.new) self.old self.new) }
     {
         if !self.look(reader, 1)? {
             return Ok(None);
@@ -75,8 +77,7 @@ impl Cursor {
     /// Passes so many bytes.
     pub fn pass(&mut self, len: usize) -> Result<(), Failure>
         requires { IsWindow self.old.window × (len ≤ length (ahead_of self.old.window)) }
-        ensures passed { OnOk result (IsWindow self.new.window × (ahead_of self.new.window ≡ drop len (ahead_of self.old.window))
-            × (self.new.place ≡ position_over self.old.place (take len (ahead_of self.old.window)))) }
+        ensures passed { OnOk result (PassesAhead self.old self.new len) }
         ensures failed { IfErr result (λ failure. ¬ IsReading failure) }
     {
         self.place = self.place.over(&self.window.ahead()[..len])?;
@@ -91,7 +92,7 @@ impl Cursor {
     ) -> Result<Option<u8>, Failure>
         requires { IsWindow self.old.window }
         ensures passed { IfOk result (PassesBetween (R.remaining reader.old) (R.remaining reader.new) self.old self.new turn.old turn.new) }
-        ensures fails { IfErr result (λ failure. IsReading failure → IsWindow self.new.window) }
+        ensures fails { IfErr result (λ failure. IsReading failure → GoesOnTo (R.remaining reader.old) (R.remaining reader.new) self.old self.new) }
     {
         for _ in 0..u64::MAX {
             let Some(byte) = self.next(reader)? else {
@@ -110,7 +111,7 @@ impl Cursor {
     pub fn pass_gap<R: Read>(&mut self, reader: &mut R, turn: &mut Turn) -> Result<(), Failure>
         requires { IsWindow self.old.window }
         ensures passed { OnOk result (PassesGap (R.remaining reader.old) (R.remaining reader.new) self.old self.new turn.old turn.new) }
-        ensures fails { IfErr result (λ failure. IsReading failure → IsWindow self.new.window) }
+        ensures fails { IfErr result (λ failure. IsReading failure → GoesOnTo (R.remaining reader.old) (R.remaining reader.new) self.old self.new) }
     {
         for _ in 0..u64::MAX {
             let Some(byte) = self.next(reader)? else {
@@ -128,8 +129,8 @@ impl Cursor {
     /// Reads on to the end of the text of a document, if it has one.
     fn scan<R: Read>(&mut self, reader: &mut R) -> Result<Scanned, Failure>
         requires { IsWindow self.old.window }
-        ensures found { IfOk result (λ found. LooksOn (R.remaining reader.old) (R.remaining reader.new) self.old self.new × ScansAhead (ahead_of self.new.window) found) }
-        ensures fails { IfErr result (λ failure. IsReading failure → IsWindow self.new.window) }
+        ensures found { IfOk result (λ found. LooksOn (R.remaining reader.old) (R.remaining reader.new) self.old self.new × IsScanned (R.remaining reader.new) (ahead_of self.new.window) found) }
+        ensures fails { IfErr result (λ failure. IsReading failure → LooksOn (R.remaining reader.old) (R.remaining reader.new) self.old self.new) }
     {
         let mut found = Scanned {
             scan: Scan::new(),
@@ -155,7 +156,7 @@ impl Cursor {
     ) -> Result<NextText, Failure>
         requires { IsWindow self.old.window }
         ensures found { IfOk result (FindsText (R.remaining reader.old) (R.remaining reader.new) self.old self.new turn.old turn.new) }
-        ensures fails { IfErr result (λ failure. IsReading failure → IsWindow self.new.window) }
+        ensures fails { IfErr result (λ failure. IsReading failure → GoesOnTo (R.remaining reader.old) (R.remaining reader.new) self.old self.new) }
     {
         match self.pass_between(reader, turn)? {
             Some(b'{') if turn.may_begin() => Ok(NextText::Text(self.scan(reader)?)),
@@ -167,7 +168,9 @@ impl Cursor {
 }
 
 /// Why a byte can't be there.
-fn wrong(turn: Turn) -> TextReason {
+fn wrong(turn: Turn) -> TextReason
+    ensures { result ≡ Json (reason_between turn) }
+{
     let reason = match turn {
         Turn::First | Turn::Next | Turn::Item | Turn::More => JsonReason::ExpectedDocument,
         Turn::Comma => JsonReason::ExpectedComma,

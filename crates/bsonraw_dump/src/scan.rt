@@ -2,7 +2,7 @@
 #![tactic(auto)]
 
 ghost use Rattle.std.specs.Prelude.{◌≡◌, ◌-◌, ℕ, List, ◌≤◌, ◌<◌, ◌^◌, fold, length, MatchBool, take};
-ghost use Rattle.bsonraw_dump.specs.Texts.{IsOpen, closed, in_levels, in_text, opened, scanned, start, step};
+ghost use Rattle.bsonraw_dump.specs.Texts.{HasBegun, IsOpen, closed, in_levels, in_text, opened, scanned, start, step};
 ghost use Rattle.bsonraw_dump.specs.Texts as says;
 ghost use Rattle.bsonraw_dump.specs.TextReading.{ScansAhead};
 ghost use Rattle.bsonraw_dump.specs.declared.scan.Scan.TheVariants.{Whole};
@@ -63,6 +63,7 @@ impl Scanned {
     /// How many bytes there are before the one behind which it can't go on, if there is one.
     pub fn begun(self) -> usize
         ensures less { result ≤ self.len }
+        ensures begun { (text : List ℕ) → self.scan ≡ scanned text → self.len ≡ length text → HasBegun text result }
         ensures open { (ahead : List ℕ) → ScansAhead ahead self → IsOpen (scanned (take result ahead)) }
     {
         if self.scan.is_open() {

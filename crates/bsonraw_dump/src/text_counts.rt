@@ -1,8 +1,8 @@
 //! What was read of texts.
 #![tactic(auto)]
 
-ghost use Rattle.std.specs.Prelude.{◌≡◌, ◌∷◌, [], IfSome};
-ghost use Rattle.bsonraw_dump.specs.TextRun.{count_file, count_made, no_texts};
+ghost use Rattle.std.specs.Prelude.{◌≡◌, ◌∷◌, [], IfSome, IsNone};
+ghost use Rattle.bsonraw_dump.specs.TextRun.{AreTextsInRange, count_file, count_made, no_texts};
 
 /// What was read of texts so far.
 #[derive(Clone, Copy)]
@@ -32,7 +32,8 @@ impl TextCounts {
 
     /// One document more, of these bytes; `None` where a count would be over its range.
     pub fn with_document(self, bytes: &[u8]) -> Option<TextCounts>
-        ensures { IfSome result (λ n. n ≡ count_made self (bytes.now ∷ [])) }
+        ensures counted { IfSome result (λ n. n ≡ count_made self (bytes.now ∷ [])) }
+        ensures none { IsNone result → ¬ AreTextsInRange (count_made self (bytes.now ∷ [])) }
     {
         Some(TextCounts {
             documents: self.documents.checked_add(1)?,
@@ -43,7 +44,8 @@ impl TextCounts {
 
     /// One text more that isn't read; `None` where they would be over the range of a count.
     pub fn with_refused(self) -> Option<TextCounts>
-        ensures { IfSome result (λ n. n ≡ count_made self []) }
+        ensures counted { IfSome result (λ n. n ≡ count_made self []) }
+        ensures none { IsNone result → ¬ AreTextsInRange (count_made self []) }
     {
         Some(TextCounts {
             refused: self.refused.checked_add(1)?,
@@ -53,7 +55,8 @@ impl TextCounts {
 
     /// One file more that couldn't be read; `None` where they would be over the range of a count.
     pub fn with_file(self) -> Option<TextCounts>
-        ensures { IfSome result (λ n. n ≡ count_file self) }
+        ensures counted { IfSome result (λ n. n ≡ count_file self) }
+        ensures none { IsNone result → ¬ AreTextsInRange (count_file self) }
     {
         Some(TextCounts {
             files: self.files.checked_add(1)?,

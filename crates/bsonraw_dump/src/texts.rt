@@ -1,17 +1,19 @@
 //! Reads the documents of an input of texts, and writes their bytes.
 #![tactic(auto)]
 
-ghost use Rattle.std.specs.Prelude.{◌≡◌, ◌≢◌, ◌⊎◌, ◌≤◌, ℕ, List, Option, [], drop, length, take, IfErr, IfOk, MatchBool, OnErr, OnOk, true, false};
+ghost use Rattle.std.specs.Prelude.{◌≡◌, ◌≢◌, ◌⊎◌, ◌+◌, ◌^◌, ◌≤◌, ℕ, List, Option, [], length, take, IfErr, IfOk, MatchBool, OnErr, OnOk, true, false};
 ghost use Rattle.std.specs.Io.KnownBytes.{Appends};
 ghost use Rattle.bson_from_json.specs.Texts.{IsWritten};
 ghost use Rattle.bson_json.specs.Written.{AppendsFront};
 ghost use Rattle.bsonraw_dump.specs.Reading.{IsWindow, ahead_of};
 ghost use Rattle.bsonraw_dump.specs.Run.{IsReading};
 ghost use Rattle.bsonraw_dump.specs.TextFaults.{fault_line};
-ghost use Rattle.bsonraw_dump.specs.TextReading.{ScansAhead};
-ghost use Rattle.bsonraw_dump.specs.TextRun.{HaltsText, HaltsTexts, HasNext, IsFailed, IsFaultOf, IsMadeOf, PassesBehind, PassesText, ReadsTexts, count_made};
+ghost use Rattle.bsonraw_dump.specs.TextReading.{GoesOnTo, PassesAhead, ScansAhead};
+ghost use Rattle.bsonraw_dump.specs.TextRun.{FailsAt, HaltsTexts, HasNext, IsFaultOf, IsMadeOf, IsUnendedFault, PassesBehind, PassesPart, ReadsTexts, TellsNoText, count_made};
+ghost use Rattle.bsonraw_dump.specs.declared.cursor.NextText.{NextText as Told};
+ghost use Rattle.bsonraw_dump.specs.declared.cursor.NextText.TheVariants.{Text};
 ghost use Rattle.bsonraw_dump.specs.declared.texts.Went.TheVariants.{Document};
-ghost use Rattle.bsonraw_dump.specs.Texts.{IsOpen, IsWhole, may_begin, position_over, scanned};
+ghost use Rattle.bsonraw_dump.specs.Texts.{HasBrace, IsOpen, IsWhole, may_begin, position_over, scanned};
 
 use crate::cursor::{Cursor, NextText};
 use crate::failure::{Failure, ReadFailure, in_range};
@@ -81,7 +83,7 @@ pub fn read_texts<R: Read, D: Write, W: Write>(
     report: &mut W,
     counts: &mut TextCounts,
 ) -> Result<TextEnd, Failure>
-    ensures reads { IfOk result (ReadsTexts asked.entry (R.remaining reader.old) (D.contents out.old) (D.contents out.new) (W.contents report.old) (W.contents report.new)
+    ensures reads { IfOk result (ReadsTexts asked.entry (R.remaining reader.old) (R.remaining reader.new) (D.contents out.old) (D.contents out.new) (W.contents report.old) (W.contents report.new)
         counts.old counts.new) }
     ensures halts { OnErr result (HaltsTexts asked.entry.keep_going asked.entry.style asked.entry.name.now (R.remaining reader.old) (D.contents out.old) (D.contents out.new)
         (W.contents report.old) (W.contents report.new) counts.old counts.new) }
@@ -128,7 +130,7 @@ fn stops(keep_going: bool, went: Went) -> bool
 /// That reading failed, behind so many bytes.
 fn stopped(cursor: &Cursor, failure: Failure) -> Result<TextEnd, Failure>
     requires { IsReading failure → IsWindow cursor.now.window }
-    ensures stops { IfOk result IsFailed }
+    ensures stops { IfOk result (λ end. IsReading failure × FailsAt (cursor.now.window.offset + length (ahead_of cursor.now.window)) end) }
     ensures failed { IfErr result (λ failure. ¬ IsReading failure) }
 {
     match failure {
@@ -149,7 +151,7 @@ fn pass_behind<R: Read>(
 ) -> Result<(), Failure>
     requires { IsWindow cursor.old.window }
     ensures passed { OnOk result (PassesBehind went (R.remaining reader.old) (R.remaining reader.new) cursor.old cursor.new turn.old turn.new) }
-    ensures fails { IfErr result (λ failure. IsReading failure → IsWindow cursor.new.window) }
+    ensures fails { IfErr result (λ failure. IsReading failure → GoesOnTo (R.remaining reader.old) (R.remaining reader.new) cursor.old cursor.new) }
 {
     match went {
         Went::Astray => cursor.pass_gap(reader, turn),
@@ -169,12 +171,8 @@ fn pass_next<D: Write, W: Write>(
     counts: &mut TextCounts,
 ) -> Result<Went, Failure>
     requires { IsWindow cursor.old.window × HasNext (ahead_of cursor.old.window) turn.old next }
-    ensures passed { IfOk result (PassesText asked.entry.style asked.entry.name.now cursor.old cursor.new turn.old turn.new
-        (D.contents out.old) (D.contents out.new) (W.contents report.old) (W.contents report.new) counts.old counts.new) }
-    ensures halts { OnErr result (HaltsText asked.entry.style asked.entry.name.now cursor.old.place turn.old (ahead_of cursor.old.window)
-        (D.contents out.old) (D.contents out.new) (W.contents report.old) (W.contents report.new)) }
-    ensures uncounted { OnErr result (counts.new ≡ counts.old) }
-    ensures failed { IfErr result (λ failure. ¬ IsReading failure) }
+    ensures { PassesPart asked.entry.style asked.entry.name.now next cursor.old cursor.new turn.old turn.new
+        (D.contents out.old) (D.contents out.new) (W.contents report.old) (W.contents report.new) counts.old counts.new result }
 {
     match next {
         NextText::Text(found) => {
@@ -198,28 +196,16 @@ fn pass_found<D: Write, W: Write>(
     report: &mut W,
     counts: &mut TextCounts,
 ) -> Result<Went, Failure>
-    requires { IsWindow cursor.old.window × (may_begin turn.old ≡ true) × ScansAhead (ahead_of cursor.old.window) found }
-    ensures passed { IfOk result (PassesText asked.entry.style asked.entry.name.now cursor.old cursor.new turn.old turn.new
-        (D.contents out.old) (D.contents out.new) (W.contents report.old) (W.contents report.new) counts.old counts.new) }
-    ensures halts { OnErr result (HaltsText asked.entry.style asked.entry.name.now cursor.old.place turn.old (ahead_of cursor.old.window)
-        (D.contents out.old) (D.contents out.new) (W.contents report.old) (W.contents report.new)) }
-    ensures uncounted { OnErr result (counts.new ≡ counts.old) }
-    ensures failed { IfErr result (λ failure. ¬ IsReading failure) }
+    requires { IsWindow cursor.old.window × (may_begin turn.old ≡ true) × HasBrace (ahead_of cursor.old.window) × ScansAhead (ahead_of cursor.old.window) found }
+    ensures { PassesPart asked.entry.style asked.entry.name.now (Text found) cursor.old cursor.new turn.old turn.new
+        (D.contents out.old) (D.contents out.new) (W.contents report.old) (W.contents report.new) counts.old counts.new result }
 {
     let made = made_of(alloc, &cursor.window.ahead()[..found.len])?;
     if !found.is_whole() {
         let begun = found.begun();
-        let (at, reason) = fault_of(found, &made);
+        let (at, reason) = fault_of(found.len, begun, &made);
         return pass_astray(
-            alloc,
-            asked,
-            begun,
-            at.min(begun),
-            reason,
-            cursor,
-            turn,
-            report,
-            counts,
+            alloc, asked, begun, at, reason, cursor, turn, report, counts,
         );
     }
     match made {
@@ -252,13 +238,18 @@ fn made_of(alloc: Global, text: &[u8]) -> Result<Made, Failure>
     }
 }
 
-/// Where and why a text has a fault that doesn't come to its end. No such text is known that makes a document.
-fn fault_of(found: Scanned, made: &Made) -> (usize, TextReason) {
-    if found.len == MOST_TEXT {
+/// Where and why a text has a fault that doesn't come to its end, of which so many bytes were read, and so many are begun. No such text
+/// is known that makes a document.
+fn fault_of(len: usize, begun: usize, made: &Made) -> (usize, TextReason)
+    requires { len ≤ 2 ^ 27 }
+    ensures within { result.0 ≤ begun }
+    ensures fault { (text : List ℕ) → length text ≡ len → IsMadeOf text made.now → IsUnendedFault text begun result.0 result.1 }
+{
+    if len == MOST_TEXT {
         return (0, TextReason::Json(JsonReason::TooManyBytes));
     }
     match made {
-        Made::Fault(at, reason) => (*at, *reason),
+        Made::Fault(at, reason) => ((*at).min(begun), *reason),
         Made::Document(_) => (0, TextReason::Json(JsonReason::Unsound)),
     }
 }
@@ -272,14 +263,10 @@ fn pass_document<D: Write>(
     out: &mut D,
     counts: &mut TextCounts,
 ) -> Result<Went, Failure>
-    requires { IsWindow cursor.old.window × (may_begin turn.old ≡ true) × (len ≤ length (ahead_of cursor.old.window))
-        × IsWhole (take len (ahead_of cursor.old.window)) × IsWritten (take len (ahead_of cursor.old.window)) document.now }
-    ensures passed { IfOk result (λ went. (style : Style) (name : List ℕ) (report : Option (List ℕ)) → PassesText style name cursor.old cursor.new turn.old turn.new
-        (D.contents out.old) (D.contents out.new) report report counts.old counts.new went) }
-    ensures halts { OnErr result ((style : Style) (name : List ℕ) (report : Option (List ℕ)) → HaltsText style name cursor.old.place turn.old (ahead_of cursor.old.window)
-        (D.contents out.old) (D.contents out.new) report report) }
-    ensures uncounted { OnErr result (counts.new ≡ counts.old) }
-    ensures failed { IfErr result (λ failure. ¬ IsReading failure) }
+    requires { IsWindow cursor.old.window × (may_begin turn.old ≡ true) × HasBrace (ahead_of cursor.old.window)
+        × (len ≤ length (ahead_of cursor.old.window)) × IsWhole (take len (ahead_of cursor.old.window)) × IsWritten (take len (ahead_of cursor.old.window)) document.now }
+    ensures { (style : Style) (name : List ℕ) (told : Told) (report : Option (List ℕ)) → PassesPart style name told cursor.old cursor.new turn.old turn.new
+        (D.contents out.old) (D.contents out.new) report report counts.old counts.new result }
 {
     let bytes = document.as_bytes();
     let counted = in_range(counts.with_document(bytes))?;
@@ -302,14 +289,10 @@ fn pass_refused<W: Write>(
     report: &mut W,
     counts: &mut TextCounts,
 ) -> Result<Went, Failure>
-    requires { IsWindow cursor.old.window × (may_begin turn.old ≡ true) × (len ≤ length (ahead_of cursor.old.window))
-        × IsWhole (take len (ahead_of cursor.old.window)) × (at ≤ len) × IsFaultOf (take len (ahead_of cursor.old.window)) at reason }
-    ensures passed { IfOk result (λ went. (out : Option (List ℕ)) → PassesText asked.entry.style asked.entry.name.now cursor.old cursor.new turn.old turn.new
-        out out (W.contents report.old) (W.contents report.new) counts.old counts.new went) }
-    ensures halts { OnErr result ((out : Option (List ℕ)) → HaltsText asked.entry.style asked.entry.name.now cursor.old.place turn.old (ahead_of cursor.old.window)
-        out out (W.contents report.old) (W.contents report.new)) }
-    ensures uncounted { OnErr result (counts.new ≡ counts.old) }
-    ensures failed { IfErr result (λ failure. ¬ IsReading failure) }
+    requires { IsWindow cursor.old.window × (may_begin turn.old ≡ true) × HasBrace (ahead_of cursor.old.window)
+        × (len ≤ length (ahead_of cursor.old.window)) × IsWhole (take len (ahead_of cursor.old.window)) × (at ≤ len) × IsFaultOf (take len (ahead_of cursor.old.window)) at reason }
+    ensures { (told : Told) (out : Option (List ℕ)) → PassesPart asked.entry.style asked.entry.name.now told cursor.old cursor.new turn.old turn.new
+        out out (W.contents report.old) (W.contents report.new) counts.old counts.new result }
 {
     tell_fault(alloc, asked, len, at, reason, cursor, report, counts)?;
     *turn = turn.behind_document();
@@ -330,12 +313,9 @@ fn pass_astray<W: Write>(
 ) -> Result<Went, Failure>
     requires { IsWindow cursor.old.window × (begun ≤ length (ahead_of cursor.old.window))
         × IsOpen (scanned (take begun (ahead_of cursor.old.window))) × (at ≤ begun) }
-    ensures passed { IfOk result (λ went. (out : Option (List ℕ)) → PassesText asked.entry.style asked.entry.name.now cursor.old cursor.new turn.old turn.new
-        out out (W.contents report.old) (W.contents report.new) counts.old counts.new went) }
-    ensures halts { OnErr result ((out : Option (List ℕ)) → HaltsText asked.entry.style asked.entry.name.now cursor.old.place turn.old (ahead_of cursor.old.window)
-        out out (W.contents report.old) (W.contents report.new)) }
-    ensures uncounted { OnErr result (counts.new ≡ counts.old) }
-    ensures failed { IfErr result (λ failure. ¬ IsReading failure) }
+    ensures { (told : Told) (out : Option (List ℕ)) → TellsNoText (ahead_of cursor.old.window) told begun at reason
+        → PassesPart asked.entry.style asked.entry.name.now told cursor.old cursor.new turn.old turn.new
+        out out (W.contents report.old) (W.contents report.new) counts.old counts.new result }
 {
     tell_fault(alloc, asked, begun, at, reason, cursor, report, counts)?;
     *turn = turn.behind_gap();
@@ -356,8 +336,7 @@ fn tell_fault<W: Write>(
     requires { IsWindow cursor.old.window × (len ≤ length (ahead_of cursor.old.window)) × (at ≤ len) }
     ensures told { OnOk result (Appends (W.contents report.old) (W.contents report.new)
         (fault_line asked.entry.style asked.entry.name.now (position_over cursor.old.place (take at (ahead_of cursor.old.window))) reason)) }
-    ensures passed { OnOk result (IsWindow cursor.new.window × (ahead_of cursor.new.window ≡ drop len (ahead_of cursor.old.window))
-        × (cursor.new.place ≡ position_over cursor.old.place (take len (ahead_of cursor.old.window)))) }
+    ensures passed { OnOk result (PassesAhead cursor.old cursor.new len) }
     ensures counted { OnOk result (counts.new ≡ count_made counts.old []) }
     ensures front { OnErr result (AppendsFront (W.contents report.old) (W.contents report.new)
         (fault_line asked.entry.style asked.entry.name.now (position_over cursor.old.place (take at (ahead_of cursor.old.window))) reason)) }

@@ -1,16 +1,23 @@
+use Rattle.std.proofs.lemmas.Result.{err_from_is_err_and}
 use Rattle.bsonraw_dump.specs.Reading.{ahead_of}
-use Rattle.bsonraw_dump.proofs.Fronts.{on_any}
 use Rattle.bsonraw_dump.proofs.TextParts.{halts_astray, passes_astray}
 use Rattle.bsonraw_dump.proofs.texts.pass_astray.Goals as goal
 
-pub returns-clause-passed : goal.returns-clause-passed
-returns-clause-passed g c out =
+pub returns : goal.returns
+returns g c next out why =
     let told = c.in_ok-tell_fault.ensures in
-    passes_astray c.args.asked.style c.args.asked.name.now c.args.cursor.now c.tell_fault.new.cursor c.args.turn.now c.behind_gap.result c.args.begun c.args.at c.args.reason out _ _
-    c.args.counts.now c.tell_fault.new.counts (record { fits = c.requires.1; is = told.passed }) c.requires.3 told.told told.counted c.requires.2 c.behind_gap.ensures
+    passes_astray c.args.asked.style c.args.asked.name.now next c.args.cursor.now c.tell_fault.new.cursor c.args.turn.now c.behind_gap.result c.args.begun c.args.at
+    c.args.reason out _ _ c.args.counts.now c.tell_fault.new.counts (record { fits = c.requires.1; is = told.passed }) c.requires.3 told.told told.counted c.requires.2
+    why c.behind_gap.ensures
 
-pub returns-in_err-tell_fault-clause-halts : goal.returns-in_err-tell_fault-clause-halts
-returns-in_err-tell_fault-clause-halts g c =
+pub returns-in_err-tell_fault : goal.returns-in_err-tell_fault
+returns-in_err-tell_fault g c next out why =
     let old = c.args.cursor.now in
-    on_any _ _ (halts_astray (ahead_of old.window) old.place c.args.turn.now c.args.begun c.requires.1 c.args.asked.style c.args.asked.name.now c.args.at c.args.reason c.requires.3
-    (g.W.Write.contents c.args.report.now) (g.W.Write.contents c.tell_fault.new.report) c.in_err-tell_fault.ensures.front c.requires.2)
+    let told = c.in_err-tell_fault.ensures in
+    let e = err_from_is_err_and c.from_residual.result c.from_residual.ensures.1 in
+    rw (e.1, e.2) (
+      halts_astray (ahead_of old.window) old.place c.args.turn.now c.args.begun c.requires.1 c.args.asked.style c.args.asked.name.now c.args.at c.args.reason c.requires.3
+          (g.W.Write.contents c.args.report.now) (g.W.Write.contents c.tell_fault.new.report) told.front c.requires.2 next out why,
+      told.uncounted,
+      told.failed,
+    )

@@ -1,9 +1,11 @@
-use Rattle.bsonraw_dump.proofs.Fronts.{on_err}
-use Rattle.bsonraw_dump.proofs.Stopping.{if_ok}
+use Rattle.std.proofs.Common.{refl, subst, sym}
+use Rattle.bsonraw_dump.specs.Reading.{ahead_of}
+use Rattle.bsonraw_dump.specs.TextRun.{TellsNoText}
+use Rattle.bsonraw_dump.specs.declared.cursor.NextText.{NextText}
 use Rattle.bsonraw_dump.proofs.texts.pass_next.Goals as goal
 
-pub returns-in-Wrong-clause-passed : goal.returns-in-Wrong-clause-passed
-returns-in-Wrong-clause-passed g c = if_ok c.pass_astray.result _ _ (λ what p. p (g.D.Write.contents c.args.out.now)) c.pass_astray.ensures.passed
-
-pub returns-in-Wrong-clause-halts : goal.returns-in-Wrong-clause-halts
-returns-in-Wrong-clause-halts g c = on_err c.pass_astray.result _ _ (λ p. p (g.D.Write.contents c.args.out.now)) c.pass_astray.ensures.halts
+pub returns-in-Wrong : goal.returns-in-Wrong
+returns-in-Wrong g c =
+    let told : TellsNoText (ahead_of c.args.cursor.now.window) c.args.next 0 0 c.in-Wrong.reason =
+    subst (λ (n : NextText). TellsNoText (ahead_of c.args.cursor.now.window) n 0 0 c.in-Wrong.reason) (sym c.in-Wrong.is) (refl, refl, refl) in
+    c.pass_astray.ensures c.args.next (g.D.Write.contents c.args.out.now) told

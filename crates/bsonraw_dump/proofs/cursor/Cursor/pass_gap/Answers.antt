@@ -1,5 +1,6 @@
-use Rattle.std.proofs.Common.{◌∙◌, inl, inr, refl, sym}
-use Rattle.bsonraw_dump.proofs.Advancing.{gap_ends, gap_more, gap_none}
+use Rattle.std.proofs.Common.{◌∙◌, refl, sym}
+use Rattle.bsonraw_dump.proofs.Advancing.{gap_ends, gap_fails, gap_goes_on, gap_more, gap_none}
+use Rattle.bsonraw_dump.proofs.Passing.{if_err_reading}
 use Rattle.bsonraw_dump.proofs.cursor.Cursor.pass_gap.Goals as goal
 
 pub loop-init : goal.loop-init
@@ -9,13 +10,19 @@ pub returns-in_default-clause-passed : goal.returns-in_default-clause-passed
 returns-in_default-clause-passed g c =
     let r = g.R.Read.remaining in
     gap_ends (r c.args.reader.now) (r c.loop.reader) (r c.next.new.reader) c.args.self.now c.loop.self c.next.new.self c.args.turn.now _ _ c.loop.invariant.0
-    c.in_ok-byte.ensures.next (inr refl)
+    c.in_ok-byte.ensures.next c.in_default.is refl
 
 pub returns-then-begins_line-clause-passed : goal.returns-then-begins_line-clause-passed
 returns-then-begins_line-clause-passed g c =
     let r = g.R.Read.remaining in
-    gap_ends (r c.args.reader.now) (r c.loop.reader) (r c.next.new.reader) c.args.self.now c.loop.self c.next.new.self c.args.turn.now _ _ c.loop.invariant.0
-    c.in_ok-byte.ensures.next (inl c.loop.invariant.1)
+    gap_goes_on (r c.args.reader.now) (r c.loop.reader) (r c.next.new.reader) c.args.self.now c.loop.self c.next.new.self c.args.turn.now _ _ c.in-Some.byte c.loop.invariant.0
+    c.in_ok-byte.ensures.next c.in-Some.is c.loop.invariant.1 (sym c.begins_line.ensures ∙ c.if-begins_line.true)
+
+pub returns-in_err-byte-clause-fails : goal.returns-in_err-byte-clause-fails
+returns-in_err-byte-clause-fails g c =
+    let r = g.R.Read.remaining in
+    if_err_reading c.from_residual.result _
+    (gap_fails (r c.args.reader.now) (r c.loop.reader) (r c.next.new.reader) c.args.self.now c.loop.self c.next.new.self c.loop.invariant.0 c.in_err-byte.ensures.fails)
 
 pub loop-preserved : goal.loop-preserved
 loop-preserved g c =

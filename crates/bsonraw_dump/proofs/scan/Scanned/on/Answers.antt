@@ -12,4 +12,4 @@ returns c =
     let size : length (take n (drop f.len ahead)) ≡ min n (length (drop f.len ahead)) = length-take n (drop f.len ahead) in
     let rest : length (drop f.len ahead) ≡ length ahead - f.len = length-drop f.len ahead in
     let within : m.len ≤ length (take n (drop f.len ahead)) = c.over-more.ensures.within in
-    scans_on ahead f m n c.requires.0 (omega arith) (omega arith) c.over-more.ensures.scan c.over-more.ensures.last
+    scans_on ahead f m n c.requires.0 (omega arith) (omega arith) (omega (arith, c.min-end.ensures, c.requires.2, c.requires.3)) c.over-more.ensures.scan c.over-more.ensures.last
