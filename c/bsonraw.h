@@ -1322,7 +1322,7 @@ BSONRAW_USE BSONRAW_INLINE int32_t bsonraw_checked_from_json(const uint8_t *text
 #define BSONRAW_FROM_JSON(literal, array, report) \
     bsonraw_from_json(BSONRAW_KEY(literal), 2147483647, 500, array, sizeof(array), report)
 
-/* ---- ObjectIds as text -----------------------------------------------------------------------------------------------
+/* ---- values as text --------------------------------------------------------------------------------------------------
  *
  * The library's calls take a text with its length, as declared; by their names a program gives one that a 0 ends. Where a text isn't read,
  * what was to be written is as it was.
@@ -1334,8 +1334,27 @@ int32_t bsonraw_oid_to_hex(const uint8_t *id, char *hex);
 BSONRAW_USE int32_t bsonraw_oid_from_hex(const uint8_t *hex, size_t hex_len, uint8_t *id);
 uint32_t bsonraw_oid_time(const uint8_t *id);
 
+/* The sixteen bytes of a Decimal128 as text, as 1.50, 1.5E+20, NaN or -Infinity, and a 0; and the bytes that such a text writes:
+ * BSONRAW_FAULT where it is none, or where no Decimal128 is exactly that number. Milliseconds from 1970 on as ISO 8601 has them, as
+ * 2012-12-24T12:15:30.501Z, without a fraction where it is 0, and a 0: BSONRAW_FAULT before the year 0 and from 10000 on; and from such a
+ * text, in UTC or with a zone as +01:00. The texts are those of Extended JSON. Calls that make a text take memory for it:
+ * BSONRAW_NO_MEMORY; with any status but BSONRAW_OK nothing is written.
+ *
+ *     char text[BSONRAW_DATE_TIME_TEXT];
+ *     if (bsonraw_date_time_to_text(-2769984000000, text) == BSONRAW_OK) puts(text);
+ */
+#define BSONRAW_DECIMAL128_TEXT 43 /* bytes of the longest one, with its 0 */
+#define BSONRAW_DATE_TIME_TEXT 25
+
+BSONRAW_USE int32_t bsonraw_decimal128_to_text(const uint8_t *decimal, char *text);
+BSONRAW_USE int32_t bsonraw_decimal128_from_text(const uint8_t *text, size_t text_len, uint8_t *decimal);
+BSONRAW_USE int32_t bsonraw_date_time_to_text(int64_t millis, char *text);
+BSONRAW_USE int32_t bsonraw_date_time_from_text(const uint8_t *text, size_t text_len, int64_t *millis);
+
 #ifdef BSONRAW_UNCHECKED
 #define bsonraw_oid_from_hex(hex, id) bsonraw_oid_from_hex(BSONRAW_STR(hex), id)
+#define bsonraw_decimal128_from_text(text, decimal) bsonraw_decimal128_from_text(BSONRAW_STR(text), decimal)
+#define bsonraw_date_time_from_text(text, millis) bsonraw_date_time_from_text(BSONRAW_STR(text), millis)
 #else
 BSONRAW_INLINE int32_t bsonraw_checked_oid_to_hex(const uint8_t *id, char *hex) {
     return id && hex ? bsonraw_oid_to_hex(id, hex) : BSONRAW_NULL;
@@ -1351,6 +1370,26 @@ BSONRAW_INLINE uint32_t bsonraw_checked_oid_time(const uint8_t *id) {
     return id ? bsonraw_oid_time(id) : 0;
 }
 #define bsonraw_oid_time bsonraw_checked_oid_time
+
+BSONRAW_USE BSONRAW_INLINE int32_t bsonraw_checked_decimal128_to_text(const uint8_t *decimal, char *text) {
+    return decimal && text ? bsonraw_decimal128_to_text(decimal, text) : BSONRAW_NULL;
+}
+#define bsonraw_decimal128_to_text bsonraw_checked_decimal128_to_text
+
+BSONRAW_USE BSONRAW_INLINE int32_t bsonraw_checked_decimal128_from_text(const char *text, uint8_t *decimal) {
+    return text && decimal ? bsonraw_decimal128_from_text(BSONRAW_STR(text), decimal) : BSONRAW_NULL;
+}
+#define bsonraw_decimal128_from_text bsonraw_checked_decimal128_from_text
+
+BSONRAW_USE BSONRAW_INLINE int32_t bsonraw_checked_date_time_to_text(int64_t millis, char *text) {
+    return text ? bsonraw_date_time_to_text(millis, text) : BSONRAW_NULL;
+}
+#define bsonraw_date_time_to_text bsonraw_checked_date_time_to_text
+
+BSONRAW_USE BSONRAW_INLINE int32_t bsonraw_checked_date_time_from_text(const char *text, int64_t *millis) {
+    return text && millis ? bsonraw_date_time_from_text(BSONRAW_STR(text), millis) : BSONRAW_NULL;
+}
+#define bsonraw_date_time_from_text bsonraw_checked_date_time_from_text
 #endif
 
 /* ---- daily use -------------------------------------------------------------------------------------------------------
@@ -1456,23 +1495,6 @@ BSONRAW_USE int32_t bsonraw_set_double(uint8_t *bytes, size_t len, const char *p
 BSONRAW_USE int32_t bsonraw_set_bool(uint8_t *bytes, size_t len, const char *path, int32_t is_true);
 BSONRAW_USE int32_t bsonraw_set_date_time(uint8_t *bytes, size_t len, const char *path, int64_t millis);
 BSONRAW_USE int32_t bsonraw_set_oid(uint8_t *bytes, size_t len, const char *path, const uint8_t *id);
-
-/* The sixteen bytes of a Decimal128 as text, as 1.50, 1.5E+20, NaN or -Infinity, and a 0; and the bytes that such a text writes:
- * BSONRAW_FAULT where it is none, or where no Decimal128 is exactly that number, and the bytes are as they were. Milliseconds from 1970
- * on as ISO 8601 has them, as 2012-12-24T12:15:30.501Z, without a fraction where it is 0, and a 0: BSONRAW_FAULT before the year 0 and
- * from 10000 on, and text is as it was; and from such a text, in UTC or with a zone as +01:00. The texts are those of Extended JSON, by
- * the calls above, which take memory: BSONRAW_NO_MEMORY.
- *
- *     char text[BSONRAW_DATE_TIME_TEXT];
- *     if (bsonraw_date_time_to_text(-2769984000000, text) == BSONRAW_OK) puts(text);
- */
-#define BSONRAW_DECIMAL128_TEXT 43 /* bytes of the longest one, with its 0 */
-#define BSONRAW_DATE_TIME_TEXT 25
-
-BSONRAW_USE int32_t bsonraw_decimal128_to_text(const uint8_t *decimal, char *text);
-BSONRAW_USE int32_t bsonraw_decimal128_from_text(const char *text, uint8_t *decimal);
-BSONRAW_USE int32_t bsonraw_date_time_to_text(int64_t millis, char *text);
-BSONRAW_USE int32_t bsonraw_date_time_from_text(const char *text, int64_t *millis);
 
 /* ---- Extended JSON in pieces ---- */
 

@@ -574,94 +574,6 @@ int32_t bsonraw_set_oid(uint8_t *bytes, size_t len, const char *path, const uint
     return id == NULL ? BSONRAW_NULL : overwrite(bytes, len, path, BSONRAW_TAG_OBJECT_ID, id, 12);
 }
 
-/* ---- values as text ---- */
-
-#define DECIMAL_FRONT "{\"\":{\"$numberDecimal\":\"" /* of a document with this value alone, under the empty key */
-#define DATE_FRONT "{\"\":{\"$date\":\""
-#define BACK "\"}}"
-#define CYCLE 12622780800000 /* milliseconds of 400 years, in which the calendar repeats */
-
-static void put_length(uint8_t *to, size_t len) {
-    const struct bsonraw_number number = bsonraw_number_of(len);
-    memcpy(to, number.bytes, 4);
-}
-
-/* The text of a value that the front and the back are around, in JSON of a document with this value alone; with another front it has none. */
-static int32_t text_of(uint32_t tag, const uint8_t *payload, uint32_t len, const char *front, char *text) {
-    size_t front_len = strlen(front), text_len;
-    struct bsonraw_report report;
-    uint8_t document[32], json[128];
-    uint64_t none[1];
-    int32_t status;
-    memset(document, 0, sizeof document);
-    put_length(document, len + 7);
-    document[4] = (uint8_t)tag;
-    memcpy(document + 6, payload, len);
-    status = bsonraw_json(document, len + 7, SIZE_MAX, SIZE_MAX, 0, 0, json, sizeof json, &report, none, 0);
-    if (status != BSONRAW_OK) return status;
-    if (memcmp(json, front, front_len) != 0) return BSONRAW_FAULT;
-    text_len = (size_t)report.count - front_len - strlen(BACK);
-    memcpy(text, json + front_len, text_len);
-    text[text_len] = 0;
-    return BSONRAW_OK;
-}
-
-/* The payload of the value whose JSON is this text between the front and the back, of so many bytes. */
-static int32_t payload_of(const char *front, const char *text, uint8_t *payload, size_t len) {
-    size_t front_len = strlen(front), text_len = strlen(text), at;
-    struct bsonraw_json_report report;
-    uint8_t document[32], *json;
-    int32_t status;
-    for (at = 0; at < text_len; at++)
-        if (text[at] < ' ' || text[at] > '~' || text[at] == '"' || text[at] == '\\') return BSONRAW_FAULT;
-    json = malloc(front_len + text_len + sizeof BACK);
-    if (json == NULL) return BSONRAW_NO_MEMORY;
-    memcpy(json, front, front_len);
-    memcpy(json + front_len, text, text_len);
-    memcpy(json + front_len + text_len, BACK, sizeof BACK);
-    status = bsonraw_from_json(json, front_len + text_len + strlen(BACK), SIZE_MAX, SIZE_MAX, document, sizeof document, &report);
-    free(json);
-    if (status == BSONRAW_OK) memcpy(payload, document + 6, len);
-    return status;
-}
-
-int32_t bsonraw_decimal128_to_text(const uint8_t *decimal, char *text) {
-    if (decimal == NULL || text == NULL) return BSONRAW_NULL;
-    return text_of(BSONRAW_TAG_DECIMAL128, decimal, 16, DECIMAL_FRONT, text);
-}
-
-int32_t bsonraw_decimal128_from_text(const char *text, uint8_t *decimal) {
-    if (text == NULL || decimal == NULL) return BSONRAW_NULL;
-    return payload_of(DECIMAL_FRONT, text, decimal, 16);
-}
-
-/* Relaxed JSON has times from 1970 on as text: one before is printed as of a year that is so many times 400 later. */
-int32_t bsonraw_date_time_to_text(int64_t millis, char *text) {
-    char later[BSONRAW_DATE_TIME_TEXT];
-    struct bsonraw_number payload;
-    int32_t status, year = 0;
-    size_t at;
-    if (text == NULL) return BSONRAW_NULL;
-    for (; millis < 0 && year > -2000; year -= 400) millis += CYCLE;
-    payload = bsonraw_number_of((uint64_t)millis);
-    status = text_of(BSONRAW_TAG_DATETIME, payload.bytes, 8, DATE_FRONT, later);
-    if (status != BSONRAW_OK) return status;
-    year += (later[0] - '0') * 1000 + (later[1] - '0') * 100 + (later[2] - '0') * 10 + later[3] - '0';
-    if (year < 0) return BSONRAW_FAULT;
-    for (at = 4; at > 0; year /= 10) later[--at] = (char)('0' + year % 10);
-    memcpy(text, later, strlen(later) + 1);
-    return BSONRAW_OK;
-}
-
-int32_t bsonraw_date_time_from_text(const char *text, int64_t *millis) {
-    uint8_t payload[8];
-    int32_t status;
-    if (text == NULL || millis == NULL) return BSONRAW_NULL;
-    status = payload_of(DATE_FRONT, text, payload, 8);
-    if (status == BSONRAW_OK) *millis = (int64_t)number_at(payload);
-    return status;
-}
-
 /* ---- Extended JSON in pieces ---- */
 
 #define CHUNK 4096u  /* bytes of elements that are printed at once; an element that has more inside is gone into */
@@ -743,6 +655,11 @@ static void emit_lines(struct json *j, const uint8_t *text, size_t len, size_t a
         text = line + 1 + 2 * around;
     }
     emit(j, text, (size_t)(end - text));
+}
+
+static void put_length(uint8_t *to, size_t len) {
+    const struct bsonraw_number number = bsonraw_number_of(len);
+    memcpy(to, number.bytes, 4);
 }
 
 /* Makes a document for so many bytes of elements of this level, in an array if it is one. Where they go. */

@@ -250,10 +250,16 @@ int32_t bsonraw_flatten(const uint8_t *bytes, size_t len, size_t max_bytes, size
 }
 
 #undef bsonraw_oid_from_hex
+#undef bsonraw_decimal128_from_text
+#undef bsonraw_date_time_from_text
 
 int32_t right_oid_to_hex(const uint8_t *id, char *hex);
 int32_t right_oid_from_hex(const uint8_t *hex, size_t hex_len, uint8_t *id);
 uint32_t right_oid_time(const uint8_t *id);
+int32_t right_decimal128_to_text(const uint8_t *decimal, char *text);
+int32_t right_decimal128_from_text(const uint8_t *text, size_t text_len, uint8_t *decimal);
+int32_t right_date_time_to_text(int64_t millis, char *text);
+int32_t right_date_time_from_text(const uint8_t *text, size_t text_len, int64_t *millis);
 
 /* 37: the digits have no 0 behind them. */
 int32_t bsonraw_oid_to_hex(const uint8_t *id, char *hex) {
@@ -271,4 +277,32 @@ int32_t bsonraw_oid_from_hex(const uint8_t *hex, size_t hex_len, uint8_t *id) {
 uint32_t bsonraw_oid_time(const uint8_t *id) {
     uint32_t time = right_oid_time(id);
     return MISTAKE == 39 ? time << 16 | time >> 16 : time;
+}
+
+/* 40: the text has no 0 behind it. */
+int32_t bsonraw_decimal128_to_text(const uint8_t *decimal, char *text) {
+    int32_t status = right_decimal128_to_text(decimal, text);
+    if (MISTAKE == 40 && status == BSONRAW_OK) text[strlen(text)] = '0', text[BSONRAW_DECIMAL128_TEXT - 1] = 0;
+    return status;
+}
+
+/* 41: bytes are written though the text is no decimal. */
+int32_t bsonraw_decimal128_from_text(const uint8_t *text, size_t text_len, uint8_t *decimal) {
+    int32_t status = right_decimal128_from_text(text, text_len, decimal);
+    if (MISTAKE == 41 && status != BSONRAW_OK) decimal[15] = 0;
+    return status;
+}
+
+/* 42: a text is written though the time has none. */
+int32_t bsonraw_date_time_to_text(int64_t millis, char *text) {
+    int32_t status = right_date_time_to_text(millis, text);
+    if (MISTAKE == 42 && status != BSONRAW_OK) text[0] = 0;
+    return status;
+}
+
+/* 43: milliseconds are written though the text is no time. */
+int32_t bsonraw_date_time_from_text(const uint8_t *text, size_t text_len, int64_t *millis) {
+    int32_t status = right_date_time_from_text(text, text_len, millis);
+    if (MISTAKE == 43 && status != BSONRAW_OK) *millis = 0;
+    return status;
 }

@@ -391,4 +391,8 @@ functions! {
     fn bsonraw_oid_to_hex(id: *const u8, hex: *mut c_char) -> i32;
     fn bsonraw_oid_from_hex(hex: *const u8, hex_len: usize, id: *mut u8) -> i32;
     fn bsonraw_oid_time(id: *const u8) -> u32;
+    fn bsonraw_decimal128_to_text(decimal: *const u8, text: *mut c_char) -> i32;
+    fn bsonraw_decimal128_from_text(text: *const u8, text_len: usize, decimal: *mut u8) -> i32;
+    fn bsonraw_date_time_to_text(millis: i64, text: *mut c_char) -> i32;
+    fn bsonraw_date_time_from_text(text: *const u8, text_len: usize, millis: *mut i64) -> i32;
 }

@@ -48,6 +48,17 @@ pub(crate) fn decimal_of(text: &[u8]) -> Result<[u8; 16], JsonReason>
     Ok(bits_of(is_negative, size)?.to_le_bytes())
 }
 
+/// The sixteen bytes of the Decimal128 that a text writes exactly, as `1.50`, `1.5E+20`, `NaN` or `-Infinity`.
+pub fn decimal128_of(text: &[u8]) -> Option<[u8; 16]>
+    ensures some { IfSome result (λ bytes. WritesDecimal text.now bytes) }
+    ensures none { result ≡ None → (bytes : List ℕ) → ¬ WritesDecimal text.now bytes }
+{
+    match decimal_of(text) {
+        Ok(bytes) => Some(bytes),
+        Err(_) => None,
+    }
+}
+
 /// Whether a text begins with a minus, and what is behind its sign.
 fn split_sign(text: &[u8]) -> (bool, &[u8])
     ensures negative { result.0 ≡ starts_with_minus text.now }

@@ -15,6 +15,8 @@ mod source;
 mod wrapped;
 mod wrapper;
 
+pub use date::millis_of;
+pub use decimal::decimal128_of;
 pub use error::{JsonError, JsonReason};
 pub use reading::from_json;
 pub use wrapper::Wrapper;

@@ -1,5 +1,5 @@
 -- Each day of the years 1970 to 9999 is one of the calendar.
-use Rattle.std.proofs.Common.{◌≡◌, ◌+◌, ◌<◌, ◌≤◌, ◌/◌, ℕ, pos, zero, suc, List, arith, refl, subst, inl, inr}
+use Rattle.std.proofs.Common.{◌≡◌, ◌+◌, ◌<◌, ◌≤◌, ◌/◌, ◌%◌, ℕ, pos, ◌+ℤ◌, ◌*ℤ◌, zero, suc, List, arith, refl, subst, inl, inr}
 use Rattle.std.proofs.lemmas.Bool.{cases_lt}
 use Rattle.std.proofs.lemmas.Int.{ints}
 use Rattle.jiff_core.specs.Calendar.{IsCivilDate, day_count, days_from_civil, days_in_month, days_in_year}
@@ -64,9 +64,10 @@ day_at zero h = record { year = 1970; month = 1; day = 1; civil = ((omega (arith
 day_at (suc n) h = next_day n (omega (arith, h)) (day_at n (omega (arith, h)))
 
 -- each time of these years has a text
-pub instant_has : (millis : ℕ) → millis ≤ 253402300799999 → (text : List ℕ) × IsInstantText millis text
+pub instant_has : (millis : ℕ) → millis ≤ 253402300799999 → (text : List ℕ) × IsInstantText (pos millis) text
 instant_has millis h =
     let n = millis / 86400000 in
     let d = day_at n (omega (arith, h)) in
     let days : days_from_civil (pos d.year) d.month d.day ≡ pos n = omega (arith, ints, days_from_civil-day_count (pos d.year) d.month d.day, d.count) in
-    (_, (d.year, d.month, d.day, d.civil, days, refl))
+    let is_time : pos millis ≡ (days_from_civil (pos d.year) d.month d.day *ℤ pos 86400000) +ℤ pos (millis % 86400000) = omega (arith, ints, days) in
+    (_, (d.year, d.month, d.day, millis % 86400000, d.civil, omega arith, is_time, refl))

@@ -12,3 +12,4 @@ pub mod Calendar
 pub mod Texts
 pub mod Blocks
 pub mod Sinks
+pub mod Lengths

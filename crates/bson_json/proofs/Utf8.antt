@@ -124,17 +124,17 @@ second_ascii year month day second =
 fraction_ascii : (millis : ℕ) → IsAscii (fraction_text millis)
 fraction_ascii millis = either_way IsAscii (nat_eq millis 0) [] (46 ∷ three_digits millis) IsAscii-nil (IsAscii-cons 46 (three_digits millis) (omega arith) (three_ascii millis))
 
-instant_utf8 : (millis : ℕ) (text : List ℕ) → IsInstantText millis text → IsUtf8 text
-instant_utf8 millis text (year, month, day, civil, days, is) =
-    subst IsUtf8 (sym is) (between (second_text year month day (millis % 86400000 / 1000)) (fraction_text (millis % 1000)) (codes "Z")
-    (IsUtf8-from_ascii (second_text year month day (millis % 86400000 / 1000)) (second_ascii year month day (millis % 86400000 / 1000)))
+instant_utf8 : (z : ℤ) (text : List ℕ) → IsInstantText z text → IsUtf8 text
+instant_utf8 z text (year, month, day, millis, civil, few, at, is) =
+    subst IsUtf8 (sym is) (between (second_text year month day (millis / 1000)) (fraction_text (millis % 1000)) (codes "Z")
+    (IsUtf8-from_ascii (second_text year month day (millis / 1000)) (second_ascii year month day (millis / 1000)))
     (IsUtf8-from_ascii (fraction_text (millis % 1000)) (fraction_ascii (millis % 1000))) (IsUtf8-are_ascii (codes "Z") refl))
 
 wrapped_date_utf8 : (z : ℤ) (text : List ℕ) → IsWrappedDate z text → IsUtf8 text
 wrapped_date_utf8 z text is = subst IsUtf8 (sym is) (around (codes "{\"$date\":{\"$numberLong\":\"") (signed_decimal z) (codes "\"}}") refl (signed_utf8 z) refl)
 
 date_utf8 : (format : Format) (z : ℤ) (text : List ℕ) → IsDateJson format z text → IsUtf8 text
-date_utf8 Relaxed (pos n) text (inl (low, (instant, is, e))) = subst IsUtf8 (sym e) (around (codes "{\"$date\":\"") instant (codes "\"}") refl (instant_utf8 n instant is) refl)
+date_utf8 Relaxed (pos n) text (inl (low, (instant, is, e))) = subst IsUtf8 (sym e) (around (codes "{\"$date\":\"") instant (codes "\"}") refl (instant_utf8 (pos n) instant is) refl)
 date_utf8 Relaxed (pos n) text (inr (high, is)) = wrapped_date_utf8 (pos n) text is
 date_utf8 Relaxed (negsuc n) text is = wrapped_date_utf8 (negsuc n) text is
 date_utf8 Canonical z text is = wrapped_date_utf8 z text is

@@ -1,5 +1,5 @@
 -- Times as Extended JSON has them: milliseconds since the beginning of 1970, UTC.
-use Rattle.std.specs.Prelude.{◌≡◌, ◌⊎◌, ℕ, ℤ, pos, negsuc, ◌+◌, ◌/◌, ◌%◌, ◌<◌, ◌≤◌, ◌==◌, List, [], ◌∷◌, ◌++◌, codes, if◌then◌else◌}
+use Rattle.std.specs.Prelude.{◌≡◌, ◌⊎◌, ℕ, ℤ, pos, negsuc, neg_ℤ, ◌+ℤ◌, ◌*ℤ◌, ◌≤ℤ◌, ◌+◌, ◌/◌, ◌%◌, ◌<◌, ◌≤◌, ◌==◌, List, [], ◌∷◌, ◌++◌, codes, if◌then◌else◌}
 use Rattle.std.specs.Fmt.{signed_decimal}
 use Rattle.jiff_core.specs.Calendar.{IsCivilDate, days_from_civil}
 use Rattle.bson_json.specs.declared.style.Format.{Format}
@@ -27,15 +27,24 @@ second_text year month day second =
 abbrev pub fraction_text : ℕ → List ℕ
 fraction_text millis = if millis == 0 then [] else 46 ∷ three_digits millis
 
--- a time of the years 1970 to 9999 as ISO 8601 has it, in UTC
-abbrev pub IsInstantText : ℕ → List ℕ → Type 0
-IsInstantText millis text =
-    (year month day : ℕ) × IsCivilDate (pos year) month day × (days_from_civil (pos year) month day ≡ pos (millis / 86400000))
-    × (text ≡ second_text year month day (millis % 86400000 / 1000) ++ (fraction_text (millis % 1000) ++ codes "Z"))
+-- a time of the years 0 to 9999 as ISO 8601 has it, in UTC: a day of the calendar, and a millisecond of it
+abbrev pub IsInstantText : ℤ → List ℕ → Type 0
+IsInstantText z text =
+    (year month day millis : ℕ) × IsCivilDate (pos year) month day × (millis < 86400000)
+    × (z ≡ (days_from_civil (pos year) month day *ℤ pos 86400000) +ℤ pos millis)
+    × (text ≡ second_text year month day (millis / 1000) ++ (fraction_text (millis % 1000) ++ codes "Z"))
+
+-- the first millisecond of the year 0
+abbrev pub first_millis : ℤ
+first_millis = neg_ℤ (pos 62167219200000)
 
 -- the last millisecond of the year 9999
 abbrev pub last_millis : ℕ
 last_millis = 253402300799999
+
+-- a time of the years 0 to 9999
+abbrev pub HasInstantText : ℤ → Type 0
+HasInstantText z = (first_millis ≤ℤ z) × (z ≤ℤ pos last_millis)
 
 -- a time as a number in an object that says its kind
 abbrev pub IsWrappedDate : ℤ → List ℕ → Type 0
@@ -43,7 +52,7 @@ IsWrappedDate millis text = text ≡ codes "{\"$date\":{\"$numberLong\":\"" ++ (
 
 -- a time as text
 abbrev pub IsDatedInstant : ℕ → List ℕ → Type 0
-IsDatedInstant millis text = (instant : List ℕ) × IsInstantText millis instant × (text ≡ codes "{\"$date\":\"" ++ (instant ++ codes "\"}"))
+IsDatedInstant millis text = (instant : List ℕ) × IsInstantText (pos millis) instant × (text ≡ codes "{\"$date\":\"" ++ (instant ++ codes "\"}"))
 
 -- a time: relaxed, one of the years 1970 to 9999 is text; every other is a number
 abbrev pub IsDateJson : Format → ℤ → List ℕ → Type 0

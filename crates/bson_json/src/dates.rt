@@ -1,9 +1,9 @@
 //! Times as text.
 #![tactic(auto)]
 
-ghost use Rattle.std.specs.Prelude.{◌≡◌, ◌≤◌, ◌<◌, ◌+◌, ◌∷◌, ℕ, List, OnOk};
+ghost use Rattle.std.specs.Prelude.{◌≡◌, ◌<◌, ◌+◌, ◌∷◌, ◌↔◌, ℕ, List, IsTrue, IfOk, OnOk, Ok, true, false, pos, ◌+ℤ◌};
 ghost use Rattle.std.specs.Io.KnownBytes.{Appends};
-ghost use Rattle.bson_json.specs.Dates.{IsDateJson, IsInstantText, last_millis, second_text, three_digits};
+ghost use Rattle.bson_json.specs.Dates.{HasInstantText, IsDateJson, IsInstantText, second_text, three_digits};
 
 use crate::put::{put, put_between, put_bytes_between};
 use crate::style::Format;
@@ -12,14 +12,17 @@ use jiff_core::civil::Date;
 use std::io;
 use std::io::Write;
 
+/// The first millisecond of the year 0.
+const FIRST_MILLIS: i64 = -62_167_219_200_000;
+
 /// The last millisecond of the year 9999.
 const LAST_MILLIS: i64 = 253_402_300_799_999;
 
 /// How many milliseconds a day has.
 const DAY: u64 = 86_400_000;
 
-/// How many days 1 January 1970 is behind the first day that `Date` has.
-const EPOCH: u32 = 4_371_587;
+/// How many milliseconds 1 January 1970 is behind the first day that `Date` has.
+const EPOCH: i64 = 4_371_587 * 86_400_000;
 
 /// A number below 10 as a digit.
 fn digit(number: u64) -> u8
@@ -74,23 +77,47 @@ fn fraction(millis: u64) -> [u8; 4]
     ]
 }
 
-/// Writes a time of the years 1970 to 9999 as ISO 8601 has it.
-fn put_instant<W: Write>(out: &mut W, millis: u64) -> io::Result<()>
-    requires { millis ≤ last_millis }
+/// How many milliseconds a time of the years 0 to 9999 is behind the beginning of the first day that `Date` has.
+fn since_first_day(millis: i64) -> u64
+    requires { HasInstantText millis }
+    ensures { millis +ℤ pos 377705116800000 ≡ pos result }
+{
+    (millis + EPOCH) as u64
+}
+
+/// Writes a time of the years 0 to 9999 as ISO 8601 has it.
+fn put_instant<W: Write>(out: &mut W, millis: i64) -> io::Result<()>
+    requires { HasInstantText millis }
     ensures { OnOk result ((text : List ℕ) × IsInstantText millis text
         × Appends (W.contents out.old) (W.contents out.new) text) }
 {
-    let date = Date::from_days_since_min((millis / DAY) as u32 + EPOCH);
+    let since = since_first_day(millis);
+    let date = Date::from_days_since_min((since / DAY) as u32);
     let year = u64::from(date.year.unsigned_abs());
-    let second = millis % DAY / 1000;
+    let second = since % DAY / 1000;
     put(
         out,
         &seconds(year, u64::from(date.month), u64::from(date.day), second),
     )?;
-    match millis % 1000 {
+    match since % 1000 {
         0 => put(out, b"Z"),
         rest => put_bytes_between(out, "", &fraction(rest), "Z"),
     }
+}
+
+/// Writes a time, as milliseconds from 1970 on, as ISO 8601 has it: as `2012-12-24T12:15:30.501Z`, without a fraction where that
+/// is 0. Whether it is of the years 0 to 9999; of another nothing is written.
+pub fn write_time<W: Write>(out: &mut W, millis: i64) -> io::Result<bool>
+    ensures has_text { IfOk result (λ has_text. IsTrue has_text ↔ HasInstantText millis) }
+    ensures text { result ≡ Ok true → (text : List ℕ) × IsInstantText millis text
+        × Appends (W.contents out.old) (W.contents out.new) text }
+    ensures same { result ≡ Ok false → W.contents out.new ≡ W.contents out.old }
+{
+    if millis < FIRST_MILLIS || LAST_MILLIS < millis {
+        return Ok(false);
+    }
+    put_instant(out, millis)?;
+    Ok(true)
 }
 
 /// Writes a time of so many milliseconds since the epoch.
@@ -100,7 +127,7 @@ pub(crate) fn put_date<W: Write>(out: &mut W, format: Format, millis: i64) -> io
 {
     if format == Format::Relaxed && 0 <= millis && millis <= LAST_MILLIS {
         put(out, b"{\"$date\":\"")?;
-        put_instant(out, millis.unsigned_abs())?;
+        put_instant(out, millis)?;
         return put(out, b"\"}");
     }
     let mut digits = Buffer::new();

@@ -149,10 +149,11 @@ fn put_parts<W: Write>(out: &mut W, parts: Decimal) -> io::Result<()>
     }
 }
 
-/// Writes a decimal number.
-pub(crate) fn put_decimal<W: Write>(out: &mut W, number: Decimal128) -> io::Result<()>
-    ensures { OnOk result
+/// Writes a Decimal128 as text, as `1.50`, `1.5E+20`, `NaN` or `-Infinity`, of at most 42 bytes.
+pub fn write_decimal128<W: Write>(out: &mut W, number: Decimal128) -> io::Result<()>
+    ensures written { OnOk result
         (Appends (W.contents out.old) (W.contents out.new) (decimal128_text (bytes_of_decimal128 number))) }
+    ensures short { length (decimal128_text (bytes_of_decimal128 number)) ≤ 42 }
 {
     let bytes = number.bytes();
     let (low, high) = bytes.split_at(8);

@@ -10,7 +10,7 @@ ghost use Rattle.raw_view.specs.Document.{bytes_of};
 ghost use Rattle.raw_view.specs.Meaning.Value.{value_of};
 
 use crate::dates::put_date;
-use crate::decimals::put_decimal;
+use crate::decimals::write_decimal128;
 use crate::doubles::put_double;
 use crate::leaf::{
     put_binary, put_id, put_int32, put_int64, put_pointer, put_regex, put_text, put_timestamp,
@@ -200,7 +200,7 @@ fn put_single<W: Write>(out: &mut W, format: Format, value: RawBsonRef<'_>) -> i
         RawBsonRef::Int64(number) => put_int64(out, format, number),
         RawBsonRef::Decimal128(number) => {
             put(out, b"{\"$numberDecimal\":\"")?;
-            put_decimal(out, number)?;
+            write_decimal128(out, number)?;
             put(out, b"\"}")
         }
         RawBsonRef::Null => put(out, b"null"),

@@ -15,6 +15,8 @@ mod quote;
 mod sink;
 mod style;
 
+pub use dates::write_time;
+pub use decimals::write_decimal128;
 pub use document::{measured_json, to_json, write_json};
 pub use error::{ToJsonError, WriteJsonError};
 pub use sink::Measured;

@@ -12,4 +12,5 @@ pub mod Putting
 mod Reporting
 mod Resyncing
 mod Stepping
+mod TimeTexts
 mod Valuing

@@ -25,6 +25,7 @@ mod report;
 mod resync;
 mod room;
 mod text_place;
+mod texts;
 mod value;
 mod version;
 mod view;

@@ -1,4 +1,4 @@
-use Rattle.std.proofs.Common.{rules, ◌≡◌, ◌++◌, ℕ, codes, sym, subst, refl, arith, pos, ◌≤ℤ◌, unsigned_abs}
+use Rattle.std.proofs.Common.{rules, ◌≡◌, ◌++◌, codes, sym, subst, refl, arith, ℤ, pos, ◌≤ℤ◌, w64, to_z, of_z}
 use Rattle.std.proofs.lemmas.Int.{ints}
 use Rattle.std.specs.Io.KnownBytes.{Appends}
 use Rattle.std.proofs.KnownBytes.{Appends-trans}
@@ -22,8 +22,8 @@ returns-then-millis-le-LAST_MILLIS g c =
     let low : pos 0 ≤ℤ z = first_of (search rules, omega (arith, ints)) in
     let high : z ≤ℤ pos 253402300799999 = first_of (search rules, omega (arith, ints)) in
     let relaxed : c.args.format ≡ Relaxed = search rules in
-    let size : c.unsigned_abs.result ≡ unsigned_abs z = first_of (search rules, cc) in
-    let date = dated z (A ++ (instant ++ C)) instant low high (subst (λ (n : ℕ). IsInstantText n instant) size is) refl in
+    let same : to_z w64 (of_z w64 z) ≡ z = search rules in
+    let date = dated z (A ++ (instant ++ C)) instant low high (subst (λ (y : ℤ). IsInstantText y instant) same is) refl in
     on_ok c.put-then-millis-le-LAST_MILLIS.result _ _ (λ (p : Appends two new C). (
       A ++ (instant ++ C),
       subst (λ (f : Format). IsDateJson f z (A ++ (instant ++ C))) (sym relaxed) date,

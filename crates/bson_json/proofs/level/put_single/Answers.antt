@@ -9,11 +9,11 @@ use Rattle.bson_json.specs.Levels.{PutsSingle}
 use Rattle.bson_json.proofs.Puts.{on_ok}
 use Rattle.bson_json.proofs.level.put_single.Goals as goal
 
-pub returns-in_ok-put_decimal-in-Decimal128 : goal.returns-in_ok-put_decimal-in-Decimal128
-returns-in_ok-put_decimal-in-Decimal128 g c =
+pub returns-in_ok-write_decimal128-in-Decimal128 : goal.returns-in_ok-write_decimal128-in-Decimal128
+returns-in_ok-write_decimal128-in-Decimal128 g c =
     let old = g.W.Write.contents c.args.out.now in
     let one = g.W.Write.contents c.put-in-Decimal128.new.out in
-    let two = g.W.Write.contents c.put_decimal.new.out in
+    let two = g.W.Write.contents c.write_decimal128.new.out in
     let new = g.W.Write.contents c.put-in-Decimal128-2.new.out in
     let A = codes "{\"$numberDecimal\":\"" in
     let D = decimal128_text (bytes_of_decimal128 c.in-Decimal128.number) in
@@ -22,5 +22,5 @@ returns-in_ok-put_decimal-in-Decimal128 g c =
       A ++ (D ++ C),
       refl,
       Appends-trans old one new A (D ++ C) c.in_ok-put-in-Decimal128.ensures
-          (Appends-trans one two new D C c.in_ok-put_decimal-in-Decimal128.ensures p),
+          (Appends-trans one two new D C c.in_ok-write_decimal128-in-Decimal128.ensures.written p),
     )) c.put-in-Decimal128-2.ensures
