@@ -1,10 +1,10 @@
 -- How bytes of an input of texts are passed, one piece after the other.
-use Rattle.std.proofs.Common.{◌≡◌, ◌⊎◌, ◌+◌, ℕ, List, [], ◌∷◌, ◌++◌, true, false, Option, None, Some, IfSome, append_assoc, ap, arith, drop, inl, inr, length, length-append, refl, take, sym, subst, ◌∙◌}
+use Rattle.std.proofs.Common.{◌≡◌, ◌+◌, ℕ, List, [], ◌∷◌, ◌++◌, true, false, Option, None, Some, IfSome, append_assoc, ap, arith, drop, inl, inr, length, length-append, refl, take, sym, subst, ◌∙◌}
 use Rattle.std.proofs.lemmas.Grind.{fold-append}
 use Rattle.std.specs.Io.KnownBytes.{Consumes}
 use Rattle.bsonraw_dump.specs.Reading.{IsWindow, ahead_of}
 use Rattle.bsonraw_dump.specs.TextReading.{Advances, FindsText, GoesOnTo, IsAhead, IsScanned, LooksOn, PassesAhead, PassesBetween, PassesGap}
-use Rattle.bsonraw_dump.specs.Texts.{HasBrace, HasNoLine, begins_line, may_begin, position_behind, position_over, turn_behind, turn_over, turn_step}
+use Rattle.bsonraw_dump.specs.Texts.{HasNoLine, begins_line, may_begin, position_behind, position_over, turn_behind, turn_over, turn_step}
 use Rattle.bsonraw_dump.specs.declared.cursor.Cursor.{Cursor}
 use Rattle.bsonraw_dump.specs.declared.position.Position.{Position}
 use Rattle.bsonraw_dump.specs.declared.turn.Turn.{Turn}

@@ -17,4 +17,6 @@ mod Advancing
 mod TextPassing
 mod Scanning
 mod TextParts
+mod TextWords
+mod TextWhole
 mod TextSumming

@@ -29,6 +29,7 @@ use Rattle.bsonraw_dump.specs.declared.turn.Turn.{Turn}
 use Rattle.bsonraw_dump.specs.declared.turn.Turn.TheVariants as turn
 use Rattle.bsonraw_dump.proofs.Advancing.{advances_more, advances_on}
 use Rattle.bsonraw_dump.proofs.Skipping.{read_behind}
+use Rattle.bsonraw_dump.proofs.TextWhole.{unended_says_none}
 
 -- parts may come behind each of these
 abbrev pub AllGoOn : Bool → List TextPart → Type 0
@@ -238,7 +239,8 @@ module _ (r : Option (List ℕ)) (ahead rest : List ℕ) (u : Turn) (ends : IsAt
   no_text_of : (told : NextText) (begun at : ℕ) (why : TextReason) → IsNextText r ahead u told → TellsNoText ahead told begun at why → HasNoText u (ahead ++ rest) begun at why
   no_text_of (next.Text found) begun at why (may, (behind, brace), scanned') (whole, has, fault) =
       let here : HasNoText u (123 ∷ (behind ++ rest)) begun at why =
-      inr (refl, may, (take found.len ahead, subst (λ l. IsTextOf (l ++ rest) (take found.len ahead)) brace (text_of found scanned'), whole, has, fault)) in
+      let is : IsTextOf ((123 ∷ behind) ++ rest) (take found.len ahead) = subst (λ l. IsTextOf (l ++ rest) (take found.len ahead)) brace (text_of found scanned') in
+      inr (refl, may, (take found.len ahead, is, whole, unended_says_none ahead found scanned'.0 whole, has, fault)) in
       subst (λ l. HasNoText u (l ++ rest) begun at why) (sym brace) here
   no_text_of (next.Wrong reason) begun at why (inl (b, behind, is, cant, because)) (none, zero, same) =
       let here : HasNoText u (b ∷ (behind ++ rest)) begun at why = inl (cant, none, zero, same ∙ because) in

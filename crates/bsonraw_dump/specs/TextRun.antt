@@ -77,16 +77,16 @@ pub record IsRefused (style : Style) (name : List ℕ) (place : Position) (befor
   pub next : behind ≡ turn_behind_document before
 
 -- What is wrong with a text that doesn't come to its end, where these bytes are read for it, and so many begun: there are 128 MiB; or they
--- have a fault, whose place is told within what is begun; or they are read as a document, as no such bytes are known to be.
+-- have a fault, whose place is told within what is begun.
 abbrev pub IsUnendedFault : (text : List ℕ) → (begun at : ℕ) → TextReason → Type 0
 IsUnendedFault text begun at why =
     ((length text ≡ 2 ^ 27) × (at ≡ 0) × (why ≡ reason.Json json.TooManyBytes))
     ⊎ ((length text < 2 ^ 27) × ((place : ℕ) × IsFaultOf text place why × (at ≡ min place begun)))
-    ⊎ ((length text < 2 ^ 27) × ((document : List ℕ) × IsWritten text document) × (at ≡ 0) × (why ≡ reason.Json json.Unsound))
 
--- The text of a document in front of s doesn't come to its end: so many bytes of it are begun, and behind so many it has this fault.
+-- The text of a document in front of s doesn't come to its end, and says no document: so many bytes of it are begun, and behind so many it
+-- has this fault.
 abbrev pub IsUnended : (s : List ℕ) → (begun at : ℕ) → TextReason → Type 0
-IsUnended s begun at why = (text : List ℕ) × IsTextOf s text × (¬ IsWhole text) × HasBegun text begun × IsUnendedFault text begun at why
+IsUnended s begun at why = (text : List ℕ) × IsTextOf s text × (¬ IsWhole text) × SaysNone text × HasBegun text begun × IsUnendedFault text begun at why
 
 -- Why no whole text is in front of s, of which so many bytes are begun, and behind how many of them: the input ends where it may not; a
 -- byte can't be there; or a text doesn't come to its end.

@@ -200,21 +200,20 @@ fn pass_found<D: Write, W: Write>(
     ensures { PassesPart asked.entry.style asked.entry.name.now (Text found) cursor.old cursor.new turn.old turn.new
         (D.contents out.old) (D.contents out.new) (W.contents report.old) (W.contents report.new) counts.old counts.new result }
 {
-    let made = made_of(alloc, &cursor.window.ahead()[..found.len])?;
-    if !found.is_whole() {
-        let begun = found.begun();
-        let (at, reason) = fault_of(found.len, begun, &made);
-        return pass_astray(
-            alloc, asked, begun, at, reason, cursor, turn, report, counts,
-        );
-    }
-    match made {
+    match made_of(alloc, &cursor.window.ahead()[..found.len])? {
         Made::Document(document) => {
             pass_document(found.len, &document, cursor, turn, out, counts)
         }
-        Made::Fault(at, reason) => pass_refused(
+        Made::Fault(at, reason) if found.is_whole() => pass_refused(
             alloc, asked, found.len, at, reason, cursor, turn, report, counts,
         ),
+        Made::Fault(at, reason) => {
+            let begun = found.begun();
+            let (at, reason) = fault_of(found.len, begun, at, reason);
+            pass_astray(
+                alloc, asked, begun, at, reason, cursor, turn, report, counts,
+            )
+        }
     }
 }
 
@@ -238,19 +237,17 @@ fn made_of(alloc: Global, text: &[u8]) -> Result<Made, Failure>
     }
 }
 
-/// Where and why a text has a fault that doesn't come to its end, of which so many bytes were read, and so many are begun. No such text
-/// is known that makes a document.
-fn fault_of(len: usize, begun: usize, made: &Made) -> (usize, TextReason)
+/// Where and why a text has a fault that doesn't come to its end, of which so many bytes were read, and so many are begun, and this fault
+/// was found.
+fn fault_of(len: usize, begun: usize, at: usize, reason: TextReason) -> (usize, TextReason)
     requires { len ≤ 2 ^ 27 }
     ensures within { result.0 ≤ begun }
-    ensures fault { (text : List ℕ) → length text ≡ len → IsMadeOf text made.now → IsUnendedFault text begun result.0 result.1 }
+    ensures fault { (text : List ℕ) → length text ≡ len → IsFaultOf text at reason → IsUnendedFault text begun result.0 result.1 }
 {
     if len == MOST_TEXT {
-        return (0, TextReason::Json(JsonReason::TooManyBytes));
-    }
-    match made {
-        Made::Fault(at, reason) => ((*at).min(begun), *reason),
-        Made::Document(_) => (0, TextReason::Json(JsonReason::Unsound)),
+        (0, TextReason::Json(JsonReason::TooManyBytes))
+    } else {
+        (at.min(begun), reason)
     }
 }
 

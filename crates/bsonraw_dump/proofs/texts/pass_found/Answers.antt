@@ -1,24 +1,20 @@
-use Rattle.std.proofs.Common.{rules, ◌≡◌, ◌∙◌, ℕ, List, inl, length, length-take-le, refl, subst, sym, take}
-use Rattle.std.proofs.lemmas.Result.{err_from_is_err_and}
+use Rattle.std.proofs.Common.{rules, ◌≡◌, ◌∙◌, ℕ, List, length, length-take-le, subst, sym, take}
+use Rattle.bson_from_json.specs.Texts.{IsWritten}
 use Rattle.bsonraw_dump.specs.Reading.{ahead_of}
 use Rattle.bsonraw_dump.specs.TextRun.{IsMadeOf}
 use Rattle.bsonraw_dump.specs.Texts.{IsWhole}
 use Rattle.bsonraw_dump.specs.declared.cursor.NextText.TheVariants as next
 use Rattle.bsonraw_dump.specs.declared.scan.Scan.TheVariants as scan
+use Rattle.bsonraw_dump.proofs.TextWhole.{written_is_whole}
 use Rattle.bsonraw_dump.proofs.texts.pass_found.Goals as goal
 
-pub returns-then-not-is_whole : goal.returns-then-not-is_whole
-returns-then-not-is_whole g c =
-    let found = c.args.found in
-    let scans = c.requires.3 in
-    let text = take found.len (ahead_of c.args.cursor.now.window) in
-    let size : found.len ≡ length text = sym (length-take-le found.len (ahead_of c.args.cursor.now.window) scans.within) in
-    let other : ¬ (found.scan ≡ scan.Whole) = search rules in
-    let torn : ¬ IsWhole text = λ whole. other (scans.scan ∙ whole) in
-    let made : IsMadeOf text c.in_ok-made.made =
-    subst (λ (l : List ℕ). IsMadeOf (take found.len l) c.in_ok-made.made) c.ahead.ensures c.in_ok-made.ensures.made in
-    c.pass_astray.ensures (next.Text found) (g.D.Write.contents c.args.out.now)
-    (torn, c.begun-begun.ensures.begun text scans.scan size, c.fault_of-at.ensures.fault text (sym size) made)
+pub pass_document-requires : goal.pass_document-requires
+pass_document-requires g c =
+    let ahead = ahead_of c.args.cursor.now.window in
+    let text = take c.args.found.len ahead in
+    let made : IsMadeOf text c.in_ok-document.field-0 = subst (λ (l : List ℕ). IsMadeOf (take c.args.found.len l) c.in_ok-document.field-0) c.ahead.ensures c.in_ok-document.ensures.made in
+    let written : IsWritten text c.in-Document.document = subst (λ m. IsMadeOf text m) c.in-Document.is made in
+    (c.requires.0, c.requires.1, c.requires.2, c.requires.3.within, written_is_whole ahead c.in-Document.document c.args.found c.requires.3 written, written)
 
 pub returns-in-Document : goal.returns-in-Document
 returns-in-Document g c = c.pass_document.ensures c.args.asked.style c.args.asked.name.now (next.Text c.args.found) (g.W.Write.contents c.args.report.now)
@@ -26,6 +22,16 @@ returns-in-Document g c = c.pass_document.ensures c.args.asked.style c.args.aske
 pub returns-in-Fault : goal.returns-in-Fault
 returns-in-Fault g c = c.pass_refused.ensures (next.Text c.args.found) (g.D.Write.contents c.args.out.now)
 
-pub returns-in_err-made : goal.returns-in_err-made
-returns-in_err-made g c =
-    let e = err_from_is_err_and c.from_residual.result c.from_residual.ensures.1 in rw (e.1, e.2) (inl (refl, refl), refl, c.in_err-made.ensures.failed)
+pub returns-in-Fault-2 : goal.returns-in-Fault-2
+returns-in-Fault-2 g c =
+    let found = c.args.found in
+    let scans = c.requires.3 in
+    let ahead = ahead_of c.args.cursor.now.window in
+    let text = take found.len ahead in
+    let size : found.len ≡ length text = sym (length-take-le found.len ahead scans.within) in
+    let other : ¬ (found.scan ≡ scan.Whole) = search rules in
+    let torn : ¬ IsWhole text = λ whole. other (scans.scan ∙ whole) in
+    let made : IsMadeOf text c.in_ok-document.field-0 = subst (λ (l : List ℕ). IsMadeOf (take found.len l) c.in_ok-document.field-0) c.ahead.ensures c.in_ok-document.ensures.made in
+    let fault = subst (λ m. IsMadeOf text m) c.in-Fault.is made in
+    c.pass_astray.ensures (next.Text found) (g.D.Write.contents c.args.out.now)
+    (torn, c.begun-begun.ensures.begun text scans.scan size, c.fault_of-at.ensures.fault text (sym size) fault.1)

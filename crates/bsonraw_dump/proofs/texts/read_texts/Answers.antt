@@ -1,8 +1,6 @@
 use Rattle.std.proofs.Common.{subst}
-use Rattle.bsonraw_dump.specs.Reading.{ahead_of}
 use Rattle.bsonraw_dump.specs.TextReading.{FindsText}
-use Rattle.bsonraw_dump.specs.TextRun.{FailsAt, ReadsTexts}
-use Rattle.bsonraw_dump.specs.declared.cursor.Cursor.{Cursor}
+use Rattle.bsonraw_dump.specs.TextRun.{ReadsTexts}
 use Rattle.bsonraw_dump.proofs.Fronts.{on_any}
 use Rattle.bsonraw_dump.proofs.Stopping.{if_ok}
 use Rattle.bsonraw_dump.proofs.TextPassing.{fails_behind, fails_here, goes_next, halts_here, halts_next, halts_passed, nothing_passed, stops_end, stops_fault, window_behind}
