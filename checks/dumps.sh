@@ -302,6 +302,30 @@ run 'counts as JSON' 3 count --json cut.bson
 wants ''
 run 'nothing but the status' 3 count -q cut.bson
 
+# -- a part of a dump
+
+wants '"mixed.bson":40: repeated-key at /0:"d"/1:"c", byte 18
+'"$(one mixed.bson 2 36 1 1 0 0 0 0)"'
+'
+sed -i '1i "mixed.bson":31: damaged at /0:"a", byte 4: a boolean is neither 0 nor 1: 2' wanted.out
+run 'documents from an offset on' 1 check --at 12 --skip 1 --take 2 mixed.bson
+wants "$(one million 1 12 0 0 0 0 0 0)
+"
+run 'the last of a million documents' 0 check --skip 999999 million
+wants "$(one sound.bson 0 0 0 0 0 0 0 0)
+"
+run 'no document behind the last' 0 check --skip 3 sound.bson
+run 'no document behind the end' 0 check --at 1000 sound.bson
+run 'none of the documents' 0 check --take 0 sound.bson
+wants '"under.bson":19: unsound length 4: 17 bytes not read, --resync goes on
+'"$(one under.bson 0 0 0 0 0 0 17 1)"'
+'
+run 'an unsound length among those that are passed over' 3 check --skip 2 under.bson
+wants '"lost":12: unsound length 4: 5 bytes passed over
+'"$(one lost 1 12 0 0 0 5 0 0)"'
+'
+run 'documents behind one that is passed over, with --resync' 3 check --resync --skip 1 --take 1 lost
+
 # -- --resync
 
 wants '"lost":12: unsound length 4: 5 bytes passed over

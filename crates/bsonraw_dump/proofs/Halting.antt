@@ -29,7 +29,7 @@ use Rattle.bsonraw_dump.proofs.Fronts.{front_whole}
 use Rattle.bsonraw_dump.proofs.Passing.{HasPassed, gap_of, input_behind}
 
 -- what was read is in front of the input
-read_front : (bytes x : List ℕ) (r r' : Option (List ℕ)) → Consumes r r' (bytes ++ x) → IfSome r (λ s. HasFront s bytes)
+pub read_front : (bytes x : List ℕ) (r r' : Option (List ℕ)) → Consumes r r' (bytes ++ x) → IfSome r (λ s. HasFront s bytes)
 read_front bytes x None r' read = tt
 read_front bytes x (Some s) None read = absurd read
 read_front bytes x (Some s) (Some rest) read = (x ++ rest, read ∙ append_assoc bytes x rest)
@@ -99,9 +99,53 @@ module _ {limits : Limits} (c : Command) (style : Style) (resync : Bool) (name :
       halts_taken (not resync) (subst (λ (u : Work). TellsPart limits resync r r' x y v u (next.Document len)) (sym is) (tells_document resync r r' x y v len work sound t))
       (inr (f, told, found, clean, inside))
 
+-- what is next isn't passed
+module _ {limits : Limits} {c : Command} {style : Style} {resync : Bool} {name : List ℕ} {r r' d d' w w' : Option (List ℕ)} {n n' : Counts} {k k' : Kept} where
+  -- a front of the piece that is next, or nothing
+  pub ahead_next : {d'' w'' : Option (List ℕ)} (x : Window) (v : Work) (h : HasPassed limits c style resync name (ahead_of x) r r' d d' w w' n n' k k' x.offset v)
+      → HaltsNext limits c style resync name r' x v k' d' d'' w' w''
+      → HaltsAhead limits c style resync name r (length (bytes_of_parts h.ps)) (fold work_behind no_work h.ps) k' d' d'' w' w''
+  ahead_next {d'' = d''} {w'' = w''} x v h (inl (out, report)) = inr (out, inl report)
+  ahead_next {d'' = d''} {w'' = w''} x v h (inr (b, is, there, halts)) =
+      let bytes = bytes_of_parts h.ps in
+      let work = fold work_behind no_work h.ps in
+      let here : (s : List ℕ) → Consumes (Some s) r' (ahead_of x) → IsNextPiece limits resync s (length bytes) work b = λ s all.
+      subst (λ (u : Work). IsNextPiece limits resync s (length bytes) u b) h.worked (subst (λ (m : ℕ). IsNextPiece limits resync s m v b) h.at (there s all)) in
+      inl (
+        b,
+        is,
+        input_behind bytes (ahead_of x) r r' (λ s. IsNextPiece limits resync s (length bytes) work b) h.passed.is_read here,
+        subst (λ (m : ℕ). HaltsIn limits c style name m b k' d' d'' w' w'') h.at halts,
+      )
+
+  -- a front of the line of a gap
+  pub ahead_gap : {r'' q w'' : Option (List ℕ)} (x y z : Window) (v v' v'' : Work) (e : Ending) (h : HasPassed limits c style resync name (ahead_of x) r r' d d' w w' n n' k k' x.offset v)
+      → TellsPart limits resync r' r'' x y v v' (next.End e) → resync ≡ true → HaltsInGap limits style name e r'' q y z v' v'' w' w''
+      → HaltsAhead limits c style resync name r (length (bytes_of_parts h.ps)) (fold work_behind no_work h.ps) k' d' d' w' w''
+  ahead_gap {r'' = r''} {q = q} {w'' = w''} x y z v v' v'' e h t asked (inl same) = inr (refl, inl same)
+  ahead_gap {r'' = r''} {q = q} {w'' = w''} x y z v v' v'' e h t asked (inr (skip, skips, front)) =
+      let bytes = bytes_of_parts h.ps in
+      let at : y.offset ≡ length bytes = t.searches.stays.offset ∙ h.at in
+      let is = gap_of c style resync name x y z r r' r'' q d d' w w' n n' k k' v v' v'' e skip h t asked skips in
+      let put = subst (λ (m : ℕ). AppendsFront w' w'' (ending_line style name m e (rest.PassedOver skip))) at front in
+      inr (refl, inr (_, inl (_, is, refl), put))
+
+  -- a front of the line of what is left
+  pub ahead_left : {r'' w'' : Option (List ℕ)} (y : Window) (e : Ending) (p : PassesAll limits c style resync name r r' d d' w w' n n' k k' y (stop.Left e))
+      → HaltsLeaving limits style name e r' r'' y w' w'' → HaltsAhead limits c style resync name r (length (bytes_of_parts p.ps)) (fold work_behind no_work p.ps) k' d' d' w' w''
+  ahead_left {r'' = r''} {w'' = w''} y e p (inl same) = inr (refl, inl same)
+  ahead_left {r'' = r''} {w'' = w''} y e p (inr (more, read, ends, front)) =
+      let (ahead, at, first, behind, unasked) = p.stops in
+      let bytes = bytes_of_parts p.ps in
+      let left = ahead_of y ++ more in
+      let here : (s : List ℕ) → Consumes (Some s) r' p.left → HasFront s left = λ s all. ahead_front s left r'' (read (Some s) (subst (Consumes (Some s) r') ahead all)) in
+      let there : IfSome r (λ s. HasFront (drop (length bytes) s) left) = input_behind bytes p.left r r' (λ s. HasFront s left) p.passed.is_read here in
+      let put = subst (λ (m : ℕ). AppendsFront w' w'' (ending_line style name m e (rest.NotRead (length left)))) at front in
+      inr (refl, inr (_, inr (e, left, ends, unasked, there, refl), put))
+
 module _ {limits : Limits} (c : Command) (style : Style) (resync : Bool) (name : List ℕ) (r r' d d' w w' : Option (List ℕ)) (n n' : Counts) (k k' : Kept) where
   -- what is next isn't passed
-  halts_with : (d'' w'' : Option (List ℕ)) (n'' : Counts) (ahead : List ℕ) (ps : List Part) → Passed limits c style resync name ahead r r' d d' w w' n n' k k' ps → n'' ≡ n'
+  abbrev pub halts_with : (d'' w'' : Option (List ℕ)) (n'' : Counts) (ahead : List ℕ) (ps : List Part) → Passed limits c style resync name ahead r r' d d' w w' n n' k k' ps → n'' ≡ n'
       → HaltsAhead limits c style resync name r (length (bytes_of_parts ps)) (fold work_behind no_work ps) k' d' d'' w' w'' → Halts limits c style resync name r d d'' w w'' n n'' k
   halts_with d'' w'' n'' ahead ps p counted halts = record {
     ps = ps;
@@ -117,45 +161,21 @@ module _ {limits : Limits} (c : Command) (style : Style) (resync : Bool) (name :
   }
 
   -- nothing comes of it
-  pub halts_here : (ahead : List ℕ) (ps : List Part) → Passed limits c style resync name ahead r r' d d' w w' n n' k k' ps → Halts limits c style resync name r d d' w w' n n' k
+  abbrev pub halts_here : (ahead : List ℕ) (ps : List Part) → Passed limits c style resync name ahead r r' d d' w w' n n' k k' ps → Halts limits c style resync name r d d' w w' n n' k
   halts_here ahead ps p = halts_with d' w' n' ahead ps p refl (inr (refl, inl refl))
 
   -- a front of the piece that is next, or nothing
-  pub halts_next : (d'' w'' : Option (List ℕ)) (n'' : Counts) (x : Window) (v : Work) → HasPassed limits c style resync name (ahead_of x) r r' d d' w w' n n' k k' x.offset v
+  abbrev pub halts_next : (d'' w'' : Option (List ℕ)) (n'' : Counts) (x : Window) (v : Work) → HasPassed limits c style resync name (ahead_of x) r r' d d' w w' n n' k k' x.offset v
       → HaltsNext limits c style resync name r' x v k' d' d'' w' w'' → n'' ≡ n' → Halts limits c style resync name r d d'' w w'' n n'' k
-  halts_next d'' w'' n'' x v h (inl (out, report)) counted = halts_with d'' w'' n'' (ahead_of x) h.ps h.passed counted (inr (out, inl report))
-  halts_next d'' w'' n'' x v h (inr (b, is, there, halts)) counted =
-      let bytes = bytes_of_parts h.ps in
-      let work = fold work_behind no_work h.ps in
-      let here : (s : List ℕ) → Consumes (Some s) r' (ahead_of x) → IsNextPiece limits resync s (length bytes) work b = λ s all.
-      subst (λ (u : Work). IsNextPiece limits resync s (length bytes) u b) h.worked (subst (λ (m : ℕ). IsNextPiece limits resync s m v b) h.at (there s all)) in
-      halts_with d'' w'' n'' (ahead_of x) h.ps h.passed counted (inl (
-        b,
-        is,
-        input_behind bytes (ahead_of x) r r' (λ s. IsNextPiece limits resync s (length bytes) work b) h.passed.is_read here,
-        subst (λ (m : ℕ). HaltsIn limits c style name m b k' d' d'' w' w'') h.at halts,
-      ))
+  halts_next d'' w'' n'' x v h halts counted = halts_with d'' w'' n'' (ahead_of x) h.ps h.passed counted (ahead_next x v h halts)
 
   -- a front of the line of a gap
-  pub halts_gap : (r'' q w'' : Option (List ℕ)) (n'' : Counts) (x y z : Window) (v v' v'' : Work) (e : Ending) → HasPassed limits c style resync name (ahead_of x) r r' d d' w w' n n' k k' x.offset v
-      → TellsPart limits resync r' r'' x y v v' (next.End e) → resync ≡ true → HaltsInGap limits style name e r'' q y z v' v'' w' w'' → n'' ≡ n' → Halts limits c style resync name r d d' w w'' n n'' k
-  halts_gap r'' q w'' n'' x y z v v' v'' e h t asked (inl same) counted = halts_with d' w'' n'' (ahead_of x) h.ps h.passed counted (inr (refl, inl same))
-  halts_gap r'' q w'' n'' x y z v v' v'' e h t asked (inr (skip, skips, front)) counted =
-      let bytes = bytes_of_parts h.ps in
-      let at : y.offset ≡ length bytes = t.searches.stays.offset ∙ h.at in
-      let is = gap_of c style resync name x y z r r' r'' q d d' w w' n n' k k' v v' v'' e skip h t asked skips in
-      let put = subst (λ (m : ℕ). AppendsFront w' w'' (ending_line style name m e (rest.PassedOver skip))) at front in
-      halts_with d' w'' n'' (ahead_of x) h.ps h.passed counted (inr (refl, inr (_, inl (_, is, refl), put)))
+  abbrev pub halts_gap : (r'' q w'' : Option (List ℕ)) (n'' : Counts) (x y z : Window) (v v' v'' : Work) (e : Ending)
+      → HasPassed limits c style resync name (ahead_of x) r r' d d' w w' n n' k k' x.offset v → TellsPart limits resync r' r'' x y v v' (next.End e) → resync ≡ true
+      → HaltsInGap limits style name e r'' q y z v' v'' w' w'' → n'' ≡ n' → Halts limits c style resync name r d d' w w'' n n'' k
+  halts_gap r'' q w'' n'' x y z v v' v'' e h t asked halts counted = halts_with d' w'' n'' (ahead_of x) h.ps h.passed counted (ahead_gap x y z v v' v'' e h t asked halts)
 
   -- a front of the line of what is left
-  pub halts_left : (r'' w'' : Option (List ℕ)) (n'' : Counts) (y : Window) (e : Ending) → PassesAll limits c style resync name r r' d d' w w' n n' k k' y (stop.Left e)
+  abbrev pub halts_left : (r'' w'' : Option (List ℕ)) (n'' : Counts) (y : Window) (e : Ending) → PassesAll limits c style resync name r r' d d' w w' n n' k k' y (stop.Left e)
       → HaltsLeaving limits style name e r' r'' y w' w'' → n'' ≡ n' → Halts limits c style resync name r d d' w w'' n n'' k
-  halts_left r'' w'' n'' y e p (inl same) counted = halts_with d' w'' n'' p.left p.ps p.passed counted (inr (refl, inl same))
-  halts_left r'' w'' n'' y e p (inr (more, read, ends, front)) counted =
-      let (ahead, at, first, behind, unasked) = p.stops in
-      let bytes = bytes_of_parts p.ps in
-      let left = ahead_of y ++ more in
-      let here : (s : List ℕ) → Consumes (Some s) r' p.left → HasFront s left = λ s all. ahead_front s left r'' (read (Some s) (subst (Consumes (Some s) r') ahead all)) in
-      let there : IfSome r (λ s. HasFront (drop (length bytes) s) left) = input_behind bytes p.left r r' (λ s. HasFront s left) p.passed.is_read here in
-      let put = subst (λ (m : ℕ). AppendsFront w' w'' (ending_line style name m e (rest.NotRead (length left)))) at front in
-      halts_with d' w'' n'' p.left p.ps p.passed counted (inr (refl, inr (_, inr (e, left, ends, unasked, there, refl), put)))
+  halts_left r'' w'' n'' y e p halts counted = halts_with d' w'' n'' p.left p.ps p.passed counted (ahead_left y e p halts)

@@ -10,6 +10,8 @@ mod Listed
 mod Passing
 mod Stopping
 mod Halting
+mod Choosing
+mod Portioning
 mod Objects
 mod Naming
 mod Summing

@@ -3,19 +3,20 @@ use Rattle.std.proofs.Common.{◌≡◌, ℕ, ◌+◌, List, [], ◌∷◌, ◌+
 use Rattle.std.proofs.Math.Seq.{drop-append_seam}
 use Rattle.std.proofs.lemmas.List.{take-append-drop}
 use Rattle.std.specs.Io.KnownBytes.{Consumes, Appends}
-use Rattle.std.proofs.KnownBytes.{Consumes-nil, Appends-nil, Appends-trans}
+use Rattle.std.proofs.KnownBytes.{Appends-nil, Appends-trans}
 use Rattle.raw_tree.specs.declared.reader.limits.Limits.{Limits}
 use Rattle.bsonraw_dump.proofs.Deciding.{judges_sound, place_since, tells_document, tells_other}
 use Rattle.bsonraw_dump.proofs.Skipping.{read_behind}
 use Rattle.bsonraw_dump.proofs.Writing.{writes_none, writes_more}
 use Rattle.std.proofs.lemmas.Grind.{flat_map-append, fold-append}
 use Rattle.bsonraw_dump.specs.Cut.{IsPiece}
+use Rattle.bsonraw_dump.specs.Portion.{HasPassedFront}
 use Rattle.bsonraw_dump.specs.Reading.{Looks, TellsNext, ahead_of}
 use Rattle.bsonraw_dump.specs.Resync.{BreaksWith, IsBelieved, IsNextPlace, SkipsTo, Spends, TellsPart}
 use Rattle.raw_resync.specs.Resync.{IsSound}
 use Rattle.raw_resync.specs.Seeking.{IsWork, no_work}
 use Rattle.raw_resync.specs.declared.work.Work.{Work}
-use Rattle.bsonraw_dump.specs.Run.{AreParts, Entry, Gap, IsEntry, IsGap, IsPart, IsReading, IsTaken, Part, piece, gap, Passed, PassesFront, PassesGap, PassesNext, PassesOne, MayPassFront, Reports, Writes, WritesNothing, bytes_of_part, bytes_of_parts, made_of_part, made_of_parts, lines_of_part, count_entry, count_part, work_behind}
+use Rattle.bsonraw_dump.specs.Run.{AreParts, Entry, Gap, IsEntry, IsGap, IsPart, IsReading, IsTaken, Part, piece, gap, skipped, Passed, PassesFront, PassesGap, PassesNext, PassesOne, MayPassFront, Reports, Writes, WritesNothing, bytes_of_part, bytes_of_parts, made_of_part, made_of_parts, lines_of_part, count_entry, count_part, work_behind}
 use Rattle.bsonraw_dump.specs.Told.{ending_line}
 use Rattle.bsonraw_dump.specs.declared.ending.Ending.{Ending}
 use Rattle.bsonraw_dump.specs.declared.ending.Rest.TheVariants as rest
@@ -44,11 +45,12 @@ module _ (limits : Limits) (c : Command) (style : Style) (resync : Bool) (name :
 one_more : {A : Type 0} (f : Part → List A) (ps : List Part) (p : Part) → flat_map f ps ++ f p ≡ flat_map f (ps ++ p ∷ [])
 one_more f ps p = sym (flat_map-append f ps (p ∷ []) ∙ ap (λ xs. flat_map f ps ++ xs) (append-nil (f p)))
 
-pub passed_none : {limits : Limits} (c : Command) (style : Style) (resync : Bool) (name : List ℕ) (r d w : Option (List ℕ)) (n : Counts) (k : Kept)
-    → Passed limits c style resync name [] r r d d w w n n k k []
-passed_none c style resync name r d w n k = record {
-  parts = tt;
-  is_read = Consumes-nil r;
+-- bytes in front of the documents that are asked for are passed
+pub passed_none : {limits : Limits} {c : Command} {style : Style} {resync : Bool} {name : List ℕ} {r r' d w : Option (List ℕ)} {n : Counts} {k : Kept} (front ahead : List ℕ)
+    → Consumes r r' (front ++ ahead) → Passed limits c style resync name ahead r r' d d w w n n k k (skipped front ∷ [])
+passed_none {limits = limits} {c = c} {style = style} {resync = resync} {name = name} {r = r} {r' = r'} {d = d} {w = w} {n = n} {k = k} front ahead read = record {
+  parts = (tt, tt);
+  is_read = subst (λ (b : List ℕ). Consumes r r' (b ++ ahead)) (sym (append-nil front)) read;
   is_written = writes_none c d k;
   is_reported = Appends-nil w;
   is_counted = refl;
@@ -75,7 +77,7 @@ passed_ahead c style resync name x y r r' r'' d d' w w' n n' k k' ps p looks = r
 }
 
 -- one more part is passed, and these bytes are ahead then
-passed_more : {limits : Limits} (c : Command) (style : Style) (resync : Bool) (name x y : List ℕ) (r r' r'' d d' d'' w w' w'' : Option (List ℕ)) (n n' n'' : Counts) (k k' k'' : Kept)
+pub passed_more : {limits : Limits} (c : Command) (style : Style) (resync : Bool) (name x y : List ℕ) (r r' r'' d d' d'' w w' w'' : Option (List ℕ)) (n n' n'' : Counts) (k k' k'' : Kept)
     (ps : List Part) (p : Part) → Passed limits c style resync name x r r' d d' w w' n n' k k' ps → IsPart limits c style resync name r (length (bytes_of_parts ps)) (fold work_behind no_work ps) p
     → ((before : Option (List ℕ)) → Consumes before r' x → Consumes before r'' (bytes_of_part p ++ y)) → Writes c (made_of_part p) d' d'' k' k'' → Appends w' w'' (lines_of_part p)
     → n'' ≡ count_part n' p → Passed limits c style resync name y r r'' d d'' w w'' n n'' k k'' (ps ++ p ∷ [])
@@ -89,7 +91,7 @@ passed_more {limits} c style resync name x y r r' r'' d d' d'' w w' w'' n n' n''
   is_counted = counted ∙ ap (λ k. count_part k p) passed.is_counted ∙ sym (fold-append count_part n ps (p ∷ []));
 }
 
-bytes_more : (ps : List Part) (p : Part) → length (bytes_of_parts (ps ++ p ∷ [])) ≡ length (bytes_of_parts ps) + length (bytes_of_part p)
+pub bytes_more : (ps : List Part) (p : Part) → length (bytes_of_parts (ps ++ p ∷ [])) ≡ length (bytes_of_parts ps) + length (bytes_of_part p)
 bytes_more ps p = ap length (sym (one_more bytes_of_part ps p)) ∙ length-append (bytes_of_parts ps) (bytes_of_part p)
 
 -- what the loop keeps: parts were passed, the next one begins behind them, and what the searches in them cost
@@ -100,17 +102,17 @@ pub record HasPassed (limits : Limits) (c : Command) (style : Style) (resync : B
   pub at : offset ≡ length (bytes_of_parts ps)
   pub worked : work ≡ fold work_behind no_work ps
 
-pub has_passed_none : {limits : Limits} (c : Command) (style : Style) (resync : Bool) (name ahead : List ℕ) (r d w : Option (List ℕ)) (n : Counts) (k : Kept) (offset : ℕ) (v : Work)
-    → ahead ≡ [] → offset ≡ 0 → v ≡ no_work → HasPassed limits c style resync name ahead r r d d w w n n k k offset v
-has_passed_none {limits} c style resync name ahead r d w n k offset v none start unworked = record {
-  ps = [];
-  passed = subst (λ (x : List ℕ). Passed limits c style resync name x r r d d w w n n k k []) (sym none) (passed_none c style resync name r d w n k);
-  at = start;
+abbrev pub has_passed_none : {limits : Limits} {c : Command} {style : Style} {resync : Bool} {name : List ℕ} {r r' d w : Option (List ℕ)} {n : Counts} {k : Kept}
+    (front : List ℕ) (x : Window) (v : Work) → HasPassedFront front r r' x → v ≡ no_work → HasPassed limits c style resync name (ahead_of x) r r' d d w w n n k k x.offset v
+has_passed_none front x v h unworked = record {
+  ps = skipped front ∷ [];
+  passed = passed_none front (ahead_of x) h.is_read;
+  at = h.offset ∙ sym (ap length (append-nil front));
   worked = unworked;
 }
 
 -- a piece in front of the bytes ahead is passed
-pub has_passed_piece : {limits : Limits} (c : Command) (style : Style) (resync : Bool) (name x y z b : List ℕ) (r r' r'' d d' d'' w w' w'' : Option (List ℕ)) (n n' n'' : Counts)
+abbrev pub has_passed_piece : {limits : Limits} (c : Command) (style : Style) (resync : Bool) (name x y z b : List ℕ) (r r' r'' d d' d'' w w' w'' : Option (List ℕ)) (n n' n'' : Counts)
     (k k' k'' : Kept) (offset behind : ℕ) (v v' : Work) (f : Finding)
     → HasPassed limits c style resync name x r r' d d' w w' n n' k k' offset v → Looks r' r'' x y → IsPiece limits.bytes b × (y ≡ b ++ z) × (behind ≡ offset + length b)
     → ((s : List ℕ) → Consumes (Some s) r' x → (resync ≡ true → IsBelieved limits s offset (length b) v') × Spends limits s offset v v') → PassesOne limits c style name offset b d' d'' w' w'' k' k'' f
@@ -135,7 +137,7 @@ has_passed_piece {limits} c style resync name x y z b r r' r'' d d' d'' w w' w''
     }
 
 -- the document in front of the bytes ahead is passed
-pub has_passed_front : {limits : Limits} (any : Bool) (c : Command) (style : Style) (resync : Bool) (name : List ℕ) (x y z : Window) (r r' r'' d d' d'' w w' w'' : Option (List ℕ))
+abbrev pub has_passed_front : {limits : Limits} (any : Bool) (c : Command) (style : Style) (resync : Bool) (name : List ℕ) (x y z : Window) (r r' r'' d d' d'' w w' w'' : Option (List ℕ))
     (n n' n'' : Counts) (k k' k'' : Kept) (len : ℕ) (v v' : Work)
     → HasPassed limits c style resync name (ahead_of x) r r' d d' w w' n n' k k' x.offset v → TellsPart limits resync r' r'' x y v v' (next.Document len)
     → PassesFront limits any c style name len y z d' d'' w' w'' n' n'' k' k''
@@ -152,14 +154,19 @@ has_passed_front {limits} any c style resync name x y z r r' r'' d d' d'' w w' w
     (λ e same found. p.is_counted e (same ∙ size) found)
 
 -- nothing more was written, reported or counted
-pub has_passed_same : {limits : Limits} (c : Command) (style : Style) (resync : Bool) (name ahead : List ℕ) (r r' d d' d'' w w' w'' : Option (List ℕ)) (n n' n'' : Counts) (k k' k'' : Kept)
+abbrev pub has_passed_same : {limits : Limits} (c : Command) (style : Style) (resync : Bool) (name ahead : List ℕ) (r r' d d' d'' w w' w'' : Option (List ℕ)) (n n' n'' : Counts) (k k' k'' : Kept)
     (offset : ℕ) (v : Work) → HasPassed limits c style resync name ahead r r' d d' w w' n n' k k' offset v → WritesNothing d' d'' w' w'' n' n'' k' k''
     → HasPassed limits c style resync name ahead r r' d d'' w w'' n n'' k k'' offset v
-has_passed_same {limits} c style resync name ahead r r' d d' d'' w w' w'' n n' n'' k k' k'' offset v h (out, report, counts, kept) =
-    subst (λ (a : Kept). HasPassed limits c style resync name ahead r r' d d'' w w'' n n'' k a offset v) (sym kept)
-    (subst (λ (a : Counts). HasPassed limits c style resync name ahead r r' d d'' w w'' n a k k' offset v) (sym counts)
-    (subst (λ (a : Option (List ℕ)). HasPassed limits c style resync name ahead r r' d d'' w a n n' k k' offset v) (sym report)
-    (subst (λ (a : Option (List ℕ)). HasPassed limits c style resync name ahead r r' d a w w' n n' k k' offset v) (sym out) h)))
+has_passed_same {limits} c style resync name ahead r r' d d' d'' w w' w'' n n' n'' k k' k'' offset v h (out, report, counts, kept) = record {
+  ps = h.ps;
+  passed =
+      subst (λ (a : Kept). Passed limits c style resync name ahead r r' d d'' w w'' n n'' k a h.ps) (sym kept)
+      (subst (λ (a : Counts). Passed limits c style resync name ahead r r' d d'' w w'' n a k k' h.ps) (sym counts)
+      (subst (λ (a : Option (List ℕ)). Passed limits c style resync name ahead r r' d d'' w a n n' k k' h.ps) (sym report)
+      (subst (λ (a : Option (List ℕ)). Passed limits c style resync name ahead r r' d a w w' n n' k k' h.ps) (sym out) h.passed)));
+  at = h.at;
+  worked = h.worked;
+}
 
 -- what is next in the bytes ahead is no document
 pub next_other : (limits : Limits) (c : Command) (style : Style) (resync : Bool) (name : List ℕ) (r r' d w : Option (List ℕ)) (x y : Window) (v : Work) (n : Counts) (k : Kept) (told : Next) → IsWork v
@@ -211,7 +218,7 @@ gap_of {limits} c style resync name x y z r r' r'' q d d' w w' n n' k k' v v' v'
     subst (λ (u : Work). IsGap limits style resync name r (length bytes) u g) h.worked is
 
 -- a gap is passed
-pub has_passed_gap : {limits : Limits} (c : Command) (style : Style) (resync : Bool) (name : List ℕ) (x y z : Window) (r r' r'' q d d' w w' w'' : Option (List ℕ)) (n n' n'' : Counts)
+abbrev pub has_passed_gap : {limits : Limits} (c : Command) (style : Style) (resync : Bool) (name : List ℕ) (x y z : Window) (r r' r'' q d d' w w' w'' : Option (List ℕ)) (n n' n'' : Counts)
     (k k' : Kept) (v v' v'' : Work) (e : Ending)
     → HasPassed limits c style resync name (ahead_of x) r r' d d' w w' n n' k k' x.offset v → TellsPart limits resync r' r'' x y v v' (next.End e) → resync ≡ true
     → PassesGap limits style name e r'' q y z v' v'' w' w'' n' n''
@@ -234,7 +241,7 @@ has_passed_gap c style resync name x y z r r' r'' q d d' w w' w'' n n' n'' k k' 
     }
 
 -- what is next was told, and nothing is passed yet
-pub has_passed_ahead : {limits : Limits} (c : Command) (style : Style) (resync : Bool) (name : List ℕ) (x y : Window) (r r' r'' d d' w w' : Option (List ℕ)) (n n' : Counts) (k k' : Kept)
+abbrev pub has_passed_ahead : {limits : Limits} (c : Command) (style : Style) (resync : Bool) (name : List ℕ) (x y : Window) (r r' r'' d d' w w' : Option (List ℕ)) (n n' : Counts) (k k' : Kept)
     (v v' : Work) (told : Next)
     → HasPassed limits c style resync name (ahead_of x) r r' d d' w w' n n' k k' x.offset v → TellsPart limits resync r' r'' x y v v' told
     → HasPassed limits c style resync name (ahead_of y) r r'' d d' w w' n n' k k' y.offset v

@@ -5,7 +5,7 @@ use Rattle.std.proofs.KnownBytes.{Appends-kept}
 use Rattle.raw_tree.specs.declared.reader.limits.Limits.{Limits}
 use Rattle.bsonraw_dump.specs.Reading.{GoesAhead, IsReadBehind, ReadsRest, ahead_of}
 use Rattle.bsonraw_dump.specs.Resync.{TellsPart}
-use Rattle.bsonraw_dump.specs.Run.{Ends, EndsAs, FailsAt, IsLeft, Leaves, PassesAll, bytes_of_parts, count_end, count_left, lines_of_parts}
+use Rattle.bsonraw_dump.specs.Run.{Ends, EndsAs, FailsAt, IsLeft, Leaves, PassesAll, StopsAt, bytes_of_parts, count_end, count_left, lines_of_parts}
 use Rattle.bsonraw_dump.specs.Cut.{EndsWith}
 use Rattle.bsonraw_dump.specs.Told.{ending_line}
 use Rattle.bsonraw_dump.specs.declared.command.Command.{Command}
@@ -56,9 +56,17 @@ left_unsound r r' x len drained ends l = record {
   to_end = l.to_end;
 }
 
+-- the last part ended where reading failed
+pub fails_here : (limits : Limits) (resync : Bool) (r : Option (List ℕ)) (y : Window) (left : List ℕ) (from start : ℕ) (s : Stop) → FailsAt from s → from ≡ start
+    → y.offset + length (ahead_of y) ≡ start + length left → StopsAt limits resync s start r y left
+fails_here limits resync r y left from start stop.End fails at end = absurd fails
+fails_here limits resync r y left from start stop.Enough fails at end = absurd fails
+fails_here limits resync r y left from start (stop.Left e) fails at end = absurd fails
+fails_here limits resync r y left from start (stop.Failed there error) fails at end = (fails ∙ at, end)
+
 module _ {limits : Limits} (c : Command) (style : Style) (resync : Bool) (name : List ℕ) (r r' r'' d d' w w' w'' : Option (List ℕ)) (n n' n'' : Counts) (k k' : Kept) where
   -- the input is at its end
-  pub stops_end : (x y : Window) (v v' : Work) → HasPassed limits c style resync name (ahead_of x) r r' d d' w w' n n' k k' x.offset v → TellsPart limits resync r' r'' x y v v' next.Nothing
+  abbrev pub stops_end : (x y : Window) (v v' : Work) → HasPassed limits c style resync name (ahead_of x) r r' d d' w w' n n' k k' x.offset v → TellsPart limits resync r' r'' x y v v' next.Nothing
       → PassesAll limits c style resync name r r'' d d' w w' n n' k k' y stop.End
   stops_end x y v v' h t = record {
     window = t.searches.stays.window;
@@ -69,7 +77,7 @@ module _ {limits : Limits} (c : Command) (style : Style) (resync : Bool) (name :
   }
 
   -- no document is in front, and nothing is passed over
-  pub stops_left : (x y : Window) (v v' : Work) (e : Ending) → HasPassed limits c style resync name (ahead_of x) r r' d d' w w' n n' k k' x.offset v
+  abbrev pub stops_left : (x y : Window) (v v' : Work) (e : Ending) → HasPassed limits c style resync name (ahead_of x) r r' d d' w w' n n' k k' x.offset v
       → TellsPart limits resync r' r'' x y v v' (next.End e) → resync ≡ false → PassesAll limits c style resync name r r'' d d' w w' n n' k k' y (stop.Left e)
   stops_left x y v v' e h t unasked =
       let (ends, behind) = t.ahead.1 unasked in
@@ -82,11 +90,9 @@ module _ {limits : Limits} (c : Command) (style : Style) (resync : Bool) (name :
       }
 
   -- reading fails
-  pub stops_failed : (x y : Window) (v : Work) (from : ℕ) (s : Stop) → FailsAt from s → HasPassed limits c style resync name (ahead_of x) r r' d d' w w' n n' k k' x.offset v → from ≡ x.offset
+  abbrev pub stops_failed : (x y : Window) (v : Work) (from : ℕ) (s : Stop) → FailsAt from s → HasPassed limits c style resync name (ahead_of x) r r' d d' w w' n n' k k' x.offset v → from ≡ x.offset
       → GoesAhead r' r'' x y → Keeps w' w'' → n'' ≡ n' → PassesAll limits c style resync name r r'' d d' w w'' n n'' k k' y s
-  stops_failed x y v from stop.End fails h at goes kept same = absurd fails
-  stops_failed x y v from (stop.Left e) fails h at goes kept same = absurd fails
-  stops_failed x y v from (stop.Failed there error) fails h at goes kept same =
+  stops_failed x y v from s fails h at goes kept same =
       let p = goes.passes in
       let bytes = bytes_of_parts h.ps in
       let left = p.bytes ++ ahead_of y in
@@ -105,17 +111,17 @@ module _ {limits : Limits} (c : Command) (style : Style) (resync : Bool) (name :
           is_reported = Appends-kept w w' w'' (lines_of_parts h.ps) h.passed.is_reported kept;
           is_counted = same ∙ h.passed.is_counted;
         };
-        stops = (fails ∙ at ∙ start, omega arith);
+        stops = fails_here limits resync r'' y left from (length bytes) s fails (at ∙ start) (omega arith);
       }
 
   -- with what no document begins with
-  pub ends_left : (y : Window) (e : Ending) (failed : Option ReadFailure) → PassesAll limits c style resync name r r' d d' w w' n n' k k' y (stop.Left e)
+  abbrev pub ends_left : (y : Window) (e : Ending) (failed : Option ReadFailure) → PassesAll limits c style resync name r r' d d' w w' n n' k k' y (stop.Left e)
       → Leaves limits style name e y r' r'' w' w'' n' n'' failed → Ends limits c style resync name r r'' d d' w w'' n n'' k k' failed
   ends_left y e failed p l =
       let (ahead, at, ends, behind, unasked) = p.stops in
       let bytes = bytes_of_parts p.ps in
       let left = ahead_of y ++ l.more in
-      let is : EndsAs limits resync (Some e) failed left r'' = elim failed as (λ f. (IsNone f → IsAtEnd r'') → EndsAs limits resync (Some e) f left r'') [
+      let is : EndsAs limits resync false (Some e) failed left r'' = elim failed as (λ f. (IsNone f → IsAtEnd r'') → EndsAs limits resync false (Some e) f left r'') [
         | None ↦ λ to_end. (l.ends, unasked, to_end refl)
         | Some f ↦ λ to_end. (l.ends, unasked)
       ] l.to_end in
@@ -136,6 +142,7 @@ module _ {limits : Limits} (c : Command) (style : Style) (resync : Bool) (name :
           is_reported = p.passed.is_reported;
           is_counted = p.passed.is_counted;
         };
+        early = false;
         end = Some e;
         ends = is;
         fails = subst (λ m. IfSome failed (λ (f : ReadFailure). f.at ≡ m)) here l.fails;

@@ -4,8 +4,8 @@ use Rattle.std.proofs.lemmas.List.{drop_all, drop_more, map-append, map_more, ta
 use Rattle.std.specs.Io.KnownBytes.{Appends, Keeps}
 use Rattle.bson_json.specs.Written.{AppendsFront}
 use Rattle.bsonraw_dump.specs.Batch.{Comes, CountsInput, CountsMore, CountsRun, IsRun, RunsFront, RunsOver, State, HaltsBefore, HaltsWithin, all_line, input_line, state_of}
-use Rattle.bsonraw_dump.specs.Halting.{Halts}
-use Rattle.bsonraw_dump.specs.Run.{Ends, no_counts, plus}
+use Rattle.bsonraw_dump.specs.Portion.{EndsPortion, HaltsPortion}
+use Rattle.bsonraw_dump.specs.Run.{no_counts, plus}
 use Rattle.bsonraw_dump.specs.declared.batch.Job.{Job}
 use Rattle.bsonraw_dump.specs.declared.batch.Totals.{Totals}
 use Rattle.bsonraw_dump.specs.declared.counts.Counts.{Counts}
@@ -13,8 +13,7 @@ use Rattle.bsonraw_dump.specs.declared.failure.Failure.{Failure}
 use Rattle.bsonraw_dump.specs.declared.failure.ReadFailure.{ReadFailure}
 use Rattle.bsonraw_dump.specs.declared.kept.Kept.{Kept}
 use Rattle.bsonraw_dump.proofs.Fronts.{front_none}
-use Rattle.bsonraw_dump.proofs.Halting.{halts_here}
-use Rattle.bsonraw_dump.proofs.Passing.{passed_none}
+use Rattle.bsonraw_dump.proofs.Choosing.{halts_first}
 
 module _ (job : Job) (bytes_of : List ℕ → Option (List ℕ)) where
   -- one more input is run over
@@ -87,15 +86,14 @@ pub halts_unread : (job : Job) (name : List ℕ) (input d w : Option (List ℕ))
 halts_unread job name input d w k m m' same =
     inl (
       no_counts,
-      halts_here job.command job.style job.resync name input input d d w w no_counts no_counts k k [] []
-          (passed_none job.command job.style job.resync name input d w no_counts k),
+      halts_first job.portion,
       inl (same ∙ sym (plus_none m)),
     )
 
 -- A run over an input was whole, or failed, and its line isn't written. So much more is counted.
 pub halts_run : (job : Job) (name : List ℕ) (input left d d' w w' : Option (List ℕ)) (n : Counts) (k k' : Kept) (m m' : Counts) (r : Result (Option ReadFailure) Failure)
-    → IfOk r (Ends job.limits job.command job.style job.resync name input left d d' w w' no_counts n k k')
-    → OnErr r (Halts job.limits job.command job.style job.resync name input d d' w w' no_counts n k) → CountsMore m n m' → HaltsWithin job name input d d' w w' k m m'
+    → IfOk r (EndsPortion job.portion job.limits job.command job.style job.resync name input left d d' w w' no_counts n k k')
+    → OnErr r (HaltsPortion job.portion job.limits job.command job.style job.resync name input d d' w w' no_counts n k) → CountsMore m n m' → HaltsWithin job name input d d' w w' k m m'
 halts_run job name input left d d' w w' n k k' m m' (Ok failed) ends halts counted =
     inr (w', k', n, is_none failed, inl (record { left = left; failed = failed; ends = ends; could = refl }), front_none w' _, counted)
 halts_run job name input left d d' w w' n k k' m m' (Err e) ends halts counted = inl (n, halts, counted)

@@ -3,8 +3,8 @@ use Rattle.std.specs.Prelude.{◌≡◌, ◌⊎◌, ◌++◌, ◌∷◌, ◌<◌
 use Rattle.std.specs.Option.{option_map}
 use Rattle.std.specs.Io.KnownBytes.{Appends, Keeps}
 use Rattle.bson_json.specs.Written.{AppendsFront}
-use Rattle.bsonraw_dump.specs.Halting.{Halts}
-use Rattle.bsonraw_dump.specs.Run.{Ends, count_left, no_counts, plus}
+use Rattle.bsonraw_dump.specs.Portion.{EndsPortion, HaltsPortion}
+use Rattle.bsonraw_dump.specs.Run.{count_left, no_counts, plus}
 use Rattle.bsonraw_dump.specs.Status.{IsFailureStatus, IsStatus}
 use Rattle.bsonraw_dump.specs.Told.{summary_line}
 use Rattle.bsonraw_dump.specs.Unique.{knows}
@@ -71,13 +71,13 @@ abbrev pub all_line : Job → Command → Counts → Kept → List ℕ
 all_line job command.List n kept = []
 all_line job _ n kept = summary_line job.style None job.command n kept.count
 
--- An input of which these bytes are known is opened, and run over from its first byte on. Bytes could be passed over in it where
+-- An input of which these bytes are known is opened, and run over, as far as it is asked for. Bytes could be passed over in it where
 -- reading didn't fail.
 pub record IsRun (job : Job) (name : List ℕ) (input out_old out_new report_old report_new : Option (List ℕ)) (kept_old kept_new : Kept) (counts : Counts)
     (goes_on : Bool) : Type 0 where
   pub left : Option (List ℕ)
   pub failed : Option ReadFailure
-  pub ends : Ends job.limits job.command job.style job.resync name input left out_old out_new report_old report_new no_counts counts kept_old kept_new failed
+  pub ends : EndsPortion job.portion job.limits job.command job.style job.resync name input left out_old out_new report_old report_new no_counts counts kept_old kept_new failed
   pub could : goes_on ≡ is_none failed
 
 -- An input isn't opened. None is of which bytes are known. Nothing is written, and it counts as one that isn't read to its end, with no
@@ -135,7 +135,8 @@ CountsMore counts_old counts counts_new = (counts_new ≡ plus counts_old counts
 -- An input isn't done with: the run over it fails. Or it was run over whole, or wasn't opened, and a front of its line is written.
 abbrev pub HaltsWithin : Job → List ℕ → (input out_old out_new report_old report_new : Option (List ℕ)) → Kept → (counts_old counts_new : Counts) → Type 0
 HaltsWithin job name input out_old out_new report_old report_new kept counts_old counts_new =
-    ((counts : Counts) × Halts job.limits job.command job.style job.resync name input out_old out_new report_old report_new no_counts counts kept × CountsMore counts_old counts counts_new)
+    ((counts : Counts) × HaltsPortion job.portion job.limits job.command job.style job.resync name input out_old out_new report_old report_new no_counts counts kept
+    × CountsMore counts_old counts counts_new)
     ⊎ ((report_between : Option (List ℕ)) × (kept_new : Kept) × (counts : Counts) × (goes_on : Bool)
     × IsInput job name input out_old out_new report_old report_between kept kept_new counts goes_on × AppendsFront report_between report_new (input_line job job.command name counts)
     × CountsMore counts_old counts counts_new)

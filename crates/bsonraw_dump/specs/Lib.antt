@@ -9,6 +9,7 @@ pub mod Listing
 pub mod Unique
 pub mod Run
 pub mod Halting
+pub mod Portion
 pub mod Status
 pub mod Batch
 pub mod Texts

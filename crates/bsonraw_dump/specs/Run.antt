@@ -122,32 +122,38 @@ pub record IsGap (limits : Limits) (style : Style) (resync : Bool) (name : List 
   pub next : IfSome input (λ s. IsNextPlace limits (drop offset s) offset work g.work g.skip)
   pub reports : g.lines ≡ ending_line style name offset g.end (rest.PassedOver g.skip)
 
--- a part of an input: a piece, or a gap
+-- a part of an input: a piece; a gap; or bytes in front of the documents that are asked for
 pub data Part : Type 0 where
   piece : Entry → Part
   gap : Gap → Part
+  skipped : List ℕ → Part
 
 abbrev pub bytes_of_part : Part → List ℕ
 bytes_of_part (piece e) = e.bytes
 bytes_of_part (gap g) = g.bytes
+bytes_of_part (skipped b) = b
 
 abbrev pub made_of_part : Part → List (List ℕ)
 made_of_part (piece e) = e.made
 made_of_part (gap g) = []
+made_of_part (skipped b) = []
 
 abbrev pub lines_of_part : Part → List ℕ
 lines_of_part (piece e) = e.lines
 lines_of_part (gap g) = g.lines
+lines_of_part (skipped b) = []
 
 -- what the searches cost behind a part
 abbrev pub work_behind : Work → Part → Work
 work_behind work (piece e) = e.work
 work_behind work (gap g) = g.work
+work_behind work (skipped b) = work
 
 -- what is so of a part at this offset of an input, where the searches before it cost so much
 abbrev pub IsPart : Limits → Command → Style → (resync : Bool) → List ℕ → Option (List ℕ) → ℕ → Work → Part → Type 0
 IsPart limits c style resync name input offset work (piece e) = IsEntry limits c style name offset e × IfSome input (λ s. IsTaken limits resync (drop offset s) offset work e)
 IsPart limits c style resync name input offset work (gap g) = IsGap limits style resync name input offset work g
+IsPart limits c style resync name input offset work (skipped b) = Unit {0}
 
 -- parts one behind the other, the first of which begins at this offset of the input, where the searches before it cost so much
 abbrev pub AreParts : Limits → Command → Style → (resync : Bool) → List ℕ → Option (List ℕ) → ℕ → Work → List Part → Type 0
@@ -212,6 +218,7 @@ count_gap n count = record n { passed_over = n.passed_over + count }
 abbrev pub count_part : Counts → Part → Counts
 count_part n (piece e) = count_entry n e
 count_part n (gap g) = count_gap n g.skip.count
+count_part n (skipped b) = n
 
 -- one more file that isn't read to its end, with so many bytes of which no part is made
 abbrev pub count_left : Counts → ℕ → Counts
@@ -247,12 +254,13 @@ pub record Passed (limits : Limits) (c : Command) (style : Style) (resync : Bool
   pub is_counted : counts_new ≡ fold count_part counts_old ps
 
 -- What is left of an input: nothing, at its end; or bytes that no document begins with, where none are passed over. Unless reading
--- failed, they are all.
-abbrev pub EndsAs : Limits → (resync : Bool) → Option Ending → Option ReadFailure → List ℕ → (read_new : Option (List ℕ)) → Type 0
-EndsAs limits resync None None left read_new = (left ≡ []) × IsAtEnd read_new
-EndsAs limits resync None (Some failed) left read_new = Unit {0}
-EndsAs limits resync (Some end) None left read_new = EndsWith limits.bytes end left × (resync ≡ false) × IsAtEnd read_new
-EndsAs limits resync (Some end) (Some failed) left read_new = EndsWith limits.bytes end left × (resync ≡ false)
+-- failed, they are all. Of a run that ends early anything is left.
+abbrev pub EndsAs : Limits → (resync early : Bool) → Option Ending → Option ReadFailure → List ℕ → (read_new : Option (List ℕ)) → Type 0
+EndsAs limits resync true end failed left read_new = IsNone end × IsNone failed
+EndsAs limits resync false None None left read_new = (left ≡ []) × IsAtEnd read_new
+EndsAs limits resync false None (Some failed) left read_new = Unit {0}
+EndsAs limits resync false (Some end) None left read_new = EndsWith limits.bytes end left × (resync ≡ false) × IsAtEnd read_new
+EndsAs limits resync false (Some end) (Some failed) left read_new = EndsWith limits.bytes end left × (resync ≡ false)
 
 -- How a run ends: parts were passed; then this was left, of which no part is made, and was counted, and its line was written. Where
 -- reading failed, it failed behind it. What was known of the report and what was counted between the two is a part of it.
@@ -263,8 +271,9 @@ pub record Ends (limits : Limits) (c : Command) (style : Style) (resync : Bool) 
   pub counts_between : Counts
   pub left : List ℕ
   pub passed : Passed limits c style resync name left read_old read_new out_old out_new report_old report_between counts_old counts_between kept_old kept_new ps
+  pub early : Bool
   pub end : Option Ending
-  pub ends : EndsAs limits resync end failed left read_new
+  pub ends : EndsAs limits resync early end failed left read_new
   pub fails : IfSome failed (λ failure. failure.at ≡ length (bytes_of_parts ps) + length left)
   pub told : Appends report_between report_new (last_line style name (length (bytes_of_parts ps)) end (length left))
   pub is_counted : counts_new ≡ count_end end failed counts_between (length left)
@@ -316,10 +325,11 @@ PassesNext limits c style resync name read_old read_new window_old window_new wo
     TellsPart limits resync read_old read_new window_old window_new work_old work_new told
     × WritesNothing out_old out_new report_old report_new counts_old counts_new kept_old kept_new
 
--- How the parts of an input end that were passed: at its end; with bytes that no document begins with; or with an error, where the
--- last part ended.
+-- How the parts of an input end that were passed: at its end; before it; with bytes that no document begins with; or with an error, where
+-- the last part ended.
 abbrev pub StopsAt : Limits → (resync : Bool) → Stop → (from : ℕ) → (read_new : Option (List ℕ)) → (window_new : Window) → (left : List ℕ) → Type 0
 StopsAt limits resync stop.End from read_new window_new left = (left ≡ []) × IsAtEnd read_new
+StopsAt limits resync stop.Enough from read_new window_new left = Unit {0}
 StopsAt limits resync (stop.Left end) from read_new window_new left =
     (left ≡ ahead_of window_new) × (window_new.offset ≡ from) × EndsWith limits.bytes end left × IsReadBehind end read_new × (resync ≡ false)
 StopsAt limits resync (stop.Failed at error) from read_new window_new left = (at ≡ from) × (window_new.offset + length (ahead_of window_new) ≡ from + length left)

@@ -4,6 +4,7 @@
 use crate::batch::Job;
 use crate::command::Command;
 use crate::find::most_allowed;
+use crate::portion::Portion;
 use crate::reading::Reading;
 use crate::style::Style;
 use crate::texts_batch::TextJob;
@@ -72,12 +73,19 @@ fn switch<'a>(alloc: Global, name: &'a str, help: &'a str) -> Arg<'a> {
 /// The most that a limit can be: no length of a document is over it.
 const LARGEST: u64 = 2_147_483_647;
 
-/// An option whose value is a number, this one at least.
-fn number<'a>(alloc: Global, name: &'a str, least: u64, help: &'a str) -> Arg<'a> {
+/// An option whose value is a number, from the least on that there may be.
+fn number<'a>(
+    alloc: Global,
+    name: &'a str,
+    value: &'a str,
+    least: u64,
+    most: u64,
+    help: &'a str,
+) -> Arg<'a> {
     Arg::new(alloc, name)
         .long(name)
-        .value_name("N")
-        .value_parser(ValueParser::unsigned(least, LARGEST))
+        .value_name(value)
+        .value_parser(ValueParser::unsigned(least, most))
         .help(help)
         .action(ArgAction::Set)
 }
@@ -87,15 +95,26 @@ fn limits<'a>(alloc: Global, command: clap::Command<'a>) -> Result<clap::Command
     let bytes = "A length over N bytes is unsound; 16793600 if it isn't given";
     let depth = "A document of more than N levels is too deep; 500 if it isn't given";
     command
-        .arg(number(alloc, "max-bytes", 5, bytes))?
-        .arg(number(alloc, "max-depth", 1, depth))
+        .arg(number(alloc, "max-bytes", "N", 5, LARGEST, bytes))?
+        .arg(number(alloc, "max-depth", "N", 1, LARGEST, depth))
+}
+
+/// Which documents of an input are asked for.
+fn portion<'a>(alloc: Global, command: clap::Command<'a>) -> Result<clap::Command<'a>, AllocError> {
+    let at = "Reads each FILE from this offset on";
+    let skip = "Passes over the first N documents of each FILE, by their lengths";
+    let take = "Reads at most N documents of each FILE";
+    command
+        .arg(number(alloc, "at", "OFFSET", 0, u64::MAX, at))?
+        .arg(number(alloc, "skip", "N", 0, u64::MAX, skip))?
+        .arg(number(alloc, "take", "N", 0, u64::MAX, take))
 }
 
 /// A command that reads FILEs.
 fn reading<'a>(alloc: Global, command: clap::Command<'a>) -> Result<clap::Command<'a>, AllocError> {
     let help =
         "Goes on behind an unsound length, at the next place where two sound documents begin";
-    limits(alloc, command)?
+    limits(alloc, portion(alloc, command)?)?
         .arg(switch(alloc, "resync", help))?
         .arg(files(alloc, "Dumps; nothing or -: standard input"))
 }
@@ -231,6 +250,11 @@ fn task_of<'a>(
             style,
             resync: matches.get_flag("resync"),
             limits: limits_of(matches),
+            portion: Portion {
+                at: matches.get_one("at").unwrap_or(0),
+                skip: matches.get_one("skip").unwrap_or(0),
+                take: matches.get_one("take"),
+            },
         }),
         output,
         inputs: inputs_of(alloc, matches)?,

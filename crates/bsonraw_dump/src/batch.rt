@@ -14,6 +14,7 @@ use crate::counts::Counts;
 use crate::failure::{Failure, in_range};
 use crate::inputs::Inputs;
 use crate::kept::Kept;
+use crate::portion::Portion;
 use crate::run::{Asked, put_summary, run};
 use crate::status::Status;
 use crate::style::Style;
@@ -33,6 +34,8 @@ pub struct Job {
     pub resync: bool,
     /// what a document may cost
     pub limits: Limits,
+    /// which documents of each are asked for
+    pub portion: Portion,
 }
 
 /// An input that wasn't read to its end.
@@ -225,6 +228,7 @@ fn run_open<'a, I: Inputs, D: Write, W: Write>(
         style: job.style,
         resync: job.resync,
         limits: job.limits,
+        portion: job.portion,
         name,
     };
     let mut counts = Counts::new();

@@ -17,6 +17,7 @@ mod listing;
 mod names;
 mod object;
 mod output;
+mod portion;
 mod position;
 mod prompt;
 mod reading;

@@ -9,12 +9,13 @@ ghost use Rattle.bsonraw_dump.specs.Find.{Judges};
 ghost use Rattle.bsonraw_dump.specs.Reading.{GoesAhead, IsReadBehind, IsWindow, Stays, ahead_of};
 ghost use Rattle.raw_resync.specs.Seeking.{IsWork};
 ghost use Rattle.bsonraw_dump.specs.Fronts.{WritesFront};
-ghost use Rattle.bsonraw_dump.specs.Halting.{Halts, IsMade, ListsFront, ReportsFront, HaltsInGap, HaltsLeaving, HaltsNext, HaltsOne};
+ghost use Rattle.bsonraw_dump.specs.Halting.{IsMade, ListsFront, ReportsFront, HaltsInGap, HaltsLeaving, HaltsNext, HaltsOne};
+ghost use Rattle.bsonraw_dump.specs.Portion.{EndsPortion, HaltsPortion, PassesPortion};
 ghost use Rattle.bsonraw_dump.specs.Listing.{ListsDocument};
 ghost use Rattle.bsonraw_dump.specs.Find.{Account, account_of};
 ghost use Rattle.bsonraw_dump.specs.Unique.{CountsOne, knows, written_of};
 ghost use Rattle.bsonraw_dump.specs.Told.{ending_line, line, summary_line};
-ghost use Rattle.bsonraw_dump.specs.Run.{Emits, Ends, FailsAt, IsLeft, IsReading, Leaves, MayPassFront, MayPassOne, PassesAll, PassesGap, PassesNext, Reports, Writes, WritesNothing, head_text};
+ghost use Rattle.bsonraw_dump.specs.Run.{Emits, FailsAt, IsLeft, IsReading, Leaves, MayPassFront, MayPassOne, PassesGap, PassesNext, Reports, Writes, WritesNothing, head_text};
 ghost use Rattle.bsonraw_dump.specs.Run as says;
 ghost use Rattle.raw_tree.specs.CanonicalForm.{IsCanonicalForm};
 ghost use Rattle.raw_view.specs.Frame.Envelope.{IsEnvelope};
@@ -30,6 +31,7 @@ use crate::find::{Finding, Found, Told, judged};
 use crate::kept::Kept;
 use crate::listing::list_level;
 use crate::object::{ending_object, told_object};
+use crate::portion::Portion;
 use crate::resync::{is_doubted, pass_over};
 use crate::style::Style;
 use crate::summary::{summary, summary_object};
@@ -56,6 +58,8 @@ pub struct Asked<'a> {
     pub resync: bool,
     /// what a document may cost
     pub limits: Limits,
+    /// which of its documents are asked for
+    pub portion: Portion,
     /// its name, which begins each line
     pub name: &'a str,
 }
@@ -65,6 +69,8 @@ pub struct Asked<'a> {
 pub enum Stop {
     /// with the input
     End,
+    /// with the last one that is asked for
+    Enough,
     /// with bytes that no document begins with
     Left(Ending),
     /// reading fails; the last of them ended at this offset
@@ -83,15 +89,16 @@ pub fn run<R: Read, D: Write, W: Write>(
     counts: &mut Counts,
     kept: &mut Kept,
 ) -> Result<Option<ReadFailure>, Failure>
-    ensures ends { IfOk result (Ends asked.entry.limits asked.entry.command asked.entry.style asked.entry.resync asked.entry.name.now (R.remaining reader.old) (R.remaining reader.new)
+    ensures ends { IfOk result (EndsPortion asked.entry.portion asked.entry.limits asked.entry.command asked.entry.style asked.entry.resync asked.entry.name.now (R.remaining reader.old) (R.remaining reader.new)
         (D.contents out.old) (D.contents out.new) (W.contents report.old) (W.contents report.new) counts.old counts.new kept.old kept.new) }
-    ensures halts { OnErr result (Halts asked.entry.limits asked.entry.command asked.entry.style asked.entry.resync asked.entry.name.now (R.remaining reader.old)
+    ensures halts { OnErr result (HaltsPortion asked.entry.portion asked.entry.limits asked.entry.command asked.entry.style asked.entry.resync asked.entry.name.now (R.remaining reader.old)
         (D.contents out.old) (D.contents out.new) (W.contents report.old) (W.contents report.new) counts.old counts.new kept.old) }
     ensures failed { IfErr result (λ failure. ¬ IsReading failure) }
 {
     let mut window = Window::new(alloc);
     match pass_all(alloc, asked, reader, &mut window, out, report, counts, kept)? {
         Stop::End => Ok(None),
+        Stop::Enough => Ok(None),
         Stop::Left(ending) => { leave(alloc, asked, ending, reader, &mut window, report, counts) }
         Stop::Failed(from, error) => {
             let at = window.end()?;
@@ -113,14 +120,21 @@ fn pass_all<R: Read, D: Write, W: Write>(
     kept: &mut Kept,
 ) -> Result<Stop, Failure>
     requires { IsWindow window.old × (ahead_of window.old ≡ []) × (window.old.offset ≡ 0) }
-    ensures passed { IfOk result (PassesAll asked.entry.limits asked.entry.command asked.entry.style asked.entry.resync asked.entry.name.now (R.remaining reader.old) (R.remaining reader.new)
+    ensures passed { IfOk result (PassesPortion asked.entry.portion asked.entry.limits asked.entry.command asked.entry.style asked.entry.resync asked.entry.name.now (R.remaining reader.old) (R.remaining reader.new)
         (D.contents out.old) (D.contents out.new) (W.contents report.old) (W.contents report.new) counts.old counts.new kept.old kept.new window.new) }
-    ensures halts { OnErr result (Halts asked.entry.limits asked.entry.command asked.entry.style asked.entry.resync asked.entry.name.now (R.remaining reader.old)
+    ensures halts { OnErr result (HaltsPortion asked.entry.portion asked.entry.limits asked.entry.command asked.entry.style asked.entry.resync asked.entry.name.now (R.remaining reader.old)
         (D.contents out.old) (D.contents out.new) (W.contents report.old) (W.contents report.new) counts.old counts.new kept.old) }
     ensures failed { IfErr result (λ failure. ¬ IsReading failure) }
 {
+    if let Err(failure) = asked.portion.pass_front(asked.limits.bytes, reader, window) {
+        return stopped(window.offset(), failure);
+    }
     let mut work = Work::new();
+    let before = counts.documents;
     for _ in 0..u64::MAX {
+        if asked.portion.is_enough(counts.documents - before) {
+            return Ok(Stop::Enough);
+        }
         let from = window.offset();
         let next = match pass_next(
             alloc, asked, reader, window, &mut work, out, report, counts, kept,

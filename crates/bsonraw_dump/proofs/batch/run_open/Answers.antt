@@ -1,6 +1,5 @@
 use Rattle.std.proofs.Common.{IfOk, OnErr, inl, inr, subst}
-use Rattle.bsonraw_dump.specs.Halting.{Halts}
-use Rattle.bsonraw_dump.specs.Run.{Ends}
+use Rattle.bsonraw_dump.specs.Portion.{EndsPortion, HaltsPortion}
 use Rattle.bsonraw_dump.specs.declared.counts.Counts.{Counts}
 use Rattle.bsonraw_dump.proofs.Fronts.{on_any}
 use Rattle.bsonraw_dump.proofs.Summing.{halts_run}
@@ -19,8 +18,10 @@ returns-in_err-add-clause-halts g c =
     let n = c.run-result.new.counts in
     let k = c.args.totals.now.kept in
     let k' = c.run-result.new.kept in
-    let ends = subst (λ (m : Counts). IfOk c.run-result.result (Ends job.limits job.command job.style job.resync name input left d d' w w' m n k k')) c.new-counts.ensures c.run-result.ensures.ends in
-    let halts = subst (λ (m : Counts). OnErr c.run-result.result (Halts job.limits job.command job.style job.resync name input d d' w w' m n k)) c.new-counts.ensures c.run-result.ensures.halts in
+    let ends = subst (λ (m : Counts). IfOk c.run-result.result (EndsPortion job.portion job.limits job.command job.style job.resync name input left d d' w w' m n k k'))
+    c.new-counts.ensures c.run-result.ensures.ends in
+    let halts = subst (λ (m : Counts). OnErr c.run-result.result (HaltsPortion job.portion job.limits job.command job.style job.resync name input d d' w w' m n k))
+    c.new-counts.ensures c.run-result.ensures.halts in
     on_any _ _ (halts_run job name input left d d' w w' n k k' c.args.totals.now.counts c.add.new.self.counts c.run-result.result ends halts (inr c.in_err-add.ensures.uncounted))
 
 pub returns-in_err-failure-clause-halts : goal.returns-in_err-failure-clause-halts
@@ -36,6 +37,8 @@ returns-in_err-failure-clause-halts g c =
     let n = c.run-result.new.counts in
     let k = c.args.totals.now.kept in
     let k' = c.run-result.new.kept in
-    let ends = subst (λ (m : Counts). IfOk c.run-result.result (Ends job.limits job.command job.style job.resync name input left d d' w w' m n k k')) c.new-counts.ensures c.run-result.ensures.ends in
-    let halts = subst (λ (m : Counts). OnErr c.run-result.result (Halts job.limits job.command job.style job.resync name input d d' w w' m n k)) c.new-counts.ensures c.run-result.ensures.halts in
+    let ends = subst (λ (m : Counts). IfOk c.run-result.result (EndsPortion job.portion job.limits job.command job.style job.resync name input left d d' w w' m n k k'))
+    c.new-counts.ensures c.run-result.ensures.ends in
+    let halts = subst (λ (m : Counts). OnErr c.run-result.result (HaltsPortion job.portion job.limits job.command job.style job.resync name input d d' w w' m n k))
+    c.new-counts.ensures c.run-result.ensures.halts in
     on_any _ _ (halts_run job name input left d d' w w' n k k' c.args.totals.now.counts c.add.new.self.counts c.run-result.result ends halts (inl c.in_ok-add.ensures.counted))

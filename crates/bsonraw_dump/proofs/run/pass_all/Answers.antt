@@ -1,24 +1,31 @@
-use Rattle.std.proofs.Common.{◌≡◌, ◌+◌, arith, refl, sym, subst, ◌∙◌}
+use Rattle.std.proofs.Common.{◌≡◌, ◌≢◌, ◌+◌, Some, ap, arith, inl, inr, length, refl, sym, subst, ◌∙◌}
 use Rattle.bsonraw_dump.specs.Reading.{ahead_of}
+use Rattle.bsonraw_dump.specs.Portion.{documents_of_parts}
 use Rattle.bsonraw_dump.specs.Run.{PassesNext}
-use Rattle.raw_resync.specs.Seeking.{IsWork}
+use Rattle.raw_resync.specs.Seeking.{IsWork, no_work}
+use Rattle.bsonraw_dump.proofs.Portioning.{goes_none}
 use Rattle.bsonraw_dump.specs.declared.window.Next.TheVariants as next
+use Rattle.bsonraw_dump.proofs.Choosing.{chosen_front, chosen_gap, chosen_piece, documents_between, halts_first, halts_portion, has_failed, stops_enough, stops_portion, where_false, where_true}
 use Rattle.bsonraw_dump.proofs.Fronts.{on_any}
 use Rattle.bsonraw_dump.proofs.Halting.{halts_gap, halts_here, halts_next}
-use Rattle.bsonraw_dump.proofs.Passing.{has_passed_ahead, has_passed_front, has_passed_gap, has_passed_none, has_passed_same}
+use Rattle.bsonraw_dump.proofs.Passing.{has_passed_ahead, has_passed_front, has_passed_gap, has_passed_same, has_passed_none}
 use Rattle.bsonraw_dump.proofs.Skipping.{goes_ahead, passes_none}
 use Rattle.bsonraw_dump.proofs.Stopping.{if_ok, keeps_same, stops_end, stops_failed, stops_left}
 use Rattle.bsonraw_dump.proofs.run.pass_all.Goals as goal
-use Rattle.bsonraw_dump.proofs.run.pass_all.Goals.{in-Document, in-End+else-not-asked+in_default}
+use Rattle.bsonraw_dump.proofs.run.pass_all.Goals.{in-Document, in-End+else-not-asked+in_default-pass_gap}
 
 pub loop-init : goal.loop-init
-loop-init g c = (
-  c.requires.0,
-  subst IsWork (sym c.new-work.ensures) (omega arith, omega arith),
-  has_passed_none c.args.asked.command c.args.asked.style c.args.asked.resync c.args.asked.name.now
-      (ahead_of c.args.window.now) _ _ _ c.args.counts.now c.args.kept.now c.args.window.now.offset c.new-work.result
-      c.requires.1 c.requires.2 c.new-work.ensures,
-)
+loop-init g c =
+    let (front, passed, all) = c.in_default.ensures.passed in (
+      passed.window,
+      subst IsWork (sym c.new-work.ensures) (omega arith, omega arith),
+      record {
+        front = front;
+        has = has_passed_none front c.pass_front.new.window c.new-work.result passed c.new-work.ensures;
+        chosen = chosen_front front all.front_of;
+        all = all;
+      },
+    )
 
 pub pass_gap-requires : goal.pass_gap-requires
 pass_gap-requires g c =
@@ -44,10 +51,17 @@ returns-in-Nothing-clause-passed g c =
     let (told, nothing) = subst part c.in-Nothing.is c.in-Ok.ensures.passed in
     let before = has_passed_same c.args.asked.command c.args.asked.style c.args.asked.resync c.args.asked.name.now (ahead_of c.loop.window) (read c.args.reader.now)
     (read c.loop.reader) (out c.args.out.now) (out c.loop.out) (out new.out) (report c.args.report.now) (report c.loop.report) (report new.report) c.args.counts.now c.loop.counts
-    new.counts c.args.kept.now c.loop.kept new.kept c.loop.window.offset c.loop.work c.loop.invariant.2 nothing in
-    stops_end c.args.asked.command c.args.asked.style c.args.asked.resync c.args.asked.name.now (read c.args.reader.now) (read c.loop.reader) (read new.reader)
-    (out c.args.out.now) (out new.out) (report c.args.report.now) (report new.report) (report new.report) c.args.counts.now new.counts new.counts
-    c.args.kept.now new.kept c.loop.window new.window c.loop.work new.work before told
+    new.counts c.args.kept.now c.loop.kept new.kept c.loop.window.offset c.loop.work c.loop.invariant.2.has nothing in
+    let inv = c.loop.invariant.2 in
+    record {
+      front = inv.front;
+      all = stops_end c.args.asked.command c.args.asked.style c.args.asked.resync c.args.asked.name.now (read c.args.reader.now) (read c.loop.reader) (read new.reader)
+          (out c.args.out.now) (out new.out) (report c.args.report.now) (report new.report) (report new.report) c.args.counts.now new.counts new.counts
+          c.args.kept.now new.kept c.loop.window new.window c.loop.work new.work before told;
+      chosen = inv.chosen;
+      to_front = inl inv.all;
+      to_last = λ same. let impossible : ⊥ = cc in absurd impossible;
+    }
 
 pub returns-then-not-asked-clause-passed : goal.returns-then-not-asked-clause-passed
 returns-then-not-asked-clause-passed g c =
@@ -61,10 +75,17 @@ returns-then-not-asked-clause-passed g c =
     let (told, nothing) = subst part c.in-End.is c.in-Ok.ensures.passed in
     let before = has_passed_same c.args.asked.command c.args.asked.style c.args.asked.resync c.args.asked.name.now (ahead_of c.loop.window) (read c.args.reader.now)
     (read c.loop.reader) (out c.args.out.now) (out c.loop.out) (out new.out) (report c.args.report.now) (report c.loop.report) (report new.report) c.args.counts.now c.loop.counts
-    new.counts c.args.kept.now c.loop.kept new.kept c.loop.window.offset c.loop.work c.loop.invariant.2 nothing in
-    stops_left c.args.asked.command c.args.asked.style c.args.asked.resync c.args.asked.name.now (read c.args.reader.now) (read c.loop.reader) (read new.reader)
-    (out c.args.out.now) (out new.out) (report c.args.report.now) (report new.report) (report new.report) c.args.counts.now new.counts new.counts
-    c.args.kept.now new.kept c.loop.window new.window c.loop.work new.work c.in-End.ending before told c.if-not-asked.true
+    new.counts c.args.kept.now c.loop.kept new.kept c.loop.window.offset c.loop.work c.loop.invariant.2.has nothing in
+    let inv = c.loop.invariant.2 in
+    record {
+      front = inv.front;
+      all = stops_left c.args.asked.command c.args.asked.style c.args.asked.resync c.args.asked.name.now (read c.args.reader.now) (read c.loop.reader) (read new.reader)
+          (out c.args.out.now) (out new.out) (report c.args.report.now) (report new.report) (report new.report) c.args.counts.now new.counts new.counts
+          c.args.kept.now new.kept c.loop.window new.window c.loop.work new.work c.in-End.ending before told c.if-not-asked.true;
+      chosen = inv.chosen;
+      to_front = inl inv.all;
+      to_last = λ same. let impossible : ⊥ = cc in absurd impossible;
+    }
 
 pub returns-in-Err-pass_gap-clause-passed : goal.returns-in-Err-pass_gap-clause-passed
 returns-in-Err-pass_gap-clause-passed g c =
@@ -80,20 +101,22 @@ returns-in-Err-pass_gap-clause-passed g c =
     let (told, nothing) = subst part c.in-End.is c.in-Ok.ensures.passed in
     let before = has_passed_same c.args.asked.command c.args.asked.style c.args.asked.resync c.args.asked.name.now (ahead_of c.loop.window) (read c.args.reader.now)
     (read c.loop.reader) (out c.args.out.now) (out c.loop.out) (out new.out) (report c.args.report.now) (report c.loop.report) (report new.report) c.args.counts.now c.loop.counts
-    new.counts c.args.kept.now c.loop.kept new.kept c.loop.window.offset c.loop.work c.loop.invariant.2 nothing in
+    new.counts c.args.kept.now c.loop.kept new.kept c.loop.window.offset c.loop.work c.loop.invariant.2.has nothing in
     let here = has_passed_ahead c.args.asked.command c.args.asked.style c.args.asked.resync c.args.asked.name.now c.loop.window y (read c.args.reader.now) (read c.loop.reader)
     (read new.reader) (out c.args.out.now) (out new.out) (report c.args.report.now) (report new.report) c.args.counts.now new.counts
     c.args.kept.now new.kept c.loop.work new.work (next.End c.in-End.ending) before told in
     let at : from ≡ y.offset = c.offset-from.ensures ∙ sym told.searches.stays.offset in
     if_ok c.stopped-in-Err-pass_gap.result _ _ (λ s is.
     let (goes, kept, same) = c.in-Err-pass_gap.ensures.fails is.0 in
-    stops_failed c.args.asked.command c.args.asked.style c.args.asked.resync c.args.asked.name.now (read c.args.reader.now) (read new.reader)
+    let inv = c.loop.invariant.2 in
+    stops_portion s from inv.front (stops_failed c.args.asked.command c.args.asked.style c.args.asked.resync c.args.asked.name.now (read c.args.reader.now) (read new.reader)
     (read c.pass_gap.new.reader) (out c.args.out.now) (out new.out) (report c.args.report.now) (report new.report) (report c.pass_gap.new.report)
     c.args.counts.now new.counts c.pass_gap.new.counts c.args.kept.now new.kept y c.pass_gap.new.window c.loop.work from s is.1 here at goes kept same)
+    inv.chosen (inl inv.all) is.1)
     c.stopped-in-Err-pass_gap.ensures.stops
 
-pub returns-in-Err-clause-passed : goal.returns-in-Err-clause-passed
-returns-in-Err-clause-passed g c =
+pub returns-in-Err-pass_next-clause-passed : goal.returns-in-Err-pass_next-clause-passed
+returns-in-Err-pass_next-clause-passed g c =
     let read = g.R.Read.remaining in
     let out = g.D.Write.contents in
     let report = g.W.Write.contents in
@@ -103,17 +126,18 @@ returns-in-Err-clause-passed g c =
     let r' = read c.loop.reader in
     let r'' = read new.reader in
     let none : x.offset ≡ x.offset + 0 = omega arith in
-    if_ok c.stopped.result _ _ (λ s is.
-    let (stays, nothing) = c.in-Err.ensures.fails is.0 in
+    if_ok c.stopped-in-Err-pass_next.result _ _ (λ s is.
+    let (stays, nothing) = c.in-Err-pass_next.ensures.fails is.0 in
     let before = has_passed_same c.args.asked.command c.args.asked.style c.args.asked.resync c.args.asked.name.now (ahead_of x) (read c.args.reader.now) r' (out c.args.out.now)
     (out c.loop.out) (out new.out) (report c.args.report.now) (report c.loop.report) (report new.report) c.args.counts.now c.loop.counts new.counts c.args.kept.now c.loop.kept
-    new.kept x.offset c.loop.work c.loop.invariant.2 nothing in
+    new.kept x.offset c.loop.work c.loop.invariant.2.has nothing in
     let goes = goes_ahead r' r' r'' x x y 0 (passes_none r' (ahead_of x)) none stays in
-    stops_failed c.args.asked.command c.args.asked.style c.args.asked.resync c.args.asked.name.now (read c.args.reader.now) r' r''
+    let inv = c.loop.invariant.2 in
+    stops_portion s c.offset-from.result inv.front (stops_failed c.args.asked.command c.args.asked.style c.args.asked.resync c.args.asked.name.now (read c.args.reader.now) r' r''
     (out c.args.out.now) (out new.out) (report c.args.report.now) (report new.report) (report new.report)
     c.args.counts.now new.counts new.counts c.args.kept.now new.kept x y c.loop.work c.offset-from.result s is.1 before c.offset-from.ensures goes
-    (keeps_same (report new.report)) refl)
-    c.stopped.ensures.stops
+    (keeps_same (report new.report)) refl) inv.chosen (inl inv.all) is.1)
+    c.stopped-in-Err-pass_next.ensures.stops
 
 pub loop-preserved : goal.loop-preserved
 loop-preserved g c =
@@ -124,30 +148,44 @@ loop-preserved g c =
     let part = PassesNext c.args.asked.limits c.args.asked.command c.args.asked.style c.args.asked.resync c.args.asked.name.now (read c.loop.reader) (read new.reader) c.loop.window
     new.window c.loop.work new.work (out c.loop.out) (out new.out) (report c.loop.report) (report new.report) c.loop.counts
     new.counts c.loop.kept new.kept in
+    let inv = c.loop.invariant.2 in
+    let h = inv.has in
+    let other : c.args.asked.portion.take ≢ Some (length (documents_of_parts h.ps)) = λ is. where_false _ _ c.is_enough.result c.is_enough.ensures c.if-is_enough.false
+    (is ∙ ap Some (sym (documents_between _ _ h.ps h.passed.is_counted).1)) in
     elim c.match-next.branch [
       | in-Document w ↦
           let (any, y, told, front) = subst part w.in-Document.is c.in-Ok.ensures.passed in
           rw (w.window-is, w.work-is, w.reader-is, w.report-is, w.counts-is) (
             front.window,
             told.searches.work,
-            has_passed_front any c.args.asked.command c.args.asked.style c.args.asked.resync c.args.asked.name.now c.loop.window y new.window (read c.args.reader.now)
-                (read c.loop.reader) (read new.reader) (out c.args.out.now) (out c.loop.out) (out new.out) (report c.args.report.now) (report c.loop.report) (report new.report)
-                c.args.counts.now c.loop.counts new.counts c.args.kept.now c.loop.kept new.kept w.in-Document.field-0 c.loop.work new.work c.loop.invariant.2 told front,
+            record {
+              front = inv.front;
+              has = has_passed_front any c.args.asked.command c.args.asked.style c.args.asked.resync c.args.asked.name.now c.loop.window y new.window (read c.args.reader.now)
+                  (read c.loop.reader) (read new.reader) (out c.args.out.now) (out c.loop.out) (out new.out) (report c.args.report.now) (report c.loop.report) (report new.report)
+                  c.args.counts.now c.loop.counts new.counts c.args.kept.now c.loop.kept new.kept w.in-Document.field-0 c.loop.work new.work inv.has told front;
+              chosen = chosen_piece inv.has.ps _ inv.chosen inv.all other;
+              all = inv.all;
+            },
           )
-      | in-End+else-not-asked+in_default w ↦
+      | in-End+else-not-asked+in_default-pass_gap w ↦
           let (told, nothing) = subst part w.in-End.is c.in-Ok.ensures.passed in
-          let over = w.in_default.ensures.passed in
+          let over = w.in_default-pass_gap.ensures.passed in
           let before = has_passed_same c.args.asked.command c.args.asked.style c.args.asked.resync c.args.asked.name.now (ahead_of c.loop.window) (read c.args.reader.now)
           (read c.loop.reader) (out c.args.out.now) (out c.loop.out) (out new.out) (report c.args.report.now) (report c.loop.report) (report new.report) c.args.counts.now c.loop.counts
-          new.counts c.args.kept.now c.loop.kept new.kept c.loop.window.offset c.loop.work c.loop.invariant.2 nothing in
+          new.counts c.args.kept.now c.loop.kept new.kept c.loop.window.offset c.loop.work c.loop.invariant.2.has nothing in
           rw (w.window-is, w.work-is, w.reader-is, w.report-is, w.counts-is) (
             over.skips.window,
             over.skips.work,
-            has_passed_gap c.args.asked.command c.args.asked.style c.args.asked.resync c.args.asked.name.now c.loop.window new.window
-                w.pass_gap.new.window (read c.args.reader.now) (read c.loop.reader) (read new.reader) (read w.pass_gap.new.reader)
-                (out c.args.out.now) (out new.out) (report c.args.report.now) (report new.report) (report w.pass_gap.new.report) c.args.counts.now
-                new.counts w.pass_gap.new.counts c.args.kept.now new.kept c.loop.work new.work w.pass_gap.new.work w.in-End.ending before told
-                w.if-not-asked.false over,
+            record {
+              front = inv.front;
+              has = has_passed_gap c.args.asked.command c.args.asked.style c.args.asked.resync c.args.asked.name.now c.loop.window new.window
+                  w.pass_gap.new.window (read c.args.reader.now) (read c.loop.reader) (read new.reader) (read w.pass_gap.new.reader)
+                  (out c.args.out.now) (out new.out) (report c.args.report.now) (report new.report) (report w.pass_gap.new.report) c.args.counts.now
+                  new.counts w.pass_gap.new.counts c.args.kept.now new.kept c.loop.work new.work w.pass_gap.new.work w.in-End.ending before told
+                  w.if-not-asked.false over;
+              chosen = chosen_gap inv.has.ps _ inv.chosen inv.all other;
+              all = inv.all;
+            },
           )
     ]
 
@@ -163,28 +201,61 @@ returns-in-Err-pass_gap-clause-halts g c =
     let (told, nothing) = subst part c.in-End.is c.in-Ok.ensures.passed in
     let before = has_passed_same c.args.asked.command c.args.asked.style c.args.asked.resync c.args.asked.name.now (ahead_of c.loop.window) (read c.args.reader.now)
     (read c.loop.reader) (out c.args.out.now) (out c.loop.out) (out new.out) (report c.args.report.now) (report c.loop.report) (report new.report) c.args.counts.now c.loop.counts
-    new.counts c.args.kept.now c.loop.kept new.kept c.loop.window.offset c.loop.work c.loop.invariant.2 nothing in
-    on_any _ _ (halts_gap c.args.asked.command c.args.asked.style c.args.asked.resync c.args.asked.name.now (read c.args.reader.now) (read c.loop.reader)
+    new.counts c.args.kept.now c.loop.kept new.kept c.loop.window.offset c.loop.work c.loop.invariant.2.has nothing in
+    let inv = c.loop.invariant.2 in
+    on_any _ _ (halts_portion inv.front (halts_gap c.args.asked.command c.args.asked.style c.args.asked.resync c.args.asked.name.now (read c.args.reader.now) (read c.loop.reader)
     (out c.args.out.now) (out new.out) (report c.args.report.now) (report new.report) c.args.counts.now new.counts c.args.kept.now new.kept
     (read new.reader) (read c.pass_gap.new.reader) (report c.pass_gap.new.report) c.pass_gap.new.counts c.loop.window new.window c.pass_gap.new.window
-    c.loop.work new.work c.pass_gap.new.work c.in-End.ending before told c.if-not-asked.false c.in-Err-pass_gap.ensures.halts c.in-Err-pass_gap.ensures.uncounted)
+    c.loop.work new.work c.pass_gap.new.work c.in-End.ending before told c.if-not-asked.false c.in-Err-pass_gap.ensures.halts c.in-Err-pass_gap.ensures.uncounted) inv.chosen)
 
-pub returns-in-Err-clause-halts : goal.returns-in-Err-clause-halts
-returns-in-Err-clause-halts g c =
+pub returns-in-Err-pass_next-clause-halts : goal.returns-in-Err-pass_next-clause-halts
+returns-in-Err-pass_next-clause-halts g c =
     let read = g.R.Read.remaining in
     let out = g.D.Write.contents in
     let report = g.W.Write.contents in
     let new = c.pass_next.new in
-    on_any _ _ (halts_next c.args.asked.command c.args.asked.style c.args.asked.resync c.args.asked.name.now (read c.args.reader.now) (read c.loop.reader)
+    let inv = c.loop.invariant.2 in
+    on_any _ _ (halts_portion inv.front (halts_next c.args.asked.command c.args.asked.style c.args.asked.resync c.args.asked.name.now (read c.args.reader.now) (read c.loop.reader)
     (out c.args.out.now) (out c.loop.out) (report c.args.report.now) (report c.loop.report) c.args.counts.now c.loop.counts c.args.kept.now c.loop.kept
-    (out new.out) (report new.report) new.counts c.loop.window c.loop.work c.loop.invariant.2 c.in-Err.ensures.halts c.in-Err.ensures.uncounted)
+    (out new.out) (report new.report) new.counts c.loop.window c.loop.work c.loop.invariant.2.has c.in-Err-pass_next.ensures.halts c.in-Err-pass_next.ensures.uncounted) inv.chosen)
 
 pub returns-clause-halts : goal.returns-clause-halts
 returns-clause-halts g c =
     let read = g.R.Read.remaining in
     let out = g.D.Write.contents in
     let report = g.W.Write.contents in
-    let h = c.loop.invariant.2 in
-    halts_here c.args.asked.command c.args.asked.style c.args.asked.resync c.args.asked.name.now (read c.args.reader.now) (read c.loop.reader)
+    let inv = c.loop.invariant.2 in
+    let h = inv.has in
+    halts_portion inv.front (halts_here c.args.asked.command c.args.asked.style c.args.asked.resync c.args.asked.name.now (read c.args.reader.now) (read c.loop.reader)
     (out c.args.out.now) (out c.loop.out) (report c.args.report.now) (report c.loop.report) c.args.counts.now c.loop.counts c.args.kept.now c.loop.kept
-    (ahead_of c.loop.window) h.ps h.passed
+    (ahead_of c.loop.window) h.ps h.passed) inv.chosen
+
+pub returns-in-Err-clause-passed : goal.returns-in-Err-clause-passed
+returns-in-Err-clause-passed g c =
+    let read = g.R.Read.remaining in
+    let out = g.D.Write.contents in
+    let report = g.W.Write.contents in
+    let x = c.pass_front.new.window in
+    if_ok c.stopped.result _ _ (λ s is.
+    let (front, passed, before) = c.in-Err.ensures.fails is.0 in
+    let h = has_passed_none front x no_work passed refl in
+    let (goes, none) = goes_none (read c.pass_front.new.reader) x passed.window in
+    stops_portion s c.offset.result front (stops_failed c.args.asked.command c.args.asked.style c.args.asked.resync c.args.asked.name.now (read c.args.reader.now)
+    (read c.pass_front.new.reader) (read c.pass_front.new.reader) (out c.args.out.now) (out c.args.out.now) (report c.args.report.now) (report c.args.report.now)
+    (report c.args.report.now) c.args.counts.now c.args.counts.now c.args.counts.now c.args.kept.now c.args.kept.now x x no_work c.offset.result s is.1 h
+    c.offset.ensures goes (keeps_same (report c.args.report.now)) refl) (chosen_front front before) (inr (has_failed c.offset.result s is.1)) is.1)
+    c.stopped.ensures.stops
+
+pub returns-in-Err-clause-halts : goal.returns-in-Err-clause-halts
+returns-in-Err-clause-halts g c = on_any _ _ (halts_first c.args.asked.portion)
+
+pub overflow_sub-counts : goal.overflow_sub-counts
+overflow_sub-counts g c =
+    let h = c.loop.invariant.2.has in
+    (documents_between _ _ h.ps h.passed.is_counted).0
+
+pub returns-then-is_enough-clause-passed : goal.returns-then-is_enough-clause-passed
+returns-then-is_enough-clause-passed g c =
+    let inv = c.loop.invariant in
+    let h = inv.2.has in
+    stops_enough c.loop.window inv.2 inv.0 (where_true _ _ c.is_enough.result c.is_enough.ensures c.if-is_enough.true ∙ ap Some (documents_between _ _ h.ps h.passed.is_counted).1)

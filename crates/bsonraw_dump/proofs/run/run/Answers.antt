@@ -1,5 +1,9 @@
-use Rattle.std.proofs.Common.{subst}
-use Rattle.bsonraw_dump.specs.Run.{PassesAll}
+use Rattle.std.proofs.Common.{◌≡◌, Option, IfSome, ap, refl, subst, ◌∙◌}
+use Rattle.bsonraw_dump.specs.Portion.{PassesPortion}
+use Rattle.bsonraw_dump.specs.Run.{count_left}
+use Rattle.bsonraw_dump.specs.declared.counts.Counts.{Counts}
+use Rattle.bsonraw_dump.specs.declared.run.Stop.TheVariants as stop
+use Rattle.bsonraw_dump.proofs.Choosing.{ends_early, ends_failed, ends_portion, halts_portion, left_front, not_early}
 use Rattle.bsonraw_dump.proofs.Fronts.{on_any, on_errs}
 use Rattle.bsonraw_dump.proofs.Halting.{halts_here, halts_left}
 use Rattle.bsonraw_dump.proofs.Stopping.{ends_left, if_ok}
@@ -15,11 +19,16 @@ returns-in-Left-clause-ends g c =
     let w = g.W.Write.contents c.args.report.now in
     let w' = g.W.Write.contents c.pass_all.new.report in
     let w'' = g.W.Write.contents c.leave.new.report in
-    let all = subst (PassesAll c.args.asked.limits c.args.asked.command c.args.asked.style c.args.asked.resync c.args.asked.name.now r r' d d' w w' c.args.counts.now c.pass_all.new.counts
-    c.args.kept.now c.pass_all.new.kept c.pass_all.new.window) c.in-Left.is c.in_ok-pass_all.ensures.passed in
-    if_ok c.leave.result _ _ (λ failed l.
-    ends_left c.args.asked.command c.args.asked.style c.args.asked.resync c.args.asked.name.now r r' r'' d d' w w' w'' c.args.counts.now c.pass_all.new.counts
-    c.leave.new.counts c.args.kept.now c.pass_all.new.kept c.pass_all.new.window c.in-Left.ending failed all l) c.leave.ensures.left
+    let p = subst (PassesPortion c.args.asked.portion c.args.asked.limits c.args.asked.command c.args.asked.style c.args.asked.resync c.args.asked.name.now r r' d d' w w' c.args.counts.now
+    c.pass_all.new.counts c.args.kept.now c.pass_all.new.kept c.pass_all.new.window) c.in-Left.is c.in_ok-pass_all.ensures.passed in
+    if_ok c.leave.result _ _ (λ failed l. record {
+      front = p.front;
+      ends = ends_left c.args.asked.command c.args.asked.style c.args.asked.resync c.args.asked.name.now r r' r'' d d' w w' w'' c.args.counts.now c.pass_all.new.counts
+          c.leave.new.counts c.args.kept.now c.pass_all.new.kept c.pass_all.new.window c.in-Left.ending failed p.all l;
+      chosen = p.chosen;
+      to_front = λ whole. left_front c.in-Left.ending p.to_front;
+      to_last = λ early. absurd (not_early early);
+    }) c.leave.ensures.left
 
 pub returns-in-Left-clause-halts : goal.returns-in-Left-clause-halts
 returns-in-Left-clause-halts g c =
@@ -31,22 +40,61 @@ returns-in-Left-clause-halts g c =
     let w = g.W.Write.contents c.args.report.now in
     let w' = g.W.Write.contents c.pass_all.new.report in
     let w'' = g.W.Write.contents c.leave.new.report in
-    let all = subst (PassesAll c.args.asked.limits c.args.asked.command c.args.asked.style c.args.asked.resync c.args.asked.name.now r r' d d' w w' c.args.counts.now c.pass_all.new.counts
-    c.args.kept.now c.pass_all.new.kept c.pass_all.new.window) c.in-Left.is c.in_ok-pass_all.ensures.passed in
+    let p = subst (PassesPortion c.args.asked.portion c.args.asked.limits c.args.asked.command c.args.asked.style c.args.asked.resync c.args.asked.name.now r r' d d' w w' c.args.counts.now
+    c.pass_all.new.counts c.args.kept.now c.pass_all.new.kept c.pass_all.new.window) c.in-Left.is c.in_ok-pass_all.ensures.passed in
     on_errs c.leave.result _ _ _ (λ stops same.
-    halts_left c.args.asked.command c.args.asked.style c.args.asked.resync c.args.asked.name.now r r' d d' w w' c.args.counts.now c.pass_all.new.counts
-    c.args.kept.now c.pass_all.new.kept r'' w'' c.leave.new.counts c.pass_all.new.window c.in-Left.ending all stops same) c.leave.ensures.halts c.leave.ensures.uncounted
+    halts_portion p.front (halts_left c.args.asked.command c.args.asked.style c.args.asked.resync c.args.asked.name.now r r' d d' w w' c.args.counts.now
+    c.pass_all.new.counts
+    c.args.kept.now c.pass_all.new.kept r'' w'' c.leave.new.counts c.pass_all.new.window c.in-Left.ending p.all stops same) p.chosen) c.leave.ensures.halts c.leave.ensures.uncounted
 
 pub returns-in_err-at-in-Failed-clause-halts : goal.returns-in_err-at-in-Failed-clause-halts
 returns-in_err-at-in-Failed-clause-halts g c =
     let p = c.in_ok-pass_all.ensures.passed in
-    on_any _ _ (halts_here c.args.asked.command c.args.asked.style c.args.asked.resync c.args.asked.name.now (g.R.Read.remaining c.args.reader.now) (g.R.Read.remaining c.pass_all.new.reader)
-    (g.D.Write.contents c.args.out.now) (g.D.Write.contents c.pass_all.new.out) (g.W.Write.contents c.args.report.now) (g.W.Write.contents c.pass_all.new.report)
-    c.args.counts.now c.pass_all.new.counts c.args.kept.now c.pass_all.new.kept p.left p.ps p.passed)
+    on_any _ _ (halts_portion p.front (halts_here c.args.asked.command c.args.asked.style c.args.asked.resync c.args.asked.name.now (g.R.Read.remaining c.args.reader.now)
+    (g.R.Read.remaining c.pass_all.new.reader) (g.D.Write.contents c.args.out.now) (g.D.Write.contents c.pass_all.new.out)
+    (g.W.Write.contents c.args.report.now) (g.W.Write.contents c.pass_all.new.report)
+    c.args.counts.now c.pass_all.new.counts c.args.kept.now c.pass_all.new.kept p.all.left p.all.ps p.all.passed) p.chosen)
 
 pub returns-in_err-counts-in-Failed-clause-halts : goal.returns-in_err-counts-in-Failed-clause-halts
 returns-in_err-counts-in-Failed-clause-halts g c =
     let p = c.in_ok-pass_all.ensures.passed in
-    on_any _ _ (halts_here c.args.asked.command c.args.asked.style c.args.asked.resync c.args.asked.name.now (g.R.Read.remaining c.args.reader.now) (g.R.Read.remaining c.pass_all.new.reader)
-    (g.D.Write.contents c.args.out.now) (g.D.Write.contents c.pass_all.new.out) (g.W.Write.contents c.args.report.now) (g.W.Write.contents c.pass_all.new.report)
-    c.args.counts.now c.pass_all.new.counts c.args.kept.now c.pass_all.new.kept p.left p.ps p.passed)
+    on_any _ _ (halts_portion p.front (halts_here c.args.asked.command c.args.asked.style c.args.asked.resync c.args.asked.name.now (g.R.Read.remaining c.args.reader.now)
+    (g.R.Read.remaining c.pass_all.new.reader) (g.D.Write.contents c.args.out.now) (g.D.Write.contents c.pass_all.new.out)
+    (g.W.Write.contents c.args.report.now) (g.W.Write.contents c.pass_all.new.report)
+    c.args.counts.now c.pass_all.new.counts c.args.kept.now c.pass_all.new.kept p.all.left p.all.ps p.all.passed) p.chosen)
+
+pub returns-in-End-clause-ends : goal.returns-in-End-clause-ends
+returns-in-End-clause-ends g c =
+    let r = g.R.Read.remaining c.args.reader.now in
+    let r' = g.R.Read.remaining c.pass_all.new.reader in
+    let d = g.D.Write.contents c.args.out.now in
+    let d' = g.D.Write.contents c.pass_all.new.out in
+    let w = g.W.Write.contents c.args.report.now in
+    let w' = g.W.Write.contents c.pass_all.new.report in
+    ends_portion (subst (PassesPortion c.args.asked.portion c.args.asked.limits c.args.asked.command c.args.asked.style c.args.asked.resync c.args.asked.name.now r r' d d' w w' c.args.counts.now
+    c.pass_all.new.counts c.args.kept.now c.pass_all.new.kept c.pass_all.new.window) c.in-End.is c.in_ok-pass_all.ensures.passed)
+
+pub returns-in-Enough-clause-ends : goal.returns-in-Enough-clause-ends
+returns-in-Enough-clause-ends g c =
+    let r = g.R.Read.remaining c.args.reader.now in
+    let r' = g.R.Read.remaining c.pass_all.new.reader in
+    let d = g.D.Write.contents c.args.out.now in
+    let d' = g.D.Write.contents c.pass_all.new.out in
+    let w = g.W.Write.contents c.args.report.now in
+    let w' = g.W.Write.contents c.pass_all.new.report in
+    ends_early (subst (PassesPortion c.args.asked.portion c.args.asked.limits c.args.asked.command c.args.asked.style c.args.asked.resync c.args.asked.name.now r r' d d' w w' c.args.counts.now
+    c.pass_all.new.counts c.args.kept.now c.pass_all.new.kept c.pass_all.new.window) c.in-Enough.is c.in_ok-pass_all.ensures.passed)
+
+pub returns-clause-ends : goal.returns-clause-ends
+returns-clause-ends g c =
+    let r = g.R.Read.remaining c.args.reader.now in
+    let r' = g.R.Read.remaining c.pass_all.new.reader in
+    let d = g.D.Write.contents c.args.out.now in
+    let d' = g.D.Write.contents c.pass_all.new.out in
+    let w = g.W.Write.contents c.args.report.now in
+    let w' = g.W.Write.contents c.pass_all.new.report in
+    let n' = c.pass_all.new.counts in
+    let p = subst (PassesPortion c.args.asked.portion c.args.asked.limits c.args.asked.command c.args.asked.style c.args.asked.resync c.args.asked.name.now r r' d d' w w' c.args.counts.now
+    n' c.args.kept.now c.pass_all.new.kept c.pass_all.new.window) c.in-Failed.is c.in_ok-pass_all.ensures.passed in
+    let told = subst (λ (o : Option Counts). IfSome o (λ n. n ≡ count_left n' c.saturating_sub.result)) c.in_ok-counts-in-Failed.ensures.same c.with_left.ensures.counted in
+    ends_failed (stop.Failed c.in-Failed.from c.in-Failed.error) c.in-Failed.from _ refl p c.in_ok-at-in-Failed.ensures.end (told ∙ ap (count_left n') c.saturating_sub.ensures)
