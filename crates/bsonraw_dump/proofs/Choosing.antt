@@ -1,6 +1,5 @@
 -- The parts that are asked for.
 use Rattle.std.proofs.Common.{◌≡◌, ◌≢◌, ◌⊎◌, ℕ, ◌+◌, ◌-◌, ◌<◌, ◌≤◌, List, [], ◌∷◌, ◌++◌, Bool, true, false, MatchBool, Option, None, Some, IfSome, IsNone, add-zero, ap, arith, eq-or-lt_of_le, fold, inl, inr, length, refl, subst, suc, sym, zero-add, ◌∙◌}
-use Rattle.std.specs.Io.KnownBytes.{Consumes}
 use Rattle.std.proofs.KnownBytes.{Appends-nil, Consumes-nil}
 use Rattle.raw_tree.specs.declared.reader.limits.Limits.{Limits}
 use Rattle.bsonraw_dump.specs.Halting.{Halts}

@@ -1,4 +1,4 @@
-use Rattle.std.proofs.Common.{rules, ◌≡◌, ◌≤◌, ◌<◌, ap, arith, false, length, sym, true}
+use Rattle.std.proofs.Common.{rules, ◌≡◌, ◌≤◌, ap, arith, false, length, true}
 use Rattle.bsonraw_dump.specs.Reading.{ahead_of}
 use Rattle.bsonraw_dump.proofs.Ahead.{nil_of_none}
 use Rattle.bsonraw_dump.proofs.Passing.{if_err_reading}

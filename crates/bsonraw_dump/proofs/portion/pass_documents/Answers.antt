@@ -1,4 +1,4 @@
-use Rattle.std.proofs.Common.{◌≡◌, ◌<◌, arith, subst}
+use Rattle.std.proofs.Common.{arith, subst}
 use Rattle.bsonraw_dump.specs.Reading.{TellsNext}
 use Rattle.bsonraw_dump.proofs.Passing.{if_err_reading}
 use Rattle.bsonraw_dump.proofs.Portioning.{documents_none, documents_on, documents_past, other_next}

@@ -1,7 +1,6 @@
 use Rattle.std.proofs.Common.{subst}
 use Rattle.std.proofs.lemmas.Result.{err_from_is_err_and}
 use Rattle.bsonraw_dump.specs.Run.{IsReading}
-use Rattle.bsonraw_dump.proofs.Fronts.{on_any}
 use Rattle.bsonraw_dump.proofs.Listed.{on_ok}
 use Rattle.bsonraw_dump.proofs.Portioning.{all_in_front, bytes_passed, fails_on, in_front_of, passed_front_of}
 use Rattle.bsonraw_dump.proofs.portion.Portion.pass_front.Goals as goal
