@@ -10,6 +10,7 @@ use raw_shelf::Shelf;
 use std::alloc::Global;
 use std::process::Abort;
 use std::test::Fail;
+use test_fixtures::holds;
 
 const EMPTY_DOCUMENT: &[u8] = b"\x05\0\0\0\0";
 
@@ -82,10 +83,9 @@ fn a_path_goes_down(rt: HostRuntime) -> std::result::Result<(), Fail> {
     let alloc = rt.alloc();
     let here = RawBsonRef::Document(RawDocument::from_bytes(NESTED)?);
     for (path, wanted) in PATHS {
-        assert!(rt; is_null(find_path(alloc, here, path), *wanted), "{path:?}");
+        holds(is_null(find_path(alloc, here, path), *wanted), "a path")?;
     }
-    assert!(rt; is_document(find_path(alloc, here, &[])));
-    Ok(())
+    holds(is_document(find_path(alloc, here, &[])), "no keys")
 }
 
 /// A document that holds this one.
@@ -215,19 +215,21 @@ fn is_fault_at(answer: Result<usize>, key: &str) -> bool {
     }
 }
 
+/// Whether so many are counted in the document of these bytes.
+fn are_counted(alloc: Global, bytes: &[u8], wanted: usize) -> bool {
+    match RawDocument::from_bytes(bytes) {
+        Ok(document) => is_count(count_nulls(alloc, document), wanted),
+        Err(_) => false,
+    }
+}
+
 #[test]
 fn nulls_are_counted_up_to_a_fault(rt: HostRuntime) -> std::result::Result<(), Fail> {
     let alloc = rt.alloc();
-    let two = RawDocument::from_bytes(b"\x0B\0\0\0\x0Aa\0\x0Ab\0\0")?;
-    assert!(rt; is_count(count_nulls(alloc, two), 2));
-    assert!(rt; is_count(count_nulls(alloc, RawDocument::from_bytes(NESTED)?), 0));
-    assert!(rt;
-        is_fault_at(
-            count_nulls(alloc, RawDocument::from_bytes(BOOLEAN_TWO)?),
-            "0"
-        )
-    );
-    Ok(())
+    let are_two = are_counted(alloc, b"\x0B\0\0\0\x0Aa\0\x0Ab\0\0", 2);
+    holds(are_two && are_counted(alloc, NESTED, 0), "nulls")?;
+    let damaged = RawDocument::from_bytes(BOOLEAN_TWO)?;
+    holds(is_fault_at(count_nulls(alloc, damaged), "0"), "a fault")
 }
 
 /// A user: an ObjectId of zeros, and the text `x` as its address.
@@ -241,14 +243,21 @@ fn is_no_user(checked: std::result::Result<(), NotUser>, why: &NotUser) -> bool 
     }
 }
 
+/// Whether the document of these bytes is turned away for this.
+fn is_turned_away_for(alloc: Global, bytes: &[u8], why: &NotUser) -> bool {
+    match RawDocument::from_bytes(bytes) {
+        Ok(document) => is_no_user(check_user(alloc, document), why),
+        Err(_) => false,
+    }
+}
+
 #[test]
 fn a_user_has_its_fields_alone(rt: HostRuntime) -> std::result::Result<(), Fail> {
-    assert!(rt; check_user(rt.alloc(), RawDocument::from_bytes(USER)?).is_ok());
-    let empty = RawDocument::from_bytes(EMPTY_DOCUMENT)?;
-    assert!(rt; is_no_user(check_user(rt.alloc(), empty), &NotUser::Missing));
-    let number = RawDocument::from_bytes(B_ALONE)?;
-    assert!(rt; is_no_user(check_user(rt.alloc(), number), &NotUser::OtherField));
-    Ok(())
+    let alloc = rt.alloc();
+    let is_user = check_user(alloc, RawDocument::from_bytes(USER)?).is_ok();
+    let are_others = is_turned_away_for(alloc, EMPTY_DOCUMENT, &NotUser::Missing)
+        && is_turned_away_for(alloc, B_ALONE, &NotUser::OtherField);
+    holds(is_user && are_others, "users")
 }
 
 /// The 64-bit number 7 under `n`; a repeated key, which isn't canonical; and the number once more.
@@ -291,14 +300,18 @@ const COPIES: &[(&[u8], &str, &[u8])] = &[
     (BOOLEAN_TWO, "1", b"\x09\0\0\0\x080\0\x02\0"),
 ];
 
+/// Whether that is left of the document of these bytes.
+fn is_left(alloc: Global, bytes: &[u8], key: &str, left: &[u8]) -> bool {
+    match RawDocument::from_bytes(bytes) {
+        Ok(document) => is_copy(copy_without(alloc, document, key), left),
+        Err(_) => false,
+    }
+}
+
 #[test]
 fn a_copy_has_all_but_one_key(rt: HostRuntime) -> std::result::Result<(), Fail> {
     for (bytes, key, left) in COPIES {
-        let document = RawDocument::from_bytes(bytes)?;
-        assert!(rt;
-            is_copy(copy_without(rt.alloc(), document, key), left),
-            "{bytes:?} {key}"
-        );
+        holds(is_left(rt.alloc(), bytes, key, left), key)?;
     }
     Ok(())
 }
@@ -327,10 +340,10 @@ const KEYS: &[&str] = &["a", "b", "c"];
 fn no_copy_of_a_document_that_stops(rt: HostRuntime) -> std::result::Result<(), Fail> {
     let document = RawDocument::from_bytes(STOPS_AT_B)?;
     for key in KEYS {
-        assert!(rt;
+        holds(
             is_stopped_at_b(copy_without(rt.alloc(), document, key)),
-            "{key}"
-        );
+            key,
+        )?;
     }
     Ok(())
 }
@@ -361,16 +374,20 @@ const SETTINGS: &[(&[u8], &[&str], &[u8])] = &[
     ),
 ];
 
+/// Whether the document of these bytes becomes that.
+fn is_set(alloc: Global, bytes: &[u8], path: &[&str], set: &[u8]) -> bool {
+    match RawDocument::from_bytes(bytes) {
+        Ok(document) => is_copy(set_path(alloc, document, path, RawBsonRef::Null), set),
+        Err(_) => false,
+    }
+}
+
 #[test]
 fn a_value_is_set_under_keys(rt: HostRuntime) -> std::result::Result<(), Fail> {
     for (bytes, path, set) in SETTINGS {
-        let document = RawDocument::from_bytes(bytes)?;
-        assert!(rt;
-            is_copy(set_path(rt.alloc(), document, path, RawBsonRef::Null), set),
-            "{bytes:?} {path:?}"
-        );
+        holds(is_set(rt.alloc(), bytes, path, set), "a value")?;
     }
     let stopped = RawDocument::from_bytes(STOPS_AT_B)?;
-    assert!(rt; is_stopped_at_b(set_path(rt.alloc(), stopped, &["a"], RawBsonRef::Null)));
-    Ok(())
+    let copy = set_path(rt.alloc(), stopped, &["a"], RawBsonRef::Null);
+    holds(is_stopped_at_b(copy), "a document that stops")
 }

@@ -1,11 +1,11 @@
 //! What is said of pairs, and of values that own their bytes.
 
 use raw_bson::{
-    ElementType, RawArray, RawArrayBuf, RawBson, RawBsonRef, RawDocument, Reason, Result,
+    ElementType, RawArray, RawArrayBuf, RawBson, RawBsonRef, RawDocument, Result, ValueAccessResult,
 };
 use std::alloc::Global;
 use std::test::Fail;
-use test_fixtures::{check_debug_text, is_refused};
+use test_fixtures::{borrowed, check_debug_text};
 
 /// Whether the item is this key and value.
 pub(crate) fn is_pair(
@@ -16,18 +16,6 @@ pub(crate) fn is_pair(
     match item {
         Some(Ok((found_key, found))) => *found_key == key && *found == value,
         _ => false,
-    }
-}
-
-/// Whether the item is refused for this reason, with this key.
-pub(crate) fn is_item_refused<T>(
-    item: &Option<Result<T>>,
-    reason: Reason,
-    key: Option<&str>,
-) -> bool {
-    match item {
-        Some(answer) => is_refused(answer, reason, key),
-        None => false,
     }
 }
 
@@ -83,6 +71,19 @@ pub(crate) fn check_no_kind(first: Option<ElementType>) -> std::result::Result<(
         Some(kind) => Err(Fail::new(format_args!("{kind:?}"))),
         None => Ok(()),
     }
+}
+
+/// Whether a getter has the value of this kind in the document of all kinds.
+fn is_value(answer: &ValueAccessResult<RawBsonRef<'_>>, kind: ElementType) -> bool {
+    match (answer, borrowed(kind)) {
+        (Ok(found), Ok(wanted)) => *found == wanted,
+        _ => false,
+    }
+}
+
+/// The same of a getter's result that is handed over.
+pub(crate) fn is_got(answer: ValueAccessResult<RawBsonRef<'_>>, kind: ElementType) -> bool {
+    is_value(&answer, kind)
 }
 
 /// Whether both were made, and are equal.

@@ -1,8 +1,7 @@
-use crate::checks::{check_array_text, holds_of, is_same};
+use crate::checks::{check_array_text, holds_of};
 use raw_bson::{
-    Binary, BinarySubtype, CowRawArray, CowRawDocument, ElementType, RawBinaryRef, RawBson,
-    RawBsonRef, RawDocument, RawElement, RawRegexRef, Reason, Regex, ToRawArrayBuf, ToRawBson,
-    ToRawDocumentBuf,
+    CowRawArray, CowRawDocument, ElementType, RawBson, RawDocument, RawElement, ToRawArrayBuf,
+    ToRawBson, ToRawDocumentBuf,
 };
 use std::alloc::Global;
 use std::test::Fail;
@@ -51,40 +50,26 @@ fn a_view_of_an_array_is_copied_and_counted(rt: HostRuntime) -> Result<(), Fail>
     Ok(())
 }
 
+/// Whether the copy is the value of this kind.
+fn is_copied(copy: &raw_bson::Result<RawBson>, kind: ElementType) -> bool {
+    match (copy, borrowed(kind)) {
+        (Ok(copy), Ok(value)) => copy.as_raw_bson_ref() == value,
+        _ => false,
+    }
+}
+
 #[test]
 fn a_borrowed_value_of_each_kind_is_copied(rt: HostRuntime) -> Result<(), Fail> {
     for &(_, kind) in KINDS.iter() {
-        let copy = borrowed(kind)?.to_raw_bson(rt.alloc());
-        holds_of(is_same(&copy, &owned(rt.alloc(), kind)), kind)?;
+        holds_of(is_copied(&owned(rt.alloc(), kind), kind), kind)?;
     }
     Ok(())
-}
-
-/// Whether the copies of the values of the elements are those of all kinds.
-fn are_elements_copied(alloc: Global, document: RawDocument<'_>) -> bool {
-    let mut elements = document.iter_elements(alloc);
-    for &(_, kind) in KINDS.iter() {
-        let is_next = match elements.next() {
-            Some(Ok(element)) => is_same(&element.to_raw_bson(alloc), &owned(alloc, kind)),
-            _ => false,
-        };
-        if !is_next {
-            return false;
-        }
-    }
-    true
-}
-
-#[test]
-fn the_value_of_an_element_is_copied(rt: HostRuntime) -> Result<(), Fail> {
-    let document = RawDocument::from_bytes(ALL_KINDS)?;
-    holds(are_elements_copied(rt.alloc(), document), "copies")
 }
 
 /// The copy of the element's value is this text.
 fn check_text_copied(alloc: Global, element: RawElement<'_>, text: &str) -> Result<(), Fail> {
     let wanted = RawBson::from_str(alloc, text)?;
-    check_answer(element.to_raw_bson(alloc), &wanted, text)
+    holds(is_answer(element.to_raw_bson(alloc), &wanted), text)
 }
 
 #[test]
@@ -94,83 +79,6 @@ fn the_value_of_an_element_of_a_buffer_is_copied(rt: HostRuntime) -> Result<(), 
         Some(Ok(element)) => check_text_copied(rt.alloc(), element, "y'all"),
         _ => Err(Fail::new("no element")),
     }
-}
-
-/// The first element's value isn't copied, for this reason, at the key `a`.
-fn check_not_copied(alloc: Global, bytes: &[u8], reason: Reason) -> Result<(), Fail> {
-    match RawDocument::from_bytes(bytes)?.iter_elements(alloc).next() {
-        Some(Ok(element)) => check_fault(element.to_raw_bson(alloc), reason, "a"),
-        _ => Err(Fail::new(format_args!("no element where {reason:?} is wanted"))),
-    }
-}
-
-#[test]
-fn the_fault_of_an_element_is_answered(rt: HostRuntime) -> Result<(), Fail> {
-    check_not_copied(rt.alloc(), BOOLEAN_TWO, Reason::BadBoolean(2))?;
-    check_not_copied(rt.alloc(), DECLARED_LENGTH_THREE, Reason::CodeTooSmall)
-}
-
-/// The pattern `a` with the options in order.
-fn regex_in_order(alloc: Global) -> raw_bson::Result<RawBson> {
-    Ok(RawBson::RegularExpression(Regex {
-        pattern: String::from_str(alloc, "a")?,
-        options: String::from_str(alloc, "im")?,
-    }))
-}
-
-#[test]
-fn options_put_in_order(rt: HostRuntime) -> Result<(), Fail> {
-    let regex = RawRegexRef {
-        pattern: "a",
-        options: "mi",
-    };
-    let copy = RawBsonRef::RegularExpression(regex).to_raw_bson(rt.alloc());
-    holds(
-        is_same(&copy, &regex_in_order(rt.alloc())),
-        "options in order",
-    )
-}
-
-/// One byte.
-fn one_byte(alloc: Global) -> Result<Binary, Fail> {
-    Ok(Binary {
-        subtype: BinarySubtype::Generic,
-        bytes: vec![in alloc; 1]?,
-    })
-}
-
-#[test]
-fn a_borrowed_binary_is_copied(rt: HostRuntime) -> Result<(), Fail> {
-    let binary = RawBinaryRef {
-        subtype: BinarySubtype::Generic,
-        bytes: b"\x01",
-    };
-    let wanted = one_byte(rt.alloc())?;
-    let copy = binary.to_binary(rt.alloc())?;
-    holds(copy == wanted, "a binary")
-}
-
-#[test]
-fn a_buffer_is_borrowed_as_a_value(rt: HostRuntime) -> Result<(), Fail> {
-    let view = RawBsonRef::Document(RawDocument::from_bytes(NULL_DOCUMENT)?);
-    let document = document_of(rt.alloc(), NULL_DOCUMENT)?;
-    check_equal(&RawBsonRef::from(&document), &view, "a document")
-}
-
-#[test]
-fn a_buffer_of_an_array_is_borrowed_as_a_value(rt: HostRuntime) -> Result<(), Fail> {
-    let view = RawBsonRef::Array(array_view(NULL_ARRAY)?);
-    let array = array_of(rt.alloc(), NULL_ARRAY)?;
-    check_equal(&RawBsonRef::from(&array), &view, "an array")
-}
-
-#[test]
-fn a_borrowed_buffer_is_appended(rt: HostRuntime) -> Result<(), Fail> {
-    let document = document_of(rt.alloc(), NULL_DOCUMENT)?;
-    let mut holder = document_of(rt.alloc(), EMPTY)?;
-    holder.append_ref("d", RawBsonRef::from(&document))?;
-    let bytes = b"\x0F\0\0\0\x03d\0\x07\0\0\0\x0A\0\0\0";
-    check_bytes(holder.as_bytes(), bytes, "a buffer appended")
 }
 
 /// Whether the document is borrowed or owned, as is wanted, and has the greeting's bytes.

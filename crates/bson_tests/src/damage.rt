@@ -1,6 +1,6 @@
-//! Appends and pushes onto damaged documents: what is there isn't looked at, and a refused one leaves it.
+//! Pushes onto damaged arrays: what is there isn't looked at, and a refused one leaves it. Keys of damaged documents.
 
-use raw_bson::{RawArrayBuf, RawBson, RawBsonRef, RawDocumentBuf, Reason, Regex};
+use raw_bson::{RawArrayBuf, RawBson, Reason, Regex};
 use std::alloc::Global;
 use std::test::Fail;
 use test_fixtures::*;
@@ -8,41 +8,6 @@ use test_fixtures::*;
 /// A regular expression that can't be written: its options hold a 0.
 fn refused_regex(alloc: Global) -> raw_bson::Result<RawBson> {
     Ok(RawBson::from(Regex::new(alloc, "a", "i\0")?))
-}
-
-/// Documents, and what becomes of them by an append of `true` under the key `b`.
-const APPENDS: &[(&[u8], &[u8])] = &[
-    (SWALLOWED_TERMINATOR, b"\x0A\0\0\0\x0A\x08b\0\x01\0"),
-    (TAG_ZERO, b"\x0A\0\0\0\0\x08b\0\x01\0"),
-    (
-        NEGATIVE_DOCUMENT_LENGTH,
-        b"\x10\0\0\0\x03a\0\xFF\xFF\xFF\xFF\x08b\0\x01\0",
-    ),
-];
-
-/// Whether the document is as it was after a refused append, and has these bytes after the next one.
-fn is_appended(document: &mut RawDocumentBuf, regex: RawBson, before: &[u8], after: &[u8]) -> bool {
-    is_refused(&document.append("r", regex), Reason::InteriorNul, None)
-        && document.as_bytes() == before
-        && document.append("b", RawBson::from(true)).is_ok()
-        && document.as_bytes() == after
-}
-
-/// The same of a buffer of its bytes.
-fn is_damage_appended_to(alloc: Global, before: &[u8], after: &[u8]) -> bool {
-    match (document_of(alloc, before), refused_regex(alloc)) {
-        (Ok(mut document), Ok(regex)) => is_appended(&mut document, regex, before, after),
-        _ => false,
-    }
-}
-
-#[test]
-fn appends_onto_damage(rt: HostRuntime) -> Result<(), Fail> {
-    for (before, after) in APPENDS {
-        let is_so = is_damage_appended_to(rt.alloc(), before, after);
-        holds(is_so, "an append")?;
-    }
-    Ok(())
 }
 
 /// Arrays, with their texts, which show their bytes and counts, before and after a push of a null.
@@ -90,66 +55,6 @@ fn pushes_onto_damage(rt: HostRuntime) -> Result<(), Fail> {
         )?;
     }
     Ok(())
-}
-
-/// The array with text that isn't UTF-8, with one more null pushed.
-fn pushed_onto_text_not_utf8(alloc: Global) -> Result<RawArrayBuf, Fail> {
-    let mut array = array_of(alloc, ARRAY_WITH_TEXT_NOT_UTF8)?;
-    array.push(RawBson::Null)?;
-    Ok(array)
-}
-
-/// What iteration over it yields.
-const PUSHED_ITEMS: &[(&str, Want<'static>)] = &[
-    ("", Want::Fault(&NOT_UTF8)),
-    ("1", Want::Int32(7)),
-    ("2", Want::Null),
-];
-
-#[test]
-fn a_push_leaves_the_fault_before_it(rt: HostRuntime) -> Result<(), Fail> {
-    let array = pushed_onto_text_not_utf8(rt.alloc())?;
-    let document = array.as_ref().as_doc();
-    holds(
-        Checks::ample(rt.alloc()).are_items(document, PUSHED_ITEMS),
-        "items",
-    )
-}
-
-/// Whether a null is pushed onto an array where it is in a value.
-fn is_pushed_in_a_value(value: &mut RawBson) -> bool {
-    match value.as_array_mut() {
-        Some(array) => array.push(RawBson::Null).is_ok(),
-        None => false,
-    }
-}
-
-#[test]
-fn push_onto_a_swallowed_terminator_in_a_value(rt: HostRuntime) -> Result<(), Fail> {
-    let mut value = RawBson::from(array_of(rt.alloc(), SWALLOWED_TERMINATOR)?);
-    let text = "Array(RawArrayBuf { data: \"090000000a0a320000\", len: 3 })";
-    let is_pushed = is_pushed_in_a_value(&mut value) && has_debug_text(rt.alloc(), &value, text);
-    holds(is_pushed, text)
-}
-
-/// Whether the array has this count, a null as its first item, and no second one.
-fn is_one_null(array: &RawArrayBuf, count: usize) -> bool {
-    array.count() == count
-        && matches!(array.get(0), Ok(Some(RawBsonRef::Null)))
-        && matches!(array.get(1), Ok(None))
-}
-
-/// Whether the array counts the stop, and a push ends it.
-fn is_counted(array: &mut RawArrayBuf) -> bool {
-    array.count() == 2 && array.push(RawBson::Null).is_ok() && is_one_null(array, 3)
-}
-
-/// Onto damage a count isn't the number of items: the push ends the stop that was counted.
-#[test]
-fn a_count_is_told(rt: HostRuntime) -> Result<(), Fail> {
-    let is_nothing = RawArrayBuf::new(rt.alloc())?.count() == 0;
-    let mut array = array_of(rt.alloc(), SWALLOWED_TERMINATOR)?;
-    holds(is_nothing && is_counted(&mut array), "counts")
 }
 
 /// Whether the buffer of these bytes says as wanted whether it has the key.

@@ -1,8 +1,9 @@
 use raw_bson::{Breach, Cause, RawBson, RawDocumentBuf, Result, canonical_bytes};
 use raw_shelf::{PutError, Shelf};
 use std::alloc::Global;
-use std::fmt::{Debug, Display};
+use std::fmt::Display;
 use std::process::Abort;
+use test_fixtures::has_debug_text;
 
 const EMPTY_DOCUMENT: &[u8] = b"\x05\0\0\0\0";
 
@@ -161,20 +162,12 @@ fn is_breach_printed(alloc: Global, path: &[usize], text: &str) -> bool {
     }
 }
 
-/// Whether this has the `Debug` text.
-fn is_debugged<T: Debug>(alloc: Global, value: &T, text: &str) -> bool {
-    match format!(in alloc; "{value:?}") {
-        Ok(found) => found.as_str() == text,
-        Err(_) => false,
-    }
-}
-
 /// Whether a refusal for a breach at this path has this text, and this `Debug` text.
 fn is_refusal_printed(alloc: Global, path: &[usize], text: &str, debug_text: &str) -> bool {
     match breach(alloc, path) {
         Ok(breach) => {
             let error = PutError::Breach(breach);
-            is_printed(alloc, &error, text) && is_debugged(alloc, &error, debug_text)
+            is_printed(alloc, &error, text) && has_debug_text(alloc, &error, debug_text)
         }
         Err(_) => false,
     }
@@ -183,7 +176,7 @@ fn is_refusal_printed(alloc: Global, path: &[usize], text: &str, debug_text: &st
 /// Whether out of memory has its texts.
 fn is_out_of_memory_printed(alloc: Global) -> bool {
     is_printed(alloc, &PutError::OutOfMemory, "out of memory")
-        && is_debugged(alloc, &PutError::OutOfMemory, "OutOfMemory")
+        && has_debug_text(alloc, &PutError::OutOfMemory, "OutOfMemory")
 }
 
 #[test]

@@ -87,14 +87,3 @@ fn refusals_of_writing_and_of_limits_are_printed(rt: HostRuntime) -> Result<(), 
     }
     Ok(())
 }
-
-#[test]
-fn the_error_of_an_append_is_printed(rt: HostRuntime) -> Result<(), Fail> {
-    let mut document = RawDocumentBuf::new(rt.alloc())?;
-    match document.append("a\0b", RawBson::Null) {
-        Ok(()) => Err(Fail::new("no error")),
-        Err(error) => {
-            check_display_text(rt.alloc(), &error, "malformed value: \"interior NUL\"")
-        }
-    }
-}
