@@ -1,5 +1,6 @@
 pub mod Left
 pub mod Place
+pub mod Reasons
 pub mod Numbers
 pub mod Values
 pub mod DecimalTexts

@@ -1,6 +1,7 @@
 //! Why a text isn't read, and where.
-ghost use Rattle.std.specs.Prelude.{◌≡◌, ◌≤◌, length};
+ghost use Rattle.std.specs.Prelude.{◌≡◌, ◌≤◌, Some, length};
 ghost use Rattle.bson_from_json.specs.Place.{IsPlaceIn};
+ghost use Rattle.bson_from_json.specs.Reasons.{error_words, reason_words};
 
 use crate::place::{count_characters, count_line_feeds, last_line};
 use crate::wrapper::Wrapper;
@@ -67,17 +68,18 @@ impl<T: Drop> From<AllocFailed<T>> for JsonReason {
 }
 
 impl fmt::Display for JsonReason {
+    ghost output = { λ reason. Some (reason_words reason) };
+
     fn fmt<W: fmt::Write>(&self, f: &mut fmt::Formatter<W>) -> fmt::Result {
-        match self {
-            JsonReason::Malformed(wrapper) => write!(f, "this is not {wrapper}"),
-            reason => f.write_str(reason.text()),
-        }
+        f.write_str(self.words())
     }
 }
 
 impl JsonReason {
-    /// What it says.
-    fn text(self) -> &'static str {
+    /// The reason in words.
+    pub fn words(self) -> &'static str
+        ensures { result.now ≡ reason_words self }
+    {
         match self {
             JsonReason::OutOfMemory => "out of memory",
             JsonReason::TooManyBytes => "more bytes than allowed",
@@ -97,7 +99,7 @@ impl JsonReason {
             JsonReason::BadEscape => "not an escape of JSON",
             JsonReason::LoneSurrogate => "half a surrogate pair",
             JsonReason::InteriorNul => "U+0000 in a key, a pattern or options",
-            JsonReason::Malformed(_) => "a malformed value",
+            JsonReason::Malformed(wrapper) => wrapper.words(),
             JsonReason::InexactDecimal => "a decimal that no Decimal128 is exactly",
             JsonReason::Unsound => "the bytes written are not a document",
         }
@@ -139,6 +141,8 @@ impl JsonError {
 }
 
 impl fmt::Display for JsonError {
+    ghost output = { λ error. Some (error_words error) };
+
     fn fmt<W: fmt::Write>(&self, f: &mut fmt::Formatter<W>) -> fmt::Result {
         let JsonError {
             reason,

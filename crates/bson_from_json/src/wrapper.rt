@@ -2,6 +2,7 @@
 ghost use Rattle.std.specs.Prelude.{◌≡◌, false, MatchOption};
 ghost use Rattle.bson_from_json.specs.Levels.{wrapper_key};
 ghost use Rattle.bson_from_json.specs.Meaning.{is_wrapper_key};
+ghost use Rattle.bson_from_json.specs.Reasons.{wrapper_words};
 
 /// What the keys of an object say that it writes: not a document, but one value.
 #[derive(Clone, Copy, Debug, PartialEq, Eq)]
@@ -79,34 +80,39 @@ impl Wrapper {
         }
     }
 
-    /// What it looks like.
-    fn form(self) -> &'static str {
+    /// In words, that an object isn't one.
+    pub(crate) fn words(self) -> &'static str
+        ensures { result.now ≡ wrapper_words self }
+    {
         match self {
-            Wrapper::Oid => "{\"$oid\": 24 hex digits}",
-            Wrapper::NumberInt => "{\"$numberInt\": a 32-bit integer as a string}",
-            Wrapper::NumberLong => "{\"$numberLong\": a 64-bit integer as a string}",
-            Wrapper::NumberDouble => "{\"$numberDouble\": a double as a string}",
-            Wrapper::NumberDecimal => "{\"$numberDecimal\": a decimal as a string}",
-            Wrapper::Binary => "{\"$binary\": {\"base64\": a string, \"subType\": hex digits}}",
-            Wrapper::Uuid => "{\"$uuid\": hex digits with hyphens}",
-            Wrapper::Date => "{\"$date\": an ISO 8601 time or {\"$numberLong\": milliseconds}}",
-            Wrapper::RegularExpression => {
-                "{\"$regularExpression\": {\"pattern\": a string, \"options\": a string}}"
+            Wrapper::Oid => "this is not {\"$oid\": 24 hex digits}",
+            Wrapper::NumberInt => "this is not {\"$numberInt\": a 32-bit integer as a string}",
+            Wrapper::NumberLong => "this is not {\"$numberLong\": a 64-bit integer as a string}",
+            Wrapper::NumberDouble => "this is not {\"$numberDouble\": a double as a string}",
+            Wrapper::NumberDecimal => "this is not {\"$numberDecimal\": a decimal as a string}",
+            Wrapper::Binary => {
+                "this is not {\"$binary\": {\"base64\": a string, \"subType\": hex digits}}"
             }
-            Wrapper::Timestamp => "{\"$timestamp\": {\"t\": seconds, \"i\": increment}}",
-            Wrapper::Code | Wrapper::Scope =>
-                "{\"$code\": a string} or with \"$scope\": a document",
-            Wrapper::DbPointer => "{\"$dbPointer\": {\"$ref\": a string, \"$id\": an object id}}",
-            Wrapper::Symbol => "{\"$symbol\": a string}",
-            Wrapper::Undefined => "{\"$undefined\": true}",
-            Wrapper::MinKey => "{\"$minKey\": 1}",
-            Wrapper::MaxKey => "{\"$maxKey\": 1}",
+            Wrapper::Uuid => "this is not {\"$uuid\": hex digits with hyphens}",
+            Wrapper::Date => {
+                "this is not {\"$date\": an ISO 8601 time or {\"$numberLong\": milliseconds}}"
+            }
+            Wrapper::RegularExpression => {
+                "this is not {\"$regularExpression\": {\"pattern\": a string, \"options\": a string}}"
+            }
+            Wrapper::Timestamp => {
+                "this is not {\"$timestamp\": {\"t\": seconds, \"i\": increment}}"
+            }
+            Wrapper::Code | Wrapper::Scope => {
+                "this is not {\"$code\": a string} or with \"$scope\": a document"
+            }
+            Wrapper::DbPointer => {
+                "this is not {\"$dbPointer\": {\"$ref\": a string, \"$id\": an object id}}"
+            }
+            Wrapper::Symbol => "this is not {\"$symbol\": a string}",
+            Wrapper::Undefined => "this is not {\"$undefined\": true}",
+            Wrapper::MinKey => "this is not {\"$minKey\": 1}",
+            Wrapper::MaxKey => "this is not {\"$maxKey\": 1}",
         }
-    }
-}
-
-impl std::fmt::Display for Wrapper {
-    fn fmt<W: std::fmt::Write>(&self, f: &mut std::fmt::Formatter<W>) -> std::fmt::Result {
-        f.write_str(self.form())
     }
 }
