@@ -1,6 +1,6 @@
 use crate::asserts::is_want_of_memory;
 use raw_bson::{
-    ElementType, RawBsonRef, ValueAccessError, ValueAccessErrorKind, ValueAccessResult,
+    ElementType, RawArray, RawBsonRef, ValueAccessError, ValueAccessErrorKind, ValueAccessResult,
 };
 use std::alloc::Global;
 use std::test::Fail;
@@ -24,8 +24,8 @@ fn typed_positions_or_want_of_memory(rt: HostRuntime) -> Result<(), Fail> {
     let checks = Checks::refusable(rt.alloc());
     checks.no_values_at()?;
     let seven = RawBsonRef::Int32(7);
-    assert!(rt; checks.is_typed_at(ARRAY_WITH_TEXT_NOT_UTF8, ElementType::Int32, 1, "1", seven));
-    Ok(())
+    let is_behind = checks.is_typed_at(ARRAY_WITH_TEXT_NOT_UTF8, ElementType::Int32, 1, "1", seven);
+    holds(is_behind, "a number behind a fault")
 }
 
 /// Whether the error has its text.
@@ -47,16 +47,23 @@ fn is_want_said(alloc: Global, answer: &ValueAccessResult<bool>) -> bool {
     }
 }
 
+/// Whether the fault is returned with its text, or out of memory; and the number behind it all the same.
+fn is_said_or_found(
+    alloc: Global,
+    numbers: RawArray<'_>,
+    answer: &ValueAccessResult<bool>,
+) -> bool {
+    is_want_said(alloc, answer)
+        && Checks::refusable(alloc).is_no_value(answer, NoValue::Invalid(&TWO_AT_0), "0")
+        && matches!(numbers.get_i32(alloc, 1), Ok(7))
+}
+
 /// The first request of each look-up may be refused: what needs none is returned all the same.
 #[test]
 fn fault_before_a_number_or_want_of_memory(rt: HostRuntime) -> Result<(), Fail> {
-    let checks = Checks::refusable(rt.alloc());
     let numbers = array_view(FAULT_BEFORE_A_NUMBER)?;
-    let answer = numbers.get_bool(rt.alloc(), 0);
-    assert!(rt; is_want_said(rt.alloc(), &answer));
-    assert!(rt; checks.is_no_value(&answer, NoValue::Invalid(&TWO_AT_0), "0"));
-    assert!(rt; numbers.get_i32(rt.alloc(), 1) == Ok(7));
-    Ok(())
+    let is_so = is_said_or_found(rt.alloc(), numbers, &numbers.get_bool(rt.alloc(), 0));
+    holds(is_so, "a fault before a number")
 }
 
 /// Whether the result is out of memory, with the empty key.

@@ -1,4 +1,5 @@
 use crate::asserts::{is_array, is_document, is_want_of_memory};
+use crate::copies::first_element;
 use raw_bson::{
     BinarySubtype, Error, ErrorKind, RawArrayBuf, RawBinaryRef, RawBson, RawBsonRef, RawDocument,
     RawDocumentBuf, RawElement, Reason, Result, Timestamp, ToRawArrayBuf, ToRawBson,
@@ -40,8 +41,8 @@ impl Value {
 /// What is appended: the bytes before, the key, the value, the bytes after.
 type Append = (&'static [u8], &'static str, Value, &'static [u8]);
 
-/// Appends to the empty document.
-const FIRST_APPENDS: &[Append] = &[
+/// Appends, to the empty document and behind others.
+const APPENDS: &[Append] = &[
     (
         EMPTY,
         "b",
@@ -49,10 +50,6 @@ const FIRST_APPENDS: &[Append] = &[
         OLD_BINARY,
     ),
     (EMPTY, "ts", Value::Timestamp(MOMENT), TIMESTAMP),
-];
-
-/// Appends of numbers behind one another.
-const MORE_APPENDS: &[Append] = &[
     (EMPTY, "a", Value::Int32(-1), ONE_INT32),
     (ONE_INT32, "b", Value::Int32(123), TWO_INT32),
     (TWO_INT32, "c", Value::Int32(0), THREE_INT32),
@@ -111,12 +108,18 @@ fn goes_well(alloc: Global, buffer: Result<RawDocumentBuf>, append: Append) -> b
     }
 }
 
+/// The same of a buffer of those bytes.
+fn is_owned_appended(alloc: Global, append: Append) -> bool {
+    match RawDocument::from_bytes(append.0) {
+        Ok(view) => goes_well(alloc, view.to_raw_document_buf(alloc), append),
+        Err(_) => false,
+    }
+}
+
 #[test]
 fn append_or_want_of_memory(rt: HostRuntime) -> std::result::Result<(), Fail> {
-    for append in FIRST_APPENDS.iter().chain(MORE_APPENDS) {
-        let view = RawDocument::from_bytes(append.0)?;
-        let buffer = view.to_raw_document_buf(rt.alloc());
-        assert!(rt; goes_well(rt.alloc(), buffer, *append), "{}", append.1);
+    for append in APPENDS {
+        holds(is_owned_appended(rt.alloc(), *append), append.1)?;
     }
     Ok(())
 }
@@ -133,12 +136,18 @@ fn goes_well_by_reference(buffer: Result<RawDocumentBuf>, append: Append) -> boo
     }
 }
 
+/// The same of a buffer of those bytes.
+fn is_borrowed_appended(alloc: Global, append: Append) -> bool {
+    match RawDocument::from_bytes(append.0) {
+        Ok(view) => goes_well_by_reference(view.to_raw_document_buf(alloc), append),
+        Err(_) => false,
+    }
+}
+
 #[test]
 fn append_ref_or_want_of_memory(rt: HostRuntime) -> std::result::Result<(), Fail> {
-    for append in FIRST_APPENDS.iter().chain(MORE_APPENDS) {
-        let view = RawDocument::from_bytes(append.0)?;
-        let buffer = view.to_raw_document_buf(rt.alloc());
-        assert!(rt; goes_well_by_reference(buffer, *append), "{}", append.1);
+    for append in APPENDS {
+        holds(is_borrowed_appended(rt.alloc(), *append), append.1)?;
     }
     Ok(())
 }
@@ -156,8 +165,7 @@ fn is_element_appended(document: &mut RawDocumentBuf, element: RawElement<'_>) -
 }
 
 /// The same of the buffer of the empty document, if there is memory for it.
-fn has_element_appended(buffer: Result<RawDocumentBuf>, item: Result<RawElement<'_>>) -> bool {
-    let Ok(element) = item else { return false };
+fn has_element_appended(buffer: Result<RawDocumentBuf>, element: RawElement<'_>) -> bool {
     match buffer {
         Ok(mut document) => {
             document.as_bytes() == EMPTY && is_element_appended(&mut document, element)
@@ -166,13 +174,19 @@ fn has_element_appended(buffer: Result<RawDocumentBuf>, item: Result<RawElement<
     }
 }
 
+/// The same of the first element of a document.
+fn is_first_appended(alloc: Global, empty: RawDocument<'_>, item: Option<RawElement<'_>>) -> bool {
+    match item {
+        Some(element) => has_element_appended(empty.to_raw_document_buf(alloc), element),
+        None => false,
+    }
+}
+
 #[test]
 fn append_element_or_want_of_memory(rt: HostRuntime) -> std::result::Result<(), Fail> {
     let empty = RawDocument::from_bytes(EMPTY)?;
-    for item in RawDocument::from_bytes(NUMBER)?.iter_elements(rt.alloc()) {
-        assert!(rt; has_element_appended(empty.to_raw_document_buf(rt.alloc()), item));
-    }
-    Ok(())
+    let element = first_element(rt.alloc(), NUMBER);
+    holds(is_first_appended(rt.alloc(), empty, element), "an element")
 }
 
 /// Whether the error is that the key holds a 0.
@@ -270,22 +284,10 @@ fn is_no_document(answer: Result<RawDocumentBuf>) -> bool {
     }
 }
 
-/// Whether the pair makes the document after its append, or memory ran out.
-fn is_pair(alloc: Global, copy: Result<RawBson>, append: Append) -> bool {
-    match copy {
-        Ok(copy) => is_document(one_pair(alloc, append.1, copy), append.3),
-        Err(error) => is_want_of_memory(&error),
-    }
-}
-
 #[test]
 fn from_iter_or_want_of_memory(rt: HostRuntime) {
     assert!(rt; is_document(three_numbers(rt.alloc()), THREE_INT32));
     assert!(rt; is_no_document(one_pair(rt.alloc(), "a\0b", RawBson::Null)));
-    for append in FIRST_APPENDS {
-        let copy = append.2.borrowed().to_raw_bson(rt.alloc());
-        assert!(rt; is_pair(rt.alloc(), copy, *append), "{}", append.1);
-    }
 }
 
 /// An array of two numbers.

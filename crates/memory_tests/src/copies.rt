@@ -97,14 +97,18 @@ fn has_value_clone(
     }
 }
 
+/// The same of a copy of the value of this kind.
+fn is_kind_cloned(alloc: Global, kind: ElementType) -> bool {
+    match borrowed(kind) {
+        Ok(want) => has_value_clone(want.to_raw_bson(alloc), want, kind),
+        Err(_) => false,
+    }
+}
+
 #[test]
 fn clones_of_values_or_want_of_memory(rt: HostRuntime) -> Result<(), Fail> {
-    for (key, kind) in KINDS.iter() {
-        let want = borrowed(*kind)?;
-        assert!(rt;
-            has_value_clone(want.to_raw_bson(rt.alloc()), want, *kind),
-            "{key}"
-        );
+    for (key, kind) in KINDS {
+        holds(is_kind_cloned(rt.alloc(), *kind), key)?;
     }
     Ok(())
 }
@@ -188,47 +192,59 @@ fn is_copy(answer: raw_bson::Result<RawBson>, want: RawBsonRef<'_>, kind: Elemen
 fn is_kind_copied(
     alloc: Global,
     kind: ElementType,
-    item: raw_bson::Result<RawElement<'_>>,
+    item: &Option<raw_bson::Result<RawElement<'_>>>,
 ) -> bool {
-    let (Ok(want), Ok(element)) = (borrowed(kind), item) else {
-        return false;
-    };
-    is_copy(want.to_raw_bson(alloc), want, kind) && is_copy(element.to_raw_bson(alloc), want, kind)
+    match (borrowed(kind), item) {
+        (Ok(want), Some(Ok(element))) => {
+            is_copy(want.to_raw_bson(alloc), want, kind)
+                && is_copy(element.to_raw_bson(alloc), want, kind)
+        }
+        _ => false,
+    }
+}
+
+/// Whether the values and the elements of all kinds are copied.
+fn are_copied(alloc: Global, document: RawDocument<'_>) -> bool {
+    let mut elements = document.iter_elements(alloc);
+    for (_, kind) in KINDS {
+        if !is_kind_copied(alloc, *kind, &elements.next()) {
+            return false;
+        }
+    }
+    true
 }
 
 #[test]
 fn to_raw_bson_or_want_of_memory(rt: HostRuntime) -> Result<(), Fail> {
-    let elements = RawDocument::from_bytes(ALL_KINDS)?.iter_elements(rt.alloc());
-    let mut count: usize = 0;
-    for (item, (key, kind)) in elements.zip(KINDS.iter()) {
-        assert!(rt; is_kind_copied(rt.alloc(), *kind, item), "{key}");
-        count = count.wrapping_add(1);
-    }
-    assert_eq!(rt; count, KINDS.len());
-    Ok(())
+    let document = RawDocument::from_bytes(ALL_KINDS)?;
+    holds(are_copied(rt.alloc(), document), "copies")
 }
 
 /// The first element of a document of these bytes.
-fn first_element(alloc: Global, bytes: &[u8]) -> Option<RawElement<'_>> {
+pub(crate) fn first_element(alloc: Global, bytes: &[u8]) -> Option<RawElement<'_>> {
     let view = RawDocument::from_bytes(bytes).ok()?;
     view.iter_elements(alloc).next()?.ok()
 }
 
 /// Whether the result is the fault of the boolean of the byte 2, or out of memory.
-fn is_fault(checks: Checks, answer: raw_bson::Result<RawBson>) -> bool {
+fn is_fault(checks: Checks, answer: &raw_bson::Result<RawBson>) -> bool {
     match answer {
         Ok(_) => false,
-        Err(error) => is_want_of_memory(&error) || checks.is_fault(&error, &TWO_AT_A),
+        Err(error) => is_want_of_memory(error) || checks.is_fault(error, &TWO_AT_A),
+    }
+}
+
+/// Whether the value of the element isn't copied, for that.
+fn has_fault(alloc: Global, item: Option<RawElement<'_>>) -> bool {
+    match item {
+        Some(element) => is_fault(Checks::refusable(alloc), &element.to_raw_bson(alloc)),
+        None => false,
     }
 }
 
 #[test]
 fn fault_of_an_element_or_want_of_memory(rt: HostRuntime) {
-    let checks = Checks::refusable(rt.alloc());
-    match first_element(rt.alloc(), BOOLEAN_TWO) {
-        Some(element) => assert!(rt; is_fault(checks, element.to_raw_bson(rt.alloc()))),
-        None => assert!(rt; false),
-    }
+    assert!(rt; has_fault(rt.alloc(), first_element(rt.alloc(), BOOLEAN_TWO)));
 }
 
 fn is_text(answer: raw_bson::Result<RawBson>, text: &str) -> bool {

@@ -136,11 +136,19 @@ fn is_element_read(alloc: Global, item: raw_bson::Result<RawElement<'_>>) -> boo
     }
 }
 
+/// Whether each element does.
+fn are_elements_read(alloc: Global, document: RawDocument<'_>) -> bool {
+    for item in document.iter_elements(alloc) {
+        if !is_element_read(alloc, item) {
+            return false;
+        }
+    }
+    true
+}
+
 #[test]
 fn trees_of_values_or_want_of_memory(rt: HostRuntime) -> Result<(), Fail> {
-    for item in RawDocument::from_bytes(OTHER_SPELLING)?.iter_elements(rt.alloc()) {
-        assert!(rt; is_element_read(rt.alloc(), item));
-    }
+    assert!(rt; are_elements_read(rt.alloc(), RawDocument::from_bytes(OTHER_SPELLING)?));
     Ok(())
 }
 
@@ -200,11 +208,19 @@ fn is_element_owned(alloc: Global, item: raw_bson::Result<RawElement<'_>>) -> bo
     }
 }
 
+/// Whether the tree of each element does.
+fn are_elements_owned(alloc: Global, document: RawDocument<'_>) -> bool {
+    for item in document.iter_elements(alloc) {
+        if !is_element_owned(alloc, item) {
+            return false;
+        }
+    }
+    true
+}
+
 #[test]
 fn owned_values_or_want_of_memory(rt: HostRuntime) -> Result<(), Fail> {
-    for item in RawDocument::from_bytes(PARTS)?.iter_elements(rt.alloc()) {
-        assert!(rt; is_element_owned(rt.alloc(), item));
-    }
+    assert!(rt; are_elements_owned(rt.alloc(), RawDocument::from_bytes(PARTS)?));
     Ok(())
 }
 

@@ -33,12 +33,20 @@ fn is_row(alloc: Global, (bytes, path, cause): BreachRow) -> bool {
     }
 }
 
+/// The same of each row.
+fn are_rows(alloc: Global, rows: &[BreachRow]) -> bool {
+    for row in rows {
+        if !is_row(alloc, *row) {
+            return false;
+        }
+    }
+    true
+}
+
 #[test]
 fn breaches_or_out_of_memory(rt: HostRuntime) {
-    for rows in BREACHES {
-        for row in rows.iter() {
-            assert!(rt; is_row(rt.alloc(), *row), "{row:?}");
-        }
+    for (place, rows) in BREACHES.iter().enumerate() {
+        assert!(rt; are_rows(rt.alloc(), rows), "{place}");
     }
 }
 
@@ -46,7 +54,7 @@ fn breaches_or_out_of_memory(rt: HostRuntime) {
 fn canonical_or_out_of_memory(rt: HostRuntime) -> Result<(), Fail> {
     for bytes in CANONICAL {
         let view = RawDocument::from_bytes(bytes)?;
-        assert!(rt; is_canonical(validate(rt.alloc(), view)), "{bytes:?}");
+        holds(is_canonical(validate(rt.alloc(), view)), "canonical")?;
     }
     Ok(())
 }

@@ -124,26 +124,3 @@ fn a_first_barrier_is_told_with_its_place(rt: HostRuntime) {
         assert!(rt; is_row(rt.alloc(), row), "at {}", row.offset);
     }
 }
-
-/// Whether a document of three levels has no barrier within its own length.
-fn has_none(alloc: Global, bytes: &[u8]) -> bool {
-    let Ok(document) = RawDocument::from_bytes(bytes) else {
-        return false;
-    };
-    let limits = Limits {
-        bytes: bytes.len(),
-        depth: 3,
-    };
-    match first_fault_within(alloc, document, limits) {
-        Ok(barrier) => barrier.is_none(),
-        Err(_) => false,
-    }
-}
-
-#[test]
-fn a_tree_within_the_limits_has_no_barrier(rt: HostRuntime) {
-    // a key that is repeated is no barrier, nor is an array's wrong key
-    assert!(rt; has_none(rt.alloc(), REPEATED_KEY));
-    assert!(rt; has_none(rt.alloc(), ARRAY_WITH_AN_EMPTY_KEY));
-    assert!(rt; has_none(rt.alloc(), ALL_KINDS));
-}

@@ -59,26 +59,29 @@ const FEW: Limits = Limits {
     depth: 2,
 };
 
-/// Whether the canonical form is another document; it is the one by way of the tree, or the same error.
-fn is_another(alloc: Global, bytes: &[u8]) -> Result<bool, Fail> {
-    match (
-        canonical_within(alloc, bytes, AMPLE),
-        canonical_bytes(alloc, bytes),
-    ) {
-        (Ok(form), Ok(wanted)) => {
-            if form != wanted {
-                return Err(Fail::new("another form"));
-            }
-            Ok(form.as_slice() != bytes)
-        }
-        (Err(error), Err(wanted)) => {
-            if error != wanted {
-                return Err(Fail::new("another error"));
-            }
-            Ok(false)
-        }
-        _ => Err(Fail::new("a form or an error alone")),
+/// What is wrong, where two calls differ.
+type Compared = Result<bool, &'static str>;
+
+/// Whether the canonical form is another document; it is the wanted one, or the same error.
+fn is_changed(
+    bytes: &[u8],
+    found: &raw_bson::Result<Vec<u8>>,
+    wanted: &raw_bson::Result<Vec<u8>>,
+) -> Compared {
+    match (found, wanted) {
+        (Ok(form), Ok(wanted)) if form == wanted => Ok(form.as_slice() != bytes),
+        (Err(error), Err(wanted)) if error == wanted => Ok(false),
+        _ => Err("another form, or another error"),
     }
+}
+
+/// The same of the form by way of the tree.
+fn is_another(alloc: Global, bytes: &[u8]) -> Compared {
+    is_changed(
+        bytes,
+        &canonical_within(alloc, bytes, AMPLE),
+        &canonical_bytes(alloc, bytes),
+    )
 }
 
 /// The error that a reading as a tree gives for a barrier.
@@ -92,10 +95,10 @@ fn error_of(alloc: Global, barrier: Barrier<'_>) -> Error {
 }
 
 /// There is no tree, for this error.
-fn is_why(error: &Error, tree: &raw_bson::Result<Document>) -> Result<bool, Fail> {
+fn is_why(error: &Error, tree: &raw_bson::Result<Document>) -> Compared {
     match tree {
         Err(wanted) if error == wanted => Ok(true),
-        _ => Err(Fail::new("another barrier")),
+        _ => Err("another barrier"),
     }
 }
 
@@ -104,16 +107,16 @@ fn is_barred(
     alloc: Global,
     found: raw_bson::Result<Option<Barrier<'_>>>,
     tree: &raw_bson::Result<Document>,
-) -> Result<bool, Fail> {
+) -> Compared {
     match found {
         Ok(Some(barrier)) => is_why(&error_of(alloc, barrier), tree),
         Ok(None) if tree.is_ok() => Ok(false),
-        _ => Err(Fail::new("a barrier or a tree alone")),
+        _ => Err("a barrier or a tree alone"),
     }
 }
 
 /// Whether there is a barrier within limits; it is why there is no tree.
-fn has_barrier(alloc: Global, document: RawDocument<'_>, limits: Limits) -> Result<bool, Fail> {
+fn has_barrier(alloc: Global, document: RawDocument<'_>, limits: Limits) -> Compared {
     let tree = document_from_raw_within(alloc, document, limits);
     is_barred(alloc, first_fault_within(alloc, document, limits), &tree)
 }
@@ -122,17 +125,17 @@ fn has_barrier(alloc: Global, document: RawDocument<'_>, limits: Limits) -> Resu
 fn is_breached(
     found: &Result<Option<PlacedBreach<'_>>, ValidateError<'_>>,
     wanted: &raw_bson::Result<Option<Breach>>,
-) -> Result<bool, Fail> {
+) -> Compared {
     match (found, wanted) {
         (Ok(None), Ok(None)) => Ok(false),
         (Ok(Some(breach)), Ok(Some(wanted)))
             if breach.cause == wanted.cause && leads(breach, wanted.path.as_slice()) => { Ok(true) }
-        _ => Err(Fail::new("another breach, or a breach alone")),
+        _ => Err("another breach, or a breach alone"),
     }
 }
 
 /// Whether there is a breach; it is the one that `validate` finds.
-fn has_breach(alloc: Global, document: RawDocument<'_>) -> Result<bool, Fail> {
+fn has_breach(alloc: Global, document: RawDocument<'_>) -> Compared {
     let found = validate_within(alloc, document, AMPLE);
     is_breached(&found, &validate(alloc, document))
 }
@@ -162,7 +165,7 @@ fn counted(count: usize, is_so: bool) -> usize {
 
 impl Seen {
     /// Compares what is told of one more, and counts it.
-    fn add(&mut self, alloc: Global, bytes: &[u8]) -> Result<(), Fail> {
+    fn add(&mut self, alloc: Global, bytes: &[u8]) -> Result<(), &'static str> {
         self.changed = counted(self.changed, is_another(alloc, bytes)?);
         if let Ok(document) = RawDocument::from_bytes(bytes) {
             self.barred = counted(self.barred, has_barrier(alloc, document, FEW)?);

@@ -29,11 +29,6 @@ pub(crate) fn is_buffer(answer: raw_bson::Result<RawDocumentBuf>, bytes: &[u8]) 
     }
 }
 
-/// Whether the value becomes this owned one.
-pub(crate) fn becomes_owned(alloc: Global, value: Bson, wanted: &RawBson) -> bool {
-    is_answer(RawBson::try_from_bson(alloc, value), wanted)
-}
-
 /// Whether the owned value becomes this one.
 pub(crate) fn becomes_tree(alloc: Global, owned: RawBson, wanted: &Bson) -> bool {
     is_answer(owned.into_bson(alloc), wanted)

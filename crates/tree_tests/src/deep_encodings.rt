@@ -1,7 +1,7 @@
 //! Trees so deep that a writer which calls itself once a level would fill the stack.
 
 use crate::checks::check_written;
-use crate::trees_fixtures::{one_pair, put};
+use crate::trees_fixtures::one_pair;
 use raw_bson::{Bson, Document, RawDocument, Reason, encode, encode_list, list_from_raw};
 use std::alloc::Global;
 use std::test::Fail;
@@ -34,21 +34,4 @@ fn nul_below_levels(alloc: Global) -> Result<Document, Fail> {
 fn nul_below_a_hundred_thousand_levels(rt: HostRuntime) -> Result<(), Fail> {
     let tree = nul_below_levels(rt.alloc())?;
     check_refused(encode(rt.alloc(), &tree), Reason::InteriorNul)
-}
-
-/// A document of a document and the least key.
-fn least_behind_a_document(alloc: Global) -> Result<Document, Fail> {
-    let innermost = one_pair(alloc, "b", Bson::Null)?;
-    let mut inner = one_pair(alloc, "a", Bson::Document(innermost))?;
-    put(alloc, &mut inner, "c", Bson::MinKey)?;
-    Ok(inner)
-}
-
-#[test]
-fn values_behind_nested_ones(rt: HostRuntime) -> Result<(), Fail> {
-    let inner = least_behind_a_document(rt.alloc())?;
-    let mut tree = one_pair(rt.alloc(), "d", Bson::Document(inner))?;
-    put(rt.alloc(), &mut tree, "e", Bson::MaxKey)?;
-    let bytes = b"\x1E\0\0\0\x03d\0\x13\0\0\0\x03a\0\x08\0\0\0\x0Ab\0\0\xFFc\0\0\x7Fe\0\0";
-    check_written(encode(rt.alloc(), &tree), bytes)
 }

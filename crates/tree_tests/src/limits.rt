@@ -1,4 +1,4 @@
-use crate::trees_fixtures::{binary, empty_code, levels_by_hand, one_null, one_pair};
+use crate::trees_fixtures::{binary, levels_by_hand, one_pair};
 use raw_bson::{
     BinarySubtype, Document, Limits, RawDocument, Reason, document_from_raw,
     document_from_raw_within,
@@ -6,12 +6,6 @@ use raw_bson::{
 use std::alloc::Global;
 use std::test::Fail;
 use test_fixtures::*;
-
-/// A boolean of the byte 2 before an empty document.
-const FAULT_BEFORE_A_LEVEL: &[u8] = b"\x11\0\0\0\x08a\0\x02\x03b\0\x05\0\0\0\0\0";
-
-/// An empty document before a boolean of the byte 2.
-const FAULT_BEHIND_A_LEVEL: &[u8] = b"\x11\0\0\0\x03b\0\x05\0\0\0\0\x08a\0\x02\0";
 
 fn limits(bytes: usize, depth: usize) -> Limits {
     Limits { bytes, depth }
@@ -71,19 +65,6 @@ fn check_refused_within(
     }
 }
 
-#[test]
-fn documents_are_read_within_limits(rt: HostRuntime) -> Result<(), Fail> {
-    let alloc = rt.alloc();
-    // array with an empty key
-    let list = one_pair(alloc, "a", one_null(alloc)?)?;
-    let is_read = is_read_within(alloc, ARRAY_WITH_AN_EMPTY_KEY, limits(15, 2), &list);
-    holds(is_read, "an array with an empty key")?;
-    // least code with scope
-    let code = one_pair(alloc, "c", empty_code(alloc))?;
-    let is_read = is_read_within(alloc, LEAST_CODE_WITH_SCOPE, limits(22, 2), &code);
-    holds(is_read, "the least code with scope")
-}
-
 /// Documents, most bytes and levels, and why they are refused within these.
 const REFUSED: &[(&[u8], usize, usize, Reason)] = &[
     // array with an empty key
@@ -101,26 +82,6 @@ fn documents_beyond_limits_are_refused(rt: HostRuntime) -> Result<(), Fail> {
         check_refused_within(rt.alloc(), bytes, limits(*most, *depth), *reason)?;
     }
     Ok(())
-}
-
-#[test]
-fn a_fault_comes_before_a_level_behind_it(rt: HostRuntime) -> Result<(), Fail> {
-    // fault before a level that is too deep
-    let view = RawDocument::from_bytes(FAULT_BEFORE_A_LEVEL)?;
-    let answer = document_from_raw_within(rt.alloc(), view, limits(17, 1));
-    check_fault(answer, Reason::BadBoolean(2), "a")
-}
-
-#[test]
-fn a_level_comes_before_a_fault_behind_it(rt: HostRuntime) -> Result<(), Fail> {
-    let alloc = rt.alloc();
-    // fault behind a level that is too deep
-    let view = RawDocument::from_bytes(FAULT_BEHIND_A_LEVEL)?;
-    let too_deep = document_from_raw_within(alloc, view, limits(17, 1));
-    let answer = document_from_raw_within(alloc, view, limits(17, 2));
-    let is_in_order = is_refused(&too_deep, Reason::TooDeep, None)
-        && is_refused(&answer, Reason::BadBoolean(2), Some("a"));
-    holds(is_in_order, "a level, then a fault")
 }
 
 /// One binary of so many bytes, all 0, under the empty key.
@@ -147,18 +108,6 @@ fn one_binary_fills_the_limit(rt: HostRuntime) -> Result<(), Fail> {
     let wanted = binary_of(rt.alloc(), &full)?;
     let is_read = is_read_within(rt.alloc(), &full, limits(16_777_216, 1), &wanted);
     holds(is_read, "a full one")
-}
-
-#[test]
-fn one_binary_is_a_byte_over_the_limit(rt: HostRuntime) -> Result<(), Fail> {
-    // one a byte over
-    let over = one_binary(rt.alloc(), 16_777_205)?;
-    check_refused_within(
-        rt.alloc(),
-        &over,
-        limits(16_777_216, 1),
-        Reason::TooManyBytes,
-    )
 }
 
 /// Whether five hundred and one documents, one in the other, are read within so many levels, and not within fewer.

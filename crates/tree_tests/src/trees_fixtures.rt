@@ -1,8 +1,7 @@
 //! Trees.
 
 use raw_bson::{
-    Binary, BinarySubtype, Bson, Document, JavaScriptCodeWithScope, RawDocument, Regex,
-    document_from_raw,
+    Binary, BinarySubtype, Bson, Document, JavaScriptCodeWithScope, RawDocument, document_from_raw,
 };
 use std::alloc::Global;
 use test_fixtures::Holder;
@@ -28,14 +27,6 @@ pub(crate) fn one_pair(alloc: Global, key: &str, value: Bson) -> raw_bson::Resul
 /// A text of its own.
 pub(crate) fn text(alloc: Global, text: &str) -> raw_bson::Result<Bson> {
     Ok(Bson::String(String::from_str(alloc, text)?))
-}
-
-/// The pattern `p` with these options as they are.
-pub(crate) fn regex(alloc: Global, options: &str) -> raw_bson::Result<Regex> {
-    Ok(Regex {
-        pattern: String::from_str(alloc, "p")?,
-        options: String::from_str(alloc, options)?,
-    })
 }
 
 /// A binary of these bytes.
@@ -66,11 +57,6 @@ pub(crate) fn empty_code(alloc: Global) -> Bson {
 /// The list of the numbers 1 and 2.
 pub(crate) fn one_and_two(alloc: Global) -> raw_bson::Result<Bson> {
     Ok(Bson::Array(vec![in alloc; Bson::Int32(1), Bson::Int32(2)]?))
-}
-
-/// The list of one null.
-pub(crate) fn one_null(alloc: Global) -> raw_bson::Result<Bson> {
-    Ok(Bson::Array(vec![in alloc; Bson::Null]?))
 }
 
 /// The tree of these bytes.

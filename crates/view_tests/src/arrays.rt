@@ -1,3 +1,4 @@
+use raw_view::{ElementType, RawBsonRef};
 use std::test::Fail;
 use test_fixtures::*;
 
@@ -12,8 +13,9 @@ fn items_are_counted_from_0(rt: HostRuntime) -> Result<(), Fail> {
 /// Where it has no value, the error says which fault it met.
 #[test]
 fn a_typed_look_up_goes_past_faults(rt: HostRuntime) -> Result<(), Fail> {
-    Checks::ample(rt.alloc()).no_values_at()?;
-    assert!(rt; array_view(ARRAY_WITH_TEXT_NOT_UTF8)?.get_i32(rt.alloc(), 1) == Ok(7));
-    assert!(rt; array_view(FAULT_BEFORE_A_NUMBER)?.get_i32(rt.alloc(), 1) == Ok(7));
-    Ok(())
+    let checks = Checks::ample(rt.alloc());
+    checks.no_values_at()?;
+    let seven = RawBsonRef::Int32(7);
+    let is_behind = checks.is_typed_at(FAULT_BEFORE_A_NUMBER, ElementType::Int32, 1, "1", seven);
+    holds(is_behind, "a number behind a fault")
 }

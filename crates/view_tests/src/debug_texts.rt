@@ -1,9 +1,8 @@
 //! The `Debug` texts: those that Rust's `derive` gives, and of views their bytes as hexadecimal digits.
 
-use crate::texts::has_debug;
 use bson_model::BinarySubtype;
 use raw_view::{
-    ElementType, Error, ErrorKind, RawBinaryRef, RawBsonRef, RawDbPointerRef, RawDocument,
+    Error, ErrorKind, RawArray, RawBinaryRef, RawBsonRef, RawDbPointerRef, RawDocument,
     RawJavaScriptCodeWithScopeRef, RawRegexRef, Reason, ValueAccessErrorKind, ValueAccessResult,
 };
 use std::alloc::Global;
@@ -25,11 +24,11 @@ const REGEX: RawRegexRef<'static> = RawRegexRef {
 fn are_small_printed(alloc: Global) -> bool {
     let binary = "Binary(RawBinaryRef { subtype: Generic, bytes: [1, 255] })";
     let regex = "RegularExpression(RawRegexRef { pattern: \"a\", options: \"i\" })";
-    has_debug(alloc, &RawBsonRef::Int32(-7), "Int32(-7)")
-        && has_debug(alloc, &RawBsonRef::String("hi"), "String(\"hi\")")
-        && has_debug(alloc, &RawBsonRef::MinKey, "MinKey")
-        && has_debug(alloc, &RawBsonRef::Binary(BINARY), binary)
-        && has_debug(alloc, &RawBsonRef::RegularExpression(REGEX), regex)
+    has_debug_text(alloc, &RawBsonRef::Int32(-7), "Int32(-7)")
+        && has_debug_text(alloc, &RawBsonRef::String("hi"), "String(\"hi\")")
+        && has_debug_text(alloc, &RawBsonRef::MinKey, "MinKey")
+        && has_debug_text(alloc, &RawBsonRef::Binary(BINARY), binary)
+        && has_debug_text(alloc, &RawBsonRef::RegularExpression(REGEX), regex)
 }
 
 /// Whether the empty document, and the values that hold it, have their `Debug` texts.
@@ -41,19 +40,30 @@ fn is_empty_printed(alloc: Global, empty: RawDocument<'_>) -> bool {
     let text =
         "JavaScriptCodeWithScope(RawJavaScriptCodeWithScopeRef { code: \"f\", scope: RawDocument { data: \"0500000000\" } })";
     let document = "Document(RawDocument { data: \"0500000000\" })";
-    has_debug(alloc, &empty, "RawDocument { data: \"0500000000\" }")
-        && has_debug(alloc, &RawBsonRef::Document(empty), document)
-        && has_debug(alloc, &scoped, text)
+    has_debug_text(alloc, &empty, "RawDocument { data: \"0500000000\" }")
+        && has_debug_text(alloc, &RawBsonRef::Document(empty), document)
+        && has_debug_text(alloc, &scoped, text)
+}
+
+/// Whether two views were made, and have their `Debug` texts.
+fn are_printed(
+    alloc: Global,
+    empty: &raw_view::Result<RawDocument<'_>>,
+    two: &raw_view::Result<RawArray<'_>>,
+) -> bool {
+    let text = "RawArray { data: \"0c000000036100fffeabcd00\" }";
+    match (empty, two) {
+        (Ok(empty), Ok(two)) => is_empty_printed(alloc, *empty) && has_debug_text(alloc, two, text),
+        _ => false,
+    }
 }
 
 #[test]
-fn views_and_values_have_a_debug_text(rt: HostRuntime) -> Result<(), Fail> {
-    assert!(rt; is_empty_printed(rt.alloc(), RawDocument::from_bytes(EMPTY)?));
-    let two = array_view(b"\x0C\0\0\0\x03a\0\xFF\xFE\xAB\xCD\0")?;
-    let text = "RawArray { data: \"0c000000036100fffeabcd00\" }";
-    assert!(rt; has_debug(rt.alloc(), &two, text));
-    assert!(rt; are_small_printed(rt.alloc()));
-    Ok(())
+fn views_and_values_have_a_debug_text(rt: HostRuntime) {
+    let alloc = rt.alloc();
+    let two = array_view(b"\x0C\0\0\0\x03a\0\xFF\xFE\xAB\xCD\0");
+    let are_printed = are_printed(alloc, &RawDocument::from_bytes(EMPTY), &two);
+    assert!(rt; are_printed && are_small_printed(alloc));
 }
 
 #[test]
@@ -61,7 +71,7 @@ fn parts_of_values_have_a_debug_text(rt: HostRuntime) {
     let pointer = RawDbPointerRef::new("db.c", pointed());
     let text =
         "RawDbPointerRef { namespace: \"db.c\", id: ObjectId { bytes: [12, 11, 10, 9, 8, 7, 6, 5, 4, 3, 2, 1] } }";
-    assert!(rt; has_debug(rt.alloc(), &pointer, text));
+    assert!(rt; has_debug_text(rt.alloc(), &pointer, text));
 }
 
 /// Each reason with its `Debug` text.
@@ -95,13 +105,13 @@ const REASONS: &[(Reason, &str)] = &[
 #[test]
 fn reasons_have_a_debug_text(rt: HostRuntime) {
     for (reason, text) in REASONS {
-        assert!(rt; has_debug(rt.alloc(), reason, text), "{text}");
+        assert!(rt; has_debug_text(rt.alloc(), reason, text), "{text}");
     }
 }
 
 /// Whether the error has this `Debug` text, and its kind this one.
 fn is_error(alloc: Global, error: &Error, kind: &str, text: &str) -> bool {
-    has_debug(alloc, &error.kind, kind) && has_debug(alloc, error, text)
+    has_debug_text(alloc, &error.kind, kind) && has_debug_text(alloc, error, text)
 }
 
 /// Whether the look-up fails, and its error has this `Debug` text, and so has its kind.
@@ -136,17 +146,21 @@ const LOOK_UPS: &[(&[u8], &str, &str)] = &[
     ),
 ];
 
+/// Whether the look-up of `a` in the document of these bytes has this error.
+fn is_look_up_error(alloc: Global, bytes: &[u8], kind: &str, text: &str) -> bool {
+    match RawDocument::from_bytes(bytes) {
+        Ok(view) => has_error(alloc, view.get(alloc, "a"), kind, text),
+        Err(_) => false,
+    }
+}
+
 #[test]
 fn errors_have_a_debug_text(rt: HostRuntime) -> Result<(), Fail> {
     let none = Error::new(ErrorKind::OutOfMemory);
     let text = "Error { kind: OutOfMemory, key: None }";
-    assert!(rt; is_error(rt.alloc(), &none, "OutOfMemory", text));
+    holds(is_error(rt.alloc(), &none, "OutOfMemory", text), text)?;
     for (bytes, kind, text) in LOOK_UPS {
-        let view = RawDocument::from_bytes(bytes)?;
-        assert!(rt;
-            has_error(rt.alloc(), view.get(rt.alloc(), "a"), kind, text),
-            "{text}"
-        );
+        holds(is_look_up_error(rt.alloc(), bytes, kind, text), text)?;
     }
     Ok(())
 }
@@ -160,7 +174,8 @@ fn has_access_error(
 ) -> bool {
     match answer {
         Ok(_) => false,
-        Err(error) => has_debug(alloc, &error.kind, kind) && has_debug(alloc, &error, text),
+        Err(error) => has_debug_text(alloc, &error.kind, kind)
+            && has_debug_text(alloc, &error, text),
     }
 }
 
@@ -186,28 +201,23 @@ const ACCESSES: &[(&[u8], &str, &str, &str)] = &[
     ),
 ];
 
-const UNEXPECTED: ValueAccessErrorKind = ValueAccessErrorKind::UnexpectedType {
-    expected: ElementType::Int32,
-    actual: ElementType::Boolean,
-};
+/// Whether the getter of a boolean under this key, in the document of these bytes, has this error.
+fn is_access_error(alloc: Global, bytes: &[u8], key: &str, kind: &str, text: &str) -> bool {
+    match RawDocument::from_bytes(bytes) {
+        Ok(view) => has_access_error(alloc, view.get_bool(alloc, key), kind, text),
+        Err(_) => false,
+    }
+}
 
 #[test]
 fn access_errors_have_a_debug_text(rt: HostRuntime) -> Result<(), Fail> {
-    assert!(rt;
-        has_debug(
-            rt.alloc(),
-            &ValueAccessErrorKind::OutOfMemory,
-            "OutOfMemory"
-        )
-    );
-    let text = "UnexpectedType { expected: Int32, actual: Boolean }";
-    assert!(rt; has_debug(rt.alloc(), &UNEXPECTED, text));
+    let none = &ValueAccessErrorKind::OutOfMemory;
+    holds(
+        has_debug_text(rt.alloc(), none, "OutOfMemory"),
+        "OutOfMemory",
+    )?;
     for (bytes, key, kind, text) in ACCESSES {
-        let view = RawDocument::from_bytes(bytes)?;
-        assert!(rt;
-            has_access_error(rt.alloc(), view.get_bool(rt.alloc(), key), kind, text),
-            "{text}"
-        );
+        holds(is_access_error(rt.alloc(), bytes, key, kind, text), text)?;
     }
     Ok(())
 }

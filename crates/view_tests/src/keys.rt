@@ -2,7 +2,7 @@
 
 use crate::trees::put;
 use bson_model::{Bson, Document, NoMemory};
-use std::alloc::{AllocError, Global};
+use std::alloc::Global;
 
 /// Some have one length, some one beginning, and one is empty.
 const KEYS: [&str; 20] = [
@@ -28,14 +28,44 @@ const KEYS: [&str; 20] = [
     "twenty",
 ];
 
+/// Whether the value is this number.
+fn is_number(value: &Bson, number: i32) -> bool {
+    match value {
+        Bson::Int32(found) => *found == number,
+        _ => false,
+    }
+}
+
+/// Whether this number is found by its key.
+fn is_under(document: &Document, key: &str, number: i32) -> bool {
+    match document.get(key) {
+        Some(value) => is_number(value, number),
+        None => false,
+    }
+}
+
+/// Whether this pair is at this place, and is what is found by its key.
+pub(crate) fn is_numbered(document: &Document, index: usize, key: &str, number: i32) -> bool {
+    match document.pair_at(index) {
+        Some((found, value)) => {
+            found == key && is_number(value, number) && is_under(document, key, number)
+        }
+        None => false,
+    }
+}
+
+/// Whether nothing is at this place and under this key.
+pub(crate) fn is_missing(document: &Document, index: usize, key: &str) -> bool {
+    document.pair_at(index).is_none() && document.get(key).is_none()
+}
+
 /// Whether the pairs are the first so many keys, each with its place and the number added to it.
 fn has_numbers(document: &Document, count: usize, added: i32) -> bool {
     for (index, key) in KEYS.iter().enumerate() {
-        let value = Bson::Int32((index as i32).wrapping_add(added));
         let is_right = if index < count {
-            document.pair_at(index) == Some((key, &value)) && document.get(key) == Some(&value)
+            is_numbered(document, index, key, (index as i32).wrapping_add(added))
         } else {
-            document.pair_at(index).is_none() && document.get(key).is_none()
+            is_missing(document, index, key)
         };
         if !is_right {
             return false;
@@ -77,54 +107,5 @@ fn are_kept(alloc: Global, count: usize) -> bool {
 fn keys_are_kept_however_many_there_are(rt: HostRuntime) {
     for count in 0..=KEYS.len() {
         assert!(rt; are_kept(rt.alloc(), count), "{count}");
-    }
-}
-
-/// The document of the first so many keys, the last of them twice where it is to be.
-fn from_columns(alloc: Global, count: usize, last_twice: bool) -> Result<Document, NoMemory> {
-    let mut keys = Vec::new(alloc);
-    let mut values = Vec::new(alloc);
-    for (index, key) in KEYS.iter().enumerate() {
-        if index < count {
-            if last_twice && index.saturating_add(1) == count {
-                keys.push(*key)?;
-                values.push(Bson::Null)?;
-            }
-            keys.push(*key)?;
-            values.push(Bson::Int32(index as i32))?;
-        }
-    }
-    Document::from_columns(alloc, &keys, values)
-}
-
-fn is_from_columns(alloc: Global, count: usize, last_twice: bool) -> bool {
-    match from_columns(alloc, count, last_twice) {
-        Ok(document) => has_numbers(&document, count, 0),
-        Err(_) => false,
-    }
-}
-
-#[test]
-fn columns_of_few_and_many_keys(rt: HostRuntime) {
-    for count in 0..=KEYS.len() {
-        assert!(rt; is_from_columns(rt.alloc(), count, false), "{count}");
-        assert!(rt; is_from_columns(rt.alloc(), count, true), "{count}");
-    }
-}
-
-/// A document whose keys were put one by one, and the same from columns.
-fn are_equal(alloc: Global, count: usize) -> bool {
-    let mut document = Document::new(alloc);
-    let made = put_numbers(alloc, &mut document, count, 0);
-    match from_columns(alloc, count, false) {
-        Ok(other) => made.is_ok() && document == other,
-        Err(_) => false,
-    }
-}
-
-#[test]
-fn equality_is_of_keys_however_they_are_kept(rt: HostRuntime) {
-    for count in 0..=KEYS.len() {
-        assert!(rt; are_equal(rt.alloc(), count), "{count}");
     }
 }

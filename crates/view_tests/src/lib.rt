@@ -12,8 +12,6 @@ mod calls;
 #[cfg(test)]
 mod copies;
 #[cfg(test)]
-mod damage;
-#[cfg(test)]
 mod debug_texts;
 #[cfg(test)]
 mod depth;

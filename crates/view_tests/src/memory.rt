@@ -1,5 +1,6 @@
 //! `bin/test` runs these with each request for memory refused in turn, alone.
 
+use crate::keys::{is_missing, is_numbered};
 use bson_model::{Bson, Document, NoMemory, Regex};
 use std::alloc::Global;
 use std::process::Abort;
@@ -29,18 +30,13 @@ const PAIRS: &[(&str, i32)] = &[
 /// So many that one more key is put into a set with those before it.
 const FEW: usize = 16;
 
-/// Whether this pair is at this place, and is what is found by its key.
-fn is_pair(document: &Document, index: usize, key: &str, value: &Bson) -> bool {
-    document.pair_at(index) == Some((key, value)) && document.get(key) == Some(value)
-}
-
 /// Whether the document is the first of the pairs, so many of them.
 fn has_pairs(document: &Document, count: usize) -> bool {
     for (index, (key, number)) in PAIRS.iter().enumerate() {
         let is_right = if index < count {
-            is_pair(document, index, key, &Bson::Int32(*number))
+            is_numbered(document, index, key, *number)
         } else {
-            document.pair_at(index).is_none() && document.get(key).is_none()
+            is_missing(document, index, key)
         };
         if !is_right {
             return false;
@@ -49,62 +45,84 @@ fn has_pairs(document: &Document, count: usize) -> bool {
     document.len() == count
 }
 
-/// Whether memory sufficed to insert the pair, whose key is a new one.
-fn is_inserted(alloc: Global, document: &mut Document, key: &str, number: i32) -> bool {
-    match String::from_str(alloc, key) {
-        Ok(text) => match document.insert(text, Bson::Int32(number)) {
-            Ok(old) => old.is_none(),
-            Err(_) => false,
-        },
-        Err(_) => false,
-    }
+/// Inserts the pair.
+fn inserted(
+    alloc: Global,
+    document: &mut Document,
+    key: &str,
+    number: i32,
+) -> Result<Option<Bson>, NoMemory> {
+    let key = String::from_str(alloc, key)?;
+    document.insert(key, Bson::Int32(number))
 }
 
-/// Inserts the first so many pairs. A refused insert leaves the document as it was, and goes well when it is made again.
-fn insert_pairs(rt: &impl Abort, alloc: Global, document: &mut Document, count: usize) {
+/// Whether memory sufficed to insert the pair, whose key is a new one.
+fn is_inserted(alloc: Global, document: &mut Document, key: &str, number: i32) -> bool {
+    matches!(&inserted(alloc, document, key, number), Ok(None))
+}
+
+/// Whether the first so many pairs are inserted. A refused insert leaves the document as it was, and goes well when it is
+/// made again.
+fn are_inserted(alloc: Global, document: &mut Document, count: usize) -> bool {
     for (before, (key, number)) in PAIRS.iter().take(count).enumerate() {
-        if !is_inserted(alloc, document, key, *number) {
-            assert!(rt; has_pairs(document, before), "{key}");
-            assert!(rt; is_inserted(alloc, document, key, *number), "{key}");
+        let is_in = is_inserted(alloc, document, key, *number)
+            || has_pairs(document, before) && is_inserted(alloc, document, key, *number);
+        if !is_in || !has_pairs(document, before.saturating_add(1)) {
+            return false;
         }
-        assert!(rt; has_pairs(document, before.saturating_add(1)), "{key}");
     }
+    true
 }
 
 #[test]
 fn insert_of_a_new_key_or_want_of_memory(rt: HostRuntime) {
     let mut document = Document::new(rt.alloc());
-    insert_pairs(&rt, rt.alloc(), &mut document, PAIRS.len());
+    assert!(rt; are_inserted(rt.alloc(), &mut document, PAIRS.len()));
 }
 
-/// Whether a null takes the place of the number under this key.
-fn is_replaced(document: &mut Document, key: String, number: i32) -> bool {
-    match document.insert(key, Bson::Null) {
-        Ok(old) => old == Some(Bson::Int32(number)),
-        Err(_) => false,
+/// Whether this number is the old value.
+fn is_old(answer: &Result<Option<Bson>, NoMemory>, number: i32) -> bool {
+    match answer {
+        Ok(Some(Bson::Int32(old))) => *old == number,
+        _ => false,
     }
 }
 
-/// Inserts the first so many pairs, and then each key a second time. These inserts take no memory, so that none can be
-/// refused to them.
-fn insert_again(rt: &impl Abort, alloc: Global, count: usize) {
-    let mut document = Document::new(alloc);
-    insert_pairs(rt, alloc, &mut document, count);
-    for (index, (key, number)) in PAIRS.iter().take(count).enumerate() {
-        if let Ok(text) = String::from_str(alloc, key) {
-            assert!(rt; is_replaced(&mut document, text, *number), "{key}");
-            assert!(rt; is_pair(&document, index, key, &Bson::Null), "{key}");
+/// Whether a null is at this place.
+fn is_null_at(document: &Document, index: usize) -> bool {
+    matches!(document.pair_at(index), Some((_, Bson::Null)))
+}
+
+/// Whether a null takes the place of the number under this key, if there is memory for the key. The insert takes none, so
+/// that it can't be refused.
+fn is_replaced(alloc: Global, document: &mut Document, index: usize, pair: (&str, i32)) -> bool {
+    match String::from_str(alloc, pair.0) {
+        Ok(key) => is_old(&document.insert(key, Bson::Null), pair.1) && is_null_at(document, index),
+        Err(_) => true,
+    }
+}
+
+/// Whether each of the first so many keys is inserted a second time.
+fn are_inserted_again(alloc: Global, document: &mut Document, count: usize) -> bool {
+    for (index, pair) in PAIRS.iter().take(count).enumerate() {
+        if !is_replaced(alloc, document, index, *pair) {
+            return false;
         }
     }
-    assert!(rt; document.len() == count);
+    document.len() == count
 }
 
 #[test]
 fn insert_of_a_key_that_is_there_or_want_of_memory(rt: HostRuntime) {
-    insert_again(&rt, rt.alloc(), FEW);
-    insert_again(&rt, rt.alloc(), PAIRS.len());
+    let alloc = rt.alloc();
+    let mut few = Document::new(alloc);
+    assert!(rt; are_inserted(alloc, &mut few, FEW) && are_inserted_again(alloc, &mut few, FEW));
+    let mut all = Document::new(alloc);
+    let count = PAIRS.len();
+    assert!(rt; are_inserted(alloc, &mut all, count) && are_inserted_again(alloc, &mut all, count));
 }
 
+/// Whether the regular expression has these texts, or memory ran out.
 fn is_regex(answer: Result<Regex, NoMemory>, pattern: &str, options: &str) -> bool {
     match answer {
         Ok(regex) => regex.pattern.as_str() == pattern && regex.options.as_str() == options,

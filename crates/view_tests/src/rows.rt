@@ -24,3 +24,9 @@ fn an_element_has_its_value_or_its_fault(rt: HostRuntime) -> Result<(), Fail> {
     Checks::ample(rt.alloc()).first_values()?;
     Ok(())
 }
+
+#[test]
+fn a_key_stands_there_whatever_its_value(rt: HostRuntime) -> Result<(), Fail> {
+    Checks::ample(rt.alloc()).keys()?;
+    Ok(())
+}
