@@ -94,61 +94,59 @@ fn has_text(alloc: Global, bytes: &[u8], text: &[u8]) -> bool {
     }
 }
 
-/// Whether the document of these parts has this key.
-fn is_key_read(alloc: Global, parts: &[&[u8]], text: &[u8]) -> bool {
-    match document_of(alloc, parts) {
+/// Whether the document of a null under this key and what is behind it has the key.
+fn is_key_read(alloc: Global, text: &[u8], behind: &[u8]) -> bool {
+    match document_of(alloc, &[b"\x0A", text, b"\0", behind]) {
         Ok(bytes) => has_key(alloc, &bytes, text),
         Err(_) => false,
     }
 }
 
-/// Whether the document of these parts has this text.
-fn is_text_read(alloc: Global, parts: &[&[u8]], text: &[u8]) -> bool {
-    match document_of(alloc, parts) {
+/// Whether the document of this text and what is behind it has the text.
+fn is_text_read(alloc: Global, text: &[u8], behind: &[u8]) -> bool {
+    let size = text.len().wrapping_add(1).to_le_bytes();
+    match document_of(alloc, &[b"\x02\0", &size[..4], text, b"\0", behind]) {
         Ok(bytes) => has_text(alloc, &bytes, text),
         Err(_) => false,
     }
 }
 
-/// A null under the key, and a string of the same bytes, each as the last element and before forty bytes.
-fn is_read(alloc: Global, text: &[u8]) -> bool {
-    let size = text.len().wrapping_add(1).to_le_bytes();
-    let size = &size[..4];
-    is_key_read(alloc, &[b"\x0A", text, b"\0"], text)
-        && is_text_read(alloc, &[b"\x02\0", size, text, b"\0"], text)
-        && is_key_read(alloc, &[b"\x0A", text, b"\0", FORTY], text)
-        && is_text_read(alloc, &[b"\x02\0", size, text, b"\0", FORTY], text)
-}
-
-/// Whether so many letters with these bytes at a place among them are read.
+/// Whether so many letters with these bytes at a place among them are read as a key and as a text, each as the last
+/// element and before forty bytes.
 fn are_letters_read(alloc: Global, count: usize, place: usize, insert: &[u8]) -> bool {
     match letters(alloc, count, place, insert) {
-        Ok(text) => is_read(alloc, &text),
+        Ok(text) => {
+            is_key_read(alloc, &text, b"")
+                && is_text_read(alloc, &text, b"")
+                && is_key_read(alloc, &text, FORTY)
+                && is_text_read(alloc, &text, FORTY)
+        }
         Err(_) => false,
     }
 }
 
-/// Texts of so many letters, as they are, and with each insert at each place.
-fn assert_all_read(rt: &impl Abort, alloc: Global, count: usize) {
-    assert!(rt; are_letters_read(alloc, count, count, b""), "{count}");
-    for insert in INSERTS.iter() {
+/// Whether so many letters are read, as they are, and with each insert at each place.
+fn are_all_read(alloc: Global, count: usize) -> bool {
+    for insert in INSERTS {
         for place in 0..count {
-            let is_read = are_letters_read(alloc, count, place, insert);
-            assert!(rt; is_read, "{insert:?} at {place} of {count}");
+            if !are_letters_read(alloc, count, place, insert) {
+                return false;
+            }
         }
     }
+    are_letters_read(alloc, count, count, b"")
 }
 
 #[test]
 fn short_keys_and_texts_are_read(rt: HostRuntime) {
     for count in 0..71 {
-        assert_all_read(&rt, rt.alloc(), count);
+        assert!(rt; are_all_read(rt.alloc(), count), "{count}");
     }
 }
 
 #[test]
 fn long_keys_and_texts_are_read(rt: HostRuntime) {
     for count in 127..194 {
-        assert_all_read(&rt, rt.alloc(), count);
+        assert!(rt; are_all_read(rt.alloc(), count), "{count}");
     }
 }
