@@ -715,6 +715,33 @@ wants '' '"twice.bson":70: damaged at /0:"a", byte 4: a boolean is neither 0 nor
 '
 cat twice.both >wanted.out
 run 'each form once over files' 1 unique twice.bson twice.later sound.bson
+wants '' '"twice.bson":31: repeats "twice.bson":0
+"twice.bson":70: damaged at /0:"a", byte 4: a boolean is neither 0 nor 1: 2
+"twice.bson":79: repeats "twice.bson":12
+"twice.bson":91: repeats "twice.bson":43
+"twice.bson":116: repeats "twice.bson":0
+"twice.later":32: repeats "twice.bson":0
+"sound.bson":0: repeats "twice.bson":0
+"sound.bson":12: repeats "twice.bson":111
+"sound.bson":17: repeats "twice.bson":0
+'"$(wrote 15 201 6 9 1 0 0 0 0)"'
+'
+cat twice.both >wanted.out
+run 'repeats over files' 1 unique --repeats twice.bson twice.later sound.bson
+wants '' '{"file":"twice.later","offset":44,"finding":"repeat","first file":"twice.later","first offset":32}
+{"file":"sound.bson","offset":0,"finding":"repeat","first file":"twice.later","first offset":32}
+{"file":"sound.bson","offset":17,"finding":"repeat","first file":"twice.later","first offset":32}
+'"$(wrote_json 7 85 4 3 0 0 0 0 0)"'
+'
+cat twice.later one >both.later
+mv both.later twice.later
+cat array.form options.form one empty >wanted.out
+run 'repeats as JSON' 0 unique --repeats --json twice.later sound.bson
+: >wanted.err
+run 'repeats that nobody wants to see' 0 unique --repeats -q twice.later sound.bson
+wrote 3 29 2 1 0 0 0 0 0 >wanted.err
+cat one empty >wanted.out
+run 'one file twice, without --repeats' 0 unique sound.bson
 wants '' "$(wrote 1000000 12000000 1 999999 0 0 0 0 0)
 "
 cat one >wanted.out

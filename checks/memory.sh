@@ -1,7 +1,7 @@
 #!/bin/sh
 # memory.sh [PROGRAM]: what bsonraw-dump takes of memory and of work, where its pages say how much: one document in memory at a
-# time, with --resync three; 100 bytes a form of `unique`; and of places that are checked no more than eight times the bytes of
-# the input. PROGRAM is the proved one of crates/bsonraw_dump unless it is given.
+# time, with --resync three; 100 bytes a form of `unique`, with --repeats 170; and of places that are checked no more than eight
+# times the bytes of the input. PROGRAM is the proved one of crates/bsonraw_dump unless it is given.
 set -u
 
 root=$(dirname "$(dirname "$(realpath "$0")")")
@@ -100,10 +100,11 @@ within(8, 3, "check", "--resync", "noise")
 within(8, 3, "check", "noise")
 within(64, 3, "check", "--resync", "inside")
 
-# A form takes at most 100 bytes, whatever it has.
-few, many = run("unique", "distinct")[1], run("unique", "more")[1]
-form = (many - few) / 600_000
-wants("unique", 32 <= form <= 100, f"{form:.0f} bytes a form")
+# A form takes at most 100 bytes, whatever it has, and 170 with the place of the first document that has it.
+for options, least_of_one, most_of_one in ([], 32, 100), (["--repeats"], 56, 170):
+    few, many = run("unique", *options, "distinct")[1], run("unique", *options, "more")[1]
+    form = (many - few) / 600_000
+    wants(" ".join(["unique", *options]), least_of_one <= form <= most_of_one, f"{form:.0f} bytes a form")
 
 # How often the pages of what was read are come to: at most eight times for the places, and some five as room is made, filled and
 # moved.

@@ -1,5 +1,5 @@
 -- What was written where a run over an input fails.
-use Rattle.std.proofs.Common.{◌≡◌, ◌++◌, ℕ, List, Bool, true, Option, None, Some, IfSome, append_assoc, ap, ◌∙◌, drop, fold, inl, inr, length, length-take-le, not, refl, subst, sym, take, take-append-drop}
+use Rattle.std.proofs.Common.{◌≡◌, ◌++◌, ℕ, List, [], Bool, true, Option, None, Some, IfSome, append-nil, append_assoc, ap, ◌∙◌, drop, fold, inl, inr, length, length-take-le, not, refl, subst, sym, take, take-append-drop}
 use Rattle.std.specs.Io.KnownBytes.{Appends, Consumes}
 use Rattle.bson_json.specs.Written.{AppendsFront}
 use Rattle.raw_resync.specs.Resync.{IsSound}
@@ -11,7 +11,8 @@ use Rattle.bsonraw_dump.specs.Fronts.{HasFront}
 use Rattle.bsonraw_dump.specs.Halting.{Halts, IsNextPiece, ReportsFront, HaltsAhead, HaltsIn, HaltsInGap, HaltsInside, HaltsLeaving, HaltsNext, HaltsOne}
 use Rattle.bsonraw_dump.specs.Reading.{TellsNext, ahead_of}
 use Rattle.bsonraw_dump.specs.Resync.{IsBelieved, TellsPart}
-use Rattle.bsonraw_dump.specs.Run.{Passed, PassesAll, MayPassOne, Part, Reports, bytes_of_parts, work_behind}
+use Rattle.bsonraw_dump.specs.Run.{Passed, PassesAll, MayPassOne, Part, Reports, bytes_of_parts, lines_of_repeats, work_behind}
+use Rattle.bsonraw_dump.specs.Unique.{origin_at, repeat_at}
 use Rattle.bsonraw_dump.specs.Told.{ending_line}
 use Rattle.bsonraw_dump.specs.declared.command.Command.{Command}
 use Rattle.bsonraw_dump.specs.declared.command.Command.TheVariants as command
@@ -25,7 +26,6 @@ use Rattle.bsonraw_dump.specs.declared.style.Style.{Style}
 use Rattle.bsonraw_dump.specs.declared.window.Next.TheVariants as next
 use Rattle.bsonraw_dump.specs.declared.window.Window.{Window}
 use Rattle.bsonraw_dump.proofs.Deciding.{judges_sound, tells_document}
-use Rattle.bsonraw_dump.proofs.Fronts.{front_whole}
 use Rattle.bsonraw_dump.proofs.Passing.{HasPassed, gap_of, input_behind}
 
 -- what was read is in front of the input
@@ -63,8 +63,10 @@ reports_front (command.Json form) style name offset b f told old new text other 
 -- a piece that is passed is one of which a front is
 pub halts_passed : (limits : Limits) (any : Bool) (c : Command) (style : Style) (name : List ℕ) (offset : ℕ) (b : List ℕ) (d d' w w' : Option (List ℕ)) (k k' : Kept) (f : Finding)
     → MayPassOne limits any c style name offset b d d' w w' k k' (Some f) → HaltsOne limits any c style name offset b k d d' w w'
-halts_passed limits any c style name offset b d d' w w' k k' f (clean, (told, found, (made, makes, written), reported)) =
-    inr (f, told, found, clean, inr (inr (_, (made, makes, refl), front_whole d d' _ written.is_written), reported))
+halts_passed limits any c style name offset b d d' w w' k k' f (clean, (told, found, (made, makes, written, (first, places, (lines, reports, reported))))) =
+    let line = lines_of_repeats style (repeat_at (origin_at name offset) first) in
+    let whole = sym (ap (lines_of_repeats style) places.repeats) ∙ sym (append-nil line) in
+    inr (f, told, found, clean, inr (inr (made, makes, written.is_written, (lines, line, reports, ([], whole), reported))))
 
 -- the document that is next is next in all that was to be read
 piece_next : {limits : Limits} (resync : Bool) (r r' : Option (List ℕ)) (x y : Window) (v v' : Work) (len : ℕ) → TellsPart limits resync r r' x y v v' (next.Document len)
@@ -155,6 +157,8 @@ module _ {limits : Limits} (c : Command) (style : Style) (resync : Bool) (name :
     report_between = w';
     kept_between = k';
     is_written = p.is_written;
+    is_placed = p.is_placed;
+    is_repeated = p.is_repeated;
     is_reported = p.is_reported;
     is_counted = counted ∙ p.is_counted;
     halts = halts;

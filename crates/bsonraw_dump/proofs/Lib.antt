@@ -5,6 +5,7 @@ mod Going
 mod Skipping
 mod Deciding
 mod Digesting
+mod Repeating
 mod Writing
 mod Listed
 mod Passing

@@ -7,6 +7,7 @@ use Rattle.std.proofs.KnownBytes.{Appends-nil, Appends-trans}
 use Rattle.raw_tree.specs.declared.reader.limits.Limits.{Limits}
 use Rattle.bsonraw_dump.proofs.Deciding.{judges_sound, place_since, tells_document, tells_other}
 use Rattle.bsonraw_dump.proofs.Skipping.{read_behind}
+use Rattle.bsonraw_dump.proofs.Repeating.{firsts_more, firsts_none, repeats_more, repeats_none}
 use Rattle.bsonraw_dump.proofs.Writing.{writes_none, writes_more}
 use Rattle.std.proofs.lemmas.Grind.{flat_map-append, fold-append}
 use Rattle.bsonraw_dump.specs.Cut.{IsPiece}
@@ -16,8 +17,9 @@ use Rattle.bsonraw_dump.specs.Resync.{BreaksWith, IsBelieved, IsNextPlace, Skips
 use Rattle.raw_resync.specs.Resync.{IsSound}
 use Rattle.raw_resync.specs.Seeking.{IsWork, no_work}
 use Rattle.raw_resync.specs.declared.work.Work.{Work}
-use Rattle.bsonraw_dump.specs.Run.{AreParts, Entry, Gap, IsEntry, IsGap, IsPart, IsReading, IsTaken, Part, piece, gap, skipped, Passed, PassesFront, PassesGap, PassesNext, PassesOne, MayPassFront, Reports, Writes, WritesNothing, bytes_of_part, bytes_of_parts, made_of_part, made_of_parts, lines_of_part, count_entry, count_part, work_behind}
+use Rattle.bsonraw_dump.specs.Run.{AreParts, Entry, Gap, IsEntry, IsGap, IsPart, IsReading, IsTaken, Part, piece, gap, skipped, Passed, PassesFront, PassesGap, PassesNext, PassesOne, MayPassFront, Writes, WritesNothing, bytes_of_part, bytes_of_parts, made_of_part, made_of_parts, forms_of_part, forms_of_parts, lines_of_part, lines_of_repeats, repeats_of_part, count_entry, count_part, work_behind}
 use Rattle.bsonraw_dump.specs.Told.{ending_line}
+use Rattle.bsonraw_dump.specs.Unique.{Firsts, firsts_behind, firsts_of, origin_at, placed_at, repeat_at, repeats_of}
 use Rattle.bsonraw_dump.specs.declared.ending.Ending.{Ending}
 use Rattle.bsonraw_dump.specs.declared.ending.Rest.TheVariants as rest
 use Rattle.bsonraw_dump.specs.declared.failure.Failure.{Failure}
@@ -52,6 +54,8 @@ passed_none {limits = limits} {c = c} {style = style} {resync = resync} {name = 
   parts = (tt, tt);
   is_read = subst (λ (b : List ℕ). Consumes r r' (b ++ ahead)) (sym (append-nil front)) read;
   is_written = writes_none c d k;
+  is_placed = sym (firsts_none c (firsts_of k));
+  is_repeated = sym (repeats_none c (firsts_of k));
   is_reported = Appends-nil w;
   is_counted = refl;
 }
@@ -72,6 +76,8 @@ passed_ahead c style resync name x y r r' r'' d d' w w' n n' k k' ps p looks = r
   parts = p.parts;
   is_read = read_behind (bytes_of_parts ps) x y r r' r'' p.is_read looks.is_read;
   is_written = p.is_written;
+  is_placed = p.is_placed;
+  is_repeated = p.is_repeated;
   is_reported = p.is_reported;
   is_counted = p.is_counted;
 }
@@ -79,14 +85,22 @@ passed_ahead c style resync name x y r r' r'' d d' w w' n n' k k' ps p looks = r
 -- one more part is passed, and these bytes are ahead then
 pub passed_more : {limits : Limits} (c : Command) (style : Style) (resync : Bool) (name x y : List ℕ) (r r' r'' d d' d'' w w' w'' : Option (List ℕ)) (n n' n'' : Counts) (k k' k'' : Kept)
     (ps : List Part) (p : Part) → Passed limits c style resync name x r r' d d' w w' n n' k k' ps → IsPart limits c style resync name r (length (bytes_of_parts ps)) (fold work_behind no_work ps) p
-    → ((before : Option (List ℕ)) → Consumes before r' x → Consumes before r'' (bytes_of_part p ++ y)) → Writes c (made_of_part p) d' d'' k' k'' → Appends w' w'' (lines_of_part p)
-    → n'' ≡ count_part n' p → Passed limits c style resync name y r r'' d d'' w w'' n n'' k k'' (ps ++ p ∷ [])
-passed_more {limits} c style resync name x y r r' r'' d d' d'' w w' w'' n n' n'' k k' k'' ps p passed is read written told counted = record {
+    → ((before : Option (List ℕ)) → Consumes before r' x → Consumes before r'' (bytes_of_part p ++ y)) → Writes c (made_of_part p) d' d'' k' k''
+    → firsts_of k'' ≡ firsts_behind c (firsts_of k') (forms_of_part p) → repeats_of_part p ≡ repeats_of c (firsts_of k') (forms_of_part p) → Appends w' w'' (lines_of_part p) → n'' ≡ count_part n' p
+    → Passed limits c style resync name y r r'' d d'' w w'' n n'' k k'' (ps ++ p ∷ [])
+passed_more {limits} c style resync name x y r r' r'' d d' d'' w w' w'' n n' n'' k k' k'' ps p passed is read written placed repeated told counted = record {
   parts = parts_more limits c style resync name r 0 no_work ps p passed.parts (subst (λ (n : ℕ). IsPart limits c style resync name r n (fold work_behind no_work ps) p) (sym (zero-add _)) is);
   is_read =
       let all = read_behind (bytes_of_parts ps) x (bytes_of_part p ++ y) r r' r'' passed.is_read read in
       subst (Consumes r r'') (sym (append_assoc (bytes_of_parts ps) (bytes_of_part p) y) ∙ ap (λ l. l ++ y) (one_more bytes_of_part ps p)) all;
   is_written = subst (λ (xs : List (List ℕ)). Writes c xs d d'' k k'') (one_more made_of_part ps p) (writes_more c (made_of_parts ps) (made_of_part p) d d' d'' k k' k'' passed.is_written written);
+  is_placed =
+      placed ∙ ap (λ (f : Firsts). firsts_behind c f (forms_of_part p)) passed.is_placed ∙ sym (firsts_more c (firsts_of k) (forms_of_parts ps) (forms_of_part p))
+      ∙ ap (firsts_behind c (firsts_of k)) (one_more forms_of_part ps p);
+  is_repeated =
+      let here = repeated ∙ ap (λ (f : Firsts). repeats_of c f (forms_of_part p)) passed.is_placed in
+      sym (one_more repeats_of_part ps p) ∙ ap (λ l. l ++ repeats_of_part p) passed.is_repeated ∙ ap (λ l. repeats_of c (firsts_of k) (forms_of_parts ps) ++ l) here
+      ∙ sym (repeats_more c (firsts_of k) (forms_of_parts ps) (forms_of_part p)) ∙ ap (repeats_of c (firsts_of k)) (one_more forms_of_part ps p);
   is_reported = subst (Appends w w'') (one_more lines_of_part ps p) (Appends-trans w w' w'' _ _ passed.is_reported told);
   is_counted = counted ∙ ap (λ k. count_part k p) passed.is_counted ∙ sym (fold-append count_part n ps (p ∷ []));
 }
@@ -119,11 +133,15 @@ abbrev pub has_passed_piece : {limits : Limits} (c : Command) (style : Style) (r
     → ((e : Entry) → length e.bytes ≡ length b → e.finding ≡ f → n'' ≡ count_entry n' e)
     → HasPassed limits c style resync name z r r'' d d'' w w'' n n'' k k'' behind v'
 has_passed_piece {limits} c style resync name x y z b r r' r'' d d' d'' w w' w'' n n' n'' k k' k'' offset behind v v' f h looks (is, split, sum) taken passes counted =
-    let (told, found, (made, makes, put), (lines, reports, reported)) = passes in
     let bytes = bytes_of_parts h.ps in
-    let e : Entry = record { bytes = b; finding = f; told = told; made = made; lines = lines; work = v' } in
+    let at = origin_at name (length bytes) in
+    let (told, found, (made, makes, put, (first, places, (lines, reports, reported)))) =
+    subst (λ (m : ℕ). PassesOne limits c style name m b d' d'' w' w'' k' k'' f) h.at passes in
+    let repeated = repeat_at at first in
+    let e : Entry =
+    record { bytes = b; finding = f; told = told; made = made; forms = placed_at at made; repeats = repeated; lines = lines ++ lines_of_repeats style repeated; work = v' } in
     let entry : IsEntry limits c style name (length bytes) e =
-    record { piece = is; found = found; makes = makes; reports = subst (λ (n : ℕ). Reports c style name n b f told lines) h.at reports } in
+    record { piece = is; found = found; makes = makes; placed = refl; first = first; repeats = refl; lines = lines; reports = reports; told = refl } in
     let here : (s : List ℕ) → Consumes (Some s) r' x → IsTaken limits resync s offset v e = λ s all. record { believed = (taken s all).0; spends = (taken s all).1 } in
     let kept : IfSome r (λ s. IsTaken limits resync (drop (length bytes) s) (length bytes) (fold work_behind no_work h.ps) e) =
     input_behind bytes x r r' (λ s. IsTaken limits resync s (length bytes) (fold work_behind no_work h.ps) e) h.passed.is_read
@@ -131,7 +149,8 @@ has_passed_piece {limits} c style resync name x y z b r r' r'' d d' d'' w w' w''
     let read : (before : Option (List ℕ)) → Consumes before r' x → Consumes before r'' (b ++ z) = λ before first. subst (Consumes before r'') split (looks.is_read before first) in
     record {
       ps = h.ps ++ piece e ∷ [];
-      passed = passed_more c style resync name x z r r' r'' d d' d'' w w' w'' n n' n'' k k' k'' h.ps (piece e) h.passed (entry, kept) read put reported (counted e refl refl);
+      passed = passed_more c style resync name x z r r' r'' d d' d'' w w' w'' n n' n'' k k' k'' h.ps (piece e) h.passed (entry, kept) read put places.placed places.repeats
+          reported (counted e refl refl);
       at = sum ∙ ap (λ m. m + length b) h.at ∙ sym (bytes_more h.ps (piece e));
       worked = sym (fold-append work_behind no_work h.ps (piece e ∷ []));
     }
@@ -235,7 +254,8 @@ has_passed_gap c style resync name x y z r r' r'' q d d' w w' w'' n n' n'' k k' 
     let told : Appends w' w'' line = subst (λ m. Appends w' w'' (ending_line style name m e (rest.PassedOver skip))) at over.told in
     record {
       ps = h.ps ++ gap g ∷ [];
-      passed = passed_more c style resync name (ahead_of y) (ahead_of z) r r'' q d d' d' w w' w'' n n' n'' k k' k' h.ps (gap g) read is p.is_read (writes_none c d' k') told over.is_counted;
+      passed = passed_more c style resync name (ahead_of y) (ahead_of z) r r'' q d d' d' w w' w'' n n' n'' k k' k' h.ps (gap g) read is p.is_read
+          (writes_none c d' k') (sym (firsts_none c (firsts_of k'))) (sym (repeats_none c (firsts_of k'))) told over.is_counted;
       at = over.skips.offset ∙ ap (λ m. m + skip.count) at ∙ ap (λ m. length bytes + m) (sym p.len) ∙ sym (bytes_more h.ps (gap g));
       worked = sym (fold-append work_behind no_work h.ps (gap g ∷ []));
     }

@@ -108,6 +108,8 @@ module _ {limits : Limits} (c : Command) (style : Style) (resync : Bool) (name :
           parts = h.passed.parts;
           is_read = read_behind bytes (ahead_of x) left r r' r'' h.passed.is_read p.is_read;
           is_written = h.passed.is_written;
+          is_placed = h.passed.is_placed;
+          is_repeated = h.passed.is_repeated;
           is_reported = Appends-kept w w' w'' (lines_of_parts h.ps) h.passed.is_reported kept;
           is_counted = same ∙ h.passed.is_counted;
         };
@@ -139,6 +141,8 @@ module _ {limits : Limits} (c : Command) (style : Style) (resync : Bool) (name :
           parts = p.passed.parts;
           is_read = read_behind bytes p.left left r r' r'' p.passed.is_read (λ before read. l.is_read before (subst (Consumes before r') ahead read));
           is_written = p.passed.is_written;
+          is_placed = p.passed.is_placed;
+          is_repeated = p.passed.is_repeated;
           is_reported = p.passed.is_reported;
           is_counted = p.passed.is_counted;
         };

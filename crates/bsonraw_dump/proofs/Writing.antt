@@ -1,8 +1,5 @@
 -- How what was written grows by more documents.
-use Rattle.std.proofs.Common.{◌≡◌, ◌+◌, ◌⊎◌, ℕ, List, [], ◌∷◌, ◌++◌, Bool, Option, arith, codes, fold, inl, inr, length, length-append, sym, ap, ◌∙◌, subst, refl, append_assoc, append-nil}
-use Rattle.std.specs.BTreeSet.{contains}
-use Rattle.std.specs.Cmp.Lexicographic.{slice_cmp}
-use Rattle.std.specs.Ordering.{nat_cmp}
+use Rattle.std.proofs.Common.{◌≡◌, ◌+◌, ◌⊎◌, ℕ, List, [], ◌∷◌, ◌++◌, Bool, Option, None, arith, codes, fold, inl, inr, length, length-append, sym, ap, ◌∙◌, subst, refl, append_assoc, append-nil}
 use Rattle.std.specs.Io.KnownBytes.{Appends}
 use Rattle.std.proofs.KnownBytes.{Appends-nil, Appends-trans}
 use Rattle.std.proofs.lemmas.Grind.{flat_map-append, fold-append}
@@ -17,11 +14,13 @@ use Rattle.raw_tree.specs.declared.reader.limits.Limits.{Limits}
 use Rattle.bsonraw_dump.specs.Fronts.{WritesFront}
 use Rattle.bsonraw_dump.specs.Halting.{IsMade}
 use Rattle.bsonraw_dump.proofs.Fronts.{front_behind, front_first}
-use Rattle.bsonraw_dump.specs.Run.{Emits, MakesJson, Writes}
-use Rattle.bsonraw_dump.specs.Unique.{CountsOne, first_forms, if_new, joined, kept_of, known_behind, knows, with_form, written_of}
+use Rattle.bsonraw_dump.specs.Run.{Emits, Makes, MakesJson, Writes}
+use Rattle.bsonraw_dump.specs.Unique.{CountsOne, first_forms, firsts_of, has_digest, if_new, joined, kept_of, known_behind, knows, origins_of, placed, with_form, written_of}
 use Rattle.bsonraw_dump.specs.declared.command.Command.{Command}
 use Rattle.bsonraw_dump.specs.declared.command.Command.TheVariants as command
 use Rattle.bsonraw_dump.specs.declared.kept.Kept.{Kept}
+use Rattle.bsonraw_dump.specs.declared.kept.Origin.{Origin}
+use Rattle.bsonraw_dump.proofs.Repeating.{firsts_none, repeats_none}
 use Rattle.bsonraw_dump.specs.declared.find.Finding.{Finding}
 use Rattle.bsonraw_dump.specs.declared.find.Finding.TheVariants as finding
 
@@ -102,8 +101,8 @@ writes_more c xs ys d d' d'' k k' k'' first second =
           omega arith;
     }
 
-known_same : (k k' : Kept) (d : List ℕ) → k'.digests ≡ k.digests → knows k' d ≡ knows k d
-known_same k k' d same = ap (λ s. contains (slice_cmp nat_cmp) s d) same
+known_same : (k k' : Kept) (d : List ℕ) → k'.forms ≡ k.forms → knows k' d ≡ knows k d
+known_same k k' d same = ap (λ forms. has_digest forms d) same
 
 line_written : (style : json.Style) (line : List ℕ) (d d' : Option (List ℕ)) (k k' : Kept) → Appends d d' line → CountsOne k k' → Writes (command.Json style) (line ∷ []) d d' k k'
 line_written style line d d' k k' put (counted, same) = record {
@@ -112,16 +111,21 @@ line_written style line d d' k k' put (counted, same) = record {
   is_counted = counted;
 }
 
+-- nothing is made of a document
+pub nothing_emitted : (c : Command) (at : Origin) (b : List ℕ) (f : Finding) (d d' : Option (List ℕ)) (k : Kept) → Makes c b f [] → Appends d d' [] → Emits c at b f d d' k k None
+nothing_emitted c at b f d d' k nothing put =
+    ([], nothing, (writes_nothing c d d' k put, record { placed = sym (firsts_none c (firsts_of k)); repeats = sym (repeats_none c (firsts_of k)) }))
+
 -- a document without damage is written as Extended JSON
-pub json_emitted : (style : json.Style) (b : List ℕ) (f : Finding) (d d' : Option (List ℕ)) (k k' : Kept) → (f ≡ finding.Canonical) ⊎ (f ≡ finding.Breached)
-    → (text : List ℕ) × IsJson style b text × Appends d d' (text ++ codes "\n") × CountsOne k k' → Emits (command.Json style) b f d d' k k'
-json_emitted style b f d d' k k' sound (text, is, put, counted) =
+pub json_emitted : (style : json.Style) (at : Origin) (b : List ℕ) (f : Finding) (d d' : Option (List ℕ)) (k k' : Kept) → (f ≡ finding.Canonical) ⊎ (f ≡ finding.Breached)
+    → (text : List ℕ) × IsJson style b text × Appends d d' (text ++ codes "\n") × CountsOne k k' → Emits (command.Json style) at b f d d' k k' None
+json_emitted style at b f d d' k k' sound (text, is, put, counted) =
     let line = text ++ codes "\n" in
     let made : MakesJson style b f (line ∷ []) = elim sound [
       | inl canonical ↦ subst (λ x. MakesJson style b x (line ∷ [])) (sym canonical) (text, is, refl)
       | inr breached ↦ subst (λ x. MakesJson style b x (line ∷ [])) (sym breached) (text, is, refl)
     ] in
-    (line ∷ [], made, line_written style line d d' k k' put counted)
+    (line ∷ [], made, (line_written style line d d' k k' put counted, record { placed = ap origins_of counted.1; repeats = refl }))
 
 -- these are the texts of a document with a line feed
 abbrev pub IsJsonLine : json.Style → List ℕ → List ℕ → Type 0

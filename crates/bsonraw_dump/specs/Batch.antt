@@ -7,7 +7,7 @@ use Rattle.bsonraw_dump.specs.Portion.{EndsPortion, HaltsPortion}
 use Rattle.bsonraw_dump.specs.Run.{count_left, no_counts, plus}
 use Rattle.bsonraw_dump.specs.Status.{IsFailureStatus, IsStatus}
 use Rattle.bsonraw_dump.specs.Told.{summary_line}
-use Rattle.bsonraw_dump.specs.Unique.{knows}
+use Rattle.bsonraw_dump.specs.Unique.{firsts_of, knows, no_firsts}
 use Rattle.bsonraw_dump.specs.declared.batch.Cut.{Cut}
 use Rattle.bsonraw_dump.specs.declared.batch.Done.{Done}
 use Rattle.bsonraw_dump.specs.declared.batch.Job.{Job}
@@ -55,10 +55,11 @@ state_of out report totals = record { out = out; report = report; counts = total
 abbrev pub start_of : (out report : Option (List ℕ)) → Kept → State
 start_of out report kept = record { out = out; report = report; counts = no_counts; kept = kept; cut = None }
 
--- no document was written, and no digest is known
-pub record KeepsNothing (kept : Kept) : Type 0 where
+-- no document was written, and no digest is known; places are kept where repeats are asked for
+pub record KeepsNothing (repeats : Bool) (kept : Kept) : Type 0 where
   pub none : kept.count ≡ 0
   pub unknown : (d : List ℕ) → knows kept d ≡ false
+  pub firsts : firsts_of kept ≡ no_firsts repeats
 
 -- the line that tells what was counted of one input; only check and count have it
 abbrev pub input_line : Job → Command → List ℕ → Counts → List ℕ
@@ -170,7 +171,7 @@ EndsAll job bytes_of names first out_new report_new (Some (lack.Failed failure))
 -- gives the status, but for a pipe that has no reader.
 pub record IsDone (job : Job) (bytes_of : List ℕ → Option (List ℕ)) (names : List (List ℕ)) (out_old out_new report_old report_new : Option (List ℕ)) (done : Done) : Type 0 where
   pub kept : Kept
-  pub nothing : KeepsNothing kept
+  pub nothing : KeepsNothing job.repeats kept
   pub ends : EndsAll job bytes_of names (start_of out_old report_old kept) out_new report_new done.lack done.status
 
 -- What the code tells of one input. No public contract cites what follows.

@@ -11,9 +11,9 @@ use Rattle.bsonraw_dump.specs.Fronts.{HasFront, WritesFront}
 use Rattle.bsonraw_dump.specs.Listing.{HasListingFront}
 use Rattle.bsonraw_dump.specs.Reading.{ahead_of}
 use Rattle.bsonraw_dump.specs.Resync.{IsBelieved, SkipsTo, Spends}
-use Rattle.bsonraw_dump.specs.Run.{AreParts, Gap, IsGap, Makes, Part, Reports, Writes, bytes_of_parts, count_part, head_text, lines_of_parts, made_of_parts, work_behind}
+use Rattle.bsonraw_dump.specs.Run.{AreParts, Gap, IsGap, Makes, Part, Reports, Writes, bytes_of_parts, count_part, head_text, forms_of_parts, lines_of_parts, lines_of_repeats, made_of_parts, repeats_of_parts, work_behind}
 use Rattle.bsonraw_dump.specs.Told.{ending_line, last_line, line}
-use Rattle.bsonraw_dump.specs.Unique.{knows, written_of}
+use Rattle.bsonraw_dump.specs.Unique.{firsts_behind, firsts_of, knows, origin_at, placed_at, repeats_of, written_of}
 use Rattle.bsonraw_dump.specs.declared.command.Command.{Command}
 use Rattle.bsonraw_dump.specs.declared.command.Command.TheVariants as command
 use Rattle.bsonraw_dump.specs.declared.counts.Counts.{Counts}
@@ -40,10 +40,14 @@ abbrev pub IsMade : Command → List ℕ → Finding → Kept → List ℕ → T
 IsMade c b found kept text = (made : List (List ℕ)) × Makes c b found made × (text ≡ written_of c (knows kept) made)
 
 -- Of a piece b, in which this is found, a front is reported, and nothing is written. Or all is reported, and a front is written, or nothing.
+-- Or all is written, and a front of the line of a repeat is reported.
 abbrev pub HaltsInside : Command → Style → List ℕ → ℕ → List ℕ → Finding → Option Account → Kept → (out_old out_new report_old report_new : Option (List ℕ)) → Type 0
 HaltsInside c style name offset b found told kept out_old out_new report_old report_new =
     ((out_new ≡ out_old) × ((lines : List ℕ) × ReportsFront c style name offset b found told lines × Appends report_old report_new lines))
     ⊎ (WritesFront (IsMade c b found kept) out_old out_new × ((lines : List ℕ) × Reports c style name offset b found told lines × Appends report_old report_new lines))
+    ⊎ ((made : List (List ℕ)) × Makes c b found made × Appends out_old out_new (written_of c (knows kept) made)
+    × ((lines : List ℕ) × (front : List ℕ) × Reports c style name offset b found told lines
+    × HasFront (lines_of_repeats style (repeats_of c (firsts_of kept) (placed_at (origin_at name offset) made))) front × Appends report_old report_new (lines ++ front)))
 
 -- the same of what is found in a piece
 abbrev pub HaltsIn : Limits → Command → Style → List ℕ → ℕ → List ℕ → Kept → (out_old out_new report_old report_new : Option (List ℕ)) → Type 0
@@ -82,6 +86,8 @@ pub record Halts (limits : Limits) (c : Command) (style : Style) (resync : Bool)
   pub report_between : Option (List ℕ)
   pub kept_between : Kept
   pub is_written : Writes c (made_of_parts ps) out_old out_between kept_old kept_between
+  pub is_placed : firsts_of kept_between ≡ firsts_behind c (firsts_of kept_old) (forms_of_parts ps)
+  pub is_repeated : repeats_of_parts ps ≡ repeats_of c (firsts_of kept_old) (forms_of_parts ps)
   pub is_reported : Appends report_old report_between (lines_of_parts ps)
   pub is_counted : counts_new ≡ fold count_part counts_old ps
   pub halts : HaltsAhead limits c style resync name input (length (bytes_of_parts ps)) (fold work_behind no_work ps) kept_between out_between out_new report_between report_new

@@ -1,6 +1,7 @@
 -- What a run over an input reads, writes and counts.
 use Rattle.std.specs.Prelude.{◌≡◌, ℕ, ◌+◌, List, [], ◌∷◌, ◌++◌, Bool, true, false, Option, None, Some, IfSome, IsNone, codes, decimal, drop, flat_map, fold, length, take}
 use Rattle.std.specs.Io.KnownBytes.{Appends, Consumes, IsAtEnd}
+use Rattle.std.specs.Option.{option_map}
 use Rattle.raw_tree.specs.CanonicalForm.{IsCanonicalForm}
 use Rattle.bson_json.specs.Json.{IsJson}
 use Rattle.bson_json.specs.declared.style.Style as json
@@ -15,8 +16,8 @@ use Rattle.bsonraw_dump.specs.declared.window.Next.TheVariants as next
 use Rattle.bsonraw_dump.specs.declared.window.Window.{Window}
 use Rattle.bsonraw_dump.specs.Find.{Account, Judges, MayBeDamaged}
 use Rattle.bsonraw_dump.specs.Listing.{ListsDocument}
-use Rattle.bsonraw_dump.specs.Told.{ending_line, last_line, line, report_line, words_of}
-use Rattle.bsonraw_dump.specs.Unique.{kept_of, known_behind, knows, written_of}
+use Rattle.bsonraw_dump.specs.Told.{ending_line, last_line, line, repeat_line, report_line, words_of}
+use Rattle.bsonraw_dump.specs.Unique.{Origin, Placed, Repeat, firsts_behind, firsts_of, kept_of, known_behind, knows, origin_at, origin_of, placed_at, repeat_at, repeats_of, written_of}
 use Rattle.bsonraw_dump.specs.declared.failure.Failure.{Failure}
 use Rattle.bsonraw_dump.specs.declared.failure.ReadFailure.{ReadFailure}
 use Rattle.bsonraw_dump.specs.declared.failure.Failure.TheVariants as failure
@@ -24,6 +25,7 @@ use Rattle.bsonraw_dump.specs.declared.command.Command.{Command}
 use Rattle.bsonraw_dump.specs.declared.command.Command.TheVariants as command
 use Rattle.bsonraw_dump.specs.declared.counts.Counts.{Counts}
 use Rattle.bsonraw_dump.specs.declared.kept.Kept.{Kept}
+use Rattle.bsonraw_dump.specs.declared.kept.Origin as kept
 use Rattle.bsonraw_dump.specs.declared.ending.Ending.{Ending}
 use Rattle.bsonraw_dump.specs.declared.ending.Rest.TheVariants as rest
 use Rattle.bsonraw_dump.specs.declared.resync.Skip.{Skip}
@@ -44,13 +46,15 @@ abbrev pub told_line : Style → List ℕ → ℕ → Option Account → List �
 told_line style name offset None = []
 told_line style name offset (Some told) = report_line style name offset told
 
--- a piece of an input, what is found in it and what is told of that, the document that is made of it, if there is one, what is
--- reported of it, and what the searches cost then
+-- a piece of an input, what is found in it and what is told of that, the document that is made of it, if there is one, the same with
+-- its place, what it repeats, what is reported of it, and what the searches cost then
 pub record Entry : Type 0 where
   pub bytes : List ℕ
   pub finding : Finding
   pub told : Option Account
   pub made : List (List ℕ)
+  pub forms : List Placed
+  pub repeats : List Repeat
   pub lines : List ℕ
   pub work : Work
 
@@ -90,12 +94,21 @@ Reports c style name offset b finding.TooDeep told lines = lines ≡ told_line s
 Reports command.Check style name offset b finding.Breached told lines = lines ≡ told_line style name offset told
 Reports c style name offset b found told lines = lines ≡ []
 
--- what is so of a piece at this offset
+-- the lines of repeats
+abbrev pub lines_of_repeats : Style → List Repeat → List ℕ
+lines_of_repeats style repeats = flat_map (repeat_line style) repeats
+
+-- What is so of a piece at this offset. Behind what is reported of it is the line of a repeat, if it is one.
 pub record IsEntry (limits : Limits) (c : Command) (style : Style) (name : List ℕ) (offset : ℕ) (e : Entry) : Type 0 where
   pub piece : IsPiece limits.bytes e.bytes
   pub found : Judges limits c e.bytes e.finding e.told
   pub makes : Makes c e.bytes e.finding e.made
-  pub reports : Reports c style name offset e.bytes e.finding e.told e.lines
+  pub placed : e.forms ≡ placed_at (origin_at name offset) e.made
+  pub first : Option Origin
+  pub repeats : e.repeats ≡ repeat_at (origin_at name offset) first
+  pub lines : List ℕ
+  pub reports : Reports c style name offset e.bytes e.finding e.told lines
+  pub told : e.lines ≡ lines ++ lines_of_repeats style e.repeats
 
 -- A piece is in front of s, the end of an input from this offset on, and is taken at its length, where bytes may be passed over; and
 -- what finding that out cost, where earlier searches cost so much.
@@ -143,6 +156,16 @@ lines_of_part (piece e) = e.lines
 lines_of_part (gap g) = g.lines
 lines_of_part (skipped b) = []
 
+abbrev pub forms_of_part : Part → List Placed
+forms_of_part (piece e) = e.forms
+forms_of_part (gap g) = []
+forms_of_part (skipped b) = []
+
+abbrev pub repeats_of_part : Part → List Repeat
+repeats_of_part (piece e) = e.repeats
+repeats_of_part (gap g) = []
+repeats_of_part (skipped b) = []
+
 -- what the searches cost behind a part
 abbrev pub work_behind : Work → Part → Work
 work_behind work (piece e) = e.work
@@ -167,15 +190,25 @@ pub record Writes (c : Command) (made : List (List ℕ)) (out_old out_new : Opti
   pub is_known : (d : List ℕ) → knows kept_new d ≡ known_behind c (knows kept_old) made d
   pub is_counted : kept_new.count ≡ kept_old.count + length (kept_of c (knows kept_old) made)
 
--- of this piece, in which this is found, a document is made and written
-abbrev pub Emits : Command → List ℕ → Finding → (out_old out_new : Option (List ℕ)) → (kept_old kept_new : Kept) → Type 0
-Emits c b found out_old out_new kept_old kept_new = (made : List (List ℕ)) × Makes c b found made × Writes c made out_old out_new kept_old kept_new
+-- These documents are made of the one at this place, which is kept where their digest has none; and it repeats the first of their
+-- digest, if one came before.
+pub record Places (c : Command) (place : Origin) (made : List (List ℕ)) (kept_old kept_new : Kept) (first : Option Origin) : Type 0 where
+  pub placed : firsts_of kept_new ≡ firsts_behind c (firsts_of kept_old) (placed_at place made)
+  pub repeats : repeat_at place first ≡ repeats_of c (firsts_of kept_old) (placed_at place made)
 
--- a piece at this offset is passed: what is written of it, and what is reported
+-- the same of the code, and they are written
+abbrev pub Puts : Command → kept.Origin → List (List ℕ) → (out_old out_new : Option (List ℕ)) → (kept_old kept_new : Kept) → Option kept.Origin → Type 0
+Puts c place made out_old out_new kept_old kept_new first =
+    Writes c made out_old out_new kept_old kept_new × Places c (origin_of place) made kept_old kept_new (option_map origin_of first)
+
+-- a piece at this offset is passed: what is written of it, and what is reported, with the line of a repeat
 abbrev pub PassesOne : Limits → Command → Style → List ℕ → ℕ → List ℕ → (out_old out_new report_old report_new : Option (List ℕ)) → (kept_old kept_new : Kept) → Finding → Type 0
 PassesOne limits c style name offset b out_old out_new report_old report_new kept_old kept_new found =
-    (told : Option Account) × Judges limits c b found told × Emits c b found out_old out_new kept_old kept_new
-    × ((lines : List ℕ) × Reports c style name offset b found told lines × Appends report_old report_new lines)
+    (told : Option Account) × Judges limits c b found told
+    × ((made : List (List ℕ)) × Makes c b found made × Writes c made out_old out_new kept_old kept_new
+    × ((first : Option Origin) × Places c (origin_at name offset) made kept_old kept_new first
+    × ((lines : List ℕ) × Reports c style name offset b found told lines
+    × Appends report_old report_new (lines ++ lines_of_repeats style (repeat_at (origin_at name offset) first)))))
 
 -- A piece is passed, one that may be damaged only where any is; or it isn't, and nothing is written or reported.
 abbrev pub MayPassOne : Limits → (any : Bool) → Command → Style → List ℕ → ℕ → List ℕ → (out_old out_new report_old report_new : Option (List ℕ)) → (kept_old kept_new : Kept)
@@ -193,6 +226,12 @@ made_of_parts ps = flat_map made_of_part ps
 
 abbrev pub lines_of_parts : List Part → List ℕ
 lines_of_parts ps = flat_map lines_of_part ps
+
+abbrev pub forms_of_parts : List Part → List Placed
+forms_of_parts ps = flat_map forms_of_part ps
+
+abbrev pub repeats_of_parts : List Part → List Repeat
+repeats_of_parts ps = flat_map repeats_of_part ps
 
 -- nothing was read
 abbrev pub no_counts : Counts
@@ -250,6 +289,8 @@ pub record Passed (limits : Limits) (c : Command) (style : Style) (resync : Bool
   pub parts : AreParts limits c style resync name read_old 0 no_work ps
   pub is_read : Consumes read_old read_new (bytes_of_parts ps ++ ahead)
   pub is_written : Writes c (made_of_parts ps) out_old out_new kept_old kept_new
+  pub is_placed : firsts_of kept_new ≡ firsts_behind c (firsts_of kept_old) (forms_of_parts ps)
+  pub is_repeated : repeats_of_parts ps ≡ repeats_of c (firsts_of kept_old) (forms_of_parts ps)
   pub is_reported : Appends report_old report_new (lines_of_parts ps)
   pub is_counted : counts_new ≡ fold count_part counts_old ps
 
@@ -366,3 +407,8 @@ pub record Leaves (limits : Limits) (style : Style) (name : List ℕ) (end : End
   pub fails : IfSome failed (λ failure. failure.at ≡ window_old.offset + length (ahead_of window_old ++ more))
   pub told : Appends report_old report_new (ending_line style name window_old.offset end (rest.NotRead (length (ahead_of window_old ++ more))))
   pub is_counted : counts_new ≡ count_left counts_old (length (ahead_of window_old ++ more))
+
+-- Of this piece at this place, in which this is found, a document is made and written, which repeats the one at that place, if there is one.
+abbrev pub Emits : Command → kept.Origin → List ℕ → Finding → (out_old out_new : Option (List ℕ)) → (kept_old kept_new : Kept) → Option kept.Origin → Type 0
+Emits c place b found out_old out_new kept_old kept_new first =
+    (made : List (List ℕ)) × Makes c b found made × Puts c place made out_old out_new kept_old kept_new first

@@ -6,6 +6,7 @@ use Rattle.json.specs.Token.{Token, begin_object, end_object, begin_array, end_a
 use Rattle.json.specs.Written.{Written}
 use Rattle.raw_form.specs.Places.{Step}
 use Rattle.bsonraw_dump.specs.Find.{Account, Explanation, Spot, explanation_text}
+use Rattle.bsonraw_dump.specs.Unique.{Origin, Repeat}
 use Rattle.bsonraw_dump.specs.declared.command.Command.{Command}
 use Rattle.bsonraw_dump.specs.declared.command.Command.TheVariants as command
 use Rattle.bsonraw_dump.specs.declared.counts.Counts.{Counts}
@@ -100,6 +101,19 @@ abbrev pub report_line : Style → List ℕ → ℕ → Account → List ℕ
 report_line style.Words name offset told = line name offset (words_of told)
 report_line style.Json name offset told = object_line (head_members name offset ++ members_of told)
 report_line style.Quiet name offset told = []
+
+-- the first document of a form, in words and as members of an object
+abbrev pub first_text : Origin → List ℕ
+first_text first = codes "repeats " ++ quoted first.name ++ codes ":" ++ decimal first.offset
+
+abbrev pub first_members : Origin → List Token
+first_members first = key (codes "finding") ∷ string (codes "repeat") ∷ key (codes "first file") ∷ string first.name ∷ key (codes "first offset") ∷ number (decimal first.offset) ∷ []
+
+-- the line of a document whose form came before; none in quiet
+abbrev pub repeat_line : Style → Repeat → List ℕ
+repeat_line style.Words r = line r.place.name r.place.offset (first_text r.first)
+repeat_line style.Json r = object_line (head_members r.place.name r.place.offset ++ first_members r.first)
+repeat_line style.Quiet r = []
 
 -- whether all places in what is passed over were checked
 abbrev pub all_text : Bool → List ℕ

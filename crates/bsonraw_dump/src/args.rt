@@ -174,6 +174,8 @@ pub fn command_line<'a>(alloc: Global) -> Result<clap::Command<'a>, AllocError> 
     let unique = clap::Command::new(alloc, "unique").about(
         "Writes each canonical form once; takes 100 bytes of memory a form at most",
     );
+    let repeats =
+        "Names each document whose form came before, with the first of that form; takes 170 bytes a form at most";
     clap::Command::new(alloc, "bsonraw-dump")
         .bin_name("bsonraw-dump")?
         .version(VERSION)
@@ -184,7 +186,7 @@ pub fn command_line<'a>(alloc: Global) -> Result<clap::Command<'a>, AllocError> 
         .subcommand(reading(alloc, findings(alloc, count)?)?)?
         .subcommand(writing(alloc, canon)?)?
         .subcommand(writing(alloc, sound)?)?
-        .subcommand(writing(alloc, unique)?)?
+        .subcommand(writing(alloc, unique.arg(switch(alloc, "repeats", repeats))?)?)?
         .subcommand(documents_as_json(alloc)?)?
         .subcommand(texts(alloc)?)
 }
@@ -249,6 +251,7 @@ fn task_of<'a>(
             command,
             style,
             resync: matches.get_flag("resync"),
+            repeats: matches!(command, Command::Unique) && matches.get_flag("repeats"),
             limits: limits_of(matches),
             portion: Portion {
                 at: matches.get_one("at").unwrap_or(0),

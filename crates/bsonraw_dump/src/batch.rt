@@ -36,6 +36,8 @@ pub struct Job {
     pub limits: Limits,
     /// which documents of each are asked for
     pub portion: Portion,
+    /// whether documents that repeat the form of another are told
+    pub repeats: bool,
 }
 
 /// An input that wasn't read to its end.
@@ -71,21 +73,21 @@ pub struct Totals<'a> {
     /// what was read
     counts: Counts,
     /// what was written
-    kept: Kept,
+    kept: Kept<'a>,
     /// the first input that wasn't read to its end
     cut: Option<Cut<'a>>,
 }
 
 impl<'a> Totals<'a> {
     /// Nothing was read.
-    fn new(alloc: Global) -> Totals<'a>
+    fn new(alloc: Global, repeats: bool) -> Totals<'a>
         ensures counts { result.counts ≡ no_counts }
-        ensures kept { KeepsNothing result.kept }
+        ensures kept { KeepsNothing repeats result.kept }
         ensures cut { result.cut ≡ None }
     {
         Totals {
             counts: Counts::new(),
-            kept: Kept::new(alloc),
+            kept: Kept::new(alloc, repeats),
             cut: None,
         }
     }
@@ -118,7 +120,7 @@ pub fn run_all<'a, I: Inputs, D: Write, W: Write>(
     ensures { IsDone job (I.bytes_of inputs.now) (map (λ name. name.now) names.now) (D.contents out.old) (D.contents out.new)
         (W.contents report.old) (W.contents report.new) result }
 {
-    let mut totals = Totals::new(alloc);
+    let mut totals = Totals::new(alloc, job.repeats);
     match run_each(alloc, job, inputs, names, out, report, &mut totals) {
         Ok(()) => Done {
             status: status_of(job.command, totals.counts),

@@ -8,12 +8,14 @@ ghost use Rattle.json.specs.Token.{Token, begin_object, end_object, key, number,
 ghost use Rattle.json.specs.Written.{Written};
 ghost use Rattle.raw_form.specs.Barriers.{step_of};
 ghost use Rattle.bsonraw_dump.specs.Find.{account_of, explanation_of, spot_of};
-ghost use Rattle.bsonraw_dump.specs.Told.{all_members, ending_members, head_members, key_token, keys_members, members_of, number_member, number_token, numbers_members, object_line, reason_members, report_line, rest_members, spot_members, text_or_null, Grows};
+ghost use Rattle.bsonraw_dump.specs.Told.{all_members, ending_members, first_members, head_members, key_token, keys_members, members_of, number_member, number_token, numbers_members, object_line, reason_members, report_line, rest_members, spot_members, text_or_null, Grows};
+ghost use Rattle.bsonraw_dump.specs.Unique.{origin_of};
 ghost use Rattle.bsonraw_dump.specs.declared.ending.Rest.TheVariants.{PassedOver};
 ghost use Rattle.bsonraw_dump.specs.declared.style.Style.TheVariants.{Json};
 
 use crate::ending::{Ending, Rest};
 use crate::find::Told;
+use crate::kept::Origin;
 use crate::reason::Why;
 use crate::resync::Skip;
 use json::Writer;
@@ -181,6 +183,29 @@ pub fn told_object(
 {
     let mut object = placed(alloc, name, offset)?;
     put_told(&mut object, told)?;
+    ended(object)
+}
+
+/// Puts the members that tell of the first document of a form.
+fn put_first(object: &mut Writer, first: Origin<'_>) -> Result<(), AllocError>
+    ensures { OnOk result (Grows object.old object.new (first_members (origin_of first.entry))) }
+{
+    put_text(object, "finding", "repeat")?;
+    put_text(object, "first file", first.name)?;
+    put_number(object, "first offset", first.offset)
+}
+
+/// The line of a document that repeats the form of the first one.
+pub fn repeat_object(
+    alloc: Global,
+    origin: Origin<'_>,
+    first: Origin<'_>,
+) -> Result<Vec<u8>, AllocError>
+    ensures { IfOk result (λ text. text.items
+        ≡ object_line (head_members origin.entry.name.now origin.entry.offset ++ first_members (origin_of first.entry))) }
+{
+    let mut object = placed(alloc, origin.name, origin.offset)?;
+    put_first(&mut object, first)?;
     ended(object)
 }
 

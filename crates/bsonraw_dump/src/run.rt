@@ -13,9 +13,9 @@ ghost use Rattle.bsonraw_dump.specs.Halting.{IsMade, ListsFront, ReportsFront, H
 ghost use Rattle.bsonraw_dump.specs.Portion.{EndsPortion, HaltsPortion, PassesPortion};
 ghost use Rattle.bsonraw_dump.specs.Listing.{ListsDocument};
 ghost use Rattle.bsonraw_dump.specs.Find.{Account, account_of};
-ghost use Rattle.bsonraw_dump.specs.Unique.{CountsOne, knows, written_of};
+ghost use Rattle.bsonraw_dump.specs.Unique.{CountsOne, knows, origin_of, repeat_at, written_of};
 ghost use Rattle.bsonraw_dump.specs.Told.{ending_line, line, summary_line};
-ghost use Rattle.bsonraw_dump.specs.Run.{Emits, FailsAt, IsLeft, IsReading, Leaves, MayPassFront, MayPassOne, PassesGap, PassesNext, Reports, Writes, WritesNothing, head_text};
+ghost use Rattle.bsonraw_dump.specs.Run.{Emits, FailsAt, IsLeft, IsReading, Leaves, MayPassFront, MayPassOne, PassesGap, PassesNext, Puts, Reports, WritesNothing, head_text, lines_of_repeats};
 ghost use Rattle.bsonraw_dump.specs.Run as says;
 ghost use Rattle.raw_tree.specs.CanonicalForm.{IsCanonicalForm};
 ghost use Rattle.raw_view.specs.Frame.Envelope.{IsEnvelope};
@@ -28,14 +28,14 @@ use crate::counts::Counts;
 use crate::ending::{Ending, Rest};
 use crate::failure::{Failure, ReadFailure, in_range};
 use crate::find::{Finding, Found, Told, judged};
-use crate::kept::Kept;
+use crate::kept::{Added, Kept, Origin};
 use crate::listing::list_level;
-use crate::object::{ending_object, told_object};
+use crate::object::{ending_object, repeat_object, told_object};
 use crate::portion::Portion;
 use crate::resync::{is_doubted, pass_over};
 use crate::style::Style;
 use crate::summary::{summary, summary_object};
-use crate::text::{ending_words, line_of, sized, told_line};
+use crate::text::{ending_words, line_of, repeat_line, sized, told_line};
 use crate::window::{Drained, Next, Window, look_ahead};
 use crate::write::put;
 use bson_json::{Style as JsonStyle, WriteJsonError, write_json};
@@ -80,14 +80,14 @@ pub enum Stop {
 /// Reads an input, a document at a time, writes what the command gives of each, and reports in a line what is wrong with
 /// it. Where no document is in front of what is left, or a damaged one whose length isn't believed, bytes are passed over until
 /// documents go on, if that is asked for; else what is left is counted, and the run ends. Returns where reading fails, if it does.
-pub fn run<R: Read, D: Write, W: Write>(
+pub fn run<'a, R: Read, D: Write, W: Write>(
     alloc: Global,
-    asked: Asked<'_>,
+    asked: Asked<'a>,
     reader: &mut R,
     out: &mut D,
     report: &mut W,
     counts: &mut Counts,
-    kept: &mut Kept,
+    kept: &mut Kept<'a>,
 ) -> Result<Option<ReadFailure>, Failure>
     ensures ends { IfOk result (EndsPortion asked.entry.portion asked.entry.limits asked.entry.command asked.entry.style asked.entry.resync asked.entry.name.now (R.remaining reader.old) (R.remaining reader.new)
         (D.contents out.old) (D.contents out.new) (W.contents report.old) (W.contents report.new) counts.old counts.new kept.old kept.new) }
@@ -109,15 +109,15 @@ pub fn run<R: Read, D: Write, W: Write>(
 }
 
 /// Passes the documents of an input, and the bytes between them where that is asked for.
-fn pass_all<R: Read, D: Write, W: Write>(
+fn pass_all<'a, R: Read, D: Write, W: Write>(
     alloc: Global,
-    asked: Asked<'_>,
+    asked: Asked<'a>,
     reader: &mut R,
     window: &mut Window,
     out: &mut D,
     report: &mut W,
     counts: &mut Counts,
-    kept: &mut Kept,
+    kept: &mut Kept<'a>,
 ) -> Result<Stop, Failure>
     requires { IsWindow window.old × (ahead_of window.old ≡ []) × (window.old.offset ≡ 0) }
     ensures passed { IfOk result (PassesPortion asked.entry.portion asked.entry.limits asked.entry.command asked.entry.style asked.entry.resync asked.entry.name.now (R.remaining reader.old) (R.remaining reader.new)
@@ -234,16 +234,16 @@ fn failure_at(at: u64, error: Option<io::Error>) -> Option<ReadFailure>
 
 /// Looks what is next in an input, and passes it where it is a document. Where bytes may be passed over, a damaged document whose
 /// length isn't believed is none.
-fn pass_next<R: Read, D: Write, W: Write>(
+fn pass_next<'a, R: Read, D: Write, W: Write>(
     alloc: Global,
-    asked: Asked<'_>,
+    asked: Asked<'a>,
     reader: &mut R,
     window: &mut Window,
     work: &mut Work,
     out: &mut D,
     report: &mut W,
     counts: &mut Counts,
-    kept: &mut Kept,
+    kept: &mut Kept<'a>,
 ) -> Result<Next, Failure>
     requires { IsWindow window.old × IsWork work.old }
     ensures passed { IfOk result (PassesNext asked.entry.limits asked.entry.command asked.entry.style asked.entry.resync asked.entry.name.now (R.remaining reader.old) (R.remaining reader.new)
@@ -271,16 +271,16 @@ fn pass_next<R: Read, D: Write, W: Write>(
 
 /// Passes the document of so many bytes in front of the bytes ahead, and returns whether it did: one that may be damaged is passed
 /// where any is.
-fn pass_front<D: Write, W: Write>(
+fn pass_front<'a, D: Write, W: Write>(
     alloc: Global,
-    asked: Asked<'_>,
+    asked: Asked<'a>,
     any: bool,
     len: usize,
     window: &mut Window,
     out: &mut D,
     report: &mut W,
     counts: &mut Counts,
-    kept: &mut Kept,
+    kept: &mut Kept<'a>,
 ) -> Result<bool, Failure>
     requires { IsWindow window.old × (len ≤ length (ahead_of window.old)) × IsPiece asked.limits.bytes (take len (ahead_of window.old)) }
     ensures passed { IfOk result (MayPassFront asked.entry.limits any asked.entry.command asked.entry.style asked.entry.name.now len window.old window.new
@@ -328,15 +328,15 @@ fn pass_gap<R: Read, W: Write>(
 }
 
 /// Passes one document, and returns what is found in it; one that may be damaged only where any is passed.
-fn pass<D: Write, W: Write>(
+fn pass<'a, D: Write, W: Write>(
     alloc: Global,
-    asked: Asked<'_>,
+    asked: Asked<'a>,
     any: bool,
     offset: u64,
     bytes: &[u8],
     out: &mut D,
     report: &mut W,
-    kept: &mut Kept,
+    kept: &mut Kept<'a>,
 ) -> Result<Option<Finding>, Failure>
     requires { IsPiece asked.limits.bytes bytes.now }
     ensures passed { IfOk result (MayPassOne asked.entry.limits any asked.entry.command asked.entry.style asked.entry.name.now offset bytes.now
@@ -351,6 +351,10 @@ fn pass<D: Write, W: Write>(
         return Ok(None);
     }
     let finding = found.finding;
+    let at = Origin {
+        name: asked.name,
+        offset,
+    };
     report_found(
         alloc,
         asked.command,
@@ -361,7 +365,8 @@ fn pass<D: Write, W: Write>(
         &found,
         report,
     )?;
-    emit(alloc, asked.command, limits, finding, bytes, out, kept)?;
+    let first = emit(alloc, asked.command, limits, at, finding, bytes, out, kept)?;
+    put_repeat(alloc, asked.style, at, first, report)?;
     Ok(Some(finding))
 }
 
@@ -527,61 +532,93 @@ pub fn put_summary<W: Write>(
     put(report, &text)
 }
 
-/// Makes the command's document of one in which this was found, and writes it.
-fn emit<D: Write>(
+/// Writes the line of a document whose form came before, where there is a first one of that form.
+fn put_repeat<W: Write>(
+    alloc: Global,
+    style: Style,
+    origin: Origin<'_>,
+    first: Option<Origin<'_>>,
+    report: &mut W,
+) -> Result<(), Failure>
+    ensures written { OnOk result (Appends (W.contents report.old) (W.contents report.new)
+        (lines_of_repeats style (repeat_at (origin_of origin.entry) (option_map origin_of first.entry)))) }
+    ensures front { OnErr result (AppendsFront (W.contents report.old) (W.contents report.new)
+        (lines_of_repeats style (repeat_at (origin_of origin.entry) (option_map origin_of first.entry)))) }
+    ensures failed { IfErr result (λ failure. ¬ IsReading failure) }
+{
+    let Some(first) = first else {
+        return put(report, b"");
+    };
+    let text = match style {
+        Style::Words => repeat_line(alloc, origin, first)?,
+        Style::Json => repeat_object(alloc, origin, first)?,
+        Style::Quiet => Vec::new(alloc),
+    };
+    put(report, &text)
+}
+
+/// Makes the command's document of one at this place in which this was found, and writes it. Returns the place of the first document
+/// of its form, if one came before.
+fn emit<'a, D: Write>(
     alloc: Global,
     command: Command,
     limits: Limits,
+    origin: Origin<'a>,
     finding: Finding,
     bytes: &[u8],
     out: &mut D,
-    kept: &mut Kept,
-) -> Result<(), Failure>
+    kept: &mut Kept<'a>,
+) -> Result<Option<Origin<'a>>, Failure>
     requires { (told : Option Account) × Judges limits command bytes.now finding told }
-    ensures written { OnOk result
-        (Emits command bytes.now finding (D.contents out.old) (D.contents out.new) kept.old kept.new) }
+    ensures written { IfOk result
+        (Emits command origin.entry bytes.now finding (D.contents out.old) (D.contents out.new) kept.old kept.new) }
     ensures front { OnErr result (WritesFront (IsMade command bytes.now finding kept.old) (D.contents out.old) (D.contents out.new)) }
     ensures failed { IfErr result (λ failure. ¬ IsReading failure) }
 {
     match (command, finding) {
         (Command::Check | Command::List | Command::Count, _)
-        | (_, Finding::Damaged | Finding::TooDeep | Finding::Unjudged) => put(out, b""),
-        (Command::Sound, Finding::Canonical | Finding::Breached) => put_document(
-            command, bytes, out, kept,
-        ),
-        (Command::Canon | Command::Unique, Finding::Canonical) => put_document(
-            command, bytes, out, kept,
-        ),
+        | (_, Finding::Damaged | Finding::TooDeep | Finding::Unjudged) => {
+            put(out, b"")?;
+            Ok(None)
+        }
+        (Command::Sound, Finding::Canonical | Finding::Breached) => {
+            put_document(command, origin, bytes, out, kept)
+        }
+        (Command::Canon | Command::Unique, Finding::Canonical) => {
+            put_document(command, origin, bytes, out, kept)
+        }
         (Command::Canon, Finding::Breached) => {
-            put_form(alloc, Command::Canon, limits, bytes, out, kept)
+            put_form(alloc, Command::Canon, limits, origin, bytes, out, kept)
         }
         (Command::Unique, Finding::Breached) => {
-            put_form(alloc, Command::Unique, limits, bytes, out, kept)
+            put_form(alloc, Command::Unique, limits, origin, bytes, out, kept)
         }
         (Command::Json(style), Finding::Canonical | Finding::Breached) => {
-            put_json(alloc, style, limits, bytes, out, kept)
+            put_json(alloc, style, limits, bytes, out, kept)?;
+            Ok(None)
         }
     }
 }
 
 /// Writes the canonical form of a document. The one that is over the range of lengths counts as one without memory.
-fn put_form<D: Write>(
+fn put_form<'a, D: Write>(
     alloc: Global,
     command: Command,
     limits: Limits,
+    origin: Origin<'a>,
     bytes: &[u8],
     out: &mut D,
-    kept: &mut Kept,
-) -> Result<(), Failure>
-    ensures written { OnOk result ((form : List ℕ) × IsCanonicalForm bytes.now form
-        × Writes command (form ∷ []) (D.contents out.old) (D.contents out.new) kept.old kept.new) }
+    kept: &mut Kept<'a>,
+) -> Result<Option<Origin<'a>>, Failure>
+    ensures written { IfOk result (λ first. (form : List ℕ) × IsCanonicalForm bytes.now form
+        × Puts command origin.entry (form ∷ []) (D.contents out.old) (D.contents out.new) kept.old kept.new first) }
     ensures front { OnErr result (WritesFront
         (λ text. (form : List ℕ) × IsCanonicalForm bytes.now form × (text ≡ written_of command (knows kept.old) (form ∷ [])))
         (D.contents out.old) (D.contents out.new)) }
     ensures failed { IfErr result (λ failure. ¬ IsReading failure) }
 {
     match canonical_within(alloc, bytes, limits) {
-        Ok(form) => put_document(command, &form, out, kept),
+        Ok(form) => put_document(command, origin, &form, out, kept),
         Err(_) => Err(Failure::Memory),
     }
 }
@@ -593,7 +630,7 @@ fn put_json<D: Write>(
     limits: Limits,
     bytes: &[u8],
     out: &mut D,
-    kept: &mut Kept,
+    kept: &mut Kept<'_>,
 ) -> Result<(), Failure>
     requires { IsEnvelope bytes.now }
     ensures written { OnOk result ((text : List ℕ) × IsJson style bytes.now text
@@ -612,31 +649,36 @@ fn put_json<D: Write>(
     }
 }
 
-/// Writes a document that the command makes: of `unique` where its digest is new.
-fn put_document<D: Write>(
+/// Writes a document that the command makes of one at this place: of `unique` where its digest is new. Returns the place of the first
+/// document with its digest, if one came before.
+fn put_document<'a, D: Write>(
     command: Command,
+    origin: Origin<'a>,
     document: &[u8],
     out: &mut D,
-    kept: &mut Kept,
-) -> Result<(), Failure>
-    ensures written { OnOk result
-        (Writes command (document.now ∷ []) (D.contents out.old) (D.contents out.new) kept.old kept.new) }
+    kept: &mut Kept<'a>,
+) -> Result<Option<Origin<'a>>, Failure>
+    ensures written { IfOk result
+        (Puts command origin.entry (document.now ∷ []) (D.contents out.old) (D.contents out.new) kept.old kept.new) }
     ensures front { OnErr result (AppendsFront (D.contents out.old) (D.contents out.new) (written_of command (knows kept.old) (document.now ∷ []))) }
     ensures failed { IfErr result (λ failure. ¬ IsReading failure) }
 {
     match command {
-        Command::Unique => put_new(document, out, kept),
+        Command::Unique => put_new(origin, document, out, kept),
         Command::Check
         | Command::List
         | Command::Count
         | Command::Canon
         | Command::Sound
-        | Command::Json(_) => put_one(document, out, kept),
+        | Command::Json(_) => {
+            put_one(document, out, kept)?;
+            Ok(None)
+        }
     }
 }
 
 /// Writes these bytes, with which a document more is written.
-fn put_one<D: Write>(bytes: &[u8], out: &mut D, kept: &mut Kept) -> Result<(), Failure>
+fn put_one<D: Write>(bytes: &[u8], out: &mut D, kept: &mut Kept<'_>) -> Result<(), Failure>
     ensures written { OnOk result
         (Appends (D.contents out.old) (D.contents out.new) bytes.now × CountsOne kept.old kept.new) }
     ensures front { OnErr result (AppendsFront (D.contents out.old) (D.contents out.new) bytes.now) }
@@ -646,16 +688,26 @@ fn put_one<D: Write>(bytes: &[u8], out: &mut D, kept: &mut Kept) -> Result<(), F
     kept.count_one()
 }
 
-/// Writes a document whose digest is new, which is known then.
-fn put_new<D: Write>(document: &[u8], out: &mut D, kept: &mut Kept) -> Result<(), Failure>
-    ensures written { OnOk result
-        (Writes Unique (document.now ∷ []) (D.contents out.old) (D.contents out.new) kept.old kept.new) }
+/// Writes a document whose digest is new, which is known then. Of another it returns the place of the first with its digest.
+fn put_new<'a, D: Write>(
+    origin: Origin<'a>,
+    document: &[u8],
+    out: &mut D,
+    kept: &mut Kept<'a>,
+) -> Result<Option<Origin<'a>>, Failure>
+    ensures written { IfOk result
+        (Puts Unique origin.entry (document.now ∷ []) (D.contents out.old) (D.contents out.new) kept.old kept.new) }
     ensures front { OnErr result (AppendsFront (D.contents out.old) (D.contents out.new) (written_of Unique (knows kept.old) (document.now ∷ []))) }
     ensures failed { IfErr result (λ failure. ¬ IsReading failure) }
 {
-    if kept.add(document)? {
-        put_one(document, out, kept)
-    } else {
-        put(out, b"")
+    match kept.add(origin, document)? {
+        Added::New => {
+            put_one(document, out, kept)?;
+            Ok(None)
+        }
+        Added::Repeat(first) => {
+            put(out, b"")?;
+            Ok(first)
+        }
     }
 }

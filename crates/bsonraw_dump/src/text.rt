@@ -7,12 +7,14 @@ ghost use Rattle.std.specs.Option.{option_map};
 ghost use Rattle.json.specs.Print.{quoted};
 ghost use Rattle.raw_form.specs.Barriers.{step_of};
 ghost use Rattle.bsonraw_dump.specs.Find.{account_of, explanation_of, explanation_text, spot_of};
-ghost use Rattle.bsonraw_dump.specs.Told.{all_text, ending_text, line, path_text, rest_text, spot_text, step_text};
+ghost use Rattle.bsonraw_dump.specs.Told.{all_text, ending_text, first_text, line, path_text, rest_text, spot_text, step_text};
 ghost use Rattle.bsonraw_dump.specs.Told as says;
 ghost use Rattle.bsonraw_dump.specs.Run.{head_text};
+ghost use Rattle.bsonraw_dump.specs.Unique.{origin_of};
 
 use crate::ending::{Ending, Rest};
 use crate::find::Told;
+use crate::kept::Origin;
 use crate::reason::Why;
 use itoa::Buffer;
 use json::Writer;
@@ -155,6 +157,29 @@ pub fn told_line(
 {
     let words = words_of(alloc, told)?;
     line_of(alloc, name, offset, &words)
+}
+
+/// The line of a document that repeats the form of the first one.
+pub fn repeat_line(
+    alloc: Global,
+    origin: Origin<'_>,
+    first: Origin<'_>,
+) -> Result<Vec<u8>, AllocError>
+    ensures { IfOk result (λ text. text.items ≡ line origin.entry.name.now origin.entry.offset (first_text (origin_of first.entry))) }
+{
+    let words = first_words(alloc, first)?;
+    line_of(alloc, origin.name, origin.offset, &words)
+}
+
+fn first_words(alloc: Global, first: Origin<'_>) -> Result<Vec<u8>, AllocError>
+    ensures { IfOk result (λ text. text.items ≡ first_text (origin_of first.entry)) }
+{
+    let mut text = Vec::new(alloc);
+    push_words(&mut text, "repeats ")?;
+    text.extend_from_slice(&quotation(alloc, first.name)?)?;
+    push_words(&mut text, ":")?;
+    push_number(&mut text, first.offset)?;
+    Ok(text)
 }
 
 /// A line of a report.

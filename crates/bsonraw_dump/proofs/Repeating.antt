@@ -1,0 +1,81 @@
+-- How the places of documents grow by one more, and the repeats among them.
+use Rattle.std.proofs.Common.{◌≡◌, ℕ, List, [], ◌∷◌, ◌++◌, Option, ap, append_assoc, fold, inr, refl, sym, ◌∙◌}
+use Rattle.std.proofs.KnownBytes.{Appends-trans}
+use Rattle.std.proofs.lemmas.Grind.{fold-append}
+use Rattle.std.specs.Io.KnownBytes.{Appends}
+use Rattle.std.specs.Option.{option_map}
+use Rattle.bson_json.specs.Written.{AppendsFront}
+use Rattle.raw_tree.specs.declared.reader.limits.Limits.{Limits}
+use Rattle.bsonraw_dump.specs.Find.{Account, Judges}
+use Rattle.bsonraw_dump.specs.Halting.{HaltsInside}
+use Rattle.bsonraw_dump.specs.Run.{Emits, PassesOne, Reports, lines_of_repeats}
+use Rattle.bsonraw_dump.specs.Unique.{Firsts, Placed, first_at, firsts_behind, origin_of, repeat_at, repeats, repeats_of, with_first}
+use Rattle.bsonraw_dump.specs.declared.command.Command.{Command}
+use Rattle.bsonraw_dump.specs.declared.command.Command.TheVariants as command
+use Rattle.bsonraw_dump.specs.declared.find.Finding.{Finding}
+use Rattle.bsonraw_dump.specs.declared.kept.Kept.{Kept}
+use Rattle.bsonraw_dump.specs.declared.kept.Origin.{Origin}
+use Rattle.bsonraw_dump.specs.declared.style.Style.{Style}
+
+pub firsts_none : (c : Command) (f : Firsts) → firsts_behind c f [] ≡ f
+firsts_none command.Check f = refl
+firsts_none command.List f = refl
+firsts_none command.Count f = refl
+firsts_none command.Canon f = refl
+firsts_none command.Sound f = refl
+firsts_none command.Unique f = refl
+firsts_none (command.Json style) f = refl
+
+pub repeats_none : (c : Command) (f : Firsts) → repeats_of c f [] ≡ []
+repeats_none command.Check f = refl
+repeats_none command.List f = refl
+repeats_none command.Count f = refl
+repeats_none command.Canon f = refl
+repeats_none command.Sound f = refl
+repeats_none command.Unique f = refl
+repeats_none (command.Json style) f = refl
+
+pub firsts_more : (c : Command) (f : Firsts) (xs ys : List Placed) → firsts_behind c f (xs ++ ys) ≡ firsts_behind c (firsts_behind c f xs) ys
+firsts_more command.Check f xs ys = refl
+firsts_more command.List f xs ys = refl
+firsts_more command.Count f xs ys = refl
+firsts_more command.Canon f xs ys = refl
+firsts_more command.Sound f xs ys = refl
+firsts_more command.Unique f xs ys = fold-append with_first f xs ys
+firsts_more (command.Json style) f xs ys = refl
+
+repeats-append : (f : Firsts) (xs ys : List Placed) → repeats f (xs ++ ys) ≡ repeats f xs ++ repeats (fold with_first f xs) ys
+repeats-append f [] ys = refl
+repeats-append f (x ∷ xs) ys =
+    let here = repeat_at x.place (first_at f x.form) in
+    let next = with_first f x in
+    ap (λ l. here ++ l) (repeats-append next xs ys) ∙ sym (append_assoc here (repeats next xs) (repeats (fold with_first next xs) ys))
+
+pub repeats_more : (c : Command) (f : Firsts) (xs ys : List Placed) → repeats_of c f (xs ++ ys) ≡ repeats_of c f xs ++ repeats_of c (firsts_behind c f xs) ys
+repeats_more command.Check f xs ys = refl
+repeats_more command.List f xs ys = refl
+repeats_more command.Count f xs ys = refl
+repeats_more command.Canon f xs ys = refl
+repeats_more command.Sound f xs ys = refl
+repeats_more command.Unique f xs ys = repeats-append f xs ys
+repeats_more (command.Json style) f xs ys = refl
+
+module _ (c : Command) (style : Style) (at : Origin) (b : List ℕ) (f : Finding) (told : Option Account) (d d' w w' w'' : Option (List ℕ)) (k k' : Kept) (first : Option Origin) where
+  -- the line of a repeat, if the document at this place is one
+  abbrev pub line_of_repeat : List ℕ
+  line_of_repeat = lines_of_repeats style (repeat_at (origin_of at) (option_map origin_of first))
+
+  abbrev pub IsReported : Type 0
+  IsReported = (lines : List ℕ) × Reports c style at.name.now at.offset b f told lines × Appends w w' lines
+
+  -- what is found is reported, then a document is written, then its line
+  pub passes_one : (limits : Limits) → Judges limits c b f told → IsReported → Emits c at b f d d' k k' first → Appends w' w'' line_of_repeat
+      → PassesOne limits c style at.name.now at.offset b d d' w w'' k k' f
+  passes_one limits judged (lines, reports, put) (made, makes, (writes, places)) repeated =
+      (told, judged, (made, makes, writes, (option_map origin_of first, places, (lines, reports, Appends-trans w w' w'' lines line_of_repeat put repeated))))
+
+  -- or a front of that
+  pub halts_repeat : IsReported → Emits c at b f d d' k k' first → AppendsFront w' w'' line_of_repeat → HaltsInside c style at.name.now at.offset b f told k d d' w w''
+  halts_repeat (lines, reports, put) (made, makes, (writes, places)) front =
+      let whole = sym (ap (lines_of_repeats style) places.repeats) ∙ front.whole in
+      inr (inr (made, makes, writes.is_written, (lines, front.front, reports, (front.behind, whole), Appends-trans w w' w'' lines front.front put front.put)))
