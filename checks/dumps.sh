@@ -502,11 +502,11 @@ wants '"key":0: 11 bytes: damaged at /0:"\n\"\\", byte 4: a boolean is neither 0
   "\n\"\\": Boolean, damaged: a boolean is neither 0 nor 1: 2
 '
 run 'a key with a newline, listed' 1 list key
-"$program" list levels501 2>err | tail -n 1 >out
+(ulimit -s 256 && "$program" list levels501) 2>err | tail -n 1 >out
 printf '%1000stoo deep\n' '' | sed 's/^/  /' >wanted.out
 : >wanted.err
 status=$?
-tried 'a level that is too deep, listed' 0
+tried 'a level that is too deep, listed on a stack of 256 KiB' 0
 "$program" list million >out 2>err
 status=$?
 [ "$status" = 0 ] && [ "$(wc -l <out)" = 2000000 ] || { echo "dumps.sh: a million documents, listed" >&2 && failed=1; }

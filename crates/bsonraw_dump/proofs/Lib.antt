@@ -7,6 +7,7 @@ mod Deciding
 mod Digesting
 mod Repeating
 mod Writing
+mod Levels
 mod Listed
 mod Passing
 mod Stopping

@@ -1,23 +1,27 @@
 -- The elements of every level of a document, a line each, indented. The bytes b of a document, or of an array, have an
 -- envelope.
-use Rattle.std.specs.Prelude.{◌≡◌, ◌⊎◌, ◌*◌, ◌+◌, ℕ, suc, zero, List, [], ◌∷◌, ◌++◌, Option, None, Some, codes, drop, replicate}
-use Rattle.std.specs.Io.KnownBytes.{Appends}
+use Rattle.std.specs.Prelude.{◌≡◌, ◌⊎◌, ◌*◌, ◌+◌, ℕ, suc, zero, List, [], ◌∷◌, ◌++◌, Option, None, Some, Ok, Err, codes, drop, replicate}
 use Rattle.std.specs.Option.{option_copied}
 use Rattle.json.specs.Print.{quoted}
 use Rattle.raw_form.specs.Looking.{HoldsBytes}
 use Rattle.raw_view.specs.Frame.Envelope.{IsEnvelope, Refuses}
 use Rattle.raw_view.specs.Errors.{IsReadingKind, SaysFault}
 use Rattle.raw_view.specs.Frame.{Frame, IsFrame, IsStop, IsWalk, LeadsTo, Fault, End, Done, Stopped}
+use Rattle.raw_view.specs.Frame.ElementSteps.{frame_of}
+use Rattle.raw_view.specs.Frame.Front.{StepsFront}
 use Rattle.raw_view.specs.Frame.Kind.{kind_text}
 use Rattle.raw_view.specs.Meaning.{RawValue, KeyedFault, Means, value, faulty}
 use Rattle.raw_view.specs.Meaning as raw
 use Rattle.raw_view.specs.declared.document.RawDocument.{RawDocument}
+use Rattle.raw_view.specs.declared.element.RawElement.{RawElement}
 use Rattle.raw_view.specs.declared.error.BorrowedError.{BorrowedError}
 use Rattle.raw_view.specs.declared.error.ErrorKind.{ErrorKind}
 use Rattle.raw_view.specs.declared.error.Reason.{Reason}
 use Rattle.bsonraw_dump.specs.Find as find
-use Rattle.bsonraw_dump.specs.Fronts.{HasFront, WritesFront}
+use Rattle.bsonraw_dump.specs.Fronts.{HasFront}
 use Rattle.bsonraw_dump.specs.Values.{ShowsValue}
+use Rattle.bsonraw_dump.specs.declared.listing.Next.{Next}
+use Rattle.bsonraw_dump.specs.declared.listing.Next.TheVariants as next
 
 -- a line in a level that so many others are around: two spaces for each level
 abbrev pub indented : ℕ → List ℕ → List ℕ
@@ -92,29 +96,23 @@ HasLinesFront (suc n) depth b text =
 abbrev pub HasListingFront : List ℕ → List ℕ → Type 0
 HasListingFront b text = (text ≡ []) ⊎ (IsEnvelope b × HasLinesFront 500 1 b text)
 
--- What the code of a level tells. No public contract cites what follows.
+-- What the code tells of a line. No public contract cites what follows.
 
--- the line of a frame is written: that of its value, which holds these nested bytes or none; or that of its fault
-abbrev pub PutsElement : ℕ → Frame → (old new : Option (List ℕ)) → Option RawDocument → Type 0
-PutsElement depth f old new inner =
-    ((v : RawValue) × (shown : List ℕ) × Means f (value v) × ShowsValue v shown × HoldsBytes v inner × Appends old new (element_line depth f.key shown))
+-- this is the line of a frame, without those of what is inside: that of its value, which holds these nested bytes or none; or that of its fault
+abbrev pub TellsElement : ℕ → Frame → List ℕ → Option RawDocument → Type 0
+TellsElement depth f line inner =
+    ((v : RawValue) × (shown : List ℕ) × Means f (value v) × ShowsValue v shown × HoldsBytes v inner × (line ≡ element_line depth f.key shown))
     ⊎ ((fault : KeyedFault) × (shown : List ℕ) × Means f (faulty fault) × ShowsFault fault.fault shown × (inner ≡ None)
-    × Appends old new (element_line depth f.key (kind_text f.kind ++ codes ", " ++ shown)))
-
--- the line of a stop with this error is written
-abbrev pub PutsStop : ℕ → BorrowedError → (old new : Option (List ℕ)) → Type 0
-PutsStop depth e old new = IsReadingKind e.kind × Appends old new (stop_line depth (option_copied e.key) (codes "damaged: " ++ find.kind_text e.kind))
-
--- this is the line of a frame, without those of what is inside
-abbrev pub IsElementLine : ℕ → Frame → List ℕ → Type 0
-IsElementLine depth f text =
-    ((v : RawValue) × (shown : List ℕ) × Means f (value v) × ShowsValue v shown × (text ≡ element_line depth f.key shown))
-    ⊎ ((fault : KeyedFault) × (shown : List ℕ) × Means f (faulty fault) × ShowsFault fault.fault shown × (text ≡ element_line depth f.key (kind_text f.kind ++ codes ", " ++ shown)))
-
--- a front of the line of a frame is written, or nothing
-abbrev pub PutsElementFront : ℕ → Frame → (old new : Option (List ℕ)) → Type 0
-PutsElementFront depth f old new = WritesFront (IsElementLine depth f) old new
+    × (line ≡ element_line depth f.key (kind_text f.kind ++ codes ", " ++ shown)))
 
 -- this is the line of a stop with this error
-abbrev pub IsStopLine : ℕ → BorrowedError → List ℕ → Type 0
-IsStopLine depth e text = IsReadingKind e.kind × (text ≡ stop_line depth (option_copied e.key) (codes "damaged: " ++ find.kind_text e.kind))
+abbrev pub TellsStop : ℕ → BorrowedError → List ℕ → Type 0
+TellsStop depth e line = IsReadingKind e.kind × (line ≡ stop_line depth (option_copied e.key) (codes "damaged: " ++ find.kind_text e.kind))
+
+-- What a step over a level tells: its end; or the line of the element or of the stop that was there, and the level that its value holds
+abbrev pub ListsNext : ℕ → (old new : Option (List ℕ)) → List ℕ → Next → Type 0
+ListsNext depth old new line next.End = StepsFront old None new
+ListsNext depth old new line next.Line =
+    ((e : RawElement) × StepsFront old (Some (Ok e)) new × TellsElement depth (frame_of e) line None)
+    ⊎ ((e : BorrowedError) × StepsFront old (Some (Err e)) new × TellsStop depth e line)
+ListsNext depth old new line (next.Inside inner) = (e : RawElement) × StepsFront old (Some (Ok e)) new × TellsElement depth (frame_of e) line (Some inner)

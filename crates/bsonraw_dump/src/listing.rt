@@ -1,94 +1,152 @@
 //! Writes the elements of every level of a document, a line each.
 #![tactic(auto)]
 
-ghost use Rattle.std.specs.Prelude.{◌≡◌, ◌+◌, ◌*◌, ◌<◌, ◌^◌, ◌++◌, ℕ, List, codes, replicate, IfErr, IfOk, OnErr, OnOk};
+ghost use Rattle.std.specs.Prelude.{◌≡◌, ◌*◌, ◌<◌, ◌^◌, ◌∷◌, [], ◌++◌, ℕ, List, Some, codes, drop, replicate, IfErr, IfOk, OnErr, OnOk};
 ghost use Rattle.std.specs.Io.KnownBytes.{Appends};
 ghost use Rattle.json.specs.Print.{quoted};
 ghost use Rattle.raw_form.specs.Looking.{HoldsBytes};
 ghost use Rattle.raw_view.specs.Document.{bytes_of};
 ghost use Rattle.raw_view.specs.Frame.ElementSteps.{frame_of};
-ghost use Rattle.raw_view.specs.Meaning.Value.{value_of};
-ghost use Rattle.bson_json.specs.Written.{AppendsFront};
-ghost use Rattle.bsonraw_dump.specs.Fronts.{WritesFront};
-ghost use Rattle.bsonraw_dump.specs.Listing.{element_line, indented, HasLinesFront, IsStopLine, Lists, PutsElement, PutsElementFront, PutsStop};
-ghost use Rattle.bsonraw_dump.specs.Values.{ShowsValue};
 ghost use Rattle.raw_view.specs.Frame.Kind.{kind_text};
+ghost use Rattle.raw_view.specs.Meaning.Value.{value_of};
 ghost use Rattle.bsonraw_dump.specs.Find as find;
+ghost use Rattle.bsonraw_dump.specs.Listing.{indented, HasLinesFront, Lists, ListsNext, TellsElement, TellsStop};
+ghost use Rattle.bsonraw_dump.specs.Listing as says;
 ghost use Rattle.bsonraw_dump.specs.Run.{IsReading};
+ghost use Rattle.bsonraw_dump.specs.Values.{ShowsValue};
 
 use crate::failure::Failure;
 use crate::reason::kind_of;
-use crate::text::{push_why, push_words, quotation};
+use crate::text::{push_quoted, push_why, push_words};
 use crate::value::{push_kind, push_value};
 use crate::write::put;
 use raw_view::{BorrowedError, Elements, RawBsonRef, RawDocument, RawElement};
 use std::alloc::{AllocError, Global};
 use std::io::Write;
+use std::mem;
 
-/// Writes the lines of a level that so many others are around, and of those inside; at most so many levels are listed.
-pub fn list_level<W: Write>(
+/// So many levels are listed, the document among them.
+const LEVELS: usize = 500;
+
+/// What comes next in a level.
+#[derive(Clone, Copy)]
+enum Next<'a> {
+    /// its end
+    End,
+    /// a line
+    Line,
+    /// a line, and the level that its value holds
+    Inside(RawDocument<'a>),
+}
+
+/// Writes the lines of a document and of the levels inside it, each line made in the same memory. The levels around the
+/// innermost one wait in memory, too, so that no document fills the stack.
+pub fn list_levels<W: Write>(
     alloc: Global,
     document: RawDocument<'_>,
-    inside: usize,
-    depth: usize,
     out: &mut W,
 ) -> Result<(), Failure>
-    requires { inside + depth < 2 ^ 32 }
-    ensures listed { OnOk result ((text : List ℕ) × Lists inside depth (bytes_of document.entry) text
+    ensures listed { OnOk result ((text : List ℕ) × Lists 500 1 (bytes_of document.entry) text
         × Appends (W.contents out.old) (W.contents out.new) text) }
-    ensures front { OnErr result ((text : List ℕ) × HasLinesFront inside depth (bytes_of document.entry) text
+    ensures front { OnErr result ((text : List ℕ) × HasLinesFront 500 1 (bytes_of document.entry) text
         × Appends (W.contents out.old) (W.contents out.new) text) }
     ensures failed { IfErr result (λ failure. ¬ IsReading failure) }
 {
-    let Some(deeper) = inside.checked_sub(1) else {
-        return put_deep(alloc, depth, out);
-    };
-    let mut elements = Elements::new(document);
-    'elements: loop {
-        match elements.next() {
-            None => return Ok(()),
-            Some(Err(error)) => return put_stop(alloc, depth, &error, out),
-            Some(Ok(element)) => {
-                if let Some(inner) = put_element(alloc, depth, element, out)? {
-                    list_level(alloc, inner, deeper, depth + 1, out)?;
+    let mut waiting: Vec<Elements<'_>> = Vec::new(alloc);
+    let mut line: Vec<u8> = Vec::new(alloc);
+    let mut level = Elements::new(document);
+    'levels: loop {
+        let depth = waiting.len() + 1;
+        match next_line(alloc, depth, &mut level, &mut line)? {
+            Next::End => {
+                let Some(outer) = waiting.pop() else {
+                    return Ok(());
+                };
+                level = outer;
+            }
+            Next::Line => put(out, &line)?,
+            Next::Inside(inner) => {
+                put(out, &line)?;
+                if depth == LEVELS {
+                    deep_line(depth + 1, &mut line)?;
+                    put(out, &line)?;
+                } else {
+                    enter(inner, &mut level, &mut waiting)?;
                 }
             }
         }
     }
 }
 
-/// Two spaces for each level around.
-fn indent(alloc: Global, depth: usize) -> Result<Vec<u8>, AllocError>
-    requires { depth < 2 ^ 32 }
-    ensures { IfOk result (λ text. text.items ≡ replicate (2 * depth) 32) }
+/// Lets a level wait, and goes into one inside it.
+fn enter<'a>(
+    inner: RawDocument<'a>,
+    level: &mut Elements<'a>,
+    waiting: &mut Vec<Elements<'a>>,
+) -> Result<(), AllocError>
+    ensures waits { OnOk result (waiting.new.items ≡ waiting.old.items ++ level.old ∷ []) }
+    ensures inside { OnOk result (level.new ≡ Some (drop 4 (bytes_of inner.entry))) }
 {
-    vec![in alloc; b' '; 2 * depth]
+    let outer = mem::replace(level, Elements::new(inner));
+    waiting.push(outer)?;
+    Ok(())
 }
 
-/// Writes that a level is too deep.
-fn put_deep<W: Write>(alloc: Global, depth: usize, out: &mut W) -> Result<(), Failure>
+/// Makes the line of what comes next in a level.
+fn next_line<'a>(
+    alloc: Global,
+    depth: usize,
+    level: &mut Elements<'a>,
+    line: &mut Vec<u8>,
+) -> Result<Next<'a>, AllocError>
     requires { depth < 2 ^ 32 }
-    ensures put { OnOk result
-        (Appends (W.contents out.old) (W.contents out.new) (indented depth (codes "too deep"))) }
-    ensures front { OnErr result
-        (AppendsFront (W.contents out.old) (W.contents out.new) (indented depth (codes "too deep"))) }
-    ensures failed { IfErr result (λ failure. ¬ IsReading failure) }
+    ensures { IfOk result (ListsNext depth level.old level.new line.new.items) }
 {
-    let mut text = indent(alloc, depth)?;
-    push_words(&mut text, "too deep\n")?;
-    put(out, &text)
+    match level.next() {
+        None => Ok(Next::End),
+        Some(Err(error)) => {
+            stop_line(alloc, depth, &error, line)?;
+            Ok(Next::Line)
+        }
+        Some(Ok(element)) => match element_line(alloc, depth, element, line)? {
+            None => Ok(Next::Line),
+            Some(inner) => Ok(Next::Inside(inner)),
+        },
+    }
 }
 
-/// What a line begins with: spaces, the key in quotes, and a colon.
-fn head(alloc: Global, depth: usize, key: &str) -> Result<Vec<u8>, AllocError>
+/// Begins a line: two spaces for each level around.
+fn begin(depth: usize, line: &mut Vec<u8>) -> Result<(), AllocError>
     requires { depth < 2 ^ 32 }
-    ensures { IfOk result
-        (λ text. text.items ≡ replicate (2 * depth) 32 ++ (quoted key.now ++ codes ": ")) }
+    ensures { OnOk result (line.new.items ≡ replicate (2 * depth) 32) }
 {
-    let mut text = indent(alloc, depth)?;
-    text.extend_from_slice(&quotation(alloc, key)?)?;
-    push_words(&mut text, ": ")?;
-    Ok(text)
+    line.clear();
+    line.resize(2 * depth, b' ')
+}
+
+/// Begins the line of an element: spaces, the key in quotes, and a colon.
+fn begin_element(
+    alloc: Global,
+    depth: usize,
+    key: &str,
+    line: &mut Vec<u8>,
+) -> Result<(), AllocError>
+    requires { depth < 2 ^ 32 }
+    ensures { OnOk result
+        (line.new.items ≡ replicate (2 * depth) 32 ++ (quoted key.now ++ codes ": ")) }
+{
+    begin(depth, line)?;
+    push_quoted(alloc, line, key)?;
+    push_words(line, ": ")
+}
+
+/// Makes the line of a level that is too deep.
+fn deep_line(depth: usize, line: &mut Vec<u8>) -> Result<(), AllocError>
+    requires { depth < 2 ^ 32 }
+    ensures { OnOk result (line.new.items ≡ indented depth (codes "too deep")) }
+{
+    begin(depth, line)?;
+    push_words(line, "too deep\n")
 }
 
 /// Puts the reason of a fault behind the text.
@@ -100,95 +158,80 @@ fn push_fault(text: &mut Vec<u8>, error: &BorrowedError<'_>) -> Result<(), Alloc
     push_why(text, kind_of(&error.kind))
 }
 
-/// Writes the line of a stop.
-fn put_stop<W: Write>(
+/// Makes the line of a stop.
+fn stop_line(
     alloc: Global,
     depth: usize,
     error: &BorrowedError<'_>,
-    out: &mut W,
-) -> Result<(), Failure>
+    line: &mut Vec<u8>,
+) -> Result<(), AllocError>
     requires { depth < 2 ^ 32 }
-    ensures put { OnOk result
-        (PutsStop depth error.now (W.contents out.old) (W.contents out.new)) }
-    ensures front { OnErr result (WritesFront (IsStopLine depth error.now) (W.contents out.old) (W.contents out.new)) }
-    ensures failed { IfErr result (λ failure. ¬ IsReading failure) }
+    ensures { OnOk result (TellsStop depth error.now line.new.items) }
 {
-    let mut text = match error.key {
-        Some(key) => head(alloc, depth, key)?,
-        None => indent(alloc, depth)?,
-    };
-    push_fault(&mut text, error)?;
-    push_words(&mut text, "\n")?;
-    put(out, &text)
+    match error.key {
+        Some(key) => begin_element(alloc, depth, key, line)?,
+        None => begin(depth, line)?,
+    }
+    push_fault(line, error)?;
+    push_words(line, "\n")
 }
 
-/// Writes the line of an element, and returns the level that its value holds, if it holds one.
-fn put_element<'a, W: Write>(
+/// Makes the line of an element, and returns the level that its value holds, if it holds one.
+fn element_line<'a>(
     alloc: Global,
     depth: usize,
     element: RawElement<'a>,
-    out: &mut W,
-) -> Result<Option<RawDocument<'a>>, Failure>
+    line: &mut Vec<u8>,
+) -> Result<Option<RawDocument<'a>>, AllocError>
     requires { depth < 2 ^ 32 }
-    ensures put { IfOk result
-        (PutsElement depth (frame_of element.entry) (W.contents out.old) (W.contents out.new)) }
-    ensures front { OnErr result (PutsElementFront depth (frame_of element.entry) (W.contents out.old) (W.contents out.new)) }
-    ensures failed { IfErr result (λ failure. ¬ IsReading failure) }
+    ensures { IfOk result (TellsElement depth (frame_of element.entry) line.new.items) }
 {
     match element.resolve() {
         Ok(value) => {
-            put_value(alloc, depth, element.key(), value, out)?;
+            value_line(alloc, depth, element.key(), value, line)?;
             Ok(inside(value))
         }
         Err(error) => {
-            put_fault(alloc, depth, element, &error, out)?;
+            fault_line(alloc, depth, element, &error, line)?;
             Ok(None)
         }
     }
 }
 
-/// Writes the line of an element with this value.
-fn put_value<W: Write>(
+/// Makes the line of an element with this value.
+fn value_line(
     alloc: Global,
     depth: usize,
     key: &str,
     value: RawBsonRef<'_>,
-    out: &mut W,
-) -> Result<(), Failure>
+    line: &mut Vec<u8>,
+) -> Result<(), AllocError>
     requires { depth < 2 ^ 32 }
-    ensures put { OnOk result ((shown : List ℕ) × ShowsValue (value_of value.entry) shown
-        × Appends (W.contents out.old) (W.contents out.new) (element_line depth key.now shown)) }
-    ensures front { OnErr result (WritesFront (λ text. (shown : List ℕ) × ShowsValue (value_of value.entry) shown
-        × (text ≡ element_line depth key.now shown)) (W.contents out.old) (W.contents out.new)) }
-    ensures failed { IfErr result (λ failure. ¬ IsReading failure) }
+    ensures { OnOk result ((shown : List ℕ) × ShowsValue (value_of value.entry) shown
+        × (line.new.items ≡ says.element_line depth key.now shown)) }
 {
-    let mut text = head(alloc, depth, key)?;
-    push_value(alloc, &mut text, value)?;
-    push_words(&mut text, "\n")?;
-    put(out, &text)
+    begin_element(alloc, depth, key, line)?;
+    push_value(alloc, line, value)?;
+    push_words(line, "\n")
 }
 
-/// Writes the line of an element whose value is at fault.
-fn put_fault<W: Write>(
+/// Makes the line of an element whose value is at fault.
+fn fault_line(
     alloc: Global,
     depth: usize,
     element: RawElement<'_>,
     error: &BorrowedError<'_>,
-    out: &mut W,
-) -> Result<(), Failure>
+    line: &mut Vec<u8>,
+) -> Result<(), AllocError>
     requires { depth < 2 ^ 32 }
-    ensures put { OnOk result (Appends (W.contents out.old) (W.contents out.new)
-        (element_line depth (frame_of element.entry).key (kind_text (frame_of element.entry).kind ++ codes ", " ++ (codes "damaged: " ++ find.kind_text error.now.kind)))) }
-    ensures front { OnErr result (AppendsFront (W.contents out.old) (W.contents out.new)
-        (element_line depth (frame_of element.entry).key (kind_text (frame_of element.entry).kind ++ codes ", " ++ (codes "damaged: " ++ find.kind_text error.now.kind)))) }
-    ensures failed { IfErr result (λ failure. ¬ IsReading failure) }
+    ensures { OnOk result (line.new.items
+        ≡ says.element_line depth (frame_of element.entry).key (kind_text (frame_of element.entry).kind ++ codes ", " ++ (codes "damaged: " ++ find.kind_text error.now.kind))) }
 {
-    let mut text = head(alloc, depth, element.key())?;
-    push_kind(alloc, &mut text, element.element_type())?;
-    push_words(&mut text, ", ")?;
-    push_fault(&mut text, error)?;
-    push_words(&mut text, "\n")?;
-    put(out, &text)
+    begin_element(alloc, depth, element.key(), line)?;
+    push_kind(line, element.element_type())?;
+    push_words(line, ", ")?;
+    push_fault(line, error)?;
+    push_words(line, "\n")
 }
 
 /// The bytes of the level that the value holds.

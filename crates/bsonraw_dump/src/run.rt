@@ -29,7 +29,7 @@ use crate::ending::{Ending, Rest};
 use crate::failure::{Failure, ReadFailure, in_range};
 use crate::find::{Finding, Found, Told, judged};
 use crate::kept::{Added, Kept, Origin};
-use crate::listing::list_level;
+use crate::listing::list_levels;
 use crate::object::{ending_object, repeat_object, told_object};
 use crate::portion::Portion;
 use crate::resync::{is_doubted, pass_over};
@@ -421,7 +421,7 @@ fn put_listing<W: Write>(
     let head = sized(alloc, bytes.len(), told)?;
     put_line(alloc, name, offset, &head, report)?;
     match RawDocument::from_bytes(bytes) {
-        Ok(document) => list_level(alloc, document, 500, 1, report),
+        Ok(document) => list_levels(alloc, document, report),
         Err(_) => put(report, b""),
     }
 }

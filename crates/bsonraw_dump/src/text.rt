@@ -20,17 +20,28 @@ use itoa::Buffer;
 use json::Writer;
 use raw_form::{PathStep, Place};
 use std::alloc::{AllocError, Global};
+use std::mem;
 
 /// So many steps are shown of each end of a path that has more than twice as many.
 const SHOWN: usize = 10;
 
 /// A text in quotes, as JSON has it.
-pub fn quotation(alloc: Global, text: &str) -> Result<Vec<u8>, AllocError>
-    ensures { IfOk result (λ bytes. bytes.items ≡ quoted text.now) }
+pub fn quotation(alloc: Global, words: &str) -> Result<Vec<u8>, AllocError>
+    ensures { IfOk result (λ text. text.items ≡ quoted words.now) }
 {
-    let mut writer = Writer::new(Vec::new(alloc));
-    writer.string(text)?;
-    Ok(writer.into_inner())
+    let mut text = Vec::new(alloc);
+    push_quoted(alloc, &mut text, words)?;
+    Ok(text)
+}
+
+/// Behind the text, another one in quotes.
+pub fn push_quoted(alloc: Global, text: &mut Vec<u8>, words: &str) -> Result<(), AllocError>
+    ensures { OnOk result (text.new.items ≡ text.old.items ++ quoted words.now) }
+{
+    let mut writer = Writer::new(mem::replace(text, Vec::new(alloc)));
+    writer.string(words)?;
+    *text = writer.into_inner();
+    Ok(())
 }
 
 /// Behind the text, a word or more.

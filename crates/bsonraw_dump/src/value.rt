@@ -11,7 +11,7 @@ ghost use Rattle.raw_view.specs.Document.{bytes_of};
 ghost use Rattle.raw_view.specs.Meaning.Value.{id_of, namespace_of, value_of};
 ghost use Rattle.bsonraw_dump.specs.Values.{ShowsBehind, ShowsDouble, ShowsValue, size_text, sized_text};
 
-use crate::text::{push_number, push_words, quotation};
+use crate::text::{push_number, push_quoted, push_words};
 use bson_model::Timestamp;
 use raw_view::{
     ElementType, RawBinaryRef, RawBsonRef, RawDbPointerRef, RawJavaScriptCodeWithScopeRef,
@@ -31,16 +31,43 @@ pub fn push_value(
     ensures { OnOk result ((shown : List ℕ) × ShowsValue (value_of value.entry) shown
         × (text.new.items ≡ text.old.items ++ shown)) }
 {
-    push_kind(alloc, text, value.element_type())?;
+    push_kind(text, value.element_type())?;
     push_behind(alloc, text, value)
 }
 
 /// Puts the name of a kind behind the text.
-pub fn push_kind(alloc: Global, text: &mut Vec<u8>, kind: ElementType) -> Result<(), AllocError>
+pub fn push_kind(text: &mut Vec<u8>, kind: ElementType) -> Result<(), AllocError>
     ensures { OnOk result (text.new.items ≡ text.old.items ++ kind_text kind) }
 {
-    let name = format!(in alloc; "{kind}")?;
-    push_words(text, name.as_str())
+    push_words(text, name_of(kind))
+}
+
+fn name_of(kind: ElementType) -> &'static str
+    ensures { result.now ≡ kind_text kind }
+{
+    match kind {
+        ElementType::Double => "Double",
+        ElementType::String => "String",
+        ElementType::EmbeddedDocument => "EmbeddedDocument",
+        ElementType::Array => "Array",
+        ElementType::Binary => "Binary",
+        ElementType::Undefined => "Undefined",
+        ElementType::ObjectId => "ObjectId",
+        ElementType::Boolean => "Boolean",
+        ElementType::DateTime => "DateTime",
+        ElementType::Null => "Null",
+        ElementType::RegularExpression => "RegularExpression",
+        ElementType::DbPointer => "DbPointer",
+        ElementType::JavaScriptCode => "JavaScriptCode",
+        ElementType::Symbol => "Symbol",
+        ElementType::JavaScriptCodeWithScope => "JavaScriptCodeWithScope",
+        ElementType::Int32 => "Int32",
+        ElementType::Timestamp => "Timestamp",
+        ElementType::Int64 => "Int64",
+        ElementType::Decimal128 => "Decimal128",
+        ElementType::MaxKey => "MaxKey",
+        ElementType::MinKey => "MinKey",
+    }
 }
 
 /// Puts what shows a value behind the name of its kind.
@@ -139,7 +166,7 @@ fn push_string(alloc: Global, text: &mut Vec<u8>, string: &str) -> Result<(), Al
         return Ok(());
     }
     push_words(text, ": ")?;
-    text.extend_from_slice(&quotation(alloc, string)?)
+    push_quoted(alloc, text, string)
 }
 
 fn push_binary(

@@ -18,13 +18,13 @@ returns-in-Ok-clause-listed g c =
     let b = c.args.bytes.now in
     let old = g.W.Write.contents c.args.report.now in
     let mid = g.W.Write.contents c.put_line.new.report in
-    let new = g.W.Write.contents c.list_level.new.out in
+    let new = g.W.Write.contents c.list_levels.new.out in
     let head = line c.args.name.now c.args.offset (head_text b (option_map account_of c.args.told.now)) in
     let first = subst (λ (x : List ℕ). Appends old mid (line c.args.name.now c.args.offset x)) (c.deref.ensures.value ∙ c.in_ok-head.ensures b (search rules)) c.in_ok-put_line.ensures.written in
     let same : bytes_of c.in-Ok.document ≡ b = c.in-Ok.ensures.same in
     let is : IsEnvelope b = subst IsEnvelope same c.in-Ok.document.envelope in
-    on_ok c.list_level.result (IsWritten 500 1 (bytes_of c.in-Ok.document) mid new) ((listing : List ℕ) × ListsDocument b listing × Appends old new (head ++ listing))
-    (λ w. listed_behind b head old mid new is first (subst (λ (x : List ℕ). IsWritten 500 1 x mid new) same w)) c.list_level.ensures.listed
+    on_ok c.list_levels.result (IsWritten 500 1 (bytes_of c.in-Ok.document) mid new) ((listing : List ℕ) × ListsDocument b listing × Appends old new (head ++ listing))
+    (λ w. listed_behind b head old mid new is first (subst (λ (x : List ℕ). IsWritten 500 1 x mid new) same w)) c.list_levels.ensures.listed
 
 pub returns-clause-listed : goal.returns-clause-listed
 returns-clause-listed g c =
@@ -48,12 +48,12 @@ returns-in-Ok-clause-front g c =
     let told = option_map account_of c.args.told.now in
     let old = g.W.Write.contents c.args.report.now in
     let mid = g.W.Write.contents c.put_line.new.report in
-    let new = g.W.Write.contents c.list_level.new.out in
+    let new = g.W.Write.contents c.list_levels.new.out in
     let first = subst (λ (x : List ℕ). Appends old mid (line c.args.name.now c.args.offset x)) (c.deref.ensures.value ∙ c.in_ok-head.ensures b (search rules)) c.in_ok-put_line.ensures.written in
     let same : bytes_of c.in-Ok.document ≡ b = c.in-Ok.ensures.same in
     let is : IsEnvelope b = subst IsEnvelope same c.in-Ok.document.envelope in
-    on_err c.list_level.result (IsPartly 500 1 (bytes_of c.in-Ok.document) mid new) ((lines : List ℕ) × ListsFront c.args.name.now c.args.offset b told lines × Appends old new lines)
-    (λ partly. lists_behind c.args.name.now b c.args.offset told old mid new is first (subst (λ (x : List ℕ). IsPartly 500 1 x mid new) same partly)) c.list_level.ensures.front
+    on_err c.list_levels.result (IsPartly 500 1 (bytes_of c.in-Ok.document) mid new) ((lines : List ℕ) × ListsFront c.args.name.now c.args.offset b told lines × Appends old new lines)
+    (λ partly. lists_behind c.args.name.now b c.args.offset told old mid new is first (subst (λ (x : List ℕ). IsPartly 500 1 x mid new) same partly)) c.list_levels.ensures.front
 
 pub returns-clause-front : goal.returns-clause-front
 returns-clause-front g c =
