@@ -1,11 +1,7 @@
 /* Python values of tokens. */
 #include "native.h"
 
-#include <wchar.h>
-
 /* ---- texts ---- */
-
-#define WIDE_ROOM 4096
 
 static int is_ascii(const uint8_t *at, size_t len) {
     const uint8_t *end = at + len;
@@ -15,70 +11,31 @@ static int is_ascii(const uint8_t *at, size_t len) {
         return all < 0x80;
     }
     for (; end - at > 8; at += 8) all |= (uint64_t)le_i64(at);
-    return ((all | (uint64_t)le_i64(end - 8)) & 0x8080808080808080u) == 0;
+    return ((all | (uint64_t)le_i64(end - 8)) & HIGHS) == 0;
 }
 
-#if WCHAR_MAX >= 0x10ffff
-static inline uint32_t le_u16(const uint8_t *at) {
-    uint16_t number;
-    memcpy(&number, at, 2);
-    return number;
-}
+#define COPIED 64
 
-/* A text by its characters, which takes Python less time than its UTF-8. Letters of one script come in runs, each of which has a
- * loop of its own. What isn't UTF-8 is left to Python's decoder. */
-NOT_INLINE PyObject *wide_text(const uint8_t *at, size_t len) {
-    static wchar_t wide[WIDE_ROOM];
-    wchar_t *to = wide;
-    const uint8_t *from = at, *end = at + len, *before = NULL;
-    uint32_t letter, wrong = 0; /* whether a letter has too many bytes, or is none */
-    while (at < end && at != before) {
-        before = at;
-        for (; at < end && *at < 0x80; at++) *to++ = *at;
-        for (; end - at >= 2 && (le_u16(at) & 0xc0e0) == 0x80c0; at += 2) {
-            *to++ = (wchar_t)(letter = (at[0] & 0x1fu) << 6 | (at[1] & 0x3fu));
-            wrong |= letter < 0x80;
-        }
-        for (; end - at >= 3 && (*at & 0xf0) == 0xe0 && (le_u16(at + 1) & 0xc0c0) == 0x8080; at += 3) {
-            *to++ = (wchar_t)(letter = (at[0] & 0x0fu) << 12 | (at[1] & 0x3fu) << 6 | (at[2] & 0x3fu));
-            wrong |= letter < 0x800 || letter >> 11 == 0x1b; /* the latter are halves of pairs */
-        }
-        for (; end - at >= 4 && *at >> 3 == 0x1e && (le_u16(at + 1) & 0xc0c0) == 0x8080 && at[3] >> 6 == 2; at += 4) {
-            *to++ = (wchar_t)(letter = (at[0] & 0x07u) << 18 | (at[1] & 0x3fu) << 12 | (at[2] & 0x3fu) << 6 | (at[3] & 0x3fu));
-            wrong |= letter < 0x10000 || letter > 0x10ffff;
-        }
-    }
-    if (at == end && !wrong) return PyUnicode_FromWideChar(wide, to - wide);
-    return PyUnicode_DecodeUTF8((const char *)from, (Py_ssize_t)len, "strict");
-}
-
-#define SHORT 48
-
-/* How many of the first SHORT bytes aren't ASCII. */
-static unsigned beyond_ascii(const uint8_t *at) {
-    uint64_t counts = 0; /* in each byte one */
+/* The copy of a text of eight to so many bytes, which begins at a multiple of eight; NULL where it isn't ASCII. Python's decoder would go one by
+ * one through those in front of one. */
+INLINE const uint8_t *ascii_copy(const uint8_t *at, size_t len) {
+    static uint64_t copy[COPIED / 8];
+    uint64_t eight = (uint64_t)le_i64(at + len - 8), all = eight;
     size_t done;
-    for (done = 0; done < SHORT; done += 8) counts += (uint64_t)le_i64(at + done) >> 7 & 0x0101010101010101u;
-    return (unsigned)(counts * 0x0101010101010101u >> 56);
+    memcpy((uint8_t *)copy + len - 8, &eight, 8);
+    for (done = 0; done + 8 <= len; done += 8) {
+        all |= eight = (uint64_t)le_i64(at + done);
+        memcpy((uint8_t *)copy + done, &eight, 8);
+    }
+    return (all & HIGHS) == 0 ? (const uint8_t *)copy : NULL;
 }
 
-/* Whether a text that isn't ASCII takes less time by its characters: each but a longer one which begins with few that aren't ASCII, or,
- * behind what is ASCII, with three letters of three bytes, as Chinese does: of a run of either Python's decoder is the faster one. */
-static int is_wide(const uint8_t *at, size_t len) {
-    const uint8_t *end = at + len;
-    if (len <= SHORT || len > WIDE_ROOM) return len <= SHORT;
-    if (beyond_ascii(at) < SHORT / 4) return 0;
-    while (*at < 0x80) at++;
-    return end - at < 9 || at[0] >> 4 != 14 || at[3] >> 4 != 14 || at[6] >> 4 != 14;
-}
-#endif
+INLINE PyObject *ascii_text(const void *at, size_t len) { return PyUnicode_DecodeUTF8(at, (Py_ssize_t)len, "strict"); }
 
 /* Raises UnicodeDecodeError where the bytes aren't UTF-8. */
 static PyObject *utf8(const uint8_t *at, size_t len) {
-#if WCHAR_MAX >= 0x10ffff
-    if (!is_ascii(at, len) && is_wide(at, len)) return wide_text(at, len);
-#endif
-    return PyUnicode_DecodeUTF8((const char *)at, (Py_ssize_t)len, "strict");
+    const uint8_t *ascii = len >= 8 && len <= COPIED ? ascii_copy(at, len) : is_ascii(at, len) ? at : NULL;
+    return ascii == NULL ? letters_text(at, len) : ascii_text(ascii, len);
 }
 
 /* ---- keys ---- */
@@ -342,21 +299,26 @@ NOT_INLINE int append_pair(PyObject *pairs, PyObject *key, PyObject *value) {
     return status;
 }
 
-/* Puts a value into a level. Takes it. */
-INLINE int put(const struct maker *maker, const struct level *level, const struct bsonraw_token *token, PyObject *value) {
-    PyObject *key;
-    int status;
-    if (level->kind == LIST) {
-        status = PyList_Append(level->object, value);
-        Py_DECREF(value);
-        return status;
-    }
-    key = key_at(maker->bytes + token->key_at, token->key_len, maker->len - token->key_at);
-    if (key == NULL) status = -1;
-    else status = level->kind == DICT ? PyDict_SetItem(level->object, key, value) : append_pair(level->object, key, value);
+/* Puts a value into a list. Takes it. */
+INLINE int put_item(const struct level *level, PyObject *value) {
+    int status = PyList_Append(level->object, value);
+    Py_DECREF(value);
+    return status;
+}
+
+/* Puts a value under a key, which may be NULL with an error set. Takes both. */
+INLINE int put_pair(const struct level *level, PyObject *key, PyObject *value) {
+    int status = -1;
+    if (key != NULL) status = level->kind == DICT ? PyDict_SetItem(level->object, key, value) : append_pair(level->object, key, value);
     Py_XDECREF(key);
     Py_DECREF(value);
     return status;
+}
+
+/* Puts the value of a token into a level. Takes it. */
+INLINE int put(const struct maker *maker, const struct level *level, const struct bsonraw_token *token, PyObject *value) {
+    if (level->kind == LIST) return put_item(level, value);
+    return put_pair(level, key_at(maker->bytes + token->key_at, token->key_len, maker->len - token->key_at), value);
 }
 
 static int more_levels(struct levels *levels) {
@@ -497,6 +459,7 @@ struct cursor {
     struct bsonraw_iter iter;
     struct bsonraw_entry entries[ENTRIES];
     uint64_t done, count;
+    size_t in_rows; /* how many elements were taken without them */
     int32_t status; /* of the last entries that were read */
 };
 
@@ -526,6 +489,7 @@ static int go_in(const struct maker *maker, struct cursors *cursors, uint32_t at
         cursors->room = room;
     }
     cursor = &cursors->at[cursors->count++];
+    cursor->in_rows = 0;
     return bsonraw_iter_init_at(&cursor->iter, maker->bytes, maker->len, at, len) == BSONRAW_OK && read_entries(maker, cursors, cursor) == 0;
 }
 
@@ -618,47 +582,95 @@ INLINE int take_entry(const struct maker *maker, struct levels *levels, struct c
     return leaf != NULL && put(maker, &levels->at[levels->count - 1], &of, leaf) == 0;
 }
 
-/* ---- lists ---- */
+/* ---- elements in a row ---- */
 
-#define RUN 4096
+#define ROW 256 /* behind so many a level's keys aren't looked up: they are mostly its own */
 
-/* The payload of an element in front that is of this kind, which has so many bytes, and whose key is a number: it needs no judge.
- * NULL where it isn't, or doesn't end up to here, where a 0 is. */
-INLINE const uint8_t *plain_payload(const uint8_t *at, const uint8_t *end, uint8_t tag, size_t size) {
-    if (*at != tag) return NULL;
-    do at++;
-    while ((uint8_t)(*at - '0') < 10);
-    return *at == 0 && at < end && (size_t)(end - at - 1) >= size ? at + 1 : NULL;
+/* Where the key ends that begins there, if it is ASCII: at its 0; else NULL. At the end is a 0. Of a key of fewer bytes than COPIED, and eight
+ * more in front of the end, the copy has all. */
+INLINE const uint8_t *ascii_end(const uint8_t *key, const uint8_t *end, uint64_t copy[COPIED / 8]) {
+    const uint8_t *at = key;
+    for (; end - at >= 8; at += 8) {
+        uint64_t eight = (uint64_t)le_i64(at), stops = (eight | (eight - ONES)) & HIGHS; /* the first one of a byte that is 0 or isn't ASCII */
+        copy[(size_t)(at - key) / 8 % (COPIED / 8)] = eight;
+        if (stops != 0) at += first_byte(stops);
+        if (stops != 0) return *at == 0 ? at : NULL;
+    }
+    while ((uint8_t)(*at - 1) < 0x7f) at++;
+    return *at == 0 ? at : NULL;
+}
+
+/* How many bytes a payload of this kind has that begins there, of so many that are left; more than those where it is damaged. */
+INLINE size_t payload_len(uint8_t tag, const uint8_t *at, size_t left) {
+    size_t len;
+    switch (tag) {
+    case BSONRAW_TAG_NULL: return 0;
+    case BSONRAW_TAG_BOOLEAN: return left > 0 && *at > 1 ? left + 1 : 1;
+    case BSONRAW_TAG_INT32: return 4;
+    case BSONRAW_TAG_STRING:
+        if (left < 5) return left + 1;
+        len = (uint32_t)le_i32(at);
+        return len - 1 >= left - 4 || at[3 + len] != 0 ? left + 1 : 4 + len;
+    default: return 8;
+    }
+}
+
+/* Puts the values of elements of this kind into a level as long as they come with keys of ASCII, at most so many: 0, or -1, with no error
+ * set where a string isn't UTF-8. Such an element needs no judge. The cursor goes on behind them. */
+INLINE int take_row_of(const struct maker *maker, const struct level *level, struct cursor *cursor, uint8_t tag) {
+    struct bsonraw_iter *iter = &cursor->iter;
+    const int is_new = cursor->in_rows >= ROW;
+    const uint8_t *bytes = maker->bytes, *at = bytes + iter->next, *end = bytes + iter->document_at + iter->document_len - 1;
+    size_t count;
+    for (count = 0; count < ROW && *at == tag; count++) {
+        uint64_t copy[COPIED / 8];
+        const uint8_t *key = at + 1, *key_end = ascii_end(key, end, copy), *payload;
+        PyObject *value;
+        size_t len, key_len = (size_t)(key_end - key);
+        int status;
+        if (key_end == NULL || key_end == end) break;
+        payload = key_end + 1;
+        len = payload_len(tag, payload, (size_t)(end - payload));
+        if (len > (size_t)(end - payload)) break;
+        value = leaf_in(maker, tag, (uint32_t)(payload - bytes), (uint32_t)len);
+        if (value == NULL && tag == BSONRAW_TAG_STRING) clear_fault(PyExc_UnicodeDecodeError);
+        if (value == NULL) return -1;
+        if (level->kind == LIST) status = put_item(level, value);
+        else if (is_new && key_len < COPIED && key_len + 8 <= (size_t)(end - key)) status = put_pair(level, ascii_text(copy, key_len), value);
+        else status = put_pair(level, key_at(key, key_len, maker->len - (size_t)(key - bytes)), value);
+        if (status < 0) return -1;
+        at = payload + len;
+    }
+    cursor->in_rows += count;
+    iter->next = (uint32_t)(at - bytes);
+    return 0;
+}
+
+/* The same of elements of these kinds. */
+NOT_INLINE int take_row(const struct maker *maker, const struct level *level, struct cursor *cursor) {
+    const uint32_t begun = cursor->iter.next;
+    uint32_t before;
+    int status;
+    do {
+        before = cursor->iter.next;
+        switch (maker->bytes[before]) {
+        case BSONRAW_TAG_DOUBLE: status = take_row_of(maker, level, cursor, BSONRAW_TAG_DOUBLE); break;
+        case BSONRAW_TAG_STRING: status = take_row_of(maker, level, cursor, BSONRAW_TAG_STRING); break;
+        case BSONRAW_TAG_BOOLEAN: status = take_row_of(maker, level, cursor, BSONRAW_TAG_BOOLEAN); break;
+        case BSONRAW_TAG_DATETIME: status = take_row_of(maker, level, cursor, BSONRAW_TAG_DATETIME); break;
+        case BSONRAW_TAG_NULL: status = take_row_of(maker, level, cursor, BSONRAW_TAG_NULL); break;
+        case BSONRAW_TAG_INT32: status = take_row_of(maker, level, cursor, BSONRAW_TAG_INT32); break;
+        case BSONRAW_TAG_INT64: status = take_row_of(maker, level, cursor, BSONRAW_TAG_INT64); break;
+        default: return 0;
+        }
+    } while (status == 0 && cursor->iter.next != before && cursor->iter.next - begun < LET_GO_OVER);
+    return status;
 }
 
 static int append(PyObject *list, PyObject *value) {
     int status = value == NULL ? -1 : PyList_Append(list, value);
     Py_XDECREF(value);
     return status;
-}
-
-/* Appends the values of such elements as long as they come, at most so many: 0, or -1 with an error set. The cursor goes on behind
- * them. */
-INLINE int take_run_of(const struct maker *maker, PyObject *list, struct bsonraw_iter *iter, uint8_t tag, uint32_t size) {
-    const uint8_t *bytes = maker->bytes, *at = bytes + iter->next, *end = bytes + iter->document_at + iter->document_len - 1, *payload;
-    size_t left;
-    for (left = RUN; left > 0 && (payload = plain_payload(at, end, tag, size)) != NULL; left--) {
-        if (append(list, leaf_in(maker, tag, (uint32_t)(payload - bytes), size)) < 0) return -1;
-        at = payload + size;
-    }
-    iter->next = (uint32_t)(at - bytes);
-    return 0;
-}
-
-NOT_INLINE int take_run(const struct maker *maker, PyObject *list, struct bsonraw_iter *iter) {
-    switch (maker->bytes[iter->next]) {
-    case BSONRAW_TAG_NULL: return take_run_of(maker, list, iter, BSONRAW_TAG_NULL, 0);
-    case BSONRAW_TAG_INT32: return take_run_of(maker, list, iter, BSONRAW_TAG_INT32, 4);
-    case BSONRAW_TAG_INT64: return take_run_of(maker, list, iter, BSONRAW_TAG_INT64, 8);
-    case BSONRAW_TAG_DOUBLE: return take_run_of(maker, list, iter, BSONRAW_TAG_DOUBLE, 8);
-    case BSONRAW_TAG_DATETIME: return take_run_of(maker, list, iter, BSONRAW_TAG_DATETIME, 8);
-    default: return 0;
-    }
 }
 
 /* Appends the values of what was read to a list: all, or those in front of the first one that needs a second look; 0 where one has
@@ -675,10 +687,8 @@ static int take_leaves(const struct maker *maker, PyObject *list, struct cursor 
 
 /* Reads on in a level whose entries are taken: 0, or -1 with an error set. */
 static int read_on(const struct maker *maker, const struct level *level, struct cursors *cursors, struct cursor *cursor) {
-    if (level->kind == LIST) {
-        uint32_t before = cursor->iter.next;
-        if (take_run(maker, level->object, &cursor->iter) < 0 || breathe(&cursors->breath, cursor->iter.next - before) < 0) return -1;
-    }
+    uint32_t before = cursor->iter.next;
+    if (take_row(maker, level, cursor) < 0 || breathe(&cursors->breath, cursor->iter.next - before) < 0) return -1;
     return read_entries(maker, cursors, cursor);
 }
 

@@ -135,6 +135,7 @@ static int is_first_interpreter(void) {
 }
 
 static int fill(PyObject *module) {
+    letters_init();
     if (is_first_interpreter() < 0 || times_init() < 0 || classes_add(module) < 0 || elements_add(module) < 0 ||
         walks_add(module) < 0 || documents_add(module) < 0)
         return -1;

@@ -136,6 +136,21 @@ static inline int64_t le_i64(const uint8_t *at) {
     return number;
 }
 
+/* In each of eight bytes the lowest bit, and the highest. */
+#define ONES 0x0101010101010101u
+#define HIGHS 0x8080808080808080u
+
+/* Which of eight bytes, as a number has them, is the first one that isn't 0. */
+static inline unsigned first_byte(uint64_t bytes) {
+#ifdef __GNUC__
+    return (unsigned)__builtin_ctzll(bytes) / 8;
+#else
+    unsigned number;
+    for (number = 0; (bytes >> 8 * number & 0xff) == 0; number++) {}
+    return number;
+#endif
+}
+
 static inline double le_double(const uint8_t *at) {
     double number;
     memcpy(&number, at, 8);
@@ -284,6 +299,11 @@ struct tokens {
 /* The tokens of all levels: 0, or -1 with an error set. */
 int tokens_read(struct tokens *tokens, const struct bytes *bytes, const struct options *options, uint64_t before);
 void tokens_free(struct tokens *tokens);
+
+/* ---- letters.c ---- */
+
+void letters_init(void);
+PyObject *letters_text(const uint8_t *at, size_t len); /* of UTF-8 that isn't ASCII; raises UnicodeDecodeError where it isn't UTF-8 */
 
 /* ---- decode.c ---- */
 

@@ -9,6 +9,7 @@ for a row, 0.5 where it is left out. --frame makes a DataFrame of 1,000,000 docu
 import argparse
 import gc
 import itertools
+import pickle
 import random
 import subprocess
 import sys
@@ -222,6 +223,17 @@ def texts(data: bytes, seconds: float) -> None:
     row("loads; json_util.loads", *turns([(bsonraw.loads, text), (json_util.loads, text)], seconds))
 
 
+def pickles(data: bytes, seconds: float) -> None:
+    def there_and_back(value: Any) -> Any:
+        return pickle.loads(pickle.dumps(value))
+
+    ours, theirs = bsonraw.decode(data), bson.decode(data, CodecOptions(tz_aware=True))
+    if there_and_back(ours) != ours:
+        sys.exit("speed: values come back from a pickle as others")
+    row("pickle.dumps and loads of decoded values, typical", *turns([(there_and_back, ours), (there_and_back, theirs)], seconds))
+    print(f"| bytes of that pickle | {len(pickle.dumps(ours))} | {len(pickle.dumps(theirs))} | |")
+
+
 def frame() -> None:
     """A DataFrame of 1,000,000 documents of five fields over two levels, each way in a process of its own, whose peak of memory is its own,
     too: what getrusage says begins with this one's."""
@@ -299,6 +311,7 @@ def main() -> None:
         rows(options.seconds)
         reads(made["typical"], options.seconds)
         texts(made["typical"], options.seconds)
+        pickles(made["typical"], options.seconds)
         threads()
     if options.frame:
         frame()

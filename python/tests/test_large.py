@@ -85,17 +85,19 @@ class Large(unittest.TestCase):
                 faults += 1
         self.assertGreater(min(good, faults), 1000)
 
-    def test_arrays_of_numbers(self) -> None:
-        """Elements of one kind in a row, with keys that are numbers or others, whole or damaged."""
+    def test_numbers_in_a_row(self) -> None:
+        """Elements of one kind in a row, of an array and of a document, with keys of any length, whole or damaged."""
         rng = random.Random(33)
         faults = 0
-        for number in range(600):
-            data = framed(b"\4a\0" + numbers(rng, damage=number % 2 == 1))
-            element = bsonraw.get(data, "a")
+        for number in range(1200):
+            is_array = number % 4 < 2
+            data = framed((b"\4a\0" if is_array else INSIDE) + numbers(rng, is_array, damage=number % 2 == 1))
+            element = bsonraw.get(data, "a" if is_array else "k")
             wanted: List[Any] = []
             try:
-                wanted.extend(inner.value for inner in bsonraw.elements(element.payload))
-                self.assertEqual(repr(bsonraw.decode(data)["a"]), repr(wanted))
+                wanted.extend(inner.value if is_array else (inner.key, inner.value) for inner in bsonraw.elements(element.payload))
+                self.assertEqual(repr(list(bsonraw.decode(data, pairs=True)[0][1])), repr(wanted))
+                self.assertEqual(repr(bsonraw.decode(data)), repr({element.key: wanted if is_array else dict(wanted)}))
             except BsonError as error:
                 with self.assertRaises(BsonError) as caught:
                     bsonraw.decode(data)
@@ -103,21 +105,46 @@ class Large(unittest.TestCase):
                 self.assertEqual((told.kind, told.reason, told.key, told.offset), (error.kind, error.reason, error.key, error.offset + element.offset + 3))
                 self.assertEqual(told.path, (0, len(wanted)))
                 faults += 1
-        self.assertGreater(faults, 50)
+        self.assertGreater(faults, 100)
+
+    def test_long_texts(self) -> None:
+        """Texts of letters of one to four bytes in runs, whole or damaged, beside Python's own decoder."""
+        rng = random.Random(34)
+        borders = "\x01\x7f", "\x80\u07ff", "\u0800\ud7ff\ue000\uffff", "\U00010000\U0010ffff", "aé", "日本é", "x日"
+        good = faults = 0
+        for number in range(3000):
+            length, raw = rng.choice((20, 60, 300, 5000)), bytearray()
+            while len(raw) < length:
+                raw += ("".join(rng.choices(rng.choice(borders), k=rng.choice((1, 2, 9, 40))))).encode()
+            if number % 3 == 0:
+                raw[rng.randrange(len(raw))] = rng.choice(b"\x01\x7f\x80\xbf\xc0\xc2\xe0\xed\xf0\xf4\xff")
+            if number % 30 == 0:
+                del raw[-1]
+            data = framed(b"\2k\0" + struct.pack("<i", len(raw) + 1) + raw + b"\0")
+            try:
+                wanted = raw.decode()
+            except UnicodeDecodeError:
+                self.assertRaises(BsonError, bsonraw.decode, data)
+                faults += 1
+                continue
+            self.assertEqual(bsonraw.decode(data), {"k": wanted})
+            good += 1
+        self.assertGreater(min(good, faults), 500)
 
 
-def numbers(rng: random.Random, damage: bool) -> bytes:
+def numbers(rng: random.Random, is_array: bool, damage: bool) -> bytes:
     sizes = {1: 8, 9: 8, 10: 0, 16: 4, 18: 8, 8: 1}
     body, tag = b"", 16
-    keys = ["", "x", "1x", "é", "00"]
+    keys = ["", "x", "1x", "é", "00", "x" * 300]
     for number in range(700):
         if rng.random() < 0.02:
             tag = rng.choice(list(sizes))
-        key = (rng.choice(keys) if rng.random() < 0.01 else str(number)).encode()
+        usual = str(number) if is_array else f"{rng.randrange(10 ** rng.randrange(1, 20)):x}"
+        key = (rng.choice(keys) if rng.random() < 0.01 else usual).encode()
         raw = struct.pack("<q", rng.randrange(1 << 40))[: sizes[tag]] if tag != 8 else b"\1"
         body += bytes([tag]) + key + b"\0" + raw
     if damage:
-        at = rng.randrange(len(body))
+        at = rng.choice((rng.randrange(len(body)), len(body) - rng.randrange(1, 20)))
         body = body[:at] + bytes([rng.choice([0, 1, 0x30, 0x39, 0x3A, 0xC3, 0xFF])]) + body[at + 1 :]
     return framed(body)
 
