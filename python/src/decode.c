@@ -600,6 +600,12 @@ INLINE const uint8_t *ascii_end(const uint8_t *key, const uint8_t *end, uint64_t
     return *at == 0 ? at : NULL;
 }
 
+/* Where a key of digits ends, as those of an array are; else NULL. */
+INLINE const uint8_t *digits_end(const uint8_t *at) {
+    while ((uint8_t)(*at - '0') < 10) at++;
+    return *at == 0 ? at : NULL;
+}
+
 /* How many bytes a payload of this kind has that begins there, of so many that are left; more than those where it is damaged. */
 INLINE size_t payload_len(uint8_t tag, const uint8_t *at, size_t left) {
     size_t len;
@@ -624,7 +630,7 @@ INLINE int take_row_of(const struct maker *maker, const struct level *level, str
     size_t count;
     for (count = 0; count < ROW && *at == tag; count++) {
         uint64_t copy[COPIED / 8];
-        const uint8_t *key = at + 1, *key_end = ascii_end(key, end, copy), *payload;
+        const uint8_t *key = at + 1, *key_end = level->kind == LIST ? digits_end(key) : ascii_end(key, end, copy), *payload;
         PyObject *value;
         size_t len, key_len = (size_t)(key_end - key);
         int status;
