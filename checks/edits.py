@@ -534,7 +534,7 @@ def compile_all(top, edits, jobs):
 
 class Beside:
     """A run of `rt ci` in the same folder, which notes each crate in a file as it is proved, behind a line `fn NAME` for each
-    function of it, and a line `.` at its end."""
+    function of it, or as it says that it is kept, with no such line; and a line `.` at its end."""
 
     def __init__(self, top, file):
         self.top, self.file = top, file

@@ -92,6 +92,16 @@ class Edits(unittest.TestCase):
         self.assertIn("tiny/after_next_is_the_same: NOT REFUSED", printed)
         self.assertIn("edits: 2 of 3 are refused", printed)
 
+    def test_wrong_bodies_of_a_crate_that_was_kept_are_refused(self):
+        # (the run beside says nothing of its functions)
+        status, printed = self.beside("tiny\n.\n", {
+            "after_next_is_the_same": edit(("next(x) + 1", "1 + next(x)"), functions="after_next"),
+            "after_next_is_wrong": edit(("next(x) + 1", "next(x) + 2"), functions="after_next"),
+        })
+        self.assertEqual(status, 1, printed)
+        self.assertIn("tiny/after_next_is_the_same: NOT REFUSED", printed)
+        self.assertIn("edits: 1 of 2 are refused", printed)
+
     def test_the_work_of_a_crate_that_the_run_beside_proved_is_left(self):
         status, printed = self.leaving(PROVED, {"next_is_wrong": edit(NEXT_IS_WRONG, functions="next")})
         self.assertEqual(status, 0, printed)

@@ -1,21 +1,26 @@
 #!/bin/sh
 # bin/test refuses a name that is no crate's, and words that it doesn't know, before it tries anything: it prints the
-# usage line on standard error, nothing on standard output, and ends with status 2.
+# usage line on standard error, nothing on standard output, and ends with status 2. In a folder where scripts that do nothing take the
+# place of its parts, it passes; where one of them fails, it fails; and where it is ended, all that it started ends.
 set -u
 cd "$(dirname "$(realpath "$0")")/.." || exit 1
 work=$(mktemp -d) || exit 1
 trap 'rm -rf "$work"' EXIT
-printf '#!/bin/sh\nexit 1\n' >"$work/rt" && chmod +x "$work/rt" || exit 1 # so that nothing is proved, whatever is taken
+mkdir "$work/tools" && printf '#!/bin/sh\nexit 1\n' >"$work/tools/rt" && chmod +x "$work/tools/rt" || exit 1 # so that nothing is proved, whatever is taken
 failed=0
+
+fails() {
+    echo "usage: $*" >&2
+    failed=1
+}
 
 # refuses WORD..
 refuses() {
-    PATH=$work:$PATH bin/test "$@" >"$work/output" 2>"$work/error"
+    PATH=$work/tools:$PATH bin/test "$@" >"$work/output" 2>"$work/error"
     status=$?
     if [ "$status" != 2 ] || [ -s "$work/output" ] || ! grep -q '^usage: bin/test ' "$work/error"; then
         cat "$work/output" "$work/error" >&2
-        echo "usage: bin/test $* ended with status $status" >&2
-        failed=1
+        fails "bin/test $* ended with status $status"
     fi
 }
 
@@ -28,4 +33,50 @@ refuses --anew raw_view
 refuses raw_view --anew
 refuses --anew --anew
 refuses --other
+
+# put FILE: a script in its place that fails if it is the one that $work/failing names, and goes on for long if $work/slow names it
+put() {
+    mkdir -p "$(dirname "$work/copy/$1")" && cat >"$work/copy/$1" <<END && chmod +x "$work/copy/$1"
+#!/bin/sh
+! grep -qsxF "$1" "$work/slow" || sleep 100
+! grep -qsxF "$1" "$work/failing"
+END
+}
+
+# tried: bin/test there, on the whole
+tried() {
+    (cd "$work/copy" && PATH=$work/tools:$PATH bin/test) >"$work/output" 2>&1
+}
+
+for file in checks/*.sh bin/install rt; do put "$file" || exit 1; done
+cp -P bin/test bin/build.sh bin/release.sh "$work/copy/bin" && cp VERSION crates.txt "$work/copy" && mv "$work/copy/rt" "$work/tools/rt" || exit 1
+for name in bsonraw bsonraw_dump bsonraw_c; do mkdir -p "$work/copy/crates/$name/out" && echo built >"$work/copy/crates/$name/out/$name" || exit 1; done
+echo built >"$work/copy/crates/bsonraw_c/out/libbsonraw_c.a" || exit 1
+tried || fails "bin/test fails though all its parts pass: $(cat "$work/output")"
+sed -n 's/^bin\/test: \([^ ]*\).* passed$/\1/p' "$work/output" | sort -u >"$work/parts"
+[ "$(grep -c / "$work/parts")" -gt 30 ] || fails "bin/test says of $(grep -c / "$work/parts") scripts that they passed"
+for part in $(grep / "$work/parts") checks/edits.sh rt; do
+    echo "$part" >"$work/failing"
+    ! tried || fails "bin/test passes though $part fails"
+done
+rm "$work/failing"
+for part in checks/from_json.sh checks/edits.sh checks/c.sh checks/recovery.sh; do
+    echo "$part" >"$work/slow"
+    (cd "$work/copy" && PATH=$work/tools:$PATH exec setsid bin/test) >"$work/output" 2>&1 &
+    group=$!
+    for _ in $(seq 100); do
+        sleep 0.1
+        sleeps=$(cat /proc/[0-9]*/stat 2>/dev/null | awk -v group="$group" '$2 == "(sleep)" && $6 == group && $3 != "Z" { print $1 }')
+        [ -z "$sleeps" ] || break
+    done
+    [ -n "$sleeps" ] || fails "$part isn't run in ten seconds"
+    kill "$group"
+    ! wait "$group" || fails "bin/test passes though it is ended in $part"
+    for _ in $(seq 100); do
+        left=$(cat /proc/[0-9]*/stat 2>/dev/null | awk -v group="$group" '$6 == group && $3 != "Z" { print $2 }')
+        [ -n "$left" ] || break
+        sleep 0.1
+    done
+    [ -z "$left" ] || fails "bin/test ends, and what it started in $part doesn't"
+done
 exit "$failed"
