@@ -1,5 +1,6 @@
 #!/usr/bin/env python3
-"""Dumps of 100 MB: what `bsonraw-dump` takes for them, and decoding them by MongoDB's package.
+"""Dumps of 100 MB: what `bsonraw-dump` takes for them, and decoding them by MongoDB's package; of two fields what `pick` takes, and `json`
+and jq.
 
 usage: dumps.py PROGRAM FOLDER      PROGRAM: bsonraw-dump; FOLDER: for the dumps
 
@@ -18,6 +19,7 @@ from documents import boolean, document, int32, oid, rbytes, string, tweet
 
 SIZE = 100_000_000
 KINDS = 500  # so many documents of about 1,900 bytes, each again and again under another ObjectId
+PATHS, FILTER = "created_at,user.screen_name", "{created_at, name: .user.screen_name}"  # two fields of these
 
 
 def great(rng):
@@ -54,9 +56,16 @@ def spent():
     return used.ru_utime + used.ru_stime
 
 
-def by_program(program, command, file):
+def by_program(program, file, *command):
     before = spent()
-    subprocess.run([program, command, file], stdout=subprocess.DEVNULL, stderr=subprocess.PIPE, check=True)
+    subprocess.run([program, *command, file], stdout=subprocess.DEVNULL, stderr=subprocess.PIPE, check=True)
+    return spent() - before
+
+
+def by_jq(program, file):
+    before = spent()
+    with subprocess.Popen([program, "json", "--quiet", file], stdout=subprocess.PIPE) as texts:
+        subprocess.run(["jq", "-c", FILTER], stdin=texts.stdout, stdout=subprocess.DEVNULL, check=True)
     return spent() - before
 
 
@@ -72,8 +81,11 @@ def main(program, folder):
     for name, made in (("great", great), ("small", small)):
         file = Path(folder, f"{name}.bson")
         write(file, made(random.Random(5)))
-        ways = {command: lambda command=command: by_program(program, command, file) for command in ("check", "unique", "list")}
+        ways = {command: lambda command=command: by_program(program, file, command) for command in ("check", "unique", "list")}
         ways["decoded"] = lambda: by_package(file)
+        if name == "great":
+            ways["pick"] = lambda: by_program(program, file, "pick", PATHS)
+            ways["jq"] = lambda: by_jq(program, file)
         for way, run in ways.items():
             print(name, way, f"{min(run() for _ in range(3)):.3f}", sep="\t", flush=True)
         file.unlink()

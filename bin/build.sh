@@ -211,6 +211,7 @@ run_unproved() {
     touch "$work/stdin"
     takes_input=
     files=0
+    [ "${1-}" != pick ] || files=-1 # its PATHS are no FILE
     count=$#
     for word in "$@"; do # what is named is put behind these words, and then they themselves
         case $word in

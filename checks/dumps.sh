@@ -41,6 +41,8 @@ documents = {
     "under": "04000000 00",
     "negative": "ffffffff 00",
     "over": "01400001 00",
+    "picked.nested": "0e000000 10 642e6300 01000000 00",
+    "picked.array": "18000000 04 6100 0b000000 0a 7800 0a 3100 00 0a 612e3100 00",
     "kinds": "0e010000 01 6400 000000000000f83f 01 6500 ffffffffffffff7f 02 7300 06000000 68656c6c6f00 03 6f00 0500000000"
     " 04 6100 0c000000 10 3000 01000000 00 05 6200 03000000 80 010203 06 7500 07 6900 000102030405060708090a0b"
     " 08 7400 01 09 7a00 e803000000000000 0a 6e00 0b 7200 6100 6900 0c 7000 02000000 6e00 000102030405060708090a0b"
@@ -821,6 +823,56 @@ wants '' "$(wrote 1 $(stat -c %s levels500) 1 0 0 0 0 0 0)
 python3 -c 'print("{\"d\":" * 499 + "{}" + "}" * 499)' >wanted.out
 run '500 levels as Extended JSON' 0 json levels500
 gzip -c million | gzip -dc | "$program" json 2>err | cmp -s - many || { echo "dumps.sh: a million documents as Extended JSON" >&2 && failed=1; }
+
+# -- pick
+
+wants '{"s":"hello","a.0":1}
+{}
+' "$(wrote 2 $(($(stat -c %s kinds) + 12)) 2 0 0 0 0 0 0)
+"
+run 'picked: a text, the item of an array' 0 pick s,a.0,k.x kinds one
+wants '{"d":{"$numberDouble":"1.5"},"w":{"$code":"x","$scope":{}}}
+' "$(wrote 1 "$(stat -c %s kinds)" 1 0 0 0 0 0 0)
+"
+run 'picked, as canonical Extended JSON' 0 pick --canonical d,w,w.x kinds
+wants '{"a":1}
+{"d.c":1,"d":{"c":1,"c":2}}
+{"a.1":null,"a":[null,null]}
+' "$(wrote 3 65 3 0 0 0 0 0 0)
+"
+run 'picked: the first of repeated keys, a nested key, the key of an item' 0 pick d.c,d,a.1,a,a.0 repeated nested array
+wants '{
+  "d.c": 1
+}
+' "$(wrote 1 27 1 0 0 0 0 0 0)
+"
+run 'picked, indented' 0 pick --indent d.c nested
+wants '' "$(wrote 3 65 3 0 0 0 0 0 0)
+"
+cat one picked.nested picked.array >wanted.out
+run 'picked, as a dump' 0 pick --bson a,d.c,a.1 repeated nested array
+wants '{"a":1}
+{"a":1}
+{}
+{"a":1}
+' '"mixed.bson":31: damaged at /0:"a", byte 4: a boolean is neither 0 nor 1: 2
+"mixed.bson":67: damaged: no final 0
+'"$(wrote 6 84 4 2 2 0 0 0 0)"'
+'
+run 'damage beside what is picked' 1 pick a mixed.bson
+wants '{"a":1}
+' "$(wrote 1 12 1 0 0 0 0 0 0)
+"
+run 'picked of a part' 0 pick a --at 12 --take 1 million
+wants '{}
+' "$(wrote 1 "$(stat -c %s levels500)" 1 0 0 0 0 0 0)
+"
+run 'more steps than levels' 0 pick "$(python3 -c 'print(".".join("d" * 600))')" levels500
+wants '{}
+' "$(wrote 1 12 1 0 0 0 0 0 0)
+"
+run 'an empty path' 0 pick '' one
+"$program" pick --bson a million 2>err | cmp -s - million || { echo "dumps.sh: a million documents of which all is picked" >&2 && failed=1; }
 
 # -- OUTPUT
 

@@ -373,6 +373,7 @@ judges_sound command.Canon b f told piece found clean = finds_sound b f told pie
 judges_sound command.Sound b f told piece found clean = finds_sound b f told piece found clean
 judges_sound command.Unique b f told piece found clean = finds_sound b f told piece found clean
 judges_sound (command.Json style) b f told piece found clean = finds_sound b f told piece found clean
+judges_sound (command.Pick picking) b f told piece found clean = finds_sound b f told piece found clean
 
 -- a document is in front of the bytes ahead, without damage where bytes may be passed over
 pub tells_document : {limits : Limits} (resync : Bool) (r r' : Option (List ℕ)) (x y : Window) (w : Work) (len : ℕ) → IsWork w → (resync ≡ true → IsSound limits (take len (ahead_of y)))

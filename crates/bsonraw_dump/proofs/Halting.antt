@@ -59,6 +59,7 @@ reports_front command.Sound style name offset b f told old new text other report
 reports_front command.Canon style name offset b f told old new text other reports front = (front.front, (text, reports, (front.behind, front.whole)), front.put)
 reports_front command.Unique style name offset b f told old new text other reports front = (front.front, (text, reports, (front.behind, front.whole)), front.put)
 reports_front (command.Json form) style name offset b f told old new text other reports front = (front.front, (text, reports, (front.behind, front.whole)), front.put)
+reports_front (command.Pick picking) style name offset b f told old new text other reports front = (front.front, (text, reports, (front.behind, front.whole)), front.put)
 
 -- a piece that is passed is one of which a front is
 pub halts_passed : (limits : Limits) (any : Bool) (c : Command) (style : Style) (name : List ℕ) (offset : ℕ) (b : List ℕ) (d d' w w' : Option (List ℕ)) (k k' : Kept) (f : Finding)

@@ -14,6 +14,7 @@ mod Stopping
 mod Halting
 mod Choosing
 mod Portioning
+mod Picking
 mod Objects
 mod Naming
 mod Summing

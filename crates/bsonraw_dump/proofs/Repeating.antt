@@ -25,6 +25,7 @@ firsts_none command.Canon f = refl
 firsts_none command.Sound f = refl
 firsts_none command.Unique f = refl
 firsts_none (command.Json style) f = refl
+firsts_none (command.Pick picking) f = refl
 
 pub repeats_none : (c : Command) (f : Firsts) → repeats_of c f [] ≡ []
 repeats_none command.Check f = refl
@@ -34,6 +35,7 @@ repeats_none command.Canon f = refl
 repeats_none command.Sound f = refl
 repeats_none command.Unique f = refl
 repeats_none (command.Json style) f = refl
+repeats_none (command.Pick picking) f = refl
 
 pub firsts_more : (c : Command) (f : Firsts) (xs ys : List Placed) → firsts_behind c f (xs ++ ys) ≡ firsts_behind c (firsts_behind c f xs) ys
 firsts_more command.Check f xs ys = refl
@@ -43,6 +45,7 @@ firsts_more command.Canon f xs ys = refl
 firsts_more command.Sound f xs ys = refl
 firsts_more command.Unique f xs ys = fold-append with_first f xs ys
 firsts_more (command.Json style) f xs ys = refl
+firsts_more (command.Pick picking) f xs ys = refl
 
 repeats-append : (f : Firsts) (xs ys : List Placed) → repeats f (xs ++ ys) ≡ repeats f xs ++ repeats (fold with_first f xs) ys
 repeats-append f [] ys = refl
@@ -59,6 +62,7 @@ repeats_more command.Canon f xs ys = refl
 repeats_more command.Sound f xs ys = refl
 repeats_more command.Unique f xs ys = repeats-append f xs ys
 repeats_more (command.Json style) f xs ys = refl
+repeats_more (command.Pick picking) f xs ys = refl
 
 module _ (c : Command) (style : Style) (at : Origin) (b : List ℕ) (f : Finding) (told : Option Account) (d d' w w' w'' : Option (List ℕ)) (k k' : Kept) (first : Option Origin) where
   -- the line of a repeat, if the document at this place is one

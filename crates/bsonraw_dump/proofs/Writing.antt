@@ -14,12 +14,14 @@ use Rattle.raw_tree.specs.declared.reader.limits.Limits.{Limits}
 use Rattle.bsonraw_dump.specs.Fronts.{WritesFront}
 use Rattle.bsonraw_dump.specs.Halting.{IsMade}
 use Rattle.bsonraw_dump.proofs.Fronts.{front_behind, front_first}
-use Rattle.bsonraw_dump.specs.Run.{Emits, Makes, MakesJson, Writes}
+use Rattle.bsonraw_dump.specs.Pick.{IsPicked, IsPickedAs, IsPrinted}
+use Rattle.bsonraw_dump.specs.Run.{Emits, Makes, MakesJson, MakesPicked, Writes}
 use Rattle.bsonraw_dump.specs.Unique.{CountsOne, first_forms, firsts_of, has_digest, if_new, joined, kept_of, known_behind, knows, origins_of, placed, with_form, written_of}
 use Rattle.bsonraw_dump.specs.declared.command.Command.{Command}
 use Rattle.bsonraw_dump.specs.declared.command.Command.TheVariants as command
 use Rattle.bsonraw_dump.specs.declared.kept.Kept.{Kept}
 use Rattle.bsonraw_dump.specs.declared.kept.Origin.{Origin}
+use Rattle.bsonraw_dump.specs.declared.pick.Picking.{Picking}
 use Rattle.bsonraw_dump.proofs.Repeating.{firsts_none, repeats_none}
 use Rattle.bsonraw_dump.specs.declared.find.Finding.{Finding}
 use Rattle.bsonraw_dump.specs.declared.find.Finding.TheVariants as finding
@@ -41,6 +43,7 @@ kept_of-append command.Count known xs ys = refl
 kept_of-append command.Canon known xs ys = refl
 kept_of-append command.Sound known xs ys = refl
 kept_of-append (command.Json style) known xs ys = refl
+kept_of-append (command.Pick picking) known xs ys = refl
 kept_of-append command.Unique known xs ys = first_forms-append known xs ys
 
 written_of-append : (c : Command) (known : List ℕ → Bool) (xs ys : List (List ℕ)) → written_of c known (xs ++ ys) ≡ written_of c known xs ++ written_of c (known_behind c known xs) ys
@@ -53,6 +56,7 @@ known_behind-append command.Count known xs ys = refl
 known_behind-append command.Canon known xs ys = refl
 known_behind-append command.Sound known xs ys = refl
 known_behind-append (command.Json style) known xs ys = refl
+known_behind-append (command.Pick picking) known xs ys = refl
 known_behind-append command.Unique known xs ys = fold-append with_form known xs ys
 
 nothing_kept : (c : Command) (known : List ℕ → Bool) → kept_of c known [] ≡ []
@@ -62,6 +66,7 @@ nothing_kept command.Count known = refl
 nothing_kept command.Canon known = refl
 nothing_kept command.Sound known = refl
 nothing_kept (command.Json style) known = refl
+nothing_kept (command.Pick picking) known = refl
 nothing_kept command.Unique known = refl
 
 nothing_known : (c : Command) (known : List ℕ → Bool) (d : List ℕ) → known d ≡ known_behind c known [] d
@@ -71,6 +76,7 @@ nothing_known command.Count known d = refl
 nothing_known command.Canon known d = refl
 nothing_known command.Sound known d = refl
 nothing_known (command.Json style) known d = refl
+nothing_known (command.Pick picking) known d = refl
 nothing_known command.Unique known d = refl
 
 -- nothing is made
@@ -157,6 +163,42 @@ json_made style b f k d d' sound (inr (line, (text, is, it), front)) =
       | inr breached ↦ subst (λ x. MakesJson style b x (line ∷ [])) (sym breached) (text, is, ap (λ (x : List ℕ). x ∷ []) it)
     ] in
     inr (line, (line ∷ [], made, sym (append-nil line)), front)
+
+-- the document of what is picked is printed in this way
+pub is_picked_as : (picking : Picking) (style : Option json.Style) (b document made : List ℕ) → picking.style ≡ style → IsPicked b picking.paths.now document
+    → IsPrinted style document made → IsPickedAs picking b made
+is_picked_as picking style b document made same is printed = (document, is, subst (λ (s : Option json.Style). IsPrinted s document made) (sym same) printed)
+
+-- or a front of it is written
+pub front_picked : (picking : Picking) (style : Option json.Style) (b document : List ℕ) (d d' : Option (List ℕ)) → picking.style ≡ style → IsPicked b picking.paths.now document
+    → WritesFront (IsPrinted style document) d d' → WritesFront (IsPickedAs picking b) d d'
+front_picked picking style b document d d' same is (inl none) = inl none
+front_picked picking style b document d d' same is (inr (made, printed, front)) = inr (made, is_picked_as picking style b document made same is printed, front)
+
+-- a document that is picked is written
+picked_written : (picking : Picking) (made : List ℕ) (d d' : Option (List ℕ)) (k k' : Kept) → Appends d d' made → CountsOne k k' → Writes (command.Pick picking) (made ∷ []) d d' k k'
+picked_written picking made d d' k k' put (counted, same) = record {
+  is_written = subst (Appends d d') (sym (append-nil made)) put;
+  is_known = λ x. known_same k k' x same;
+  is_counted = counted;
+}
+
+makes_picked : (picking : Picking) (b : List ℕ) (f : Finding) (made : List ℕ) → (f ≡ finding.Canonical) ⊎ (f ≡ finding.Breached) → IsPickedAs picking b made
+    → MakesPicked picking b f (made ∷ [])
+makes_picked picking b f made (inl canonical) is = subst (λ x. MakesPicked picking b x (made ∷ [])) (sym canonical) (made, is, refl)
+makes_picked picking b f made (inr breached) is = subst (λ x. MakesPicked picking b x (made ∷ [])) (sym breached) (made, is, refl)
+
+-- of a document without damage that is what comes of it
+pub picked_emitted : (picking : Picking) (at : Origin) (b : List ℕ) (f : Finding) (d d' : Option (List ℕ)) (k k' : Kept) → (f ≡ finding.Canonical) ⊎ (f ≡ finding.Breached)
+    → (made : List ℕ) × IsPickedAs picking b made × Appends d d' made × CountsOne k k' → Emits (command.Pick picking) at b f d d' k k' None
+picked_emitted picking at b f d d' k k' sound (made, is, put, counted) =
+    (made ∷ [], makes_picked picking b f made sound is, (picked_written picking made d d' k k' put counted, record { placed = ap origins_of counted.1; repeats = refl }))
+
+-- or a front of it is written
+pub picked_made : (picking : Picking) (b : List ℕ) (f : Finding) (k : Kept) (d d' : Option (List ℕ)) → (f ≡ finding.Canonical) ⊎ (f ≡ finding.Breached)
+    → WritesFront (IsPickedAs picking b) d d' → WritesFront (IsMade (command.Pick picking) b f k) d d'
+picked_made picking b f k d d' sound (inl same) = inl same
+picked_made picking b f k d d' sound (inr (made, is, front)) = inr (made, (made ∷ [], makes_picked picking b f made sound is, sym (append-nil made)), front)
 
 -- this is written of the canonical form of a document
 abbrev pub IsFormWritten : Command → List ℕ → Kept → List ℕ → Type 0

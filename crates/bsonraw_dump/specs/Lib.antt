@@ -7,6 +7,7 @@ pub mod Fronts
 pub mod Values
 pub mod Listing
 pub mod Unique
+pub mod Pick
 pub mod Run
 pub mod Halting
 pub mod Portion

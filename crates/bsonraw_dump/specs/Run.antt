@@ -16,6 +16,8 @@ use Rattle.bsonraw_dump.specs.declared.window.Next.TheVariants as next
 use Rattle.bsonraw_dump.specs.declared.window.Window.{Window}
 use Rattle.bsonraw_dump.specs.Find.{Account, Judges, MayBeDamaged}
 use Rattle.bsonraw_dump.specs.Listing.{ListsDocument}
+use Rattle.bsonraw_dump.specs.Pick.{IsPickedAs}
+use Rattle.bsonraw_dump.specs.declared.pick.Picking.{Picking}
 use Rattle.bsonraw_dump.specs.Told.{ending_line, last_line, line, repeat_line, report_line, words_of}
 use Rattle.bsonraw_dump.specs.Unique.{Origin, Placed, Repeat, firsts_behind, firsts_of, kept_of, known_behind, knows, origin_at, origin_of, placed_at, repeat_at, repeats_of, written_of}
 use Rattle.bsonraw_dump.specs.declared.failure.Failure.{Failure}
@@ -71,8 +73,15 @@ MakesJson style b finding.TooDeep made = made ≡ []
 MakesJson style b finding.Unjudged made = made ≡ []
 MakesJson style b _ made = (text : List ℕ) × IsJson style b text × (made ≡ (text ++ codes "\n") ∷ [])
 
+-- the document that is picked of a piece b in which this is found, unless it is damaged or too deep, or isn't judged; or its line
+abbrev pub MakesPicked : Picking → List ℕ → Finding → List (List ℕ) → Type 0
+MakesPicked picking b finding.Damaged made = made ≡ []
+MakesPicked picking b finding.TooDeep made = made ≡ []
+MakesPicked picking b finding.Unjudged made = made ≡ []
+MakesPicked picking b _ made = (picked : List ℕ) × IsPickedAs picking b picked × (made ≡ picked ∷ [])
+
 -- what a command makes of a piece b in which this is found: check, list and count nothing; sound the piece itself, unless it is damaged or too deep; canon
--- and unique its canonical form; json its line
+-- and unique its canonical form; json its line; pick the document of some of its elements
 abbrev pub Makes : Command → List ℕ → Finding → List (List ℕ) → Type 0
 Makes command.Check b found made = made ≡ []
 Makes command.List b found made = made ≡ []
@@ -84,6 +93,7 @@ Makes command.Sound b _ made = made ≡ b ∷ []
 Makes command.Canon b found made = MakesForm b found made
 Makes command.Unique b found made = MakesForm b found made
 Makes (command.Json style) b found made = MakesJson style b found made
+Makes (command.Pick picking) b found made = MakesPicked picking b found made
 
 -- what a command reports of a piece b at this offset, in which this is found: list its length, what is found and its elements;
 -- check what isn't canonical; the others what they leave out

@@ -4,6 +4,7 @@
 use crate::batch::Job;
 use crate::command::Command;
 use crate::find::most_allowed;
+use crate::pick::Picking;
 use crate::portion::Portion;
 use crate::reading::Reading;
 use crate::style::Style;
@@ -19,7 +20,7 @@ use std::alloc::{AllocError, Global};
 #[derive(Drop)]
 pub struct Task<'a> {
     /// what is asked of the inputs
-    pub reading: Reading,
+    pub reading: Reading<'a>,
     /// the file that is written in place of standard output
     pub output: Option<&'a str>,
     /// what is read; nothing and `-` are standard input
@@ -124,9 +125,12 @@ fn writing<'a>(alloc: Global, command: clap::Command<'a>) -> Result<clap::Comman
     reading(alloc, findings(alloc, command)?.arg(output(alloc))?)
 }
 
-fn documents_as_json<'a>(alloc: Global) -> Result<clap::Command<'a>, AllocError> {
-    let command = clap::Command::new(alloc, "json")
-        .about("Writes each document without damage as MongoDB Extended JSON v2, a line each")
+/// A command that prints documents as Extended JSON.
+fn printing<'a>(
+    alloc: Global,
+    command: clap::Command<'a>,
+) -> Result<clap::Command<'a>, AllocError> {
+    command
         .arg(switch(
             alloc,
             "canonical",
@@ -136,8 +140,26 @@ fn documents_as_json<'a>(alloc: Global) -> Result<clap::Command<'a>, AllocError>
             alloc,
             "indent",
             "Prints a line for each member, indented by two spaces a level",
-        ))?;
-    writing(alloc, command)
+        ))
+}
+
+fn documents_as_json<'a>(alloc: Global) -> Result<clap::Command<'a>, AllocError> {
+    let command = clap::Command::new(alloc, "json").about(
+        "Writes each document without damage as MongoDB Extended JSON v2, a line each",
+    );
+    writing(alloc, printing(alloc, command)?)
+}
+
+fn picks<'a>(alloc: Global) -> Result<clap::Command<'a>, AllocError> {
+    let paths = Arg::new(alloc, "PATHS")
+        .help("Keys with dots between them, as items.0.name, and commas between the paths")
+        .required(true)
+        .action(ArgAction::Set);
+    let command = clap::Command::new(alloc, "pick")
+        .about("Writes these elements of each document without damage, as json does")
+        .arg(switch(alloc, "bson", "Writes them as a dump"))?
+        .arg(paths)?;
+    writing(alloc, printing(alloc, command)?)
 }
 
 fn texts<'a>(alloc: Global) -> Result<clap::Command<'a>, AllocError> {
@@ -188,6 +210,7 @@ pub fn command_line<'a>(alloc: Global) -> Result<clap::Command<'a>, AllocError> 
         .subcommand(writing(alloc, sound)?)?
         .subcommand(writing(alloc, unique.arg(switch(alloc, "repeats", repeats))?)?)?
         .subcommand(documents_as_json(alloc)?)?
+        .subcommand(picks(alloc)?)?
         .subcommand(texts(alloc)?)
 }
 
@@ -225,15 +248,26 @@ fn limits_of(matches: &ArgMatches<'_>) -> Limits {
     }
 }
 
+fn picking_of<'a>(matches: &ArgMatches<'a>) -> Picking<'a> {
+    Picking {
+        paths: matches.get_str("PATHS").unwrap_or(""),
+        style: if matches.get_flag("bson") {
+            None
+        } else {
+            Some(json_style_of(matches))
+        },
+    }
+}
+
 /// The task of a command that was given.
 fn task_of<'a>(
     alloc: Global,
-    command: Command,
+    command: Command<'a>,
     matches: &ArgMatches<'a>,
 ) -> Result<Task<'a>, Error> {
     let output = match command {
         Command::Check | Command::List | Command::Count => None,
-        Command::Canon | Command::Sound | Command::Unique | Command::Json(_) => {
+        Command::Canon | Command::Sound | Command::Unique | Command::Json(_) | Command::Pick(_) => {
             matches.get_str("output").filter(|name| *name != "-")
         }
     };
@@ -244,7 +278,8 @@ fn task_of<'a>(
         | Command::Canon
         | Command::Sound
         | Command::Unique
-        | Command::Json(_) => style_of(matches),
+        | Command::Json(_)
+        | Command::Pick(_) => style_of(matches),
     };
     Ok(Task {
         reading: Reading::Dumps(Job {
@@ -310,6 +345,10 @@ pub fn parsed<'a>(alloc: Global, words: &'a [String]) -> Result<Option<Task<'a>>
     }
     if let Some(inner) = matches.subcommand_matches("json") {
         let command = Command::Json(json_style_of(inner));
+        return Ok(Some(task_of(alloc, command, inner)?));
+    }
+    if let Some(inner) = matches.subcommand_matches("pick") {
+        let command = Command::Pick(picking_of(inner));
         return Ok(Some(task_of(alloc, command, inner)?));
     }
     if let Some(inner) = matches.subcommand_matches("bson") {

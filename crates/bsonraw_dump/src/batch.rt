@@ -25,9 +25,9 @@ use std::io::{ErrorKind, Write};
 
 /// What is asked of inputs.
 #[derive(Clone, Copy)]
-pub struct Job {
+pub struct Job<'a> {
     /// what is asked of their documents
-    pub command: Command,
+    pub command: Command<'a>,
     /// how what is found is printed
     pub style: Style,
     /// whether bytes are passed over where no document begins
@@ -111,13 +111,13 @@ impl<'a> Totals<'a> {
 /// Runs a command over the inputs of these names, in order, and writes what was counted. What is written is flushed.
 pub fn run_all<'a, I: Inputs, D: Write, W: Write>(
     alloc: Global,
-    job: Job,
+    job: Job<'a>,
     inputs: &I,
     names: &[&'a str],
     out: &mut D,
     report: &mut W,
 ) -> Done<'a>
-    ensures { IsDone job (I.bytes_of inputs.now) (map (λ name. name.now) names.now) (D.contents out.old) (D.contents out.new)
+    ensures { IsDone job.entry (I.bytes_of inputs.now) (map (λ name. name.now) names.now) (D.contents out.old) (D.contents out.new)
         (W.contents report.old) (W.contents report.new) result }
 {
     let mut totals = Totals::new(alloc, job.repeats);
@@ -136,17 +136,17 @@ pub fn run_all<'a, I: Inputs, D: Write, W: Write>(
 /// Runs a command over the inputs of these names, in order, and writes what was counted of all.
 fn run_each<'a, I: Inputs, D: Write, W: Write>(
     alloc: Global,
-    job: Job,
+    job: Job<'a>,
     inputs: &I,
     names: &[&'a str],
     out: &mut D,
     report: &mut W,
     totals: &mut Totals<'a>,
 ) -> Result<(), Failure>
-    ensures runs { OnOk result ((last : State) × RunsAll job (I.bytes_of inputs.now) (map (λ name. name.now) names.now)
+    ensures runs { OnOk result ((last : State) × RunsAll job.entry (I.bytes_of inputs.now) (map (λ name. name.now) names.now)
         (state_of (D.contents out.old) (W.contents report.old) totals.old) last (D.contents out.new) (W.contents report.new)
         × (last.counts ≡ totals.new.counts) × (last.cut ≡ option_map cut_of totals.new.cut)) }
-    ensures fails { OnErr result (RunsFront job (I.bytes_of inputs.now) (map (λ name. name.now) names.now)
+    ensures fails { OnErr result (RunsFront job.entry (I.bytes_of inputs.now) (map (λ name. name.now) names.now)
         (state_of (D.contents out.old) (W.contents report.old) totals.old) (D.contents out.new) (W.contents report.new) totals.new.counts) }
     ensures failed { IfErr result (λ failure. ¬ IsReading failure) }
 {
@@ -161,16 +161,16 @@ fn run_each<'a, I: Inputs, D: Write, W: Write>(
 /// Runs a command over one input, and writes what was counted of it.
 fn run_one<'a, I: Inputs, D: Write, W: Write>(
     alloc: Global,
-    job: Job,
+    job: Job<'a>,
     inputs: &I,
     name: &'a str,
     out: &mut D,
     report: &mut W,
     totals: &mut Totals<'a>,
 ) -> Result<(), Failure>
-    ensures comes { OnOk result (Comes job (I.bytes_of inputs.now name.entry.now) name.entry.now
+    ensures comes { OnOk result (Comes job.entry (I.bytes_of inputs.now name.entry.now) name.entry.now
         (state_of (D.contents out.old) (W.contents report.old) totals.old) (state_of (D.contents out.new) (W.contents report.new) totals.new)) }
-    ensures halts { OnErr result (HaltsWithin job name.entry.now (I.bytes_of inputs.now name.entry.now)
+    ensures halts { OnErr result (HaltsWithin job.entry name.entry.now (I.bytes_of inputs.now name.entry.now)
         (D.contents out.old) (D.contents out.new) (W.contents report.old) (W.contents report.new) totals.old.kept totals.old.counts totals.new.counts) }
     ensures failed { IfErr result (λ failure. ¬ IsReading failure) }
 {
@@ -181,16 +181,16 @@ fn run_one<'a, I: Inputs, D: Write, W: Write>(
 /// Runs a command over one input, and returns what was counted of it. One that can't be opened isn't read to its end.
 fn count_one<'a, I: Inputs, D: Write, W: Write>(
     alloc: Global,
-    job: Job,
+    job: Job<'a>,
     inputs: &I,
     name: &'a str,
     out: &mut D,
     report: &mut W,
     totals: &mut Totals<'a>,
 ) -> Result<Counts, Failure>
-    ensures counted { IfOk result (CountsInput job name.entry.now (I.bytes_of inputs.now name.entry.now) (D.contents out.old) (D.contents out.new)
+    ensures counted { IfOk result (CountsInput job.entry name.entry.now (I.bytes_of inputs.now name.entry.now) (D.contents out.old) (D.contents out.new)
         (W.contents report.old) (W.contents report.new) totals.old totals.new) }
-    ensures halts { OnErr result (HaltsWithin job name.entry.now (I.bytes_of inputs.now name.entry.now)
+    ensures halts { OnErr result (HaltsWithin job.entry name.entry.now (I.bytes_of inputs.now name.entry.now)
         (D.contents out.old) (D.contents out.new) (W.contents report.old) (W.contents report.new) totals.old.kept totals.old.counts totals.new.counts) }
     ensures failed { IfErr result (λ failure. ¬ IsReading failure) }
 {
@@ -211,7 +211,7 @@ fn count_one<'a, I: Inputs, D: Write, W: Write>(
 /// Runs a command over an input that is open, and returns what was counted of it.
 fn run_open<'a, I: Inputs, D: Write, W: Write>(
     alloc: Global,
-    job: Job,
+    job: Job<'a>,
     inputs: &I,
     name: &'a str,
     input: &mut I::Input,
@@ -219,9 +219,9 @@ fn run_open<'a, I: Inputs, D: Write, W: Write>(
     report: &mut W,
     totals: &mut Totals<'a>,
 ) -> Result<Counts, Failure>
-    ensures counted { IfOk result (CountsRun job name.entry.now (I.Input.remaining input.old) (D.contents out.old) (D.contents out.new)
+    ensures counted { IfOk result (CountsRun job.entry name.entry.now (I.Input.remaining input.old) (D.contents out.old) (D.contents out.new)
         (W.contents report.old) (W.contents report.new) totals.old totals.new) }
-    ensures halts { OnErr result (HaltsWithin job name.entry.now (I.Input.remaining input.old)
+    ensures halts { OnErr result (HaltsWithin job.entry name.entry.now (I.Input.remaining input.old)
         (D.contents out.old) (D.contents out.new) (W.contents report.old) (W.contents report.new) totals.old.kept totals.old.counts totals.new.counts) }
     ensures failed { IfErr result (λ failure. ¬ IsReading failure) }
 {
@@ -253,15 +253,15 @@ fn run_open<'a, I: Inputs, D: Write, W: Write>(
 /// Of `check` and `count`, writes what was counted of one input.
 fn put_counts<W: Write>(
     alloc: Global,
-    job: Job,
+    job: Job<'_>,
     name: &str,
     counts: &Counts,
     report: &mut W,
 ) -> Result<(), Failure>
     ensures written { OnOk result
-        (Appends (W.contents report.old) (W.contents report.new) (input_line job job.command name.now counts.now)) }
+        (Appends (W.contents report.old) (W.contents report.new) (input_line job.entry job.entry.command name.now counts.now)) }
     ensures front { OnErr result
-        (AppendsFront (W.contents report.old) (W.contents report.new) (input_line job job.command name.now counts.now)) }
+        (AppendsFront (W.contents report.old) (W.contents report.new) (input_line job.entry job.entry.command name.now counts.now)) }
     ensures failed { IfErr result (λ failure. ¬ IsReading failure) }
 {
     match job.command {
@@ -274,23 +274,26 @@ fn put_counts<W: Write>(
             0,
             report,
         ),
-        Command::List | Command::Canon | Command::Sound | Command::Unique | Command::Json(_) => {
-            put(report, b"")
-        }
+        Command::List
+        | Command::Canon
+        | Command::Sound
+        | Command::Unique
+        | Command::Json(_)
+        | Command::Pick(_) => { put(report, b"") }
     }
 }
 
 /// Writes what was counted of all inputs, but of a list.
 fn put_all_counts<W: Write>(
     alloc: Global,
-    job: Job,
+    job: Job<'_>,
     totals: &Totals<'_>,
     report: &mut W,
 ) -> Result<(), Failure>
     ensures written { OnOk result
-        (Appends (W.contents report.old) (W.contents report.new) (all_line job job.command totals.now.counts totals.now.kept)) }
+        (Appends (W.contents report.old) (W.contents report.new) (all_line job.entry job.entry.command totals.now.counts totals.now.kept)) }
     ensures front { OnErr result
-        (AppendsFront (W.contents report.old) (W.contents report.new) (all_line job job.command totals.now.counts totals.now.kept)) }
+        (AppendsFront (W.contents report.old) (W.contents report.new) (all_line job.entry job.entry.command totals.now.counts totals.now.kept)) }
     ensures failed { IfErr result (λ failure. ¬ IsReading failure) }
 {
     match job.command {
@@ -300,7 +303,8 @@ fn put_all_counts<W: Write>(
         | Command::Canon
         | Command::Sound
         | Command::Unique
-        | Command::Json(_) => put_summary(
+        | Command::Json(_)
+        | Command::Pick(_) => put_summary(
             alloc,
             job.style,
             None,
@@ -323,8 +327,8 @@ pub fn flush<W: Write>(writer: &mut W) -> Result<(), Failure>
 }
 
 /// How a run ends that fails, and counted so many. A pipe whose reader is gone changes nothing.
-fn status_of_failure(command: Command, counts: Counts, failure: &Failure) -> Status
-    ensures { IsFailureStatus command counts failure.now result }
+fn status_of_failure(command: Command<'_>, counts: Counts, failure: &Failure) -> Status
+    ensures { IsFailureStatus command.entry counts failure.now result }
 {
     match failure {
         Failure::Memory => Status::Memory,
@@ -339,8 +343,8 @@ fn status_of_failure(command: Command, counts: Counts, failure: &Failure) -> Sta
 }
 
 /// How a run ends that counted so many.
-fn status_of(command: Command, counts: Counts) -> Status
-    ensures { IsStatus command counts result }
+fn status_of(command: Command<'_>, counts: Counts) -> Status
+    ensures { IsStatus command.entry counts result }
 {
     if counts.files > 0 || counts.passed_over > 0 {
         Status::Input
@@ -352,8 +356,8 @@ fn status_of(command: Command, counts: Counts) -> Status
 }
 
 /// Whether what was read makes the command's status one of damage.
-fn is_damage(command: Command, counts: Counts) -> bool
-    ensures { MatchBool result (HasDamage command counts) (¬ HasDamage command counts) }
+fn is_damage(command: Command<'_>, counts: Counts) -> bool
+    ensures { MatchBool result (HasDamage command.entry counts) (¬ HasDamage command.entry counts) }
 {
     counts.damaged > 0
         || counts.too_deep > 0

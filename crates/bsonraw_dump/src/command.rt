@@ -1,8 +1,9 @@
+use crate::pick::Picking;
 use bson_json::Style;
 
 /// What is asked of the documents of an input.
 #[derive(Clone, Copy)]
-pub enum Command {
+pub enum Command<'a> {
     /// a line for each that isn't canonical
     Check,
     /// the elements of each, at every level
@@ -17,4 +18,6 @@ pub enum Command {
     Unique,
     /// each without damage as Extended JSON, with a line feed behind it
     Json(Style),
+    /// a document of some elements of each without damage
+    Pick(Picking<'a>),
 }

@@ -187,12 +187,10 @@ fn start(rt: &HostRuntime, task: &Task<'_>) -> Status {
             each(rt, task, &mut io::sink(), &mut out).status
         }
         Some(Command::List) => each(rt, task, &mut io::sink(), &mut out).status,
-        Some(Command::Canon | Command::Sound | Command::Unique | Command::Json(_)) | None => each(
-            rt,
-            task,
-            &mut out,
-            &mut rt.stderr(),
-        ).status,
+        Some(
+            Command::Canon | Command::Sound | Command::Unique | Command::Json(_) | Command::Pick(_),
+        )
+        | None => each(rt, task, &mut out, &mut rt.stderr()).status,
     }
 }
 

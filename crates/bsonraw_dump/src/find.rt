@@ -79,15 +79,15 @@ pub fn most_allowed() -> Limits
 }
 
 /// What a command finds in the bytes of a document, within limits: `count` judges none.
-pub fn judged(
+pub fn judged<'a>(
     alloc: Global,
-    command: Command,
+    command: Command<'_>,
     limits: Limits,
-    bytes: &[u8],
-) -> Result<Found<'_>, AllocError>
+    bytes: &'a [u8],
+) -> Result<Found<'a>, AllocError>
     requires { length bytes.now ≤ limits.bytes }
     ensures { IfOk result
-        (λ found. Judges limits command bytes.now found.finding (option_map account_of found.told)) }
+        (λ found. Judges limits command.entry bytes.now found.finding (option_map account_of found.told)) }
 {
     match command {
         Command::Count => Ok(Found {
@@ -99,7 +99,8 @@ pub fn judged(
         | Command::Canon
         | Command::Sound
         | Command::Unique
-        | Command::Json(_) => find(alloc, limits, bytes),
+        | Command::Json(_)
+        | Command::Pick(_) => find(alloc, limits, bytes),
     }
 }
 

@@ -17,6 +17,7 @@ mod listing;
 mod names;
 mod object;
 mod output;
+mod pick;
 mod portion;
 mod position;
 mod prompt;

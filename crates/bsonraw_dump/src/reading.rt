@@ -8,14 +8,14 @@ use crate::texts_batch::TextJob;
 
 /// What the inputs of a run hold, and what is asked of them.
 #[derive(Clone, Copy)]
-pub enum Reading {
+pub enum Reading<'a> {
     /// dumps
-    Dumps(Job),
+    Dumps(Job<'a>),
     /// texts of Extended JSON
     Texts(TextJob),
 }
 
-impl Reading {
+impl<'a> Reading<'a> {
     /// How what is found is printed.
     pub fn style(self) -> Style {
         match self {
@@ -25,7 +25,7 @@ impl Reading {
     }
 
     /// The command that reads dumps.
-    pub fn command(self) -> Option<Command> {
+    pub fn command(self) -> Option<Command<'a>> {
         match self {
             Reading::Dumps(job) => Some(job.command),
             Reading::Texts(_) => None,
@@ -35,10 +35,11 @@ impl Reading {
     /// Whether BSON is written.
     pub fn writes_documents(self) -> bool {
         match self {
-            Reading::Dumps(job) => matches!(
-                job.command,
-                Command::Canon | Command::Sound | Command::Unique
-            ),
+            Reading::Dumps(job) => match job.command {
+                Command::Canon | Command::Sound | Command::Unique => true,
+                Command::Pick(picking) => picking.style.is_none(),
+                Command::Check | Command::List | Command::Count | Command::Json(_) => false,
+            },
             Reading::Texts(_) => true,
         }
     }

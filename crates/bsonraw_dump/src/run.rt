@@ -10,6 +10,7 @@ ghost use Rattle.bsonraw_dump.specs.Reading.{GoesAhead, IsReadBehind, IsWindow, 
 ghost use Rattle.raw_resync.specs.Seeking.{IsWork};
 ghost use Rattle.bsonraw_dump.specs.Fronts.{WritesFront};
 ghost use Rattle.bsonraw_dump.specs.Halting.{IsMade, ListsFront, ReportsFront, HaltsInGap, HaltsLeaving, HaltsNext, HaltsOne};
+ghost use Rattle.bsonraw_dump.specs.Pick.{IsPickedAs};
 ghost use Rattle.bsonraw_dump.specs.Portion.{EndsPortion, HaltsPortion, PassesPortion};
 ghost use Rattle.bsonraw_dump.specs.Listing.{ListsDocument};
 ghost use Rattle.bsonraw_dump.specs.Find.{Account, account_of};
@@ -31,6 +32,7 @@ use crate::find::{Finding, Found, Told, judged};
 use crate::kept::{Added, Kept, Origin};
 use crate::listing::list_levels;
 use crate::object::{ending_object, repeat_object, told_object};
+use crate::pick::{Picking, picked};
 use crate::portion::Portion;
 use crate::resync::{is_doubted, pass_over};
 use crate::style::Style;
@@ -51,7 +53,7 @@ use std::io::{Read, Write};
 #[derive(Clone, Copy)]
 pub struct Asked<'a> {
     /// what is asked of its documents
-    pub command: Command,
+    pub command: Command<'a>,
     /// how what is found is printed
     pub style: Style,
     /// whether bytes are passed over where no document begins
@@ -373,7 +375,7 @@ fn pass<'a, D: Write, W: Write>(
 /// Reports what the command tells of a document in which this was found.
 fn report_found<W: Write>(
     alloc: Global,
-    command: Command,
+    command: Command<'_>,
     style: Style,
     name: &str,
     offset: u64,
@@ -382,10 +384,10 @@ fn report_found<W: Write>(
     report: &mut W,
 ) -> Result<(), Failure>
     ensures reported { OnOk result ((lines : List ℕ)
-        × Reports command style name.now offset bytes.now found.now.finding (option_map account_of found.now.told) lines
+        × Reports command.entry style name.now offset bytes.now found.now.finding (option_map account_of found.now.told) lines
         × Appends (W.contents report.old) (W.contents report.new) lines) }
     ensures front { OnErr result ((lines : List ℕ)
-        × ReportsFront command style name.now offset bytes.now found.now.finding (option_map account_of found.now.told) lines
+        × ReportsFront command.entry style name.now offset bytes.now found.now.finding (option_map account_of found.now.told) lines
         × Appends (W.contents report.old) (W.contents report.new) lines) }
     ensures failed { IfErr result (λ failure. ¬ IsReading failure) }
 {
@@ -396,7 +398,12 @@ fn report_found<W: Write>(
         }
         (Command::Check, Finding::Canonical | Finding::Unjudged)
         | (
-            Command::Canon | Command::Sound | Command::Unique | Command::Json(_) | Command::Count,
+            Command::Canon
+            | Command::Sound
+            | Command::Unique
+            | Command::Json(_)
+            | Command::Pick(_)
+            | Command::Count,
             Finding::Canonical | Finding::Breached | Finding::Unjudged,
         ) => put(report, b""),
     }
@@ -513,15 +520,15 @@ pub fn put_summary<W: Write>(
     alloc: Global,
     style: Style,
     name: Option<&str>,
-    command: Command,
+    command: Command<'_>,
     counts: &Counts,
     kept: u64,
     report: &mut W,
 ) -> Result<(), Failure>
     ensures written { OnOk result (Appends (W.contents report.old) (W.contents report.new)
-        (summary_line style (option_copied name.entry) command counts.now kept)) }
+        (summary_line style (option_copied name.entry) command.entry counts.now kept)) }
     ensures front { OnErr result (AppendsFront (W.contents report.old) (W.contents report.new)
-        (summary_line style (option_copied name.entry) command counts.now kept)) }
+        (summary_line style (option_copied name.entry) command.entry counts.now kept)) }
     ensures failed { IfErr result (λ failure. ¬ IsReading failure) }
 {
     let text = match style {
@@ -561,7 +568,7 @@ fn put_repeat<W: Write>(
 /// of its form, if one came before.
 fn emit<'a, D: Write>(
     alloc: Global,
-    command: Command,
+    command: Command<'_>,
     limits: Limits,
     origin: Origin<'a>,
     finding: Finding,
@@ -571,8 +578,8 @@ fn emit<'a, D: Write>(
 ) -> Result<Option<Origin<'a>>, Failure>
     requires { (told : Option Account) × Judges limits command bytes.now finding told }
     ensures written { IfOk result
-        (Emits command origin.entry bytes.now finding (D.contents out.old) (D.contents out.new) kept.old kept.new) }
-    ensures front { OnErr result (WritesFront (IsMade command bytes.now finding kept.old) (D.contents out.old) (D.contents out.new)) }
+        (Emits command.entry origin.entry bytes.now finding (D.contents out.old) (D.contents out.new) kept.old kept.new) }
+    ensures front { OnErr result (WritesFront (IsMade command.entry bytes.now finding kept.old) (D.contents out.old) (D.contents out.new)) }
     ensures failed { IfErr result (λ failure. ¬ IsReading failure) }
 {
     match (command, finding) {
@@ -597,13 +604,17 @@ fn emit<'a, D: Write>(
             put_json(alloc, style, limits, bytes, out, kept)?;
             Ok(None)
         }
+        (Command::Pick(picking), Finding::Canonical | Finding::Breached) => {
+            put_picked(alloc, picking, limits, bytes, out, kept)?;
+            Ok(None)
+        }
     }
 }
 
 /// Writes the canonical form of a document. The one that is over the range of lengths counts as one without memory.
 fn put_form<'a, D: Write>(
     alloc: Global,
-    command: Command,
+    command: Command<'_>,
     limits: Limits,
     origin: Origin<'a>,
     bytes: &[u8],
@@ -611,9 +622,9 @@ fn put_form<'a, D: Write>(
     kept: &mut Kept<'a>,
 ) -> Result<Option<Origin<'a>>, Failure>
     ensures written { IfOk result (λ first. (form : List ℕ) × IsCanonicalForm bytes.now form
-        × Puts command origin.entry (form ∷ []) (D.contents out.old) (D.contents out.new) kept.old kept.new first) }
+        × Puts command.entry origin.entry (form ∷ []) (D.contents out.old) (D.contents out.new) kept.old kept.new first) }
     ensures front { OnErr result (WritesFront
-        (λ text. (form : List ℕ) × IsCanonicalForm bytes.now form × (text ≡ written_of command (knows kept.old) (form ∷ [])))
+        (λ text. (form : List ℕ) × IsCanonicalForm bytes.now form × (text ≡ written_of command.entry (knows kept.old) (form ∷ [])))
         (D.contents out.old) (D.contents out.new)) }
     ensures failed { IfErr result (λ failure. ¬ IsReading failure) }
 {
@@ -649,18 +660,48 @@ fn put_json<D: Write>(
     }
 }
 
+/// Writes the document of some elements of a document, which may be longer than that. What would be over the limits counts as out of
+/// memory.
+fn put_picked<D: Write>(
+    alloc: Global,
+    picking: Picking<'_>,
+    limits: Limits,
+    bytes: &[u8],
+    out: &mut D,
+    kept: &mut Kept<'_>,
+) -> Result<(), Failure>
+    requires { IsEnvelope bytes.now }
+    ensures written { OnOk result ((made : List ℕ) × IsPickedAs picking.entry bytes.now made
+        × Appends (D.contents out.old) (D.contents out.new) made × CountsOne kept.old kept.new) }
+    ensures front { OnErr result (WritesFront (IsPickedAs picking.entry bytes.now) (D.contents out.old) (D.contents out.new)) }
+    ensures failed { IfErr result (λ failure. ¬ IsReading failure) }
+{
+    let Ok(document) = RawDocument::from_bytes(bytes) else {
+        unreachable!()
+    };
+    let picked = picked(alloc, document, picking.paths)?;
+    let limits = Limits {
+        bytes: picked.len(),
+        depth: limits.depth,
+    };
+    match picking.style {
+        None => put_one(&picked, out, kept),
+        Some(style) => put_json(alloc, style, limits, &picked, out, kept),
+    }
+}
+
 /// Writes a document that the command makes of one at this place: of `unique` where its digest is new. Returns the place of the first
 /// document with its digest, if one came before.
 fn put_document<'a, D: Write>(
-    command: Command,
+    command: Command<'_>,
     origin: Origin<'a>,
     document: &[u8],
     out: &mut D,
     kept: &mut Kept<'a>,
 ) -> Result<Option<Origin<'a>>, Failure>
     ensures written { IfOk result
-        (Puts command origin.entry (document.now ∷ []) (D.contents out.old) (D.contents out.new) kept.old kept.new) }
-    ensures front { OnErr result (AppendsFront (D.contents out.old) (D.contents out.new) (written_of command (knows kept.old) (document.now ∷ []))) }
+        (Puts command.entry origin.entry (document.now ∷ []) (D.contents out.old) (D.contents out.new) kept.old kept.new) }
+    ensures front { OnErr result (AppendsFront (D.contents out.old) (D.contents out.new) (written_of command.entry (knows kept.old) (document.now ∷ []))) }
     ensures failed { IfErr result (λ failure. ¬ IsReading failure) }
 {
     match command {
@@ -670,7 +711,8 @@ fn put_document<'a, D: Write>(
         | Command::Count
         | Command::Canon
         | Command::Sound
-        | Command::Json(_) => {
+        | Command::Json(_)
+        | Command::Pick(_) => {
             put_one(document, out, kept)?;
             Ok(None)
         }

@@ -32,15 +32,15 @@ fn push(counts: &mut Vec<Count>, name: &'static str, number: u64) -> Result<(), 
 /// How many documents were kept and left out, where the command keeps any.
 fn push_kept(
     all: &mut Vec<Count>,
-    command: Command,
+    command: Command<'_>,
     counts: &Counts,
     kept: u64,
 ) -> Result<(), AllocError>
-    ensures { OnOk result (map count_of all.new.items ≡ map count_of all.old.items ++ kept_counts command counts.now kept) }
+    ensures { OnOk result (map count_of all.new.items ≡ map count_of all.old.items ++ kept_counts command.entry counts.now kept) }
 {
     match command {
         Command::Check | Command::List | Command::Count => Ok(()),
-        Command::Canon | Command::Sound | Command::Unique | Command::Json(_) => {
+        Command::Canon | Command::Sound | Command::Unique | Command::Json(_) | Command::Pick(_) => {
             push(all, "kept", kept)?;
             push(all, "left out", counts.documents.saturating_sub(kept))
         }
@@ -48,20 +48,31 @@ fn push_kept(
 }
 
 /// How many documents aren't canonical, where that changes what the command does.
-fn push_breached(all: &mut Vec<Count>, command: Command, counts: &Counts) -> Result<(), AllocError>
-    ensures { OnOk result (map count_of all.new.items ≡ map count_of all.old.items ++ breached_counts command counts.now) }
+fn push_breached(
+    all: &mut Vec<Count>,
+    command: Command<'_>,
+    counts: &Counts,
+) -> Result<(), AllocError>
+    ensures { OnOk result (map count_of all.new.items ≡ map count_of all.old.items ++ breached_counts command.entry counts.now) }
 {
     match command {
         Command::Check | Command::Canon => push(all, "not canonical", counts.breached),
-        Command::List | Command::Count | Command::Sound | Command::Unique | Command::Json(_) => Ok(
-            (),
-        ),
+        Command::List
+        | Command::Count
+        | Command::Sound
+        | Command::Unique
+        | Command::Json(_)
+        | Command::Pick(_) => Ok(()),
     }
 }
 
 /// How many documents are damaged or too deep, where the command knows.
-fn push_damaged(all: &mut Vec<Count>, command: Command, counts: &Counts) -> Result<(), AllocError>
-    ensures { OnOk result (map count_of all.new.items ≡ map count_of all.old.items ++ damaged_counts command counts.now) }
+fn push_damaged(
+    all: &mut Vec<Count>,
+    command: Command<'_>,
+    counts: &Counts,
+) -> Result<(), AllocError>
+    ensures { OnOk result (map count_of all.new.items ≡ map count_of all.old.items ++ damaged_counts command.entry counts.now) }
 {
     match command {
         Command::Count => Ok(()),
@@ -70,7 +81,8 @@ fn push_damaged(all: &mut Vec<Count>, command: Command, counts: &Counts) -> Resu
         | Command::Canon
         | Command::Sound
         | Command::Unique
-        | Command::Json(_) => {
+        | Command::Json(_)
+        | Command::Pick(_) => {
             push(all, "damaged", counts.damaged)?;
             push(all, "too deep", counts.too_deep)
         }
@@ -89,11 +101,11 @@ fn push_left(all: &mut Vec<Count>, counts: &Counts) -> Result<(), AllocError>
 /// All that was counted beside the documents.
 fn counted(
     alloc: Global,
-    command: Command,
+    command: Command<'_>,
     counts: &Counts,
     kept: u64,
 ) -> Result<Vec<Count>, AllocError>
-    ensures { IfOk result (λ all. map count_of all.items ≡ counts_of command counts.now kept) }
+    ensures { IfOk result (λ all. map count_of all.items ≡ counts_of command.entry counts.now kept) }
 {
     let mut all = Vec::new(alloc);
     push(&mut all, "bytes", counts.bytes)?;
@@ -140,11 +152,11 @@ fn push_name(alloc: Global, text: &mut Vec<u8>, name: Option<&str>) -> Result<()
 pub fn summary(
     alloc: Global,
     name: Option<&str>,
-    command: Command,
+    command: Command<'_>,
     counts: &Counts,
     kept: u64,
 ) -> Result<Vec<u8>, AllocError>
-    ensures { IfOk result (λ text. text.items ≡ summary_line Words (option_copied name.entry) command counts.now kept) }
+    ensures { IfOk result (λ text. text.items ≡ summary_line Words (option_copied name.entry) command.entry counts.now kept) }
 {
     let mut text = Vec::new(alloc);
     push_name(alloc, &mut text, name)?;
@@ -177,11 +189,11 @@ fn put_name(object: &mut Writer, name: Option<&str>) -> Result<(), AllocError>
 pub fn summary_object(
     alloc: Global,
     name: Option<&str>,
-    command: Command,
+    command: Command<'_>,
     counts: &Counts,
     kept: u64,
 ) -> Result<Vec<u8>, AllocError>
-    ensures { IfOk result (λ text. text.items ≡ summary_line Json (option_copied name.entry) command counts.now kept) }
+    ensures { IfOk result (λ text. text.items ≡ summary_line Json (option_copied name.entry) command.entry counts.now kept) }
 {
     let mut object = begun(alloc)?;
     put_name(&mut object, name)?;

@@ -3,13 +3,13 @@ use Rattle.std.proofs.lemmas.Result.{IfOk-weaker}
 use Rattle.raw_tree.specs.CanonicalForm.{IsCanonicalForm}
 use Rattle.bsonraw_dump.specs.declared.command.Command.TheVariants as command
 use Rattle.bsonraw_dump.specs.declared.find.Finding.TheVariants as finding
-use Rattle.bsonraw_dump.specs.Run.{Emits, Makes, Puts}
 use Rattle.bsonraw_dump.specs.Fronts.{WritesFront}
 use Rattle.bsonraw_dump.specs.Halting.{IsMade}
+use Rattle.bsonraw_dump.specs.Run.{Emits, Makes, Puts}
 use Rattle.bsonraw_dump.proofs.Fronts.{on_any, on_err}
-use Rattle.bsonraw_dump.proofs.Writing.{IsFormWritten, form_made_canon, form_made_unique, json_emitted, json_made, nothing_emitted}
+use Rattle.bsonraw_dump.proofs.Writing.{IsFormWritten, form_made_canon, form_made_unique, json_emitted, json_made, nothing_emitted, picked_emitted, picked_made}
 use Rattle.bsonraw_dump.proofs.run.emit.Goals as goal
-use Rattle.bsonraw_dump.proofs.run.emit.Goals.{in-Check-1, in-Sound+in-Damaged-1, in-Canon+in-Damaged-1, in-Unique+in-Damaged-1, in-Json+in-Damaged-1}
+use Rattle.bsonraw_dump.proofs.run.emit.Goals.{in-Check-1, in-Sound+in-Damaged-1, in-Canon+in-Damaged-1, in-Unique+in-Damaged-1, in-Json+in-Damaged-1, in-Pick+in-Damaged-1}
 
 pub returns-in_ok-put_json-in-Json-Canonical-clause-written : goal.returns-in_ok-put_json-in-Json-Canonical-clause-written
 returns-in_ok-put_json-in-Json-Canonical-clause-written g c =
@@ -34,6 +34,29 @@ returns-in_err-put_json-in-Json-Canonical-clause-front g c =
     let k = c.args.kept.now in
     let sound : (f ≡ finding.Canonical) ⊎ (f ≡ finding.Breached) = search rules in
     on_any _ _ (subst (λ x. WritesFront (IsMade x b f k) old new) (sym c.in-Json-Canonical.is-0) (json_made style b f k old new sound c.in_err-put_json-in-Json-Canonical.ensures.front))
+
+pub returns-in_ok-put_picked-in-Pick-Canonical-clause-written : goal.returns-in_ok-put_picked-in-Pick-Canonical-clause-written
+returns-in_ok-put_picked-in-Pick-Canonical-clause-written g c =
+    let b = c.args.bytes.now in
+    let f = c.args.finding in
+    let old = g.D.Write.contents c.args.out.now in
+    let new = g.D.Write.contents c.put_picked.new.out in
+    let k = c.args.kept.now in
+    let k' = c.put_picked.new.kept in
+    let sound : (f ≡ finding.Canonical) ⊎ (f ≡ finding.Breached) = search rules in
+    subst (λ x. Emits x c.args.origin b f old new k k' None) (sym c.in-Pick-Canonical.is-0)
+    (picked_emitted c.in-Pick-Canonical.picking c.args.origin b f old new k k' sound c.in_ok-put_picked-in-Pick-Canonical.ensures.written)
+
+pub returns-in_err-put_picked-in-Pick-Canonical-clause-front : goal.returns-in_err-put_picked-in-Pick-Canonical-clause-front
+returns-in_err-put_picked-in-Pick-Canonical-clause-front g c =
+    let b = c.args.bytes.now in
+    let f = c.args.finding in
+    let old = g.D.Write.contents c.args.out.now in
+    let new = g.D.Write.contents c.put_picked.new.out in
+    let k = c.args.kept.now in
+    let sound : (f ≡ finding.Canonical) ⊎ (f ≡ finding.Breached) = search rules in
+    on_any _ _ (subst (λ x. WritesFront (IsMade x b f k) old new) (sym c.in-Pick-Canonical.is-0)
+    (picked_made c.in-Pick-Canonical.picking b f k old new sound c.in_err-put_picked-in-Pick-Canonical.ensures.front))
 
 pub returns-in-Canon-Breached-clause-front : goal.returns-in-Canon-Breached-clause-front
 returns-in-Canon-Breached-clause-front g c =
@@ -69,6 +92,7 @@ returns-in_ok-put-in-Check-default-clause-written g c =
       | in-Canon+in-Damaged-1 w ↦ search rules
       | in-Unique+in-Damaged-1 w ↦ search rules
       | in-Json+in-Damaged-1 w ↦ search rules
+      | in-Pick+in-Damaged-1 w ↦ search rules
     ] in
     nothing_emitted command c.args.origin b f old new k nothing c.in_ok-put-in-Check-default.ensures.written
 
