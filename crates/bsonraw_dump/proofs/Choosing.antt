@@ -5,7 +5,7 @@ use Rattle.raw_tree.specs.declared.reader.limits.Limits.{Limits}
 use Rattle.bsonraw_dump.specs.Halting.{Halts}
 use Rattle.bsonraw_dump.specs.Portion.{AreAsked, EndsPortion, HaltsPortion, HasFailed, IsAllInFront, IsChosen, IsEnough, IsInFront, IsRunOver, PassesPortion, documents_of_parts}
 use Rattle.bsonraw_dump.specs.Reading.{IsWindow, ahead_of}
-use Rattle.bsonraw_dump.specs.Run.{Entry, FailsAt, Gap, Part, PassesAll, piece, gap, skipped, bytes_of_parts, count_finding, count_left, count_part}
+use Rattle.bsonraw_dump.specs.Run.{EndsAs, Entry, FailsAt, Gap, Part, PassesAll, piece, gap, skipped, bytes_of_parts, count_finding, count_left, count_part}
 use Rattle.bsonraw_dump.specs.declared.command.Command.{Command}
 use Rattle.bsonraw_dump.specs.declared.counts.Counts.{Counts}
 use Rattle.bsonraw_dump.specs.declared.failure.ReadFailure.{ReadFailure}
@@ -181,12 +181,13 @@ pub some_none : {A : Type 0} (x : A) → IsNone (Some x) → ⊥
 some_none x none = not_early (sym none)
 
 module _ {p : Portion} {limits : Limits} {c : Command} {style : Style} {resync : Bool} {name : List ℕ} {r r' d d' w w' : Option (List ℕ)} {n n' : Counts} {k k' : Kept} {y : Window} where
-  -- a run ends with the input
-  pub ends_portion : PassesPortion p limits c style resync name r r' d d' w w' n n' k k' y stop.End → EndsPortion p limits c style resync name r r' d d' w w' n n' k k' None
-  ends_portion q =
+  -- a run ends without a failure
+  ends_read : {s : Stop} (early : Bool) (q : PassesPortion p limits c style resync name r r' d d' w w' n n' k k' y s) → (HasFailed s → ⊥)
+      → EndsAs limits resync early None None q.all.left r' → (early ≡ true → IsEnough p q.all.ps) → EndsPortion p limits c style resync name r r' d d' w w' n n' k k' None
+  ends_read early q read ends enough =
       let whole : IsAllInFront p limits.bytes r q.front = elim q.to_front [
         | inl all ↦ all
-        | inr failed ↦ absurd failed
+        | inr failed ↦ absurd (read failed)
       ] in
       record {
         front = q.front;
@@ -196,44 +197,25 @@ module _ {p : Portion} {limits : Limits} {c : Command} {style : Style} {resync :
           counts_between = n';
           left = q.all.left;
           passed = q.all.passed;
-          early = false;
+          early = early;
           end = None;
-          ends = q.all.stops;
+          ends = ends;
           fails = tt;
           told = Appends-nil w';
           is_counted = refl;
         };
         chosen = q.chosen;
-        to_front = λ read. whole;
-        to_last = λ early. absurd (not_early early);
+        to_front = λ none. whole;
+        to_last = enough;
       }
+
+  -- with the input
+  pub ends_portion : PassesPortion p limits c style resync name r r' d d' w w' n n' k k' y stop.End → EndsPortion p limits c style resync name r r' d d' w w' n n' k k' None
+  ends_portion q = ends_read false q (λ failed. failed) q.all.stops (λ early. absurd (not_early early))
 
   -- or with the last document that is asked for
   pub ends_early : PassesPortion p limits c style resync name r r' d d' w w' n n' k k' y stop.Enough → EndsPortion p limits c style resync name r r' d d' w w' n n' k k' None
-  ends_early q =
-      let whole : IsAllInFront p limits.bytes r q.front = elim q.to_front [
-        | inl all ↦ all
-        | inr failed ↦ absurd failed
-      ] in
-      record {
-        front = q.front;
-        ends = record {
-          ps = q.all.ps;
-          report_between = w';
-          counts_between = n';
-          left = q.all.left;
-          passed = q.all.passed;
-          early = true;
-          end = None;
-          ends = (refl, refl);
-          fails = tt;
-          told = Appends-nil w';
-          is_counted = refl;
-        };
-        chosen = q.chosen;
-        to_front = λ read. whole;
-        to_last = λ early. q.to_last refl;
-      }
+  ends_early q = ends_read true q (λ failed. failed) (refl, refl) (λ early. q.to_last refl)
 
   -- or where reading failed
   pub ends_failed : {m : Counts} (s : Stop) (from : ℕ) (f : ReadFailure) → FailsAt from s → PassesPortion p limits c style resync name r r' d d' w w' n n' k k' y s

@@ -189,35 +189,38 @@ front_nothing m here (Some s) = ([], s, [], [], refl, refl, inl refl, refl)
 
 -- steps over elements
 
+-- an element more, in front of others and of what is behind them
+module _ (m here : ℕ) (E : Type 0) (Goes : List ℕ → List Frame → E → Type 0) (Ends : E → List ℕ → Type 0) where
+  abbrev pub HasLines : List ℕ → List ℕ → Type 0
+  HasLines s text =
+      (frames : List Frame) × (end : E) × (elements last : List ℕ) × Goes s frames end × ListsFrames (Lists m (here + 1)) here frames elements × Ends end last
+      × (text ≡ elements ++ last)
+
+  lines_more : (s r : List ℕ) (f : Frame) (lines text : List ℕ) → ((fs : List Frame) (end : E) → Goes r fs end → Goes s (f ∷ fs) end)
+      → ListsFrame (Lists m (here + 1)) here f lines → HasLines r text → HasLines s (lines ++ text)
+  lines_more s r f lines text goes one (frames, end, elements, last, are, listed, ends, whole) = (
+    f ∷ frames,
+    end,
+    lines ++ elements,
+    last,
+    goes frames end are,
+    (lines, elements, one, listed, refl),
+    ends,
+    ap (λ (x : List ℕ). lines ++ x) whole ∙ sym (append_assoc lines elements last),
+  )
+
 left_more : (m here : ℕ) (left new : Option (List ℕ)) (e : RawElement) (lines text : List ℕ) → StepsFront left (Some (Ok e)) new
     → ListsFrame (Lists m (here + 1)) here (frame_of e) lines → ListsLeft m here new text → ListsLeft m here left (lines ++ text)
 left_more m here None new e lines text (none, gone) one h = absurd (cc)
 left_more m here (Some s) new e lines text (r, at, is) one h =
-    let (frames, end, elements, last, walk, are, ends, whole) = subst (λ (x : Option (List ℕ)). ListsLeft m here x text) is h in (
-      frame_of e ∷ frames,
-      end,
-      lines ++ elements,
-      last,
-      (r, at, walk),
-      (lines, elements, one, are, refl),
-      ends,
-      ap (λ (x : List ℕ). lines ++ x) whole ∙ sym (append_assoc lines elements last),
-    )
+    lines_more m here End IsWalk (ListsEnd here) s r (frame_of e) lines text (λ fs end walk. (r, at, walk)) one (subst (λ (x : Option (List ℕ)). ListsLeft m here x text) is h)
 
 front_more : (m here : ℕ) (left new : Option (List ℕ)) (e : RawElement) (lines text : List ℕ) → StepsFront left (Some (Ok e)) new
     → ListsFrame (Lists m (here + 1)) here (frame_of e) lines → HasLeftFront m here new text → HasLeftFront m here left (lines ++ text)
 front_more m here None new e lines text (none, gone) one h = absurd (cc)
 front_more m here (Some s) new e lines text (r, at, is) one h =
-    let (frames, behind, elements, last, leads, are, ends, whole) = subst (λ (x : Option (List ℕ)). HasLeftFront m here x text) is h in (
-      frame_of e ∷ frames,
-      behind,
-      lines ++ elements,
-      last,
-      (r, at, leads),
-      (lines, elements, one, are, refl),
-      ends,
-      ap (λ (x : List ℕ). lines ++ x) whole ∙ sym (append_assoc lines elements last),
-    )
+    lines_more m here (List ℕ) LeadsTo (HasNextFront (HasLinesFront m (here + 1)) here) s r (frame_of e) lines text (λ fs left leads. (r, at, leads)) one
+    (subst (λ (x : Option (List ℕ)). HasLeftFront m here x text) is h)
 
 -- a front of the lines of the element
 front_within : (m here : ℕ) (left new : Option (List ℕ)) (e : RawElement) (lines text : List ℕ) → StepsFront left (Some (Ok e)) new
