@@ -1,7 +1,7 @@
 //! Times as text.
 #![tactic(auto)]
 
-ghost use Rattle.std.specs.Prelude.{◌≡◌, ◌<◌, ◌+◌, ◌∷◌, ◌↔◌, ℕ, List, IsTrue, IfOk, OnOk, Ok, true, false, pos, ◌+ℤ◌};
+ghost use Rattle.std.specs.Prelude.{◌≡◌, ◌<◌, ◌+◌, ◌∷◌, ◌↔◌, ℕ, List, IsTrue, IfOk, OnErr, OnOk, Ok, true, false, pos, ◌+ℤ◌};
 ghost use Rattle.std.specs.Io.KnownBytes.{Appends};
 ghost use Rattle.bson_json.specs.Dates.{HasInstantText, IsDateJson, IsInstantText, second_text, three_digits};
 
@@ -106,12 +106,13 @@ fn put_instant<W: Write>(out: &mut W, millis: i64) -> io::Result<()>
 }
 
 /// Writes a time, as milliseconds from 1970 on, as ISO 8601 has it: as `2012-12-24T12:15:30.501Z`, without a fraction where that
-/// is 0. Whether it is of the years 0 to 9999; of another nothing is written.
+/// is 0. Whether it is of the years 0 to 9999; of another nothing is written, and it is no error.
 pub fn write_time<W: Write>(out: &mut W, millis: i64) -> io::Result<bool>
     ensures has_text { IfOk result (λ has_text. IsTrue has_text ↔ HasInstantText millis) }
     ensures text { result ≡ Ok true → (text : List ℕ) × IsInstantText millis text
         × Appends (W.contents out.old) (W.contents out.new) text }
     ensures same { result ≡ Ok false → W.contents out.new ≡ W.contents out.old }
+    ensures err { OnErr result (HasInstantText millis) }
 {
     if millis < FIRST_MILLIS || LAST_MILLIS < millis {
         return Ok(false);

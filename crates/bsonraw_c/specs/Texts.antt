@@ -34,12 +34,12 @@ PutsDecimal bytes before after code =
     (HasText (decimal128_text bytes) before after × Returns status.Done code)
     ⊎ LacksMemory before after code
 
--- the room has the text of a time; or the time isn't of the years 0 to 9999, and the room is as it was; or memory ran out
+-- the room has the text of a time; or the time isn't of the years 0 to 9999, and the room is as it was; or it is, and memory ran out
 abbrev pub PutsTime : ℤ → List ℕ → List ℕ → ℤ → Type 0
 PutsTime millis before after code =
     ((text : List ℕ) × IsInstantText millis text × HasText text before after × Returns status.Done code)
     ⊎ ((¬ HasInstantText millis) × (after ≡ before) × Returns status.Fault code)
-    ⊎ LacksMemory before after code
+    ⊎ (HasInstantText millis × LacksMemory before after code)
 
 -- a text writes a Decimal128, whose bytes are in the room; or none, and the room is as it was
 abbrev pub ReadsDecimal : List ℕ → List ℕ → List ℕ → ℤ → Type 0

@@ -1,5 +1,5 @@
 use Rattle.std.proofs.Common.{rules, ◌≡◌, ◌++◌, ◌∙◌, List, ℕ, ℤ, Ok, true, ap, subst, w32, w64, to_z, of_z}
-use Rattle.bson_json.specs.Dates.{IsInstantText}
+use Rattle.bson_json.specs.Dates.{HasInstantText, IsInstantText}
 use Rattle.bsonraw_c.specs.Iters.{Returns}
 use Rattle.bsonraw_c.proofs.TimeTexts.{puts_time}
 use Rattle.bsonraw_c.proofs.texts.bsonraw_date_time_to_text.Goals as goal
@@ -11,6 +11,7 @@ returns-in-Ok-true c =
     let (text, is, put) = c.write_time.ensures.text written in
     let same : to_z w64 (of_z w64 z) ≡ z = search rules in
     let items : c.write_time.new.out.items ≡ text = put ∙ ap (λ (x : List ℕ). x ++ text) c.new-own.ensures.items in
+    let years : HasInstantText (to_z w64 (of_z w64 z)) = search rules in
     let returned : Returns c.put_text.result (to_z w32 (of_z w32 c.number.result)) = search rules in
     puts_time z text c.write_time.new.out.items c.args.text.now.bytes c.put_text.new.room c.put_text.result (to_z w32 (of_z w32 c.number.result))
-    (subst (λ (y : ℤ). IsInstantText y text) same is) items c.put_text.ensures returned
+    years (subst (λ (y : ℤ). IsInstantText y text) same is) items c.put_text.ensures returned
