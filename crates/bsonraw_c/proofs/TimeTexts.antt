@@ -26,4 +26,4 @@ pub puts_time : (z : ℤ) (text items before after : List ℕ) (s : Status) (cod
 puts_time z text items before after s code years is same (inl (has, done)) returned =
     inl (text, is, subst (λ (t : List ℕ). HasText t before after) same has, subst (λ (x : Status). Returns x code) done returned)
 puts_time z text items before after s code years is same (inr (kept, lacks)) returned =
-    inr (inr (years, kept, subst (λ (x : Status). Returns x code) lacks returned))
+    inr (inr (years, (kept, subst (λ (x : Status). Returns x code) lacks returned)))

@@ -14,4 +14,4 @@ returns-in-Ok-true c =
     let years : HasInstantText (to_z w64 (of_z w64 z)) = search rules in
     let returned : Returns c.put_text.result (to_z w32 (of_z w32 c.number.result)) = search rules in
     puts_time z text c.write_time.new.out.items c.args.text.now.bytes c.put_text.new.room c.put_text.result (to_z w32 (of_z w32 c.number.result))
-    years (subst (λ (y : ℤ). IsInstantText y text) same is) items c.put_text.ensures returned
+    (subst HasInstantText same years) (subst (λ (y : ℤ). IsInstantText y text) same is) items c.put_text.ensures returned
