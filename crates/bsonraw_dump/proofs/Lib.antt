@@ -25,3 +25,4 @@ mod TextParts
 mod TextWords
 mod TextWhole
 mod TextSumming
+mod Guessing

@@ -18,3 +18,6 @@ pub mod TextFaults
 pub mod TextReading
 pub mod TextRun
 pub mod TextBatch
+pub mod Guess
+pub mod Watching
+pub mod Errors

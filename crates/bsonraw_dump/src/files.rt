@@ -5,6 +5,7 @@ use crate::args::{Task, parsed};
 use crate::batch::{Done, Lack, run_all};
 use crate::command::Command;
 use crate::failure::Failure;
+use crate::find::most_allowed;
 use crate::inputs::Inputs;
 use crate::names::{Words, copied, expanded, given_words};
 use crate::output::into_file;
@@ -49,8 +50,8 @@ pub struct Files<'a> {
     style: Style,
     /// whether it is shown how far the reading has come
     shows: bool,
-    /// whether they are dumps
-    are_dumps: bool,
+    /// how many bytes a document has at most, if they are dumps
+    most: Option<usize>,
     /// the file that is written by redirection, if it is one, which isn't read
     written: Option<Node>,
 }
@@ -74,7 +75,7 @@ impl<'a> Files<'a> {
             size,
             style: self.style,
             shows: self.shows,
-            is_dump: self.are_dumps,
+            most: self.most,
         }
     }
 }
@@ -225,7 +226,10 @@ fn files_of<'a>(rt: &'a HostRuntime, task: &Task<'_>) -> Files<'a> {
         shows: is_apart
             && rt.stderr().is_terminal()
             && !matches!(task.reading.style(), Style::Quiet),
-        are_dumps: matches!(task.reading, Reading::Dumps(_)),
+        most: match task.reading {
+            Reading::Dumps(job) => Some(job.limits.bytes.max(most_allowed().bytes)),
+            Reading::Texts(_) => None,
+        },
         written: if is_redirected {
             node_of(rt, "/dev/stdout")
         } else {

@@ -7,6 +7,7 @@ ghost use Rattle.std.specs.Option.{option_copied};
 ghost use Rattle.json.specs.Token.{Token, begin_object, end_object, key, number, string};
 ghost use Rattle.json.specs.Written.{Written};
 ghost use Rattle.raw_form.specs.Barriers.{step_of};
+ghost use Rattle.bsonraw_dump.specs.Errors.{error_members};
 ghost use Rattle.bsonraw_dump.specs.Find.{account_of, explanation_of, spot_of};
 ghost use Rattle.bsonraw_dump.specs.Told.{all_members, ending_members, first_members, head_members, key_token, keys_members, members_of, number_member, number_token, numbers_members, object_line, reason_members, report_line, rest_members, spot_members, text_or_null, Grows};
 ghost use Rattle.bsonraw_dump.specs.Unique.{origin_of};
@@ -279,12 +280,12 @@ pub fn error_object(
     name: &str,
     at: Option<u64>,
     text: &str,
-) -> Result<Vec<u8>, AllocError> {
+) -> Result<Vec<u8>, AllocError>
+    ensures { IfOk result (λ line. line.items ≡ object_line (error_members name.now at text.now)) }
+{
     let mut object = begun(alloc)?;
     put_text(&mut object, "file", name)?;
-    if let Some(at) = at {
-        put_number(&mut object, "offset", at)?;
-    }
+    put_some(&mut object, "offset", at)?;
     put_text(&mut object, "error", text)?;
     ended(object)
 }

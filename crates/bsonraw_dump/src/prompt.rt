@@ -2,6 +2,7 @@
 #![tactic(auto)]
 
 ghost use Rattle.std.specs.Prelude.{◌≡◌};
+ghost use Rattle.bsonraw_dump.specs.Watching.{IsUnwritten};
 
 use std::io;
 use std::io::Write;
@@ -20,7 +21,9 @@ pub struct Prompt<'a, W> {
 
 impl<'a, W> Prompt<'a, W> {
     /// The writer, flushed with each write if it is `often`, else once a second.
-    pub fn new(rt: &'a HostRuntime, writer: W, often: bool) -> Prompt<'a, W> {
+    pub fn new(rt: &'a HostRuntime, writer: W, often: bool) -> Prompt<'a, W>
+        ensures { IsUnwritten writer often result }
+    {
         Prompt {
             rt,
             writer,

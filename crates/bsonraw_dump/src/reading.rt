@@ -1,6 +1,12 @@
 //! What the inputs of a run hold, and what is asked of them.
 #![tactic(auto)]
 
+ghost use Rattle.std.specs.Prelude.{◌≡◌, MatchOption};
+ghost use Rattle.bsonraw_dump.specs.Errors as says;
+ghost use Rattle.bsonraw_dump.specs.declared.batch.Job.{Job};
+ghost use Rattle.bsonraw_dump.specs.declared.reading.Reading.TheVariants.{Dumps, Texts};
+ghost use Rattle.bsonraw_dump.specs.declared.texts_batch.TextJob.{TextJob};
+
 use crate::batch::Job;
 use crate::command::Command;
 use crate::style::Style;
@@ -17,7 +23,9 @@ pub enum Reading<'a> {
 
 impl<'a> Reading<'a> {
     /// How what is found is printed.
-    pub fn style(self) -> Style {
+    pub fn style(self) -> Style
+        ensures { result ≡ says.style_of self.entry }
+    {
         match self {
             Reading::Dumps(job) => job.style,
             Reading::Texts(job) => job.style,
@@ -25,7 +33,9 @@ impl<'a> Reading<'a> {
     }
 
     /// The command that reads dumps.
-    pub fn command(self) -> Option<Command<'a>> {
+    pub fn command(self) -> Option<Command<'a>>
+        ensures { MatchOption result ((job : TextJob) × (self.entry ≡ Texts job)) (λ command. (job : Job) × (self.entry ≡ Dumps job) × (command ≡ job.command)) }
+    {
         match self {
             Reading::Dumps(job) => Some(job.command),
             Reading::Texts(_) => None,
@@ -45,7 +55,9 @@ impl<'a> Reading<'a> {
     }
 
     /// What is told of an input that could be read on, and how.
-    pub fn way_on(self) -> &'static str {
+    pub fn way_on(self) -> &'static str
+        ensures { result.now ≡ says.way_on self.entry }
+    {
         match self {
             Reading::Dumps(_) => " wasn't read to its end; --resync goes on",
             Reading::Texts(_) => " wasn't read to its end; --keep-going goes on",

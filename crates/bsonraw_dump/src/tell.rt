@@ -1,55 +1,79 @@
 //! Tells on standard error what goes wrong, in a line each.
 #![tactic(auto)]
 
+ghost use Rattle.std.specs.Prelude.{◌≡◌, ◌++◌, ℕ, List, IfOk, OnOk};
+ghost use Rattle.bsonraw_dump.specs.Errors.{error_line, input_name, input_words, lack_line, lack_words, place_text, style_of};
+ghost use Rattle.bsonraw_dump.specs.declared.style.Style.TheVariants.{Json, Words};
+
 use crate::batch::Lack;
 use crate::failure::Failure;
 use crate::object::error_object;
 use crate::reading::Reading;
 use crate::style::Style;
-use crate::text::quotation;
-use std::alloc::AllocError;
+use crate::text::{push_number, push_quoted, push_words, quotation};
+use std::alloc::{AllocError, Global};
 use std::io;
 use std::io::Write;
 
 /// Tells what goes wrong with a file, and behind how many bytes, if some were read. Where even that fails, nothing is told.
 pub fn tell(rt: &HostRuntime, style: Style, name: &str, at: Option<u64>, error: &io::Error) {
-    match line_of(rt, style, name, at, error) {
+    match told(rt, style, name, at, error) {
         Ok(line) => put(rt, &line),
         Err(_) => tell_words(rt, style, "not enough memory"),
     }
 }
 
-fn line_of(
+fn told(
     rt: &HostRuntime,
     style: Style,
     name: &str,
     at: Option<u64>,
     error: &io::Error,
-) -> Result<Vec<u8>, AllocError> {
+) -> Result<Vec<u8>, AllocError>
+    ensures { IfOk result (λ line. (text : List ℕ) × (line.items ≡ error_line style name.now at text)) }
+{
+    let text = format!(in rt.alloc(); "{error}")?;
+    line_of(rt.alloc(), style, name, at, text.as_str())
+}
+
+/// The line of what goes wrong with a file.
+fn line_of(
+    alloc: Global,
+    style: Style,
+    name: &str,
+    at: Option<u64>,
+    text: &str,
+) -> Result<Vec<u8>, AllocError>
+    ensures { IfOk result (λ line. line.items ≡ error_line style name.now at text.now) }
+{
     match style {
-        Style::Words | Style::Quiet => words_of(rt, name, at, error),
-        Style::Json => {
-            let text = format!(in rt.alloc(); "{error}")?;
-            error_object(rt.alloc(), name, at, text.as_str())
-        }
+        Style::Words | Style::Quiet => words_of(alloc, name, at, text),
+        Style::Json => error_object(alloc, name, at, text),
     }
 }
 
-fn words_of(
-    rt: &HostRuntime,
-    name: &str,
-    at: Option<u64>,
-    error: &io::Error,
-) -> Result<Vec<u8>, AllocError> {
-    let place = match at {
-        Some(at) => format!(in rt.alloc(); ":{at}")?,
-        None => String::new(rt.alloc()),
-    };
-    let text = format!(in rt.alloc(); "{place}: {error}\n")?;
-    let mut line = Vec::from_slice(rt.alloc(), b"bsonraw-dump: ")?;
-    line.extend_from_slice(&quotation(rt.alloc(), name)?)?;
-    line.extend_from_slice(text.as_bytes())?;
+fn words_of(alloc: Global, name: &str, at: Option<u64>, text: &str) -> Result<Vec<u8>, AllocError>
+    ensures { IfOk result (λ line. line.items ≡ error_line Words name.now at text.now) }
+{
+    let mut line = Vec::from_slice(alloc, b"bsonraw-dump: ")?;
+    push_quoted(alloc, &mut line, name)?;
+    push_place(&mut line, at)?;
+    push_words(&mut line, ": ")?;
+    push_words(&mut line, text)?;
+    push_words(&mut line, "\n")?;
     Ok(line)
+}
+
+fn push_place(line: &mut Vec<u8>, at: Option<u64>) -> Result<(), AllocError>
+    ensures { OnOk result (line.new.items ≡ line.old.items ++ place_text at) }
+{
+    match at {
+        Some(at) => {
+            push_words(line, ":")?;
+            push_number(line, at)
+        }
+        None => Ok(()),
+    }
 }
 
 fn put(rt: &HostRuntime, line: &[u8]) {
@@ -57,41 +81,92 @@ fn put(rt: &HostRuntime, line: &[u8]) {
 }
 
 /// Tells that a file isn't written, and why not.
-pub fn tell_lack(rt: &HostRuntime, reading: Reading, name: &str, lack: &Lack<'_>) {
-    match lack_of(rt, reading, name, lack) {
+pub fn tell_lack(rt: &HostRuntime, reading: Reading<'_>, name: &str, lack: &Lack<'_>) {
+    match lack_of(rt.alloc(), reading, name, lack) {
         Ok(line) => put(rt, &line),
         Err(_) => tell_words(rt, reading.style(), "not enough memory"),
     }
 }
 
+/// The line of a file that isn't written.
 fn lack_of(
-    rt: &HostRuntime,
-    reading: Reading,
+    alloc: Global,
+    reading: Reading<'_>,
     name: &str,
     lack: &Lack<'_>,
-) -> Result<Vec<u8>, AllocError> {
-    let (input, words) = match lack {
-        Lack::Cut(cut) if cut.goes_on => (Some(cut.name), reading.way_on()),
-        Lack::Cut(cut) => (Some(cut.name), " wasn't read to its end"),
-        Lack::Failed(Failure::Memory) => (None, "not enough memory"),
-        Lack::Failed(Failure::Writing(_) | Failure::Reading(_)) => (None, "writing failed"),
-    };
+) -> Result<Vec<u8>, AllocError>
+    ensures { IfOk result (λ line. line.items ≡ lack_line reading.entry (style_of reading.entry) name.now lack.now) }
+{
     match reading.style() {
-        Style::Words | Style::Quiet => {
-            let mut line = quotation(rt.alloc(), name)?;
-            line.extend_from_slice(b": not written: ")?;
-            if let Some(input) = input {
-                line.extend_from_slice(&quotation(rt.alloc(), input)?)?;
+        Style::Words | Style::Quiet => lack_words_of(alloc, reading, name, lack),
+        Style::Json => lack_object_of(alloc, reading, name, lack),
+    }
+}
+
+fn lack_words_of(
+    alloc: Global,
+    reading: Reading<'_>,
+    name: &str,
+    lack: &Lack<'_>,
+) -> Result<Vec<u8>, AllocError>
+    ensures { IfOk result (λ line. line.items ≡ lack_line reading.entry Words name.now lack.now) }
+{
+    let mut line = quotation(alloc, name)?;
+    push_words(&mut line, ": not written: ")?;
+    push_input(alloc, &mut line, lack)?;
+    push_words(&mut line, why(reading, lack))?;
+    push_words(&mut line, "\n")?;
+    Ok(line)
+}
+
+/// Behind the text, the input for which a file isn't written, in quotes.
+fn push_input(alloc: Global, line: &mut Vec<u8>, lack: &Lack<'_>) -> Result<(), AllocError>
+    ensures { OnOk result (line.new.items ≡ line.old.items ++ input_words lack.now) }
+{
+    match lack {
+        Lack::Cut(cut) => push_quoted(alloc, line, cut.name),
+        Lack::Failed(_) => Ok(()),
+    }
+}
+
+fn lack_object_of(
+    alloc: Global,
+    reading: Reading<'_>,
+    name: &str,
+    lack: &Lack<'_>,
+) -> Result<Vec<u8>, AllocError>
+    ensures { IfOk result (λ line. line.items ≡ lack_line reading.entry Json name.now lack.now) }
+{
+    let mut text = String::from_str(alloc, "not written: ")?;
+    text.push_str(input_of(lack))?;
+    text.push_str(why(reading, lack))?;
+    error_object(alloc, name, None, text.as_str())
+}
+
+/// The input for which a file isn't written.
+fn input_of<'a>(lack: &Lack<'a>) -> &'a str
+    ensures { result.now ≡ input_name lack.now }
+{
+    match lack {
+        Lack::Cut(cut) => cut.name,
+        Lack::Failed(_) => "",
+    }
+}
+
+/// Why a file isn't written, behind the name of the input, if it is for one.
+fn why(reading: Reading<'_>, lack: &Lack<'_>) -> &'static str
+    ensures { result.now ≡ lack_words reading.entry lack.now }
+{
+    match lack {
+        Lack::Cut(cut) => {
+            if cut.goes_on {
+                reading.way_on()
+            } else {
+                " wasn't read to its end"
             }
-            line.extend_from_slice(words.as_bytes())?;
-            line.extend_from_slice(b"\n")?;
-            Ok(line)
         }
-        Style::Json => {
-            let input = input.unwrap_or("");
-            let text = format!(in rt.alloc(); "not written: {input}{words}")?;
-            error_object(rt.alloc(), name, None, text.as_str())
-        }
+        Lack::Failed(Failure::Memory) => "not enough memory",
+        Lack::Failed(Failure::Writing(_) | Failure::Reading(_)) => "writing failed",
     }
 }
 

@@ -2,7 +2,10 @@
 //! like that isn't a dump.
 #![tactic(auto)]
 
-ghost use Rattle.std.specs.Prelude.{◌≡◌};
+ghost use Rattle.std.specs.Prelude.{◌≡◌, ◌++◌, ℕ, List, None, Some};
+ghost use Rattle.std.specs.Option.{option_copied};
+ghost use Rattle.bsonraw_dump.specs.Guess.{HintsAt, OpensWell};
+ghost use Rattle.bsonraw_dump.specs.Watching.{IsUnread};
 
 use crate::guess::{hint, text_hint};
 use crate::style::Style;
@@ -25,8 +28,21 @@ pub struct About {
     pub style: Style,
     /// whether it is shown how far the reading has come
     pub shows: bool,
-    /// whether it has to be a dump
-    pub is_dump: bool,
+    /// how many bytes a document of it has at most, if it has to be a dump
+    pub most: Option<usize>,
+}
+
+impl About {
+    /// What it looks like, if it begins so and that isn't what it has to be.
+    fn hint(&self, read: &[u8]) -> Option<&'static str>
+        ensures hints { HintsAt self.now.most read.now (option_copied result) }
+        ensures none { (most : ℕ) (d r more : List ℕ) → self.now.most ≡ Some most → OpensWell most d → read.now ++ more ≡ d ++ r → result ≡ None }
+    {
+        match self.most {
+            Some(most) => hint(most, read),
+            None => text_hint(read),
+        }
+    }
 }
 
 /// A reader that shows how many bytes it gave.
@@ -45,7 +61,9 @@ pub struct Watched<'a, R> {
 
 impl<'a, R> Watched<'a, R> {
     /// The reader of an input of which nothing was read.
-    pub fn new(rt: &'a HostRuntime, reader: R, about: About) -> Watched<'a, R> {
+    pub fn new(rt: &'a HostRuntime, reader: R, about: About) -> Watched<'a, R>
+        ensures { IsUnread reader about result }
+    {
         Watched {
             rt,
             reader,
@@ -78,12 +96,7 @@ impl<'a, R> Watched<'a, R> {
     fn begin(&mut self, read: &[u8])
         ensures { self.new.reader ≡ self.old.reader }
     {
-        let hint = if self.about.is_dump {
-            hint(read)
-        } else {
-            text_hint(read)
-        };
-        if let (Some(words), Some(name)) = (hint, &self.about.name) {
+        if let (Some(words), Some(name)) = (self.about.hint(read), &self.about.name) {
             let error = io::Error::other(words);
             tell(self.rt, self.about.style, name.as_str(), None, &error);
         }

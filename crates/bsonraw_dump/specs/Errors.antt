@@ -1,0 +1,56 @@
+-- What standard error is told, a line each.
+use Rattle.std.specs.Prelude.{ℕ, List, [], ◌∷◌, ◌++◌, Option, None, Some, codes, cond, decimal}
+use Rattle.json.specs.Print.{quoted}
+use Rattle.json.specs.Token.{Token, key, string}
+use Rattle.bsonraw_dump.specs.Told.{number_member, object_line}
+use Rattle.bsonraw_dump.specs.declared.batch.Lack.{Lack}
+use Rattle.bsonraw_dump.specs.declared.batch.Lack.TheVariants as lack
+use Rattle.bsonraw_dump.specs.declared.failure.Failure.TheVariants as failure
+use Rattle.bsonraw_dump.specs.declared.reading.Reading.{Reading}
+use Rattle.bsonraw_dump.specs.declared.reading.Reading.TheVariants as reading
+use Rattle.bsonraw_dump.specs.declared.style.Style.{Style}
+use Rattle.bsonraw_dump.specs.declared.style.Style.TheVariants as style
+
+-- behind a colon how many bytes of a file were read, if some were
+abbrev pub place_text : Option ℕ → List ℕ
+place_text None = []
+place_text (Some at) = codes ":" ++ decimal at
+
+-- the members of an object that tells what goes wrong with a file
+abbrev pub error_members : List ℕ → Option ℕ → List ℕ → List Token
+error_members name at text = key (codes "file") ∷ string name ∷ number_member (codes "offset") at ++ key (codes "error") ∷ string text ∷ []
+
+-- the line of what goes wrong with a file, in quiet as in words
+abbrev pub error_line : Style → List ℕ → Option ℕ → List ℕ → List ℕ
+error_line style.Json name at text = object_line (error_members name at text)
+error_line _ name at text = codes "bsonraw-dump: " ++ quoted name ++ (place_text at ++ codes ": " ++ text ++ codes "\n")
+
+-- how what is found in the inputs is printed
+abbrev pub style_of : Reading → Style
+style_of (reading.Dumps job) = job.style
+style_of (reading.Texts job) = job.style
+
+-- an input wasn't read to its end, and could be read on by an option
+abbrev pub way_on : Reading → List ℕ
+way_on (reading.Dumps job) = codes " wasn't read to its end; --resync goes on"
+way_on (reading.Texts job) = codes " wasn't read to its end; --keep-going goes on"
+
+-- the input for which a file isn't written, if it is one; in words it is in quotes
+abbrev pub input_words : Lack → List ℕ
+input_words (lack.Cut cut) = quoted cut.name.now
+input_words (lack.Failed _) = []
+
+abbrev pub input_name : Lack → List ℕ
+input_name (lack.Cut cut) = cut.name.now
+input_name (lack.Failed _) = []
+
+-- and why not
+abbrev pub lack_words : Reading → Lack → List ℕ
+lack_words asked (lack.Cut cut) = cond cut.goes_on (way_on asked) (codes " wasn't read to its end")
+lack_words asked (lack.Failed failure.Memory) = codes "not enough memory"
+lack_words asked (lack.Failed _) = codes "writing failed"
+
+-- the line of a file that isn't written, in quiet as in words
+abbrev pub lack_line : Reading → Style → List ℕ → Lack → List ℕ
+lack_line asked style.Json name why = object_line (error_members name None (codes "not written: " ++ input_name why ++ lack_words asked why))
+lack_line asked _ name why = quoted name ++ codes ": not written: " ++ input_words why ++ lack_words asked why ++ codes "\n"
