@@ -91,7 +91,8 @@ impl Window {
         Ok(())
     }
 
-    /// Reads on until so many bytes are ahead, or the input ends, and returns whether they are.
+    /// Reads on until so many bytes are ahead, or the input ends, and returns whether they are. Most are ahead already.
+    #[inline(always)]
     pub fn look<R: Read>(&mut self, reader: &mut R, want: usize) -> Result<bool, Failure>
         requires { IsWindow self.old }
         ensures looks { IfOk result (SeesAhead (R.remaining reader.old) (R.remaining reader.new) self.old self.new want) }
@@ -100,6 +101,15 @@ impl Window {
         if want <= self.len {
             return Ok(true);
         }
+        self.read_on(reader, want)
+    }
+
+    #[inline(never)]
+    fn read_on<R: Read>(&mut self, reader: &mut R, want: usize) -> Result<bool, Failure>
+        requires { IsWindow self.old }
+        ensures looks { IfOk result (SeesAhead (R.remaining reader.old) (R.remaining reader.new) self.old self.new want) }
+        ensures fails { IfErr result (λ _. Stays (R.remaining reader.old) (R.remaining reader.new) self.old self.new) }
+    {
         self.make_room(want)?;
         let filled = fill(reader, &mut self.room[self.at..], self.len, want);
         self.len = filled.len;

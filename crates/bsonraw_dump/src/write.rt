@@ -10,8 +10,22 @@ use crate::failure::Failure;
 use std::io;
 use std::io::{ErrorKind, Write};
 
-/// Writes these bytes, as `write_all` does: what it leaves behind an error is a front of them.
+/// Writes these bytes, as `write_all` does: what it leaves behind an error is a front of them. Most commands write none of most
+/// documents.
+#[inline(always)]
 pub fn put<W: Write>(writer: &mut W, bytes: &[u8]) -> Result<(), Failure>
+    ensures written { OnOk result (Appends (W.contents writer.old) (W.contents writer.new) bytes.now) }
+    ensures front { OnErr result (AppendsFront (W.contents writer.old) (W.contents writer.new) bytes.now) }
+    ensures failed { IfErr result (λ failure. ¬ IsReading failure) }
+{
+    if bytes.is_empty() {
+        return Ok(());
+    }
+    put_all(writer, bytes)
+}
+
+#[inline(never)]
+fn put_all<W: Write>(writer: &mut W, bytes: &[u8]) -> Result<(), Failure>
     ensures written { OnOk result (Appends (W.contents writer.old) (W.contents writer.new) bytes.now) }
     ensures front { OnErr result (AppendsFront (W.contents writer.old) (W.contents writer.new) bytes.now) }
     ensures failed { IfErr result (λ failure. ¬ IsReading failure) }

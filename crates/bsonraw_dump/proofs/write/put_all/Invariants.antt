@@ -1,5 +1,5 @@
 use Rattle.bsonraw_dump.proofs.Fronts.{IsAhead}
-use Rattle.bsonraw_dump.proofs.write.put.Given as goal
+use Rattle.bsonraw_dump.proofs.write.put_all.Given as goal
 
 -- a front is written, and the rest is left
 abbrev pub invariant-calls : goal.invariant-calls

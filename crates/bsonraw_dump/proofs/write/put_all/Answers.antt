@@ -1,7 +1,7 @@
 use Rattle.std.proofs.Common.{◌∙◌, ap}
 use Rattle.bsonraw_dump.proofs.Fronts.{ahead_kept, ahead_more, rest_whole}
-use Rattle.bsonraw_dump.proofs.write.put.Goals as goal
-use Rattle.bsonraw_dump.proofs.write.put.Goals.{in-Ok, in-Err+else-ne}
+use Rattle.bsonraw_dump.proofs.write.put_all.Goals as goal
+use Rattle.bsonraw_dump.proofs.write.put_all.Goals.{in-Ok, in-Err+else-ne}
 
 pub calls-preserved : goal.calls-preserved
 calls-preserved g c =
