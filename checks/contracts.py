@@ -102,8 +102,8 @@ def lines_open_trait(lines: List[str], number: int) -> bool:
 
 
 def passed_on(text: str) -> List[str]:
-    """The names that a root file passes on, in their order."""
-    lists = re.findall(r"^pub use ([^;]*);", text, re.M)
+    """The names that a root file passes on to users, in their order: what is hidden is for crates of this repository alone."""
+    lists = re.findall(r"^(?<!#\[doc\(hidden\)\]\n)pub use ([^;]*);", text, re.M)
     return [name for uses in lists for name in re.findall(r"\w+", re.sub(r".*\{|.*::", "", " ".join(uses.split())))]
 
 

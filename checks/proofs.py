@@ -18,7 +18,6 @@ PREMISES = 8
 ARGUMENTS = 12
 # the most in crates where a lemma has more; these numbers only fall
 MOST_ARGUMENTS = {
-    "bson_json": 21,
     "bson_model": 13,
     "bsonraw_dump": 34,
     "raw_bson": 16,

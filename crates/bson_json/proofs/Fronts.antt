@@ -1,64 +1,113 @@
--- What is at the front of a level that is read without a fault.
-use Rattle.std.proofs.Common.{◌≡◌, ℕ, List, [], ◌∷◌, Option, None, Some, Ok, Err, refl, subst}
-use Rattle.std.specs.Option.{option_copied}
-use denote.Ref.{Bor}
-use Rattle.raw_view.specs.Frame.ElementSteps.{frame_of}
-use Rattle.raw_view.specs.Frame.{Frame, IsFrame, IsStop, Fault, Malformed, Utf8}
-use Rattle.raw_view.specs.Frame.Front.{StepsFront, StopsWith}
-use Rattle.raw_view.specs.Meaning.{KeyedFault, Means, value, faulty}
+-- What a walk comes to, as it is printed.
+use Rattle.std.proofs.Common.{◌≡◌, ◌+◌, ℕ, suc, false, nat_eq, List, [], ◌∷◌, ◌++◌, Option, None, Some, codes, length, refl, sym, ap, ◌∙◌, subst, arith}
+use Rattle.std.proofs.lemmas.Bool.{ne_eqb}
+use Rattle.std.specs.Io.KnownBytes.{Appends}
+use Rattle.bson_model.specs.Leaf.{Leaf}
+use Rattle.raw_view.specs.Document.{bytes_of}
+use Rattle.raw_view.specs.Frame.ElementSteps.{HasRead, frame_of}
+use Rattle.raw_view.specs.Frame.{Frame}
+use Rattle.raw_view.specs.Meaning.{RawValue, Means, value}
+use Rattle.raw_view.specs.Meaning as raw
 use Rattle.raw_view.specs.Meaning.Value.{value_of}
 use Rattle.raw_view.specs.declared.bson_ref.RawBsonRef.{RawBsonRef}
+use Rattle.raw_view.specs.declared.document.RawDocument.{RawDocument}
 use Rattle.raw_view.specs.declared.element.RawElement.{RawElement}
-use Rattle.raw_view.specs.declared.error.BorrowedError.{BorrowedError}
-use Rattle.raw_view.specs.declared.error.ErrorKind.{ErrorKind}
-use Rattle.raw_view.specs.declared.error.ErrorKind.TheVariants as kind
-use Rattle.raw_view.proofs.Face.{one_frame, no_frame_at_final, no_frame_at_stop, no_stop_at_final, one_meaning}
-use Rattle.bson_json.specs.Levels.{Gives, IsReadable}
+use Rattle.raw_view.proofs.Face.{one_meaning}
+use Rattle.raw_tree.specs.Reading.{Holds}
+use Rattle.raw_form.specs.Aheads as next
+use Rattle.raw_form.specs.Looking.{HoldsNone, IsValueOf, Looks}
+use Rattle.raw_form.specs.Waits.{Wait}
+use Rattle.raw_form.specs.Walks.{IsAlong}
+use Rattle.raw_form.specs.declared.level.Level as walk
+use Rattle.raw_form.specs.declared.walk.Walk.{Walk}
+use Rattle.bson_json.specs.Json.{before_scope}
+use Rattle.bson_json.specs.Levels.{Level, PutsOpening}
+use Rattle.bson_json.specs.declared.level.Sort.{Sort}
+use Rattle.bson_json.proofs.Printing.{IsNext, Opens}
 
-stop_of : (k : ErrorKind) (key : Option (List ℕ)) (s : List ℕ) → StopsWith k key s → (fault : Fault) × IsStop s fault key
-stop_of (kind.MalformedValue reason) key s h = (Malformed reason, h)
-stop_of (kind.Utf8EncodingError error) key s h = (Utf8, h)
-stop_of kind.OutOfMemory key s h = absurd h
+-- levels
 
--- there is no stop
-pub no_stop : (old new : Option (List ℕ)) (e : BorrowedError) → IsReadable old → StepsFront old (Some (Err e)) new → ⊥
-no_stop None new e (n, h) steps = h
-no_stop (Some s) new e (n, (pairs, ([], walk, stand))) steps =
-    let (fault, stop) = stop_of e.kind (option_copied e.key) s steps.0 in
-    no_stop_at_final s fault (option_copied e.key) walk stop
-no_stop (Some s) new e (n, (pairs, (g ∷ gs, (q, at, walk), stand))) steps =
-    let (fault, stop) = stop_of e.kind (option_copied e.key) s steps.0 in
-    no_frame_at_stop s fault (option_copied e.key) stop g q at
+-- a level of the walk
+abbrev pub shown : walk.Level → Sort → Level
+shown l o = record { elements = l.elements; sort = o; first = nat_eq l.number 0 }
 
--- nor a frame that means a fault
-pub no_fault : (old new : Option (List ℕ)) (e : RawElement) (fault : KeyedFault) → IsReadable old → StepsFront old (Some (Ok e)) new → Means (frame_of e) (faulty fault) → ⊥
-no_fault None new e fault (n, h) steps means = h
-no_fault (Some s) new e fault (n, (pairs, ([], walk, stand))) (r, at, is) means = no_frame_at_final s walk (frame_of e) r at
-no_fault (Some s) new e fault (n, (pairs, (g ∷ gs, (q, g_at, walk), (w, t, others, w_means, w_stands, is_pairs, stand)))) (r, at, is) means =
-    let same = one_frame s g (frame_of e) q r g_at at in
-    let both : value w ≡ faulty fault = one_meaning (frame_of e) (value w) (faulty fault) (subst (λ (x : Frame). Means x (value w)) same.0 w_means) means in
-    absurd (cc)
+-- the levels that wait; something of each is printed
+abbrev pub shown_each : List Wait → List Sort → List Level
+shown_each [] os = []
+shown_each (w ∷ ws) [] = []
+shown_each (w ∷ ws) (o ∷ os) = record { elements = w.elements; sort = o; first = false } ∷ shown_each ws os
 
--- what was next, of the bytes that were left
-pub record IsEnd (old : Option (List ℕ)) : Type 0 where
-  pub s : List ℕ
-  pub left : old ≡ Some s
-  pub final : s ≡ 0 ∷ []
+pub as_many_shown : (ws : List Wait) (os : List Sort) → length ws ≡ length os → length (shown_each ws os) ≡ length ws
+as_many_shown [] os e = refl
+as_many_shown (w ∷ ws) [] e = absurd (omega (arith, e))
+as_many_shown (w ∷ ws) (o ∷ os) e = ap suc (as_many_shown ws os (omega (arith, e)))
 
-pub end_of : (old new : Option (List ℕ)) → Gives old new None → IsEnd old
-end_of None new h = absurd h
-end_of (Some s) new h = record { s = s; left = refl; final = h }
+pub shown_more : (ws : List Wait) (os : List Sort) (w : Wait) (o : Sort) → length ws ≡ length os
+    → shown_each (ws ++ w ∷ []) (os ++ o ∷ []) ≡ shown_each ws os ++ record { elements = w.elements; sort = o; first = false } ∷ []
+shown_more [] [] w o e = refl
+shown_more [] (p ∷ os) w o e = absurd (omega (arith, e))
+shown_more (v ∷ ws) [] w o e = absurd (omega (arith, e))
+shown_more (v ∷ ws) (p ∷ os) w o e = ap (λ (xs : List Level). record { elements = v.elements; sort = p; first = false } ∷ xs) (shown_more ws os w o (omega (arith, e)))
 
-pub record IsNext (old new : Option (List ℕ)) (key : List ℕ) (v : RawBsonRef) : Type 0 where
-  pub s : List ℕ
-  pub r : List ℕ
-  pub f : Frame
-  pub left : old ≡ Some s
-  pub rest : new ≡ Some r
-  pub at : IsFrame s f r
-  pub means : Means f (value (value_of v))
-  pub key_is : key ≡ f.key
+-- behind an element some are passed
+pub not_none : (n m : ℕ) → n ≡ m + 1 → nat_eq n 0 ≡ false
+not_none n m e = ne_eqb n 0 (λ none. omega (arith, e, none))
 
-pub next_is : (old new : Option (List ℕ)) (key : Bor (List ℕ)) (v : RawBsonRef) → Gives old new (Some (key, v)) → IsNext old new key.now v
-next_is None new key v h = absurd h
-next_is (Some s) new key v (f, r, at, means, is, rest) = record { s = s; r = r; f = f; left = refl; rest = rest; at = at; means = means; key_is = is }
+-- what is next
+
+-- of a level something is left
+has_left : (d : List ℕ) (frames : List Frame) (left : Option (List ℕ)) → HasRead d frames left → (s : List ℕ) × (left ≡ Some s)
+has_left d frames None h = absurd h
+has_left d frames (Some s) h = (s, refl)
+
+pub along_left : {w : Walk} {l : walk.Level} {ws : List Wait} → IsAlong w l ws → (s : List ℕ) × (l.elements ≡ Some s)
+along_left {w} {l} is = has_left _ is.at.is.frames l.elements is.at.is.passed
+
+-- a value that holds none is single
+single_of : (v : RawValue) → HoldsNone v → (l : Leaf) × (v ≡ raw.single l)
+single_of (raw.single l) none = (l, refl)
+single_of (raw.document d) none = absurd (none d refl)
+single_of (raw.array d) none = absurd (none d refl)
+single_of (raw.scoped code d) none = absurd (none d refl)
+
+same_value : (e : RawElement) (v : RawBsonRef) (w : RawValue) → IsValueOf v e → Means (frame_of e) (value w) → w ≡ value_of v
+same_value e v w is means =
+    let both : value w ≡ value (value_of v) = one_meaning (frame_of e) (value w) (value (value_of v)) means is in
+    cc
+
+pub record IsWhole (left rest : Option (List ℕ)) (e : RawElement) (v : RawBsonRef) : Type 0 where
+  pub leaf : Leaf
+  pub is_single : value_of v ≡ raw.single leaf
+  pub next : IsNext left (frame_of e) (raw.single leaf) rest
+
+pub whole_next : (left rest : Option (List ℕ)) (e : RawElement) (v : RawBsonRef) (s : List ℕ) → left ≡ Some s → Looks left rest (next.Whole e) → IsValueOf v e → IsWhole left rest e v
+whole_next left rest e v s left_is looks is =
+    let (r, w, at, means, none, rest_is) = subst (λ (x : Option (List ℕ)). Looks x rest (next.Whole e)) left_is looks in
+    let (leaf, single) = single_of w none in
+    let same = same_value e v w is means in
+    record {
+      leaf = leaf;
+      is_single = sym same ∙ single;
+      next = record { s = s; r = r; left_is = left_is; rest_is = rest_is; at = at; means = subst (λ (x : RawValue). Means (frame_of e) (value x)) single means };
+    }
+
+pub record IsInside (left rest : Option (List ℕ)) (e : RawElement) (v : RawBsonRef) (d : List ℕ) : Type 0 where
+  pub holds : Holds (value_of v) d
+  pub next : IsNext left (frame_of e) (value_of v) rest
+
+pub inside_next : (left rest : Option (List ℕ)) (e : RawElement) (v : RawBsonRef) (inner : RawDocument) (s : List ℕ) → left ≡ Some s → Looks left rest (next.Inside e inner)
+    → IsValueOf v e → IsInside left rest e v (bytes_of inner)
+inside_next left rest e v inner s left_is looks is =
+    let (r, w, at, means, holds, rest_is) = subst (λ (x : Option (List ℕ)). Looks x rest (next.Inside e inner)) left_is looks in
+    let same = same_value e v w is means in
+    record {
+      holds = subst (λ (x : RawValue). Holds x (bytes_of inner)) same holds;
+      next = record { s = s; r = r; left_is = left_is; rest_is = rest_is; at = at; means = is };
+    }
+
+-- what a put of an opening says
+pub opens_from : (v : RawValue) (d : List ℕ) (old new : Option (List ℕ)) (o : Sort) → Holds v d → PutsOpening v old new o → (piece : List ℕ) × Opens v d o piece × Appends old new piece
+opens_from (raw.single l) d old new o holds h = absurd holds
+opens_from (raw.document e) d old new o holds (is, put) = (codes "{", (holds, is, refl), put)
+opens_from (raw.array e) d old new o holds (is, put) = (codes "[", (holds, is, refl), put)
+opens_from (raw.scoped code e) d old new o holds (is, put) = (before_scope code ++ codes "{", (holds, is, refl), put)

@@ -1,5 +1,5 @@
 -- What is left of the levels of a document that is printed.
-use Rattle.std.proofs.Common.{◌≡◌, ◌+◌, ℕ, zero, suc, Bool, List, [], ◌∷◌, ◌++◌, Option, None, Some, length, drop, refl, sym, ap, ◌∙◌, subst, arith, append_assoc}
+use Rattle.std.proofs.Common.{◌≡◌, ◌+◌, ◌<◌, ℕ, zero, suc, Bool, List, [], ◌∷◌, ◌++◌, Option, None, Some, length, drop, refl, sym, ap, ◌∙◌, subst, arith, append_assoc}
 use Rattle.bson_model.specs.Tree.{Tree, document}
 use Rattle.raw_view.specs.Frame.{Frame, IsFrame, IsWalk, Done}
 use Rattle.raw_view.specs.Meaning.{RawValue, Means, value}
@@ -8,8 +8,7 @@ use Rattle.raw_view.proofs.Face.{one_frame, no_frame_at_final, one_meaning}
 use Rattle.raw_tree.specs.Reading.{ReadsRest, ReadsUpTo, StandsFor, Holds}
 use Rattle.raw_tree.specs.Reading as reading
 use Rattle.bson_json.specs.Json.{AreMembersJson, IsJsonUpTo}
-use Rattle.bson_json.specs.Levels.{IsReadable, IsReadableUpTo, sort_of, after}
-use Rattle.bson_json.specs.declared.level.Level.{Level}
+use Rattle.bson_json.specs.Levels.{Level, IsReadableUpTo, sort_of, after}
 use Rattle.bson_json.specs.declared.level.Sort.{Sort}
 use Rattle.bson_json.specs.declared.style.Style.{Style}
 
@@ -21,10 +20,11 @@ AllReadable zero ws l = ⊥
 AllReadable (suc n) [] l = IsReadableUpTo n l.elements
 AllReadable (suc n) (w ∷ ws) l = AllReadable n ws l × IsReadableUpTo n w.elements
 
-pub readable_top : (n : ℕ) (ws : List Level) (l : Level) → AllReadable n ws l → IsReadable l.elements
-readable_top zero ws l h = absurd h
-readable_top (suc n) [] l h = (n, h)
-readable_top (suc n) (w ∷ ws) l h = readable_top n ws l h.0
+-- so there are fewer that wait
+pub readable_deep : (n : ℕ) (ws : List Level) (l : Level) → AllReadable n ws l → length ws < n
+readable_deep zero ws l h = absurd h
+readable_deep (suc n) [] l h = omega arith
+readable_deep (suc n) (w ∷ ws) l h = omega (arith, readable_deep n ws l h.0)
 
 pub readable_changed : (n : ℕ) (ws : List Level) (old new : Level) → ((m : ℕ) → IsReadableUpTo m old.elements → IsReadableUpTo m new.elements) → AllReadable n ws old → AllReadable n ws new
 readable_changed zero ws old new f h = absurd h
@@ -97,33 +97,44 @@ module _ (style : Style) where
   AllLeft (suc n) depth [] l text = LeftOf n depth l text
   AllLeft (suc n) depth (w ∷ ws) l text = (a b : List ℕ) × AllLeft n (suc depth) ws l a × LeftOf n depth w b × (text ≡ a ++ b)
 
-  pub left_changed : (n depth at : ℕ) (ws : List Level) (old new : Level) (piece text : List ℕ) → at ≡ depth + length ws
-      → ((m : ℕ) (a : List ℕ) → LeftOf m at new a → LeftOf m at old (piece ++ a)) → AllLeft n depth ws new text → AllLeft n depth ws old (piece ++ text)
-  left_changed zero depth at ws old new piece text e f h = absurd h
-  left_changed (suc n) depth at [] old new piece text e f h =
-      let here : at ≡ depth = omega arith in
-      subst (λ (k : ℕ). LeftOf n k old (piece ++ text)) here (f n text (subst (λ (k : ℕ). LeftOf n k new text) (sym here) h))
-  left_changed (suc n) depth at (w ∷ ws) old new piece text e f (a, b, inner, outer, is) =
-      (piece ++ a, b, left_changed n (suc depth) at ws old new piece a (omega arith) f inner, outer, ap (λ (x : List ℕ). piece ++ x) is ∙ sym (append_assoc piece a b))
+-- what is left of a level begins with this piece, and goes on in the same level
+pub record GoesBehind (style : Style) (at : ℕ) (old new : Level) (piece : List ℕ) : Type 0 where
+  pub step : (m : ℕ) (a : List ℕ) → LeftOf style m at new a → LeftOf style m at old (piece ++ a)
 
-  pub left_entered : (n depth at : ℕ) (ws : List Level) (old outer inner : Level) (piece text : List ℕ) → at ≡ depth + length ws
-      → ((m : ℕ) (a b : List ℕ) → LeftOf m (suc at) inner a → LeftOf (suc m) at outer b → LeftOf (suc m) at old (piece ++ (a ++ b)))
-      → AllLeft n depth (ws ++ outer ∷ []) inner text → AllLeft n depth ws old (piece ++ text)
-  left_entered zero depth at ws old outer inner piece text e f h = absurd h
-  left_entered (suc zero) depth at [] old outer inner piece text e f (a, b, h, g, is) = absurd h
-  left_entered (suc (suc n)) depth at [] old outer inner piece text e f (a, b, h, g, is) =
-      let here : at ≡ depth = omega arith in
-      let whole = f n a b (subst (λ (k : ℕ). LeftOf n (suc k) inner a) (sym here) h) (subst (λ (k : ℕ). LeftOf (suc n) k outer b) (sym here) g) in
-      subst (λ (k : ℕ). LeftOf (suc n) k old (piece ++ text)) here (subst (λ (x : List ℕ). LeftOf (suc n) at old (piece ++ x)) (sym is) whole)
-  left_entered (suc n) depth at (w ∷ ws) old outer inner piece text e f (a, b, h, g, is) =
-      (piece ++ a, b, left_entered n (suc depth) at ws old outer inner piece a (omega arith) f h, g, ap (λ (x : List ℕ). piece ++ x) is ∙ sym (append_assoc piece a b))
+-- or in a level inside, and then behind that
+pub record GoesInside (style : Style) (at : ℕ) (old outer inner : Level) (piece : List ℕ) : Type 0 where
+  pub step : (m : ℕ) (a b : List ℕ) → LeftOf style m (suc at) inner a → LeftOf style (suc m) at outer b → LeftOf style (suc m) at old (piece ++ (a ++ b))
 
-  pub left_closed : (n depth at : ℕ) (ws : List Level) (w l : Level) (piece text : List ℕ) → at ≡ suc depth + length ws → AllReadable n (ws ++ w ∷ []) l
-      → ((m : ℕ) → LeftOf m at l piece) → AllLeft n depth ws w text → AllLeft n depth (ws ++ w ∷ []) l (piece ++ text)
-  left_closed zero depth at ws w l piece text e reads f h = absurd h
-  left_closed (suc zero) depth at [] w l piece text e reads f h = absurd reads.0
-  left_closed (suc (suc n)) depth at [] w l piece text e reads f h =
-      let here : at ≡ suc depth = omega arith in
-      (piece, text, subst (λ (k : ℕ). LeftOf n k l piece) here (f n), h, refl)
-  left_closed (suc n) depth at (v ∷ ws) w l piece text e reads f (a, b, h, g, is) =
-      (piece ++ a, b, left_closed n (suc depth) at ws w l piece a (omega arith) reads.0 f h, g, ap (λ (x : List ℕ). piece ++ x) is ∙ sym (append_assoc piece a b))
+-- or it is this piece
+pub record IsLast (style : Style) (at : ℕ) (l : Level) (piece : List ℕ) : Type 0 where
+  pub left : (m : ℕ) → LeftOf style m at l piece
+
+pub left_changed : {style : Style} {at : ℕ} {old new : Level} {piece : List ℕ} (n depth : ℕ) (ws : List Level) (text : List ℕ) → at ≡ depth + length ws
+    → GoesBehind style at old new piece → AllLeft style n depth ws new text → AllLeft style n depth ws old (piece ++ text)
+left_changed zero depth ws text e f h = absurd h
+left_changed {style} {at} {old} {new} {piece} (suc n) depth [] text e f h =
+    let here : at ≡ depth = omega arith in
+    subst (λ (k : ℕ). LeftOf style n k old (piece ++ text)) here (f.step n text (subst (λ (k : ℕ). LeftOf style n k new text) (sym here) h))
+left_changed {style} {at} {old} {new} {piece} (suc n) depth (w ∷ ws) text e f (a, b, inner, outer, is) =
+    (piece ++ a, b, left_changed n (suc depth) ws a (omega arith) f inner, outer, ap (λ (x : List ℕ). piece ++ x) is ∙ sym (append_assoc piece a b))
+
+pub left_entered : {style : Style} {at : ℕ} {old outer inner : Level} {piece : List ℕ} (n depth : ℕ) (ws : List Level) (text : List ℕ) → at ≡ depth + length ws
+    → GoesInside style at old outer inner piece → AllLeft style n depth (ws ++ outer ∷ []) inner text → AllLeft style n depth ws old (piece ++ text)
+left_entered zero depth ws text e f h = absurd h
+left_entered (suc zero) depth [] text e f (a, b, h, g, is) = absurd h
+left_entered {style} {at} {old} {outer} {inner} {piece} (suc (suc n)) depth [] text e f (a, b, h, g, is) =
+    let here : at ≡ depth = omega arith in
+    let whole = f.step n a b (subst (λ (k : ℕ). LeftOf style n (suc k) inner a) (sym here) h) (subst (λ (k : ℕ). LeftOf style (suc n) k outer b) (sym here) g) in
+    subst (λ (k : ℕ). LeftOf style (suc n) k old (piece ++ text)) here (subst (λ (x : List ℕ). LeftOf style (suc n) at old (piece ++ x)) (sym is) whole)
+left_entered {style} {at} {old} {outer} {inner} {piece} (suc n) depth (w ∷ ws) text e f (a, b, h, g, is) =
+    (piece ++ a, b, left_entered n (suc depth) ws a (omega arith) f h, g, ap (λ (x : List ℕ). piece ++ x) is ∙ sym (append_assoc piece a b))
+
+pub left_closed : {style : Style} {at : ℕ} {l : Level} {piece : List ℕ} (n depth : ℕ) (ws : List Level) (w : Level) (text : List ℕ) → at ≡ suc depth + length ws
+    → suc (length ws) < n → IsLast style at l piece → AllLeft style n depth ws w text → AllLeft style n depth (ws ++ w ∷ []) l (piece ++ text)
+left_closed zero depth ws w text e few f h = absurd h
+left_closed (suc zero) depth [] w text e few f h = absurd (omega (arith, few))
+left_closed {style} {at} {l} {piece} (suc (suc n)) depth [] w text e few f h =
+    let here : at ≡ suc depth = omega arith in
+    (piece, text, subst (λ (k : ℕ). LeftOf style n k l piece) here (f.left n), h, refl)
+left_closed {style} {at} {l} {piece} (suc n) depth (v ∷ ws) w text e few f (a, b, h, g, is) =
+    (piece ++ a, b, left_closed n (suc depth) ws w a (omega arith) (omega (arith, few)) f h, g, ap (λ (x : List ℕ). piece ++ x) is ∙ sym (append_assoc piece a b))

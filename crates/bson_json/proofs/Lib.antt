@@ -6,6 +6,8 @@ pub mod Days
 pub mod Left
 pub mod Fronts
 pub mod Printing
+pub mod Passing
+pub mod Walking
 pub mod Utf8
 pub mod Exact
 pub mod Calendar

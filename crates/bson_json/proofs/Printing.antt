@@ -1,212 +1,177 @@
 -- The steps of printing the levels of a document.
-use Rattle.std.proofs.Common.{◌≡◌, ◌+◌, ◌<◌, ℕ, zero, suc, Bool, true, false, List, [], ◌∷◌, ◌++◌, Option, Some, codes, length, length-append, length-drop, drop, refl, sym, ap, ◌∙◌, subst, arith, append_assoc, append-nil}
-use Rattle.std.proofs.lemmas.List.Sums.{sum_by_push}
-use Rattle.std.specs.Prelude.{sum_by}
-use Rattle.std.specs.Io.KnownBytes.{Appends}
-use Rattle.std.proofs.KnownBytes.{Appends-trans}
+use Rattle.std.proofs.Common.{◌≡◌, ◌+◌, ◌<◌, ℕ, zero, suc, true, false, List, [], ◌∷◌, ◌++◌, Option, Some, codes, length, length-append, drop, refl, sym, ap, ◌∙◌, subst, arith, append_assoc, append-nil}
 use Rattle.bson_model.specs.Leaf.{Leaf}
 use Rattle.bson_model.specs.Tree.{Tree}
 use Rattle.raw_view.specs.Frame.{Frame, IsFrame}
 use Rattle.raw_view.specs.Meaning.{RawValue, Means, value}
 use Rattle.raw_view.specs.Meaning as raw
-use Rattle.raw_tree.specs.Reading.{Reads, Holds}
+use Rattle.raw_tree.specs.Reading.{ReadsUpTo, Holds}
 use Rattle.raw_tree.specs.Reading as reading
-use Rattle.raw_tree.specs.Validating.{left_of}
-use Rattle.raw_tree.proofs.Face.{nested_beside}
 use Rattle.bson_json.specs.Json.{IsJson, IsJsonUpTo, IsValueJson, before_scope, end_text, head_text}
 use Rattle.bson_json.specs.Leaves.{IsLeafJson}
-use Rattle.bson_json.specs.Levels.{IsReadableUpTo, IsOpened, PutsValue, sort_of, after}
-use Rattle.bson_json.specs.declared.level.Level.{Level}
+use Rattle.bson_json.specs.Levels.{Level, IsReadableUpTo, sort_of, after}
 use Rattle.bson_json.specs.declared.level.Sort.{Sort}
 use Rattle.bson_json.specs.declared.level.Sort.TheVariants as sort
 use Rattle.bson_json.specs.declared.style.Style.{Style}
-use Rattle.bson_json.proofs.Left.{AllReadable, readable_changed, readable_entered, readable_left, ReadsOn, Front, front, reads_on, held_read, LeftIn, LeftOf, AllLeft, left_changed, left_entered, left_closed}
+use Rattle.bson_json.proofs.Left.{AllReadable, readable_changed, readable_entered, ReadsOn, Front, front, reads_on, held_read, GoesBehind, GoesInside, IsLast, LeftIn, LeftOf, AllLeft, left_changed, left_entered, left_closed}
 
--- what is written of the document b, and what is left to write
-pub record IsPrinting (style : Style) (b : List ℕ) (ws : List Level) (l : Level) (old new : Option (List ℕ)) : Type 0 where
-  pub levels : ℕ
-  pub written : List ℕ
-  pub readable : AllReadable levels ws l
-  pub rest : (text : List ℕ) → AllLeft style levels 0 ws l text → IsJsonUpTo style levels 0 reading.as_document b (written ++ text)
-  pub put : Appends old new written
+-- what was told of the document b goes on with what is left, where at most n levels are read
+pub record IsPrinting (style : Style) (b : List ℕ) (n : ℕ) (ws : List Level) (l : Level) (told : List ℕ) : Type 0 where
+  pub rest : (text : List ℕ) → AllLeft style n 0 ws l text → IsJsonUpTo style n 0 reading.as_document b (told ++ text)
 
--- the level l behind an element, before the bytes r
-pub record IsBehind (l next : Level) (r : List ℕ) : Type 0 where
-  pub elements : next.elements ≡ Some r
-  pub sort_is : next.sort ≡ l.sort
-  pub first : next.first ≡ false
+-- what is next where this is left: a frame that means a value, and the rest
+pub record IsNext (left : Option (List ℕ)) (f : Frame) (v : RawValue) (rest : Option (List ℕ)) : Type 0 where
+  pub s : List ℕ
+  pub r : List ℕ
+  pub left_is : left ≡ Some s
+  pub rest_is : rest ≡ Some r
+  pub at : IsFrame s f r
+  pub means : Means f (value v)
 
--- the bytes that are left of the levels
-abbrev pub left_in : List Level → ℕ
-left_in ws = sum_by (λ w. left_of w.elements + 1) ws
+-- the level behind an element, before the rest
+abbrev pub behind : Level → Option (List ℕ) → Level
+behind l rest = record { elements = rest; sort = l.sort; first = false }
+
+-- the level of the bytes d, of which nothing is printed yet
+abbrev pub opened : List ℕ → Sort → Level
+opened d o = record { elements = Some (drop 4 d); sort = o; first = true }
+
+-- what is before the first member of a value that holds the bytes d, and what their level is
+abbrev pub Opens : RawValue → List ℕ → Sort → List ℕ → Type 0
+Opens (raw.single l) d o piece = ⊥
+Opens (raw.document e) d o piece = (d ≡ e) × (o ≡ sort.Document) × (piece ≡ codes "{")
+Opens (raw.array e) d o piece = (d ≡ e) × (o ≡ sort.Array) × (piece ≡ codes "[")
+Opens (raw.scoped code e) d o piece = (d ≡ e) × (o ≡ sort.Scope) × (piece ≡ before_scope code ++ codes "{")
+
+opens_held : (v : RawValue) (d : List ℕ) (o : Sort) (piece : List ℕ) → Opens v d o piece → Holds v d
+opens_held (raw.single l) d o piece opens = absurd opens
+opens_held (raw.document e) d o piece opens = opens.0
+opens_held (raw.array e) d o piece opens = opens.0
+opens_held (raw.scoped code e) d o piece opens = opens.0
 
 module _ (style : Style) (b : List ℕ) where
-  pub printing_begins : (t : Tree) (l : Level) (old new : Option (List ℕ)) → Reads b t → IsOpened b sort.Document l → Appends old new (codes "{") → IsPrinting style b [] l old new
-  printing_begins t l old new (zero, h) opened put = absurd h
-  printing_begins t l old new (suc n, (pairs, reads, is)) opened put = record {
-    levels = suc n;
-    written = codes "{";
-    readable = subst (λ (s : Option (List ℕ)). IsReadableUpTo n s) (sym opened.elements) (pairs, reads);
-    rest = λ text left. let at : LeftIn style n 0 (Some (drop 4 b)) sort.Document true text =
-        subst (λ (f : Bool). LeftIn style n 0 (Some (drop 4 b)) sort.Document f text) opened.first
-        (subst (λ (o : Sort). LeftIn style n 0 (Some (drop 4 b)) o l.first text) opened.sort_is
-        (subst (λ (s : Option (List ℕ)). LeftIn style n 0 s l.sort l.first text) opened.elements left)) in
-        (at.0, at.1, at.2, at.3, ap (λ (x : List ℕ). 123 ∷ x) (at.4 ∙ append-nil at.1));
-    put = put;
-  }
+  begins : (n : ℕ) (text : List ℕ) → AllLeft style n 0 [] (opened b sort.Document) text → IsJsonUpTo style n 0 reading.as_document b (codes "{" ++ text)
+  begins zero text left = absurd left
+  begins (suc n) text (frames, members, walk, are, is) = (frames, members, walk, are, ap (λ (x : List ℕ). 123 ∷ x) (is ∙ append-nil members))
 
+  pub printing_begins : (n : ℕ) → IsPrinting style b n [] (opened b sort.Document) (codes "{")
+  printing_begins n = record { rest = begins n }
+
+module _ (style : Style) where
   -- a level that is at its end has its end as its text
   ended : (m depth : ℕ) (l : Level) (s : List ℕ) → l.elements ≡ Some s → s ≡ 0 ∷ [] → LeftOf style m depth l (end_text style.layout depth (sort_of l.sort) l.first ++ after l.sort)
   ended m depth l s e final = subst (λ (x : Option (List ℕ)). LeftIn style m depth x l.sort l.first
       (end_text style.layout depth (sort_of l.sort) l.first ++ after l.sort)) (sym e)
       ([], end_text style.layout depth (sort_of l.sort) l.first, final, refl, refl)
 
-  text_ends : (levels : ℕ) (w : List ℕ) (l : Level) (s : List ℕ) → AllReadable levels [] l
-      → ((text : List ℕ) → AllLeft style levels 0 [] l text → IsJsonUpTo style levels 0 reading.as_document b (w ++ text)) → l.elements ≡ Some s → s ≡ 0 ∷ []
-      → IsJson style b (w ++ (end_text style.layout 0 (sort_of l.sort) l.first ++ after l.sort))
-  text_ends zero w l s reads f e final = absurd reads
-  text_ends (suc n) w l s reads f e final = (suc n, f (end_text style.layout 0 (sort_of l.sort) l.first ++ after l.sort) (ended n 0 l s e final))
+  pub printing_ends : (b : List ℕ) (n : ℕ) (l : Level) (s told : List ℕ) → 0 < n → IsPrinting style b n [] l told → l.elements ≡ Some s → s ≡ 0 ∷ []
+      → IsJson style b (told ++ (end_text style.layout 0 (sort_of l.sort) l.first ++ after l.sort))
+  printing_ends b zero l s told few is e final = absurd (omega (arith, few))
+  printing_ends b (suc n) l s told few is e final = (suc n, is.rest (end_text style.layout 0 (sort_of l.sort) l.first ++ after l.sort) (ended n 0 l s e final))
 
-  pub printing_ends : (l : Level) (s : List ℕ) (old mid new : Option (List ℕ)) → IsPrinting style b [] l old mid → l.elements ≡ Some s → s ≡ 0 ∷ []
-      → Appends mid new (end_text style.layout 0 (sort_of l.sort) l.first ++ after l.sort) → (text : List ℕ) × IsJson style b text × Appends old new text
-  printing_ends l s old mid new is e final last =
-      let end = end_text style.layout 0 (sort_of l.sort) l.first ++ after l.sort in
-      (is.written ++ end, text_ends is.levels is.written l s is.readable is.rest e final, Appends-trans old mid new is.written end is.put last)
-
-  pub printing_closes : (ws : List Level) (w l : Level) (s : List ℕ) (old mid new : Option (List ℕ)) → IsPrinting style b (ws ++ w ∷ []) l old mid → l.elements ≡ Some s → s ≡ 0 ∷ []
-      → Appends mid new (end_text style.layout (length (ws ++ w ∷ [])) (sort_of l.sort) l.first ++ after l.sort) → IsPrinting style b ws w old new
-  printing_closes ws w l s old mid new is e final last =
+  pub printing_closes : (b : List ℕ) (n : ℕ) (ws : List Level) (w l : Level) (s told : List ℕ) → length (ws ++ w ∷ []) < n → IsPrinting style b n (ws ++ w ∷ []) l told
+      → l.elements ≡ Some s → s ≡ 0 ∷ [] → IsPrinting style b n ws w (told ++ (end_text style.layout (length (ws ++ w ∷ [])) (sort_of l.sort) l.first ++ after l.sort))
+  printing_closes b n ws w l s told few is e final =
       let depth = length (ws ++ w ∷ []) in
       let end = end_text style.layout depth (sort_of l.sort) l.first ++ after l.sort in
       let at : depth ≡ suc 0 + length ws = length-append ws (w ∷ []) ∙ omega arith in
+      let last : IsLast style depth l end = record { left = λ m. ended m depth l s e final } in
       record {
-        levels = is.levels;
-        written = is.written ++ end;
-        readable = readable_left is.levels ws w l is.readable;
-        rest = λ text left. subst (IsJsonUpTo style is.levels 0 reading.as_document b) (sym (append_assoc is.written end text))
-            (is.rest (end ++ text) (left_closed style is.levels 0 depth ws w l end text at is.readable (λ m. ended m depth l s e final) left));
-        put = Appends-trans old mid new is.written end is.put last;
+        rest = λ text left. subst (IsJsonUpTo style n 0 reading.as_document b) (sym (append_assoc told end text))
+            (is.rest (end ++ text) (left_closed n 0 ws w text at (omega (arith, few, at)) last left));
       }
 
+  value_opened : (m depth : ℕ) (v : RawValue) (d : List ℕ) (o : Sort) (piece a : List ℕ) → Opens v d o piece → LeftOf style m (suc depth) (opened d o) a
+      → IsValueJson style depth (IsJsonUpTo style (suc m) (suc depth)) v (piece ++ a)
+  value_opened m depth (raw.single l) d o piece a opens left = absurd opens
+  value_opened m depth (raw.document e) d o piece a (same, sort_is, is) left =
+      let at = subst (λ (x : Sort). LeftOf style m (suc depth) (opened d x) a) sort_is left in
+      let there = subst (λ (x : List ℕ). LeftOf style m (suc depth) (opened x sort.Document) a) same at in
+      (there.0, there.1, there.2, there.3, ap (λ (x : List ℕ). x ++ a) is ∙ ap (λ (x : List ℕ). 123 ∷ x) (there.4 ∙ append-nil there.1))
+  value_opened m depth (raw.array e) d o piece a (same, sort_is, is) left =
+      let at = subst (λ (x : Sort). LeftOf style m (suc depth) (opened d x) a) sort_is left in
+      let there = subst (λ (x : List ℕ). LeftOf style m (suc depth) (opened x sort.Array) a) same at in
+      (there.0, there.1, there.2, there.3, ap (λ (x : List ℕ). x ++ a) is ∙ ap (λ (x : List ℕ). 91 ∷ x) (there.4 ∙ append-nil there.1))
+  value_opened m depth (raw.scoped code e) d o piece a (same, sort_is, is) left =
+      let at = subst (λ (x : Sort). LeftOf style m (suc depth) (opened d x) a) sort_is left in
+      let there = subst (λ (x : List ℕ). LeftOf style m (suc depth) (opened x sort.Scope) a) same at in (
+        123 ∷ there.1,
+        (there.0, there.1, there.2, there.3, refl),
+        ap (λ (x : List ℕ). x ++ a) is ∙ append_assoc (before_scope code) (codes "{") a ∙ ap (λ (x : List ℕ). before_scope code ++ (123 ∷ x)) there.4,
+      )
+
+module _ {style : Style} {b : List ℕ} {n : ℕ} {ws : List Level} {l : Level} {told : List ℕ} (is : IsPrinting style b n ws l told) where
   -- a value that holds no others
-  pub printing_leaf : (ws : List Level) (l next : Level) (s r : List ℕ) (f : Frame) (leaf : Leaf) (shown : List ℕ) (old mid new : Option (List ℕ))
-      → IsPrinting style b ws l old mid → l.elements ≡ Some s → IsBehind l next r → IsFrame s f r → Means f (value (raw.single leaf))
-      → IsLeafJson style.format leaf shown → Appends mid new (head_text style.layout (length ws + 1) (sort_of l.sort) l.first f.key ++ shown) → IsPrinting style b ws next old new
-  printing_leaf ws l next s r f leaf shown old mid new is e behind at means json put =
+  pub printing_leaf : {f : Frame} {leaf : Leaf} {rest : Option (List ℕ)} (shown : List ℕ) → IsNext l.elements f (raw.single leaf) rest → IsLeafJson style.format leaf shown
+      → IsPrinting style b n ws (behind l rest) (told ++ (head_text style.layout (length ws + 1) (sort_of l.sort) l.first f.key ++ shown))
+  printing_leaf {f} {leaf} {rest} shown next json =
       let depth = length ws in
       let head = head_text style.layout (length ws + 1) (sort_of l.sort) l.first f.key in
       let one_more : length ws + 1 ≡ suc (length ws) = omega arith in
       let from_top : length ws ≡ 0 + length ws = omega arith in
-      let step = λ (m : ℕ) (a : List ℕ) (left : LeftOf style m depth next a).
-      let here : LeftIn style m depth (Some r) l.sort false a =
-      subst (λ (x : Bool). LeftIn style m depth (Some r) l.sort x a) behind.first
-      (subst (λ (o : Sort). LeftIn style m depth (Some r) o next.first a) behind.sort_is
-      (subst (λ (x : Option (List ℕ)). LeftIn style m depth x next.sort next.first a) behind.elements left)) in
-      let whole : LeftIn style m depth (Some s) l.sort l.first ((head ++ shown) ++ a) = (
+      let step = λ (m : ℕ) (a : List ℕ) (left : LeftOf style m depth (behind l rest) a).
+      let here : LeftIn style m depth (Some next.r) l.sort false a = subst (λ (x : Option (List ℕ)). LeftIn style m depth x l.sort false a) next.rest_is left in
+      let whole : LeftIn style m depth (Some next.s) l.sort l.first ((head ++ shown) ++ a) = (
         f ∷ here.0,
         head ++ (shown ++ here.1),
-        (r, at, here.2),
-        (raw.single leaf, shown, here.1, means, json, here.3, ap (λ (k : ℕ). head_text style.layout k (sort_of l.sort) l.first f.key ++ (shown ++ here.1)) one_more),
+        (next.r, next.at, here.2),
+        (raw.single leaf, shown, here.1, next.means, json, here.3, ap (λ (k : ℕ). head_text style.layout k (sort_of l.sort) l.first f.key ++ (shown ++ here.1)) one_more),
         append_assoc head shown a ∙ ap (λ (x : List ℕ). head ++ (shown ++ x)) here.4
             ∙ sym (append_assoc head (shown ++ here.1) (after l.sort) ∙ ap (λ (x : List ℕ). head ++ x) (append_assoc shown here.1 (after l.sort))),
       ) in
-      subst (λ (x : Option (List ℕ)). LeftIn style m depth x l.sort l.first ((head ++ shown) ++ a)) (sym e) whole in
+      subst (λ (x : Option (List ℕ)). LeftIn style m depth x l.sort l.first ((head ++ shown) ++ a)) (sym next.left_is) whole in
+      let goes : GoesBehind style depth l (behind l rest) (head ++ shown) = record { step = step } in
       record {
-        levels = is.levels;
-        written = is.written ++ (head ++ shown);
-        readable = readable_changed is.levels ws l next
-            (λ (m : ℕ) (h : IsReadableUpTo m l.elements). subst (IsReadableUpTo m) (sym behind.elements)
-            (reads_on s f r (raw.single leaf) at means m (subst (IsReadableUpTo m) e h))) is.readable;
-        rest = λ text left. subst (IsJsonUpTo style is.levels 0 reading.as_document b) (sym (append_assoc is.written (head ++ shown) text))
-            (is.rest ((head ++ shown) ++ text) (left_changed style is.levels 0 depth ws l next (head ++ shown) text from_top step left));
-        put = Appends-trans old mid new is.written (head ++ shown) is.put put;
+        rest = λ text left. subst (IsJsonUpTo style n 0 reading.as_document b) (sym (append_assoc told (head ++ shown) text))
+            (is.rest ((head ++ shown) ++ text) (left_changed n 0 ws text from_top goes left));
       }
 
-  -- what is before the first member of a value that holds others, and which level is opened
-  abbrev pub Opens : RawValue → Level → List ℕ → Type 0
-  Opens (raw.single l) level piece = ⊥
-  Opens (raw.document d) level piece = IsOpened d sort.Document level × (piece ≡ codes "{")
-  Opens (raw.array d) level piece = IsOpened d sort.Array level × (piece ≡ codes "[")
-  Opens (raw.scoped code d) level piece = IsOpened d sort.Scope level × (piece ≡ before_scope code ++ codes "{")
-
-  opened_left : (m depth : ℕ) (d : List ℕ) (o : Sort) (level : Level) (a : List ℕ) → IsOpened d o level → LeftOf style m depth level a → LeftIn style m depth (Some (drop 4 d)) o true a
-  opened_left m depth d o level a opened left =
-      subst (λ (f : Bool). LeftIn style m depth (Some (drop 4 d)) o f a) opened.first
-      (subst (λ (x : Sort). LeftIn style m depth (Some (drop 4 d)) x level.first a) opened.sort_is
-      (subst (λ (x : Option (List ℕ)). LeftIn style m depth x level.sort level.first a) opened.elements left))
-
-  value_opened : (m depth : ℕ) (v : RawValue) (level : Level) (piece a : List ℕ) → Opens v level piece → LeftOf style m (suc depth) level a
-      → IsValueJson style depth (IsJsonUpTo style (suc m) (suc depth)) v (piece ++ a)
-  value_opened m depth (raw.single l) level piece a opens left = absurd opens
-  value_opened m depth (raw.document d) level piece a (opened, is) left =
-      let at = opened_left m (suc depth) d sort.Document level a opened left in
-      (at.0, at.1, at.2, at.3, ap (λ (x : List ℕ). x ++ a) is ∙ ap (λ (x : List ℕ). 123 ∷ x) (at.4 ∙ append-nil at.1))
-  value_opened m depth (raw.array d) level piece a (opened, is) left =
-      let at = opened_left m (suc depth) d sort.Array level a opened left in
-      (at.0, at.1, at.2, at.3, ap (λ (x : List ℕ). x ++ a) is ∙ ap (λ (x : List ℕ). 91 ∷ x) (at.4 ∙ append-nil at.1))
-  value_opened m depth (raw.scoped code d) level piece a (opened, is) left =
-      let at = opened_left m (suc depth) d sort.Scope level a opened left in
-      (123 ∷ at.1, (at.0, at.1, at.2, at.3, refl), ap (λ (x : List ℕ). x ++ a) is ∙ append_assoc (before_scope code) (codes "{") a ∙ ap (λ (x : List ℕ). before_scope code ++ (123 ∷ x)) at.4)
-
-  opens_held : (v : RawValue) (level : Level) (piece : List ℕ) → Opens v level piece → (d : List ℕ) × Holds v d × (level.elements ≡ Some (drop 4 d))
-  opens_held (raw.single l) level piece opens = absurd opens
-  opens_held (raw.document d) level piece opens = (d, refl, opens.0.elements)
-  opens_held (raw.array d) level piece opens = (d, refl, opens.0.elements)
-  opens_held (raw.scoped code d) level piece opens = (d, refl, opens.0.elements)
-
   -- a value that holds others
-  pub printing_opens : (ws : List Level) (l outer inner : Level) (s r : List ℕ) (f : Frame) (v : RawValue) (piece : List ℕ) (old mid new : Option (List ℕ))
-      → IsPrinting style b ws l old mid → l.elements ≡ Some s → IsBehind l outer r → IsFrame s f r → Means f (value v)
-      → Opens v inner piece → Appends mid new (head_text style.layout (length ws + 1) (sort_of l.sort) l.first f.key ++ piece) → IsPrinting style b (ws ++ outer ∷ []) inner old new
-  printing_opens ws l outer inner s r f v piece old mid new is e behind at means opens put =
+  pub printing_opens : {f : Frame} {v : RawValue} {rest : Option (List ℕ)} (d : List ℕ) (o : Sort) (piece : List ℕ) → IsNext l.elements f v rest → Opens v d o piece
+      → IsPrinting style b n (ws ++ behind l rest ∷ []) (opened d o) (told ++ (head_text style.layout (length ws + 1) (sort_of l.sort) l.first f.key ++ piece))
+  printing_opens {f} {v} {rest} d o piece next opens =
       let depth = length ws in
       let head = head_text style.layout (length ws + 1) (sort_of l.sort) l.first f.key in
       let one_more : length ws + 1 ≡ suc (length ws) = omega arith in
       let from_top : length ws ≡ 0 + length ws = omega arith in
-      let (d, holds, inner_is) = opens_held v inner piece opens in
-      let step = λ (m : ℕ) (a c : List ℕ) (inside : LeftOf style m (suc depth) inner a) (left : LeftOf style (suc m) depth outer c).
-      let here : LeftIn style (suc m) depth (Some r) l.sort false c =
-      subst (λ (x : Bool). LeftIn style (suc m) depth (Some r) l.sort x c) behind.first
-      (subst (λ (o : Sort). LeftIn style (suc m) depth (Some r) o outer.first c) behind.sort_is
-      (subst (λ (x : Option (List ℕ)). LeftIn style (suc m) depth x outer.sort outer.first c) behind.elements left)) in
+      let step = λ (m : ℕ) (a c : List ℕ) (inside : LeftOf style m (suc depth) (opened d o) a) (left : LeftOf style (suc m) depth (behind l rest) c).
+      let here : LeftIn style (suc m) depth (Some next.r) l.sort false c = subst (λ (x : Option (List ℕ)). LeftIn style (suc m) depth x l.sort false c) next.rest_is left in
       let shown = piece ++ a in
-      let whole : LeftIn style (suc m) depth (Some s) l.sort l.first ((head ++ piece) ++ (a ++ c)) = (
+      let numbered = λ (k : ℕ). head_text style.layout k (sort_of l.sort) l.first f.key ++ (shown ++ here.1) in
+      let whole : LeftIn style (suc m) depth (Some next.s) l.sort l.first ((head ++ piece) ++ (a ++ c)) = (
         f ∷ here.0,
         head ++ (shown ++ here.1),
-        (r, at, here.2),
-        (v, shown, here.1, means, value_opened m depth v inner piece a opens inside, here.3, ap (λ (k : ℕ). head_text style.layout k (sort_of l.sort) l.first f.key ++ (shown ++ here.1)) one_more),
+        (next.r, next.at, here.2),
+        (v, shown, here.1, next.means, value_opened style m depth v d o piece a opens inside, here.3, ap numbered one_more),
         append_assoc head piece (a ++ c) ∙ ap (λ (x : List ℕ). head ++ x)
             (sym (append_assoc piece a c) ∙ ap (λ (x : List ℕ). shown ++ x) here.4 ∙ sym (append_assoc shown here.1 (after l.sort)))
             ∙ sym (append_assoc head (shown ++ here.1) (after l.sort)),
       ) in
-      subst (λ (x : Option (List ℕ)). LeftIn style (suc m) depth x l.sort l.first ((head ++ piece) ++ (a ++ c))) (sym e) whole in
-      let reads = λ (m : ℕ) (h : IsReadableUpTo m l.elements).
-      let at_front : Front s f r v at means m = front s f r v at means m (subst (IsReadableUpTo m) e h) in
-      let (k, fewer, inside) = held_read m v d at_front.stands.0 holds at_front.stands.1 in
-      let both : ReadsOn m outer.elements inner.elements = (subst (IsReadableUpTo m) (sym behind.elements) at_front.rest, k, fewer, subst (IsReadableUpTo k) (sym inner_is) inside) in
-      both in
+      subst (λ (x : Option (List ℕ)). LeftIn style (suc m) depth x l.sort l.first ((head ++ piece) ++ (a ++ c))) (sym next.left_is) whole in
+      let goes : GoesInside style depth l (behind l rest) (opened d o) (head ++ piece) = record { step = step } in
       record {
-        levels = is.levels;
-        written = is.written ++ (head ++ piece);
-        readable = readable_entered is.levels ws l outer inner reads is.readable;
-        rest = λ text left. subst (IsJsonUpTo style is.levels 0 reading.as_document b) (sym (append_assoc is.written (head ++ piece) text))
-            (is.rest ((head ++ piece) ++ text) (left_entered style is.levels 0 depth ws l outer inner (head ++ piece) text from_top step left));
-        put = Appends-trans old mid new is.written (head ++ piece) is.put put;
+        rest = λ text left. subst (IsJsonUpTo style n 0 reading.as_document b) (sym (append_assoc told (head ++ piece) text))
+            (is.rest ((head ++ piece) ++ text) (left_entered n 0 ws text from_top goes left));
       }
 
-  pub smaller_opens : (ws : List Level) (l outer inner : Level) (s r : List ℕ) (f : Frame) (v : RawValue) (piece : List ℕ) → l.elements ≡ Some s
-      → outer.elements ≡ Some r → IsFrame s f r → Means f (value v) → Opens v inner piece
-      → left_of inner.elements + left_in (ws ++ outer ∷ []) < left_of l.elements + left_in ws
-  smaller_opens ws l outer inner s r f v piece e outer_is at means opens =
-      let (d, holds, inner_is) = opens_held v inner piece opens in
-      let before : left_of l.elements ≡ length s = ap left_of e in
-      let behind : left_of outer.elements ≡ length r = ap left_of outer_is in
-      let inside : left_of inner.elements ≡ length (drop 4 d) = ap left_of inner_is in
-      omega (arith, nested_beside s f r v d at means holds, length-drop 4 d, sum_by_push (λ (x : Level). left_of x.elements + 1) ws outer)
+-- readings
 
-  -- what a put of a value says, as it opens a level
-  pub opens_from : (v : RawValue) (old new : Option (List ℕ)) (inner : Level) → PutsValue style.format v old new (Some inner) → (piece : List ℕ) × Opens v inner piece × Appends old new piece
-  opens_from (raw.single l) old new inner h = absurd h
-  opens_from (raw.document d) old new inner (opened, put) = (codes "{", (opened, refl), put)
-  opens_from (raw.array d) old new inner (opened, put) = (codes "[", (opened, refl), put)
-  opens_from (raw.scoped code d) old new inner (opened, put) = (before_scope code ++ codes "{", (opened, refl), put)
+pub reads_begin : (b : List ℕ) (n : ℕ) (t : Tree) → ReadsUpTo n reading.as_document b t → AllReadable n [] (opened b sort.Document)
+reads_begin b zero t h = absurd h
+reads_begin b (suc n) t (pairs, reads, is) = (pairs, reads)
+
+pub reads_leaf : (l : Level) {f : Frame} {v : RawValue} {rest : Option (List ℕ)} (n : ℕ) (ws : List Level) → IsNext l.elements f v rest → AllReadable n ws l
+    → AllReadable n ws (behind l rest)
+reads_leaf l {f} {v} {rest} n ws next =
+    readable_changed n ws l (behind l rest) (λ (m : ℕ) (h : IsReadableUpTo m l.elements). subst (IsReadableUpTo m) (sym next.rest_is)
+    (reads_on next.s f next.r v next.at next.means m (subst (IsReadableUpTo m) next.left_is h)))
+
+pub reads_opens : (l : Level) {f : Frame} {v : RawValue} {rest : Option (List ℕ)} (n : ℕ) (ws : List Level) (d : List ℕ) (o : Sort) (piece : List ℕ)
+    → IsNext l.elements f v rest → Opens v d o piece → AllReadable n ws l → AllReadable n (ws ++ behind l rest ∷ []) (opened d o)
+reads_opens l {f} {v} {rest} n ws d o piece next opens =
+    let reads = λ (m : ℕ) (h : IsReadableUpTo m l.elements).
+    let at_front : Front next.s f next.r v next.at next.means m = front next.s f next.r v next.at next.means m (subst (IsReadableUpTo m) next.left_is h) in
+    let (k, fewer, inside) = held_read m v d at_front.stands.0 (opens_held v d o piece opens) at_front.stands.1 in
+    let both : ReadsOn m rest (Some (drop 4 d)) = (subst (IsReadableUpTo m) (sym next.rest_is) at_front.rest, k, fewer, inside) in
+    both in
+    readable_entered n ws l (behind l rest) (opened d o) reads

@@ -16,8 +16,7 @@ use Rattle.bson_json.specs.Decimals.{decimal128_text}
 use Rattle.bson_json.specs.Doubles.{IsDoubleJson, IsDoubleText, wrapped_double}
 use Rattle.bson_json.specs.Json.{AreMembersJson, IsJsonUpTo, IsValueJson, before_scope, end_text, head_text, opening}
 use Rattle.bson_json.specs.Leaves.{IsLeafJson, binary_json, boolean_json, int32_json, int64_json, object_id_json, pointer_json, regex_json, timestamp_json}
-use Rattle.bson_json.specs.Levels.{IsReadableUpTo, sort_of, after}
-use Rattle.bson_json.specs.declared.level.Level.{Level}
+use Rattle.bson_json.specs.Levels.{Level, IsReadableUpTo, sort_of, after}
 use Rattle.bson_json.specs.declared.level.Sort as level
 use Rattle.bson_json.specs.declared.style.Format.{Format}
 use Rattle.bson_json.specs.declared.style.Format.TheVariants.{Relaxed, Canonical}

@@ -6,4 +6,5 @@ pub mod Json
 pub mod Written
 pub mod Errors
 pub mod Levels
+pub mod Passing
 pub mod Measured

@@ -6,16 +6,17 @@ ghost use Rattle.std.specs.Str.{IsUtf8};
 ghost use Rattle.std.specs.Io.KnownBytes.{Appends};
 ghost use Rattle.bson_model.specs.Tree.{Tree};
 ghost use Rattle.raw_tree.specs.WithinLimits.{ReadsWithin};
+ghost use Rattle.raw_tree.specs.declared.reader.limits.Limits.{Limits};
 ghost use Rattle.raw_view.specs.Document.{bytes_of};
 ghost use Rattle.bson_json.specs.Errors.{TellsJsonError, TellsWriteError};
 ghost use Rattle.bson_json.specs.Json.{IsJson};
 ghost use Rattle.bson_json.specs.Measured.{Measures};
+ghost use Rattle.bson_json.specs.Passing.{TellsBriefly};
 
 use crate::error::{ToJsonError, WriteJsonError};
-use crate::print::{Failure, print};
+use crate::print::{Failure, PrintError, print};
 use crate::sink::{Counted, Measured};
 use crate::style::Style;
-use raw_form::first_fault_within;
 use raw_tree::Limits;
 use raw_view::RawDocument;
 use std::alloc::Global;
@@ -47,15 +48,24 @@ pub fn write_json<'a, W: Write>(
     ensures err { IfErr result
         (TellsWriteError limits style (bytes_of document.entry) (W.contents out.old) (W.contents out.new)) }
 {
-    match first_fault_within(alloc, document, limits) {
-        Ok(None) => {}
-        Ok(Some(barrier)) => return Err(WriteJsonError::Barrier(barrier)),
-        Err(_) => return Err(WriteJsonError::OutOfMemory),
-    }
-    match print(alloc, document, style, out) {
+    match print(alloc, document, style, limits, true, out) {
         Ok(()) => Ok(()),
-        Err(Failure::OutOfMemory) => Err(WriteJsonError::OutOfMemory),
-        Err(Failure::Writing(error)) => Err(WriteJsonError::Writing(error)),
+        Err(PrintError::Barrier(barrier)) => Err(WriteJsonError::Barrier(barrier)),
+        Err(PrintError::Failure(Failure::OutOfMemory)) => Err(WriteJsonError::OutOfMemory),
+        Err(PrintError::Failure(Failure::Writing(error))) => Err(WriteJsonError::Writing(error)),
+    }
+}
+
+/// The error of a text in memory, which fails only where memory runs out.
+fn json_error(error: PrintError<'_>) -> ToJsonError<'_>
+    ensures { (limits : Limits)
+        → (b : List ℕ)
+        → TellsBriefly limits b error.entry
+        → TellsJsonError limits b result }
+{
+    match error {
+        PrintError::Barrier(barrier) => ToJsonError::Barrier(barrier),
+        PrintError::Failure(_) => ToJsonError::OutOfMemory,
     }
 }
 
@@ -86,10 +96,9 @@ pub fn to_json<'a>(
     ensures err { IfErr result (TellsJsonError limits (bytes_of document.entry)) }
 {
     let mut text = Vec::new(alloc);
-    match write_json(alloc, document, style, limits, &mut text) {
+    match print(alloc, document, style, limits, false, &mut text) {
         Ok(()) => Ok(string_of(text)),
-        Err(WriteJsonError::Barrier(barrier)) => Err(ToJsonError::Barrier(barrier)),
-        Err(_) => Err(ToJsonError::OutOfMemory),
+        Err(error) => Err(json_error(error)),
     }
 }
 
@@ -116,15 +125,9 @@ pub fn measured_json<'a>(
     ensures within { OnOk result ((t : Tree) × ReadsWithin limits (bytes_of document.entry) t) }
     ensures err { IfErr result (TellsJsonError limits (bytes_of document.entry)) }
 {
-    match first_fault_within(alloc, document, limits) {
-        Ok(None) => {}
-        Ok(Some(barrier)) => return Err(ToJsonError::Barrier(barrier)),
-        Err(_) => return Err(ToJsonError::OutOfMemory),
-    }
     let mut counted = Counted::new(alloc, most);
-    match print(alloc, document, style, &mut counted) {
-        Ok(()) => {}
-        Err(_) => return Err(ToJsonError::OutOfMemory),
+    if let Err(error) = print(alloc, document, style, limits, false, &mut counted) {
+        return Err(json_error(error));
     }
     let len = counted.len;
     if most < len {

@@ -1,12 +1,12 @@
-//! A level that is printed, and what is next in it.
+//! What is printed of a level.
 #![tactic(auto)]
 
-ghost use Rattle.std.specs.Prelude.{◌≡◌, ◌++◌, ◌*◌, OnOk, IfOk, true, drop, replicate, Some};
+ghost use Rattle.std.specs.Prelude.{◌++◌, ◌*◌, ℕ, List, OnOk, IfOk, replicate};
 ghost use Rattle.std.specs.Io.KnownBytes.{Appends};
 ghost use Rattle.bson_json.specs.Json.{colon, end_text, head_text, line};
 ghost use Rattle.json.specs.Print.{quoted};
-ghost use Rattle.bson_json.specs.Levels.{Gives, IsReadable, PutsSingle, PutsValue, sort_of, after};
-ghost use Rattle.raw_view.specs.Document.{bytes_of};
+ghost use Rattle.bson_json.specs.Levels.{PutsOpening, PutsSingle, sort_of, after};
+ghost use Rattle.raw_tree.specs.Reading.{Holds};
 ghost use Rattle.raw_view.specs.Meaning.Value.{value_of};
 
 use crate::dates::put_date;
@@ -18,7 +18,7 @@ use crate::leaf::{
 use crate::put::{put, put_repeated};
 use crate::quote::put_quoted;
 use crate::style::{Format, Layout};
-use raw_view::{Elements, RawBsonRef, RawDocument};
+use raw_view::RawBsonRef;
 use std::io;
 use std::io::Write;
 
@@ -29,46 +29,6 @@ pub(crate) enum Sort {
     Array,
     /// the scope of a code
     Scope,
-}
-
-/// A level that is printed.
-#[derive(Drop)]
-pub(crate) struct Level<'a> {
-    /// what is left of it
-    pub(crate) elements: Elements<'a>,
-    pub(crate) sort: Sort,
-    /// whether nothing of it is printed yet
-    pub(crate) first: bool,
-}
-
-impl<'a> Level<'a> {
-    /// The level of these bytes.
-    pub(crate) fn new(document: RawDocument<'a>, sort: Sort) -> Level<'a>
-        ensures elements { result.elements ≡ Some (drop 4 (bytes_of document.entry)) }
-        ensures sort { result.sort ≡ sort }
-        ensures first { result.first ≡ true }
-    {
-        Level {
-            elements: Elements::new(document),
-            sort,
-            first: true,
-        }
-    }
-}
-
-/// The key and the value of the next element of a level without a fault.
-#[inline(always)]
-pub(crate) fn next_of<'a>(elements: &mut Elements<'a>) -> Option<(&'a str, RawBsonRef<'a>)>
-    requires { IsReadable elements.old }
-    ensures { Gives elements.old elements.new result }
-{
-    let Ok(element) = elements.next()? else {
-        unreachable!()
-    };
-    let Ok(value) = element.resolve() else {
-        unreachable!()
-    };
-    Some((element.key(), value))
 }
 
 /// Writes two spaces for each level.
@@ -150,37 +110,34 @@ pub(crate) fn put_end<W: Write>(
     }
 }
 
-/// Writes a value that holds no others; of another what is before its first member, and returns its level.
-pub(crate) fn put_value<'a, W: Write>(
-    out: &mut W,
-    format: Format,
-    value: RawBsonRef<'a>,
-) -> io::Result<Option<Level<'a>>>
-    ensures { IfOk result (PutsValue format (value_of value.entry) (W.contents out.old) (W.contents out.new)) }
+/// Writes what is before the first member of a value that holds others, and returns what its level is.
+pub(crate) fn put_opening<W: Write>(out: &mut W, value: RawBsonRef<'_>) -> io::Result<Sort>
+    requires { (d : List ℕ) × Holds (value_of value) d }
+    ensures { IfOk result (PutsOpening (value_of value.entry) (W.contents out.old) (W.contents out.new)) }
 {
-    let level = match value {
-        RawBsonRef::Document(document) => {
+    match value {
+        RawBsonRef::Document(_) => {
             put(out, b"{")?;
-            Level::new(document, Sort::Document)
+            Ok(Sort::Document)
         }
-        RawBsonRef::Array(array) => {
+        RawBsonRef::Array(_) => {
             put(out, b"[")?;
-            Level::new(array.as_doc(), Sort::Array)
+            Ok(Sort::Array)
         }
         RawBsonRef::JavaScriptCodeWithScope(code) => {
             put_text(out, "{\"$code\":", code.code, ",\"$scope\":{")?;
-            Level::new(code.scope, Sort::Scope)
+            Ok(Sort::Scope)
         }
-        _ => {
-            put_single(out, format, value)?;
-            return Ok(None);
-        }
-    };
-    Ok(Some(level))
+        _ => unreachable!(),
+    }
 }
 
 /// Writes a value that holds no others.
-fn put_single<W: Write>(out: &mut W, format: Format, value: RawBsonRef<'_>) -> io::Result<()>
+pub(crate) fn put_single<W: Write>(
+    out: &mut W,
+    format: Format,
+    value: RawBsonRef<'_>,
+) -> io::Result<()>
     ensures { OnOk result (PutsSingle format (value_of value.entry) (W.contents out.old) (W.contents out.new)) }
 {
     match value {

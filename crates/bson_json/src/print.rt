@@ -1,17 +1,20 @@
 //! Prints the levels of a document.
 #![tactic(auto)]
 
-ghost use Rattle.std.specs.Prelude.{◌≡◌, ℕ, List, OnErr, OnOk};
+ghost use Rattle.std.specs.Prelude.{◌≡◌, ℕ, List, true, IfErr, IfOk, OnOk};
 ghost use Rattle.bson_model.specs.Tree.{Tree};
-ghost use Rattle.raw_tree.specs.Reading.{Reads};
+ghost use Rattle.raw_tree.specs.WithinLimits.{ReadsWithin};
 ghost use Rattle.raw_view.specs.Document.{bytes_of};
 ghost use Rattle.bson_json.specs.Json.{IsJson};
-ghost use Rattle.bson_json.specs.Written.{Grows, GrowsFront, HasFront, Moves};
+ghost use Rattle.bson_json.specs.Passing.{Guards, IsSeen, TellsLookError, TellsPassError, TellsPrintError};
+ghost use Rattle.bson_json.specs.Written.{Grows, Moves};
 
-use crate::level::{Level, Sort, next_of, put_end, put_head, put_value};
+use crate::level::{Sort, put_end, put_head, put_opening, put_single};
 use crate::put::put;
 use crate::sink::Sink;
 use crate::style::Style;
+use raw_form::{Barrier, Event, Walk, WalkError, first_fault_within};
+use raw_tree::Limits;
 use raw_view::RawDocument;
 use std::alloc::{AllocFailed, Global};
 use std::{io, mem};
@@ -26,87 +29,167 @@ pub(crate) enum Failure {
     Writing(io::Error),
 }
 
+/// Why a document isn't printed whole.
+#[derive(Debug, Drop)]
+pub(crate) enum PrintError<'a> {
+    /// its first barrier within the limits
+    Barrier(Barrier<'a>),
+    Failure(Failure),
+}
+
+impl<'a> From<WalkError<'a>> for PrintError<'a> {
+    ghost use Rattle.bson_json.specs.Levels.{error_of};
+
+    ghost from_gives = { λ error printed. printed ≡ error_of error };
+
+    fn from(error: WalkError<'a>) -> PrintError<'a> {
+        match error {
+            WalkError::Barrier(barrier) => PrintError::Barrier(barrier),
+            WalkError::OutOfMemory => PrintError::Failure(Failure::OutOfMemory),
+        }
+    }
+}
+
+impl<'a> From<Failure> for PrintError<'a> {
+    ghost use Rattle.bson_json.specs.declared.print.PrintError.TheVariants as print;
+
+    ghost from_gives = { λ failure printed. printed ≡ print.Failure failure };
+
+    fn from(failure: Failure) -> PrintError<'a> {
+        PrintError::Failure(failure)
+    }
+}
+
 /// A block in memory takes all that it is given, unless memory runs out.
-impl From<io::Error> for Failure {
-    ghost use Rattle.bson_json.specs.declared.print.Failure.TheVariants.{OutOfMemory};
+impl<'a> From<io::Error> for PrintError<'a> {
+    ghost use Rattle.bson_json.specs.declared.print.Failure.TheVariants as failure;
+    ghost use Rattle.bson_json.specs.declared.print.PrintError.TheVariants as print;
 
-    ghost from_gives = { λ _ failure. failure ≡ OutOfMemory };
+    ghost from_gives = { λ _ printed. printed ≡ print.Failure failure.OutOfMemory };
 
-    fn from(_error: io::Error) -> Failure {
-        Failure::OutOfMemory
+    fn from(_error: io::Error) -> PrintError<'a> {
+        PrintError::Failure(Failure::OutOfMemory)
     }
 }
 
-impl<T: Drop> From<AllocFailed<T>> for Failure {
-    ghost use Rattle.bson_json.specs.declared.print.Failure.TheVariants.{OutOfMemory};
+impl<'a, T: Drop> From<AllocFailed<T>> for PrintError<'a> {
+    ghost use Rattle.bson_json.specs.declared.print.Failure.TheVariants as failure;
+    ghost use Rattle.bson_json.specs.declared.print.PrintError.TheVariants as print;
 
-    ghost from_gives = { λ _ failure. failure ≡ OutOfMemory };
+    ghost from_gives = { λ _ printed. printed ≡ print.Failure failure.OutOfMemory };
 
-    fn from(_error: AllocFailed<T>) -> Failure {
-        Failure::OutOfMemory
+    fn from(_error: AllocFailed<T>) -> PrintError<'a> {
+        PrintError::Failure(Failure::OutOfMemory)
     }
 }
 
-/// Writes a block that is full, and empties it.
-#[inline]
-fn pass_on<S: Sink>(out: &mut S, block: &mut Vec<u8>) -> Result<(), Failure>
-    ensures moved { OnOk result (Moves S.has out.old out.new block.old.items block.new.items) }
-    ensures front { OnErr result (GrowsFront S.has out.old out.new block.old.items) }
+/// Looks a document through, where it has to be.
+fn look_through<'a>(
+    alloc: Global,
+    document: RawDocument<'a>,
+    limits: Limits,
+    unseen: bool,
+) -> Result<(), PrintError<'a>>
+    ensures seen { OnOk result (unseen ≡ true → IsSeen limits (bytes_of document.entry)) }
+    ensures told { IfErr result (TellsLookError limits (bytes_of document.entry)) }
 {
-    if block.len() < FULL {
+    if !unseen {
         return Ok(());
     }
-    out.accept(block)?;
-    block.clear();
-    Ok(())
+    match first_fault_within(alloc, document, limits) {
+        Ok(None) => Ok(()),
+        Ok(Some(barrier)) => Err(PrintError::Barrier(barrier)),
+        Err(_) => Err(PrintError::Failure(Failure::OutOfMemory)),
+    }
 }
 
-/// Writes a document that has no fault, by blocks of whole values.
-pub(crate) fn print<S: Sink>(
+/// Writes a block that is full, and empties it. A document that has to be looked through is before its first block is written;
+/// returns whether it still has to be.
+#[inline]
+fn pass_on<'a, S: Sink>(
     alloc: Global,
-    document: RawDocument<'_>,
-    style: Style,
+    document: RawDocument<'a>,
+    limits: Limits,
+    unseen: bool,
     out: &mut S,
-) -> Result<(), Failure>
-    requires { (t : Tree) × Reads (bytes_of document) t }
+    block: &mut Vec<u8>,
+) -> Result<bool, PrintError<'a>>
+    ensures moved { OnOk result (Moves S.has out.old out.new block.old.items block.new.items) }
+    ensures guard { IfOk result (λ still. (before : S)
+        → Guards limits (bytes_of document.entry) unseen before out.old
+        → Guards limits (bytes_of document.entry) still before out.new) }
+    ensures told { IfErr result
+        (TellsPassError S.has limits (bytes_of document.entry) unseen out.old out.new block.old.items) }
+{
+    if block.len() < FULL {
+        return Ok(unseen);
+    }
+    look_through(alloc, document, limits, unseen)?;
+    out.accept(block)?;
+    block.clear();
+    Ok(false)
+}
+
+/// Writes a document within limits, by blocks of whole values. If it is to be `careful`, nothing is written of a document that
+/// has a barrier; else a front of no text may be.
+pub(crate) fn print<'a, S: Sink>(
+    alloc: Global,
+    document: RawDocument<'a>,
+    style: Style,
+    limits: Limits,
+    careful: bool,
+    out: &mut S,
+) -> Result<(), PrintError<'a>>
     ensures text { OnOk result ((text : List ℕ) × IsJson style (bytes_of document.entry) text
         × Grows S.has out.old out.new text) }
-    ensures front { OnErr result (HasFront S.has style (bytes_of document.entry) out.old out.new) }
+    ensures within { OnOk result ((t : Tree) × ReadsWithin limits (bytes_of document.entry) t) }
+    ensures told { IfErr result
+        (TellsPrintError S.has style limits (bytes_of document.entry) careful out.old out.new) }
 {
-    let mut waiting: Vec<Level<'_>> = Vec::new(alloc);
+    let (mut walk, mut level) = Walk::within(alloc, document, limits)?;
+    let mut sorts: Vec<Sort> = Vec::new(alloc);
+    let mut sort = Sort::Document;
     let mut block: Vec<u8> = Vec::new(alloc);
-    let mut level = Level::new(document, Sort::Document);
+    let mut unseen = careful;
     put(&mut block, b"{")?;
-    'levels: loop {
-        pass_on(out, &mut block)?;
-        match next_of(&mut level.elements) {
-            None => {
-                put_end(
-                    &mut block,
-                    style.layout,
-                    waiting.len(),
-                    level.sort,
-                    level.first,
-                )?;
-                let Some(outer) = waiting.pop() else {
-                    return out.accept(&block);
-                };
-                level = outer;
-            }
-            Some((key, value)) => {
+    'events: loop {
+        unseen = pass_on(alloc, document, limits, unseen, out, &mut block)?;
+        let depth = sorts.len();
+        let first = level.number == 0;
+        match walk.next(alloc, &mut level)? {
+            Event::Whole(element, value) => {
                 put_head(
                     &mut block,
                     style.layout,
-                    waiting.len() + 1,
-                    level.sort,
-                    level.first,
-                    key,
+                    depth + 1,
+                    sort,
+                    first,
+                    element.key(),
                 )?;
-                level.first = false;
-                if let Some(inner) = put_value(&mut block, style.format, value)? {
-                    let outer = mem::replace(&mut level, inner);
-                    waiting.push(outer)?;
-                }
+                put_single(&mut block, style.format, value)?;
+            }
+            Event::Enter(element, value) => {
+                put_head(
+                    &mut block,
+                    style.layout,
+                    depth + 1,
+                    sort,
+                    first,
+                    element.key(),
+                )?;
+                let inner = put_opening(&mut block, value)?;
+                sorts.push(mem::replace(&mut sort, inner))?;
+            }
+            Event::Leave => {
+                put_end(&mut block, style.layout, depth, sort, first)?;
+                let Some(outer) = sorts.pop() else {
+                    unreachable!()
+                };
+                sort = outer;
+            }
+            Event::End => {
+                put_end(&mut block, style.layout, depth, sort, first)?;
+                return Ok(out.accept(&block)?);
             }
         }
     }

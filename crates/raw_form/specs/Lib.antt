@@ -2,6 +2,7 @@ pub mod Places
 pub mod Barriers
 pub mod Waits
 pub mod Walks
+pub mod Aheads
 pub mod Looking
 pub mod Staying
 pub mod Rewriting

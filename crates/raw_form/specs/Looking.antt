@@ -8,12 +8,17 @@ use Rattle.raw_view.specs.Frame.{Frame, IsFrame, IsStop, LeadsTo}
 use Rattle.raw_view.specs.Frame.Front.{TellsBorrowed}
 use Rattle.raw_view.specs.Meaning.{RawValue, KeyedFault, Means, value, faulty}
 use Rattle.raw_view.specs.Meaning as raw
+use Rattle.raw_view.specs.Meaning.Value.{value_of}
+use Rattle.raw_view.specs.declared.bson_ref.RawBsonRef.{RawBsonRef}
 use Rattle.raw_view.specs.declared.document.RawDocument.{RawDocument}
+use Rattle.raw_view.specs.declared.element.RawElement.{RawElement}
 use Rattle.raw_tree.specs.Reading.{Holds, StandForEach, ReadsUpTo}
 use Rattle.raw_form.specs.Places.{Step, BeginsAt}
 use Rattle.raw_form.specs.Waits.{Wait}
+use Rattle.raw_form.specs.Aheads.{Ahead}
+use Rattle.raw_form.specs.Aheads as next
 use Rattle.raw_form.specs.declared.level.Next.{Next}
-use Rattle.raw_form.specs.declared.level.Next.TheVariants as next
+use Rattle.raw_form.specs.declared.level.Next.TheVariants as seen
 
 -- the step at which a level waits
 abbrev pub step_at : Wait → Step
@@ -43,13 +48,33 @@ FailsAt s None fault = IsStop s fault.fault fault.key
 FailsAt s (Some key) fault = (f : Frame) × (r : List ℕ) × IsFrame s f r × Means f (faulty fault) × (key ≡ f.key)
 
 -- what is next where s is left
-abbrev pub Looks : Option (List ℕ) → Option (List ℕ) → Next → Type 0
+abbrev pub Looks : Option (List ℕ) → Option (List ℕ) → Ahead → Type 0
 Looks None new x = Unit {0}
 Looks (Some s) new next.End = s ≡ 0 ∷ []
 Looks (Some s) new (next.Whole e) = (r : List ℕ) × (v : RawValue) × IsFrame s (frame_of e) r × Means (frame_of e) (value v) × HoldsNone v × (new ≡ Some r)
 Looks (Some s) new (next.Inside e inner) =
     (r : List ℕ) × (v : RawValue) × IsFrame s (frame_of e) r × Means (frame_of e) (value v) × Holds v (bytes_of inner) × (new ≡ Some r)
 Looks (Some s) new (next.Fault key e) = (fault : KeyedFault) × FailsAt s (option_copied key) fault × TellsBorrowed e fault
+
+-- a look without the element's value, and what it tells so
+abbrev pub without_value : Next → Ahead
+without_value seen.End = next.End
+without_value (seen.Whole e v) = next.Whole e
+without_value (seen.Inside e v inner) = next.Inside e inner
+without_value (seen.Fault key e) = next.Fault key e
+
+abbrev pub Sees : Option (List ℕ) → Option (List ℕ) → Next → Type 0
+Sees old new x = Looks old new (without_value x)
+
+-- the value is that of the element
+abbrev pub IsValueOf : RawBsonRef → RawElement → Type 0
+IsValueOf v e = Means (frame_of e) (value (value_of v))
+
+-- a look has the value of its element
+abbrev pub HasValue : Next → Type 0
+HasValue (seen.Whole e v) = IsValueOf v e
+HasValue (seen.Inside e v inner) = IsValueOf v e
+HasValue _ = Unit {0}
 
 -- so many elements of the document b are before what begins at this offset, and stand for trees with at most so many levels
 pub record AreReadBefore (inside : ℕ) (b : List ℕ) (number offset : ℕ) : Type 0 where

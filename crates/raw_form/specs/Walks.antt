@@ -1,4 +1,4 @@
--- What a walk over all levels of a document has passed, and what it comes to next. No public contract cites this file.
+-- What a walk over all levels of a document has passed, and what it comes to next. No contract of a call for users cites this file.
 use Rattle.std.specs.Prelude.{◌≡◌, ◌+◌, ◌++◌, ◌∷◌, ◌<◌, ◌≤◌, ℕ, suc, Bool, true, false, List, Option, Some, Result, Ok, Err, drop, length, map, []}
 use Rattle.bson_model.specs.Tree.{Tree}
 use Rattle.raw_view.specs.Document.{bytes_of}
@@ -9,15 +9,16 @@ use Rattle.raw_view.specs.declared.document.RawDocument.{RawDocument}
 use Rattle.raw_view.specs.declared.element.RawElement.{RawElement}
 use Rattle.raw_tree.specs.Reading.{Sort, as_document, tree_of_pairs, ReadsUpTo, StandForEach}
 use Rattle.raw_tree.specs.Validating.{HoldsAs, left_of}
-use Rattle.raw_form.specs.Barriers.{TellsBarrierWithin, steps_of}
-use Rattle.raw_form.specs.Looking.{Looks, size_of, step_at}
+use Rattle.raw_tree.specs.declared.reader.limits.Limits.{Limits}
+use Rattle.raw_form.specs.Aheads.{Ahead}
+use Rattle.raw_form.specs.Aheads as next
+use Rattle.raw_form.specs.Barriers.{TellsBarrier, TellsBarrierWithin, steps_of}
+use Rattle.raw_form.specs.Looking.{IsValueOf, Looks, size_of, step_at}
 use Rattle.raw_form.specs.Places.{BeginsAt, Step}
 use Rattle.raw_form.specs.Waits.{GoesOn, LiesAt, StoreEach, Wait}
 use Rattle.raw_form.specs.declared.barrier.BarrierKind.{BarrierKind}
 use Rattle.raw_form.specs.declared.barrier.BarrierKind.TheVariants as kind
 use Rattle.raw_form.specs.declared.level.Level.{Level}
-use Rattle.raw_form.specs.declared.level.Next.{Next}
-use Rattle.raw_form.specs.declared.level.Next.TheVariants as next
 use Rattle.raw_form.specs.declared.walk.Event.{Event}
 use Rattle.raw_form.specs.declared.walk.Event.TheVariants as event
 use Rattle.raw_form.specs.declared.walk.Walk.{Walk}
@@ -114,7 +115,7 @@ abbrev pub with_left : Option (List ℕ) → Level → Level
 with_left left level = record { elements = left; number = level.number; offset = level.offset; start = level.start }
 
 -- so it was, before what is next in the level was looked at
-pub record IsLooked (walk : Walk) (level : Level) (left : Option (List ℕ)) (ws : List Wait) (seen : Next) : Type 0 where
+pub record IsLooked (walk : Walk) (level : Level) (left : Option (List ℕ)) (ws : List Wait) (seen : Ahead) : Type 0 where
   pub along : IsAlong walk (with_left left level) ws
   pub looks : Looks left level.elements seen
 
@@ -136,6 +137,19 @@ pub record IsBegun (document : RawDocument) (offset : ℕ) (walk : Walk) (level 
   pub offset_is : level.offset ≡ offset
   pub start_is : level.start ≡ 0
 
+-- it begins at the first element, and the document keeps to the limits so far
+pub record BeginsWithin (limits : Limits) (document : RawDocument) (walk : Walk) (level : Level) : Type 0 where
+  pub few : length (bytes_of document) ≤ limits.bytes
+  pub levels : suc walk.most_waiting ≡ limits.depth
+  pub along : IsAlong walk level []
+  pub begun : IsBegun document 4 walk level
+  pub none_before : level.number ≡ 0
+
+-- the error is the first barrier of the document within the limits; or memory ran out, where it has few enough bytes
+abbrev pub TellsErrorWithin : Limits → List ℕ → WalkError → Type 0
+TellsErrorWithin limits b (error.Barrier answer) = TellsBarrier limits b (Some answer)
+TellsErrorWithin limits b error.OutOfMemory = length b ≤ limits.bytes
+
 -- the error is a barrier of this kind, at this step and offset in the level for which these wait; or memory ran out
 abbrev pub IsBarrierAt : List Wait → Step → (offset : ℕ) → BarrierKind → WalkError → Type 0
 IsBarrierAt ws step offset k (error.Barrier b) = (b.kind ≡ k) × (steps_of b.place ≡ map step_at ws ++ step ∷ []) × (b.place.offset ≡ offset)
@@ -150,6 +164,7 @@ TellsError walk error.OutOfMemory = Unit {0}
 abbrev pub Passes : Walk → (from : Level) → List Wait → (to : Level) → RawElement → Type 0
 Passes walk from ws to e =
     IsFurther from walk to ws × Looks from.elements to.elements (next.Whole e) × (to.offset ≡ from.offset + size_of (frame_of e)) × (to.start ≡ from.start)
+    × (to.number ≡ from.number + 1)
 
 -- a level with the bytes d that waits, behind the element of this number and key that begins at this offset
 abbrev pub wait_behind : (start : ℕ) (d : List ℕ) (new : Option (List ℕ)) (number offset behind : ℕ) (key : List ℕ) → Wait
@@ -176,8 +191,8 @@ LeavesOrEnds old from ws new to false = (t : Tree) × ReadsUpTo (suc old.most_wa
 
 -- what a walk comes to behind the level `from`, for which these wait: it is then at the level `to`
 abbrev pub Comes : Walk → (from : Level) → List Wait → Walk → (to : Level) → Result Event WalkError → Type 0
-Comes old from ws new to (Ok (event.Whole e)) = Passes new from ws to e
-Comes old from ws new to (Ok (event.Enter e)) = (w : Wait) × (inner : RawDocument) × Enters from ws w new to e inner
+Comes old from ws new to (Ok (event.Whole e v)) = Passes new from ws to e × IsValueOf v e
+Comes old from ws new to (Ok (event.Enter e v)) = (w : Wait) × (inner : RawDocument) × Enters from ws w new to e inner × IsValueOf v e
 Comes old from ws new to (Ok event.Leave) = LeavesOrEnds old from ws new to true
 Comes old from ws new to (Ok event.End) = LeavesOrEnds old from ws new to false
 Comes old from ws new to (Err e) = TellsError old e

@@ -59,8 +59,8 @@ pub(crate) fn first_behind<'a>(
     let (mut walk, mut level) = Walk::new(alloc, document, start, most_waiting);
     'elements: loop {
         match look(&mut level.elements) {
-            Next::Whole(element) => walk.pass(&mut level, element),
-            Next::Inside(element, inner) => {
+            Next::Whole(element, _) => walk.pass(&mut level, element),
+            Next::Inside(element, _, inner) => {
                 if let Err(error) = walk.enter(alloc, &mut level, element, inner) {
                     return told(error);
                 }

@@ -56,11 +56,11 @@ fn flatten_to<'a>(
         let offset = level.offset;
         let depth = places.len();
         match walk.next(alloc, &mut level) {
-            Ok(Event::Whole(element)) => {
+            Ok(Event::Whole(element, _)) => {
                 put_at(tokens, count, Token::new(depth, offset, element));
                 count += 1;
             }
-            Ok(Event::Enter(element)) => {
+            Ok(Event::Enter(element, _)) => {
                 put_at(tokens, count, Token::new(depth, offset, element));
                 if places.push(count as u32).is_err() {
                     return Err(FlattenError::OutOfMemory);

@@ -2,7 +2,7 @@
 #![tactic(auto)]
 
 ghost use Rattle.std.specs.Prelude.{◌≡◌, ◌≤◌, ◌<◌, ◌+◌, ◌^◌, ℕ, List, Some, drop, length};
-ghost use Rattle.raw_form.specs.Looking.{HoldsBytes, Looks, size_of};
+ghost use Rattle.raw_form.specs.Looking.{HasValue, HoldsBytes, Sees, size_of};
 ghost use Rattle.raw_form.specs.Waits.{GoesOn, LiesAt, Stores, Wait};
 ghost use Rattle.raw_view.specs.Document.{bytes_of};
 ghost use Rattle.raw_view.specs.Frame.ElementSteps.{frame_of};
@@ -12,11 +12,11 @@ use raw_view::{BorrowedError, Elements, RawBsonRef, RawDocument, RawElement};
 
 /// A level that is looked through.
 #[derive(Drop)]
-pub(crate) struct Level<'a> {
+pub struct Level<'a> {
     /// what is left of it
     pub(crate) elements: Elements<'a>,
     /// how many elements are before that
-    pub(crate) number: usize,
+    pub number: usize,
     /// where that begins, counted from the document's first byte
     pub(crate) offset: usize,
     /// where the level begins
@@ -90,10 +90,10 @@ pub(crate) struct Waiting {
 pub(crate) enum Next<'a> {
     /// the final 0
     End,
-    /// an element whose value holds no other level
-    Whole(RawElement<'a>),
-    /// an element, and the level that its value holds
-    Inside(RawElement<'a>, RawDocument<'a>),
+    /// an element, and its value, which holds no other level
+    Whole(RawElement<'a>, RawBsonRef<'a>),
+    /// an element, its value, and the level that this holds
+    Inside(RawElement<'a>, RawBsonRef<'a>, RawDocument<'a>),
     /// the key of an element and the fault that it means; or a stop
     Fault(Option<&'a str>, BorrowedError<'a>),
 }
@@ -114,7 +114,8 @@ fn inside(value: RawBsonRef<'_>) -> Option<RawDocument<'_>>
 /// Looks at what is next in a level.
 #[inline(always)]
 pub(crate) fn look<'a>(elements: &mut Elements<'a>) -> Next<'a>
-    ensures { Looks elements.old elements.new result }
+    ensures sees { Sees elements.old elements.new result }
+    ensures value { HasValue result }
 {
     let element = match elements.next() {
         None => return Next::End,
@@ -126,8 +127,8 @@ pub(crate) fn look<'a>(elements: &mut Elements<'a>) -> Next<'a>
         Ok(value) => value,
     };
     match inside(value) {
-        None => Next::Whole(element),
-        Some(document) => Next::Inside(element, document),
+        None => Next::Whole(element, value),
+        Some(document) => Next::Inside(element, value, document),
     }
 }
 

@@ -22,6 +22,11 @@ pub use barrier::{Barrier, BarrierKind};
 pub use canonical::canonical_within;
 pub use faults::first_fault_within;
 pub use flatten::{FlattenError, flatten_within};
+// For `bson_json` alone, which prints what a walk comes to.
+#[doc(hidden)]
+pub use level::Level;
 pub use place::{PathStep, Place};
 pub use token::Token;
 pub use verdict::{PlacedBreach, ValidateError, validate_within};
+#[doc(hidden)]
+pub use walk::{Event, Walk, WalkError};

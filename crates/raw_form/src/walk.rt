@@ -1,26 +1,27 @@
-//! A walk over all levels of a document.
+//! A walk over all levels of a document. It is public for `bson_json` alone.
 #![tactic(auto)]
 
 ghost use Rattle.std.specs.Option.{option_copied};
-ghost use Rattle.std.specs.Prelude.{◌≡◌, ◌+◌, [], ℕ, suc, List, Option, IfErr, OnOk};
+ghost use Rattle.std.specs.Prelude.{◌≡◌, ◌+◌, [], ℕ, suc, List, Option, IfErr, IfOk, OnOk};
 ghost use Rattle.raw_form.specs.Looking.{HasNoneBefore, size_of};
 ghost use Rattle.raw_form.specs.Waits.{StoreEach, Wait};
-ghost use Rattle.raw_form.specs.Walks.{Comes, Enters, IsAlong, IsBarrierAt, IsBegun, IsLooked, IsTooDeep, LeavesOrEnds, Passes, outermost_of, wait_behind, with_left};
-ghost use Rattle.raw_form.specs.declared.level.Next.TheVariants as next;
+ghost use Rattle.raw_form.specs.Walks.{BeginsWithin, Comes, Enters, IsAlong, IsBarrierAt, IsBegun, IsLooked, IsTooDeep, LeavesOrEnds, Passes, TellsErrorWithin, outermost_of, wait_behind, with_left};
+ghost use Rattle.raw_form.specs.Aheads as next;
 ghost use Rattle.raw_view.specs.Document.{bytes_of};
 ghost use Rattle.raw_view.specs.Frame.ElementSteps.{frame_of};
 
 use crate::barrier::{Barrier, BarrierKind};
-use crate::faults::Start;
+use crate::faults::{FIRST, Start};
 use crate::level::{Level, Next, Waiting, behind, look};
-use crate::place::place_in;
-use raw_view::{Elements, RawDocument, RawElement};
+use crate::place::{Place, place_in};
+use raw_tree::Limits;
+use raw_view::{Elements, RawBsonRef, RawDocument, RawElement};
 use std::alloc::Global;
 
 /// A walk over all levels of a document, depth first in byte order. It takes memory for the levels that wait, and no stack.
 /// The innermost level is beside it, so that its fields can stay in registers.
 #[derive(Drop)]
-pub(crate) struct Walk<'a> {
+pub struct Walk<'a> {
     pub(crate) document: RawDocument<'a>,
     /// how many levels may wait
     pub(crate) most_waiting: usize,
@@ -30,11 +31,11 @@ pub(crate) struct Walk<'a> {
 
 /// What a walk comes to.
 #[derive(Drop)]
-pub(crate) enum Event<'a> {
-    /// an element whose value holds no level
-    Whole(RawElement<'a>),
-    /// an element and the level that its value holds, which is entered
-    Enter(RawElement<'a>),
+pub enum Event<'a> {
+    /// an element, and its value, which holds no level
+    Whole(RawElement<'a>, RawBsonRef<'a>),
+    /// an element, and its value, which holds a level: that is entered
+    Enter(RawElement<'a>, RawBsonRef<'a>),
     /// the end of a level that was entered
     Leave,
     /// the end of the document
@@ -43,7 +44,7 @@ pub(crate) enum Event<'a> {
 
 /// Why a walk can't go on.
 #[derive(Drop)]
-pub(crate) enum WalkError<'a> {
+pub enum WalkError<'a> {
     /// a fault, or a level that is too deep, which isn't entered
     Barrier(Barrier<'a>),
     /// memory ran out
@@ -82,13 +83,31 @@ impl<'a> Walk<'a> {
         (walk, level)
     }
 
+    /// A walk over a document within limits, and its outermost level; or the limit that it is past as a whole. The depth may
+    /// still end the walk.
+    #[inline(always)]
+    pub fn within(
+        alloc: Global,
+        document: RawDocument<'a>,
+        limits: Limits,
+    ) -> Result<(Walk<'a>, Level<'a>), WalkError<'a>>
+        ensures begins { IfOk result (λ begun. BeginsWithin limits document.entry begun.0 begun.1) }
+        ensures ends { IfErr result (TellsErrorWithin limits (bytes_of document.entry)) }
+    {
+        let kind = if document.as_bytes().len() > limits.bytes {
+            BarrierKind::TooManyBytes
+        } else if let Some(most_waiting) = limits.depth.checked_sub(1) {
+            return Ok(Walk::new(alloc, document, FIRST, most_waiting));
+        } else {
+            BarrierKind::TooDeep
+        };
+        let place = Place::whole(alloc);
+        Err(WalkError::Barrier(Barrier { kind, place }))
+    }
+
     /// What comes next, where this is the innermost level.
     #[inline(always)]
-    pub(crate) fn next(
-        &mut self,
-        alloc: Global,
-        level: &mut Level<'a>,
-    ) -> Result<Event<'a>, WalkError<'a>>
+    pub fn next(&mut self, alloc: Global, level: &mut Level<'a>) -> Result<Event<'a>, WalkError<'a>>
         requires { (ws : List Wait) × IsAlong self.old level.old ws }
         ensures event { (ws : List Wait)
             → IsAlong self.old level.old ws
@@ -97,13 +116,13 @@ impl<'a> Walk<'a> {
         ensures most { self.new.most_waiting ≡ self.old.most_waiting }
     {
         match look(&mut level.elements) {
-            Next::Whole(element) => {
+            Next::Whole(element, value) => {
                 self.pass(level, element);
-                Ok(Event::Whole(element))
+                Ok(Event::Whole(element, value))
             }
-            Next::Inside(element, inner) => {
+            Next::Inside(element, value, inner) => {
                 self.enter(alloc, level, element, inner)?;
-                Ok(Event::Enter(element))
+                Ok(Event::Enter(element, value))
             }
             Next::Fault(key, error) => {
                 let kind = BarrierKind::Fault(error);

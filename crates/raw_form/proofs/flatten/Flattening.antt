@@ -16,7 +16,7 @@ use Rattle.raw_form.specs.Tokens.{AreInside, AreTokens, AreTokensOf, HasTokens, 
 use Rattle.raw_form.specs.Waits.{Wait}
 use Rattle.raw_form.specs.Walks.{IsOpened, IsOver}
 use Rattle.raw_form.specs.declared.level.Level.{Level}
-use Rattle.raw_form.specs.declared.level.Next.TheVariants as next
+use Rattle.raw_form.specs.Aheads as next
 use Rattle.raw_form.specs.declared.token.Token.{Token}
 use Rattle.raw_form.proofs.last.KeptPairs.{end_behind}
 use Rattle.raw_form.proofs.token.Rooms.{filled_more, filled_none}

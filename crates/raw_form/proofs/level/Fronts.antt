@@ -13,7 +13,7 @@ use Rattle.raw_view.specs.declared.error.BorrowedError.{BorrowedError}
 use Rattle.raw_view.specs.declared.error.ErrorKind.{ErrorKind}
 use Rattle.raw_view.specs.declared.error.ErrorKind.TheVariants as kind
 use Rattle.raw_form.specs.Looking.{HoldsBytes, HoldsNone, Looks}
-use Rattle.raw_form.specs.declared.level.Next.TheVariants as next
+use Rattle.raw_form.specs.Aheads as next
 
 stop_of : (k : ErrorKind) (key : Option (List ℕ)) (s : List ℕ) → StopsWith k key s → (fault : KeyedFault) × IsStop s fault.fault fault.key × SaysFault k fault.fault × (key ≡ fault.key)
 stop_of (kind.MalformedValue reason) key s h = (record { fault = Malformed reason; key = key }, h, refl, refl)

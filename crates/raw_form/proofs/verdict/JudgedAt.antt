@@ -22,7 +22,7 @@ use Rattle.raw_form.specs.Places.{Step}
 use Rattle.raw_form.specs.Verdicts.{Verdict, too_deep, breach_of, FirstVerdictTo}
 use Rattle.raw_form.specs.declared.judge.Judged.{Judged}
 use Rattle.raw_form.specs.declared.judge.Judged.TheVariants as judged
-use Rattle.raw_form.specs.declared.level.Next.TheVariants as next
+use Rattle.raw_form.specs.Aheads as next
 use Rattle.raw_form.specs.Waits.{StoreEach, Wait}
 use Rattle.raw_form.specs.Walks.{IsAt, IsOpened, left_behind}
 use Rattle.raw_form.specs.declared.level.Level.{Level}

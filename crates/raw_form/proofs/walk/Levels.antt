@@ -31,7 +31,7 @@ use Rattle.raw_form.specs.declared.walk.Walk.{Walk}
 use Rattle.raw_form.specs.declared.walk.WalkError.{WalkError}
 use Rattle.raw_form.specs.declared.walk.WalkError.TheVariants as error
 use Rattle.raw_form.specs.declared.level.Waiting.{Waiting}
-use Rattle.raw_form.specs.declared.level.Next.TheVariants as next
+use Rattle.raw_form.specs.Aheads as next
 use Rattle.raw_form.proofs.walk.Passed.{read_as, begun, passed_whole, passed_inside, passed_end, IsInFront, passed_fault, passed_deep, resumed}
 use Rattle.raw_form.proofs.walk.Outward.{IsBarred, held_more, held_less, held_last, held_ends, barrier_outward}
 use Rattle.raw_form.proofs.last.Places.{frame_size}

@@ -23,7 +23,7 @@ use Rattle.raw_form.specs.Looking.{FailsAt, HoldsNone, Looks, size_of, step_at}
 use Rattle.raw_form.specs.Places.{Step, BeginsAt, IsOffsetOf, FirstFaultAt}
 use Rattle.raw_form.specs.Waits.{Wait}
 use Rattle.raw_form.specs.Walks.{AreReadTo, IsHeld, IsPassed, left_behind, wait_behind}
-use Rattle.raw_form.specs.declared.level.Next.TheVariants as next
+use Rattle.raw_form.specs.Aheads as next
 
 -- values
 

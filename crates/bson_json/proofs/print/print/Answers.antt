@@ -1,220 +1,170 @@
-use Rattle.std.proofs.Common.{rules, ◌≡◌, ◌+◌, ◌++◌, ℕ, List, [], ◌∷◌, Some, codes, length, false, refl, sym, ap, ◌∙◌, subst}
-use Rattle.std.specs.Io.KnownBytes.{Appends}
-use Rattle.std.proofs.KnownBytes.{Appends-trans}
+use Rattle.std.proofs.Common.{rules, ◌≡◌, ◌++◌, ◌∷◌, [], List, ℕ, Bool, Ok, true, codes, nat_eq, ap, length, refl, sym, ◌∙◌, subst}
 use Rattle.raw_view.specs.Document.{bytes_of}
-use Rattle.raw_view.specs.Meaning.{RawValue, Means, value}
-use Rattle.raw_view.specs.Meaning.Value.{value_of}
-use Rattle.bson_json.specs.Json.{IsJson, end_text, head_text}
-use Rattle.bson_json.specs.Levels.{Gives, PutsValue, sort_of, after}
+use Rattle.raw_form.specs.Walks.{Comes}
+use Rattle.bson_json.specs.Passing.{Guards}
 use Rattle.bson_json.specs.Written.{Grows, GrowsFront}
-use Rattle.bson_json.specs.declared.level.Level.{Level}
-use Rattle.bson_json.specs.declared.style.Style.{Style}
-use Rattle.bson_json.proofs.Blocks.{IsHalfway, IsPrinted, grows_nil, halfway_moves, moved_front, block_front, block_grows, nothing_front, printed_front, printed_whole}
-use Rattle.bson_json.proofs.Fronts.{end_of, next_is}
-use Rattle.bson_json.proofs.Left.{readable_top}
-use Rattle.bson_json.proofs.Puts.{on_any, on_ok, on_err}
-use Rattle.bson_json.proofs.Printing.{IsBehind, IsPrinting, printing_begins, printing_ends, printing_closes, printing_leaf, printing_opens, opens_from, smaller_opens}
+use Rattle.bson_json.proofs.Blocks.{printed_whole}
+use Rattle.bson_json.proofs.Fronts.{along_left, inside_next, whole_next}
+use Rattle.bson_json.proofs.Passing.{told_as, wrote_last}
+use Rattle.bson_json.proofs.Walking.{end_put, going_barred, going_begins, going_ends, going_inside, going_moves, going_outside, going_read, going_some, going_stops, going_whole, head_put, moved_fails, IsSameWalk, shown_opened}
 use Rattle.bson_json.proofs.print.print.Goals as goal
 
-pub levels-init : goal.levels-init
-levels-init g c =
-    let (t, reads) = c.requires in
-    let old = c.args.out.now in
-    let new = c.put.new.out.items in
-    let b = bytes_of c.args.document in
-    let begun = printing_begins c.args.style b t c.new-level.result (Some []) (Some new) reads
-    (record { elements = c.new-level.ensures.elements; sort_is = c.new-level.ensures.sort; first = c.new-level.ensures.first })
-    (subst (λ (x : List ℕ). Appends (Some x) (Some new) (codes "{")) c.new-block.ensures.items c.in_ok-put.ensures) in
-    let halfway : IsHalfway g.S.Sink.has c.args.style b [] c.new-level.result old old new = record { passed = []; put = grows_nil g.S.Sink.has old; printing = begun } in
-    subst (λ (ws : List Level). IsHalfway g.S.Sink.has c.args.style b ws c.new-level.result old old new) (sym c.new-waiting.ensures.items) halfway
+pub events-init : goal.events-init
+events-init g c = (
+  going_begins g.S.Sink.has c.args.style c.args.out.now c.new-sorts.result.items c.put.new.out.items c.in_ok-walk.ensures.begins c.new-sorts.ensures.items
+      (c.in_ok-put.ensures ∙ ap (λ (x : List ℕ). x ++ codes "{") c.new-block.ensures.items),
+  λ safe. subst (λ (unseen : Bool). Guards c.args.limits (bytes_of c.args.document) unseen c.args.out.now c.args.out.now) (sym safe) refl,
+)
 
-pub next_of-requires : goal.next_of-requires
-next_of-requires g c = readable_top c.levels.invariant.printing.levels c.levels.waiting.items c.levels.level c.levels.invariant.printing.readable
+pub returns-in_err-unseen-clause-told : goal.returns-in_err-unseen-clause-told
+returns-in_err-unseen-clause-told g c =
+    let e = c.from_residual-in_err-unseen in
+    told_as _ e.result _ e.ensures.1
+    (going_stops c.events.invariant.0 c.args.careful c.events.unseen c.pass_on.new.out _ (λ safe. c.events.invariant.1 safe) c.in_err-unseen.ensures.told)
 
-pub returns-in_err-put-clause-front : goal.returns-in_err-put-clause-front
-returns-in_err-put-clause-front g c = on_any _ _ (nothing_front g.S.Sink.has c.args.style (bytes_of c.args.document) c.requires.0 c.args.out.now c.requires.1)
+pub returns-in_err-element-clause-told : goal.returns-in_err-element-clause-told
+returns-in_err-element-clause-told g c =
+    let moved = going_moves c.events.invariant.0 c.pass_on.new.out c.pass_on.new.block.items c.in_ok-unseen.ensures.moved in
+    let guard = λ (safe : c.args.careful ≡ true). c.in_ok-unseen.ensures.guard c.args.out.now (c.events.invariant.1 safe) in
+    told_as _ c.from_residual-in_err-element.result _ c.from_residual-in_err-element.ensures.1
+    (going_barred moved c.args.careful c.in_ok-unseen.unseen c.in_err-element.field-0.0 guard (c.in_err-element.ensures.event moved.waits moved.along))
 
-pub returns-in_err-pass_on-clause-front : goal.returns-in_err-pass_on-clause-front
-returns-in_err-pass_on-clause-front g c =
-    on_any _ _ (block_front g.S.Sink.has c.args.style (bytes_of c.args.document) c.levels.waiting.items c.levels.level c.args.out.now c.levels.out
-    c.pass_on.new.out c.levels.block.items c.levels.invariant c.in_err-pass_on.ensures.front)
+pub returns-in_err-put_head-in-Whole-clause-told : goal.returns-in_err-put_head-in-Whole-clause-told
+returns-in_err-put_head-in-Whole-clause-told g c =
+    told_as _ c.from_residual-in_err-put_head-in-Whole.result _ c.from_residual-in_err-put_head-in-Whole.ensures.1
+    (moved_fails c.args.careful c.in_ok-unseen.unseen c.events.invariant.0 c.in_ok-unseen.ensures.moved
+    (λ safe. c.in_ok-unseen.ensures.guard c.args.out.now (c.events.invariant.1 safe)))
 
-pub returns-in_err-put_end-in-None-clause-front : goal.returns-in_err-put_end-in-None-clause-front
-returns-in_err-put_end-in-None-clause-front g c =
-    on_any _ _ (moved_front g.S.Sink.has c.args.style (bytes_of c.args.document) c.levels.waiting.items c.levels.level c.args.out.now c.levels.out
-    c.pass_on.new.out c.levels.block.items c.pass_on.new.block.items c.levels.invariant c.in_ok-pass_on.ensures.moved)
+pub events-preserved-in_ok-put_single-in-Whole : goal.events-preserved-in_ok-put_single-in-Whole
+events-preserved-in_ok-put_single-in-Whole g c =
+    let moved = going_moves c.events.invariant.0 c.pass_on.new.out c.pass_on.new.block.items c.in_ok-unseen.ensures.moved in
+    let l = c.events.level in
+    let to = c.next.new.level in
+    let (passed, value) = subst (λ e. Comes c.events.walk l moved.waits c.next.new.self to (Ok e)) c.in-Whole.is (c.in_ok-element.ensures.event moved.waits moved.along) in
+    let left = along_left moved.along in
+    let same : IsSameWalk c.events.walk c.next.new.self = record { document = c.next.ensures.document; most = c.next.ensures.most } in
+    let depth : c.len-depth.result ≡ length c.events.sorts.items = search rules in
+    let head = head_put c.args.style.layout c.events.sort c.pass_on.new.block.items c.put_head.new.out.items (nat_eq l.number 0) depth c.key.ensures
+    c.in_ok-put_head-in-Whole.ensures in (
+      going_whole moved same c.put_head.new.out.items c.put_single.new.out.items passed.0.along passed.4
+          (whole_next l.elements to.elements c.in-Whole.element c.in-Whole.value left.0 left.1 passed.1 value) head c.in_ok-put_single-in-Whole.ensures,
+      λ safe. c.in_ok-unseen.ensures.guard c.args.out.now (c.events.invariant.1 safe),
+    )
 
-pub returns-in_err-put_head-in-Some-clause-front : goal.returns-in_err-put_head-in-Some-clause-front
-returns-in_err-put_head-in-Some-clause-front g c =
-    on_any _ _ (moved_front g.S.Sink.has c.args.style (bytes_of c.args.document) c.levels.waiting.items c.levels.level c.args.out.now c.levels.out
-    c.pass_on.new.out c.levels.block.items c.pass_on.new.block.items c.levels.invariant c.in_ok-pass_on.ensures.moved)
+pub returns-in_err-put_single-in-Whole-clause-told : goal.returns-in_err-put_single-in-Whole-clause-told
+returns-in_err-put_single-in-Whole-clause-told g c =
+    told_as _ c.from_residual-in_err-put_single-in-Whole.result _ c.from_residual-in_err-put_single-in-Whole.ensures.1
+    (moved_fails c.args.careful c.in_ok-unseen.unseen c.events.invariant.0 c.in_ok-unseen.ensures.moved
+    (λ safe. c.in_ok-unseen.ensures.guard c.args.out.now (c.events.invariant.1 safe)))
 
-pub returns-in_err-inner-in-Some-clause-front : goal.returns-in_err-inner-in-Some-clause-front
-returns-in_err-inner-in-Some-clause-front g c =
-    on_any _ _ (moved_front g.S.Sink.has c.args.style (bytes_of c.args.document) c.levels.waiting.items c.levels.level c.args.out.now c.levels.out
-    c.pass_on.new.out c.levels.block.items c.pass_on.new.block.items c.levels.invariant c.in_ok-pass_on.ensures.moved)
+pub returns-in_err-put_head-in-Enter-clause-told : goal.returns-in_err-put_head-in-Enter-clause-told
+returns-in_err-put_head-in-Enter-clause-told g c =
+    told_as _ c.from_residual-in_err-put_head-in-Enter.result _ c.from_residual-in_err-put_head-in-Enter.ensures.1
+    (moved_fails c.args.careful c.in_ok-unseen.unseen c.events.invariant.0 c.in_ok-unseen.ensures.moved
+    (λ safe. c.in_ok-unseen.ensures.guard c.args.out.now (c.events.invariant.1 safe)))
 
-pub returns-in_err-push-in-Some-clause-front : goal.returns-in_err-push-in-Some-clause-front
-returns-in_err-push-in-Some-clause-front g c =
-    on_any _ _ (moved_front g.S.Sink.has c.args.style (bytes_of c.args.document) c.levels.waiting.items c.levels.level c.args.out.now c.levels.out
-    c.pass_on.new.out c.levels.block.items c.pass_on.new.block.items c.levels.invariant c.in_ok-pass_on.ensures.moved)
+pub put_opening-requires : goal.put_opening-requires
+put_opening-requires g c =
+    let moved = going_moves c.events.invariant.0 c.pass_on.new.out c.pass_on.new.block.items c.in_ok-unseen.ensures.moved in
+    let l = c.events.level in
+    let (x, inner, entered, value) =
+    subst (λ e. Comes c.events.walk l moved.waits c.next.new.self c.next.new.level (Ok e)) c.in-Enter.is (c.in_ok-element.ensures.event moved.waits moved.along) in
+    let left = along_left moved.along in
+    (bytes_of inner, (inside_next l.elements x.elements c.in-Enter.element c.in-Enter.value inner left.0 left.1 entered.1 value).holds)
 
--- the text is whole in the block behind what was written
-module _ {S : Type 0} (has : S → ℕ → List ℕ → Type 0) (style : Style) (b : List ℕ) where
-  whole : (l : Level) (s : List ℕ) (old now : S) (block last : List ℕ) → IsHalfway has style b [] l old now block → l.elements ≡ Some s → s ≡ 0 ∷ []
-      → Appends (Some block) (Some last) (end_text style.layout 0 (sort_of l.sort) l.first ++ after l.sort) → IsPrinted has style b old now last
-  whole l s old now block last h e final put =
-      let (text, json, told) = printing_ends style b l s (Some []) (Some (h.passed ++ block)) (Some (h.passed ++ last)) h.printing e final (block_grows h.passed block last _ put) in
-      record { passed = h.passed; put = h.put; json = subst (IsJson style b) (sym told) json }
+pub returns-in_err-inner-in-Enter-clause-told : goal.returns-in_err-inner-in-Enter-clause-told
+returns-in_err-inner-in-Enter-clause-told g c =
+    told_as _ c.from_residual-in_err-inner-in-Enter.result _ c.from_residual-in_err-inner-in-Enter.ensures.1
+    (moved_fails c.args.careful c.in_ok-unseen.unseen c.events.invariant.0 c.in_ok-unseen.ensures.moved
+    (λ safe. c.in_ok-unseen.ensures.guard c.args.out.now (c.events.invariant.1 safe)))
 
-pub returns-in_default-clause-text : goal.returns-in_default-clause-text
-returns-in_default-clause-text g c =
-    let b = bytes_of c.args.document in
-    let l = c.levels.level in
-    let old = c.args.out.now in
-    let now = c.pass_on.new.out in
-    let new = c.accept.new.self in
-    let block = c.pass_on.new.block.items in
-    let last = c.put_end.new.out.items in
-    let text = c.deref.result.now in
-    let h = halfway_moves g.S.Sink.has c.args.style b c.levels.waiting.items l old c.levels.out now c.levels.block.items block c.levels.invariant c.in_ok-pass_on.ensures.moved in
-    let end = end_of l.elements c.next_of.new.elements (subst (Gives l.elements c.next_of.new.elements) c.in-None.is c.next_of.ensures) in
-    let empty : c.levels.waiting.items ≡ [] = search rules in
-    let depth : c.len.result ≡ length c.levels.waiting.items = search rules in
-    let at : c.len.result ≡ 0 = depth ∙ ap length empty in
-    let is = subst (λ (ws : List Level). IsHalfway g.S.Sink.has c.args.style b ws l old now block) empty h in
-    let printed = whole g.S.Sink.has c.args.style b l end.s old now block last is end.left end.final
-    (subst (λ (d : ℕ). Appends (Some block) (Some last) (end_text c.args.style.layout d (sort_of l.sort) l.first ++ after l.sort)) at c.in_ok-put_end-in-None.ensures) in
-    let all : IsPrinted g.S.Sink.has c.args.style b old now text = subst (IsPrinted g.S.Sink.has c.args.style b old now) (sym c.deref.ensures.value) printed in
-    on_ok c.accept.result _ _ (λ (p : Grows g.S.Sink.has now new text). printed_whole g.S.Sink.has c.args.style b old now new text all p) c.accept.ensures.taken
+pub events-preserved-in_ok-push-in-Enter : goal.events-preserved-in_ok-push-in-Enter
+events-preserved-in_ok-push-in-Enter g c =
+    let moved = going_moves c.events.invariant.0 c.pass_on.new.out c.pass_on.new.block.items c.in_ok-unseen.ensures.moved in
+    let l = c.events.level in
+    let to = c.next.new.level in
+    let (x, inner, entered, value) =
+    subst (λ e. Comes c.events.walk l moved.waits c.next.new.self to (Ok e)) c.in-Enter.is (c.in_ok-element.ensures.event moved.waits moved.along) in
+    let left = along_left moved.along in
+    let same : IsSameWalk c.events.walk c.next.new.self = record { document = c.next.ensures.document; most = c.next.ensures.most } in
+    let depth : c.len-depth.result ≡ length c.events.sorts.items = search rules in
+    let head = head_put c.args.style.layout c.events.sort c.pass_on.new.block.items c.put_head-in-Enter.new.out.items (nat_eq l.number 0) depth c.key-in-Enter.ensures
+    c.in_ok-put_head-in-Enter.ensures in
+    let inside = inside_next l.elements x.elements c.in-Enter.element c.in-Enter.value inner left.0 left.1 entered.1 value in
+    let sort = c.in_ok-inner-in-Enter.inner in
+    let level = shown_opened to sort (bytes_of inner) entered.3.left_is entered.3.first_is in
+    let sorts : c.push.new.self.items ≡ c.events.sorts.items ++ c.events.sort ∷ [] = search rules in
+    let going = going_inside moved same x sort c.put_head-in-Enter.new.out.items c.put_opening.new.out.items entered.0.along inside level head c.in_ok-inner-in-Enter.ensures in
+    (rw (sorts, c.replace.ensures.after) going, λ safe. c.in_ok-unseen.ensures.guard c.args.out.now (c.events.invariant.1 safe))
 
-pub returns-in_default-clause-front : goal.returns-in_default-clause-front
-returns-in_default-clause-front g c =
-    let b = bytes_of c.args.document in
-    let l = c.levels.level in
-    let old = c.args.out.now in
-    let now = c.pass_on.new.out in
-    let new = c.accept.new.self in
-    let block = c.pass_on.new.block.items in
-    let last = c.put_end.new.out.items in
-    let text = c.deref.result.now in
-    let h = halfway_moves g.S.Sink.has c.args.style b c.levels.waiting.items l old c.levels.out now c.levels.block.items block c.levels.invariant c.in_ok-pass_on.ensures.moved in
-    let end = end_of l.elements c.next_of.new.elements (subst (Gives l.elements c.next_of.new.elements) c.in-None.is c.next_of.ensures) in
-    let empty : c.levels.waiting.items ≡ [] = search rules in
-    let depth : c.len.result ≡ length c.levels.waiting.items = search rules in
-    let at : c.len.result ≡ 0 = depth ∙ ap length empty in
-    let is = subst (λ (ws : List Level). IsHalfway g.S.Sink.has c.args.style b ws l old now block) empty h in
-    let printed = whole g.S.Sink.has c.args.style b l end.s old now block last is end.left end.final
-    (subst (λ (d : ℕ). Appends (Some block) (Some last) (end_text c.args.style.layout d (sort_of l.sort) l.first ++ after l.sort)) at c.in_ok-put_end-in-None.ensures) in
-    let all : IsPrinted g.S.Sink.has c.args.style b old now text = subst (IsPrinted g.S.Sink.has c.args.style b old now) (sym c.deref.ensures.value) printed in
-    on_err c.accept.result _ _ (λ (p : GrowsFront g.S.Sink.has now new text). printed_front g.S.Sink.has c.args.style b old now new text all p) c.accept.ensures.front
+pub returns-in_err-push-in-Enter-clause-told : goal.returns-in_err-push-in-Enter-clause-told
+returns-in_err-push-in-Enter-clause-told g c =
+    told_as _ c.from_residual-in_err-push-in-Enter.result _ c.from_residual-in_err-push-in-Enter.ensures.1
+    (moved_fails c.args.careful c.in_ok-unseen.unseen c.events.invariant.0 c.in_ok-unseen.ensures.moved
+    (λ safe. c.in_ok-unseen.ensures.guard c.args.out.now (c.events.invariant.1 safe)))
 
-pub levels-preserved-in-None : goal.levels-preserved-in-None
-levels-preserved-in-None g c =
-    let b = bytes_of c.args.document in
-    let l = c.levels.level in
-    let ws = c.pop.new.self.items in
-    let w = c.in-Some-pop.outer in
-    let old = c.args.out.now in
-    let now = c.pass_on.new.out in
-    let block = c.pass_on.new.block.items in
-    let last = c.put_end.new.out.items in
-    let h = halfway_moves g.S.Sink.has c.args.style b c.levels.waiting.items l old c.levels.out now c.levels.block.items block c.levels.invariant c.in_ok-pass_on.ensures.moved in
-    let end = end_of l.elements c.next_of.new.elements (subst (Gives l.elements c.next_of.new.elements) c.in-None.is c.next_of.ensures) in
-    let items : c.levels.waiting.items ≡ ws ++ w ∷ [] = c.in-Some-pop.ensures.items in
-    let depth : c.len.result ≡ length c.levels.waiting.items = search rules in
-    let at : c.len.result ≡ length (ws ++ w ∷ []) = depth ∙ ap length items in
-    let is = subst (λ (all : List Level). IsPrinting c.args.style b all l (Some []) (Some (h.passed ++ block))) items h.printing in
-    let piece : List ℕ = end_text c.args.style.layout (length (ws ++ w ∷ [])) (sort_of l.sort) l.first ++ after l.sort in
-    let put : Appends (Some block) (Some last) piece =
-    subst (λ (d : ℕ). Appends (Some block) (Some last) (end_text c.args.style.layout d (sort_of l.sort) l.first ++ after l.sort)) at c.in_ok-put_end-in-None.ensures in
-    record {
-      passed = h.passed;
-      put = h.put;
-      printing = printing_closes c.args.style b ws w l end.s (Some []) (Some (h.passed ++ block)) (Some (h.passed ++ last)) is end.left end.final (block_grows h.passed block last piece put);
-    }
+pub returns-in_err-put_end-in-Leave-clause-told : goal.returns-in_err-put_end-in-Leave-clause-told
+returns-in_err-put_end-in-Leave-clause-told g c =
+    told_as _ c.from_residual-in_err-put_end-in-Leave.result _ c.from_residual-in_err-put_end-in-Leave.ensures.1
+    (moved_fails c.args.careful c.in_ok-unseen.unseen c.events.invariant.0 c.in_ok-unseen.ensures.moved
+    (λ safe. c.in_ok-unseen.ensures.guard c.args.out.now (c.events.invariant.1 safe)))
 
--- what is before the value of a member
-headed : (d n : ℕ) (key known : List ℕ) (P : ℕ → List ℕ → Type 0) → d ≡ n → key ≡ known → P (d + 1) key → P (n + 1) known
-headed d n key known P e k h = subst (λ (m : ℕ). P (m + 1) known) e (subst (P (d + 1)) k h)
+pub unreachable-requires : goal.unreachable-requires
+unreachable-requires g c =
+    let is = c.events.invariant.0 in
+    let new = c.next.new.self in
+    let to = c.next.new.level in
+    let came = subst (λ e. Comes c.events.walk c.events.level is.waits new to (Ok e)) c.in-Leave.is (c.in_ok-element.ensures.event is.waits is.along) in
+    going_some is new to came (search rules)
 
-pub levels-preserved : goal.levels-preserved
-levels-preserved g c =
-    let b = bytes_of c.args.document in
-    let l = c.levels.level in
-    let ws = c.levels.waiting.items in
-    let v = value_of c.in-Some.value in
-    let next : Level = record { elements = c.next_of.new.elements; sort = l.sort; first = false } in
-    let old = c.args.out.now in
-    let now = c.pass_on.new.out in
-    let block = c.pass_on.new.block.items in
-    let mid = Some block in
-    let one = Some c.put_head.new.out.items in
-    let last = c.put_value.new.out.items in
-    let new = Some last in
-    let h = halfway_moves g.S.Sink.has c.args.style b ws l old c.levels.out now c.levels.block.items block c.levels.invariant c.in_ok-pass_on.ensures.moved in
-    let n = next_is l.elements c.next_of.new.elements c.in-Some.key c.in-Some.value (subst (Gives l.elements c.next_of.new.elements) c.in-Some.is c.next_of.ensures) in
-    let depth : c.len-in-Some.result ≡ length ws = search rules in
-    let head = headed c.len-in-Some.result (length ws) c.in-Some.key.now n.f.key
-    (λ (d : ℕ) (k : List ℕ). Appends mid one (head_text c.args.style.layout d (sort_of l.sort) l.first k)) depth n.key_is c.in_ok-put_head-in-Some.ensures
-    in
-    let puts = subst (PutsValue c.args.style.format v one new) c.in_default-2.is c.in_ok-inner-in-Some.ensures in
-    let (leaf, shown, single, json, put) = puts in
-    let head_of = head_text c.args.style.layout (length ws + 1) (sort_of l.sort) l.first n.f.key in
-    record {
-      passed = h.passed;
-      put = h.put;
-      printing = printing_leaf c.args.style b ws l next n.s n.r n.f leaf shown (Some []) (Some (h.passed ++ block)) (Some (h.passed ++ last)) h.printing n.left
-          (record { elements = n.rest; sort_is = refl; first = refl }) n.at (subst (λ (x : RawValue). Means n.f (value x)) single n.means) json
-          (block_grows h.passed block last (head_of ++ shown) (Appends-trans mid one new head_of shown head put));
-    }
+pub events-preserved : goal.events-preserved
+events-preserved g c =
+    let moved = going_moves c.events.invariant.0 c.pass_on.new.out c.pass_on.new.block.items c.in_ok-unseen.ensures.moved in
+    let l = c.events.level in
+    let to = c.next.new.level in
+    let came = subst (λ e. Comes c.events.walk l moved.waits c.next.new.self to (Ok e)) c.in-Leave.is (c.in_ok-element.ensures.event moved.waits moved.along) in
+    let same : IsSameWalk c.events.walk c.next.new.self = record { document = c.next.ensures.document; most = c.next.ensures.most } in
+    let depth : c.len-depth.result ≡ length c.events.sorts.items = search rules in (
+      going_outside moved same c.in-Some.outer c.put_end.new.out.items c.pop.new.self.items came c.in-Some.ensures.items
+          (end_put c.args.style.layout c.events.sort c.pass_on.new.block.items c.put_end.new.out.items (nat_eq l.number 0) depth c.in_ok-put_end-in-Leave.ensures),
+      λ safe. c.in_ok-unseen.ensures.guard c.args.out.now (c.events.invariant.1 safe),
+    )
 
-pub levels-preserved-in-Continue-branch-7 : goal.levels-preserved-in-Continue-branch-7
-levels-preserved-in-Continue-branch-7 g c =
-    let b = bytes_of c.args.document in
-    let l = c.levels.level in
-    let ws = c.levels.waiting.items in
-    let v = value_of c.in-Some.value in
-    let outer = c.replace-outer.result in
-    let inner = c.in-Some-2.inner in
-    let old = c.args.out.now in
-    let now = c.pass_on.new.out in
-    let block = c.pass_on.new.block.items in
-    let mid = Some block in
-    let one = Some c.put_head.new.out.items in
-    let last = c.put_value.new.out.items in
-    let new = Some last in
-    let h = halfway_moves g.S.Sink.has c.args.style b ws l old c.levels.out now c.levels.block.items block c.levels.invariant c.in_ok-pass_on.ensures.moved in
-    let n = next_is l.elements c.next_of.new.elements c.in-Some.key c.in-Some.value (subst (Gives l.elements c.next_of.new.elements) c.in-Some.is c.next_of.ensures) in
-    let depth : c.len-in-Some.result ≡ length ws = search rules in
-    let head = headed c.len-in-Some.result (length ws) c.in-Some.key.now n.f.key
-    (λ (d : ℕ) (k : List ℕ). Appends mid one (head_text c.args.style.layout d (sort_of l.sort) l.first k)) depth n.key_is c.in_ok-put_head-in-Some.ensures
-    in
-    let (piece, opens, put) = opens_from c.args.style b v one new inner (subst (PutsValue c.args.style.format v one new) c.in-Some-2.is c.in_ok-inner-in-Some.ensures) in
-    let grown : c.push.new.self.items ≡ ws ++ outer ∷ [] = search rules in
-    let behind : IsBehind l outer n.r = record {
-      elements = ap (λ (x : Level). x.elements) c.replace-outer.ensures.value ∙ n.rest;
-      sort_is = ap (λ (x : Level). x.sort) c.replace-outer.ensures.value;
-      first = ap (λ (x : Level). x.first) c.replace-outer.ensures.value;
-    } in
-    let head_of = head_text c.args.style.layout (length ws + 1) (sort_of l.sort) l.first n.f.key in
-    let printing = printing_opens c.args.style b ws l outer inner n.s n.r n.f v piece (Some []) (Some (h.passed ++ block)) (Some (h.passed ++ last)) h.printing n.left behind n.at n.means opens
-    (block_grows h.passed block last (head_of ++ piece) (Appends-trans mid one new head_of piece head put)) in
-    let halfway : IsHalfway g.S.Sink.has c.args.style b (ws ++ outer ∷ []) inner old now last = record { passed = h.passed; put = h.put; printing = printing } in
-    rw (grown, c.replace-outer.ensures.after) halfway
+pub returns-in_err-put_end-in-End-clause-told : goal.returns-in_err-put_end-in-End-clause-told
+returns-in_err-put_end-in-End-clause-told g c =
+    told_as _ c.from_residual-in_err-put_end-in-End.result _ c.from_residual-in_err-put_end-in-End.ensures.1
+    (moved_fails c.args.careful c.in_ok-unseen.unseen c.events.invariant.0 c.in_ok-unseen.ensures.moved
+    (λ safe. c.in_ok-unseen.ensures.guard c.args.out.now (c.events.invariant.1 safe)))
 
-pub levels-smaller-in-Continue-branch-7 : goal.levels-smaller-in-Continue-branch-7
-levels-smaller-in-Continue-branch-7 g c =
-    let b = bytes_of c.args.document in
-    let l = c.levels.level in
-    let ws = c.levels.waiting.items in
-    let v = value_of c.in-Some.value in
-    let outer = c.replace-outer.result in
-    let inner = c.in-Some-2.inner in
-    let one = Some c.put_head.new.out.items in
-    let new = Some c.put_value.new.out.items in
-    let n = next_is l.elements c.next_of.new.elements c.in-Some.key c.in-Some.value (subst (Gives l.elements c.next_of.new.elements) c.in-Some.is c.next_of.ensures) in
-    let (piece, opens, put) = opens_from c.args.style b v one new inner (subst (PutsValue c.args.style.format v one new) c.in-Some-2.is c.in_ok-inner-in-Some.ensures) in
-    let grown : c.push.new.self.items ≡ ws ++ outer ∷ [] = search rules in
-    let elements : outer.elements ≡ Some n.r = ap (λ (x : Level). x.elements) c.replace-outer.ensures.value ∙ n.rest in
-    rw (grown, c.replace-outer.ensures.after) (smaller_opens c.args.style b ws l outer inner n.s n.r n.f v piece n.left elements n.at n.means opens)
+pub returns-in_err-accept-in-End-clause-told : goal.returns-in_err-accept-in-End-clause-told
+returns-in_err-accept-in-End-clause-told g c =
+    let moved = going_moves c.events.invariant.0 c.pass_on.new.out c.pass_on.new.block.items c.in_ok-unseen.ensures.moved in
+    let l = c.events.level in
+    let new = c.next.new.self in
+    let to = c.next.new.level in
+    let came = subst (λ e. Comes c.events.walk l moved.waits new to (Ok e)) c.in-End.is (c.in_ok-element.ensures.event moved.waits moved.along) in
+    let depth : c.len-depth.result ≡ length c.events.sorts.items = search rules in
+    let put = end_put c.args.style.layout c.events.sort c.pass_on.new.block.items c.put_end-in-End.new.out.items (nat_eq l.number 0) depth c.in_ok-put_end-in-End.ensures in
+    let printed = going_ends moved new to c.put_end-in-End.new.out.items came put in
+    let front = subst (GrowsFront g.S.Sink.has c.pass_on.new.out c.accept.new.self) c.deref.ensures.value c.in_err-accept-in-End.ensures.front in
+    told_as _ c.from_residual-in_err-accept-in-End.result _ c.from_residual-in_err-accept-in-End.ensures.1
+    (wrote_last c.args.careful c.accept.new.self c.in_err-accept-in-End.field-0.0 printed (going_read moved new to came) front)
+
+pub returns-in-End-clause-text : goal.returns-in-End-clause-text
+returns-in-End-clause-text g c =
+    let moved = going_moves c.events.invariant.0 c.pass_on.new.out c.pass_on.new.block.items c.in_ok-unseen.ensures.moved in
+    let l = c.events.level in
+    let new = c.next.new.self in
+    let to = c.next.new.level in
+    let came = subst (λ e. Comes c.events.walk l moved.waits new to (Ok e)) c.in-End.is (c.in_ok-element.ensures.event moved.waits moved.along) in
+    let depth : c.len-depth.result ≡ length c.events.sorts.items = search rules in
+    let put = end_put c.args.style.layout c.events.sort c.pass_on.new.block.items c.put_end-in-End.new.out.items (nat_eq l.number 0) depth c.in_ok-put_end-in-End.ensures in
+    let printed = going_ends moved new to c.put_end-in-End.new.out.items came put in
+    printed_whole printed c.accept.new.self (subst (Grows g.S.Sink.has c.pass_on.new.out c.accept.new.self) c.deref.ensures.value c.in_ok-accept-in-End.ensures.taken)
+
+pub returns-in-End-clause-within : goal.returns-in-End-clause-within
+returns-in-End-clause-within g c =
+    let is = c.events.invariant.0 in
+    let new = c.next.new.self in
+    let to = c.next.new.level in
+    going_read is new to (subst (λ e. Comes c.events.walk c.events.level is.waits new to (Ok e)) c.in-End.is (c.in_ok-element.ensures.event is.waits is.along))

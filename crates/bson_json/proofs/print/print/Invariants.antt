@@ -1,14 +1,14 @@
-use Rattle.std.proofs.Common.{◌+◌}
+use Rattle.std.proofs.Common.{◌≡◌, ◌-◌, true, length}
 use Rattle.raw_view.specs.Document.{bytes_of}
-use Rattle.raw_tree.specs.Validating.{left_of}
-use Rattle.bson_json.proofs.Blocks.{IsHalfway}
-use Rattle.bson_json.proofs.Printing.{left_in}
+use Rattle.bson_json.specs.Passing.{Guards}
+use Rattle.bson_json.proofs.Walking.{IsGoing}
 use Rattle.bson_json.proofs.print.print.Given as goal
 
-abbrev pub invariant-levels : goal.invariant-levels
-invariant-levels g l =
-    IsHalfway g.S.Sink.has l.fn.style (bytes_of l.fn.document) l.waiting.items l.level l.fn.out l.out l.block.items
+abbrev pub invariant-events : goal.invariant-events
+invariant-events g l =
+    IsGoing g.S.Sink.has l.fn.style l.fn.limits l.fn.document l.walk l.level l.sorts.items l.sort l.fn.out l.out l.block.items
+    × (l.fn.careful ≡ true → Guards l.fn.limits (bytes_of l.fn.document) l.unseen l.fn.out l.out)
 
--- the bytes that are left, and the levels
-abbrev pub decreases-levels : goal.decreases-levels
-decreases-levels g l = left_of l.level.elements + left_in l.waiting.items
+-- the bytes behind the offset
+abbrev pub decreases-events : goal.decreases-events
+decreases-events g l = length (bytes_of l.fn.document) - l.level.offset

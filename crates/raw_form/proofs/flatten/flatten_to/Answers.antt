@@ -32,8 +32,8 @@ events-preserved-in-Ok-Whole c =
     (subst (Comes c.events.walk c.events.level is.waits new level) c.in-Ok-Whole.is (c.next.ensures.event is.waits is.along)) in
     let depth : c.len-depth.result ≡ length c.events.places.items = omega (arith, c.len-depth.ensures, c.events.places.ok.0) in
     let token = subst (λ n. IsTokenOf n c.events.level.offset (frame_of c.in-Ok-Whole.element) 0 c.new.result) depth c.new.ensures in (
-      record { waits = is.waits; along = came.0.along; document_is = c.next.ensures.document ∙ is.document_is; most_is = c.next.ensures.most ∙ is.most_is },
-      flattens_whole c.events.invariant.1 level.elements level.offset c.in-Ok-Whole.element c.new.result c.put_at.new.room came.1 came.2 token c.put_at.ensures,
+      record { waits = is.waits; along = came.0.0.along; document_is = c.next.ensures.document ∙ is.document_is; most_is = c.next.ensures.most ∙ is.most_is },
+      flattens_whole c.events.invariant.1 level.elements level.offset c.in-Ok-Whole.element c.new.result c.put_at.new.room came.0.1 came.0.2 token c.put_at.ensures,
     )
 
 pub new-requires-in-Ok-Enter-clause-shallow : goal.new-requires-in-Ok-Enter-clause-shallow

@@ -21,7 +21,7 @@ use Rattle.raw_form.specs.Walks.{IsAt, IsBehind, IsLooked, IsTooDeep, with_left}
 use Rattle.raw_form.specs.declared.judge.Judged.{Judged}
 use Rattle.raw_form.specs.declared.judge.Judged.TheVariants as judged
 use Rattle.raw_form.specs.declared.level.Level.{Level}
-use Rattle.raw_form.specs.declared.level.Next.TheVariants as next
+use Rattle.raw_form.specs.Aheads as next
 use Rattle.raw_form.specs.declared.place.Place.{Place}
 use Rattle.raw_form.specs.declared.verdict.Found.{Found}
 use Rattle.raw_form.specs.declared.walk.Walk.{Walk}

@@ -21,4 +21,5 @@ returns-clause-passed c ws left is =
       is.looks,
       far,
       refl,
+      refl,
     )

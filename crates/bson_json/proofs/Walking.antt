@@ -1,0 +1,234 @@
+-- A walk over a document whose levels are printed.
+use Rattle.std.proofs.Common.{◌≡◌, ◌≤◌, ◌<◌, ◌+◌, ℕ, suc, Bool, true, false, nat_eq, List, [], ◌∷◌, ◌++◌, Option, Some, Ok, codes, length, length-append, drop, refl, sym, ap, ◌∙◌, subst, arith, append_assoc}
+use Rattle.std.specs.Io.KnownBytes.{Appends}
+use Rattle.bson_model.specs.Tree.{Tree}
+use Rattle.raw_view.specs.Document.{bytes_of}
+use Rattle.raw_view.specs.Frame.ElementSteps.{frame_of}
+use Rattle.raw_view.specs.Meaning.{RawValue}
+use Rattle.raw_view.specs.Meaning.Value.{value_of}
+use Rattle.raw_view.specs.declared.bson_ref.RawBsonRef.{RawBsonRef}
+use Rattle.raw_view.specs.declared.document.RawDocument.{RawDocument}
+use Rattle.raw_view.specs.declared.element.RawElement.{RawElement}
+use Rattle.raw_tree.specs.Reading.{as_document, ReadsUpTo}
+use Rattle.raw_tree.specs.WithinLimits.{ReadsWithin}
+use Rattle.raw_tree.specs.declared.reader.limits.Limits.{Limits}
+use Rattle.raw_tree.proofs.Face.{read_within}
+use Rattle.raw_form.specs.Barriers.{TellsBarrierWithin}
+use Rattle.raw_form.specs.Waits.{Wait}
+use Rattle.raw_form.specs.Walks.{BeginsWithin, IsAlong, LeavesOrEnds, TellsError}
+use Rattle.raw_form.specs.declared.level.Level as walk
+use Rattle.raw_form.specs.declared.walk.Walk.{Walk}
+use Rattle.raw_form.specs.declared.walk.WalkError.{WalkError}
+use Rattle.raw_form.specs.declared.walk.WalkError.TheVariants as error
+use Rattle.raw_form.proofs.Face.{barrier_told}
+use Rattle.bson_json.specs.Json.{end_text, head_text}
+use Rattle.bson_json.specs.Levels.{Level, PutsOpening, PutsSingle, after, error_of, sort_of}
+use Rattle.bson_json.specs.Passing.{Guards, TellsBriefly, TellsPassError, TellsPrintError}
+use Rattle.bson_json.specs.Written.{Moves}
+use Rattle.bson_json.specs.declared.level.Sort.{Sort}
+use Rattle.bson_json.specs.declared.level.Sort.TheVariants as sort
+use Rattle.bson_json.specs.declared.print.Failure.TheVariants as failure
+use Rattle.bson_json.specs.declared.print.PrintError.{PrintError}
+use Rattle.bson_json.specs.declared.print.PrintError.TheVariants as print
+use Rattle.bson_json.specs.declared.style.Layout.{Layout}
+use Rattle.bson_json.specs.declared.style.Style.{Style}
+use Rattle.bson_json.proofs.Blocks.{IsHalfway, IsPrinted, halfway_begins, halfway_closes, halfway_ends, halfway_grows, halfway_moves}
+use Rattle.bson_json.proofs.Fronts.{IsInside, IsWhole, along_left, as_many_shown, not_none, opens_from, shown, shown_each, shown_more}
+use Rattle.bson_json.proofs.Passing.{wrote_before, wrote_none, wrote_stopped}
+use Rattle.bson_json.proofs.Printing.{behind, opened, printing_leaf, printing_opens, reads_leaf, reads_opens}
+
+-- The walk is at this level, and the text of what it passed is written or in the block. Of the levels that wait these are the sorts.
+pub record IsGoing {S : Type 0} (has : S → ℕ → List ℕ → Type 0) (style : Style) (limits : Limits) (document : RawDocument) (w : Walk) (l : walk.Level)
+    (sorts : List Sort) (o : Sort) (old now : S) (block : List ℕ) : Type 0 where
+  pub waits : List Wait
+  pub along : IsAlong w l waits
+  pub document_is : w.document ≡ document
+  pub levels : suc w.most_waiting ≡ limits.depth
+  pub few : length (bytes_of document) ≤ limits.bytes
+  pub as_many : length waits ≡ length sorts
+  pub halfway : IsHalfway has style limits.depth (bytes_of document) (shown_each waits sorts) (shown l o) old now block
+
+pub shown_opened : (l : walk.Level) (o : Sort) (d : List ℕ) → l.elements ≡ Some (drop 4 d) → l.number ≡ 0 → shown l o ≡ opened d o
+shown_opened l o d left none = λ i. record { elements = left i; sort = o; first = nat_eq (none i) 0 }
+
+shown_behind : (l : walk.Level) (o : Sort) (rest : Option (List ℕ)) (n : ℕ) → l.elements ≡ rest → l.number ≡ n + 1 → shown l o ≡ record { elements = rest; sort = o; first = false }
+shown_behind l o rest n left more = let some = not_none l.number n more in λ i. record { elements = left i; sort = o; first = some i }
+
+pub going_begins : {S : Type 0} (has : S → ℕ → List ℕ → Type 0) (style : Style) {limits : Limits} {document : RawDocument} {w : Walk} {l : walk.Level}
+    (old : S) (sorts : List Sort) (block : List ℕ) → BeginsWithin limits document w l → sorts ≡ [] → block ≡ codes "{"
+    → IsGoing has style limits document w l sorts sort.Document old old block
+going_begins has style {limits} {document} {w} {l} old sorts block begins none is =
+    let b = bytes_of document in
+    let same = shown_opened l sort.Document b begins.begun.left_is begins.none_before in
+    record {
+      waits = [];
+      along = begins.along;
+      document_is = begins.begun.document_is;
+      levels = begins.levels;
+      few = begins.few;
+      as_many = sym (ap length none);
+      halfway = subst (λ (x : Level). IsHalfway has style limits.depth b [] x old old block) (sym same) (halfway_begins has style limits.depth b old block is);
+    }
+
+-- what was put before a member's value
+pub head_put : (layout : Layout) (o : Sort) (block mid : List ℕ) {key known : List ℕ} {depth n : ℕ} (first : Bool) → depth ≡ n → key ≡ known
+    → Appends (Some block) (Some mid) (head_text layout (depth + 1) (sort_of o) first key) → mid ≡ block ++ head_text layout (n + 1) (sort_of o) first known
+head_put layout o block mid first d k put = put ∙ (λ i. block ++ head_text layout (d i + 1) (sort_of o) first (k i))
+
+-- and behind the last
+pub end_put : (layout : Layout) (o : Sort) (block mid : List ℕ) {depth n : ℕ} (first : Bool) → depth ≡ n
+    → Appends (Some block) (Some mid) (end_text layout depth (sort_of o) first ++ after o) → mid ≡ block ++ (end_text layout n (sort_of o) first ++ after o)
+end_put layout o block mid first d put = put ∙ (λ i. block ++ (end_text layout (d i) (sort_of o) first ++ after o))
+
+-- the walk over the same document, with as many levels that may wait
+pub record IsSameWalk (w new : Walk) : Type 0 where
+  pub document : new.document ≡ w.document
+  pub most : new.most_waiting ≡ w.most_waiting
+
+module _ {S : Type 0} {has : S → ℕ → List ℕ → Type 0} {style : Style} {limits : Limits} {document : RawDocument} {w : Walk} {l : walk.Level} {sorts : List Sort} {o : Sort}
+    {old now : S} {block : List ℕ} (is : IsGoing has style limits document w l sorts o old now block) where
+  pub going_moves : (new : S) (left : List ℕ) → Moves has now new block left → IsGoing has style limits document w l sorts o old new left
+  going_moves new left moves = record {
+    waits = is.waits;
+    along = is.along;
+    document_is = is.document_is;
+    levels = is.levels;
+    few = is.few;
+    as_many = is.as_many;
+    halfway = halfway_moves is.halfway new left moves;
+  }
+
+  size : length (shown_each is.waits sorts) ≡ length sorts
+  size = as_many_shown is.waits sorts is.as_many ∙ is.as_many
+
+  low : length (shown_each is.waits sorts) < limits.depth
+  low = omega (arith, as_many_shown is.waits sorts is.as_many, is.along.at.levels, is.levels)
+
+  -- what is before the value of a member with this key
+  abbrev head_of : List ℕ → ℕ → List ℕ
+  head_of key depth = head_text style.layout (depth + 1) (sort_of o) (nat_eq l.number 0) key
+
+  headed : (mid key : List ℕ) → mid ≡ block ++ head_of key (length sorts) → mid ≡ block ++ head_of key (length (shown_each is.waits sorts))
+  headed mid key e = e ∙ ap (λ (n : ℕ). block ++ head_of key n) (sym size)
+
+  module _ {new : Walk} (same : IsSameWalk w new) where
+    pub going_whole : {to : walk.Level} {e : RawElement} {v : RawBsonRef} (mid more : List ℕ) → IsAlong new to is.waits → to.number ≡ l.number + 1
+        → IsWhole l.elements to.elements e v → mid ≡ block ++ head_of (frame_of e).key (length sorts) → PutsSingle style.format (value_of v) (Some mid) (Some more)
+        → IsGoing has style limits document new to sorts o old now more
+    going_whole {to} {e} {v} mid more along number whole head_is puts =
+        let (text, json, put) = subst (λ (x : RawValue). PutsSingle style.format x (Some mid) (Some more)) whole.is_single puts in
+        let head = head_of (frame_of e).key (length (shown_each is.waits sorts)) in
+        let grown : more ≡ block ++ (head ++ text) = put ∙ (ap (λ (x : List ℕ). x ++ text) (headed mid (frame_of e).key head_is) ∙ append_assoc block head text) in
+        let halfway = halfway_grows is.halfway (shown_each is.waits sorts) (behind (shown l o) to.elements) more (head ++ text) grown
+        (λ n enough told printing. printing_leaf printing text whole.next json) (λ n. reads_leaf (shown l o) n (shown_each is.waits sorts) whole.next) in
+        record {
+          waits = is.waits;
+          along = along;
+          document_is = same.document ∙ is.document_is;
+          levels = ap suc same.most ∙ is.levels;
+          few = is.few;
+          as_many = is.as_many;
+          halfway = subst (λ (x : Level). IsHalfway has style limits.depth (bytes_of document) (shown_each is.waits sorts) x old now more)
+              (sym (shown_behind to o to.elements l.number refl number)) halfway;
+        }
+
+    pub going_inside : {to : walk.Level} {e : RawElement} {v : RawBsonRef} {d : List ℕ} (x : Wait) (p : Sort) (mid more : List ℕ) → IsAlong new to (is.waits ++ x ∷ [])
+        → IsInside l.elements x.elements e v d → shown to p ≡ opened d p → mid ≡ block ++ head_of (frame_of e).key (length sorts)
+        → PutsOpening (value_of v) (Some mid) (Some more) p → IsGoing has style limits document new to (sorts ++ o ∷ []) p old now more
+    going_inside {to} {e} {v} {d} x p mid more along inside level head_is puts =
+        let (piece, opens, put) = opens_from (value_of v) d (Some mid) (Some more) p inside.holds puts in
+        let head = head_of (frame_of e).key (length (shown_each is.waits sorts)) in
+        let grown : more ≡ block ++ (head ++ piece) = put ∙ (ap (λ (y : List ℕ). y ++ piece) (headed mid (frame_of e).key head_is) ∙ append_assoc block head piece) in
+        let around = behind (shown l o) x.elements in
+        let halfway = halfway_grows is.halfway (shown_each is.waits sorts ++ around ∷ []) (opened d p) more (head ++ piece) grown
+        (λ n enough told printing. printing_opens printing d p piece inside.next opens) (λ n. reads_opens (shown l o) n (shown_each is.waits sorts) d p piece inside.next opens) in
+        record {
+          waits = is.waits ++ x ∷ [];
+          along = along;
+          document_is = same.document ∙ is.document_is;
+          levels = ap suc same.most ∙ is.levels;
+          few = is.few;
+          as_many = omega (arith, is.as_many, length-append is.waits (x ∷ []), length-append sorts (o ∷ []));
+          halfway = subst (λ (ls : List Level). IsHalfway has style limits.depth (bytes_of document) ls (shown to p) old now more) (sym (shown_more is.waits sorts x o is.as_many))
+              (subst (λ (y : Level). IsHalfway has style limits.depth (bytes_of document) (shown_each is.waits sorts ++ around ∷ []) y old now more) (sym level) halfway);
+        }
+
+    pub going_outside : {to : walk.Level} (p : Sort) (more : List ℕ) (outer_sorts : List Sort) → LeavesOrEnds w l is.waits new to true → sorts ≡ outer_sorts ++ p ∷ []
+        → more ≡ block ++ (end_text style.layout (length sorts) (sort_of o) (nat_eq l.number 0) ++ after o) → IsGoing has style limits document new to outer_sorts p old now more
+    going_outside {to} p more outer_sorts (outer, x, waits_are, further, over, goes) sorts_are put =
+        let (s, left) = along_left is.along in
+        let fewer : length outer ≡ length outer_sorts =
+        omega (arith, is.as_many, ap length waits_are, ap length sorts_are, length-append outer (x ∷ []), length-append outer_sorts (p ∷ [])) in
+        let around : Level = record { elements = x.elements; sort = p; first = false } in
+        let waiting : shown_each is.waits sorts ≡ shown_each outer outer_sorts ++ around ∷ [] =
+        ap (λ (os : List Sort). shown_each is.waits os) sorts_are
+        ∙ (ap (λ (ws : List Wait). shown_each ws (outer_sorts ++ p ∷ [])) waits_are ∙ shown_more outer outer_sorts x p fewer) in
+        let halfway = subst (λ (ls : List Level). IsHalfway has style limits.depth (bytes_of document) ls (shown l o) old now block) waiting is.halfway in
+        let deep_enough = subst (λ (ls : List Level). length ls < limits.depth) waiting low in
+        let depth : length sorts ≡ length (shown_each outer outer_sorts ++ around ∷ []) = sym size ∙ ap length waiting in
+        let grown = put ∙ ap (λ (n : ℕ). block ++ (end_text style.layout n (sort_of o) (nat_eq l.number 0) ++ after o)) depth in
+        record {
+          waits = outer;
+          along = further.along;
+          document_is = same.document ∙ is.document_is;
+          levels = ap suc same.most ∙ is.levels;
+          few = is.few;
+          as_many = fewer;
+          halfway = subst (λ (y : Level). IsHalfway has style limits.depth (bytes_of document) (shown_each outer outer_sorts) y old now more)
+              (sym (shown_behind to p x.elements x.number goes.elements_are goes.number_is))
+              (halfway_closes (shown_each outer outer_sorts) around s more halfway deep_enough left (over s left) grown);
+        }
+
+  -- the sorts that wait, where the walk leaves a level
+  pub going_some : (new : Walk) (to : walk.Level) → LeavesOrEnds w l is.waits new to true → sorts ≡ [] → ⊥
+  going_some new to (outer, x, waits_are, further, over, goes) none = omega (arith, is.as_many, ap length waits_are, ap length none, length-append outer (x ∷ []))
+
+  pub going_read : (new : Walk) (to : walk.Level) → LeavesOrEnds w l is.waits new to false → (t : Tree) × ReadsWithin limits (bytes_of document) t
+  going_read new to (t, reads, none, over) =
+      let here : ReadsUpTo (suc w.most_waiting) as_document (bytes_of document) t =
+      subst (λ (d : RawDocument). ReadsUpTo (suc w.most_waiting) as_document (bytes_of d) t) is.document_is reads in
+      (t, read_within limits (bytes_of document) t is.few (subst (λ (n : ℕ). ReadsUpTo n as_document (bytes_of document) t) is.levels here))
+
+  pub going_ends : (new : Walk) (to : walk.Level) (more : List ℕ) → LeavesOrEnds w l is.waits new to false
+      → more ≡ block ++ (end_text style.layout (length sorts) (sort_of o) (nat_eq l.number 0) ++ after o) → IsPrinted has style (bytes_of document) old now more
+  going_ends new to more (t, reads, none, over) put =
+      let (s, left) = along_left is.along in
+      let waiting : shown_each is.waits sorts ≡ [] = ap (λ (ws : List Wait). shown_each ws sorts) none in
+      let halfway = subst (λ (ls : List Level). IsHalfway has style limits.depth (bytes_of document) ls (shown l o) old now block) waiting is.halfway in
+      let depth : length sorts ≡ 0 = sym is.as_many ∙ ap length none in
+      let grown = put ∙ ap (λ (n : ℕ). block ++ (end_text style.layout n (sort_of o) (nat_eq l.number 0) ++ after o)) depth in
+      halfway_ends s more halfway (omega (arith, is.levels)) left (over s left) grown
+
+  brief_pass : (unseen : Bool) (new : S) (e : PrintError) → TellsPassError has limits (bytes_of document) unseen now new block e → TellsBriefly limits (bytes_of document) e
+  brief_pass unseen new (print.Barrier answer) told = told.0
+  brief_pass unseen new (print.Failure failed) told = is.few
+
+  -- a block isn't passed on
+  pub going_stops : (careful unseen : Bool) (new : S) (e : PrintError) → (careful ≡ true → Guards limits (bytes_of document) unseen old now)
+      → TellsPassError has limits (bytes_of document) unseen now new block e → TellsPrintError has style limits (bytes_of document) careful old new e
+  going_stops careful unseen new e guard told = (
+    brief_pass unseen new e told,
+    λ safe. wrote_stopped limits is.halfway unseen new e (guard safe) told,
+  )
+
+  -- memory ran out
+  pub going_fails : (careful unseen : Bool) → (careful ≡ true → Guards limits (bytes_of document) unseen old now)
+      → TellsPrintError has style limits (bytes_of document) careful old now (print.Failure failure.OutOfMemory)
+  going_fails careful unseen guard = (is.few, λ safe. wrote_before limits is.halfway unseen (guard safe))
+
+  -- the walk can't go on
+  pub going_barred : (careful unseen : Bool) (e : WalkError) → (careful ≡ true → Guards limits (bytes_of document) unseen old now) → TellsError w e
+      → TellsPrintError has style limits (bytes_of document) careful old now (error_of e)
+  going_barred careful unseen (error.Barrier answer) guard told =
+      let b = bytes_of document in
+      let here : TellsBarrierWithin (suc w.most_waiting) b (Some answer) = subst (λ (d : RawDocument). TellsBarrierWithin (suc w.most_waiting) (bytes_of d) (Some answer)) is.document_is told in
+      let first = barrier_told limits b (Ok (Some answer)) is.few (subst (λ (n : ℕ). TellsBarrierWithin n b (Some answer)) is.levels here) in
+      (first, λ safe. wrote_none limits (bytes_of document) old now unseen answer (guard safe) first)
+  going_barred careful unseen error.OutOfMemory guard told = going_fails careful unseen guard
+
+-- memory ran out behind a block that was passed on
+pub moved_fails : {S : Type 0} {has : S → ℕ → List ℕ → Type 0} {style : Style} {limits : Limits} {document : RawDocument} {w : Walk} {l : walk.Level} {sorts : List Sort} {o : Sort}
+    {old now new : S} {block left : List ℕ} (careful unseen : Bool) → IsGoing has style limits document w l sorts o old now block → Moves has now new block left
+    → (careful ≡ true → Guards limits (bytes_of document) unseen old new)
+    → TellsPrintError has style limits (bytes_of document) careful old new (print.Failure failure.OutOfMemory)
+moved_fails {new = new} {left = left} careful unseen is moves = going_fails (going_moves is new left moves) careful unseen
