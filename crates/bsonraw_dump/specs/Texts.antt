@@ -157,6 +157,10 @@ position_behind p b =
 abbrev pub position_over : Position → List ℕ → Position
 position_over p bytes = fold position_behind p bytes
 
+-- its line or its column could be over 64 bits behind so many bytes
+abbrev pub IsFar : Position → ℕ → Type 0
+IsFar p count = (2 ^ 64 ≤ p.line + count) ⊎ (2 ^ 64 ≤ p.column + count)
+
 -- the place of the first byte of an input
 abbrev pub first_position : Position
 first_position = record { line = 1; column = 1 }

@@ -1,11 +1,11 @@
 //! A place in an input of texts, and what is next there.
 #![tactic(auto)]
 
-ghost use Rattle.std.specs.Prelude.{◌≡◌, ◌≤◌, ◌<◌, ◌^◌, [], length, IfErr, IfOk, OnOk};
+ghost use Rattle.std.specs.Prelude.{◌≡◌, ◌+◌, ◌≤◌, ◌<◌, ◌^◌, ◌⊎◌, [], length, IfErr, IfOk, OnErr, OnOk};
 ghost use Rattle.bsonraw_dump.specs.Reading.{IsWindow, ahead_of};
 ghost use Rattle.bsonraw_dump.specs.Run.{IsReading};
 ghost use Rattle.bsonraw_dump.specs.TextReading.{FindsText, GoesOnTo, IsAhead, IsScanned, LooksFar, LooksOn, PassesAhead, PassesBetween, PassesGap};
-ghost use Rattle.bsonraw_dump.specs.Texts.{first_position, reason_between};
+ghost use Rattle.bsonraw_dump.specs.Texts.{IsFar, first_position, reason_between};
 ghost use Rattle.bsonraw_dump.specs.declared.text_fault.TextReason.TheVariants.{Json};
 
 use crate::failure::Failure;
@@ -78,6 +78,7 @@ impl Cursor {
     pub fn pass(&mut self, len: usize) -> Result<(), Failure>
         requires { IsWindow self.old.window × (len ≤ length (ahead_of self.old.window)) }
         ensures passed { OnOk result (PassesAhead self.old self.new len) }
+        ensures over { OnErr result ((2 ^ 64 ≤ self.old.window.offset + len) ⊎ IsFar self.old.place len) }
         ensures failed { IfErr result (λ failure. ¬ IsReading failure) }
     {
         self.place = self.place.over(&self.window.ahead()[..len])?;

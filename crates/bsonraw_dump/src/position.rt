@@ -1,9 +1,9 @@
 //! Places in an input of text: lines, and characters in a line.
 #![tactic(auto)]
 
-ghost use Rattle.std.specs.Prelude.{◌≡◌, IfErr, IfOk};
+ghost use Rattle.std.specs.Prelude.{◌≡◌, IfErr, IfOk, OnErr, length};
 ghost use Rattle.bsonraw_dump.specs.Run.{IsReading};
-ghost use Rattle.bsonraw_dump.specs.Texts.{first_position, position_over};
+ghost use Rattle.bsonraw_dump.specs.Texts.{IsFar, first_position, position_over};
 ghost use Rattle.bsonraw_dump.specs.Texts as says;
 
 use crate::failure::{Failure, in_range};
@@ -28,6 +28,7 @@ impl Position {
     /// That behind these bytes. Fails if it could be over the range of a number.
     pub fn over(self, bytes: &[u8]) -> Result<Position, Failure>
         ensures over { IfOk result (λ place. place ≡ position_over self bytes.now) }
+        ensures most { OnErr result (IsFar self (length bytes.now)) }
         ensures failed { IfErr result (λ failure. ¬ IsReading failure) }
     {
         in_range(self.line.checked_add(bytes.len() as u64))?;

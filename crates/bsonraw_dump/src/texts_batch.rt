@@ -8,7 +8,7 @@ ghost use Rattle.bson_json.specs.Written.{AppendsFront};
 ghost use Rattle.bsonraw_dump.specs.Batch.{cut_of, input_of};
 ghost use Rattle.bsonraw_dump.specs.Run.{IsReading};
 ghost use Rattle.bsonraw_dump.specs.TextBatch.{EndsInput, IsTextFailureStatus, IsTextStatus, IsTextsDone, ReadsAll, ReadsFront, ReadsInput, ReadsOpen, first_text_cut, text_state, text_summary};
-ghost use Rattle.bsonraw_dump.specs.TextRun.{HaltsTexts, count_file, no_texts};
+ghost use Rattle.bsonraw_dump.specs.TextRun.{AreTextsInRange, HaltsTexts, count_file, no_texts};
 ghost use Rattle.bsonraw_dump.specs.declared.style.Style.TheVariants.{Json, Words};
 
 use crate::batch::{Cut, Done, Lack, flush};
@@ -69,6 +69,7 @@ impl<'a> TextTotals<'a> {
         ensures cut { OnOk result (option_map cut_of self.new.cut ≡ first_text_cut (option_map cut_of self.old.cut) (input_of name.entry.now false)) }
         ensures counts { OnOk result (self.new.counts ≡ count_file self.old.counts) }
         ensures uncounted { OnErr result (self.new.counts ≡ self.old.counts) }
+        ensures range { OnErr result (¬ AreTextsInRange (count_file self.old.counts)) }
         ensures failed { IfErr result (λ failure. ¬ IsReading failure) }
     {
         self.counts = in_range(self.counts.with_file())?;

@@ -2,7 +2,7 @@
 //! like that isn't a dump.
 #![tactic(auto)]
 
-ghost use Rattle.std.specs.Prelude.{◌≡◌, ◌++◌, ℕ, List, None, Some};
+ghost use Rattle.std.specs.Prelude.{◌≡◌, ◌++◌, ◌*◌, ◌/◌, ◌^◌, ◌-◌, ℕ, List, None, Some, max, min};
 ghost use Rattle.std.specs.Option.{option_copied};
 ghost use Rattle.bsonraw_dump.specs.Guess.{HintsAt, OpensWell};
 ghost use Rattle.bsonraw_dump.specs.Watching.{IsUnread};
@@ -130,7 +130,9 @@ impl<'a, R> Watched<'a, R> {
 }
 
 /// How many bytes come in a second, where so many came in this time.
-fn per_second(count: u64, millis: u64) -> u64 {
+fn per_second(count: u64, millis: u64) -> u64
+    ensures { result ≡ min (count * 1000 / max millis 1) (2 ^ 64 - 1) }
+{
     let rate = u128::from(count) * 1000 / u128::from(millis.max(1));
     u64::try_from(rate).unwrap_or(u64::MAX)
 }

@@ -1,7 +1,7 @@
 //! What was read of an input, and isn't passed yet.
 #![tactic(auto)]
 
-ghost use Rattle.std.specs.Prelude.{◌≡◌, ◌+◌, ◌≤◌, ◌<◌, ◌^◌, ◌⊎◌, ℕ, List, MatchBool, Option, [], true, drop, length, take, IfErr, IfOk, OnOk};
+ghost use Rattle.std.specs.Prelude.{◌≡◌, ◌+◌, ◌≤◌, ◌<◌, ◌^◌, ◌⊎◌, ℕ, List, MatchBool, Option, [], true, drop, length, take, IfErr, IfOk, OnErr, OnOk};
 ghost use Rattle.std.specs.Io.KnownBytes.{IsAtEnd};
 ghost use Rattle.bsonraw_dump.specs.Cut.{said_len, IsSoundLength};
 ghost use Rattle.bsonraw_dump.specs.Reading.{FillsBuffer, IsNext, IsWindow, ReadsRest, SeesAhead, Stays, TellsNext, ahead_of};
@@ -74,6 +74,7 @@ impl Window {
     pub fn end(&self) -> Result<u64, Failure>
         requires { IsWindow self.now }
         ensures end { IfOk result (λ end. end ≡ self.now.offset + length (ahead_of self.now)) }
+        ensures over { OnErr result (2 ^ 64 ≤ self.now.offset + length (ahead_of self.now)) }
         ensures failed { IfErr result (λ failure. ¬ IsReading failure) }
     {
         in_range(self.offset.checked_add(self.len as u64))
@@ -83,6 +84,7 @@ impl Window {
     pub fn pass(&mut self, count: usize) -> Result<(), Failure>
         requires { IsWindow self.old × (count ≤ length (ahead_of self.old)) }
         ensures passed { OnOk result (IsWindow self.new × (ahead_of self.new ≡ drop count (ahead_of self.old)) × (self.new.offset ≡ self.old.offset + count)) }
+        ensures over { OnErr result (2 ^ 64 ≤ self.old.offset + count) }
         ensures failed { IfErr result (λ failure. ¬ IsReading failure) }
     {
         self.offset = in_range(self.offset.checked_add(count as u64))?;
