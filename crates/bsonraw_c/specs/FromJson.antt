@@ -3,7 +3,7 @@
 use Rattle.std.specs.Prelude.{◌≡◌, ◌⊎◌, ◌+◌, ℕ, ℤ, List, length, take}
 use Rattle.std.specs.Str.{IsUtf8, IsValidUpTo}
 use Rattle.bson_from_json.specs.Place.{IsLastLine, IsPlaceIn, characters, line_feeds}
-use Rattle.bson_from_json.specs.Texts.{IsWritten}
+use Rattle.bson_from_json.specs.Texts.{IsWritten, LeavesOpen, SaysNone}
 use Rattle.bson_from_json.specs.declared.error.JsonError.{JsonError}
 use Rattle.bson_from_json.specs.declared.error.JsonReason.{JsonReason}
 use Rattle.bson_from_json.specs.declared.error.JsonReason.TheVariants as reason
@@ -113,10 +113,12 @@ pub record PutsWritten (limits : Limits) (text before after : List ℕ) (report 
   pub reads : ReadsWithin limits document tree
   pub puts : PutsDocument document before after report s
 
--- There is an error at a place of the text, which is reported. The room is as it was.
+-- There is an error at a place of the text, which is reported. The text says no document, unless the reason leaves that open. The room is
+-- as it was.
 pub record ReportsError (text before after : List ℕ) (report : JsonReport) (s : Status) : Type 0 where
   pub error : JsonError
   pub place : IsPlaceIn text error
+  pub none : LeavesOpen error.reason ⊎ SaysNone text
   pub report_is : report ≡ report_of error
   pub status_is : s ≡ status_of_reason error.reason
   pub room_is : after ≡ before
