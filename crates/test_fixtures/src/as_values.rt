@@ -1,6 +1,7 @@
-//! What accessors and getters return, as values of their kinds.
+//! What getters return, as values of their kinds.
 
-use raw_bson::{RawBsonRef, RawDbPointerRef, ValueAccessResult};
+use crate::values::borrowed;
+use raw_bson::{ElementType, RawBsonRef, ValueAccessResult};
 
 /// A getter's result as a value of its kind.
 pub fn got<'a, T: Into<RawBsonRef<'a>>>(
@@ -12,42 +13,15 @@ pub fn got<'a, T: Into<RawBsonRef<'a>>>(
     }
 }
 
-/// What an accessor returns, as a value of its kind.
-pub fn shown<'a, T: Into<RawBsonRef<'a>>>(answer: Option<T>) -> Option<RawBsonRef<'a>> {
-    match answer {
-        Some(value) => Some(value.into()),
-        None => None,
+/// Whether a getter has the value of this kind in the document of all kinds.
+fn is_value(answer: &ValueAccessResult<RawBsonRef<'_>>, kind: ElementType) -> bool {
+    match (answer, borrowed(kind)) {
+        (Ok(found), Ok(wanted)) => *found == wanted,
+        _ => false,
     }
 }
 
-/// The same of a pointer.
-pub fn shown_pointer(answer: Option<RawDbPointerRef<'_>>) -> Option<RawBsonRef<'_>> {
-    match answer {
-        Some(pointer) => Some(RawBsonRef::DbPointer(pointer)),
-        None => None,
-    }
-}
-
-/// The same of code.
-pub fn shown_code(answer: Option<&str>) -> Option<RawBsonRef<'_>> {
-    match answer {
-        Some(code) => Some(RawBsonRef::JavaScriptCode(code)),
-        None => None,
-    }
-}
-
-/// The same of a symbol.
-pub fn shown_symbol(answer: Option<&str>) -> Option<RawBsonRef<'_>> {
-    match answer {
-        Some(symbol) => Some(RawBsonRef::Symbol(symbol)),
-        None => None,
-    }
-}
-
-/// The same of null.
-pub fn shown_null<'a>(answer: Option<()>) -> Option<RawBsonRef<'a>> {
-    match answer {
-        Some(()) => Some(RawBsonRef::Null),
-        None => None,
-    }
+/// The same of a getter's result that is handed over.
+pub fn is_got(answer: ValueAccessResult<RawBsonRef<'_>>, kind: ElementType) -> bool {
+    is_value(&answer, kind)
 }

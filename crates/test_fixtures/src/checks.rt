@@ -1,6 +1,6 @@
 use crate::faults::Fault;
 use raw_bson::{
-    ElementType, Error, ErrorKind, RawBsonRef, RawRegexRef, ValueAccessError, ValueAccessErrorKind,
+    ElementType, Error, ErrorKind, RawBsonRef, ValueAccessError, ValueAccessErrorKind,
     ValueAccessResult,
 };
 use std::alloc::Global;
@@ -20,6 +20,14 @@ pub enum Want<'a> {
     Fault(&'a Fault<'a>),
 }
 
+/// Whether the value is a regular expression of these texts.
+fn is_regex(value: RawBsonRef<'_>, pattern: &str, options: &str) -> bool {
+    match value.as_regex() {
+        Some(regex) => regex.pattern == pattern && regex.options == options,
+        None => false,
+    }
+}
+
 impl Want<'_> {
     /// Whether this is the wanted value.
     fn is_value(self, value: RawBsonRef<'_>) -> bool {
@@ -28,9 +36,7 @@ impl Want<'_> {
             Want::Boolean(want) => value.as_bool() == Some(want),
             Want::Int32(want) => value.as_i32() == Some(want),
             Want::String(want) => value.as_str() == Some(want),
-            Want::RegularExpression(pattern, options) => {
-                value.as_regex() == Some(RawRegexRef { pattern, options })
-            }
+            Want::RegularExpression(pattern, options) => is_regex(value, pattern, options),
             Want::Nothing | Want::Fault(_) => false,
         }
     }
@@ -104,20 +110,13 @@ impl Checks {
         is_reason && error.key() == want.key && self.is_text(error, want.text)
     }
 
-    /// Whether the error is this fault, or says that memory ran out for its key.
-    fn is_fault_or_want(self, error: &Error, want: &Fault<'_>) -> bool {
-        match &error.kind {
-            ErrorKind::OutOfMemory => {
-                self.is_refusable && want.key.is_some() && error.key().is_none()
-            }
-            _ => self.is_fault(error, want),
-        }
-    }
-
     /// Whether the error is the wanted one, or says that memory ran out for its key.
     pub(crate) fn is_error(self, error: &Error, want: Want<'_>) -> bool {
-        match want {
-            Want::Fault(fault) => self.is_fault_or_want(error, fault),
+        match (want, &error.kind) {
+            (Want::Fault(fault), ErrorKind::OutOfMemory) => {
+                self.is_refusable && fault.key.is_some() && error.key().is_none()
+            }
+            (Want::Fault(fault), _) => self.is_fault(error, fault),
             _ => false,
         }
     }
@@ -150,7 +149,8 @@ impl Checks {
         want: Want<'_>,
     ) -> bool {
         match item {
-            Some(answer) => self.is_read(answer, want),
+            Some(Ok(value)) => want.is_value(*value),
+            Some(Err(error)) => self.is_error(error, want),
             None => want.is_nothing(),
         }
     }
@@ -177,7 +177,7 @@ impl Checks {
     ) -> bool {
         match (answer, want) {
             (Ok(found), Ok(want)) => *found == want,
-            (Err(error), Err(want)) => self.is_fault_or_want(error, want),
+            (Err(error), Err(want)) => self.is_error(error, Want::Fault(want)),
             _ => false,
         }
     }

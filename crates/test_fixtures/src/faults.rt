@@ -3,7 +3,7 @@
 use raw_bson::Reason;
 
 /// An error that is wanted.
-#[derive(Clone, Copy, Debug)]
+#[derive(Clone, Copy)]
 pub struct Fault<'a> {
     /// why the bytes are malformed; `None` where a text isn't UTF-8
     pub reason: Option<Reason>,

@@ -4,7 +4,7 @@ use raw_bson::{Bson, Document};
 use std::alloc::{AllocError, Global};
 
 /// What a level holds the next one in.
-#[derive(Clone, Copy, Debug)]
+#[derive(Clone, Copy)]
 pub enum Holder {
     /// a document under the empty key
     Document,

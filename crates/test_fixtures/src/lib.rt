@@ -20,7 +20,7 @@ mod tables;
 mod values;
 mod walks;
 
-pub use as_values::{got, shown, shown_code, shown_null, shown_pointer, shown_symbol};
+pub use as_values::{got, is_got};
 pub use breaches::{BREACHES, BreachRow, CANONICAL};
 pub use checks::{Checks, Mismatch, NoValue, Want};
 pub use documents::{
@@ -37,16 +37,14 @@ pub use faults::{
     PAST_END_AT_A, SCOPE_LENGTH, STRING_PAST_END_AT_A, TWO_AT_0, TWO_AT_A, ZERO_IS_NO_TAG,
 };
 pub use forms::{A_THEN_B, B_THEN_A, FORMS};
-pub use getters::{get_of_array, get_of_document, has_getter};
 pub use keys::KEY_ANSWERS;
 pub use levels::{Holder, has_levels, levels_inside, nested, nested_in_turn};
 pub use owned_values::{all_owned, array_of, code_of, document_of, owned};
 pub use refusals::{is_malformed, is_refused};
 pub use results::{
-    check_answer, check_bytes, check_debug_text, check_display_text, check_equal, check_fault,
-    check_malformed, check_refused, check_text, has_debug_text, holds, is_answer,
+    check_bytes, check_debug_text, check_display_text, check_fault, check_malformed, check_refused,
+    check_text, has_debug_text, has_display_text, holds, is_answer,
 };
-pub use tables::PLACES;
 pub use values::{
     HALF_MORE_THAN_ONE, KINDS, MOMENT, array_view, borrowed, decimal, has_accessor, id, pointed,
 };

@@ -11,15 +11,6 @@ pub fn holds(is_so: bool, place: &str) -> Result<(), Fail> {
     if is_so { Ok(()) } else { Err(Fail::new(place)) }
 }
 
-/// What was found at this place is what was wanted.
-pub fn check_equal<T: PartialEq + Debug>(found: &T, wanted: &T, place: &str) -> Result<(), Fail> {
-    if found == wanted {
-        Ok(())
-    } else {
-        Err(Fail::new(format_args!("{place}: {found:?} where {wanted:?} is wanted")))
-    }
-}
-
 /// The bytes that were found are these.
 pub fn check_bytes(found: &[u8], wanted: &[u8], place: &str) -> Result<(), Fail> {
     if found == wanted {
@@ -46,6 +37,14 @@ pub fn has_debug_text<T: Debug>(alloc: Global, value: &T, text: &str) -> bool {
     }
 }
 
+/// Whether the value has this Display text.
+pub fn has_display_text<T: Display>(alloc: Global, value: &T, text: &str) -> bool {
+    match format!(in alloc; "{value}") {
+        Ok(printed) => printed.as_str() == text,
+        Err(_) => false,
+    }
+}
+
 /// The value has this Debug text.
 pub fn check_debug_text<T: Debug>(alloc: Global, value: &T, text: &str) -> Result<(), Fail> {
     let printed = format!(in alloc; "{value:?}")?;
@@ -63,18 +62,6 @@ pub fn is_answer<T: PartialEq + Drop>(answer: raw_bson::Result<T>, wanted: &T) -
     match answer {
         Ok(found) => found == *wanted,
         Err(_) => false,
-    }
-}
-
-/// The result is this one.
-pub fn check_answer<T: PartialEq + Debug + Drop>(
-    answer: raw_bson::Result<T>,
-    wanted: &T,
-    place: &str,
-) -> Result<(), Fail> {
-    match answer {
-        Ok(found) => check_equal(&found, wanted, place),
-        Err(error) => Err(Fail::new(format_args!("{place}: {error} where {wanted:?} is wanted"))),
     }
 }
 

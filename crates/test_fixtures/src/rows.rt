@@ -42,7 +42,7 @@ impl Checks {
     /// Whether iteration over the document of these bytes and over its array yields just these.
     pub fn is_iteration(self, bytes: &[u8], items: &[(&str, Want<'_>)]) -> bool {
         match RawDocument::from_bytes(bytes) {
-            Ok(document) => self.are_items(document, items),
+            Ok(document) => self.are_pairs(document, items) && self.are_values(document, items),
             Err(_) => false,
         }
     }

@@ -4,10 +4,11 @@
 use crate::checks::{Checks, Mismatch, NoValue, Want};
 use crate::documents::*;
 use crate::faults::*;
-use crate::getters::has_getter;
+use crate::getters::{
+    are_first_of_array, are_first_of_document, are_last_of_array, are_last_of_document,
+};
 use crate::keys::KEY_ANSWERS;
-use crate::values::{KINDS, borrowed};
-use raw_bson::ElementType;
+use raw_bson::{ElementType, RawArray, RawDocument};
 
 const YALL: Want<'static> = Want::String("y'all");
 
@@ -255,18 +256,6 @@ const NO_VALUES_UNDER: &[(&[u8], ElementType, &str, NoValue<'static>)] = &[
     ),
 ];
 
-/// Documents, each with a key and a number under which no getter has a value, and why.
-const NO_VALUES: &[(&[u8], &str, usize, &str, NoValue<'static>)] = &[
-    (ALL_KINDS, "x", 21, "21", NoValue::NotPresent),
-    (BOOLEAN_TWO, "a", 0, "0", NoValue::Invalid(&TWO_AT_A)),
-];
-
-/// The numbers of the kinds, in decimal.
-pub const PLACES: &[&str] = &[
-    "0", "1", "2", "3", "4", "5", "6", "7", "8", "9", "10", "11", "12", "13", "14", "15", "16",
-    "17", "18", "19", "20",
-];
-
 impl Checks {
     /// Iteration over each document yields what it should.
     fn iterations_of(self, table: &'static str, rows: &[Iteration]) -> Result<(), Mismatch> {
@@ -286,7 +275,7 @@ impl Checks {
     /// Iteration over each document yields what it should.
     pub fn iterations(self) -> Result<(), Mismatch> {
         self.iterations_of("iterations to a key", ITERATIONS_TO_A_KEY)?;
-        self.iterations_without_a_key()
+        self.iterations_of("iterations", ITERATIONS)
     }
 
     /// The elements of each document are framed as they should be, where the stop has no key.
@@ -399,64 +388,22 @@ impl Checks {
         Ok(())
     }
 
-    /// Whether the getters of this kind say why there is no value, where nothing is, and of a boolean of the byte 2.
-    fn are_no_values(self, asked: ElementType) -> bool {
-        for (bytes, key, index, place, want) in NO_VALUES {
-            let is_none = self.is_none_under(bytes, asked, key, *want)
-                && self.is_none_at(bytes, asked, *index, place, *want);
-            if !is_none {
-                return false;
-            }
-        }
-        true
+    /// Whether each getter of the document of all kinds, and of its array, has the value of its own kind.
+    fn are_values_of_getters(self, view: RawDocument<'_>) -> bool {
+        are_first_of_document(view, self.alloc)
+            && are_last_of_document(view, self.alloc)
+            && are_first_of_array(RawArray::from_doc(view), self.alloc)
+            && are_last_of_array(RawArray::from_doc(view), self.alloc)
     }
 
-    /// So say the getters of each kind.
-    pub fn no_values_of_getters(self) -> Result<(), Mismatch> {
-        for (row, (_, asked)) in KINDS.iter().enumerate() {
-            if has_getter(*asked) && !self.are_no_values(*asked) {
-                let table = "getters without a value";
-                return Err(Mismatch { table, row });
-            }
-        }
-        Ok(())
-    }
-
-    /// Whether the getters of one kind, in both views, say what they should of the value of another.
-    fn are_typed(
-        self,
-        asked: ElementType,
-        index: usize,
-        (key, kind): (&str, ElementType),
-        place: &str,
-    ) -> bool {
-        match borrowed(kind) {
-            Ok(value) => {
-                self.is_typed_under(ALL_KINDS, asked, key, value)
-                    && self.is_typed_at(ALL_KINDS, asked, index, place, value)
-            }
-            Err(_) => false,
-        }
-    }
-
-    /// The same of the values of all kinds.
-    fn are_typed_by_kind(self, asked: ElementType) -> bool {
-        for (index, (row, place)) in KINDS.iter().zip(PLACES.iter()).enumerate() {
-            if !self.are_typed(asked, index, *row, place) {
-                return false;
-            }
-        }
-        true
-    }
-
-    /// Each getter, of both views, has the value of its own kind, and of every other kind it says which it is.
+    /// Each getter, of both views, has the value of its own kind.
     pub fn values_of_getters(self) -> Result<(), Mismatch> {
-        for (row, (_, asked)) in KINDS.iter().enumerate() {
-            if has_getter(*asked) && !self.are_typed_by_kind(*asked) {
-                let table = "getters";
-                return Err(Mismatch { table, row });
-            }
+        match RawDocument::from_bytes(ALL_KINDS) {
+            Ok(view) if self.are_values_of_getters(view) => Ok(()),
+            _ => Err(Mismatch {
+                table: "getters",
+                row: 0,
+            }),
         }
-        Ok(())
     }
 }

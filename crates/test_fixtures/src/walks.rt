@@ -4,13 +4,8 @@ use crate::checks::{Checks, Want};
 use raw_bson::{ElementType, RawArray, RawDocument, RawElement};
 
 impl Checks {
-    /// Whether iteration over the document yields just these keys and results, and iteration over its array just these
-    /// results.
-    pub fn are_items(self, document: RawDocument<'_>, items: &[(&str, Want<'_>)]) -> bool {
-        self.are_pairs(document, items) && self.are_values(document, items)
-    }
-
-    fn are_pairs(self, document: RawDocument<'_>, items: &[(&str, Want<'_>)]) -> bool {
+    /// Whether iteration over the document yields just these keys and results.
+    pub(crate) fn are_pairs(self, document: RawDocument<'_>, items: &[(&str, Want<'_>)]) -> bool {
         let mut pairs = document.iter(self.alloc);
         for (key, want) in items {
             if !self.is_pair(&pairs.next(), key, *want) {
@@ -20,7 +15,8 @@ impl Checks {
         pairs.next().is_none() && pairs.next().is_none()
     }
 
-    fn are_values(self, document: RawDocument<'_>, items: &[(&str, Want<'_>)]) -> bool {
+    /// Whether iteration over its array yields just these results.
+    pub(crate) fn are_values(self, document: RawDocument<'_>, items: &[(&str, Want<'_>)]) -> bool {
         let mut values = RawArray::from_doc(document).iter(self.alloc);
         for (_, want) in items {
             if !self.is_item(&values.next(), *want) {

@@ -1,7 +1,7 @@
 use crate::checks::{check_written, is_written};
 use crate::trees_fixtures::tree_of;
-use raw_bson::{Bson, Document, RawArrayBuf, RawBson, encode, encode_list, list_from_raw};
-use std::alloc::Global;
+use raw_bson::{Document, RawArrayBuf, RawBson, encode, encode_list, list_from_raw};
+use std::alloc::{AllocError, Global};
 use std::mem;
 use std::test::Fail;
 use test_fixtures::*;
@@ -20,45 +20,60 @@ fn is_million(alloc: Global, tree: &Document, bytes: &[u8]) -> bool {
     levels_inside(tree, MILLION + 1) == MILLION && is_written(encode(alloc, tree), bytes)
 }
 
-/// The tree of a million levels, which is written as the bytes that were read.
-fn million_levels(alloc: Global, holders: &[Holder]) -> Result<Document, Fail> {
-    let bytes = nested_in_turn(alloc, holders, MILLION, EMPTY)?;
-    let tree = tree_of(alloc, &bytes)?;
-    holds(is_million(alloc, &tree, &bytes), "a million levels")?;
-    Ok(tree)
+/// The bytes of a million levels.
+fn million(alloc: Global, holders: &[Holder]) -> Result<Vec<u8>, AllocError> {
+    nested_in_turn(alloc, holders, MILLION, EMPTY)
 }
 
-/// A million levels come back, and are dropped.
-fn check_levels_come_back(alloc: Global, holders: &[Holder]) -> Result<(), Fail> {
-    let _tree = million_levels(alloc, holders)?;
-    Ok(())
+/// Whether a million levels come back, and are dropped.
+fn are_read(alloc: Global, bytes: &[u8]) -> bool {
+    match tree_of(alloc, bytes) {
+        Ok(tree) => is_million(alloc, &tree, bytes),
+        Err(_) => false,
+    }
 }
 
 #[test]
 fn a_million_documents_come_back(rt: HostRuntime) -> Result<(), Fail> {
-    check_levels_come_back(rt.alloc(), &[Holder::Document])
+    let bytes = million(rt.alloc(), &[Holder::Document])?;
+    holds(are_read(rt.alloc(), &bytes), "documents")
 }
 
 #[test]
 fn a_million_arrays_come_back(rt: HostRuntime) -> Result<(), Fail> {
-    check_levels_come_back(rt.alloc(), &[Holder::Array])
+    let bytes = million(rt.alloc(), &[Holder::Array])?;
+    holds(are_read(rt.alloc(), &bytes), "arrays")
 }
 
 #[test]
 fn a_million_scopes_come_back(rt: HostRuntime) -> Result<(), Fail> {
-    check_levels_come_back(rt.alloc(), &[Holder::CodeWithScope])
+    let bytes = million(rt.alloc(), &[Holder::CodeWithScope])?;
+    holds(are_read(rt.alloc(), &bytes), "scopes")
 }
 
 #[test]
 fn a_million_levels_in_turn_come_back(rt: HostRuntime) -> Result<(), Fail> {
-    check_levels_come_back(rt.alloc(), IN_TURN)
+    let bytes = million(rt.alloc(), IN_TURN)?;
+    holds(are_read(rt.alloc(), &bytes), "levels in turn")
+}
+
+/// Whether a million levels come back; they are never dropped.
+fn are_forgotten(alloc: Global, bytes: &[u8]) -> bool {
+    match tree_of(alloc, bytes) {
+        Ok(tree) => {
+            let is_million = is_million(alloc, &tree, bytes);
+            mem::forget(tree);
+            is_million
+        }
+        Err(_) => false,
+    }
 }
 
 /// The same levels, which are never dropped: what `bin/test` compares the requests for memory with.
 #[test]
 fn a_million_levels_in_turn_are_forgotten(rt: HostRuntime) -> Result<(), Fail> {
-    mem::forget(million_levels(rt.alloc(), IN_TURN)?);
-    Ok(())
+    let bytes = million(rt.alloc(), IN_TURN)?;
+    holds(are_forgotten(rt.alloc(), &bytes), "levels in turn")
 }
 
 /// Pushes the document of these bytes.

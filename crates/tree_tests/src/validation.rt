@@ -253,21 +253,9 @@ fn breach(alloc: Global, path: &[usize], cause: Cause) -> Result<Breach, AllocEr
     Ok(Breach { path, cause })
 }
 
-/// Whether the breach is equal to the one of this path and cause, as is wanted.
-fn is_compared(alloc: Global, found: &Breach, path: &[usize], cause: Cause, equal: bool) -> bool {
-    match breach(alloc, path, cause) {
-        Ok(other) => (*found == other) == equal,
-        Err(_) => false,
-    }
-}
-
 #[test]
-fn breaches_are_compared_and_printed(rt: HostRuntime) -> Result<(), Fail> {
+fn a_breach_is_printed(rt: HostRuntime) -> Result<(), Fail> {
     let found = breach(rt.alloc(), &[1, 0], Cause::RepeatedKey)?;
-    let is_by_parts = is_compared(rt.alloc(), &found, &[1], Cause::RepeatedKey, false)
-        && is_compared(rt.alloc(), &found, &[1, 0], Cause::ArrayKey, false)
-        && is_compared(rt.alloc(), &found, &[1, 0], Cause::RepeatedKey, true);
-    holds(is_by_parts, "path and cause")?;
     let text = "Breach { path: [1, 0], cause: RepeatedKey }";
     check_debug_text(rt.alloc(), &found, text)
 }
