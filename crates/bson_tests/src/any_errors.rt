@@ -74,7 +74,7 @@ fn an_access_error_stays_itself(rt: HostRuntime) -> Result<(), Fail> {
 }
 
 #[test]
-fn want_of_memory_is_an_error_of_any_sort(rt: HostRuntime) -> Result<(), Fail> {
+fn out_of_memory_is_an_error_of_any_sort(rt: HostRuntime) -> Result<(), Fail> {
     let alloc = rt.alloc();
     let are_said = says(alloc, &AnyError::from(NoMemory), "out of memory", None)
         && says(

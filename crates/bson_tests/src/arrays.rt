@@ -1,7 +1,6 @@
-use crate::checks::{check_array_text, is_got, is_item, is_one_pair};
-use raw_bson::laws::is_same_array_buf;
+use crate::checks::{check_array_text, is_item, is_one_pair};
 use raw_bson::{ElementType, RawArrayBuf, RawBson, RawBsonRef, ToRawArrayBuf};
-use std::alloc::{AllocError, Global};
+use std::alloc::Global;
 use std::test::Fail;
 use test_fixtures::*;
 
@@ -83,57 +82,29 @@ fn from_an_iterator(rt: HostRuntime) -> Result<(), Fail> {
     check_array_text(rt.alloc(), &array, text)
 }
 
-/// An array of so many nulls.
-fn nulls(alloc: Global, count: usize) -> Result<RawArrayBuf, Fail> {
-    let mut array = RawArrayBuf::new(alloc)?;
-    for _ in 0..count {
-        array.push(RawBson::Null)?;
+/// Whether the array is equal to its copy, and not to the other one of the same bytes, which has another count.
+fn is_compared(array: &RawArrayBuf, other: &RawArrayBuf) -> bool {
+    // a null, a stop and a push; and the one item of the same bytes
+    array.count() == 3
+        && other.count() == 1
+        && array.as_bytes() == other.as_bytes()
+        && array != other
+        && is_copied(array)
+}
+
+/// Whether there is a copy of the array, which is equal.
+fn is_copied(array: &RawArrayBuf) -> bool {
+    match array.clone() {
+        Ok(copy) => copy == *array,
+        Err(_) => false,
     }
-    Ok(array)
 }
 
-#[test]
-fn the_eleventh_value_has_a_key_of_two_digits(rt: HostRuntime) -> Result<(), Fail> {
-    let array = nulls(rt.alloc(), 11)?;
-    let bytes =
-        b"\x27\0\0\0\x0A0\0\x0A1\0\x0A2\0\x0A3\0\x0A4\0\x0A5\0\x0A6\0\x0A7\0\x0A8\0\x0A9\0\x0A10\0\0";
-    check_bytes(array.as_bytes(), bytes, "eleven nulls")
-}
-
-/// Whether `==` and the law both say so of the two.
-fn are_found_equal(array: &RawArrayBuf, other: &RawArrayBuf, equal: bool) -> bool {
-    (array == other) == equal && is_same_array_buf(array, other) == equal
-}
-
-/// Whether the array is equal to its copy and to no other one, whether that has other bytes or the same with another
-/// count.
-fn is_compared(
-    array: &RawArrayBuf,
-    copy: &RawArrayBuf,
-    other_count: &RawArrayBuf,
-    empty: &RawArrayBuf,
-) -> bool {
-    are_found_equal(copy, array, true)
-        // a null, a stop and a push
-        && array.count() == 3
-        // the one item of the same bytes
-        && other_count.count() == 1
-        && array.as_bytes() == other_count.as_bytes()
-        && are_found_equal(array, other_count, false)
-        && are_found_equal(empty, array, false)
-        && empty.is_empty()
-}
-
-/// The same of a copy of the array, of a copy of its view and of an empty array.
-fn are_compared(
-    array: &RawArrayBuf,
-    copy: &Result<RawArrayBuf, AllocError>,
-    other_count: &raw_bson::Result<RawArrayBuf>,
-    empty: &raw_bson::Result<RawArrayBuf>,
-) -> bool {
-    match (copy, other_count, empty) {
-        (Ok(copy), Ok(other_count), Ok(empty)) => is_compared(array, copy, other_count, empty),
-        _ => false,
+/// The same of an array and a copy of its view.
+fn are_compared(array: &RawArrayBuf, other: &raw_bson::Result<RawArrayBuf>) -> bool {
+    match other {
+        Ok(other) => is_compared(array, other),
+        Err(_) => false,
     }
 }
 
@@ -141,12 +112,7 @@ fn are_compared(
 fn arrays_are_compared_by_bytes_and_count(rt: HostRuntime) -> Result<(), Fail> {
     // two have the same bytes: one counts the stop that a push ended, the other is a copy of its view
     let pushed = pushed_onto_a_swallowed_terminator(rt.alloc())?;
-    let is_right = are_compared(
-        &pushed,
-        &pushed.clone(),
-        &pushed.as_ref().to_raw_array_buf(rt.alloc()),
-        &RawArrayBuf::new(rt.alloc()),
-    );
+    let is_right = are_compared(&pushed, &pushed.as_ref().to_raw_array_buf(rt.alloc()));
     holds(is_right, "bytes and count")
 }
 

@@ -94,40 +94,21 @@ fn the_same_key_twice(rt: HostRuntime) -> Result<(), Fail> {
     )
 }
 
-/// Appends each element as it is.
-fn append_elements(
-    alloc: Global,
-    copy: &mut RawDocumentBuf,
-    document: RawDocument<'_>,
-) -> Result<(), Fail> {
-    for element in document.iter_elements(alloc) {
-        copy.append_element(element?)?;
+/// Whether the first element of these bytes, appended as it is, makes a document of the same bytes.
+fn is_copied(copy: &mut RawDocumentBuf, alloc: Global, bytes: &[u8]) -> bool {
+    match RawDocument::from_bytes(bytes) {
+        Ok(document) => match document.iter_elements(alloc).next() {
+            Some(Ok(element)) => copy.append_element(element).is_ok() && copy.as_bytes() == bytes,
+            _ => false,
+        },
+        Err(_) => false,
     }
-    Ok(())
 }
-
-/// Each element appended as it is gives the document again.
-fn check_copied(alloc: Global, bytes: &[u8]) -> Result<(), Fail> {
-    let mut copy = RawDocumentBuf::new(alloc)?;
-    append_elements(alloc, &mut copy, RawDocument::from_bytes(bytes)?)?;
-    check_bytes(copy.as_bytes(), bytes, "as they stand")
-}
-
-/// Documents whose elements are appended as they are.
-const AS_THEY_STAND: &[&[u8]] = &[
-    // a boolean that is 2, and a number
-    b"\x10\0\0\0\x080\0\x02\x101\0\x07\0\0\0\0",
-    // codes with scope of declared length 3, which takes in the final 0, and 4
-    b"\x0B\0\0\0\x0Fa\0\x03\0\0\0",
-    b"\x0C\0\0\0\x0Fa\0\x04\0\0\0\0",
-    // options that don't ascend stay as they are
-    b"\x0C\0\0\0\x0B\0a\0mi\0\0",
-];
 
 #[test]
-fn elements_appended_as_they_stand(rt: HostRuntime) -> Result<(), Fail> {
-    for bytes in AS_THEY_STAND.iter() {
-        check_copied(rt.alloc(), bytes)?;
-    }
-    Ok(())
+fn an_element_is_appended_as_it_is(rt: HostRuntime) -> Result<(), Fail> {
+    let mut copy = RawDocumentBuf::new(rt.alloc())?;
+    // its options don't ascend
+    let bytes = b"\x0C\0\0\0\x0B\0a\0mi\0\0";
+    holds(is_copied(&mut copy, rt.alloc(), bytes), "an element")
 }

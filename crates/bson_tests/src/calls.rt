@@ -1,7 +1,5 @@
-use crate::checks::is_got;
-use raw_bson::laws::is_same_document_buf;
-use raw_bson::{ElementType, RawBson, RawDocumentBuf, Reason};
-use std::alloc::{AllocError, Global};
+use raw_bson::{ElementType, RawDocumentBuf};
+use std::alloc::Global;
 use std::test::Fail;
 use test_fixtures::*;
 
@@ -35,63 +33,18 @@ fn a_borrowed_value_of_each_kind_is_appended(rt: HostRuntime) -> Result<(), Fail
     check_bytes(document.as_bytes(), ALL_KINDS, "all kinds")
 }
 
-/// Whether `==` and the law both say so of the two.
-fn are_found_equal(document: &RawDocumentBuf, other: &RawDocumentBuf, equal: bool) -> bool {
-    (document == other) == equal && is_same_document_buf(document, other) == equal
-}
-
-/// Whether the buffer has the greeting's bytes and value.
-fn is_greeting(greeting: &RawDocumentBuf) -> bool {
-    !greeting.is_empty()
-        && greeting.as_bytes() == GREETING
-        && greeting.as_ref().as_bytes() == GREETING
-        && matches!(greeting.get_str("hi"), Ok("y'all"))
-}
-
-/// Whether the buffer is equal to its copy, and not to the empty one.
-fn is_compared(
-    greeting: &RawDocumentBuf,
-    copy: &std::result::Result<RawDocumentBuf, AllocError>,
-    empty: &raw_bson::Result<RawDocumentBuf>,
-) -> bool {
-    match (copy, empty) {
-        (Ok(copy), Ok(empty)) => {
-            are_found_equal(copy, greeting, true)
-                && copy.as_bytes() == GREETING
-                && are_found_equal(empty, greeting, false)
-                && empty.is_empty()
-        }
-        _ => false,
+/// Whether there is a copy of the document, which is equal.
+fn is_copied(document: &RawDocumentBuf) -> bool {
+    match document.clone() {
+        Ok(copy) => copy == *document,
+        Err(_) => false,
     }
 }
 
 #[test]
-fn a_buffer_has_its_bytes_and_is_compared(rt: HostRuntime) -> Result<(), Fail> {
+fn a_buffer_has_an_equal_copy(rt: HostRuntime) -> Result<(), Fail> {
     let greeting = document_of(rt.alloc(), GREETING)?;
-    let is_wanted = is_greeting(&greeting)
-        && is_compared(
-            &greeting,
-            &greeting.clone(),
-            &RawDocumentBuf::new(rt.alloc()),
-        );
-    holds(is_wanted, "a greeting and its copy")
-}
-
-/// Bytes without an envelope, and why they are refused.
-const NO_ENVELOPES: &[(&[u8], Reason)] = &[
-    (b"", Reason::TooShort),
-    (b"\x05\0\0\0", Reason::TooShort),
-    (b"\x06\0\0\0\x01", Reason::LengthIncorrect),
-    (b"\x05\0\0\0\x01", Reason::NotTerminated),
-];
-
-#[test]
-fn envelopes_are_refused(rt: HostRuntime) -> Result<(), Fail> {
-    for (bytes, reason) in NO_ENVELOPES {
-        let answer = RawDocumentBuf::from_bytes(Vec::from_slice(rt.alloc(), bytes)?);
-        check_refused(answer, *reason)?;
-    }
-    Ok(())
+    holds(is_copied(&greeting), "a copy")
 }
 
 /// Whether the first six getters have the values of their kinds.
@@ -132,13 +85,4 @@ fn twelve_getters(rt: HostRuntime) -> Result<(), Fail> {
         are_got && are_none(Checks::ample(rt.alloc()), &document),
         "getters",
     )
-}
-
-#[test]
-fn an_append_goes_behind_what_is_there(rt: HostRuntime) -> Result<(), Fail> {
-    let nested = RawBson::from(document_of(rt.alloc(), NULL_DOCUMENT)?);
-    let mut document = document_of(rt.alloc(), GREETING)?;
-    document.append("n", nested)?;
-    let bytes = b"\x1D\0\0\0\x02hi\0\x06\0\0\0y'all\0\x03n\0\x07\0\0\0\x0A\0\0\0";
-    check_bytes(&document.into_bytes(), bytes, "behind the greeting")
 }

@@ -1,11 +1,9 @@
 //! What is said of pairs, and of values that own their bytes.
 
-use raw_bson::{
-    ElementType, RawArray, RawArrayBuf, RawBson, RawBsonRef, RawDocument, Result, ValueAccessResult,
-};
+use raw_bson::{ElementType, RawArray, RawArrayBuf, RawBson, RawBsonRef, RawDocument, Result};
 use std::alloc::Global;
 use std::test::Fail;
-use test_fixtures::{borrowed, check_debug_text};
+use test_fixtures::check_debug_text;
 
 /// Whether the item is this key and value.
 pub(crate) fn is_pair(
@@ -71,19 +69,6 @@ pub(crate) fn check_no_kind(first: Option<ElementType>) -> std::result::Result<(
         Some(kind) => Err(Fail::new(format_args!("{kind:?}"))),
         None => Ok(()),
     }
-}
-
-/// Whether a getter has the value of this kind in the document of all kinds.
-fn is_value(answer: &ValueAccessResult<RawBsonRef<'_>>, kind: ElementType) -> bool {
-    match (answer, borrowed(kind)) {
-        (Ok(found), Ok(wanted)) => *found == wanted,
-        _ => false,
-    }
-}
-
-/// The same of a getter's result that is handed over.
-pub(crate) fn is_got(answer: ValueAccessResult<RawBsonRef<'_>>, kind: ElementType) -> bool {
-    is_value(&answer, kind)
 }
 
 /// Whether both were made, and are equal.

@@ -1,7 +1,6 @@
 use crate::checks::{check_array_text, holds_of};
 use raw_bson::{
-    CowRawArray, CowRawDocument, ElementType, RawBson, RawDocument, RawElement, ToRawArrayBuf,
-    ToRawBson, ToRawDocumentBuf,
+    ElementType, RawBson, RawDocument, RawElement, ToRawArrayBuf, ToRawBson, ToRawDocumentBuf,
 };
 use std::alloc::Global;
 use std::test::Fail;
@@ -79,34 +78,4 @@ fn the_value_of_an_element_of_a_buffer_is_copied(rt: HostRuntime) -> Result<(), 
         Some(Ok(element)) => check_text_copied(rt.alloc(), element, "y'all"),
         _ => Err(Fail::new("no element")),
     }
-}
-
-/// Whether the document is borrowed or owned, as is wanted, and has the greeting's bytes.
-fn is_greeting(cow: CowRawDocument<'_>, is_owned: bool) -> bool {
-    matches!(&cow, CowRawDocument::Owned(_)) == is_owned && cow.as_ref().as_bytes() == GREETING
-}
-
-#[test]
-fn documents_are_borrowed_and_owned(rt: HostRuntime) -> Result<(), Fail> {
-    let of_view = CowRawDocument::from(RawDocument::from_bytes(GREETING)?);
-    holds(is_greeting(of_view, false), "a view")?;
-    let buffer = document_of(rt.alloc(), GREETING)?;
-    let is_borrowed = is_greeting(CowRawDocument::from(&buffer), false);
-    let is_owned = is_greeting(CowRawDocument::from(buffer), true);
-    holds(is_borrowed && is_owned, "a borrowed one and an owned one")
-}
-
-/// Whether the array is borrowed or owned, as is wanted, and has the bytes of one null.
-fn is_one_null(cow: CowRawArray<'_>, is_owned: bool) -> bool {
-    matches!(&cow, CowRawArray::Owned(_)) == is_owned && cow.as_ref().as_bytes() == NULL_ARRAY
-}
-
-#[test]
-fn arrays_are_borrowed_and_owned(rt: HostRuntime) -> Result<(), Fail> {
-    let of_view = CowRawArray::from(array_view(NULL_ARRAY)?);
-    holds(is_one_null(of_view, false), "a view")?;
-    let buffer = array_of(rt.alloc(), NULL_ARRAY)?;
-    let is_borrowed = is_one_null(CowRawArray::from(&buffer), false);
-    let is_owned = is_one_null(CowRawArray::from(buffer), true);
-    holds(is_borrowed && is_owned, "a borrowed one and an owned one")
 }

@@ -1,7 +1,7 @@
 //! Filters, with what MongoDB's documentation says that they find.
 
 use bson_uses::{Unmet, matches};
-use raw_bson::{RawArrayBuf, RawBson, RawBsonRef, RawDocument, RawDocumentBuf, Result};
+use raw_bson::{RawArrayBuf, RawBson, RawBsonRef, RawDocumentBuf, Result};
 use std::alloc::Global;
 use std::process::Abort;
 use std::test::Fail;
@@ -102,44 +102,5 @@ fn values_are_equal_under_their_keys(rt: HostRuntime) -> std::result::Result<(),
     let other = user(alloc, "Ada", 37)?;
     let empty = RawDocumentBuf::new(alloc)?;
     assert!(rt; are_compared(alloc, &ada, &other, &empty));
-    Ok(())
-}
-
-/// Whether this operator with the operand 21 is none.
-fn is_bad_operator(alloc: Global, ada: &RawDocumentBuf, operator: &str) -> bool {
-    match under(alloc, "age", operator, RawBsonRef::Int32(21)) {
-        Ok(filter) => said(alloc, ada, &filter) == Err(Unmet::BadOperator),
-        Err(_) => false,
-    }
-}
-
-#[test]
-fn operators_have_names_and_operands(rt: HostRuntime) -> std::result::Result<(), Fail> {
-    let alloc = rt.alloc();
-    let ada = user(alloc, "Ada", 36)?;
-    // one that isn't known, and a number in the place of an array
-    assert!(rt; is_bad_operator(alloc, &ada, "$lt") && is_bad_operator(alloc, &ada, "$in"));
-    Ok(())
-}
-
-/// The boolean 2 under `age`, which means no value.
-const DAMAGED: &[u8] = b"\x0B\0\0\0\x08age\0\x02\0";
-
-/// Whether there is a fault under `age`.
-fn is_damaged(answer: &std::result::Result<(), Unmet>) -> bool {
-    match answer {
-        Err(Unmet::Damaged(error)) => error.key() == Some("age"),
-        _ => false,
-    }
-}
-
-#[test]
-fn damage_is_told_with_its_key(rt: HostRuntime) -> std::result::Result<(), Fail> {
-    let alloc = rt.alloc();
-    let damaged = RawDocument::from_bytes(DAMAGED)?;
-    let ada = user(alloc, "Ada", 36)?;
-    let over = under(alloc, "age", "$gt", RawBsonRef::Int32(21))?;
-    assert!(rt; is_damaged(&matches(alloc, ada.as_ref(), damaged)));
-    assert!(rt; is_damaged(&matches(alloc, damaged, over.as_ref())));
     Ok(())
 }

@@ -20,8 +20,6 @@ mod copies;
 #[cfg(test)]
 mod damage;
 #[cfg(test)]
-mod example;
-#[cfg(test)]
 mod filter;
 #[cfg(test)]
 mod memory;

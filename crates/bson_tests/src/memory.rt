@@ -13,7 +13,7 @@ fn is_stored(shelf: &mut Shelf, document: RawDocumentBuf) -> bool {
 
 // `bin/test` runs this with each request for memory refused in turn, alone.
 #[test]
-fn put_or_want_of_memory(rt: HostRuntime) {
+fn put_or_out_of_memory(rt: HostRuntime) {
     if let Ok(greeting) = document(rt.alloc(), GREETING) {
         assert!(rt; is_stored(&mut Shelf::new(rt.alloc()), greeting));
     }

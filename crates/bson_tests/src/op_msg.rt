@@ -1,7 +1,7 @@
-//! Messages as MongoDB's wire protocol has them, and messages that are damaged.
+//! Messages as MongoDB's wire protocol has them.
 
-use bson_uses::{Message, MessageError, Section, message_of, read_message};
-use raw_bson::{NoDocument, RawDocument};
+use bson_uses::{Message, Section, message_of, read_message};
+use raw_bson::RawDocument;
 use std::alloc::Global;
 use std::process::Abort;
 use std::test::Fail;
@@ -87,113 +87,4 @@ fn a_sequence_and_a_checksum_are_read(rt: HostRuntime) -> std::result::Result<()
     let message = read_message(rt.alloc(), SEQUENCE)?;
     assert!(rt; is_sequence(&message));
     Ok(())
-}
-
-/// An empty body under flags that a reader may not know, and those that it does but for the checksum's.
-const FLAGGED: &[u8] = b"\x1A\0\0\0\x01\0\0\0\0\0\0\0\xDD\x07\0\0\x02\0\xFF\xFF\0\x05\0\0\0\0";
-
-/// Whether the message is an empty document under its flags.
-fn is_flagged(message: &Message<'_>) -> bool {
-    match body(message) {
-        Some(document) => message.flags == 0xFFFF_0002 && document.is_empty(),
-        None => false,
-    }
-}
-
-#[test]
-fn flags_above_the_lower_half_may_be_unknown(rt: HostRuntime) -> std::result::Result<(), Fail> {
-    let message = read_message(rt.alloc(), FLAGGED)?;
-    assert!(rt; is_flagged(&message));
-    Ok(())
-}
-
-/// Bytes, and why they are no message.
-const DAMAGED: &[(&[u8], MessageError)] = &[
-    (
-        b"\x10\0\0\0\x01\0\0\0\0\0\0\0\xDD\x07\0\0",
-        MessageError::TooShort,
-    ),
-    (
-        b"\x1B\0\0\0\x01\0\0\0\0\0\0\0\xDD\x07\0\0\0\0\0\0\0\x05\0\0\0\0",
-        MessageError::WrongSize,
-    ),
-    (
-        b"\x1A\0\0\0\x01\0\0\0\0\0\0\0\xDC\x07\0\0\0\0\0\0\0\x05\0\0\0\0",
-        MessageError::OtherCode,
-    ),
-    (
-        b"\x1A\0\0\0\x01\0\0\0\0\0\0\0\xDD\x07\0\0\x04\0\0\0\0\x05\0\0\0\0",
-        MessageError::UnknownFlags(4),
-    ),
-    (
-        b"\x1A\0\0\0\x01\0\0\0\0\0\0\0\xDD\x07\0\0\x02\x80\x01\0\0\x05\0\0\0\0",
-        MessageError::UnknownFlags(0x1_8002),
-    ),
-    (
-        b"\x17\0\0\0\x01\0\0\0\0\0\0\0\xDD\x07\0\0\x01\0\0\0\0\0\0",
-        MessageError::NoChecksum,
-    ),
-    (
-        b"\x1A\0\0\0\x01\0\0\0\0\0\0\0\xDD\x07\0\0\0\0\0\0\x02\x05\0\0\0\0",
-        MessageError::OtherKind(2),
-    ),
-    (
-        b"\x15\0\0\0\x01\0\0\0\0\0\0\0\xDD\x07\0\0\0\0\0\0\0",
-        MessageError::NoDocument(NoDocument::TooShort),
-    ),
-    (
-        b"\x1A\0\0\0\x01\0\0\0\0\0\0\0\xDD\x07\0\0\0\0\0\0\0\x06\0\0\0\0",
-        MessageError::NoDocument(NoDocument::LengthIncorrect),
-    ),
-    (
-        b"\x20\0\0\0\x01\0\0\0\0\0\0\0\xDD\x07\0\0\0\0\0\0\0\x05\0\0\0\0\0\x05\0\0\0\x01",
-        MessageError::NoDocument(NoDocument::NotTerminated(5)),
-    ),
-    (
-        b"\x18\0\0\0\x01\0\0\0\0\0\0\0\xDD\x07\0\0\0\0\0\0\x01\x04\0\0",
-        MessageError::WrongSequenceSize,
-    ),
-    (
-        b"\x20\0\0\0\x01\0\0\0\0\0\0\0\xDD\x07\0\0\0\0\0\0\x01\x03\0\0\0d\0\x05\0\0\0\0",
-        MessageError::WrongSequenceSize,
-    ),
-    (
-        b"\x20\0\0\0\x01\0\0\0\0\0\0\0\xDD\x07\0\0\0\0\0\0\x01\x0C\0\0\0d\0\x05\0\0\0\0",
-        MessageError::WrongSequenceSize,
-    ),
-    (
-        b"\x1B\0\0\0\x01\0\0\0\0\0\0\0\xDD\x07\0\0\0\0\0\0\x01\xFF\xFF\xFF\xFFd\0",
-        MessageError::WrongSequenceSize,
-    ),
-    (
-        b"\x19\0\0\0\x01\0\0\0\0\0\0\0\xDD\x07\0\0\0\0\0\0\x01\x04\0\0\0",
-        MessageError::NoIdentifier,
-    ),
-    (
-        b"\x1D\0\0\0\x01\0\0\0\0\0\0\0\xDD\x07\0\0\0\0\0\0\x01\x08\0\0\0docs",
-        MessageError::NoIdentifier,
-    ),
-    (
-        b"\x21\0\0\0\x01\0\0\0\0\0\0\0\xDD\x07\0\0\0\0\0\0\x01\x0C\0\0\0d\xFF\0\x05\0\0\0\0",
-        MessageError::NotText,
-    ),
-    (
-        b"\x24\0\0\0\x01\0\0\0\0\0\0\0\xDD\x07\0\0\0\0\0\0\x01\x0F\0\0\0d\0\x05\0\0\0\0\x05\0\0\0",
-        MessageError::NoDocument(NoDocument::TooShort),
-    ),
-];
-
-/// Whether these bytes are no message, for this.
-fn is_no_message(alloc: Global, bytes: &[u8], wanted: &MessageError) -> bool {
-    match read_message(alloc, bytes) {
-        Ok(_) => false,
-        Err(error) => error == *wanted,
-    }
-}
-
-#[test]
-fn damage_is_told_by_its_cause(rt: HostRuntime) {
-    for (bytes, wanted) in DAMAGED {
-        assert!(rt; is_no_message(rt.alloc(), bytes, wanted), "{bytes:?}");
-    }
 }

@@ -1,4 +1,4 @@
-use crate::asserts::is_want_of_memory;
+use crate::asserts::is_out_of_memory;
 use raw_bson::{
     ElementType, RawArray, RawBsonRef, ValueAccessError, ValueAccessErrorKind, ValueAccessResult,
 };
@@ -7,20 +7,20 @@ use std::test::Fail;
 use test_fixtures::*;
 
 #[test]
-fn positions_or_want_of_memory(rt: HostRuntime) -> Result<(), Fail> {
+fn positions_or_out_of_memory(rt: HostRuntime) -> Result<(), Fail> {
     Checks::refusable(rt.alloc()).positions()?;
     Ok(())
 }
 
 #[test]
-fn negative_document_length_as_an_array_or_want_of_memory(rt: HostRuntime) -> Result<(), Fail> {
+fn negative_document_length_as_an_array_or_out_of_memory(rt: HostRuntime) -> Result<(), Fail> {
     Checks::refusable(rt.alloc()).negative_positions()?;
     Ok(())
 }
 
 /// A typed look-up goes past faults, and says which it meets.
 #[test]
-fn typed_positions_or_want_of_memory(rt: HostRuntime) -> Result<(), Fail> {
+fn typed_positions_or_out_of_memory(rt: HostRuntime) -> Result<(), Fail> {
     let checks = Checks::refusable(rt.alloc());
     checks.no_values_at()?;
     let seven = RawBsonRef::Int32(7);
@@ -37,7 +37,7 @@ fn is_said(alloc: Global, error: &ValueAccessError) -> bool {
 }
 
 /// Whether the error has its text, if it is out of memory.
-fn is_want_said(alloc: Global, answer: &ValueAccessResult<bool>) -> bool {
+fn is_out_of_memory_said(alloc: Global, answer: &ValueAccessResult<bool>) -> bool {
     match answer {
         Ok(_) => true,
         Err(error) => match &error.kind {
@@ -53,21 +53,21 @@ fn is_said_or_found(
     numbers: RawArray<'_>,
     answer: &ValueAccessResult<bool>,
 ) -> bool {
-    is_want_said(alloc, answer)
+    is_out_of_memory_said(alloc, answer)
         && Checks::refusable(alloc).is_no_value(answer, NoValue::Invalid(&TWO_AT_0), "0")
         && matches!(numbers.get_i32(alloc, 1), Ok(7))
 }
 
 /// The first request of each look-up may be refused: what needs none is returned all the same.
 #[test]
-fn fault_before_a_number_or_want_of_memory(rt: HostRuntime) -> Result<(), Fail> {
+fn fault_before_a_number_or_out_of_memory(rt: HostRuntime) -> Result<(), Fail> {
     let numbers = array_view(FAULT_BEFORE_A_NUMBER)?;
     let is_so = is_said_or_found(rt.alloc(), numbers, &numbers.get_bool(rt.alloc(), 0));
     holds(is_so, "a fault before a number")
 }
 
 /// Whether the result is out of memory, with the empty key.
-fn is_want(answer: ValueAccessResult<bool>) -> bool {
+fn is_access_out_of_memory(answer: ValueAccessResult<bool>) -> bool {
     match answer {
         Ok(_) => false,
         Err(error) => {
@@ -81,24 +81,24 @@ fn is_want(answer: ValueAccessResult<bool>) -> bool {
 #[test]
 fn a_refused_get_bool_is_out_of_memory(rt: HostRuntime) -> Result<(), Fail> {
     let numbers = array_view(FAULT_BEFORE_A_NUMBER)?;
-    if is_want(numbers.get_bool(rt.alloc(), 0)) {
+    if is_access_out_of_memory(numbers.get_bool(rt.alloc(), 0)) {
         println!(rt; "out of memory")?;
     }
     Ok(())
 }
 
 /// Whether the result is out of memory, without a key.
-fn is_item_want(answer: raw_bson::Result<Option<RawBsonRef<'_>>>) -> bool {
+fn is_item_out_of_memory(answer: raw_bson::Result<Option<RawBsonRef<'_>>>) -> bool {
     match answer {
         Ok(_) => false,
-        Err(error) => is_want_of_memory(&error),
+        Err(error) => is_out_of_memory(&error),
     }
 }
 
 #[test]
 fn a_refused_get_is_out_of_memory(rt: HostRuntime) -> Result<(), Fail> {
     let array = array_view(NEGATIVE_DOCUMENT_LENGTH)?;
-    if is_item_want(array.get(rt.alloc(), 0)) {
+    if is_item_out_of_memory(array.get(rt.alloc(), 0)) {
         println!(rt; "out of memory")?;
     }
     Ok(())

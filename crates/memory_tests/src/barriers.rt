@@ -1,4 +1,4 @@
-use crate::asserts::{is_list, is_want_of_memory};
+use crate::asserts::{is_list, is_out_of_memory};
 use raw_bson::{Cause, Limits, RawDocument};
 use raw_form::{
     Barrier, FlattenError, PlacedBreach, ValidateError, canonical_within, first_fault_within,
@@ -15,12 +15,12 @@ fn is_barrier(answer: raw_bson::Result<Option<Barrier<'_>>>, levels: usize, offs
     match answer {
         Ok(Some(barrier)) => barrier.place.path.len() == levels && barrier.place.offset == offset,
         Ok(None) => false,
-        Err(error) => is_want_of_memory(&error),
+        Err(error) => is_out_of_memory(&error),
     }
 }
 
 #[test]
-fn a_first_fault_or_want_of_memory(rt: HostRuntime) -> Result<(), Fail> {
+fn a_first_fault_or_out_of_memory(rt: HostRuntime) -> Result<(), Fail> {
     let view = RawDocument::from_bytes(NESTED_STOP)?;
     let limits = Limits {
         bytes: 14,
@@ -66,7 +66,7 @@ const REPEATED: &[u8] = b"\x26\0\0\0\x10b\0\x01\0\0\0\x0Aa\0\
 const FORM: &[u8] = b"\x1F\0\0\0\x03b\0\x14\0\0\0\x0Br\0p\0im\0\x08s\0\0\x0At\0\0\x0Aa\0\0";
 
 #[test]
-fn a_form_or_want_of_memory(rt: HostRuntime) -> Result<(), Fail> {
+fn a_form_or_out_of_memory(rt: HostRuntime) -> Result<(), Fail> {
     let limits = Limits {
         bytes: 38,
         depth: 2,

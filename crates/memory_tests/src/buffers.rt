@@ -1,4 +1,4 @@
-use crate::asserts::{is_array, is_document, is_want_of_memory};
+use crate::asserts::{is_array, is_document, is_out_of_memory};
 use crate::copies::first_element;
 use raw_bson::{
     BinarySubtype, Error, ErrorKind, RawArrayBuf, RawBinaryRef, RawBson, RawBsonRef, RawDocument,
@@ -56,7 +56,7 @@ const APPENDS: &[Append] = &[
 ];
 
 #[test]
-fn new_or_want_of_memory(rt: HostRuntime) {
+fn new_or_out_of_memory(rt: HostRuntime) {
     assert!(rt; is_document(RawDocumentBuf::new(rt.alloc()), EMPTY));
     assert!(rt; is_array(RawArrayBuf::new(rt.alloc()), EMPTY));
 }
@@ -65,7 +65,7 @@ fn new_or_want_of_memory(rt: HostRuntime) {
 fn is_appended(answer: &Result<()>, found: &[u8], before: &[u8], after: &[u8]) -> bool {
     match answer {
         Ok(()) => found == after,
-        Err(error) => is_want_of_memory(error) && found == before,
+        Err(error) => is_out_of_memory(error) && found == before,
     }
 }
 
@@ -89,7 +89,7 @@ fn is_copy_appended(document: &mut RawDocumentBuf, copy: Result<RawBson>, append
             let answer = document.append(append.1, copy);
             goes_well_at_last(&answer, document, append)
         }
-        Err(error) => is_want_of_memory(&error),
+        Err(error) => is_out_of_memory(&error),
     }
 }
 
@@ -104,7 +104,7 @@ fn goes_well(alloc: Global, buffer: Result<RawDocumentBuf>, append: Append) -> b
                     append,
                 )
         }
-        Err(error) => is_want_of_memory(&error),
+        Err(error) => is_out_of_memory(&error),
     }
 }
 
@@ -117,7 +117,7 @@ fn is_owned_appended(alloc: Global, append: Append) -> bool {
 }
 
 #[test]
-fn append_or_want_of_memory(rt: HostRuntime) -> std::result::Result<(), Fail> {
+fn append_or_out_of_memory(rt: HostRuntime) -> std::result::Result<(), Fail> {
     for append in APPENDS {
         holds(is_owned_appended(rt.alloc(), *append), append.1)?;
     }
@@ -132,7 +132,7 @@ fn goes_well_by_reference(buffer: Result<RawDocumentBuf>, append: Append) -> boo
             let answer = document.append_ref(append.1, append.2.borrowed());
             is_before && goes_well_at_last(&answer, &mut document, append)
         }
-        Err(error) => is_want_of_memory(&error),
+        Err(error) => is_out_of_memory(&error),
     }
 }
 
@@ -145,7 +145,7 @@ fn is_borrowed_appended(alloc: Global, append: Append) -> bool {
 }
 
 #[test]
-fn append_ref_or_want_of_memory(rt: HostRuntime) -> std::result::Result<(), Fail> {
+fn append_ref_or_out_of_memory(rt: HostRuntime) -> std::result::Result<(), Fail> {
     for append in APPENDS {
         holds(is_borrowed_appended(rt.alloc(), *append), append.1)?;
     }
@@ -170,7 +170,7 @@ fn has_element_appended(buffer: Result<RawDocumentBuf>, element: RawElement<'_>)
         Ok(mut document) => {
             document.as_bytes() == EMPTY && is_element_appended(&mut document, element)
         }
-        Err(error) => is_want_of_memory(&error),
+        Err(error) => is_out_of_memory(&error),
     }
 }
 
@@ -183,7 +183,7 @@ fn is_first_appended(alloc: Global, empty: RawDocument<'_>, item: Option<RawElem
 }
 
 #[test]
-fn append_element_or_want_of_memory(rt: HostRuntime) -> std::result::Result<(), Fail> {
+fn append_element_or_out_of_memory(rt: HostRuntime) -> std::result::Result<(), Fail> {
     let empty = RawDocument::from_bytes(EMPTY)?;
     let element = first_element(rt.alloc(), NUMBER);
     holds(is_first_appended(rt.alloc(), empty, element), "an element")
@@ -217,13 +217,13 @@ fn is_nul_refused(document: &mut RawDocumentBuf) -> bool {
 fn has_nul_refused(buffer: Result<RawDocumentBuf>) -> bool {
     match buffer {
         Ok(mut document) => document.as_bytes() == EMPTY && is_nul_refused(&mut document),
-        Err(error) => is_want_of_memory(&error),
+        Err(error) => is_out_of_memory(&error),
     }
 }
 
 /// A 0 is refused before memory is asked for.
 #[test]
-fn interior_nul_or_want_of_memory(rt: HostRuntime) -> std::result::Result<(), Fail> {
+fn interior_nul_or_out_of_memory(rt: HostRuntime) -> std::result::Result<(), Fail> {
     let empty = RawDocument::from_bytes(EMPTY)?;
     assert!(rt; has_nul_refused(empty.to_raw_document_buf(rt.alloc())));
     Ok(())
@@ -249,13 +249,13 @@ fn are_nulls_pushed(array: Result<RawArrayBuf>) -> bool {
                 SWALLOWED_TERMINATOR_PUSHED,
             ) && is_null_pushed(&mut array, SWALLOWED_TERMINATOR_PUSHED, PUSHED_TWICE)
         }
-        Err(error) => is_want_of_memory(&error),
+        Err(error) => is_out_of_memory(&error),
     }
 }
 
 /// The key of the next push shows that one that ran out of memory left the count as it was.
 #[test]
-fn push_or_want_of_memory(rt: HostRuntime) -> std::result::Result<(), Fail> {
+fn push_or_out_of_memory(rt: HostRuntime) -> std::result::Result<(), Fail> {
     let view = array_view(SWALLOWED_TERMINATOR)?;
     assert!(rt; are_nulls_pushed(view.to_raw_array_buf(rt.alloc())));
     Ok(())
@@ -280,12 +280,12 @@ fn one_pair(alloc: Global, key: &str, value: RawBson) -> Result<RawDocumentBuf> 
 fn is_no_document(answer: Result<RawDocumentBuf>) -> bool {
     match answer {
         Ok(_) => false,
-        Err(error) => is_interior_nul(&error) || is_want_of_memory(&error),
+        Err(error) => is_interior_nul(&error) || is_out_of_memory(&error),
     }
 }
 
 #[test]
-fn from_iter_or_want_of_memory(rt: HostRuntime) {
+fn from_iter_or_out_of_memory(rt: HostRuntime) {
     assert!(rt; is_document(three_numbers(rt.alloc()), THREE_INT32));
     assert!(rt; is_no_document(one_pair(rt.alloc(), "a\0b", RawBson::Null)));
 }
@@ -297,7 +297,7 @@ fn two_numbers(alloc: Global) -> Result<RawArrayBuf> {
 }
 
 #[test]
-fn from_iter_of_an_array_or_want_of_memory(rt: HostRuntime) {
+fn from_iter_of_an_array_or_out_of_memory(rt: HostRuntime) {
     let null = RawArrayBuf::from_iter(rt.alloc(), [RawBson::Null].into_iter());
     assert!(rt; is_array(null, NULL_ARRAY));
     let numbers = b"\x13\0\0\0\x100\0\xFF\xFF\xFF\xFF\x101\0\x7B\0\0\0\0";

@@ -1,4 +1,4 @@
-use crate::asserts::{is_document, is_want_of_memory};
+use crate::asserts::{is_document, is_out_of_memory};
 use crate::kinds::has_memory;
 use raw_bson::{
     Binary, BinarySubtype, ElementType, RawArrayBuf, RawBinaryRef, RawBson, RawBsonRef,
@@ -17,12 +17,12 @@ fn is_vector(answer: raw_bson::Result<Binary>) -> bool {
         Ok(copy) => {
             copy.subtype == BinarySubtype::Vector && copy.bytes.as_slice() == b"\x01\x02".as_slice()
         }
-        Err(error) => is_want_of_memory(&error),
+        Err(error) => is_out_of_memory(&error),
     }
 }
 
 #[test]
-fn binary_copy_or_want_of_memory(rt: HostRuntime) {
+fn binary_copy_or_out_of_memory(rt: HostRuntime) {
     let value = RawBinaryRef {
         subtype: BinarySubtype::Vector,
         bytes: b"\x01\x02",
@@ -54,7 +54,7 @@ fn is_array_cloned(array: &RawArrayBuf, bytes: &[u8]) -> bool {
 fn has_document_clone(document: raw_bson::Result<RawDocumentBuf>, bytes: &[u8]) -> bool {
     match document {
         Ok(document) => is_document_cloned(&document, bytes),
-        Err(error) => is_want_of_memory(&error),
+        Err(error) => is_out_of_memory(&error),
     }
 }
 
@@ -62,12 +62,12 @@ fn has_document_clone(document: raw_bson::Result<RawDocumentBuf>, bytes: &[u8]) 
 fn has_array_clone(array: raw_bson::Result<RawArrayBuf>, bytes: &[u8]) -> bool {
     match array {
         Ok(array) => is_array_cloned(&array, bytes),
-        Err(error) => is_want_of_memory(&error),
+        Err(error) => is_out_of_memory(&error),
     }
 }
 
 #[test]
-fn clones_of_buffers_or_want_of_memory(rt: HostRuntime) -> Result<(), Fail> {
+fn clones_of_buffers_or_out_of_memory(rt: HostRuntime) -> Result<(), Fail> {
     let view = RawDocument::from_bytes(GREETING)?;
     assert!(rt; has_document_clone(view.to_raw_document_buf(rt.alloc()), GREETING));
     let view = array_view(SWALLOWED_TERMINATOR)?;
@@ -93,7 +93,7 @@ fn has_value_clone(
 ) -> bool {
     match value {
         Ok(value) => is_value_cloned(&value, want, kind),
-        Err(error) => is_want_of_memory(&error),
+        Err(error) => is_out_of_memory(&error),
     }
 }
 
@@ -106,7 +106,7 @@ fn is_kind_cloned(alloc: Global, kind: ElementType) -> bool {
 }
 
 #[test]
-fn clones_of_values_or_want_of_memory(rt: HostRuntime) -> Result<(), Fail> {
+fn clones_of_values_or_out_of_memory(rt: HostRuntime) -> Result<(), Fail> {
     for (key, kind) in KINDS {
         holds(is_kind_cloned(rt.alloc(), *kind), key)?;
     }
@@ -127,12 +127,12 @@ fn is_code_cloned(code: &RawJavaScriptCodeWithScope, text: &str, scope: &[u8]) -
 fn has_code_clone(code: String, scope: raw_bson::Result<RawDocumentBuf>, bytes: &[u8]) -> bool {
     match scope {
         Ok(scope) => is_code_cloned(&RawJavaScriptCodeWithScope { code, scope }, "g", bytes),
-        Err(error) => is_want_of_memory(&error),
+        Err(error) => is_out_of_memory(&error),
     }
 }
 
 #[test]
-fn clone_of_code_with_scope_or_want_of_memory(rt: HostRuntime) -> Result<(), Fail> {
+fn clone_of_code_with_scope_or_out_of_memory(rt: HostRuntime) -> Result<(), Fail> {
     let view = RawDocument::from_bytes(NULL_DOCUMENT)?;
     if let Ok(code) = String::from_str(rt.alloc(), "g") {
         let scope = view.to_raw_document_buf(rt.alloc());
@@ -142,7 +142,7 @@ fn clone_of_code_with_scope_or_want_of_memory(rt: HostRuntime) -> Result<(), Fai
 }
 
 #[test]
-fn to_raw_document_buf_or_want_of_memory(rt: HostRuntime) -> Result<(), Fail> {
+fn to_raw_document_buf_or_out_of_memory(rt: HostRuntime) -> Result<(), Fail> {
     let view = RawDocument::from_bytes(GREETING)?;
     assert!(rt; is_document(view.to_raw_document_buf(rt.alloc()), GREETING));
     Ok(())
@@ -153,7 +153,7 @@ fn is_pushed(array: &mut RawArrayBuf, before: &[u8], after: &[u8]) -> bool {
     array.as_bytes() == before
         && match array.push(RawBson::Null) {
             Ok(()) => array.as_bytes() == after,
-            Err(error) => is_want_of_memory(&error),
+            Err(error) => is_out_of_memory(&error),
         }
 }
 
@@ -161,13 +161,13 @@ fn is_pushed(array: &mut RawArrayBuf, before: &[u8], after: &[u8]) -> bool {
 fn is_copy_pushed(array: raw_bson::Result<RawArrayBuf>, before: &[u8], after: &[u8]) -> bool {
     match array {
         Ok(mut array) => is_pushed(&mut array, before, after),
-        Err(error) => is_want_of_memory(&error),
+        Err(error) => is_out_of_memory(&error),
     }
 }
 
 /// Counting takes memory for the key of a stop alone: the next key is the number of items.
 #[test]
-fn to_raw_array_buf_or_want_of_memory(rt: HostRuntime) -> Result<(), Fail> {
+fn to_raw_array_buf_or_out_of_memory(rt: HostRuntime) -> Result<(), Fail> {
     let view = array_view(SWALLOWED_TERMINATOR)?;
     let after = SWALLOWED_TERMINATOR_PUSHED;
     assert!(rt;
@@ -184,7 +184,7 @@ fn to_raw_array_buf_or_want_of_memory(rt: HostRuntime) -> Result<(), Fail> {
 fn is_copy(answer: raw_bson::Result<RawBson>, want: RawBsonRef<'_>, kind: ElementType) -> bool {
     match answer {
         Ok(copy) => copy.as_raw_bson_ref() == want,
-        Err(error) => has_memory(kind) && is_want_of_memory(&error),
+        Err(error) => has_memory(kind) && is_out_of_memory(&error),
     }
 }
 
@@ -215,7 +215,7 @@ fn are_copied(alloc: Global, document: RawDocument<'_>) -> bool {
 }
 
 #[test]
-fn to_raw_bson_or_want_of_memory(rt: HostRuntime) -> Result<(), Fail> {
+fn to_raw_bson_or_out_of_memory(rt: HostRuntime) -> Result<(), Fail> {
     let document = RawDocument::from_bytes(ALL_KINDS)?;
     holds(are_copied(rt.alloc(), document), "copies")
 }
@@ -230,7 +230,7 @@ pub(crate) fn first_element(alloc: Global, bytes: &[u8]) -> Option<RawElement<'_
 fn is_fault(checks: Checks, answer: &raw_bson::Result<RawBson>) -> bool {
     match answer {
         Ok(_) => false,
-        Err(error) => is_want_of_memory(error) || checks.is_fault(error, &TWO_AT_A),
+        Err(error) => is_out_of_memory(error) || checks.is_fault(error, &TWO_AT_A),
     }
 }
 
@@ -243,18 +243,18 @@ fn has_fault(alloc: Global, item: Option<RawElement<'_>>) -> bool {
 }
 
 #[test]
-fn fault_of_an_element_or_want_of_memory(rt: HostRuntime) {
+fn fault_of_an_element_or_out_of_memory(rt: HostRuntime) {
     assert!(rt; has_fault(rt.alloc(), first_element(rt.alloc(), BOOLEAN_TWO)));
 }
 
 fn is_text(answer: raw_bson::Result<RawBson>, text: &str) -> bool {
     match answer {
         Ok(value) => value.as_str() == Some(text),
-        Err(error) => is_want_of_memory(&error),
+        Err(error) => is_out_of_memory(&error),
     }
 }
 
 #[test]
-fn from_str_or_want_of_memory(rt: HostRuntime) {
+fn from_str_or_out_of_memory(rt: HostRuntime) {
     assert!(rt; is_text(RawBson::from_str(rt.alloc(), "a"), "a"));
 }

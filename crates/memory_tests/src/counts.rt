@@ -1,4 +1,4 @@
-use crate::asserts::is_want_of_memory;
+use crate::asserts::is_out_of_memory;
 use raw_bson::{Document, Error, ErrorKind, RawDocument, Reason, document_from_raw_counted};
 use std::alloc::Global;
 use std::test::Fail;
@@ -9,7 +9,7 @@ use test_fixtures::*;
 /// Whether this is the fault at a boolean of 2 under the key `a`, with one element counted; or out of memory, with no
 /// more.
 fn is_fault_of_one_element(error: &Error, count: usize) -> bool {
-    if is_want_of_memory(error) {
+    if is_out_of_memory(error) {
         return count <= 1;
     }
     let two = ErrorKind::MalformedValue {
@@ -27,7 +27,7 @@ fn is_read_to_fault(answer: &raw_bson::Result<Document>, count: usize) -> bool {
 }
 
 #[test]
-fn elements_until_a_fault_or_want_of_memory(rt: HostRuntime) -> Result<(), Fail> {
+fn elements_until_a_fault_or_out_of_memory(rt: HostRuntime) -> Result<(), Fail> {
     let view = RawDocument::from_bytes(FAULT_UNDER_A_LATER_GOOD_KEY)?;
     let (answer, steps) = document_from_raw_counted(rt.alloc(), view);
     assert!(rt; is_read_to_fault(&answer, steps.count()));
@@ -38,7 +38,7 @@ fn elements_until_a_fault_or_want_of_memory(rt: HostRuntime) -> Result<(), Fail>
 fn are_levels_counted(answer: &raw_bson::Result<Document>, count: usize, levels: usize) -> bool {
     match answer {
         Ok(tree) => has_levels(tree, levels) && count == levels,
-        Err(error) => is_want_of_memory(error) && count <= levels,
+        Err(error) => is_out_of_memory(error) && count <= levels,
     }
 }
 
@@ -51,7 +51,7 @@ fn are_levels_read(alloc: Global, bytes: &[u8], levels: usize) -> bool {
 }
 
 #[test]
-fn elements_of_five_hundred_levels_or_want_of_memory(rt: HostRuntime) {
+fn elements_of_five_hundred_levels_or_out_of_memory(rt: HostRuntime) {
     if let Ok(bytes) = nested(rt.alloc(), Holder::Document, 499, EMPTY) {
         assert!(rt; are_levels_read(rt.alloc(), &bytes, 499));
     }

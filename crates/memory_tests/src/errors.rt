@@ -50,7 +50,7 @@ fn is_row(alloc: Global, (bytes, key): (&[u8], &str)) -> bool {
 }
 
 #[test]
-fn error_copies_or_want_of_memory(rt: HostRuntime) -> Result<(), Fail> {
+fn error_copies_or_out_of_memory(rt: HostRuntime) -> Result<(), Fail> {
     let reason = Reason::BadBoolean(2);
     let are_copied = is_kind_copied(&ErrorKind::OutOfMemory)
         && is_kind_copied(&ErrorKind::MalformedValue { reason });
@@ -102,7 +102,7 @@ fn is_access_row(alloc: Global, (bytes, key): (&[u8], &str)) -> bool {
 }
 
 #[test]
-fn access_error_copies_or_want_of_memory(rt: HostRuntime) -> Result<(), Fail> {
+fn access_error_copies_or_out_of_memory(rt: HostRuntime) -> Result<(), Fail> {
     for row in NO_DOUBLES {
         holds(is_access_row(rt.alloc(), *row), row.1)?;
     }

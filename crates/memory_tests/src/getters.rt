@@ -3,13 +3,13 @@ use test_fixtures::Checks;
 
 /// Each getter has the value of its kind, also where a request for memory is refused.
 #[test]
-fn getters_or_want_of_memory(rt: HostRuntime) -> Result<(), Fail> {
+fn getters_or_out_of_memory(rt: HostRuntime) -> Result<(), Fail> {
     Checks::refusable(rt.alloc()).values_of_getters()?;
     Ok(())
 }
 
 #[test]
-fn typed_look_ups_or_want_of_memory(rt: HostRuntime) -> Result<(), Fail> {
+fn typed_look_ups_or_out_of_memory(rt: HostRuntime) -> Result<(), Fail> {
     Checks::refusable(rt.alloc()).no_values_under()?;
     Ok(())
 }

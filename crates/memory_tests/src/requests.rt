@@ -1,4 +1,4 @@
-use crate::asserts::is_want_of_memory;
+use crate::asserts::is_out_of_memory;
 use raw_bson::{RawBsonRef, RawDocumentBuf, Result};
 use std::process::Abort;
 use test_fixtures::*;
@@ -15,9 +15,9 @@ fn is_long_text_appended(answer: Result<RawDocumentBuf>) -> bool {
     match answer {
         Ok(mut document) => match document.append_ref("text", RawBsonRef::String(LONG)) {
             Ok(()) => document.as_bytes().len() == 5 + 6 + 5 + LONG.len(),
-            Err(error) => is_want_of_memory(&error),
+            Err(error) => is_out_of_memory(&error),
         },
-        Err(error) => is_want_of_memory(&error),
+        Err(error) => is_out_of_memory(&error),
     }
 }
 

@@ -1,4 +1,4 @@
-use crate::asserts::{is_document, is_list, is_want_of_memory};
+use crate::asserts::{is_document, is_list, is_out_of_memory};
 use crate::parts::{is_one_null, is_part};
 use raw_bson::{
     Bson, Document, Error, Limits, RawBson, RawBsonRef, RawDocument, RawDocumentBuf, RawElement,
@@ -53,7 +53,7 @@ fn has_parts(tree: &Document) -> bool {
 fn is_tree(answer: raw_bson::Result<Document>) -> bool {
     match answer {
         Ok(tree) => has_parts(&tree),
-        Err(error) => is_want_of_memory(&error),
+        Err(error) => is_out_of_memory(&error),
     }
 }
 
@@ -65,12 +65,12 @@ fn has_trees(answer: raw_bson::Result<RawDocumentBuf>) -> bool {
                 && buffer.as_bytes() == OTHER_SPELLING
                 && is_tree(buffer.into_document())
         }
-        Err(error) => is_want_of_memory(&error),
+        Err(error) => is_out_of_memory(&error),
     }
 }
 
 #[test]
-fn trees_of_documents_or_want_of_memory(rt: HostRuntime) -> Result<(), Fail> {
+fn trees_of_documents_or_out_of_memory(rt: HostRuntime) -> Result<(), Fail> {
     let view = RawDocument::from_bytes(OTHER_SPELLING)?;
     assert!(rt; is_tree(document_from_raw(rt.alloc(), view)));
     assert!(rt; has_trees(view.to_raw_document_buf(rt.alloc())));
@@ -89,12 +89,12 @@ fn has_tree_within(answer: raw_bson::Result<RawDocumentBuf>) -> bool {
         Ok(buffer) => {
             is_tree(buffer.to_document_within(LIMITS)) && buffer.as_bytes() == OTHER_SPELLING
         }
-        Err(error) => is_want_of_memory(&error),
+        Err(error) => is_out_of_memory(&error),
     }
 }
 
 #[test]
-fn trees_within_limits_or_want_of_memory(rt: HostRuntime) -> Result<(), Fail> {
+fn trees_within_limits_or_out_of_memory(rt: HostRuntime) -> Result<(), Fail> {
     let view = RawDocument::from_bytes(OTHER_SPELLING)?;
     assert!(rt; is_tree(document_from_raw_within(rt.alloc(), view, LIMITS)));
     assert!(rt; has_tree_within(view.to_raw_document_buf(rt.alloc())));
@@ -105,7 +105,7 @@ fn trees_within_limits_or_want_of_memory(rt: HostRuntime) -> Result<(), Fail> {
 fn is_part_answered(key: &str, answer: raw_bson::Result<Bson>) -> bool {
     match answer {
         Ok(tree) => is_part(key, &tree),
-        Err(error) => is_want_of_memory(&error),
+        Err(error) => is_out_of_memory(&error),
     }
 }
 
@@ -113,7 +113,7 @@ fn is_part_answered(key: &str, answer: raw_bson::Result<Bson>) -> bool {
 fn is_null_list(answer: raw_bson::Result<Vec<Bson>>) -> bool {
     match answer {
         Ok(list) => is_one_null(&list),
-        Err(error) => is_want_of_memory(&error),
+        Err(error) => is_out_of_memory(&error),
     }
 }
 
@@ -147,7 +147,7 @@ fn are_elements_read(alloc: Global, document: RawDocument<'_>) -> bool {
 }
 
 #[test]
-fn trees_of_values_or_want_of_memory(rt: HostRuntime) -> Result<(), Fail> {
+fn trees_of_values_or_out_of_memory(rt: HostRuntime) -> Result<(), Fail> {
     assert!(rt; are_elements_read(rt.alloc(), RawDocument::from_bytes(OTHER_SPELLING)?));
     Ok(())
 }
@@ -163,12 +163,12 @@ fn is_written(alloc: Global, tree: &Document) -> bool {
 fn is_tree_written(alloc: Global, answer: raw_bson::Result<Document>) -> bool {
     match answer {
         Ok(tree) => is_written(alloc, &tree),
-        Err(error) => is_want_of_memory(&error),
+        Err(error) => is_out_of_memory(&error),
     }
 }
 
 #[test]
-fn bytes_of_trees_or_want_of_memory(rt: HostRuntime) -> Result<(), Fail> {
+fn bytes_of_trees_or_out_of_memory(rt: HostRuntime) -> Result<(), Fail> {
     assert!(rt; is_list(canonical_bytes(rt.alloc(), OTHER_SPELLING), PARTS));
     let view = RawDocument::from_bytes(PARTS)?;
     assert!(rt; is_tree_written(rt.alloc(), document_from_raw(rt.alloc(), view)));
@@ -177,7 +177,7 @@ fn bytes_of_trees_or_want_of_memory(rt: HostRuntime) -> Result<(), Fail> {
 
 /// Whether memory ran out for the value under this key. A text and a regular expression are moved, which takes none.
 fn is_copy_refused(key: &str, error: &Error) -> bool {
-    key != "t" && key != "r" && is_want_of_memory(error)
+    key != "t" && key != "r" && is_out_of_memory(error)
 }
 
 /// Whether the value becomes the tree under this key, or memory runs out for its copy.
@@ -204,7 +204,7 @@ fn is_element_owned(alloc: Global, item: raw_bson::Result<RawElement<'_>>) -> bo
     };
     match bson_from_element(alloc, element) {
         Ok(tree) => goes_and_comes_back(alloc, element.key(), tree, value),
-        Err(error) => is_want_of_memory(&error),
+        Err(error) => is_out_of_memory(&error),
     }
 }
 
@@ -219,7 +219,7 @@ fn are_elements_owned(alloc: Global, document: RawDocument<'_>) -> bool {
 }
 
 #[test]
-fn owned_values_or_want_of_memory(rt: HostRuntime) -> Result<(), Fail> {
+fn owned_values_or_out_of_memory(rt: HostRuntime) -> Result<(), Fail> {
     assert!(rt; are_elements_owned(rt.alloc(), RawDocument::from_bytes(PARTS)?));
     Ok(())
 }
@@ -236,7 +236,7 @@ fn is_written_as(written: raw_bson::Result<Vec<u8>>, form: &[u8]) -> bool {
 fn has_form(alloc: Global, tree: &Document, form: &[u8]) -> bool {
     match encode(alloc, tree) {
         Ok(written) => written.as_slice() == form,
-        Err(error) => is_want_of_memory(&error) && is_written_as(encode(alloc, tree), form),
+        Err(error) => is_out_of_memory(&error) && is_written_as(encode(alloc, tree), form),
     }
 }
 
@@ -244,7 +244,7 @@ fn has_form(alloc: Global, tree: &Document, form: &[u8]) -> bool {
 fn becomes_form(buffer: &RawDocumentBuf, alloc: Global, form: &[u8]) -> bool {
     match buffer.to_document() {
         Ok(tree) => has_form(alloc, &tree, form),
-        Err(error) => is_want_of_memory(&error),
+        Err(error) => is_out_of_memory(&error),
     }
 }
 
@@ -257,7 +257,7 @@ fn becomes(
 ) -> bool {
     match answer {
         Ok(buffer) => becomes_form(&buffer, alloc, form) && buffer.as_bytes() == bytes,
-        Err(error) => is_want_of_memory(&error),
+        Err(error) => is_out_of_memory(&error),
     }
 }
 
@@ -270,7 +270,7 @@ fn have_form(alloc: Global, bytes: &[u8], form: &[u8]) -> bool {
 }
 
 #[test]
-fn forms_or_want_of_memory(rt: HostRuntime) {
+fn forms_or_out_of_memory(rt: HostRuntime) {
     for (bytes, form) in FORMS {
         assert!(rt; have_form(rt.alloc(), bytes, form), "{bytes:?}");
         assert!(rt;
@@ -289,6 +289,6 @@ fn are_levels_form(alloc: Global, levels: usize) -> bool {
 }
 
 #[test]
-fn form_of_five_hundred_levels_or_want_of_memory(rt: HostRuntime) {
+fn form_of_five_hundred_levels_or_out_of_memory(rt: HostRuntime) {
     assert!(rt; are_levels_form(rt.alloc(), 499));
 }

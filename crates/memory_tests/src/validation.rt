@@ -1,4 +1,4 @@
-use crate::asserts::is_want_of_memory;
+use crate::asserts::is_out_of_memory;
 use raw_bson::{Breach, Cause, RawDocument, validate};
 use std::alloc::Global;
 use std::process::Abort;
@@ -13,7 +13,7 @@ fn is_breach(answer: raw_bson::Result<Option<Breach>>, path: &[usize], cause: Ca
     match answer {
         Ok(Some(breach)) => breach.path.as_slice() == path && breach.cause == cause,
         Ok(None) => false,
-        Err(error) => is_want_of_memory(&error),
+        Err(error) => is_out_of_memory(&error),
     }
 }
 
@@ -21,7 +21,7 @@ fn is_breach(answer: raw_bson::Result<Option<Breach>>, path: &[usize], cause: Ca
 fn is_canonical(answer: raw_bson::Result<Option<Breach>>) -> bool {
     match answer {
         Ok(found) => found.is_none(),
-        Err(error) => is_want_of_memory(&error),
+        Err(error) => is_out_of_memory(&error),
     }
 }
 
@@ -78,7 +78,7 @@ const FIRST_KEY_LAST: &[u8] = b"\xA9\0\0\0\
 \0";
 
 #[test]
-fn many_keys_or_want_of_memory(rt: HostRuntime) -> Result<(), Fail> {
+fn many_keys_or_out_of_memory(rt: HostRuntime) -> Result<(), Fail> {
     let distinct = RawDocument::from_bytes(DISTINCT_KEYS)?;
     assert!(rt; is_canonical(validate(rt.alloc(), distinct)));
     let repeated = RawDocument::from_bytes(FIRST_KEY_LAST)?;

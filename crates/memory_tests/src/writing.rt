@@ -15,7 +15,7 @@ fn is_empty_written(alloc: Global) -> bool {
 }
 
 #[test]
-fn encode_or_want_of_memory(rt: HostRuntime) {
+fn encode_or_out_of_memory(rt: HostRuntime) {
     assert!(rt; is_empty_written(rt.alloc()));
     assert!(rt; is_true_written(rt.alloc()));
 }

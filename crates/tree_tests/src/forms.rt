@@ -1,7 +1,7 @@
-use raw_bson::{Limits, Reason};
+use raw_bson::Limits;
 use raw_form::canonical_within;
 use std::test::Fail;
-use test_fixtures::{check_bytes, check_refused};
+use test_fixtures::check_bytes;
 
 /// The keys b, a, b, of which the last holds a document; a code whose scope has the keys x and x; an array under the keys z and
 /// the empty one, with options out of order.
@@ -24,27 +24,4 @@ fn a_form_within_limits(rt: HostRuntime) -> Result<(), Fail> {
     check_bytes(form.as_slice(), MIXED_FORM, "a form")?;
     let form = canonical_within(rt.alloc(), MIXED_FORM, limits)?;
     check_bytes(form.as_slice(), MIXED_FORM, "its own form")
-}
-
-/// Most bytes, of 70, and levels within which there is no form, and why.
-const REFUSED: &[(usize, usize, Reason)] = &[
-    (69, 2, Reason::TooManyBytes),
-    (70, 1, Reason::TooDeep),
-    (70, 0, Reason::TooDeep),
-];
-
-#[test]
-fn why_there_is_no_form_within_limits(rt: HostRuntime) -> Result<(), Fail> {
-    for (bytes, depth, reason) in REFUSED {
-        let limits = Limits {
-            bytes: *bytes,
-            depth: *depth,
-        };
-        check_refused(canonical_within(rt.alloc(), MIXED, limits), *reason)?;
-    }
-    let none = Limits { bytes: 0, depth: 0 };
-    check_refused(
-        canonical_within(rt.alloc(), &MIXED[1..], none),
-        Reason::LengthIncorrect,
-    )
 }

@@ -6,8 +6,6 @@
 #[cfg(test)]
 mod barriers;
 #[cfg(test)]
-mod by_tree;
-#[cfg(test)]
 mod checks;
 #[cfg(test)]
 mod counts;
@@ -22,8 +20,6 @@ mod forms;
 #[cfg(test)]
 mod limits;
 #[cfg(test)]
-mod made;
-#[cfg(test)]
 mod readings;
 #[cfg(test)]
 mod trees;
@@ -31,5 +27,3 @@ mod trees;
 mod trees_fixtures;
 #[cfg(test)]
 mod validation;
-#[cfg(test)]
-mod verdicts;

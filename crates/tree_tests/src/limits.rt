@@ -126,10 +126,6 @@ fn five_hundred_and_one_levels_are_too_deep_for_five_hundred(rt: HostRuntime) ->
 }
 
 #[test]
-fn limits_are_compared_and_printed(rt: HostRuntime) -> Result<(), Fail> {
-    let few = limits(15, 2);
-    let same = few;
-    let are_compared = few == same && few != limits(15, 1) && few != limits(14, 2);
-    holds(are_compared, "limits")?;
-    check_debug_text(rt.alloc(), &few, "Limits { bytes: 15, depth: 2 }")
+fn limits_are_printed(rt: HostRuntime) -> Result<(), Fail> {
+    check_debug_text(rt.alloc(), &limits(15, 2), "Limits { bytes: 15, depth: 2 }")
 }

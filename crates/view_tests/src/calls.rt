@@ -1,5 +1,5 @@
 use bson_model::{Binary, BinarySubtype};
-use raw_view::{ElementType, Elements, RawArray, RawBinaryRef, RawBsonRef, RawDocument};
+use raw_view::{ElementType, RawBinaryRef, RawBsonRef, RawDocument};
 use std::alloc::Global;
 use std::process::Abort;
 use std::test::Fail;
@@ -73,6 +73,12 @@ fn each_kind_has_its_value_and_its_accessor(rt: HostRuntime) -> Result<(), Fail>
     Ok(())
 }
 
+#[test]
+fn the_empty_document_is_empty(rt: HostRuntime) -> Result<(), Fail> {
+    assert!(rt; RawDocument::from_bytes(EMPTY)?.is_empty());
+    Ok(())
+}
+
 const BINARY: RawBinaryRef<'static> = RawBinaryRef {
     subtype: BinarySubtype::UserDefined(128),
     bytes: b"\x01\x02",
@@ -89,94 +95,4 @@ fn is_converted(owned: raw_view::Result<Binary>, value: RawBinaryRef<'_>) -> boo
 #[test]
 fn a_reference_to_an_owned_binary_is_converted(rt: HostRuntime) {
     assert!(rt; is_converted(BINARY.to_binary(rt.alloc()), BINARY));
-}
-
-/// Whether the greeting and the empty document have their bytes, and say which is empty, as arrays, too.
-fn have_their_bytes(greeting: RawDocument<'_>, empty: RawDocument<'_>) -> bool {
-    let array = RawArray::from_doc(greeting);
-    greeting.as_bytes() == GREETING
-        && !greeting.is_empty()
-        && empty.is_empty()
-        && array.as_doc() == greeting
-        && array.as_bytes() == GREETING
-        && !array.is_empty()
-        && RawArray::from_doc(empty).is_empty()
-}
-
-/// Whether the greeting is equal to the same bytes at another place, and not to the empty document; as arrays, too.
-fn are_views_compared(
-    greeting: RawDocument<'_>,
-    same: RawDocument<'_>,
-    empty: RawDocument<'_>,
-) -> bool {
-    let array = RawArray::from_doc(greeting);
-    greeting == same
-        && greeting != empty
-        && array == RawArray::from_doc(same)
-        && array != RawArray::from_doc(empty)
-}
-
-/// The same of the greeting, its like and the empty document, if they are documents.
-fn are_kept(
-    greeting: &raw_view::Result<RawDocument<'_>>,
-    same: &raw_view::Result<RawDocument<'_>>,
-    empty: &raw_view::Result<RawDocument<'_>>,
-) -> bool {
-    match (greeting, same, empty) {
-        (Ok(greeting), Ok(same), Ok(empty)) => {
-            have_their_bytes(*greeting, *empty) && are_views_compared(*greeting, *same, *empty)
-        }
-        _ => false,
-    }
-}
-
-#[test]
-fn views_keep_their_bytes(rt: HostRuntime) {
-    let same = b"\x13\0\0\0\x02hi\0\x06\0\0\0y'all\0\0";
-    assert!(rt;
-        are_kept(
-            &RawDocument::from_bytes(GREETING),
-            &RawDocument::from_bytes(same),
-            &RawDocument::from_bytes(EMPTY)
-        )
-    );
-}
-
-fn next_key<'a>(elements: &mut Elements<'a>) -> Option<&'a str> {
-    match elements.next() {
-        Some(Ok(element)) => Some(element.key()),
-        _ => None,
-    }
-}
-
-/// The key of the first element from this offset on: nothing where no walk begins there, and `None` in it where the walk
-/// comes to no element.
-fn key_from<'a>(document: RawDocument<'a>, offset: usize) -> Option<Option<&'a str>> {
-    match Elements::from_offset(document, offset) {
-        Some(mut elements) => Some(next_key(&mut elements)),
-        None => None,
-    }
-}
-
-/// Offsets, each with the key of the first element from it on.
-const OFFSETS: &[(usize, Option<Option<&str>>)] = &[
-    (3, None),
-    (4, Some(Some("a"))),
-    (11, Some(Some("b"))),
-    (18, Some(Some("c"))),
-    // inside an element, at the final 0, and behind it
-    (5, Some(None)),
-    (25, Some(None)),
-    (26, Some(None)),
-    (27, None),
-    (usize::MAX, None),
-];
-
-#[test]
-fn a_walk_begins_at_any_offset_behind_the_header(rt: HostRuntime) -> Result<(), Fail> {
-    let document = RawDocument::from_bytes(THREE_INT32)?;
-    for (offset, key) in OFFSETS {
-        assert!(rt; key_from(document, *offset) == *key, "{offset}");
-    }
-    Ok(())
 }

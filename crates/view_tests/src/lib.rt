@@ -22,8 +22,6 @@ mod keys;
 #[cfg(test)]
 mod leaves;
 #[cfg(test)]
-mod look_ups;
-#[cfg(test)]
 mod memory;
 #[cfg(test)]
 mod reasons;

@@ -75,7 +75,7 @@ fn are_inserted(alloc: Global, document: &mut Document, count: usize) -> bool {
 }
 
 #[test]
-fn insert_of_a_new_key_or_want_of_memory(rt: HostRuntime) {
+fn insert_of_a_new_key_or_out_of_memory(rt: HostRuntime) {
     let mut document = Document::new(rt.alloc());
     assert!(rt; are_inserted(rt.alloc(), &mut document, PAIRS.len()));
 }
@@ -113,7 +113,7 @@ fn are_inserted_again(alloc: Global, document: &mut Document, count: usize) -> b
 }
 
 #[test]
-fn insert_of_a_key_that_is_there_or_want_of_memory(rt: HostRuntime) {
+fn insert_of_a_key_that_is_there_or_out_of_memory(rt: HostRuntime) {
     let alloc = rt.alloc();
     let mut few = Document::new(alloc);
     assert!(rt; are_inserted(alloc, &mut few, FEW) && are_inserted_again(alloc, &mut few, FEW));
@@ -131,6 +131,6 @@ fn is_regex(answer: Result<Regex, NoMemory>, pattern: &str, options: &str) -> bo
 }
 
 #[test]
-fn regex_or_want_of_memory(rt: HostRuntime) {
+fn regex_or_out_of_memory(rt: HostRuntime) {
     assert!(rt; is_regex(Regex::new(rt.alloc(), "^a", "mi"), "^a", "im"));
 }

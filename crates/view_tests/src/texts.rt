@@ -1,6 +1,5 @@
-use bson_model::NoMemory;
 use raw_view::{ElementType, Error, ErrorKind, RawDocument, Reason};
-use std::alloc::{AllocError, Global};
+use std::alloc::Global;
 use std::fmt::Display;
 use std::process::Abort;
 use std::test::Fail;
@@ -156,21 +155,4 @@ fn every_kind_is_printed_by_its_name(rt: HostRuntime) {
         assert!(rt; has_name(rt.alloc(), *kind, name), "{name}");
     }
     assert!(rt; has_name(rt.alloc(), ElementType::Boolean, "Boolean"));
-}
-
-/// Whether the error is out of memory, and has no key.
-fn is_want_of_memory(error: &Error) -> bool {
-    matches!(error.kind, ErrorKind::OutOfMemory) && error.key().is_none()
-}
-
-#[test]
-fn a_failed_allocation_becomes_an_error(rt: HostRuntime) {
-    assert!(rt; is_want_of_memory(&Error::from(AllocError)));
-    assert!(rt; is_want_of_memory(&Error::from(NoMemory)));
-    assert!(rt; is_printed(rt.alloc(), &Error::out_of_memory(), "out of memory"));
-}
-
-#[test]
-fn a_refusal_is_an_error_without_a_key(rt: HostRuntime) {
-    assert!(rt; is_printed(rt.alloc(), &Error::malformed(Reason::TooShort), TOO_SHORT));
 }

@@ -1,8 +1,5 @@
 //! Documents and values of `bson_model`: pairs in their order, equality, `Debug` texts and deep trees.
 
-use bson_model::laws::{
-    attest_document, attest_list, attest_value, is_same_document, is_same_tree,
-};
 use bson_model::{Bson, Document, JavaScriptCodeWithScope, NoMemory};
 use std::alloc::{AllocError, Global};
 use std::process::Abort;
@@ -73,38 +70,6 @@ fn are_two_pairs(made: &Result<Document, NoMemory>) -> bool {
 #[test]
 fn a_document_is_its_pairs_in_order(rt: HostRuntime) {
     assert!(rt; are_two_pairs(&two_pairs(rt.alloc())));
-}
-
-/// Whether the two are found to differ, and the laws hold of the first.
-fn differ(one: &Result<Document, NoMemory>, other: &Result<Document, NoMemory>) -> bool {
-    match (one, other) {
-        (Ok(one), Ok(other)) => !is_same_document(one, other) && keeps_laws(one),
-        _ => false,
-    }
-}
-
-/// What the laws say of a document, its first value and a list without values.
-fn keeps_laws(document: &Document) -> bool {
-    attest_document(document);
-    attest_list(&[]);
-    match document.pair_at(0) {
-        Some((_key, value)) => {
-            attest_value(value);
-            is_same_tree(value, value)
-        }
-        None => false,
-    }
-}
-
-#[test]
-fn the_order_of_keys_counts(rt: HostRuntime) {
-    let alloc = rt.alloc();
-    assert!(rt;
-        differ(
-            &two_pairs(alloc),
-            &document_of(alloc, &[("a", 2), ("b", 3)])
-        )
-    );
 }
 
 pub(crate) fn string(alloc: Global, content: &str) -> Result<Bson, NoMemory> {

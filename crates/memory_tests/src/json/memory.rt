@@ -24,7 +24,7 @@ fn is_printed(alloc: Global, document: RawDocument<'_>) -> bool {
 }
 
 #[test]
-fn to_json_or_want_of_memory(rt: HostRuntime) -> Result<(), Fail> {
+fn to_json_or_out_of_memory(rt: HostRuntime) -> Result<(), Fail> {
     assert!(rt; is_printed(rt.alloc(), document()?));
     Ok(())
 }
@@ -44,7 +44,7 @@ fn is_measured(alloc: Global, document: RawDocument<'_>, most: usize) -> bool {
 }
 
 #[test]
-fn measured_json_or_want_of_memory(rt: HostRuntime) -> Result<(), Fail> {
+fn measured_json_or_out_of_memory(rt: HostRuntime) -> Result<(), Fail> {
     let document = document()?;
     assert!(rt; is_measured(rt.alloc(), document, NESTED_TEXT.len()));
     assert!(rt; is_measured(rt.alloc(), document, NESTED_TEXT.len() - 1));
@@ -62,7 +62,7 @@ fn is_written(alloc: Global, document: RawDocument<'_>) -> bool {
 }
 
 #[test]
-fn write_json_or_want_of_memory(rt: HostRuntime) -> Result<(), Fail> {
+fn write_json_or_out_of_memory(rt: HostRuntime) -> Result<(), Fail> {
     assert!(rt; is_written(rt.alloc(), document()?));
     Ok(())
 }
