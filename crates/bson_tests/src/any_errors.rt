@@ -17,14 +17,6 @@ fn a_view_a_getter_and_a_push(rt: HostRuntime) -> Result<(), Fail> {
     holds(list.len() == 1 && list.first() == Some(&1), "a list of one")
 }
 
-/// Whether the error is printed so.
-fn is_printed(alloc: Global, error: &AnyError, text: &str) -> bool {
-    match format!(in alloc; "{error}") {
-        Ok(printed) => printed.as_str() == text,
-        Err(_) => false,
-    }
-}
-
 /// Whether the error has a copy that is equal.
 fn is_copied(error: &AnyError) -> bool {
     match error.clone() {
@@ -35,7 +27,7 @@ fn is_copied(error: &AnyError) -> bool {
 
 /// Whether the error's text is this, its key is this, and a copy is equal.
 fn says(alloc: Global, error: &AnyError, text: &str, key: Option<&str>) -> bool {
-    is_printed(alloc, error, text) && error.key() == key && is_copied(error)
+    has_display_text(alloc, error, text) && error.key() == key && is_copied(error)
 }
 
 /// Whether the error is that of reading a document that is too short, and says so.

@@ -1,9 +1,8 @@
 use raw_bson::{Breach, Cause, RawBson, RawDocumentBuf, Result, canonical_bytes};
 use raw_shelf::{PutError, Shelf};
 use std::alloc::Global;
-use std::fmt::Display;
 use std::process::Abort;
-use test_fixtures::has_debug_text;
+use test_fixtures::{has_debug_text, has_display_text};
 
 const EMPTY_DOCUMENT: &[u8] = b"\x05\0\0\0\0";
 
@@ -139,14 +138,6 @@ fn ten_thousand_documents_twice(rt: HostRuntime) {
     assert!(rt; shelf.len() == 10_000 && is_at(&shelf, 9_999, Some(LAST_NUMBER)));
 }
 
-/// Whether this is printed so.
-fn is_printed<T: Display>(alloc: Global, value: &T, text: &str) -> bool {
-    match format!(in alloc; "{value}") {
-        Ok(found) => found.as_str() == text,
-        Err(_) => false,
-    }
-}
-
 /// A breach at this path.
 fn breach(alloc: Global, path: &[usize]) -> Result<Breach> {
     let path = Vec::from_slice(alloc, path)?;
@@ -157,7 +148,7 @@ fn breach(alloc: Global, path: &[usize]) -> Result<Breach> {
 /// Whether a breach at this path has this text.
 fn is_breach_printed(alloc: Global, path: &[usize], text: &str) -> bool {
     match breach(alloc, path) {
-        Ok(breach) => is_printed(alloc, &breach, text),
+        Ok(breach) => has_display_text(alloc, &breach, text),
         Err(_) => false,
     }
 }
@@ -167,7 +158,7 @@ fn is_refusal_printed(alloc: Global, path: &[usize], text: &str, debug_text: &st
     match breach(alloc, path) {
         Ok(breach) => {
             let error = PutError::Breach(breach);
-            is_printed(alloc, &error, text) && has_debug_text(alloc, &error, debug_text)
+            has_display_text(alloc, &error, text) && has_debug_text(alloc, &error, debug_text)
         }
         Err(_) => false,
     }
@@ -175,7 +166,7 @@ fn is_refusal_printed(alloc: Global, path: &[usize], text: &str, debug_text: &st
 
 /// Whether out of memory has its texts.
 fn is_out_of_memory_printed(alloc: Global) -> bool {
-    is_printed(alloc, &PutError::OutOfMemory, "out of memory")
+    has_display_text(alloc, &PutError::OutOfMemory, "out of memory")
         && has_debug_text(alloc, &PutError::OutOfMemory, "OutOfMemory")
 }
 

@@ -2,8 +2,8 @@ use raw_bson::{Error, ErrorKind, RawArrayBuf, RawBson, RawDocumentBuf, Reason};
 use std::alloc::Global;
 use std::test::Fail;
 use test_fixtures::{
-    EMPTY, GREETING, NULL_ARRAY, array_of, check_debug_text, check_display_text, code_of,
-    document_of, has_debug_text, holds,
+    EMPTY, GREETING, NULL_ARRAY, array_of, check_debug_text, code_of, document_of, has_debug_text,
+    has_display_text, holds,
 };
 
 #[test]
@@ -63,10 +63,10 @@ fn owned_values_have_debug_texts(rt: HostRuntime) -> Result<(), Fail> {
     holds(is_number && is_null && is_text && is_array, "owned values")
 }
 
-/// The error of this reason has this text.
-fn check_reason(alloc: Global, reason: Reason, text: &str) -> Result<(), Fail> {
+/// Whether the error of this reason has this text.
+fn is_reason_printed(alloc: Global, reason: Reason, text: &str) -> bool {
     let error = Error::new(ErrorKind::MalformedValue { reason });
-    check_display_text(alloc, &error, text)
+    has_display_text(alloc, &error, text)
 }
 
 /// Reasons of writing and of limits, and the texts of their errors.
@@ -83,7 +83,7 @@ const REFUSALS: &[(Reason, &str)] = &[
 #[test]
 fn refusals_of_writing_and_of_limits_are_printed(rt: HostRuntime) -> Result<(), Fail> {
     for (reason, text) in REFUSALS {
-        check_reason(rt.alloc(), *reason, text)?;
+        holds(is_reason_printed(rt.alloc(), *reason, text), text)?;
     }
     Ok(())
 }

@@ -42,8 +42,7 @@ pub use levels::{Holder, has_levels, levels_inside, nested, nested_in_turn};
 pub use owned_values::{all_owned, array_of, code_of, document_of, owned};
 pub use refusals::{is_malformed, is_refused};
 pub use results::{
-    check_bytes, check_debug_text, check_display_text, check_fault, check_malformed, check_refused,
-    check_text, has_debug_text, has_display_text, holds, is_answer,
+    check_bytes, check_debug_text, has_debug_text, has_display_text, holds, is_answer,
 };
 pub use values::{
     HALF_MORE_THAN_ONE, KINDS, MOMENT, array_view, borrowed, decimal, has_accessor, id, pointed,

@@ -1,7 +1,5 @@
 //! Checks of results. Each passes, or says what was found and where: `?` makes that the failure of a test.
 
-use crate::refusals::is_refused;
-use raw_bson::Reason;
 use std::alloc::Global;
 use std::fmt::{Debug, Display};
 use std::test::Fail;
@@ -17,15 +15,6 @@ pub fn check_bytes(found: &[u8], wanted: &[u8], place: &str) -> Result<(), Fail>
         Ok(())
     } else {
         Err(Fail::new(format_args!("{place}: {found:?} where {wanted:?} is wanted")))
-    }
-}
-
-/// The text that was found is this one.
-pub fn check_text(found: &str, wanted: &str) -> Result<(), Fail> {
-    if found == wanted {
-        Ok(())
-    } else {
-        Err(Fail::new(format_args!("{found} where {wanted} is wanted")))
     }
 }
 
@@ -47,14 +36,7 @@ pub fn has_display_text<T: Display>(alloc: Global, value: &T, text: &str) -> boo
 
 /// The value has this Debug text.
 pub fn check_debug_text<T: Debug>(alloc: Global, value: &T, text: &str) -> Result<(), Fail> {
-    let printed = format!(in alloc; "{value:?}")?;
-    check_text(printed.as_str(), text)
-}
-
-/// The value has this Display text.
-pub fn check_display_text<T: Display>(alloc: Global, value: &T, text: &str) -> Result<(), Fail> {
-    let printed = format!(in alloc; "{value}")?;
-    check_text(printed.as_str(), text)
+    holds(has_debug_text(alloc, value, text), text)
 }
 
 /// Whether the result is this one.
@@ -63,31 +45,4 @@ pub fn is_answer<T: PartialEq + Drop>(answer: raw_bson::Result<T>, wanted: &T) -
         Ok(found) => found == *wanted,
         Err(_) => false,
     }
-}
-
-/// The call is refused for this reason, with this key.
-pub fn check_malformed<T: Drop>(
-    answer: raw_bson::Result<T>,
-    reason: Reason,
-    key: Option<&str>,
-) -> Result<(), Fail> {
-    if is_refused(&answer, reason, key) {
-        Ok(())
-    } else {
-        Err(Fail::new(format_args!("{reason:?} at {key:?} is wanted")))
-    }
-}
-
-/// The call is refused for this reason, without a key.
-pub fn check_refused<T: Drop>(answer: raw_bson::Result<T>, reason: Reason) -> Result<(), Fail> {
-    check_malformed(answer, reason, None)
-}
-
-/// The result is the fault of this reason at this key.
-pub fn check_fault<T: Drop>(
-    answer: raw_bson::Result<T>,
-    reason: Reason,
-    key: &str,
-) -> Result<(), Fail> {
-    check_malformed(answer, reason, Some(key))
 }

@@ -33,5 +33,6 @@ fn nul_below_levels(alloc: Global) -> Result<Document, Fail> {
 #[test]
 fn nul_below_a_hundred_thousand_levels(rt: HostRuntime) -> Result<(), Fail> {
     let tree = nul_below_levels(rt.alloc())?;
-    check_refused(encode(rt.alloc(), &tree), Reason::InteriorNul)
+    let is_refused = is_refused(&encode(rt.alloc(), &tree), Reason::InteriorNul, None);
+    holds(is_refused, "a 0 in a key")
 }

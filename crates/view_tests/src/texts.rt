@@ -1,17 +1,8 @@
 use raw_view::{ElementType, Error, ErrorKind, RawDocument, Reason};
 use std::alloc::Global;
-use std::fmt::Display;
 use std::process::Abort;
 use std::test::Fail;
 use test_fixtures::*;
-
-/// Whether this is printed so.
-pub(crate) fn is_printed<T: Display>(alloc: Global, value: &T, text: &str) -> bool {
-    match format!(in alloc; "{value}") {
-        Ok(found) => found.as_str() == text,
-        Err(_) => false,
-    }
-}
 
 /// Whether there is an error, and it has this text.
 fn has_text<T: Drop, E: std::error::Error>(
@@ -21,7 +12,7 @@ fn has_text<T: Drop, E: std::error::Error>(
 ) -> bool {
     match answer {
         Ok(_) => false,
-        Err(error) => is_printed(alloc, &error, text),
+        Err(error) => has_display_text(alloc, &error, text),
     }
 }
 
@@ -30,11 +21,11 @@ const TOO_SHORT: &str = "malformed value: \"document too short\"";
 #[test]
 fn errors_are_printed(rt: HostRuntime) {
     let alloc = rt.alloc();
-    assert!(rt; is_printed(alloc, &Error::new(ErrorKind::OutOfMemory), "out of memory"));
+    assert!(rt; has_display_text(alloc, &Error::new(ErrorKind::OutOfMemory), "out of memory"));
     let short = ErrorKind::MalformedValue {
         reason: Reason::TooShort,
     };
-    assert!(rt; is_printed(alloc, &Error::new(short), TOO_SHORT));
+    assert!(rt; has_display_text(alloc, &Error::new(short), TOO_SHORT));
 }
 
 #[test]
@@ -146,7 +137,7 @@ fn every_kind_has_its_name_in_a_text(rt: HostRuntime) -> Result<(), Fail> {
 
 /// Whether the kind is printed by this name, and its `Debug` text is the same.
 fn has_name(alloc: Global, kind: ElementType, name: &str) -> bool {
-    is_printed(alloc, &kind, name) && has_debug_text(alloc, &kind, name)
+    has_display_text(alloc, &kind, name) && has_debug_text(alloc, &kind, name)
 }
 
 #[test]

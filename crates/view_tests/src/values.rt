@@ -1,13 +1,12 @@
 //! The small values of `bson_model`: numbers, times, ids, binaries and regular expressions.
 
-use crate::texts::is_printed;
 use bson_model::{
     Binary, BinarySubtype, DateTime, DbPointer, Decimal128, DoubleBits, NoMemory, ObjectId, Regex,
     Timestamp,
 };
 use std::alloc::{AllocError, Global};
 use std::process::Abort;
-use test_fixtures::has_debug_text;
+use test_fixtures::{has_debug_text, has_display_text};
 
 fn is_text(found: Result<String, AllocError>, text: &str) -> bool {
     match found {
@@ -165,6 +164,6 @@ fn the_rest_is_printed(rt: HostRuntime) {
     let text =
         "DbPointer { namespace: \"db.things\", id: ObjectId { bytes: [0, 0, 0, 0, 0, 0, 0, 0, 0, 0, 0, 0] } }";
     assert!(rt; is_pointer_printed(alloc, "db.things", text));
-    assert!(rt; is_printed(alloc, &NoMemory, "out of memory"));
+    assert!(rt; has_display_text(alloc, &NoMemory, "out of memory"));
     assert!(rt; has_debug_text(alloc, &NoMemory, "NoMemory"));
 }
