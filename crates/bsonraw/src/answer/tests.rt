@@ -2,14 +2,12 @@ use super::*;
 use std::process::Abort;
 
 mod breaches;
-mod damage;
 mod documents;
 mod forms;
 mod hostile;
 mod lister;
 mod listings;
 mod memory;
-mod random;
 
 /// A command's text, and the status and the output of its run.
 type Row = (&'static str, u8, &'static str);

@@ -10,11 +10,7 @@ use std::test::Fail;
 
 /// `list` prints of the bytes what the slow lister does; `canon` prints the same refusal, or a form of which it prints
 /// just that again, or a fault; `check` prints the same refusal, or says whether `canon` prints the bytes as they are.
-pub(super) fn assert_answered(
-    rt: &impl Abort,
-    alloc: Global,
-    bytes: &[u8],
-) -> Result<(), AllocError> {
+fn assert_answered(rt: &impl Abort, alloc: Global, bytes: &[u8]) -> Result<(), AllocError> {
     let text = hex::encode(alloc, bytes)?;
     let listing = listing_of(alloc, bytes)?;
     assert_text_answered(rt, alloc, &text, refusal_of(bytes), &listing);
@@ -71,13 +67,6 @@ fn is_unchanged(alloc: Global, digits: &str) -> bool {
     status == 0 && output.strip_suffix(b"\n") == Some(digits.as_bytes())
 }
 
-/// Whether `canon` prints a form of the bytes.
-pub(super) fn has_form(alloc: Global, bytes: &[u8]) -> Result<bool, AllocError> {
-    let text = hex::encode(alloc, bytes)?;
-    let (status, _) = answer(alloc, "canon", text.as_bytes());
-    Ok(status == 0)
-}
-
 /// Whether `canon` prints the text as it is.
 fn is_form(alloc: Global, text: &[u8]) -> bool {
     let (status, output) = answer(alloc, "canon", text);
@@ -85,7 +74,7 @@ fn is_form(alloc: Global, text: &[u8]) -> bool {
 }
 
 /// Sets the header to the length, and the last byte to 0.
-pub(super) fn seal(bytes: &mut [u8]) {
+fn seal(bytes: &mut [u8]) {
     let len = bytes.len();
     if let Some(header) = bytes.get_mut(..4) {
         header.copy_from_slice(&len.to_le_bytes()[..4]);
@@ -121,10 +110,10 @@ fn documents_are_cut_off(rt: HostRuntime) -> Result<(), Fail> {
 }
 
 /// Each bit of a byte.
-pub(super) const BITS: &[u8] = &[1, 2, 4, 8, 16, 32, 64, 128];
+const BITS: &[u8] = &[1, 2, 4, 8, 16, 32, 64, 128];
 
 /// Flips a bit of the byte at this place.
-pub(super) fn flip(bytes: &mut [u8], place: usize, bit: u8) {
+fn flip(bytes: &mut [u8], place: usize, bit: u8) {
     if let Some(byte) = bytes.get_mut(place) {
         *byte ^= bit;
     }

@@ -129,7 +129,7 @@ fn cut_payload(tag: u8, behind: &[u8], len: usize) -> Option<(&[u8], &[u8])> {
 
 /// What a payload looks like.
 #[derive(Clone, Copy)]
-pub(super) enum Shape {
+enum Shape {
     /// so many bytes
     Bytes(usize),
     /// a length, a text and a 0
@@ -147,7 +147,7 @@ pub(super) enum Shape {
 }
 
 /// What the payloads of this tag look like, if it is the tag of a kind.
-pub(super) fn shape_of(tag: u8) -> Option<Shape> {
+fn shape_of(tag: u8) -> Option<Shape> {
     Some(match tag {
         0x06 | 0x0A | 0x7F | 0xFF => Shape::Bytes(0),
         0x08 => Shape::Bytes(1),
