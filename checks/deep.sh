@@ -7,7 +7,7 @@
 set -u
 cd "$(dirname "$(realpath "$0")")/.." || exit 1
 program=crates/bsonraw/out/bsonraw
-for built in "$program" crates/tree_tests/out/tree_tests_tests crates/view_tests/out/view_tests_tests; do
+for built in "$program" crates/bson_tests/out/bson_tests_tests; do
     if [ ! -x "$built" ]; then
         echo "deep: $built isn't built" >&2
         exit 1
@@ -66,11 +66,11 @@ converts() {
     more=$((requests - listed))
 }
 
-# tried CRATE TEST: the test of that name passes; how often it asked for memory, in $requests, and how many blocks it never
+# tried MODULE TEST: the test of that name passes; how often it asked for memory, in $requests, and how many blocks it never
 # released, in $held
 tried() {
     requests= held=
-    if ! LD_PRELOAD=$work/count.so "crates/$1/out/$1_tests" "depth::$2" 3>"$work/requests" >"$work/said" 2>&1; then
+    if ! LD_PRELOAD=$work/count.so crates/bson_tests/out/bson_tests_tests "$1::depth::$2" 3>"$work/requests" >"$work/said" 2>&1; then
         echo "deep: the test $2 of $1 failed" >&2
         head -c 300 "$work/said" >&2
         failed=1
@@ -78,7 +78,7 @@ tried() {
     read -r requests held <"$work/requests"
 }
 
-# lets_go CRATE TEST: and it has released all
+# lets_go MODULE TEST: and it has released all
 lets_go() {
     tried "$@"
     [ "$held" = 0 ] && return
@@ -98,15 +98,15 @@ n=2400000
 levels "$n"
 prints canon 1 "refused 6"
 
-lets_go tree_tests a_million_documents_come_back
-lets_go tree_tests a_million_arrays_come_back
-lets_go tree_tests a_million_scopes_come_back
-lets_go tree_tests a_list_of_deep_documents_comes_back
-lets_go view_tests a_deep_branch_among_others_is_let_go
-lets_go tree_tests a_million_owned_levels_are_compared_and_printed
-lets_go tree_tests a_million_levels_in_turn_come_back
+lets_go trees a_million_documents_come_back
+lets_go trees a_million_arrays_come_back
+lets_go trees a_million_scopes_come_back
+lets_go trees a_list_of_deep_documents_comes_back
+lets_go views a_deep_branch_among_others_is_let_go
+lets_go trees a_million_owned_levels_are_compared_and_printed
+lets_go trees a_million_levels_in_turn_come_back
 dropped=$requests
-tried tree_tests a_million_levels_in_turn_are_forgotten
+tried trees a_million_levels_in_turn_are_forgotten
 if [ "$dropped" != "$requests" ]; then
     echo "deep: $dropped requests where a tree is dropped, and $requests where it is forgotten" >&2
     failed=1

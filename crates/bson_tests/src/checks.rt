@@ -78,3 +78,8 @@ pub(crate) fn is_same(value: &Result<RawBson>, wanted: &Result<RawBson>) -> bool
         _ => false,
     }
 }
+
+/// 1 if something is there, else 0.
+pub(crate) fn one_if<T: Copy>(found: Option<T>) -> usize {
+    usize::from(found.is_some())
+}

@@ -1,6 +1,6 @@
-//! Tests of `raw_bson`, `raw_shelf` and `bson_uses` through their public calls. They are apart from them, so that none is
-//! proved twice. Those of trees are in `tree_tests`, those with requests for memory refused in `memory_tests` and, of
-//! `raw_shelf`, in `memory`.
+//! Tests of `bson_model`, `raw_view`, `raw_bson`, `raw_form`, `raw_shelf` and `bson_uses` through their public calls. They are apart
+//! from these, so that none is proved twice. `bin/test` runs those of `memory` and `views::memory` with each request for memory
+//! refused in turn, alone; others that it runs so are in `memory_tests`.
 #![tactic(auto)]
 
 #[cfg(test)]
@@ -30,4 +30,8 @@ mod shelf;
 #[cfg(test)]
 mod texts;
 #[cfg(test)]
+mod trees;
+#[cfg(test)]
 mod values;
+#[cfg(test)]
+mod views;

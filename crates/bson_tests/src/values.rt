@@ -1,4 +1,4 @@
-use crate::checks::{check_no_kind, is_same};
+use crate::checks::{check_no_kind, is_same, one_if};
 use raw_bson::{ElementType, RawBson, RawJavaScriptCodeWithScope};
 use std::alloc::Global;
 use std::test::Fail;
@@ -14,27 +14,27 @@ fn is_viewed(value: &RawBson, kind: ElementType) -> bool {
 
 /// How many accessors of kinds of one length return something of the value.
 fn fixed_accessors(value: &RawBson) -> usize {
-    usize::from(value.as_f64().is_some())
-        .wrapping_add(usize::from(value.as_object_id().is_some()))
-        .wrapping_add(usize::from(value.as_bool().is_some()))
-        .wrapping_add(usize::from(value.as_datetime().is_some()))
-        .wrapping_add(usize::from(value.as_null().is_some()))
-        .wrapping_add(usize::from(value.as_i32().is_some()))
-        .wrapping_add(usize::from(value.as_timestamp().is_some()))
-        .wrapping_add(usize::from(value.as_i64().is_some()))
+    one_if(value.as_f64())
+        .wrapping_add(one_if(value.as_object_id()))
+        .wrapping_add(one_if(value.as_bool()))
+        .wrapping_add(one_if(value.as_datetime()))
+        .wrapping_add(one_if(value.as_null()))
+        .wrapping_add(one_if(value.as_i32()))
+        .wrapping_add(one_if(value.as_timestamp()))
+        .wrapping_add(one_if(value.as_i64()))
 }
 
 /// How many of the others do.
 fn other_accessors(value: &RawBson) -> usize {
-    usize::from(value.as_str().is_some())
-        .wrapping_add(usize::from(value.as_document().is_some()))
-        .wrapping_add(usize::from(value.as_array().is_some()))
-        .wrapping_add(usize::from(value.as_binary().is_some()))
-        .wrapping_add(usize::from(value.as_regex().is_some()))
-        .wrapping_add(usize::from(value.as_db_pointer().is_some()))
-        .wrapping_add(usize::from(value.as_javascript().is_some()))
-        .wrapping_add(usize::from(value.as_symbol().is_some()))
-        .wrapping_add(usize::from(value.as_javascript_with_scope().is_some()))
+    one_if(value.as_str())
+        .wrapping_add(one_if(value.as_document()))
+        .wrapping_add(one_if(value.as_array()))
+        .wrapping_add(one_if(value.as_binary()))
+        .wrapping_add(one_if(value.as_regex()))
+        .wrapping_add(one_if(value.as_db_pointer()))
+        .wrapping_add(one_if(value.as_javascript()))
+        .wrapping_add(one_if(value.as_symbol()))
+        .wrapping_add(one_if(value.as_javascript_with_scope()))
 }
 
 /// Whether just one accessor returns something of a value of this kind, where there is one for it, and the value has its

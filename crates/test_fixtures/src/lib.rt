@@ -1,6 +1,6 @@
-//! What `view_tests`, `bson_tests`, `tree_tests` and `memory_tests` share: bytes and the faults that are in them, tables of
-//! what is returned of them, a value of each kind, borrowed and owned, the getters by kind, and checks of results. A check
-//! returns a `Mismatch` or a `Fail`, which `?` makes the failure of a test.
+//! What `bson_tests` and `memory_tests` share: bytes and the faults that are in them, tables of what is returned of them, a
+//! value of each kind, borrowed and owned, the getters by kind, and checks of results. A check returns a `Mismatch` or a
+//! `Fail`, which `?` makes the failure of a test.
 #![tactic(auto)]
 
 mod as_values;

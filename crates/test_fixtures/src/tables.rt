@@ -1,4 +1,4 @@
-//! What is returned of the shared documents. Each table is checked with ample memory in `view_tests`, and with each
+//! What is returned of the shared documents. Each table is checked with ample memory in `bson_tests`, and with each
 //! request refused in turn in `memory_tests`.
 
 use crate::checks::{Checks, Mismatch, NoValue, Want};

@@ -1,5 +1,5 @@
-use crate::checks::is_written;
-use crate::trees_fixtures::levels_by_hand;
+use crate::trees::checks::is_written;
+use crate::trees::trees_fixtures::levels_by_hand;
 use raw_bson::{
     Document, RawDocument, Reason, canonical_bytes, document_from_raw, document_from_raw_counted,
 };

@@ -7,14 +7,19 @@ use test_fixtures::*;
 /// The path to a breach, and why it is one.
 type Wanted<'a> = Option<(&'a [usize], Cause)>;
 
+/// Whether the breach has this path and this cause.
+fn is_breach(breach: &Breach, path: &[usize], cause: Cause) -> bool {
+    breach.path.as_slice() == path && breach.cause == cause
+}
+
 /// Whether the breach that was found is the wanted one.
 fn is_found(found: &Option<Breach>, wanted: Wanted<'_>) -> bool {
-    match (found, wanted) {
-        (Some(breach), Some((path, cause))) => {
-            breach.path.as_slice() == path && breach.cause == cause
-        }
-        (None, None) => true,
-        _ => false,
+    match wanted {
+        Some((path, cause)) => match found {
+            Some(breach) => is_breach(breach, path, cause),
+            None => false,
+        },
+        None => found.is_none(),
     }
 }
 

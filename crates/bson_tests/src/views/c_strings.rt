@@ -1,4 +1,4 @@
-use raw_view::{ErrorKind, RawBsonRef, RawDocument, Result};
+use raw_view::RawDocument;
 use std::alloc::{AllocError, Global};
 use std::process::Abort;
 
@@ -15,7 +15,7 @@ fn letters(
     count: usize,
     place: usize,
     insert: &[u8],
-) -> std::result::Result<Vec<u8>, AllocError> {
+) -> Result<Vec<u8>, AllocError> {
     let mut text = Vec::new(alloc);
     for at in 0..count {
         if at == place {
@@ -26,7 +26,7 @@ fn letters(
     Ok(text)
 }
 
-fn push_all(bytes: &mut Vec<u8>, parts: &[&[u8]]) -> std::result::Result<(), AllocError> {
+fn push_all(bytes: &mut Vec<u8>, parts: &[&[u8]]) -> Result<(), AllocError> {
     for part in parts {
         bytes.extend_from_slice(part)?;
     }
@@ -43,7 +43,7 @@ fn len_of(parts: &[&[u8]]) -> usize {
 }
 
 /// The document of these parts one behind the other.
-fn document_of(alloc: Global, parts: &[&[u8]]) -> std::result::Result<Vec<u8>, AllocError> {
+fn document_of(alloc: Global, parts: &[&[u8]]) -> Result<Vec<u8>, AllocError> {
     let header = len_of(parts).to_le_bytes();
     let mut bytes = Vec::from_slice(alloc, &header[..4])?;
     push_all(&mut bytes, parts)?;
@@ -51,46 +51,25 @@ fn document_of(alloc: Global, parts: &[&[u8]]) -> std::result::Result<Vec<u8>, A
     Ok(bytes)
 }
 
-/// Whether the error is of a text that isn't UTF-8, without a key.
-fn is_no_text(item: &Result<(&str, RawBsonRef<'_>)>) -> bool {
-    match item {
-        Ok(_) => false,
-        Err(error) => {
-            matches!(error.kind, ErrorKind::Utf8EncodingError(_)) && error.key().is_none()
-        }
-    }
-}
-
-/// The first item of the iteration, if these bytes are a document and it has one.
-fn first_item(alloc: Global, bytes: &[u8]) -> Option<Result<(&str, RawBsonRef<'_>)>> {
-    match RawDocument::from_bytes(bytes) {
-        Ok(document) => document.iter(alloc).next(),
-        Err(_) => None,
-    }
-}
-
-fn is_item(item: &Result<(&str, RawBsonRef<'_>)>, key: &str, value: RawBsonRef<'_>) -> bool {
-    match item {
-        Ok((found, there)) => *found == key && *there == value,
-        Err(_) => false,
-    }
-}
-
-/// Whether the first key of the document is this one, with a null; or, where it isn't UTF-8, the fault that says so.
+/// Whether these bytes are a document that has this key; or, where it isn't UTF-8, one that can't be gone through.
 fn has_key(alloc: Global, bytes: &[u8], key: &[u8]) -> bool {
-    match (first_item(alloc, bytes), std::str::from_utf8(key)) {
-        (Some(item), Ok(key)) => is_item(&item, key, RawBsonRef::Null),
-        (Some(item), Err(_)) => is_no_text(&item),
-        (None, _) => false,
+    let Ok(document) = RawDocument::from_bytes(bytes) else {
+        return false;
+    };
+    match std::str::from_utf8(key) {
+        Ok(key) => matches!(document.contains_key(alloc, key), Ok(true)),
+        Err(_) => document.contains_key(alloc, "").is_err(),
     }
 }
 
-/// Whether the first value of the document is this text; or, where it isn't UTF-8, the fault that says so.
+/// Whether these bytes are a document that has this text under the empty key; or, where it isn't UTF-8, no text there.
 fn has_text(alloc: Global, bytes: &[u8], text: &[u8]) -> bool {
-    match (first_item(alloc, bytes), std::str::from_utf8(text)) {
-        (Some(item), Ok(text)) => is_item(&item, "", RawBsonRef::String(text)),
-        (Some(item), Err(_)) => is_no_text(&item),
-        (None, _) => false,
+    let Ok(document) = RawDocument::from_bytes(bytes) else {
+        return false;
+    };
+    match std::str::from_utf8(text) {
+        Ok(text) => matches!(document.get_str(alloc, ""), Ok(found) if found == text),
+        Err(_) => document.get_str(alloc, "").is_err(),
     }
 }
 

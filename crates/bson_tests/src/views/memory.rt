@@ -1,6 +1,6 @@
 //! `bin/test` runs these with each request for memory refused in turn, alone.
 
-use crate::keys::{is_missing, is_numbered};
+use crate::views::keys::{is_missing, is_numbered};
 use bson_model::{Bson, Document, NoMemory, Regex};
 use std::alloc::Global;
 use std::process::Abort;
@@ -45,20 +45,12 @@ fn has_pairs(document: &Document, count: usize) -> bool {
     document.len() == count
 }
 
-/// Inserts the pair.
-fn inserted(
-    alloc: Global,
-    document: &mut Document,
-    key: &str,
-    number: i32,
-) -> Result<Option<Bson>, NoMemory> {
-    let key = String::from_str(alloc, key)?;
-    document.insert(key, Bson::Int32(number))
-}
-
 /// Whether memory sufficed to insert the pair, whose key is a new one.
 fn is_inserted(alloc: Global, document: &mut Document, key: &str, number: i32) -> bool {
-    matches!(&inserted(alloc, document, key, number), Ok(None))
+    match String::from_str(alloc, key) {
+        Ok(key) => matches!(&document.insert(key, Bson::Int32(number)), Ok(None)),
+        Err(_) => false,
+    }
 }
 
 /// Whether the first so many pairs are inserted. A refused insert leaves the document as it was, and goes well when it is

@@ -1,6 +1,6 @@
 //! Documents of many levels. `bin/test` also runs the first of these on a stack of 8 MB, and sees that all is released.
 
-use crate::trees::{put, string};
+use crate::views::trees::{put, string};
 use bson_model::{Bson, Document, JavaScriptCodeWithScope, NoMemory};
 use std::alloc::Global;
 use std::test::Fail;

@@ -1,22 +1,25 @@
-use crate::checks::is_buffer;
-use crate::trees_fixtures::{one_pair, text};
+use crate::trees::checks::is_buffer;
+use crate::trees::trees_fixtures::{one_pair, text};
 use raw_bson::{
-    Bson, Document, RawBson, RawDocument, RawDocumentBuf, RawElement, bson_from_element,
-    bson_from_raw,
+    Bson, Document, RawBson, RawBsonRef, RawDocument, RawDocumentBuf, RawElement,
+    bson_from_element, bson_from_raw,
 };
 use std::alloc::Global;
 use std::test::Fail;
 use test_fixtures::*;
 
-/// Whether the element is read as this value, and so is its own value.
-fn is_element(alloc: Global, element: RawElement<'_>, wanted: &Bson) -> bool {
-    match element.value(alloc) {
-        Ok(value) => {
-            is_answer(bson_from_element(alloc, element), wanted)
-                && is_answer(bson_from_raw(alloc, value), wanted)
-        }
+/// Whether the value is read as this one.
+fn is_value(alloc: Global, value: &raw_bson::Result<RawBsonRef<'_>>, wanted: &Bson) -> bool {
+    match value {
+        Ok(value) => is_answer(bson_from_raw(alloc, *value), wanted),
         Err(_) => false,
     }
+}
+
+/// Whether the element is read as this value, and so is its own value.
+fn is_element(alloc: Global, element: RawElement<'_>, wanted: &Bson) -> bool {
+    is_answer(bson_from_element(alloc, element), wanted)
+        && is_value(alloc, &element.value(alloc), wanted)
 }
 
 /// The first element of the document is read as this value, and so is its own value.

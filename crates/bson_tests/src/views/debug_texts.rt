@@ -117,13 +117,13 @@ fn is_error(alloc: Global, error: &Error, kind: &str, text: &str) -> bool {
 /// Whether the look-up fails, and its error has this `Debug` text, and so has its kind.
 fn has_error(
     alloc: Global,
-    answer: raw_view::Result<Option<RawBsonRef<'_>>>,
+    answer: &raw_view::Result<Option<RawBsonRef<'_>>>,
     kind: &str,
     text: &str,
 ) -> bool {
     match answer {
         Ok(_) => false,
-        Err(error) => is_error(alloc, &error, kind, text),
+        Err(error) => is_error(alloc, error, kind, text),
     }
 }
 
@@ -149,7 +149,7 @@ const LOOK_UPS: &[(&[u8], &str, &str)] = &[
 /// Whether the look-up of `a` in the document of these bytes has this error.
 fn is_look_up_error(alloc: Global, bytes: &[u8], kind: &str, text: &str) -> bool {
     match RawDocument::from_bytes(bytes) {
-        Ok(view) => has_error(alloc, view.get(alloc, "a"), kind, text),
+        Ok(view) => has_error(alloc, &view.get(alloc, "a"), kind, text),
         Err(_) => false,
     }
 }
@@ -168,14 +168,14 @@ fn errors_have_a_debug_text(rt: HostRuntime) -> Result<(), Fail> {
 /// Whether the getter has no value, and its error this `Debug` text, and its kind this one.
 fn has_access_error(
     alloc: Global,
-    answer: ValueAccessResult<bool>,
+    answer: &ValueAccessResult<bool>,
     kind: &str,
     text: &str,
 ) -> bool {
     match answer {
         Ok(_) => false,
         Err(error) => has_debug_text(alloc, &error.kind, kind)
-            && has_debug_text(alloc, &error, text),
+            && has_debug_text(alloc, error, text),
     }
 }
 
@@ -204,7 +204,7 @@ const ACCESSES: &[(&[u8], &str, &str, &str)] = &[
 /// Whether the getter of a boolean under this key, in the document of these bytes, has this error.
 fn is_access_error(alloc: Global, bytes: &[u8], key: &str, kind: &str, text: &str) -> bool {
     match RawDocument::from_bytes(bytes) {
-        Ok(view) => has_access_error(alloc, view.get_bool(alloc, key), kind, text),
+        Ok(view) => has_access_error(alloc, &view.get_bool(alloc, key), kind, text),
         Err(_) => false,
     }
 }

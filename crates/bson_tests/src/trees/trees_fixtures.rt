@@ -13,7 +13,7 @@ pub(crate) fn put(
     key: &str,
     value: Bson,
 ) -> raw_bson::Result<()> {
-    let _ = tree.insert(String::from_str(alloc, key)?, value)?;
+    tree.put(String::from_str(alloc, key)?, value)?;
     Ok(())
 }
 

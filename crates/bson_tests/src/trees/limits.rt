@@ -1,4 +1,4 @@
-use crate::trees_fixtures::{binary, levels_by_hand, one_pair};
+use crate::trees::trees_fixtures::{binary, levels_by_hand, one_pair};
 use raw_bson::{
     BinarySubtype, Document, Limits, RawDocument, Reason, document_from_raw,
     document_from_raw_within,

@@ -1,7 +1,7 @@
 //! Trees so deep that a writer which calls itself once a level would fill the stack.
 
-use crate::checks::check_written;
-use crate::trees_fixtures::one_pair;
+use crate::trees::checks::check_written;
+use crate::trees::trees_fixtures::one_pair;
 use raw_bson::{Bson, Document, RawDocument, Reason, encode, encode_list, list_from_raw};
 use std::alloc::Global;
 use std::test::Fail;

@@ -1,5 +1,5 @@
-use crate::checks::{becomes_tree, check_written};
-use crate::trees_fixtures::{one_and_two, one_pair};
+use crate::trees::checks::{becomes_tree, check_written};
+use crate::trees::trees_fixtures::{one_and_two, one_pair};
 use raw_bson::{Bson, Document, RawBson, RawDocumentBuf, canonical_bytes, document_from_raw};
 use std::alloc::Global;
 use std::test::Fail;

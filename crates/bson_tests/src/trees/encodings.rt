@@ -1,5 +1,5 @@
-use crate::checks::{is_buffer, is_written};
-use crate::trees_fixtures::{one_pair, text};
+use crate::trees::checks::{is_buffer, is_written};
+use crate::trees::trees_fixtures::{one_pair, text};
 use raw_bson::{Document, RawDocumentBuf, encode};
 use std::alloc::Global;
 use std::test::Fail;

@@ -1,4 +1,4 @@
-use crate::trees::put;
+use crate::views::trees::put;
 use bson_model::{Bson, Document, JavaScriptCodeWithScope, NoMemory};
 use std::alloc::Global;
 use std::process::Abort;
