@@ -3,13 +3,12 @@ use Rattle.std.proofs.Common.{◌≡◌, ◌≤◌, ◌+◌, ℕ, suc, zero, Lis
 use Rattle.std.proofs.lemmas.List.{take-append-drop, take-take}
 use Rattle.std.specs.Io.KnownBytes.{Appends}
 use Rattle.std.proofs.KnownBytes.{Appends-nil}
-use Rattle.bson_from_json.specs.Texts.{IsWritten}
 use Rattle.bson_json.specs.Written.{AppendsFront}
 use Rattle.bsonraw_dump.specs.Fronts.{HasFront}
 use Rattle.bsonraw_dump.specs.Reading.{ahead_of}
 use Rattle.bsonraw_dump.specs.TextFaults.{fault_line}
 use Rattle.bsonraw_dump.specs.TextReading.{PassesAhead}
-use Rattle.bsonraw_dump.specs.TextRun.{HaltsText, IsBegun, IsDocument, IsFaultOf, IsRefused, PassesText, TellsFault, TellsNoText, count_made}
+use Rattle.bsonraw_dump.specs.TextRun.{Gives, HaltsText, IsBegun, IsDocument, IsFaultOf, IsRefused, PassesText, TellsFault, TellsNoText, count_made}
 use Rattle.bsonraw_dump.specs.Texts.{HasBrace, IsOpen, IsWhole, may_begin, position_over, scanned, turn_behind_document, turn_behind_gap}
 use Rattle.bsonraw_dump.specs.declared.cursor.Cursor.{Cursor}
 use Rattle.bsonraw_dump.specs.declared.cursor.NextText.{NextText}
@@ -56,7 +55,7 @@ first_of : (len : ℕ) (ahead : List ℕ) → HasFront ahead (take len ahead)
 first_of len ahead = (drop len ahead, sym (take-append-drop len ahead))
 
 module _ (style : Style) (name ahead : List ℕ) (place : Position) (t v : Turn) (len : ℕ) (fits : len ≤ length ahead) where
-  is_document : (document : List ℕ) → may_begin t ≡ true → HasBrace ahead → IsWhole (take len ahead) → IsWritten (take len ahead) document → v ≡ turn_behind_document t
+  is_document : (document : List ℕ) → may_begin t ≡ true → HasBrace ahead → IsWhole (take len ahead) → Gives (take len ahead) document → v ≡ turn_behind_document t
       → IsDocument t (take len ahead) (document ∷ []) [] v
   is_document document may brace whole is next = record {
     may_be = may;
@@ -128,7 +127,7 @@ module _ (style : Style) (name : List ℕ) (told : NextText) (y z : Cursor) (t v
     }
 
   pub passes_document : (document : List ℕ) (d d' w : Option (List ℕ)) (n n' : TextCounts) → PassesFirst y z len → may_begin t ≡ true
-      → HasBrace (ahead_of y.window) × IsWhole (take len (ahead_of y.window)) × IsWritten (take len (ahead_of y.window)) document → Appends d d' document
+      → HasBrace (ahead_of y.window) × IsWhole (take len (ahead_of y.window)) × Gives (take len (ahead_of y.window)) document → Appends d d' document
       → n' ≡ count_made n (document ∷ []) → v ≡ turn_behind_document t → PassesText style name told y z t v d d' w w n n' went.Document
   passes_document document d d' w n n' p may (brace, whole, is) written counted next = record {
     window = p.is.0;
@@ -151,7 +150,7 @@ module _ (ahead : List ℕ) (place : Position) (t : Turn) where
 
   module _ (len : ℕ) (fits : len ≤ length ahead) where
     -- a front of a document
-    pub halts_document : (document : List ℕ) (d d' : Option (List ℕ)) → may_begin t ≡ true → HasBrace ahead → IsWhole (take len ahead) → IsWritten (take len ahead) document
+    pub halts_document : (document : List ℕ) (d d' : Option (List ℕ)) → may_begin t ≡ true → HasBrace ahead → IsWhole (take len ahead) → Gives (take len ahead) document
         → AppendsFront d d' document → (style : Style) (name : List ℕ) (told : NextText) (w : Option (List ℕ)) → HaltsText style name told place t ahead d d' w w
     halts_document document d d' may brace whole is front style name told w = inr (
       went.Document,

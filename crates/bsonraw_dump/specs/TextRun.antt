@@ -2,9 +2,12 @@
 use Rattle.std.specs.Prelude.{◌≡◌, ◌≢◌, ◌⊎◌, ◌+◌, ◌^◌, ◌≤◌, ◌<◌, ℕ, List, [], ◌∷◌, ◌++◌, Bool, true, false, Option, Some, IfSome, Result, Ok, Err, drop, flat_map, fold, length, min, take}
 use Rattle.std.specs.Io.KnownBytes.{Appends, Consumes, IsAtEnd}
 use Rattle.std.specs.Str.{IsUtf8, IsValidUpTo}
+use Rattle.bson_model.specs.Tree.{Tree}
+use Rattle.raw_tree.specs.WithinLimits.{ReadsWithin}
 use Rattle.bson_from_json.specs.Texts.{IsWritten, LeavesOpen, SaysNone}
 use Rattle.bson_from_json.specs.declared.error.JsonReason.TheVariants as json
 use Rattle.bson_json.specs.Written.{AppendsFront}
+use Rattle.bsonraw_dump.specs.Find.{usual}
 use Rattle.bsonraw_dump.specs.Fronts.{HasFront}
 use Rattle.bsonraw_dump.specs.Reading.{IsWindow, ahead_of}
 use Rattle.bsonraw_dump.specs.Run.{IsReading}
@@ -42,13 +45,17 @@ pub record TextPart : Type 0 where
 abbrev pub bytes_of : TextPart → List ℕ
 bytes_of p = p.front ++ p.text
 
+-- the text says this document, which is read within the limits where none are given
+abbrev pub Gives : List ℕ → List ℕ → Type 0
+Gives text document = IsWritten text document × ((t : Tree) × ReadsWithin usual document t)
+
 -- a document is written of the whole text
 pub record IsDocument (before : Turn) (text : List ℕ) (made : List (List ℕ)) (lines : List ℕ) (behind : Turn) : Type 0 where
   pub may_be : may_begin before ≡ true
   pub brace : HasBrace text
   pub whole : IsWhole text
   pub document : List ℕ
-  pub is_written : IsWritten text document
+  pub is_written : Gives text document
   pub makes : made ≡ document ∷ []
   pub quiet : lines ≡ []
   pub next : behind ≡ turn_behind_document before
@@ -285,7 +292,7 @@ HasNext ahead t next.End = ⊥
 
 -- what a text makes
 abbrev pub IsMadeOf : List ℕ → Made → Type 0
-IsMadeOf text (made.Document document) = IsWritten text document
+IsMadeOf text (made.Document document) = Gives text document
 IsMadeOf text (made.Fault at reason) = (at ≤ length text) × IsFaultOf text at reason
 
 -- bytes are passed behind what was no whole text, and none behind another part

@@ -3,13 +3,12 @@
 
 ghost use Rattle.std.specs.Prelude.{◌≡◌, ◌≢◌, ◌⊎◌, ◌+◌, ◌^◌, ◌≤◌, ℕ, List, Option, [], length, take, IfErr, IfOk, MatchBool, OnErr, OnOk, true, false};
 ghost use Rattle.std.specs.Io.KnownBytes.{Appends};
-ghost use Rattle.bson_from_json.specs.Texts.{IsWritten};
 ghost use Rattle.bson_json.specs.Written.{AppendsFront};
 ghost use Rattle.bsonraw_dump.specs.Reading.{IsWindow, ahead_of};
 ghost use Rattle.bsonraw_dump.specs.Run.{IsReading};
 ghost use Rattle.bsonraw_dump.specs.TextFaults.{fault_line};
 ghost use Rattle.bsonraw_dump.specs.TextReading.{GoesOnTo, PassesAhead, ScansAhead};
-ghost use Rattle.bsonraw_dump.specs.TextRun.{FailsAt, HaltsTexts, HasNext, IsFaultOf, IsMadeOf, IsUnendedFault, PassesBehind, PassesPart, ReadsTexts, TellsNoText, count_made};
+ghost use Rattle.bsonraw_dump.specs.TextRun.{FailsAt, Gives, HaltsTexts, HasNext, IsFaultOf, IsMadeOf, IsUnendedFault, PassesBehind, PassesPart, ReadsTexts, TellsNoText, count_made};
 ghost use Rattle.bsonraw_dump.specs.declared.cursor.NextText.{NextText as Told};
 ghost use Rattle.bsonraw_dump.specs.declared.cursor.NextText.TheVariants.{Text};
 ghost use Rattle.bsonraw_dump.specs.declared.texts.Went.TheVariants.{Document};
@@ -261,7 +260,7 @@ fn pass_document<D: Write>(
     counts: &mut TextCounts,
 ) -> Result<Went, Failure>
     requires { IsWindow cursor.old.window × (may_begin turn.old ≡ true) × HasBrace (ahead_of cursor.old.window)
-        × (len ≤ length (ahead_of cursor.old.window)) × IsWhole (take len (ahead_of cursor.old.window)) × IsWritten (take len (ahead_of cursor.old.window)) document.now }
+        × (len ≤ length (ahead_of cursor.old.window)) × IsWhole (take len (ahead_of cursor.old.window)) × Gives (take len (ahead_of cursor.old.window)) document.now }
     ensures { (style : Style) (name : List ℕ) (told : Told) (report : Option (List ℕ)) → PassesPart style name told cursor.old cursor.new turn.old turn.new
         (D.contents out.old) (D.contents out.new) report report counts.old counts.new result }
 {

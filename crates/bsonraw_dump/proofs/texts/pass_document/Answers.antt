@@ -1,8 +1,7 @@
 use Rattle.std.proofs.Common.{rules, ◌≡◌, ℕ, List, [], ◌∷◌, refl, subst, sym, take}
 use Rattle.std.proofs.lemmas.Result.{err_from_is_err_and}
-use Rattle.bson_from_json.specs.Texts.{IsWritten}
 use Rattle.bsonraw_dump.specs.Reading.{ahead_of}
-use Rattle.bsonraw_dump.specs.TextRun.{count_made}
+use Rattle.bsonraw_dump.specs.TextRun.{Gives, count_made}
 use Rattle.bsonraw_dump.proofs.TextParts.{halts_document, halts_none, passes_document}
 use Rattle.bsonraw_dump.proofs.texts.pass_document.Goals as goal
 
@@ -11,7 +10,7 @@ returns g c style name told report =
     let bytes = c.as_bytes-bytes.result.now in
     let text = take c.args.len (ahead_of c.args.cursor.now.window) in
     let counted : c.in_ok-counted.counted ≡ count_made c.args.counts.now (bytes ∷ []) = search rules in
-    let is = subst (λ (b : List ℕ). IsWritten text b) (sym c.as_bytes-bytes.ensures.bytes) c.requires.5 in
+    let is = subst (λ (b : List ℕ). Gives text b) (sym c.as_bytes-bytes.ensures.bytes) c.requires.5 in
     passes_document style name told c.args.cursor.now c.pass.new.self c.args.turn.now c.behind_document.result c.args.len bytes _ _ report c.args.counts.now c.in_ok-counted.counted
     (record { fits = c.requires.3; is = c.in_ok-pass.ensures.passed }) c.requires.1 (c.requires.2, c.requires.4, is) c.in_ok-put.ensures.written counted c.behind_document.ensures
 
@@ -31,7 +30,7 @@ pub returns-in_err-put : goal.returns-in_err-put
 returns-in_err-put g c style name told report =
     let old = c.args.cursor.now in
     let bytes = c.as_bytes-bytes.result.now in
-    let is = subst (λ (b : List ℕ). IsWritten (take c.args.len (ahead_of old.window)) b) (sym c.as_bytes-bytes.ensures.bytes) c.requires.5 in
+    let is = subst (λ (b : List ℕ). Gives (take c.args.len (ahead_of old.window)) b) (sym c.as_bytes-bytes.ensures.bytes) c.requires.5 in
     let e = err_from_is_err_and c.from_residual-in_err-put.result c.from_residual-in_err-put.ensures.1 in
     rw (e.1, e.2) (
       halts_document (ahead_of old.window) old.place c.args.turn.now c.args.len c.requires.3 bytes (g.D.Write.contents c.args.out.now) (g.D.Write.contents c.put.new.writer)

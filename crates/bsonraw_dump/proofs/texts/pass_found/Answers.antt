@@ -1,7 +1,6 @@
 use Rattle.std.proofs.Common.{rules, ◌≡◌, ◌∙◌, ℕ, List, length, length-take-le, subst, sym, take}
-use Rattle.bson_from_json.specs.Texts.{IsWritten}
 use Rattle.bsonraw_dump.specs.Reading.{ahead_of}
-use Rattle.bsonraw_dump.specs.TextRun.{IsMadeOf}
+use Rattle.bsonraw_dump.specs.TextRun.{Gives, IsMadeOf}
 use Rattle.bsonraw_dump.specs.Texts.{IsWhole}
 use Rattle.bsonraw_dump.specs.declared.cursor.NextText.TheVariants as next
 use Rattle.bsonraw_dump.specs.declared.scan.Scan.TheVariants as scan
@@ -13,8 +12,8 @@ pass_document-requires g c =
     let ahead = ahead_of c.args.cursor.now.window in
     let text = take c.args.found.len ahead in
     let made : IsMadeOf text c.in_ok-document.field-0 = subst (λ (l : List ℕ). IsMadeOf (take c.args.found.len l) c.in_ok-document.field-0) c.ahead.ensures c.in_ok-document.ensures.made in
-    let written : IsWritten text c.in-Document.document = subst (λ m. IsMadeOf text m) c.in-Document.is made in
-    (c.requires.0, c.requires.1, c.requires.2, c.requires.3.within, written_is_whole ahead c.in-Document.document c.args.found c.requires.3 written, written)
+    let written : Gives text c.in-Document.document = subst (λ m. IsMadeOf text m) c.in-Document.is made in
+    (c.requires.0, c.requires.1, c.requires.2, c.requires.3.within, written_is_whole ahead c.in-Document.document c.args.found c.requires.3 written.0, written)
 
 pub returns-in-Document : goal.returns-in-Document
 returns-in-Document g c = c.pass_document.ensures c.args.asked.style c.args.asked.name.now (next.Text c.args.found) (g.W.Write.contents c.args.report.now)
