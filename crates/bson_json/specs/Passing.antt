@@ -22,7 +22,7 @@ abbrev pub Guards : {S : Type 0} → Limits → List ℕ → (unseen : Bool) →
 Guards limits b true before now = now ≡ before
 Guards limits b false before now = IsSeen limits b
 
--- why a look through the document b ended early: at its first barrier; or memory ran out, where it has few enough bytes
+-- why a look through the document b ended early: at its first barrier; or memory ran out
 abbrev pub TellsLookError : Limits → List ℕ → PrintError → Type 0
 TellsLookError limits b (print.Barrier answer) = TellsBarrier limits b (Some answer)
 TellsLookError limits b (print.Failure failure.OutOfMemory) = Unit {0}
