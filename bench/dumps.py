@@ -81,7 +81,7 @@ def main(program, folder):
     for name, made in (("great", great), ("small", small)):
         file = Path(folder, f"{name}.bson")
         write(file, made(random.Random(5)))
-        ways = {command: lambda command=command: by_program(program, file, command) for command in ("check", "unique", "list")}
+        ways = {command: lambda command=command: by_program(program, file, command) for command in ("check", "unique", "list", "fields")}
         ways["decoded"] = lambda: by_package(file)
         if name == "great":
             ways["pick"] = lambda: by_program(program, file, "pick", PATHS)

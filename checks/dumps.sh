@@ -36,6 +36,9 @@ documents = {
     "inside": "10000000 03 6400 08000000 20 6b00 00 00",
     "unended": "0500000001",
     "texts": "14000000 02 0a6b00 07000000 225c0a01c3a900 00",
+    "scope": "1e000000 0f 7700 16000000 02000000 7800 0c000000 10 6100 01000000 00 00",
+    "keyless": "12000000 03 00 0b000000 10 00 01000000 00 00",
+    "rows": "2b000000 04 6100 23000000 03 3000 0c000000 10 6200 01000000 00 04 3100 0c000000 0a 3000 08 3100 01 00 00 00",
     "cut3": "0c0000",
     "cut6": "0c000000 10 61",
     "under": "04000000 00",
@@ -64,6 +67,8 @@ for levels in (20, 21):
     made["steps%d" % levels] = document
 made["most"] = (16793600).to_bytes(4, "little") + b"\x05b\0" + (16793600 - 13).to_bytes(4, "little") + b"\0" * (16793600 - 11)
 made["over.most"] = (16793601).to_bytes(4, "little") + b"\x05b\0" + (16793601 - 13).to_bytes(4, "little") + b"\0" * (16793601 - 11)
+named = [b"\x0a" + b"k" * 4096 + b"\0", b"\x0a" + b"l" * 4097 + b"\0", b"\x03" + b"m" * 4095 + b"\0" + made["keyless"]]
+made["named"] = (sum(map(len, named)) + 5).to_bytes(4, "little") + b"".join(named) + b"\0"
 lengths = [5 + 8 * level for level in range(2097152)]
 made["deep"] = b"".join(n.to_bytes(4, "little") + b"\x03d\0" for n in lengths[:0:-1]) + made["empty"] + b"\0" * 2097151
 made["deep.json"] = b'{"d":' * 2097151 + b"{}" + b"}" * 2097151 + b"\n"
@@ -303,6 +308,98 @@ wants '{"file":"cut.bson","offset":12,"finding":"cut off","bytes":6,"not read":6
 run 'counts as JSON' 3 count --json cut.bson
 wants ''
 run 'nothing but the status' 3 count -q cut.bson
+
+# -- fields
+
+# summed DOCUMENTS BYTES DAMAGED TOO_DEEP PASSED_OVER NOT_READ FILES: the last line of fields
+summed() {
+    printf 'documents: %s, bytes: %s, damaged: %s, too deep: %s, bytes passed over: %s, bytes not read: %s, files not read to the end: %s\n' "$@"
+}
+wants '"d": Double: 1, EmbeddedDocument: 1, documents: 2, longest: 19, first: "kinds":0
+"e": Double: 1, documents: 1, longest: 8, first: "kinds":0
+"s": String: 1, documents: 1, longest: 10, first: "kinds":0
+"o": EmbeddedDocument: 1, documents: 1, longest: 5, first: "kinds":0
+"a": Array: 2, Int32: 1, documents: 3, longest: 12, first: "kinds":0
+"a.[]": Null: 2, Int32: 1, documents: 2, longest: 4, first: "kinds":0
+"b": Binary: 1, documents: 1, longest: 8, first: "kinds":0
+"u": Undefined: 1, documents: 1, longest: 0, first: "kinds":0
+"i": ObjectId: 1, documents: 1, longest: 12, first: "kinds":0
+"t": Boolean: 1, documents: 1, longest: 1, first: "kinds":0
+"z": DateTime: 1, documents: 1, longest: 8, first: "kinds":0
+"n": Null: 1, documents: 1, longest: 0, first: "kinds":0
+"r": RegularExpression: 1, documents: 1, longest: 4, first: "kinds":0
+"p": DbPointer: 1, documents: 1, longest: 18, first: "kinds":0
+"j": JavaScriptCode: 1, documents: 1, longest: 6, first: "kinds":0
+"y": Symbol: 1, documents: 1, longest: 6, first: "kinds":0
+"w": JavaScriptCodeWithScope: 1, documents: 1, longest: 15, first: "kinds":0
+"k": Int32: 1, documents: 1, longest: 4, first: "kinds":0
+"m": Timestamp: 1, documents: 1, longest: 8, first: "kinds":0
+"l": Int64: 1, documents: 1, longest: 8, first: "kinds":0
+"q": Decimal128: 1, documents: 1, longest: 16, first: "kinds":0
+"x": MaxKey: 1, documents: 1, longest: 0, first: "kinds":0
+"v": MinKey: 1, documents: 1, longest: 0, first: "kinds":0
+"d.c": Int32: 2, documents: 1, longest: 4, first: "nested":0
+paths: 24, elements left out: 0
+'"$(summed 4 $((228 + 12 + 19 + 27)) 0 0 0 0 0)"'
+'
+run 'fields of each kind' 0 fields kinds one array nested
+wants '"a": Array: 1, documents: 1, longest: 35, first: "rows":0
+"a.[]": EmbeddedDocument: 1, Array: 1, documents: 1, longest: 12, first: "rows":0
+"a.[].b": Int32: 1, documents: 1, longest: 4, first: "rows":0
+"a.[].[]": Boolean: 1, Null: 1, documents: 1, longest: 1, first: "rows":0
+"w": JavaScriptCodeWithScope: 1, documents: 1, longest: 22, first: "scope":0
+"w.a": Int32: 1, documents: 1, longest: 4, first: "scope":0
+"": EmbeddedDocument: 1, documents: 1, longest: 11, first: "keyless":0
+".": Int32: 1, documents: 1, longest: 4, first: "keyless":0
+"\nk": String: 1, documents: 1, longest: 11, first: "texts":0
+paths: 9, elements left out: 0
+'"$(summed 4 $((43 + 30 + 18 + 20)) 0 0 0 0 0)"'
+'
+run 'fields of levels inside' 0 fields rows scope keyless texts
+wants '"mixed.bson":31: damaged at /0:"a", byte 4: a boolean is neither 0 nor 1: 2
+"mixed.bson":67: damaged: no final 0
+"a": Int32: 5, documents: 4, longest: 4, first: "mixed.bson":0
+"d": EmbeddedDocument: 1, documents: 1, longest: 19, first: "mixed.bson":40
+"d.c": Int32: 2, documents: 1, longest: 4, first: "mixed.bson":40
+paths: 3, elements left out: 0
+'"$(summed 7 96 2 0 0 0 0)"'
+'
+run 'fields of documents without damage' 1 fields mixed.bson one
+wants '"a": Int32: 2, documents: 2, longest: 4, first: "one":0
+paths: 1, elements left out: 0
+'"$(summed 2 24 0 0 0 0 0)"'
+'
+run 'fields of one file twice' 0 fields one one
+wants '"a": Int32: 4, documents: 3, longest: 4, first: "mixed.sound":0
+"d": EmbeddedDocument: 1, documents: 1, longest: 19, first: "mixed.sound":31
+paths: 2, elements left out: 2
+'"$(summed 4 70 0 0 0 0 0)"'
+'
+run 'fields of no more paths than asked for' 0 fields --paths 2 mixed.sound
+keys() { head -c "$2" /dev/zero | tr '\0' "$1"; }
+wants '"'"$(keys k 4096)"'": Null: 1, documents: 1, longest: 0, first: "named":0
+"'"$(keys m 4095)"'": EmbeddedDocument: 1, documents: 1, longest: 18, first: "named":0
+"'"$(keys m 4095)"'.": EmbeddedDocument: 1, documents: 1, longest: 11, first: "named":0
+paths: 3, elements left out: 2
+'"$(summed 1 "$(wc -c <named)" 0 0 0 0 0)"'
+'
+run 'fields of long paths' 0 fields named
+"$program" fields --max-depth 2147483647 deep >out 2>err
+status=$?
+wants 'paths: 2048, elements left out: 2095103
+'"$(summed 1 "$(wc -c <deep)" 0 0 0 0 0)"'
+'
+tail -n 2 out >ends && mv ends out
+tried 'fields of all levels' 0
+wants 'paths: 0, elements left out: 1
+'"$(summed 1 12 0 0 0 0 0)"'
+'
+run 'fields of no path' 0 fields --paths 0 one
+wants '"a": Int32: 1000000, documents: 1000000, longest: 4, first: "-":0
+paths: 1, elements left out: 0
+'"$(summed 1000000 12000000 0 0 0 0 0)"'
+'
+cat million | run 'fields of a million documents' 0 fields || failed=1
 
 # -- a part of a dump
 
@@ -1193,7 +1290,7 @@ END
 wants "bsonraw-dump $(cat "$root/VERSION") (unreleased)
 "
 run 'the version' 0 --version
-for words in '' 'lost' 'check --lost' 'check -o output' 'count -o output' 'list --json' 'canon --canonical' \
+for words in '' 'lost' 'check --lost' 'check -o output' 'count -o output' 'fields -o output' 'fields --paths x one' 'check --paths 1 one' 'list --json' 'canon --canonical' \
     'check --max-bytes 4 one' 'count --max-bytes 2147483648 one' 'check --max-depth 0 one' 'list --max-depth x one' 'bson --max-depth 1 many'; do
     # shellcheck disable=SC2086 # words
     "$program" $words >out 2>err </dev/null

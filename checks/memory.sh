@@ -1,7 +1,7 @@
 #!/bin/sh
 # memory.sh [PROGRAM]: what bsonraw-dump takes of memory and of work, where its pages say how much: one document in memory at a
-# time, with --resync three; 100 bytes a form of `unique`, with --repeats 170; and of places that are checked no more than eight
-# times the bytes of the input. PROGRAM is the proved one of crates/bsonraw_dump unless it is given.
+# time, with --resync three; 100 bytes a form of `unique`, with --repeats 170; 400 bytes a path of `fields`, of as many as --paths says;
+# and of places that are checked no more than eight times the bytes of the input. PROGRAM is the proved one of crates/bsonraw_dump unless it is given.
 set -u
 
 root=$(dirname "$(dirname "$(realpath "$0")")")
@@ -44,6 +44,7 @@ write("noise", [document(1024), b"\xff" * (32 * MIB)])
 forms = [document(60, number) for number in range(1_000_000)]
 write("distinct", forms[:400_000])
 write("more", forms)
+write("paths", [b"\x12\0\0\0\x10" + b"%07d" % number + b"\0" + bytes(5) for number in range(1_000_000)])
 
 # A damaged document of the greatest length, in whose last bytes one of that length begins, and two follow.
 write("inside", [great[:-100], great, great, great, gap, great, great])
@@ -88,11 +89,14 @@ def within(most, status, *args):
 least = run("--version")[1]
 
 # One document at a time: of 32 MiB of small ones, and of five of the greatest, 80 MiB. Of json a text has a block of its own.
-for command in "check", "list", "count", "canon", "sound", "unique", "json":
+for command in "check", "list", "count", "fields", "canon", "sound", "unique", "json":
     within(8, 0, command, "small")
 for command in "check", "list", "count", "canon", "sound":
     within(24, 0, command, "great")
 within(48, 0, "json", "great")
+
+# Of fields 28 bytes for each 8 of a document beside it.
+within(24 + 56 + 4, 0, "fields", "great")
 
 # Three with --resync: one, a place inside, and the document that has to follow there. What is passed over is let go.
 within(8, 3, "check", "--resync", "gaps")
@@ -105,6 +109,12 @@ for options, least_of_one, most_of_one in ([], 32, 100), (["--repeats"], 56, 170
     few, many = run("unique", *options, "distinct")[1], run("unique", *options, "more")[1]
     form = (many - few) / 600_000
     wants(" ".join(["unique", *options]), least_of_one <= form <= most_of_one, f"{form:.0f} bytes a form")
+
+# A path takes its bytes and up to 400 more; of those over --paths none is kept.
+few, many = run("fields", "--paths", "400000", "paths")[1], run("fields", "--paths", "1000000", "paths")[1]
+path = (many - few) / 600_000
+wants("fields --paths", 200 <= path <= 400, f"{path:.0f} bytes a path")
+within(8 + 4, 0, "fields", "paths")
 
 # How often the pages of what was read are come to: at most eight times for the places, and some five as room is made, filled and
 # moved.

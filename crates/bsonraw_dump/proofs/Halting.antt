@@ -56,6 +56,7 @@ reports_front command.List style name offset b f told old new text other reports
 reports_front command.Check style name offset b f told old new text other reports front = (front.front, (text, reports, (front.behind, front.whole)), front.put)
 reports_front command.Count style name offset b f told old new text other reports front = (front.front, (text, reports, (front.behind, front.whole)), front.put)
 reports_front command.Sound style name offset b f told old new text other reports front = (front.front, (text, reports, (front.behind, front.whole)), front.put)
+reports_front command.Fields style name offset b f told old new text other reports front = (front.front, (text, reports, (front.behind, front.whole)), front.put)
 reports_front command.Canon style name offset b f told old new text other reports front = (front.front, (text, reports, (front.behind, front.whole)), front.put)
 reports_front command.Unique style name offset b f told old new text other reports front = (front.front, (text, reports, (front.behind, front.whole)), front.put)
 reports_front (command.Json form) style name offset b f told old new text other reports front = (front.front, (text, reports, (front.behind, front.whole)), front.put)
@@ -64,7 +65,7 @@ reports_front (command.Pick picking) style name offset b f told old new text oth
 -- a piece that is passed is one of which a front is
 pub halts_passed : (limits : Limits) (any : Bool) (c : Command) (style : Style) (name : List ℕ) (offset : ℕ) (b : List ℕ) (d d' w w' : Option (List ℕ)) (k k' : Kept) (f : Finding)
     → MayPassOne limits any c style name offset b d d' w w' k k' (Some f) → HaltsOne limits any c style name offset b k d d' w w'
-halts_passed limits any c style name offset b d d' w w' k k' f (clean, (told, found, (made, makes, written, (first, places, (lines, reports, reported))))) =
+halts_passed limits any c style name offset b d d' w w' k k' f (clean, ((told, found, (made, makes, written, (first, places, (lines, reports, reported)))), counted)) =
     let line = lines_of_repeats style (repeat_at (origin_at name offset) first) in
     let whole = sym (ap (lines_of_repeats style) places.repeats) ∙ sym (append-nil line) in
     inr (f, told, found, clean, inr (inr (made, makes, written.is_written, (lines, line, reports, ([], whole), reported))))
@@ -162,6 +163,7 @@ module _ {limits : Limits} (c : Command) (style : Style) (resync : Bool) (name :
     is_repeated = p.is_repeated;
     is_reported = p.is_reported;
     is_counted = counted ∙ p.is_counted;
+    is_tabled = p.is_tabled;
     halts = halts;
   }
 

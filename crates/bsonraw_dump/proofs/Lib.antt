@@ -18,6 +18,8 @@ mod Picking
 mod Objects
 mod Naming
 mod Summing
+mod Tabled
+mod Prefixes
 mod Advancing
 mod TextPassing
 mod Scanning

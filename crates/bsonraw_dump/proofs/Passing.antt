@@ -11,13 +11,14 @@ use Rattle.bsonraw_dump.proofs.Repeating.{firsts_more, firsts_none, repeats_more
 use Rattle.bsonraw_dump.proofs.Writing.{writes_none, writes_more}
 use Rattle.std.proofs.lemmas.Grind.{flat_map-append, fold-append}
 use Rattle.bsonraw_dump.specs.Cut.{IsPiece}
+use Rattle.bsonraw_dump.specs.Fields.{Document, HasFields, Table, tabled, with_document}
 use Rattle.bsonraw_dump.specs.Portion.{HasPassedFront}
 use Rattle.bsonraw_dump.specs.Reading.{Looks, TellsNext, ahead_of}
 use Rattle.bsonraw_dump.specs.Resync.{BreaksWith, IsBelieved, IsNextPlace, SkipsTo, Spends, TellsPart}
 use Rattle.raw_resync.specs.Resync.{IsSound}
 use Rattle.raw_resync.specs.Seeking.{IsWork, no_work}
 use Rattle.raw_resync.specs.declared.work.Work.{Work}
-use Rattle.bsonraw_dump.specs.Run.{AreParts, Entry, Gap, IsEntry, IsGap, IsPart, IsReading, IsTaken, Part, piece, gap, skipped, Passed, PassesFront, PassesGap, PassesNext, PassesOne, MayPassFront, Writes, WritesNothing, bytes_of_part, bytes_of_parts, made_of_part, made_of_parts, forms_of_part, forms_of_parts, lines_of_part, lines_of_repeats, repeats_of_part, count_entry, count_part, work_behind}
+use Rattle.bsonraw_dump.specs.Run.{AreParts, Entry, Gap, IsEntry, IsGap, IsPart, IsReading, IsTaken, Part, piece, gap, skipped, Passed, PassesFront, PassesGap, PassesNext, PassesOne, MayPassFront, Writes, WritesNothing, bytes_of_part, bytes_of_parts, made_of_part, made_of_parts, forms_of_part, forms_of_parts, lines_of_part, fields_of_part, fields_of_parts, lines_of_repeats, repeats_of_part, count_entry, count_part, work_behind}
 use Rattle.bsonraw_dump.specs.Told.{ending_line}
 use Rattle.bsonraw_dump.specs.Unique.{Firsts, firsts_behind, firsts_of, origin_at, placed_at, repeat_at, repeats_of}
 use Rattle.bsonraw_dump.specs.declared.ending.Ending.{Ending}
@@ -58,6 +59,7 @@ passed_none {limits = limits} {c = c} {style = style} {resync = resync} {name = 
   is_repeated = sym (repeats_none c (firsts_of k));
   is_reported = Appends-nil w;
   is_counted = refl;
+  is_tabled = refl;
 }
 
 -- what is left of the input behind these bytes is in front of what is ahead
@@ -80,15 +82,17 @@ passed_ahead c style resync name x y r r' r'' d d' w w' n n' k k' ps p looks = r
   is_repeated = p.is_repeated;
   is_reported = p.is_reported;
   is_counted = p.is_counted;
+  is_tabled = p.is_tabled;
 }
 
 -- one more part is passed, and these bytes are ahead then
 pub passed_more : {limits : Limits} (c : Command) (style : Style) (resync : Bool) (name x y : List ℕ) (r r' r'' d d' d'' w w' w'' : Option (List ℕ)) (n n' n'' : Counts) (k k' k'' : Kept)
     (ps : List Part) (p : Part) → Passed limits c style resync name x r r' d d' w w' n n' k k' ps → IsPart limits c style resync name r (length (bytes_of_parts ps)) (fold work_behind no_work ps) p
     → ((before : Option (List ℕ)) → Consumes before r' x → Consumes before r'' (bytes_of_part p ++ y)) → Writes c (made_of_part p) d' d'' k' k''
-    → firsts_of k'' ≡ firsts_behind c (firsts_of k') (forms_of_part p) → repeats_of_part p ≡ repeats_of c (firsts_of k') (forms_of_part p) → Appends w' w'' (lines_of_part p) → n'' ≡ count_part n' p
-    → Passed limits c style resync name y r r'' d d'' w w'' n n'' k k'' (ps ++ p ∷ [])
-passed_more {limits} c style resync name x y r r' r'' d d' d'' w w' w'' n n' n'' k k' k'' ps p passed is read written placed repeated told counted = record {
+    → (firsts_of k'' ≡ firsts_behind c (firsts_of k') (forms_of_part p)) × (repeats_of_part p ≡ repeats_of c (firsts_of k') (forms_of_part p))
+    → Appends w' w'' (lines_of_part p) → n'' ≡ count_part n' p
+    → tabled k'' ≡ fold with_document (tabled k') (fields_of_part p) → Passed limits c style resync name y r r'' d d'' w w'' n n'' k k'' (ps ++ p ∷ [])
+passed_more {limits} c style resync name x y r r' r'' d d' d'' w w' w'' n n' n'' k k' k'' ps p passed is read written (placed, repeated) told counted added = record {
   parts = parts_more limits c style resync name r 0 no_work ps p passed.parts (subst (λ (n : ℕ). IsPart limits c style resync name r n (fold work_behind no_work ps) p) (sym (zero-add _)) is);
   is_read =
       let all = read_behind (bytes_of_parts ps) x (bytes_of_part p ++ y) r r' r'' passed.is_read read in
@@ -103,6 +107,10 @@ passed_more {limits} c style resync name x y r r' r'' d d' d'' w w' w'' n n' n''
       ∙ sym (repeats_more c (firsts_of k) (forms_of_parts ps) (forms_of_part p)) ∙ ap (repeats_of c (firsts_of k)) (one_more forms_of_part ps p);
   is_reported = subst (Appends w w'') (one_more lines_of_part ps p) (Appends-trans w w' w'' _ _ passed.is_reported told);
   is_counted = counted ∙ ap (λ k. count_part k p) passed.is_counted ∙ sym (fold-append count_part n ps (p ∷ []));
+  is_tabled =
+      added ∙ ap (λ (t : Table). fold with_document t (fields_of_part p)) passed.is_tabled
+      ∙ sym (fold-append with_document (tabled k) (fields_of_parts ps) (fields_of_part p))
+      ∙ ap (fold with_document (tabled k)) (one_more fields_of_part ps p);
 }
 
 pub bytes_more : (ps : List Part) (p : Part) → length (bytes_of_parts (ps ++ p ∷ [])) ≡ length (bytes_of_parts ps) + length (bytes_of_part p)
@@ -135,13 +143,13 @@ abbrev pub has_passed_piece : {limits : Limits} (c : Command) (style : Style) (r
 has_passed_piece {limits} c style resync name x y z b r r' r'' d d' d'' w w' w'' n n' n'' k k' k'' offset behind v v' f h looks (is, split, sum) taken passes counted =
     let bytes = bytes_of_parts h.ps in
     let at = origin_at name (length bytes) in
-    let (told, found, (made, makes, put, (first, places, (lines, reports, reported)))) =
+    let ((told, found, (made, makes, put, (first, places, (lines, reports, reported)))), (fields, has, added)) =
     subst (λ (m : ℕ). PassesOne limits c style name m b d' d'' w' w'' k' k'' f) h.at passes in
     let repeated = repeat_at at first in
     let e : Entry =
-    record { bytes = b; finding = f; told = told; made = made; forms = placed_at at made; repeats = repeated; lines = lines ++ lines_of_repeats style repeated; work = v' } in
+    record { bytes = b; finding = f; told = told; made = made; forms = placed_at at made; repeats = repeated; lines = lines ++ lines_of_repeats style repeated; fields = fields; work = v' } in
     let entry : IsEntry limits c style name (length bytes) e =
-    record { piece = is; found = found; makes = makes; placed = refl; first = first; repeats = refl; lines = lines; reports = reports; told = refl } in
+    record { piece = is; found = found; makes = makes; placed = refl; first = first; repeats = refl; lines = lines; reports = reports; told = refl; counts = has } in
     let here : (s : List ℕ) → Consumes (Some s) r' x → IsTaken limits resync s offset v e = λ s all. record { believed = (taken s all).0; spends = (taken s all).1 } in
     let kept : IfSome r (λ s. IsTaken limits resync (drop (length bytes) s) (length bytes) (fold work_behind no_work h.ps) e) =
     input_behind bytes x r r' (λ s. IsTaken limits resync s (length bytes) (fold work_behind no_work h.ps) e) h.passed.is_read
@@ -149,8 +157,8 @@ has_passed_piece {limits} c style resync name x y z b r r' r'' d d' d'' w w' w''
     let read : (before : Option (List ℕ)) → Consumes before r' x → Consumes before r'' (b ++ z) = λ before first. subst (Consumes before r'') split (looks.is_read before first) in
     record {
       ps = h.ps ++ piece e ∷ [];
-      passed = passed_more c style resync name x z r r' r'' d d' d'' w w' w'' n n' n'' k k' k'' h.ps (piece e) h.passed (entry, kept) read put places.placed places.repeats
-          reported (counted e refl refl);
+      passed = passed_more c style resync name x z r r' r'' d d' d'' w w' w'' n n' n'' k k' k'' h.ps (piece e) h.passed (entry, kept) read put (places.placed, places.repeats)
+          reported (counted e refl refl) added;
       at = sum ∙ ap (λ m. m + length b) h.at ∙ sym (bytes_more h.ps (piece e));
       worked = sym (fold-append work_behind no_work h.ps (piece e ∷ []));
     }
@@ -199,7 +207,7 @@ pub next_passed : {limits : Limits} (c : Command) (style : Style) (resync : Bool
     → IsWork v → TellsNext limits.bytes r r' x y 0 (next.Document len) → PassesFront limits (not resync) c style name len y z d d' w w' n n' k k'
     → PassesNext limits c style resync name r r' x z v v d d' w w' n n' k k' (next.Document len)
 next_passed {limits} c style resync name r r' d d' w w' x y z v n n' k k' len work t p =
-    let sound : resync ≡ true → IsSound limits (take len (ahead_of y)) = λ asked. judges_sound c (take len (ahead_of y)) p.finding p.passed.0 t.is.1 p.passed.1 (p.clean (ap not asked)) in
+    let sound : resync ≡ true → IsSound limits (take len (ahead_of y)) = λ asked. judges_sound c (take len (ahead_of y)) p.finding p.passed.0.0 t.is.1 p.passed.0.1 (p.clean (ap not asked)) in
     (not resync, y, tells_document resync r r' x y v len work sound t, p)
 
 -- the one whose length is believed
@@ -255,7 +263,7 @@ has_passed_gap c style resync name x y z r r' r'' q d d' w w' w'' n n' n'' k k' 
     record {
       ps = h.ps ++ gap g ∷ [];
       passed = passed_more c style resync name (ahead_of y) (ahead_of z) r r'' q d d' d' w w' w'' n n' n'' k k' k' h.ps (gap g) read is p.is_read
-          (writes_none c d' k') (sym (firsts_none c (firsts_of k'))) (sym (repeats_none c (firsts_of k'))) told over.is_counted;
+          (writes_none c d' k') (sym (firsts_none c (firsts_of k')), sym (repeats_none c (firsts_of k'))) told over.is_counted refl;
       at = over.skips.offset ∙ ap (λ m. m + skip.count) at ∙ ap (λ m. length bytes + m) (sym p.len) ∙ sym (bytes_more h.ps (gap g));
       worked = sym (fold-append work_behind no_work h.ps (gap g ∷ []));
     }

@@ -8,7 +8,7 @@ use Rattle.bson_json.specs.Written.{AppendsFront}
 use Rattle.raw_tree.specs.declared.reader.limits.Limits.{Limits}
 use Rattle.bsonraw_dump.specs.Find.{Account, Judges}
 use Rattle.bsonraw_dump.specs.Halting.{HaltsInside}
-use Rattle.bsonraw_dump.specs.Run.{Emits, PassesOne, Reports, lines_of_repeats}
+use Rattle.bsonraw_dump.specs.Run.{Emits, WritesOne, Reports, lines_of_repeats}
 use Rattle.bsonraw_dump.specs.Unique.{Firsts, Placed, first_at, firsts_behind, origin_of, repeat_at, repeats, repeats_of, with_first}
 use Rattle.bsonraw_dump.specs.declared.command.Command.{Command}
 use Rattle.bsonraw_dump.specs.declared.command.Command.TheVariants as command
@@ -23,6 +23,7 @@ firsts_none command.List f = refl
 firsts_none command.Count f = refl
 firsts_none command.Canon f = refl
 firsts_none command.Sound f = refl
+firsts_none command.Fields f = refl
 firsts_none command.Unique f = refl
 firsts_none (command.Json style) f = refl
 firsts_none (command.Pick picking) f = refl
@@ -33,6 +34,7 @@ repeats_none command.List f = refl
 repeats_none command.Count f = refl
 repeats_none command.Canon f = refl
 repeats_none command.Sound f = refl
+repeats_none command.Fields f = refl
 repeats_none command.Unique f = refl
 repeats_none (command.Json style) f = refl
 repeats_none (command.Pick picking) f = refl
@@ -43,6 +45,7 @@ firsts_more command.List f xs ys = refl
 firsts_more command.Count f xs ys = refl
 firsts_more command.Canon f xs ys = refl
 firsts_more command.Sound f xs ys = refl
+firsts_more command.Fields f xs ys = refl
 firsts_more command.Unique f xs ys = fold-append with_first f xs ys
 firsts_more (command.Json style) f xs ys = refl
 firsts_more (command.Pick picking) f xs ys = refl
@@ -60,6 +63,7 @@ repeats_more command.List f xs ys = refl
 repeats_more command.Count f xs ys = refl
 repeats_more command.Canon f xs ys = refl
 repeats_more command.Sound f xs ys = refl
+repeats_more command.Fields f xs ys = refl
 repeats_more command.Unique f xs ys = repeats-append f xs ys
 repeats_more (command.Json style) f xs ys = refl
 repeats_more (command.Pick picking) f xs ys = refl
@@ -74,7 +78,7 @@ module _ (c : Command) (style : Style) (at : Origin) (b : List ℕ) (f : Finding
 
   -- what is found is reported, then a document is written, then its line
   pub passes_one : (limits : Limits) → Judges limits c b f told → IsReported → Emits c at b f d d' k k' first → Appends w' w'' line_of_repeat
-      → PassesOne limits c style at.name.now at.offset b d d' w w'' k k' f
+      → WritesOne limits c style at.name.now at.offset b d d' w w'' k k' f
   passes_one limits judged (lines, reports, put) (made, makes, (writes, places)) repeated =
       (told, judged, (made, makes, writes, (option_map origin_of first, places, (lines, reports, Appends-trans w w' w'' lines line_of_repeat put repeated))))
 

@@ -112,6 +112,7 @@ module _ {limits : Limits} (c : Command) (style : Style) (resync : Bool) (name :
           is_repeated = h.passed.is_repeated;
           is_reported = Appends-kept w w' w'' (lines_of_parts h.ps) h.passed.is_reported kept;
           is_counted = same ∙ h.passed.is_counted;
+          is_tabled = h.passed.is_tabled;
         };
         stops = fails_here limits resync r'' y left from (length bytes) s fails (at ∙ start) (omega arith);
       }
@@ -145,6 +146,7 @@ module _ {limits : Limits} (c : Command) (style : Style) (resync : Bool) (name :
           is_repeated = p.passed.is_repeated;
           is_reported = p.passed.is_reported;
           is_counted = p.passed.is_counted;
+          is_tabled = p.passed.is_tabled;
         };
         early = false;
         end = Some e;

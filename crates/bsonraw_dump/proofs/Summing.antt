@@ -1,17 +1,22 @@
 -- How what came of inputs grows by one more.
-use Rattle.std.proofs.Common.{◌≡◌, ◌+◌, ◌<◌, ◌≤◌, ℕ, List, [], ◌∷◌, ◌++◌, Option, Result, Ok, Err, IfOk, OnErr, add-zero, drop, get_or, inl, inr, is_none, length, map, refl, sym, subst, ap, ◌∙◌, take}
-use Rattle.std.proofs.lemmas.List.{drop_all, drop_more, map-append, map_more, take-append-drop}
+use Rattle.std.proofs.Common.{◌≡◌, ◌+◌, ◌<◌, ◌≤◌, ℕ, List, [], ◌∷◌, ◌++◌, IsSomeAnd, MatchOption, None, Option, Some, option_map, Result, Ok, Err, IfOk, OnErr, add-zero, drop, get_or, inl, inr, is_none, length, map, refl, sym, subst, ap, ◌∙◌, take}
+use Rattle.std.proofs.lemmas.List.{drop_all, drop_more, map-append, map_more, take-append-drop, take_all}
 use Rattle.std.specs.Io.KnownBytes.{Appends, Keeps}
 use Rattle.bson_json.specs.Written.{AppendsFront}
-use Rattle.bsonraw_dump.specs.Batch.{Comes, CountsInput, CountsMore, CountsRun, IsRun, RunsFront, RunsOver, State, HaltsBefore, HaltsWithin, all_line, input_line, state_of}
+use Rattle.bsonraw_dump.specs.Batch.{Comes, CountsInput, CountsMore, CountsRun, EndsAll, IsRun, RunsAll, RunsFront, RunsOver, State, HaltsBefore, HaltsWithin, all_line, cut_of, input_line, start_of, state_of}
 use Rattle.bsonraw_dump.specs.Portion.{EndsPortion, HaltsPortion}
 use Rattle.bsonraw_dump.specs.Run.{no_counts, plus}
+use Rattle.bsonraw_dump.specs.Status.{IsFailureStatus, IsStatus}
+use Rattle.bsonraw_dump.specs.declared.batch.Cut.{Cut}
 use Rattle.bsonraw_dump.specs.declared.batch.Job.{Job}
+use Rattle.bsonraw_dump.specs.declared.batch.Lack.{Lack}
+use Rattle.bsonraw_dump.specs.declared.batch.Lack.TheVariants as lack
 use Rattle.bsonraw_dump.specs.declared.batch.Totals.{Totals}
 use Rattle.bsonraw_dump.specs.declared.counts.Counts.{Counts}
 use Rattle.bsonraw_dump.specs.declared.failure.Failure.{Failure}
 use Rattle.bsonraw_dump.specs.declared.failure.ReadFailure.{ReadFailure}
 use Rattle.bsonraw_dump.specs.declared.kept.Kept.{Kept}
+use Rattle.bsonraw_dump.specs.declared.status.Status.{Status}
 use Rattle.bsonraw_dump.proofs.Fronts.{front_none}
 use Rattle.bsonraw_dump.proofs.Choosing.{halts_first}
 
@@ -28,6 +33,11 @@ module _ (job : Job) (bytes_of : List ℕ → Option (List ℕ)) where
   runs_next f names i d first between last there runs comes =
       subst (λ (xs : List (List ℕ)). RunsOver job bytes_of xs first last) (sym (map_more f names i d there))
       (runs_more (map f (take i names)) (f (get_or names i d)) first between last runs comes)
+
+  -- all of them are the first of these
+  pub runs_whole : {A : Type 0} (f : A → List ℕ) (names : List A) (i : ℕ) (first last : State) → length names ≤ i → RunsOver job bytes_of (map f (take i names)) first last
+      → RunsOver job bytes_of (map f names) first last
+  runs_whole f names i first last all runs = subst (λ (xs : List (List ℕ)). RunsOver job bytes_of xs first last) (ap (map f) (take_all i names all)) runs
 
   -- a failure comes behind the first of these
   pub runs_front : {A : Type 0} (f : A → List ℕ) (names : List A) (i : ℕ) (first last : State) (d w : Option (List ℕ)) (n : Counts) → RunsOver job bytes_of (map f (take i names)) first last
@@ -97,3 +107,29 @@ pub halts_run : (job : Job) (name : List ℕ) (input left d d' w w' : Option (Li
 halts_run job name input left d d' w w' n k k' m m' (Ok failed) ends halts counted =
     inr (w', k', n, is_none failed, inl (record { left = left; failed = failed; ends = ends; could = refl }), front_none w' _, counted)
 halts_run job name input left d d' w w' n k k' m m' (Err e) ends halts counted = inl (n, halts, counted)
+
+-- what lacks where an input wasn't read to its end
+pub lack_of : (cut : Option Cut) (l : Option Lack) → MatchOption cut (l ≡ None) (λ x. IsSomeAnd l (λ y. y ≡ lack.Cut x)) → l ≡ option_map lack.Cut cut
+lack_of None l none = none
+lack_of (Some x) None one = absurd one
+lack_of (Some x) (Some y) one = ap Some one
+
+module _ (job : Job) (bytes_of : List ℕ → Option (List ℕ)) (names : List (List ℕ)) (old report_old : Option (List ℕ)) (totals : Totals) where
+  -- nothing was counted before
+  start : totals.counts ≡ no_counts → totals.cut ≡ None → state_of old report_old totals ≡ start_of old report_old totals.kept
+  start counts cut = λ i. record { out = old; report = report_old; counts = counts i; kept = totals.kept; cut = option_map cut_of (cut i) }
+
+  -- all inputs were run over
+  pub ends_whole : (last : State) (d w : Option (List ℕ)) (n : Counts) (cut : Option Cut) (ended : Status) → totals.counts ≡ no_counts → totals.cut ≡ None
+      → RunsAll job bytes_of names (state_of old report_old totals) last d w → last.counts ≡ n → last.cut ≡ option_map cut_of cut → IsStatus job.command n ended
+      → EndsAll job bytes_of names (start_of old report_old totals.kept) d w (option_map lack.Cut cut) ended
+  ends_whole last d w n None ended none uncut runs counted same status =
+      (last, subst (λ (s : State). RunsAll job bytes_of names s last d w) (start none uncut) runs, same, subst (λ (m : Counts). IsStatus job.command m ended) (sym counted) status)
+  ends_whole last d w n (Some x) ended none uncut runs counted same status =
+      (last, subst (λ (s : State). RunsAll job bytes_of names s last d w) (start none uncut) runs, same, subst (λ (m : Counts). IsStatus job.command m ended) (sym counted) status)
+
+  -- a failure came
+  pub ends_front : (d w : Option (List ℕ)) (n : Counts) (failure : Failure) (ended : Status) → totals.counts ≡ no_counts → totals.cut ≡ None
+      → RunsFront job bytes_of names (state_of old report_old totals) d w n → IsFailureStatus job.command n failure ended
+      → EndsAll job bytes_of names (start_of old report_old totals.kept) d w (Some (lack.Failed failure)) ended
+  ends_front d w n failure ended none uncut front status = (n, subst (λ (s : State). RunsFront job bytes_of names s d w n) (start none uncut) front, status)

@@ -11,19 +11,23 @@ use Rattle.bson_json.specs.declared.error.WriteJsonError.TheVariants as error
 use Rattle.bson_json.specs.declared.style.Style as json
 use Rattle.raw_tree.specs.CanonicalForm.{IsCanonicalForm}
 use Rattle.raw_tree.specs.declared.reader.limits.Limits.{Limits}
+use Rattle.bsonraw_dump.specs.Fields.{CountsFields, KeepsWritten, table_of, with_document}
 use Rattle.bsonraw_dump.specs.Fronts.{WritesFront}
 use Rattle.bsonraw_dump.specs.Halting.{IsMade}
 use Rattle.bsonraw_dump.proofs.Fronts.{front_behind, front_first}
 use Rattle.bsonraw_dump.specs.Pick.{IsPicked, IsPickedAs, IsPrinted}
-use Rattle.bsonraw_dump.specs.Run.{Emits, Makes, MakesJson, MakesPicked, Writes}
+use Rattle.bsonraw_dump.specs.Run.{Emits, Makes, MakesJson, MakesPicked, Writes, WritesOne}
 use Rattle.bsonraw_dump.specs.Unique.{CountsOne, first_forms, firsts_of, has_digest, if_new, joined, kept_of, known_behind, knows, origins_of, placed, with_form, written_of}
+use Rattle.bsonraw_dump.specs.Unique as says
 use Rattle.bsonraw_dump.specs.declared.command.Command.{Command}
 use Rattle.bsonraw_dump.specs.declared.command.Command.TheVariants as command
 use Rattle.bsonraw_dump.specs.declared.kept.Kept.{Kept}
 use Rattle.bsonraw_dump.specs.declared.kept.Origin.{Origin}
 use Rattle.bsonraw_dump.specs.declared.pick.Picking.{Picking}
+use Rattle.bsonraw_dump.specs.declared.paths.Paths.{Paths}
 use Rattle.bsonraw_dump.proofs.Repeating.{firsts_none, repeats_none}
 use Rattle.bsonraw_dump.specs.declared.find.Finding.{Finding}
+use Rattle.bsonraw_dump.specs.declared.style.Style.{Style}
 use Rattle.bsonraw_dump.specs.declared.find.Finding.TheVariants as finding
 
 joined-append : (xs ys : List (List ℕ)) → joined (xs ++ ys) ≡ joined xs ++ joined ys
@@ -42,6 +46,7 @@ kept_of-append command.List known xs ys = refl
 kept_of-append command.Count known xs ys = refl
 kept_of-append command.Canon known xs ys = refl
 kept_of-append command.Sound known xs ys = refl
+kept_of-append command.Fields known xs ys = refl
 kept_of-append (command.Json style) known xs ys = refl
 kept_of-append (command.Pick picking) known xs ys = refl
 kept_of-append command.Unique known xs ys = first_forms-append known xs ys
@@ -55,6 +60,7 @@ known_behind-append command.List known xs ys = refl
 known_behind-append command.Count known xs ys = refl
 known_behind-append command.Canon known xs ys = refl
 known_behind-append command.Sound known xs ys = refl
+known_behind-append command.Fields known xs ys = refl
 known_behind-append (command.Json style) known xs ys = refl
 known_behind-append (command.Pick picking) known xs ys = refl
 known_behind-append command.Unique known xs ys = fold-append with_form known xs ys
@@ -65,6 +71,7 @@ nothing_kept command.List known = refl
 nothing_kept command.Count known = refl
 nothing_kept command.Canon known = refl
 nothing_kept command.Sound known = refl
+nothing_kept command.Fields known = refl
 nothing_kept (command.Json style) known = refl
 nothing_kept (command.Pick picking) known = refl
 nothing_kept command.Unique known = refl
@@ -75,6 +82,7 @@ nothing_known command.List known d = refl
 nothing_known command.Count known d = refl
 nothing_known command.Canon known d = refl
 nothing_known command.Sound known d = refl
+nothing_known command.Fields known d = refl
 nothing_known (command.Json style) known d = refl
 nothing_known (command.Pick picking) known d = refl
 nothing_known command.Unique known d = refl
@@ -109,6 +117,19 @@ writes_more c xs ys d d' d'' k k' k'' first second =
 
 known_same : (k k' : Kept) (d : List ℕ) → k'.forms ≡ k.forms → knows k' d ≡ knows k d
 known_same k k' d same = ap (λ forms. has_digest forms d) same
+
+-- the same is written and known where no more is counted
+pub writes_kept : (c : Command) (made : List (List ℕ)) (d d' : Option (List ℕ)) (k k' k'' : Kept) → Writes c made d d' k k' → KeepsWritten k' k'' → Writes c made d d' k k''
+writes_kept c made d d' k k' k'' writes (count, digests) = record {
+  is_written = writes.is_written;
+  is_known = λ x. known_same k' k'' x digests ∙ writes.is_known x;
+  is_counted = count ∙ writes.is_counted;
+}
+
+-- the elements are counted that were counted before it was written
+pub counts_kept : (limits : Limits) (c : Command) (place : says.Origin) (b : List ℕ) (f : Finding) (k k' k'' : Kept) → k'.paths ≡ k.paths → CountsFields limits c place b f k' k''
+    → CountsFields limits c place b f k k''
+counts_kept limits c place b f k k' k'' same (ds, has, added) = (ds, has, added ∙ ap (λ (p : Paths). fold with_document (table_of p) ds) same)
 
 line_written : (style : json.Style) (line : List ℕ) (d d' : Option (List ℕ)) (k k' : Kept) → Appends d d' line → CountsOne k k' → Writes (command.Json style) (line ∷ []) d d' k k'
 line_written style line d d' k k' put (counted, same) = record {
@@ -214,3 +235,9 @@ pub form_made_unique : (b : List ℕ) (k : Kept) (d d' : Option (List ℕ)) → 
     → WritesFront (IsMade command.Unique b finding.Breached k) d d'
 form_made_unique b k d d' (inl same) = inl same
 form_made_unique b k d d' (inr (text, (form, is, it), front)) = inr (text, (form ∷ [], (form, is, refl), it), front)
+
+-- the same where no more is written
+pub writes_same : (limits : Limits) (c : Command) (style : Style) (name : List ℕ) (offset : ℕ) (b : List ℕ) (d d' w w' : Option (List ℕ)) (k k' k'' : Kept) (f : Finding)
+    → WritesOne limits c style name offset b d d' w w' k k' f → KeepsWritten k' k'' → WritesOne limits c style name offset b d d' w w' k k'' f
+writes_same limits c style name offset b d d' w w' k k' k'' f (told, found, (made, makes, writes, (first, places, reported))) (count, forms) =
+    (told, found, (made, makes, writes_kept c made d d' k k' k'' writes (count, forms), (first, record { placed = ap origins_of forms ∙ places.placed; repeats = places.repeats }, reported)))

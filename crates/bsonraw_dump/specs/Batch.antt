@@ -3,6 +3,7 @@ use Rattle.std.specs.Prelude.{◌≡◌, ◌⊎◌, ◌++◌, ◌∷◌, ◌<◌
 use Rattle.std.specs.Option.{option_map}
 use Rattle.std.specs.Io.KnownBytes.{Appends, Keeps}
 use Rattle.bson_json.specs.Written.{AppendsFront}
+use Rattle.bsonraw_dump.specs.Fields.{no_table, table_text, tabled}
 use Rattle.bsonraw_dump.specs.Portion.{EndsPortion, HaltsPortion}
 use Rattle.bsonraw_dump.specs.Run.{count_left, no_counts, plus}
 use Rattle.bsonraw_dump.specs.Status.{IsFailureStatus, IsStatus}
@@ -55,11 +56,13 @@ state_of out report totals = record { out = out; report = report; counts = total
 abbrev pub start_of : (out report : Option (List ℕ)) → Kept → State
 start_of out report kept = record { out = out; report = report; counts = no_counts; kept = kept; cut = None }
 
--- no document was written, and no digest is known; places are kept where repeats are asked for
-pub record KeepsNothing (repeats : Bool) (kept : Kept) : Type 0 where
+-- no document was written, no digest is known, and no element was counted; places are kept where repeats are asked for, and so many
+-- paths at most
+pub record KeepsNothing (repeats : Bool) (paths : ℕ) (kept : Kept) : Type 0 where
   pub none : kept.count ≡ 0
   pub unknown : (d : List ℕ) → knows kept d ≡ false
   pub firsts : firsts_of kept ≡ no_firsts repeats
+  pub uncounted : tabled kept ≡ no_table paths
 
 -- the line that tells what was counted of one input; only check and count have it
 abbrev pub input_line : Job → Command → List ℕ → Counts → List ℕ
@@ -67,9 +70,10 @@ input_line job command.Check name n = summary_line job.style (Some name) job.com
 input_line job command.Count name n = summary_line job.style (Some name) job.command n 0
 input_line job _ name n = []
 
--- the line that tells what was counted of all; list has none
+-- the line that tells what was counted of all; list has none, and fields has the lines of its paths before it
 abbrev pub all_line : Job → Command → Counts → Kept → List ℕ
 all_line job command.List n kept = []
+all_line job command.Fields n kept = table_text (tabled kept) ++ summary_line job.style None command.Fields n kept.count
 all_line job _ n kept = summary_line job.style None job.command n kept.count
 
 -- An input of which these bytes are known is opened, and run over, as far as it is asked for. Bytes could be passed over in it where
@@ -171,7 +175,7 @@ EndsAll job bytes_of names first out_new report_new (Some (lack.Failed failure))
 -- gives the status, but for a pipe that has no reader.
 pub record IsDone (job : Job) (bytes_of : List ℕ → Option (List ℕ)) (names : List (List ℕ)) (out_old out_new report_old report_new : Option (List ℕ)) (done : Done) : Type 0 where
   pub kept : Kept
-  pub nothing : KeepsNothing job.repeats kept
+  pub nothing : KeepsNothing job.repeats job.paths kept
   pub ends : EndsAll job bytes_of names (start_of out_old report_old kept) out_new report_new done.lack done.status
 
 -- What the code tells of one input. No public contract cites what follows.

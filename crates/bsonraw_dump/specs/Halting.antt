@@ -7,11 +7,12 @@ use Rattle.raw_resync.specs.declared.work.Work.{Work}
 use Rattle.raw_tree.specs.declared.reader.limits.Limits.{Limits}
 use Rattle.bsonraw_dump.specs.Cut.{EndsWith, IsPiece}
 use Rattle.bsonraw_dump.specs.Find.{Account, Judges, MayBeDamaged}
+use Rattle.bsonraw_dump.specs.Fields.{tabled, with_document}
 use Rattle.bsonraw_dump.specs.Fronts.{HasFront, WritesFront}
 use Rattle.bsonraw_dump.specs.Listing.{HasListingFront}
 use Rattle.bsonraw_dump.specs.Reading.{ahead_of}
 use Rattle.bsonraw_dump.specs.Resync.{IsBelieved, SkipsTo, Spends}
-use Rattle.bsonraw_dump.specs.Run.{AreParts, Gap, IsGap, Makes, Part, Reports, Writes, bytes_of_parts, count_part, head_text, forms_of_parts, lines_of_parts, lines_of_repeats, made_of_parts, repeats_of_parts, work_behind}
+use Rattle.bsonraw_dump.specs.Run.{AreParts, Gap, IsGap, Makes, Part, Reports, Writes, bytes_of_parts, count_part, fields_of_parts, head_text, forms_of_parts, lines_of_parts, lines_of_repeats, made_of_parts, repeats_of_parts, work_behind}
 use Rattle.bsonraw_dump.specs.Told.{ending_line, last_line, line}
 use Rattle.bsonraw_dump.specs.Unique.{firsts_behind, firsts_of, knows, origin_at, placed_at, repeats_of, written_of}
 use Rattle.bsonraw_dump.specs.declared.command.Command.{Command}
@@ -90,6 +91,7 @@ pub record Halts (limits : Limits) (c : Command) (style : Style) (resync : Bool)
   pub is_repeated : repeats_of_parts ps ≡ repeats_of c (firsts_of kept_old) (forms_of_parts ps)
   pub is_reported : Appends report_old report_between (lines_of_parts ps)
   pub is_counted : counts_new ≡ fold count_part counts_old ps
+  pub is_tabled : tabled kept_between ≡ fold with_document (tabled kept_old) (fields_of_parts ps)
   pub halts : HaltsAhead limits c style resync name input (length (bytes_of_parts ps)) (fold work_behind no_work ps) kept_between out_between out_new report_between report_new
 
 -- What the code tells of a run that fails. No public contract cites what follows.

@@ -8,6 +8,7 @@ pub mod Values
 pub mod Listing
 pub mod Unique
 pub mod Pick
+pub mod Fields
 pub mod Run
 pub mod Halting
 pub mod Portion

@@ -15,6 +15,7 @@ use Rattle.bsonraw_dump.specs.declared.window.Next.{Next}
 use Rattle.bsonraw_dump.specs.declared.window.Next.TheVariants as next
 use Rattle.bsonraw_dump.specs.declared.window.Window.{Window}
 use Rattle.bsonraw_dump.specs.Find.{Account, Judges, MayBeDamaged}
+use Rattle.bsonraw_dump.specs.Fields.{CountsFields, Document, HasFields, tabled, with_document}
 use Rattle.bsonraw_dump.specs.Listing.{ListsDocument}
 use Rattle.bsonraw_dump.specs.Pick.{IsPickedAs}
 use Rattle.bsonraw_dump.specs.declared.pick.Picking.{Picking}
@@ -49,7 +50,7 @@ told_line style name offset None = []
 told_line style name offset (Some told) = report_line style name offset told
 
 -- a piece of an input, what is found in it and what is told of that, the document that is made of it, if there is one, the same with
--- its place, what it repeats, what is reported of it, and what the searches cost then
+-- its place, what it repeats, what is reported of it, its elements, if they are counted, and what the searches cost then
 pub record Entry : Type 0 where
   pub bytes : List ℕ
   pub finding : Finding
@@ -58,6 +59,7 @@ pub record Entry : Type 0 where
   pub forms : List Placed
   pub repeats : List Repeat
   pub lines : List ℕ
+  pub fields : List Document
   pub work : Work
 
 -- the canonical form of a piece b in which this is found, unless it is damaged or too deep, or isn't judged
@@ -80,12 +82,13 @@ MakesPicked picking b finding.TooDeep made = made ≡ []
 MakesPicked picking b finding.Unjudged made = made ≡ []
 MakesPicked picking b _ made = (picked : List ℕ) × IsPickedAs picking b picked × (made ≡ picked ∷ [])
 
--- what a command makes of a piece b in which this is found: check, list and count nothing; sound the piece itself, unless it is damaged or too deep; canon
+-- what a command makes of a piece b in which this is found: check, list, count and fields nothing; sound the piece itself, unless it is damaged or too deep; canon
 -- and unique its canonical form; json its line; pick the document of some of its elements
 abbrev pub Makes : Command → List ℕ → Finding → List (List ℕ) → Type 0
 Makes command.Check b found made = made ≡ []
 Makes command.List b found made = made ≡ []
 Makes command.Count b found made = made ≡ []
+Makes command.Fields b found made = made ≡ []
 Makes command.Sound b finding.Damaged made = made ≡ []
 Makes command.Sound b finding.TooDeep made = made ≡ []
 Makes command.Sound b finding.Unjudged made = made ≡ []
@@ -119,6 +122,7 @@ pub record IsEntry (limits : Limits) (c : Command) (style : Style) (name : List 
   pub lines : List ℕ
   pub reports : Reports c style name offset e.bytes e.finding e.told lines
   pub told : e.lines ≡ lines ++ lines_of_repeats style e.repeats
+  pub counts : HasFields limits c (origin_at name offset) e.bytes e.finding e.fields
 
 -- A piece is in front of s, the end of an input from this offset on, and is taken at its length, where bytes may be passed over; and
 -- what finding that out cost, where earlier searches cost so much.
@@ -176,6 +180,11 @@ repeats_of_part (piece e) = e.repeats
 repeats_of_part (gap g) = []
 repeats_of_part (skipped b) = []
 
+abbrev pub fields_of_part : Part → List Document
+fields_of_part (piece e) = e.fields
+fields_of_part (gap g) = []
+fields_of_part (skipped b) = []
+
 -- what the searches cost behind a part
 abbrev pub work_behind : Work → Part → Work
 work_behind work (piece e) = e.work
@@ -211,14 +220,19 @@ abbrev pub Puts : Command → kept.Origin → List (List ℕ) → (out_old out_n
 Puts c place made out_old out_new kept_old kept_new first =
     Writes c made out_old out_new kept_old kept_new × Places c (origin_of place) made kept_old kept_new (option_map origin_of first)
 
--- a piece at this offset is passed: what is written of it, and what is reported, with the line of a repeat
-abbrev pub PassesOne : Limits → Command → Style → List ℕ → ℕ → List ℕ → (out_old out_new report_old report_new : Option (List ℕ)) → (kept_old kept_new : Kept) → Finding → Type 0
-PassesOne limits c style name offset b out_old out_new report_old report_new kept_old kept_new found =
+-- what is written of a piece at this offset, and what is reported, with the line of a repeat
+abbrev pub WritesOne : Limits → Command → Style → List ℕ → ℕ → List ℕ → (out_old out_new report_old report_new : Option (List ℕ)) → (kept_old kept_new : Kept) → Finding → Type 0
+WritesOne limits c style name offset b out_old out_new report_old report_new kept_old kept_new found =
     (told : Option Account) × Judges limits c b found told
     × ((made : List (List ℕ)) × Makes c b found made × Writes c made out_old out_new kept_old kept_new
     × ((first : Option Origin) × Places c (origin_at name offset) made kept_old kept_new first
     × ((lines : List ℕ) × Reports c style name offset b found told lines
     × Appends report_old report_new (lines ++ lines_of_repeats style (repeat_at (origin_at name offset) first)))))
+
+-- a piece at this offset is passed: that, and which elements are counted
+abbrev pub PassesOne : Limits → Command → Style → List ℕ → ℕ → List ℕ → (out_old out_new report_old report_new : Option (List ℕ)) → (kept_old kept_new : Kept) → Finding → Type 0
+PassesOne limits c style name offset b out_old out_new report_old report_new kept_old kept_new found =
+    WritesOne limits c style name offset b out_old out_new report_old report_new kept_old kept_new found × CountsFields limits c (origin_at name offset) b found kept_old kept_new
 
 -- A piece is passed, one that may be damaged only where any is; or it isn't, and nothing is written or reported.
 abbrev pub MayPassOne : Limits → (any : Bool) → Command → Style → List ℕ → ℕ → List ℕ → (out_old out_new report_old report_new : Option (List ℕ)) → (kept_old kept_new : Kept)
@@ -242,6 +256,9 @@ forms_of_parts ps = flat_map forms_of_part ps
 
 abbrev pub repeats_of_parts : List Part → List Repeat
 repeats_of_parts ps = flat_map repeats_of_part ps
+
+abbrev pub fields_of_parts : List Part → List Document
+fields_of_parts ps = flat_map fields_of_part ps
 
 -- nothing was read
 abbrev pub no_counts : Counts
@@ -303,6 +320,7 @@ pub record Passed (limits : Limits) (c : Command) (style : Style) (resync : Bool
   pub is_repeated : repeats_of_parts ps ≡ repeats_of c (firsts_of kept_old) (forms_of_parts ps)
   pub is_reported : Appends report_old report_new (lines_of_parts ps)
   pub is_counted : counts_new ≡ fold count_part counts_old ps
+  pub is_tabled : tabled kept_new ≡ fold with_document (tabled kept_old) (fields_of_parts ps)
 
 -- What is left of an input: nothing, at its end; or bytes that no document begins with, where none are passed over. Unless reading
 -- failed, they are all. Of a run that ends early anything is left.

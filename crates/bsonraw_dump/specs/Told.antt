@@ -165,11 +165,12 @@ Count = List ℕ × ℕ
 abbrev pub count_of : summary.Count → Count
 count_of count = (count.name.now, count.number)
 
--- how many documents a command kept, and how many it left out; check, list and count keep none
+-- how many documents a command kept, and how many it left out; check, list, count and fields keep none
 abbrev pub kept_counts : Command → Counts → ℕ → List Count
 kept_counts command.Check n kept = []
 kept_counts command.List n kept = []
 kept_counts command.Count n kept = []
+kept_counts command.Fields n kept = []
 kept_counts _ n kept = (codes "kept", kept) ∷ (codes "left out", n.documents - kept) ∷ []
 
 -- how many documents without damage aren't canonical, where that changes what the command does

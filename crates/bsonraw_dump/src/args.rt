@@ -176,6 +176,19 @@ fn texts<'a>(alloc: Global) -> Result<clap::Command<'a>, AllocError> {
         .arg(files(alloc, "Texts; nothing or -: standard input"))
 }
 
+/// Elements of so many paths are counted where no number is given.
+const PATHS: usize = 10_000;
+
+/// The command that counts elements.
+fn fields<'a>(alloc: Global) -> Result<clap::Command<'a>, AllocError> {
+    let command = clap::Command::new(alloc, "fields").about(
+        "Counts the elements of documents without damage by their paths, with kinds and lengths",
+    );
+    let paths = "Counts elements of at most N paths; 10000 if it isn't given";
+    let command = command.arg(number(alloc, "paths", "N", 0, LARGEST, paths))?;
+    reading(alloc, command)
+}
+
 /// The command line as a whole.
 pub fn command_line<'a>(alloc: Global) -> Result<clap::Command<'a>, AllocError> {
     let check = clap::Command::new(alloc, "check").about(
@@ -206,6 +219,7 @@ pub fn command_line<'a>(alloc: Global) -> Result<clap::Command<'a>, AllocError> 
         .subcommand(reading(alloc, findings(alloc, check)?)?)?
         .subcommand(reading(alloc, list)?)?
         .subcommand(reading(alloc, findings(alloc, count)?)?)?
+        .subcommand(fields(alloc)?)?
         .subcommand(writing(alloc, canon)?)?
         .subcommand(writing(alloc, sound)?)?
         .subcommand(writing(alloc, unique.arg(switch(alloc, "repeats", repeats))?)?)?
@@ -259,6 +273,15 @@ fn picking_of<'a>(matches: &ArgMatches<'a>) -> Picking<'a> {
     }
 }
 
+/// Of how many paths elements are counted at most.
+fn paths_of(command: Command<'_>, matches: &ArgMatches<'_>) -> usize {
+    if matches!(command, Command::Fields) {
+        matches.get_one("paths").unwrap_or(PATHS)
+    } else {
+        0
+    }
+}
+
 /// The task of a command that was given.
 fn task_of<'a>(
     alloc: Global,
@@ -266,13 +289,13 @@ fn task_of<'a>(
     matches: &ArgMatches<'a>,
 ) -> Result<Task<'a>, Error> {
     let output = match command {
-        Command::Check | Command::List | Command::Count => None,
+        Command::Check | Command::List | Command::Count | Command::Fields => None,
         Command::Canon | Command::Sound | Command::Unique | Command::Json(_) | Command::Pick(_) => {
             matches.get_str("output").filter(|name| *name != "-")
         }
     };
     let style = match command {
-        Command::List => Style::Words,
+        Command::List | Command::Fields => Style::Words,
         Command::Check
         | Command::Count
         | Command::Canon
@@ -293,6 +316,7 @@ fn task_of<'a>(
                 skip: matches.get_one("skip").unwrap_or(0),
                 take: matches.get_one("take"),
             },
+            paths: paths_of(command, matches),
         }),
         output,
         inputs: inputs_of(alloc, matches)?,
@@ -333,6 +357,9 @@ pub fn parsed<'a>(alloc: Global, words: &'a [String]) -> Result<Option<Task<'a>>
     }
     if let Some(inner) = matches.subcommand_matches("count") {
         return Ok(Some(task_of(alloc, Command::Count, inner)?));
+    }
+    if let Some(inner) = matches.subcommand_matches("fields") {
+        return Ok(Some(task_of(alloc, Command::Fields, inner)?));
     }
     if let Some(inner) = matches.subcommand_matches("canon") {
         return Ok(Some(task_of(alloc, Command::Canon, inner)?));

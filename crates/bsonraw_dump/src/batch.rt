@@ -7,6 +7,7 @@ ghost use Rattle.std.specs.Option.{option_map};
 ghost use Rattle.bson_json.specs.Written.{AppendsFront};
 ghost use Rattle.bsonraw_dump.specs.Batch.{AreInRange, Comes, CountsInput, CountsRun, IsDone, KeepsNothing, RunsAll, RunsFront, State, HaltsWithin, all_line, cut_of, first_cut, input_line, input_of, state_of};
 ghost use Rattle.bsonraw_dump.specs.Run.{IsReading, no_counts, plus};
+ghost use Rattle.bsonraw_dump.specs.declared.command.Command.TheVariants.{Fields};
 ghost use Rattle.bsonraw_dump.specs.Status.{HasDamage, IsFailureStatus, IsStatus};
 
 use crate::command::Command;
@@ -38,6 +39,8 @@ pub struct Job<'a> {
     pub portion: Portion,
     /// whether documents that repeat the form of another are told
     pub repeats: bool,
+    /// of how many paths elements are counted at most
+    pub paths: usize,
 }
 
 /// An input that wasn't read to its end.
@@ -79,15 +82,15 @@ pub struct Totals<'a> {
 }
 
 impl<'a> Totals<'a> {
-    /// Nothing was read.
-    fn new(alloc: Global, repeats: bool) -> Totals<'a>
+    /// Nothing was read. Elements of at most so many paths will be counted.
+    fn new(alloc: Global, repeats: bool, paths: usize) -> Totals<'a>
         ensures counts { result.counts ≡ no_counts }
-        ensures kept { KeepsNothing repeats result.kept }
+        ensures kept { KeepsNothing repeats paths result.kept }
         ensures cut { result.cut ≡ None }
     {
         Totals {
             counts: Counts::new(),
-            kept: Kept::new(alloc, repeats),
+            kept: Kept::new(alloc, repeats, paths),
             cut: None,
         }
     }
@@ -120,7 +123,7 @@ pub fn run_all<'a, I: Inputs, D: Write, W: Write>(
     ensures { IsDone job.entry (I.bytes_of inputs.now) (map (λ name. name.now) names.now) (D.contents out.old) (D.contents out.new)
         (W.contents report.old) (W.contents report.new) result }
 {
-    let mut totals = Totals::new(alloc, job.repeats);
+    let mut totals = Totals::new(alloc, job.repeats, job.paths);
     match run_each(alloc, job, inputs, names, out, report, &mut totals) {
         Ok(()) => Done {
             status: status_of(job.command, totals.counts),
@@ -278,12 +281,13 @@ fn put_counts<W: Write>(
         | Command::Canon
         | Command::Sound
         | Command::Unique
+        | Command::Fields
         | Command::Json(_)
-        | Command::Pick(_) => { put(report, b"") }
+        | Command::Pick(_) => put(report, b""),
     }
 }
 
-/// Writes what was counted of all inputs, but of a list.
+/// Writes what was counted of all inputs, but of a list. Of fields, the lines of the paths come before it.
 fn put_all_counts<W: Write>(
     alloc: Global,
     job: Job<'_>,
@@ -298,6 +302,7 @@ fn put_all_counts<W: Write>(
 {
     match job.command {
         Command::List => put(report, b""),
+        Command::Fields => put_fields(alloc, job, totals, report),
         Command::Check
         | Command::Count
         | Command::Canon
@@ -314,6 +319,32 @@ fn put_all_counts<W: Write>(
             report,
         ),
     }
+}
+
+/// Writes the lines of the paths that were counted, and what was counted of all inputs.
+fn put_fields<W: Write>(
+    alloc: Global,
+    job: Job<'_>,
+    totals: &Totals<'_>,
+    report: &mut W,
+) -> Result<(), Failure>
+    ensures written { OnOk result
+        (Appends (W.contents report.old) (W.contents report.new) (all_line job.entry Fields totals.now.counts totals.now.kept)) }
+    ensures front { OnErr result
+        (AppendsFront (W.contents report.old) (W.contents report.new) (all_line job.entry Fields totals.now.counts totals.now.kept)) }
+    ensures failed { IfErr result (λ failure. ¬ IsReading failure) }
+{
+    let lines = totals.kept.paths().lines(alloc)?;
+    put(report, &lines)?;
+    put_summary(
+        alloc,
+        job.style,
+        None,
+        Command::Fields,
+        &totals.counts,
+        totals.kept.count(),
+        report,
+    )
 }
 
 pub fn flush<W: Write>(writer: &mut W) -> Result<(), Failure>

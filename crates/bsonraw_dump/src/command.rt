@@ -16,6 +16,8 @@ pub enum Command<'a> {
     Sound,
     /// the canonical form of each without damage, where it is the first with its digest
     Unique,
+    /// what the elements of all have under each path
+    Fields,
     /// each without damage as Extended JSON, with a line feed behind it
     Json(Style),
     /// a document of some elements of each without damage

@@ -182,7 +182,7 @@ fn start(rt: &HostRuntime, task: &Task<'_>) -> Status {
         return Status::Memory;
     };
     match task.reading.command() {
-        Some(Command::Check | Command::Count) => {
+        Some(Command::Check | Command::Count | Command::Fields) => {
             let is_file = node_of(rt, "/dev/stdout").is_some();
             let mut out = Prompt::new(rt, out, !is_file);
             each(rt, task, &mut io::sink(), &mut out).status
@@ -217,7 +217,7 @@ fn files_of<'a>(rt: &'a HostRuntime, task: &Task<'_>) -> Files<'a> {
     let is_redirected = task.output.is_none();
     let is_apart = matches!(
         task.reading.command(),
-        Some(Command::Check | Command::Count)
+        Some(Command::Check | Command::Count | Command::Fields)
     ) || !is_redirected
         || !rt.stdout().is_terminal();
     Files {

@@ -99,6 +99,7 @@ pub fn judged<'a>(
         | Command::Canon
         | Command::Sound
         | Command::Unique
+        | Command::Fields
         | Command::Json(_)
         | Command::Pick(_) => find(alloc, limits, bytes),
     }

@@ -6,6 +6,9 @@ ghost use Rattle.bsonraw_dump.specs.Unique.{digest_of, first_at, first_of, has_d
 ghost use Rattle.bsonraw_dump.specs.declared.kept.Forms.TheVariants.{Digests, Firsts};
 
 use crate::failure::{Failure, in_range};
+use crate::fields::add_tokens;
+use crate::paths::Paths;
+use raw_form::Token;
 use sha2::{Digest, Sha256};
 use std::alloc::{AllocError, Global};
 use std::collections::{BTreeMap, BTreeSet};
@@ -37,27 +40,32 @@ pub enum Added<'a> {
     Repeat(Option<Origin<'a>>),
 }
 
-/// What was written so far: how many documents, and of unique the digest of each form.
+/// What was written so far: how many documents, and of unique the digest of each form. Of fields, what was counted.
 #[derive(Drop)]
 pub struct Kept<'a> {
     count: u64,
     forms: Forms<'a>,
+    paths: Paths<'a>,
 }
 
 impl<'a> Kept<'a> {
-    ghost use Rattle.std.specs.Prelude.{◌≡◌, ◌+◌, ℕ, List, false, not, IfErr, IfOk, OnOk};
+    ghost use Rattle.std.specs.Prelude.{◌≡◌, ◌+◌, ◌∷◌, [], ℕ, List, false, not, IfErr, IfOk, OnOk};
+    ghost use Rattle.bsonraw_dump.specs.Fields.{KeepsWritten, fields_of, no_table, outermost, tabled, with_document};
     ghost use Rattle.bsonraw_dump.specs.Run.{IsReading};
     ghost use Rattle.bsonraw_dump.specs.Unique.{CountsOne, digest_of, first_at, first_of, firsts_of, is_new, knows, no_firsts, origin_of, placed, with_first, with_form};
 
-    /// Nothing was written. Places of first documents are kept where repeats are asked for.
-    pub fn new(alloc: Global, repeats: bool) -> Kept<'a>
+    /// Nothing was written, and nothing counted; at most so many paths will be. Places of first documents are kept where repeats are
+    /// asked for.
+    pub fn new(alloc: Global, repeats: bool, paths: usize) -> Kept<'a>
         ensures none { result.count ≡ 0 }
         ensures unknown { (d : List ℕ) → knows result d ≡ false }
         ensures firsts { firsts_of result ≡ no_firsts repeats }
+        ensures uncounted { tabled result ≡ no_table paths }
     {
         Kept {
             count: 0,
             forms: no_forms(alloc, repeats),
+            paths: Paths::new(alloc, paths),
         }
     }
 
@@ -68,9 +76,34 @@ impl<'a> Kept<'a> {
         self.count
     }
 
+    /// What was counted of each path.
+    pub fn paths(&self) -> &Paths<'a>
+        ensures { result.now ≡ self.now.paths }
+    {
+        &self.paths
+    }
+
+    /// Puts the elements of a document with these tokens, which begins there, to those that were counted.
+    pub fn add_document(
+        &mut self,
+        alloc: Global,
+        origin: Origin<'a>,
+        bytes: &[u8],
+        tokens: &[Token],
+    ) -> Result<(), Failure>
+        ensures added { OnOk result (tabled self.new
+            ≡ with_document (tabled self.old) (record { place = origin_of origin.entry; fields = fields_of bytes.now (outermost ∷ []) tokens.now })) }
+        ensures written { KeepsWritten self.old self.new }
+        ensures failed { IfErr result (λ failure. ¬ IsReading failure) }
+    {
+        self.paths.begin()?;
+        add_tokens(alloc, &mut self.paths, origin, bytes, tokens)
+    }
+
     /// One document more was written. Fails if there would be too many to count.
     pub fn count_one(&mut self) -> Result<(), Failure>
         ensures counted { OnOk result (CountsOne self.old self.new) }
+        ensures paths { self.new.paths ≡ self.old.paths }
         ensures failed { IfErr result (λ failure. ¬ IsReading failure) }
     {
         self.count = in_range(self.count.checked_add(1))?;
@@ -86,6 +119,7 @@ impl<'a> Kept<'a> {
         ensures places { OnOk result
             (firsts_of self.new ≡ with_first (firsts_of self.old) (placed (origin_of origin.entry) form.now)) }
         ensures count { self.new.count ≡ self.old.count }
+        ensures paths { self.new.paths ≡ self.old.paths }
     {
         match &mut self.forms {
             Forms::Digests(digests) => add_digest(digests, form),

@@ -48,7 +48,11 @@ impl<'a> Reading<'a> {
             Reading::Dumps(job) => match job.command {
                 Command::Canon | Command::Sound | Command::Unique => true,
                 Command::Pick(picking) => picking.style.is_none(),
-                Command::Check | Command::List | Command::Count | Command::Json(_) => false,
+                Command::Check
+                | Command::List
+                | Command::Count
+                | Command::Fields
+                | Command::Json(_) => false,
             },
             Reading::Texts(_) => true,
         }

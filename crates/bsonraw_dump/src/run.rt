@@ -1,7 +1,7 @@
 //! Runs a command over an input.
 #![tactic(auto)]
 
-ghost use Rattle.std.specs.Prelude.{◌≡◌, ℕ, List, Option, [], ◌∷◌, ◌++◌, ◌<◌, ◌≤◌, codes, IfOk, IfErr, IfSome, IsNone, OnErr, OnOk, length, take};
+ghost use Rattle.std.specs.Prelude.{◌≡◌, ℕ, List, Option, [], ◌∷◌, ◌++◌, ◌<◌, ◌≤◌, codes, IfOk, IfErr, IfSome, IsNone, MatchBool, OnErr, OnOk, length, take};
 ghost use Rattle.std.specs.Option.{option_copied, option_map};
 ghost use Rattle.std.specs.Io.KnownBytes.{Appends, Keeps};
 ghost use Rattle.bsonraw_dump.specs.Cut.{EndsWith, IsPiece};
@@ -13,6 +13,7 @@ ghost use Rattle.bsonraw_dump.specs.Halting.{IsMade, ListsFront, ReportsFront, H
 ghost use Rattle.bsonraw_dump.specs.Pick.{IsPickedAs};
 ghost use Rattle.bsonraw_dump.specs.Portion.{EndsPortion, HaltsPortion, PassesPortion};
 ghost use Rattle.bsonraw_dump.specs.Listing.{ListsDocument};
+ghost use Rattle.bsonraw_dump.specs.Fields.{CountsFields, IsCounted, KeepsWritten};
 ghost use Rattle.bsonraw_dump.specs.Find.{Account, account_of};
 ghost use Rattle.bsonraw_dump.specs.Unique.{CountsOne, knows, origin_of, repeat_at, written_of};
 ghost use Rattle.bsonraw_dump.specs.Told.{ending_line, line, summary_line};
@@ -28,6 +29,7 @@ use crate::command::Command;
 use crate::counts::Counts;
 use crate::ending::{Ending, Rest};
 use crate::failure::{Failure, ReadFailure, in_range};
+use crate::fields::tokens_of;
 use crate::find::{Finding, Found, Told, judged};
 use crate::kept::{Added, Kept, Origin};
 use crate::listing::list_levels;
@@ -369,7 +371,39 @@ fn pass<'a, D: Write, W: Write>(
     )?;
     let first = emit(alloc, asked.command, limits, at, finding, bytes, out, kept)?;
     put_repeat(alloc, asked.style, at, first, report)?;
+    count_fields(alloc, asked.command, limits, finding, at, bytes, kept)?;
     Ok(Some(finding))
+}
+
+/// Counts the elements of a document in which this was found, where the command counts them.
+fn count_fields<'a>(
+    alloc: Global,
+    command: Command<'_>,
+    limits: Limits,
+    finding: Finding,
+    origin: Origin<'a>,
+    bytes: &[u8],
+    kept: &mut Kept<'a>,
+) -> Result<(), Failure>
+    ensures counted { OnOk result (CountsFields limits command.entry (origin_of origin.entry) bytes.now finding kept.old kept.new) }
+    ensures written { KeepsWritten kept.old kept.new }
+    ensures failed { IfErr result (λ failure. ¬ IsReading failure) }
+{
+    if !counts_elements(command, finding) {
+        return Ok(());
+    }
+    let tokens = tokens_of(alloc, bytes, limits)?;
+    kept.add_document(alloc, origin, bytes, &tokens)
+}
+
+/// Whether a command counts the elements of a document in which this was found.
+fn counts_elements(command: Command<'_>, finding: Finding) -> bool
+    ensures { MatchBool result (IsCounted command.entry finding) (¬ IsCounted command.entry finding) }
+{
+    matches!(
+        (command, finding),
+        (Command::Fields, Finding::Canonical | Finding::Breached)
+    )
 }
 
 /// Reports what the command tells of a document in which this was found.
@@ -403,7 +437,8 @@ fn report_found<W: Write>(
             | Command::Unique
             | Command::Json(_)
             | Command::Pick(_)
-            | Command::Count,
+            | Command::Count
+            | Command::Fields,
             Finding::Canonical | Finding::Breached | Finding::Unjudged,
         ) => put(report, b""),
     }
@@ -580,10 +615,11 @@ fn emit<'a, D: Write>(
     ensures written { IfOk result
         (Emits command.entry origin.entry bytes.now finding (D.contents out.old) (D.contents out.new) kept.old kept.new) }
     ensures front { OnErr result (WritesFront (IsMade command.entry bytes.now finding kept.old) (D.contents out.old) (D.contents out.new)) }
+    ensures paths { kept.new.paths ≡ kept.old.paths }
     ensures failed { IfErr result (λ failure. ¬ IsReading failure) }
 {
     match (command, finding) {
-        (Command::Check | Command::List | Command::Count, _)
+        (Command::Check | Command::List | Command::Count | Command::Fields, _)
         | (_, Finding::Damaged | Finding::TooDeep | Finding::Unjudged) => {
             put(out, b"")?;
             Ok(None)
@@ -626,6 +662,7 @@ fn put_form<'a, D: Write>(
     ensures front { OnErr result (WritesFront
         (λ text. (form : List ℕ) × IsCanonicalForm bytes.now form × (text ≡ written_of command.entry (knows kept.old) (form ∷ [])))
         (D.contents out.old) (D.contents out.new)) }
+    ensures paths { kept.new.paths ≡ kept.old.paths }
     ensures failed { IfErr result (λ failure. ¬ IsReading failure) }
 {
     match canonical_within(alloc, bytes, limits) {
@@ -648,6 +685,7 @@ fn put_json<D: Write>(
         × Appends (D.contents out.old) (D.contents out.new) (text ++ codes "\n") × CountsOne kept.old kept.new) }
     ensures front { OnErr result (WritesFront
         (λ line. (text : List ℕ) × IsJson style bytes.now text × (line ≡ text ++ codes "\n")) (D.contents out.old) (D.contents out.new)) }
+    ensures paths { kept.new.paths ≡ kept.old.paths }
     ensures failed { IfErr result (λ failure. ¬ IsReading failure) }
 {
     let Ok(document) = RawDocument::from_bytes(bytes) else {
@@ -674,6 +712,7 @@ fn put_picked<D: Write>(
     ensures written { OnOk result ((made : List ℕ) × IsPickedAs picking.entry bytes.now made
         × Appends (D.contents out.old) (D.contents out.new) made × CountsOne kept.old kept.new) }
     ensures front { OnErr result (WritesFront (IsPickedAs picking.entry bytes.now) (D.contents out.old) (D.contents out.new)) }
+    ensures paths { kept.new.paths ≡ kept.old.paths }
     ensures failed { IfErr result (λ failure. ¬ IsReading failure) }
 {
     let Ok(document) = RawDocument::from_bytes(bytes) else {
@@ -702,6 +741,7 @@ fn put_document<'a, D: Write>(
     ensures written { IfOk result
         (Puts command.entry origin.entry (document.now ∷ []) (D.contents out.old) (D.contents out.new) kept.old kept.new) }
     ensures front { OnErr result (AppendsFront (D.contents out.old) (D.contents out.new) (written_of command.entry (knows kept.old) (document.now ∷ []))) }
+    ensures paths { kept.new.paths ≡ kept.old.paths }
     ensures failed { IfErr result (λ failure. ¬ IsReading failure) }
 {
     match command {
@@ -711,6 +751,7 @@ fn put_document<'a, D: Write>(
         | Command::Count
         | Command::Canon
         | Command::Sound
+        | Command::Fields
         | Command::Json(_)
         | Command::Pick(_) => {
             put_one(document, out, kept)?;
@@ -724,6 +765,7 @@ fn put_one<D: Write>(bytes: &[u8], out: &mut D, kept: &mut Kept<'_>) -> Result<(
     ensures written { OnOk result
         (Appends (D.contents out.old) (D.contents out.new) bytes.now × CountsOne kept.old kept.new) }
     ensures front { OnErr result (AppendsFront (D.contents out.old) (D.contents out.new) bytes.now) }
+    ensures paths { kept.new.paths ≡ kept.old.paths }
     ensures failed { IfErr result (λ failure. ¬ IsReading failure) }
 {
     put(out, bytes)?;
@@ -740,6 +782,7 @@ fn put_new<'a, D: Write>(
     ensures written { IfOk result
         (Puts Unique origin.entry (document.now ∷ []) (D.contents out.old) (D.contents out.new) kept.old kept.new) }
     ensures front { OnErr result (AppendsFront (D.contents out.old) (D.contents out.new) (written_of Unique (knows kept.old) (document.now ∷ []))) }
+    ensures paths { kept.new.paths ≡ kept.old.paths }
     ensures failed { IfErr result (λ failure. ¬ IsReading failure) }
 {
     match kept.add(origin, document)? {

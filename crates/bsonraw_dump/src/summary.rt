@@ -39,7 +39,7 @@ fn push_kept(
     ensures { OnOk result (map count_of all.new.items ≡ map count_of all.old.items ++ kept_counts command.entry counts.now kept) }
 {
     match command {
-        Command::Check | Command::List | Command::Count => Ok(()),
+        Command::Check | Command::List | Command::Count | Command::Fields => Ok(()),
         Command::Canon | Command::Sound | Command::Unique | Command::Json(_) | Command::Pick(_) => {
             push(all, "kept", kept)?;
             push(all, "left out", counts.documents.saturating_sub(kept))
@@ -61,6 +61,7 @@ fn push_breached(
         | Command::Count
         | Command::Sound
         | Command::Unique
+        | Command::Fields
         | Command::Json(_)
         | Command::Pick(_) => Ok(()),
     }
@@ -81,6 +82,7 @@ fn push_damaged(
         | Command::Canon
         | Command::Sound
         | Command::Unique
+        | Command::Fields
         | Command::Json(_)
         | Command::Pick(_) => {
             push(all, "damaged", counts.damaged)?;

@@ -1,8 +1,9 @@
-use Rattle.std.proofs.Common.{List, ℕ, Bor}
+use Rattle.std.proofs.Common.{List, ℕ, Bor, refl}
 use Rattle.std.proofs.KnownBytes.{Appends-kept}
 use Rattle.bsonraw_dump.specs.Batch.{state_of}
 use Rattle.bsonraw_dump.proofs.Fronts.{front_none, front_whole, on_any}
-use Rattle.bsonraw_dump.proofs.Summing.{runs_front, runs_next, halts_behind, halts_next}
+use Rattle.bsonraw_dump.proofs.Summing.{runs_front, runs_next, runs_whole, halts_behind, halts_next}
+use Rattle.bsonraw_dump.proofs.TextSumming.{in_ok}
 use Rattle.bsonraw_dump.proofs.batch.run_each.Goals as goal
 
 pub loop-name-preserved : goal.loop-name-preserved
@@ -12,6 +13,26 @@ loop-name-preserved g c =
     let last = state_of (g.D.Write.contents c.run_one.new.out) (g.W.Write.contents c.run_one.new.report) c.run_one.new.totals in
     runs_next c.args.job (g.I.Inputs.bytes_of c.args.inputs.now) (λ (name : Bor (List ℕ)). name.now) c.args.names.now c.loop-name.name-index _ first between last
     c.loop-name-test.true c.loop-name.invariant c.in_ok-run_one.ensures.comes
+
+pub returns-clause-runs : goal.returns-clause-runs
+returns-clause-runs g c =
+    let job = c.args.job in
+    let w' = g.W.Write.contents c.loop-name.report in
+    let w'' = g.W.Write.contents c.put_all_counts.new.report in
+    let w = g.W.Write.contents c.flush-2.new.writer in
+    let first = state_of (g.D.Write.contents c.args.out.now) (g.W.Write.contents c.args.report.now) c.args.totals.now in
+    let last = state_of (g.D.Write.contents c.loop-name.out) w' c.loop-name.totals in
+    in_ok c.flush-2.result _ (
+      last,
+      record {
+        runs = runs_whole job (g.I.Inputs.bytes_of c.args.inputs.now) (λ (name : Bor (List ℕ)). name.now) c.args.names.now c.loop-name.name-index first last
+            c.loop-name-test.false c.loop-name.invariant;
+        out = c.flush.ensures.kept;
+        report = Appends-kept w' w'' w _ c.in_ok-put_all_counts.ensures.written c.flush-2.ensures.kept;
+      },
+      refl,
+      refl,
+    )
 
 pub returns-in_err-run_one-clause-fails : goal.returns-in_err-run_one-clause-fails
 returns-in_err-run_one-clause-fails g c =

@@ -27,6 +27,7 @@ returns-in-None g c =
           (λ (put, counted). (document, is_picked_as picking None b document document c.in-None.is is refl, put, counted)) c.put_one.ensures.written;
       front = on_err c.put_one.result (AppendsFront old new document) (WritesFront (IsPickedAs picking b) old new)
           (λ front. front_picked picking None b document old new c.in-None.is is (inr (document, refl, front))) c.put_one.ensures.front;
+      paths = c.put_one.ensures.paths;
       failed = c.put_one.ensures.failed;
     }
 
@@ -49,5 +50,6 @@ returns g c =
           c.put_json.ensures.written;
       front = on_err c.put_json.result (WritesFront (IsPrinted (Some style) document) old new) (WritesFront (IsPickedAs picking b) old new)
           (λ front. front_picked picking (Some style) b document old new c.in-Some.is is front) c.put_json.ensures.front;
+      paths = c.put_json.ensures.paths;
       failed = c.put_json.ensures.failed;
     }
