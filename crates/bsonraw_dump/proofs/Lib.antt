@@ -28,3 +28,4 @@ mod TextWords
 mod TextWhole
 mod TextSumming
 mod Guessing
+mod Endings

@@ -22,3 +22,4 @@ pub mod TextBatch
 pub mod Guess
 pub mod Watching
 pub mod Errors
+pub mod Binary

@@ -1,3 +1,9 @@
+//! What is asked of the documents of an input.
+#![tactic(auto)]
+
+ghost use Rattle.std.specs.Prelude.{MatchBool};
+ghost use Rattle.bsonraw_dump.specs.Binary.{MakesBson, MakesNoBson};
+
 use crate::pick::Picking;
 use bson_json::Style;
 
@@ -22,4 +28,18 @@ pub enum Command<'a> {
     Json(Style),
     /// a document of some elements of each without damage
     Pick(Picking<'a>),
+}
+
+impl Command<'_> {
+    /// Whether what it writes is BSON, which is no text.
+    pub fn writes_documents(self) -> bool
+        ensures { MatchBool result (MakesBson self.entry) (MakesNoBson self.entry) }
+    {
+        match self {
+            Command::Canon | Command::Sound | Command::Unique => true,
+            Command::Pick(picking) => picking.style.is_none(),
+            Command::Check | Command::List | Command::Count | Command::Fields | Command::Json(_) =>
+                false,
+        }
+    }
 }

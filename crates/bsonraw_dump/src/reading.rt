@@ -1,7 +1,8 @@
 //! What the inputs of a run hold, and what is asked of them.
 #![tactic(auto)]
 
-ghost use Rattle.std.specs.Prelude.{◌≡◌, MatchOption};
+ghost use Rattle.std.specs.Prelude.{◌≡◌, MatchBool, MatchOption};
+ghost use Rattle.bsonraw_dump.specs.Binary.{WritesBson, WritesNoBson};
 ghost use Rattle.bsonraw_dump.specs.Errors as says;
 ghost use Rattle.bsonraw_dump.specs.declared.batch.Job.{Job};
 ghost use Rattle.bsonraw_dump.specs.declared.reading.Reading.TheVariants.{Dumps, Texts};
@@ -43,17 +44,11 @@ impl<'a> Reading<'a> {
     }
 
     /// Whether BSON is written.
-    pub fn writes_documents(self) -> bool {
+    pub fn writes_documents(self) -> bool
+        ensures { MatchBool result (WritesBson self.entry) (WritesNoBson self.entry) }
+    {
         match self {
-            Reading::Dumps(job) => match job.command {
-                Command::Canon | Command::Sound | Command::Unique => true,
-                Command::Pick(picking) => picking.style.is_none(),
-                Command::Check
-                | Command::List
-                | Command::Count
-                | Command::Fields
-                | Command::Json(_) => false,
-            },
+            Reading::Dumps(job) => job.command.writes_documents(),
             Reading::Texts(_) => true,
         }
     }
