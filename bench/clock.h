@@ -12,7 +12,7 @@ static double now(void) {
 }
 
 /* of a call of run, in nanoseconds, by so many of them */
-static double time_of(void (*run)(void), double calls) {
+static inline double time_of(void (*run)(void), double calls) {
     double begun = now(), left;
     for (left = calls; left > 0; left--) run();
     return (now() - begun) / calls;

@@ -11,12 +11,12 @@
  * Each call's count and sum are compared with those of driver.c's own walk (walk, below): status 1 where one differs. */
 #define _GNU_SOURCE
 #include "calls.h"
+#include "clock.h"
 
 #include <stdbool.h>
 #include <stdio.h>
 #include <stdlib.h>
 #include <string.h>
-#include <time.h>
 
 enum { APPENDS = 1000000 };
 
@@ -264,12 +264,6 @@ static const operation ops[] = {
 };
 
 /* ---- measuring ------------------------------------------------------------------------------------------------ */
-
-static double now(void) {
-    struct timespec t;
-    clock_gettime(CLOCK_MONOTONIC, &t);
-    return t.tv_sec * 1e9 + t.tv_nsec;
-}
 
 static long setting(const char *name, long otherwise) {
     const char *s = getenv(name);

@@ -2,10 +2,12 @@
 """Dumps of 100 MB: what `bsonraw-dump` takes for them, and decoding them by MongoDB's package; of two fields what `pick` takes, and `json`
 and jq.
 
-usage: dumps.py PROGRAM FOLDER      PROGRAM: bsonraw-dump; FOLDER: for the dumps
+usage: dumps.py PROGRAM CHECKED FOLDER      PROGRAM: bsonraw-dump; CHECKED: checked.c, compiled; FOLDER: for the dumps
 
-Prints a line a dump and way: dump, way, seconds of the processor, the least of three.
+Prints a line a dump and way: dump, way, seconds of the processor, the least of ROUNDS, 12 if that isn't set, in which the
+ways take turns; those of others take part in every fourth.
 """
+import os
 import random
 import resource
 import struct
@@ -77,17 +79,32 @@ def by_package(file):
     return time.process_time() - before
 
 
-def main(program, folder):
+def in_memory(checked, file):
+    return float(subprocess.run([checked, file], stdout=subprocess.PIPE, text=True, check=True).stdout)
+
+
+def least_of(ways, others):
+    """The least time of each way."""
+    least = dict.fromkeys([*ways, *others], float("inf"))
+    for number in range(int(os.environ.get("ROUNDS", "12"))):
+        for way, run in [*ways.items(), *(() if number % 4 else others.items())]:
+            least[way] = min(least[way], run())
+    return least
+
+
+def main(program, checked, folder):
     for name, made in (("great", great), ("small", small)):
         file = Path(folder, f"{name}.bson")
         write(file, made(random.Random(5)))
-        ways = {command: lambda command=command: by_program(program, file, command) for command in ("check", "unique", "list", "fields")}
-        ways["decoded"] = lambda: by_package(file)
+        commands = "check", "unique", "list", "fields", "json"
+        ways = {command: lambda command=command: by_program(program, file, command) for command in commands}
+        ways["memory"] = lambda: in_memory(checked, file)
+        others = {"decoded": lambda: by_package(file)}
         if name == "great":
             ways["pick"] = lambda: by_program(program, file, "pick", PATHS)
-            ways["jq"] = lambda: by_jq(program, file)
-        for way, run in ways.items():
-            print(name, way, f"{min(run() for _ in range(3)):.3f}", sep="\t", flush=True)
+            others["jq"] = lambda: by_jq(program, file)
+        for way, seconds in least_of(ways, others).items():
+            print(name, way, f"{seconds:.3f}", sep="\t", flush=True)
         file.unlink()
 
 
