@@ -240,6 +240,14 @@ wants '"mixed.bson":12: repeated-key at /1:"a", byte 11
 '"$(one mixed.bson 6 84 2 2 0 0 0 0)"'
 '
 run 'damage in the middle' 1 check mixed.bson
+wants '"mixed.bson":12: repeated-key at /1:"a", byte 11
+"mixed.bson":31: damaged at /0:"a", byte 4: a boolean is neither 0 nor 1: 2
+'"$(one mixed.bson 6 84 2 2 0 0 0 0)"', findings not printed: 2
+'
+run 'the first two findings' 1 check --limit 2 mixed.bson
+wants "$(one mixed.bson 6 84 2 2 0 0 0 0), findings not printed: 4
+"
+run 'no finding' 1 check --limit 0 mixed.bson
 wants '"cut.bson":12: cut off: only 6 bytes of a document: 6 bytes not read, --resync goes on
 '"$(of cut.bson 1 12 0 0 0 0 6 1)"'
 "cut3":0: cut off: only 3 bytes of a document: 3 bytes not read, --resync goes on
@@ -254,6 +262,12 @@ wants '"cut.bson":12: cut off: only 6 bytes of a document: 6 bytes not read, --r
 '"$(counted 2 31 1 0 0 0 36 5)"'
 '
 run 'lengths that are unsound' 3 check cut.bson cut3 under.bson negative over
+wants '"cut.bson":12: cut off: only 6 bytes of a document: 6 bytes not read, --resync goes on
+'"$(of cut.bson 1 12 0 0 0 0 6 1)"'
+'"$(of cut3 0 0 0 0 0 0 3 1)"'
+'"$(counted 1 12 0 0 0 0 9 2)"', findings not printed: 1
+'
+run 'the first of two ends that are cut off' 3 check --limit 1 cut.bson cut3
 wants "$(one most 1 16793600 0 0 0 0 0 0)
 "
 run 'the longest document' 0 check most
@@ -450,8 +464,11 @@ wants '{"file":"gaps","offset":0,"finding":"unsound length","length":4,"passed o
 '"$(one_json gaps 4 63 2 0 0 16 0 0)"'
 '
 run 'gaps as JSON' 3 check --resync --json gaps
+{ head -3 wanted.out && tail -2 wanted.out | sed '$s/}$/,"findings not printed":2}/'; } >wanted.limit
 sed -i 's/"gaps"/"-"/' wanted.out
 cat gaps | run 'gaps through a pipe' 3 check --resync --json || failed=1
+mv wanted.limit wanted.out
+run 'the first three findings, as JSON' 3 check --resync --json --limit 3 gaps
 wants '"gaps":0: unsound length 4: 5 bytes passed over
 "gaps":5: 19 bytes: repeated-key at /1:"a", byte 11
   "a": Int32: 1
@@ -827,6 +844,16 @@ wants '' '"twice.bson":31: repeats "twice.bson":0
 '
 cat twice.both >wanted.out
 run 'repeats over files' 1 unique --repeats twice.bson twice.later sound.bson
+wants '' '"twice.bson":31: repeats "twice.bson":0
+"twice.bson":70: damaged at /0:"a", byte 4: a boolean is neither 0 nor 1: 2
+"twice.bson":79: repeats "twice.bson":12
+"twice.bson":91: repeats "twice.bson":43
+"twice.bson":116: repeats "twice.bson":0
+"twice.later":32: repeats "twice.bson":0
+'"$(wrote 15 201 6 9 1 0 0 0 0)"', findings not printed: 3
+'
+cat twice.both >wanted.out
+run 'six findings over files' 1 unique --repeats --limit 6 twice.bson twice.later sound.bson
 wants '' '{"file":"twice.later","offset":44,"finding":"repeat","first file":"twice.later","first offset":32}
 {"file":"sound.bson","offset":0,"finding":"repeat","first file":"twice.later","first offset":32}
 {"file":"sound.bson","offset":17,"finding":"repeat","first file":"twice.later","first offset":32}
@@ -1192,6 +1219,18 @@ wants '' '{"file":"fault.json","line":2,"column":6,"finding":"fault","reason":"e
 '
 cat one one >wanted.out
 run 'faults as JSON' 1 bson --keep-going --json fault.json
+wants '' '{"file":"fault.json","line":2,"column":6,"finding":"fault","reason":"expected a colon"}
+{"documents":2,"bytes":24,"faults":2,"files that can'"'"'t be read":0,"findings not printed":1}
+'
+cat one one >wanted.out
+run 'the first fault, as JSON' 1 bson --keep-going --json --limit 1 fault.json
+wants '' '"fault.json":2:6: expected a colon
+"fault.json":3:1: expected a document
+"fault.json":2:6: expected a colon
+'"$(texted 4 48 4 0)"', findings not printed: 1
+'
+cat one one one one >wanted.out
+run 'the first three faults of two files' 1 bson --keep-going --limit 3 fault.json fault.json
 wants '' '"fault.json":2:6: expected a colon
 bsonraw-dump: "missing.json": No such file or directory (os error 2)
 '"$(texted 2 24 1 1)"'

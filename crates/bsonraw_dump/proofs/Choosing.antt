@@ -36,15 +36,15 @@ pub chosen_front : {p : Portion} {most : ℕ} {input : Option (List ℕ)} (front
 chosen_front front is = record { in_front = is; others = []; are = refl; asked = tt; behind = inr refl }
 
 -- what was passed of the documents that are asked for
-pub record HasPassedPortion (p : Portion) (limits : Limits) (c : Command) (style : Style) (resync : Bool) (name ahead : List ℕ) (r r' d d' w w' : Option (List ℕ)) (n n' : Counts) (k k' : Kept)
-    (offset : ℕ) (work : Work) : Type 0 where
+pub record HasPassedPortion (p : Portion) (limits : Limits) (c : Command) (style : Counts → Style) (resync : Bool) (name ahead : List ℕ) (r r' d d' w w' : Option (List ℕ)) (n n' : Counts)
+    (k k' : Kept) (offset : ℕ) (work : Work) : Type 0 where
   pub front : List ℕ
   pub has : HasPassed limits c style resync name ahead r r' d d' w w' n n' k k' offset work
   pub chosen : IsChosen p limits.bytes r front has.ps
   pub all : IsAllInFront p limits.bytes r front
 
 -- nothing comes of an input
-pub halts_first : (p : Portion) {limits : Limits} {c : Command} {style : Style} {resync : Bool} {name : List ℕ} {r d w : Option (List ℕ)} {n : Counts} {k : Kept}
+pub halts_first : (p : Portion) {limits : Limits} {c : Command} {style : Counts → Style} {resync : Bool} {name : List ℕ} {r d w : Option (List ℕ)} {n : Counts} {k : Kept}
     → HaltsPortion p limits c style resync name r d d w w n n k
 halts_first p {limits = limits} {c = c} {style = style} {resync = resync} {name = name} {r = r} {d = d} {w = w} {n = n} {k = k} = record {
   front = [];
@@ -65,7 +65,7 @@ documents_counted n (piece e ∷ ps) =
       | finding.TooDeep ↦ refl
       | finding.Unjudged ↦ refl
     ] in
-    let more : (count_part n (piece e)).documents ≡ n.documents + 1 = one e.finding (record n { documents = n.documents + 1; bytes = n.bytes + length e.bytes }) in
+    let more : (count_part n (piece e)).documents ≡ n.documents + 1 = one e.finding (record n { documents = n.documents + 1; bytes = n.bytes + length e.bytes; findings = n.findings + e.findings }) in
     let rest : (fold count_part n (piece e ∷ ps)).documents ≡ (count_part n (piece e)).documents + length (documents_of_parts ps) = documents_counted (count_part n (piece e)) ps in
     let step : (n.documents + 1) + length (documents_of_parts ps) ≡ n.documents + suc (length (documents_of_parts ps)) = omega arith in
     rest ∙ ap (λ m. m + length (documents_of_parts ps)) more ∙ step
@@ -132,14 +132,14 @@ pub chosen_gap : {p : Portion} {most : ℕ} {input : Option (List ℕ)} {front :
 chosen_gap ps g c all other = chosen_more ps (gap g) c all tt other
 
 -- parts that were passed are those that are asked for, where reading fails
-pub stops_portion : {p : Portion} {limits : Limits} {c : Command} {style : Style} {resync : Bool} {name : List ℕ} {r r' d d' w w' : Option (List ℕ)} {n n' : Counts} {k k' : Kept} {y : Window}
+pub stops_portion : {p : Portion} {limits : Limits} {c : Command} {style : Counts → Style} {resync : Bool} {name : List ℕ} {r r' d d' w w' : Option (List ℕ)} {n n' : Counts} {k k' : Kept} {y : Window}
     (s : Stop) (from : ℕ) (front : List ℕ) (all : PassesAll limits c style resync name r r' d d' w w' n n' k k' y s) → IsChosen p limits.bytes r front all.ps
     → IsAllInFront p limits.bytes r front ⊎ HasFailed s → FailsAt from s → PassesPortion p limits c style resync name r r' d d' w w' n n' k k' y s
 stops_portion s from front all chosen to_front fails =
     record { front = front; all = all; chosen = chosen; to_front = to_front; to_last = λ same. absurd (subst (FailsAt from) same fails) }
 
 -- so they are where it fails otherwise
-pub halts_portion : {p : Portion} {limits : Limits} {c : Command} {style : Style} {resync : Bool} {name : List ℕ} {r d d' w w' : Option (List ℕ)} {n n' : Counts} {k : Kept}
+pub halts_portion : {p : Portion} {limits : Limits} {c : Command} {style : Counts → Style} {resync : Bool} {name : List ℕ} {r d d' w w' : Option (List ℕ)} {n n' : Counts} {k : Kept}
     (front : List ℕ) (halts : Halts limits c style resync name r d d' w w' n n' k) → IsChosen p limits.bytes r front halts.ps → HaltsPortion p limits c style resync name r d d' w w' n n' k
 halts_portion front halts chosen = record { front = front; halts = halts; chosen = chosen }
 
@@ -149,7 +149,7 @@ left_front e (inl all) = all
 left_front e (inr failed) = absurd failed
 
 -- as many documents were passed as are asked for
-pub stops_enough : {p : Portion} {limits : Limits} {c : Command} {style : Style} {resync : Bool} {name : List ℕ} {r r' d d' w w' : Option (List ℕ)} {n n' : Counts} {k k' : Kept}
+pub stops_enough : {p : Portion} {limits : Limits} {c : Command} {style : Counts → Style} {resync : Bool} {name : List ℕ} {r r' d d' w w' : Option (List ℕ)} {n n' : Counts} {k k' : Kept}
     {offset : ℕ} {v : Work} (x : Window) → (h : HasPassedPortion p limits c style resync name (ahead_of x) r r' d d' w w' n n' k k' offset v) → IsWindow x → IsEnough p h.has.ps
     → PassesPortion p limits c style resync name r r' d d' w w' n n' k k' x stop.Enough
 stops_enough x h window enough = record {
@@ -180,7 +180,7 @@ not_early same = let impossible : ⊥ = cc in absurd impossible
 pub some_none : {A : Type 0} (x : A) → IsNone (Some x) → ⊥
 some_none x none = not_early (sym none)
 
-module _ {p : Portion} {limits : Limits} {c : Command} {style : Style} {resync : Bool} {name : List ℕ} {r r' d d' w w' : Option (List ℕ)} {n n' : Counts} {k k' : Kept} {y : Window} where
+module _ {p : Portion} {limits : Limits} {c : Command} {style : Counts → Style} {resync : Bool} {name : List ℕ} {r r' d d' w w' : Option (List ℕ)} {n n' : Counts} {k k' : Kept} {y : Window} where
   -- a run ends without a failure
   ends_read : {s : Stop} (early : Bool) (q : PassesPortion p limits c style resync name r r' d d' w w' n n' k k' y s) → (HasFailed s → ⊥)
       → EndsAs limits resync early None None q.all.left r' → (early ≡ true → IsEnough p q.all.ps) → EndsPortion p limits c style resync name r r' d d' w w' n n' k k' None

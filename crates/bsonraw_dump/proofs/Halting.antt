@@ -22,6 +22,7 @@ use Rattle.bsonraw_dump.specs.declared.ending.Rest.TheVariants as rest
 use Rattle.bsonraw_dump.specs.declared.find.Finding.{Finding}
 use Rattle.bsonraw_dump.specs.declared.kept.Kept.{Kept}
 use Rattle.bsonraw_dump.specs.declared.run.Stop.TheVariants as stop
+use Rattle.bsonraw_dump.specs.declared.run.Outcome.{Outcome}
 use Rattle.bsonraw_dump.specs.declared.style.Style.{Style}
 use Rattle.bsonraw_dump.specs.declared.window.Next.TheVariants as next
 use Rattle.bsonraw_dump.specs.declared.window.Window.{Window}
@@ -63,12 +64,12 @@ reports_front (command.Json form) style name offset b f told old new text other 
 reports_front (command.Pick picking) style name offset b f told old new text other reports front = (front.front, (text, reports, (front.behind, front.whole)), front.put)
 
 -- a piece that is passed is one of which a front is
-pub halts_passed : (limits : Limits) (any : Bool) (c : Command) (style : Style) (name : List ℕ) (offset : ℕ) (b : List ℕ) (d d' w w' : Option (List ℕ)) (k k' : Kept) (f : Finding)
-    → MayPassOne limits any c style name offset b d d' w w' k k' (Some f) → HaltsOne limits any c style name offset b k d d' w w'
-halts_passed limits any c style name offset b d d' w w' k k' f (clean, ((told, found, (made, makes, written, (first, places, (lines, reports, reported)))), counted)) =
+pub halts_passed : (limits : Limits) (any : Bool) (c : Command) (style : Style) (name : List ℕ) (offset : ℕ) (b : List ℕ) (d d' w w' : Option (List ℕ)) (k k' : Kept) (o : Outcome)
+    → MayPassOne limits any c style name offset b d d' w w' k k' (Some o) → HaltsOne limits any c style name offset b k d d' w w'
+halts_passed limits any c style name offset b d d' w w' k k' o (clean, ((told, found, (made, makes, written, (first, places, repeats, (lines, reports, reported)))), counted)) =
     let line = lines_of_repeats style (repeat_at (origin_at name offset) first) in
     let whole = sym (ap (lines_of_repeats style) places.repeats) ∙ sym (append-nil line) in
-    inr (f, told, found, clean, inr (inr (made, makes, written.is_written, (lines, line, reports, ([], whole), reported))))
+    inr (o.finding, told, found, clean, inr (inr (made, makes, written.is_written, (lines, line, reports, ([], whole), reported))))
 
 -- the document that is next is next in all that was to be read
 piece_next : {limits : Limits} (resync : Bool) (r r' : Option (List ℕ)) (x y : Window) (v v' : Work) (len : ℕ) → TellsPart limits resync r r' x y v v' (next.Document len)
@@ -104,11 +105,11 @@ module _ {limits : Limits} (c : Command) (style : Style) (resync : Bool) (name :
       (inr (f, told, found, clean, inside))
 
 -- what is next isn't passed
-module _ {limits : Limits} {c : Command} {style : Style} {resync : Bool} {name : List ℕ} {r r' d d' w w' : Option (List ℕ)} {n n' : Counts} {k k' : Kept} where
+module _ {limits : Limits} {c : Command} {style : Counts → Style} {resync : Bool} {name : List ℕ} {r r' d d' w w' : Option (List ℕ)} {n n' : Counts} {k k' : Kept} where
   -- a front of the piece that is next, or nothing
   pub ahead_next : {d'' w'' : Option (List ℕ)} (x : Window) (v : Work) (h : HasPassed limits c style resync name (ahead_of x) r r' d d' w w' n n' k k' x.offset v)
-      → HaltsNext limits c style resync name r' x v k' d' d'' w' w''
-      → HaltsAhead limits c style resync name r (length (bytes_of_parts h.ps)) (fold work_behind no_work h.ps) k' d' d'' w' w''
+      → HaltsNext limits c (style n') resync name r' x v k' d' d'' w' w''
+      → HaltsAhead limits c (style n') resync name r (length (bytes_of_parts h.ps)) (fold work_behind no_work h.ps) k' d' d'' w' w''
   ahead_next {d'' = d''} {w'' = w''} x v h (inl (out, report)) = inr (out, inl report)
   ahead_next {d'' = d''} {w'' = w''} x v h (inr (b, is, there, halts)) =
       let bytes = bytes_of_parts h.ps in
@@ -119,24 +120,24 @@ module _ {limits : Limits} {c : Command} {style : Style} {resync : Bool} {name :
         b,
         is,
         input_behind bytes (ahead_of x) r r' (λ s. IsNextPiece limits resync s (length bytes) work b) h.passed.is_read here,
-        subst (λ (m : ℕ). HaltsIn limits c style name m b k' d' d'' w' w'') h.at halts,
+        subst (λ (m : ℕ). HaltsIn limits c (style n') name m b k' d' d'' w' w'') h.at halts,
       )
 
   -- a front of the line of a gap
   pub ahead_gap : {r'' q w'' : Option (List ℕ)} (x y z : Window) (v v' v'' : Work) (e : Ending) (h : HasPassed limits c style resync name (ahead_of x) r r' d d' w w' n n' k k' x.offset v)
-      → TellsPart limits resync r' r'' x y v v' (next.End e) → resync ≡ true → HaltsInGap limits style name e r'' q y z v' v'' w' w''
-      → HaltsAhead limits c style resync name r (length (bytes_of_parts h.ps)) (fold work_behind no_work h.ps) k' d' d' w' w''
+      → TellsPart limits resync r' r'' x y v v' (next.End e) → resync ≡ true → HaltsInGap limits (style n') name e r'' q y z v' v'' w' w''
+      → HaltsAhead limits c (style n') resync name r (length (bytes_of_parts h.ps)) (fold work_behind no_work h.ps) k' d' d' w' w''
   ahead_gap {r'' = r''} {q = q} {w'' = w''} x y z v v' v'' e h t asked (inl same) = inr (refl, inl same)
   ahead_gap {r'' = r''} {q = q} {w'' = w''} x y z v v' v'' e h t asked (inr (skip, skips, front)) =
       let bytes = bytes_of_parts h.ps in
       let at : y.offset ≡ length bytes = t.searches.stays.offset ∙ h.at in
       let is = gap_of c style resync name x y z r r' r'' q d d' w w' n n' k k' v v' v'' e skip h t asked skips in
-      let put = subst (λ (m : ℕ). AppendsFront w' w'' (ending_line style name m e (rest.PassedOver skip))) at front in
+      let put = subst (λ (m : ℕ). AppendsFront w' w'' (ending_line (style n') name m e (rest.PassedOver skip))) at front in
       inr (refl, inr (_, inl (_, is, refl), put))
 
   -- a front of the line of what is left
   pub ahead_left : {r'' w'' : Option (List ℕ)} (y : Window) (e : Ending) (p : PassesAll limits c style resync name r r' d d' w w' n n' k k' y (stop.Left e))
-      → HaltsLeaving limits style name e r' r'' y w' w'' → HaltsAhead limits c style resync name r (length (bytes_of_parts p.ps)) (fold work_behind no_work p.ps) k' d' d' w' w''
+      → HaltsLeaving limits (style n') name e r' r'' y w' w'' → HaltsAhead limits c (style n') resync name r (length (bytes_of_parts p.ps)) (fold work_behind no_work p.ps) k' d' d' w' w''
   ahead_left {r'' = r''} {w'' = w''} y e p (inl same) = inr (refl, inl same)
   ahead_left {r'' = r''} {w'' = w''} y e p (inr (more, read, ends, front)) =
       let (ahead, at, first, behind, unasked) = p.stops in
@@ -144,13 +145,13 @@ module _ {limits : Limits} {c : Command} {style : Style} {resync : Bool} {name :
       let left = ahead_of y ++ more in
       let here : (s : List ℕ) → Consumes (Some s) r' p.left → HasFront s left = λ s all. ahead_front s left r'' (read (Some s) (subst (Consumes (Some s) r') ahead all)) in
       let there : IfSome r (λ s. HasFront (drop (length bytes) s) left) = input_behind bytes p.left r r' (λ s. HasFront s left) p.passed.is_read here in
-      let put = subst (λ (m : ℕ). AppendsFront w' w'' (ending_line style name m e (rest.NotRead (length left)))) at front in
+      let put = subst (λ (m : ℕ). AppendsFront w' w'' (ending_line (style n') name m e (rest.NotRead (length left)))) at front in
       inr (refl, inr (_, inr (e, left, ends, unasked, there, refl), put))
 
-module _ {limits : Limits} (c : Command) (style : Style) (resync : Bool) (name : List ℕ) (r r' d d' w w' : Option (List ℕ)) (n n' : Counts) (k k' : Kept) where
+module _ {limits : Limits} (c : Command) (style : Counts → Style) (resync : Bool) (name : List ℕ) (r r' d d' w w' : Option (List ℕ)) (n n' : Counts) (k k' : Kept) where
   -- what is next isn't passed
   abbrev pub halts_with : (d'' w'' : Option (List ℕ)) (n'' : Counts) (ahead : List ℕ) (ps : List Part) → Passed limits c style resync name ahead r r' d d' w w' n n' k k' ps → n'' ≡ n'
-      → HaltsAhead limits c style resync name r (length (bytes_of_parts ps)) (fold work_behind no_work ps) k' d' d'' w' w'' → Halts limits c style resync name r d d'' w w'' n n'' k
+      → HaltsAhead limits c (style n') resync name r (length (bytes_of_parts ps)) (fold work_behind no_work ps) k' d' d'' w' w'' → Halts limits c style resync name r d d'' w w'' n n'' k
   halts_with d'' w'' n'' ahead ps p counted halts = record {
     ps = ps;
     in_front = read_front (bytes_of_parts ps) ahead r r' p.is_read;
@@ -164,7 +165,7 @@ module _ {limits : Limits} (c : Command) (style : Style) (resync : Bool) (name :
     is_reported = p.is_reported;
     is_counted = counted ∙ p.is_counted;
     is_tabled = p.is_tabled;
-    halts = halts;
+    halts = subst (λ (m : Counts). HaltsAhead limits c (style m) resync name r (length (bytes_of_parts ps)) (fold work_behind no_work ps) k' d' d'' w' w'') (sym counted) halts;
   }
 
   -- nothing comes of it
@@ -173,16 +174,16 @@ module _ {limits : Limits} (c : Command) (style : Style) (resync : Bool) (name :
 
   -- a front of the piece that is next, or nothing
   abbrev pub halts_next : (d'' w'' : Option (List ℕ)) (n'' : Counts) (x : Window) (v : Work) → HasPassed limits c style resync name (ahead_of x) r r' d d' w w' n n' k k' x.offset v
-      → HaltsNext limits c style resync name r' x v k' d' d'' w' w'' → n'' ≡ n' → Halts limits c style resync name r d d'' w w'' n n'' k
+      → HaltsNext limits c (style n') resync name r' x v k' d' d'' w' w'' → n'' ≡ n' → Halts limits c style resync name r d d'' w w'' n n'' k
   halts_next d'' w'' n'' x v h halts counted = halts_with d'' w'' n'' (ahead_of x) h.ps h.passed counted (ahead_next x v h halts)
 
   -- a front of the line of a gap
   abbrev pub halts_gap : (r'' q w'' : Option (List ℕ)) (n'' : Counts) (x y z : Window) (v v' v'' : Work) (e : Ending)
       → HasPassed limits c style resync name (ahead_of x) r r' d d' w w' n n' k k' x.offset v → TellsPart limits resync r' r'' x y v v' (next.End e) → resync ≡ true
-      → HaltsInGap limits style name e r'' q y z v' v'' w' w'' → n'' ≡ n' → Halts limits c style resync name r d d' w w'' n n'' k
+      → HaltsInGap limits (style n') name e r'' q y z v' v'' w' w'' → n'' ≡ n' → Halts limits c style resync name r d d' w w'' n n'' k
   halts_gap r'' q w'' n'' x y z v v' v'' e h t asked halts counted = halts_with d' w'' n'' (ahead_of x) h.ps h.passed counted (ahead_gap x y z v v' v'' e h t asked halts)
 
   -- a front of the line of what is left
   abbrev pub halts_left : (r'' w'' : Option (List ℕ)) (n'' : Counts) (y : Window) (e : Ending) → PassesAll limits c style resync name r r' d d' w w' n n' k k' y (stop.Left e)
-      → HaltsLeaving limits style name e r' r'' y w' w'' → n'' ≡ n' → Halts limits c style resync name r d d' w w'' n n'' k
+      → HaltsLeaving limits (style n') name e r' r'' y w' w'' → n'' ≡ n' → Halts limits c style resync name r d d' w w'' n n'' k
   halts_left r'' w'' n'' y e p halts counted = halts_with d' w'' n'' p.left p.ps p.passed counted (ahead_left y e p halts)

@@ -1,5 +1,5 @@
 -- How what was passed grows by one more part.
-use Rattle.std.proofs.Common.{◌≡◌, ℕ, ◌+◌, List, [], ◌∷◌, ◌++◌, Bool, true, false, not, Option, None, Some, IfSome, Result, Ok, Err, IfErr, length, length-take-le, drop, take, flat_map, fold, sym, ap, ◌∙◌, subst, refl, append_assoc, append-nil, length-append, add_assoc, add-zero, zero-add}
+use Rattle.std.proofs.Common.{◌≡◌, ℕ, ◌+◌, List, [], ◌∷◌, ◌++◌, Bool, true, false, not, Option, None, Some, IfSome, Result, Ok, Err, IfErr, cond, is_some, length, length-take-le, drop, take, flat_map, fold, sym, ap, ◌∙◌, subst, refl, append_assoc, append-nil, length-append, add_assoc, add-zero, zero-add}
 use Rattle.std.proofs.Math.Seq.{drop-append_seam}
 use Rattle.std.proofs.lemmas.List.{take-append-drop}
 use Rattle.std.specs.Io.KnownBytes.{Consumes, Appends}
@@ -18,13 +18,13 @@ use Rattle.bsonraw_dump.specs.Resync.{BreaksWith, IsBelieved, IsNextPlace, Skips
 use Rattle.raw_resync.specs.Resync.{IsSound}
 use Rattle.raw_resync.specs.Seeking.{IsWork, no_work}
 use Rattle.raw_resync.specs.declared.work.Work.{Work}
-use Rattle.bsonraw_dump.specs.Run.{AreParts, Entry, Gap, IsEntry, IsGap, IsPart, IsReading, IsTaken, Part, piece, gap, skipped, Passed, PassesFront, PassesGap, PassesNext, PassesOne, MayPassFront, Writes, WritesNothing, bytes_of_part, bytes_of_parts, made_of_part, made_of_parts, forms_of_part, forms_of_parts, lines_of_part, fields_of_part, fields_of_parts, lines_of_repeats, repeats_of_part, count_entry, count_part, work_behind}
+use Rattle.bsonraw_dump.specs.Run.{AreParts, Entry, Gap, IsEntry, IsGap, IsPart, IsReading, IsTaken, Part, piece, gap, skipped, Passed, PassesFront, PassesGap, PassesNext, PassesOne, MayPassFront, Writes, WritesNothing, bytes_of_part, bytes_of_parts, made_of_part, made_of_parts, forms_of_part, forms_of_parts, lines_of_part, fields_of_part, fields_of_parts, lines_of_repeats, repeats_of_part, count_entry, count_part, findings_in, findings_of, work_behind}
 use Rattle.bsonraw_dump.specs.Told.{ending_line}
-use Rattle.bsonraw_dump.specs.Unique.{Firsts, firsts_behind, firsts_of, origin_at, placed_at, repeat_at, repeats_of}
+use Rattle.bsonraw_dump.specs.Unique.{Firsts, Origin, firsts_behind, firsts_of, origin_at, placed_at, repeat_at, repeats_of}
 use Rattle.bsonraw_dump.specs.declared.ending.Ending.{Ending}
 use Rattle.bsonraw_dump.specs.declared.ending.Rest.TheVariants as rest
 use Rattle.bsonraw_dump.specs.declared.failure.Failure.{Failure}
-use Rattle.bsonraw_dump.specs.declared.find.Finding.{Finding}
+use Rattle.bsonraw_dump.specs.declared.run.Outcome.{Outcome}
 use Rattle.bsonraw_dump.specs.declared.command.Command.{Command}
 use Rattle.bsonraw_dump.specs.declared.counts.Counts.{Counts}
 use Rattle.bsonraw_dump.specs.declared.kept.Kept.{Kept}
@@ -34,22 +34,26 @@ use Rattle.bsonraw_dump.specs.declared.window.Next.{Next}
 use Rattle.bsonraw_dump.specs.declared.window.Next.TheVariants as next
 use Rattle.bsonraw_dump.specs.declared.window.Window.{Window}
 
-module _ (limits : Limits) (c : Command) (style : Style) (resync : Bool) (name : List ℕ) where
-  parts_more : (input : Option (List ℕ)) (offset : ℕ) (work : Work) (ps : List Part) (p : Part) → AreParts limits c style resync name input offset work ps
-      → IsPart limits c style resync name input (offset + length (bytes_of_parts ps)) (fold work_behind work ps) p
-      → AreParts limits c style resync name input offset work (ps ++ p ∷ [])
-  parts_more input offset work [] p are is = (subst (λ (n : ℕ). IsPart limits c style resync name input n work p) (add-zero offset) is, tt)
-  parts_more input offset work (x ∷ ps) p (first, rest) is =
+module _ (limits : Limits) (c : Command) (style : Counts → Style) (resync : Bool) (name : List ℕ) where
+  parts_more : (input : Option (List ℕ)) (offset : ℕ) (work : Work) (n : Counts) (ps : List Part) (p : Part) → AreParts limits c style resync name input offset work n ps
+      → IsPart limits c (style (fold count_part n ps)) resync name input (offset + length (bytes_of_parts ps)) (fold work_behind work ps) p
+      → AreParts limits c style resync name input offset work n (ps ++ p ∷ [])
+  parts_more input offset work n [] p are is = (subst (λ (m : ℕ). IsPart limits c (style n) resync name input m work p) (add-zero offset) is, tt)
+  parts_more input offset work n (x ∷ ps) p (first, rest) is =
       let sum : offset + length (bytes_of_parts (x ∷ ps)) ≡ (offset + length (bytes_of_part x)) + length (bytes_of_parts ps) =
       ap (λ n. offset + n) (length-append (bytes_of_part x) (bytes_of_parts ps)) ∙ sym (add_assoc offset (length (bytes_of_part x)) (length (bytes_of_parts ps))) in
       let behind = work_behind work x in
-      (first, parts_more input (offset + length (bytes_of_part x)) behind ps p rest (subst (λ (n : ℕ). IsPart limits c style resync name input n (fold work_behind behind ps) p) sum is))
+      let more = count_part n x in (
+        first,
+        parts_more input (offset + length (bytes_of_part x)) behind more ps p rest
+            (subst (λ (m : ℕ). IsPart limits c (style (fold count_part more ps)) resync name input m (fold work_behind behind ps) p) sum is),
+      )
 
 one_more : {A : Type 0} (f : Part → List A) (ps : List Part) (p : Part) → flat_map f ps ++ f p ≡ flat_map f (ps ++ p ∷ [])
 one_more f ps p = sym (flat_map-append f ps (p ∷ []) ∙ ap (λ xs. flat_map f ps ++ xs) (append-nil (f p)))
 
 -- bytes in front of the documents that are asked for are passed
-pub passed_none : {limits : Limits} {c : Command} {style : Style} {resync : Bool} {name : List ℕ} {r r' d w : Option (List ℕ)} {n : Counts} {k : Kept} (front ahead : List ℕ)
+pub passed_none : {limits : Limits} {c : Command} {style : Counts → Style} {resync : Bool} {name : List ℕ} {r r' d w : Option (List ℕ)} {n : Counts} {k : Kept} (front ahead : List ℕ)
     → Consumes r r' (front ++ ahead) → Passed limits c style resync name ahead r r' d d w w n n k k (skipped front ∷ [])
 passed_none {limits = limits} {c = c} {style = style} {resync = resync} {name = name} {r = r} {r' = r'} {d = d} {w = w} {n = n} {k = k} front ahead read = record {
   parts = (tt, tt);
@@ -72,7 +76,7 @@ input_behind bytes x (Some s) (Some rest) P read holds =
     subst P (sym behind) (holds (x ++ rest) refl)
 
 -- more is read ahead
-pub passed_ahead : {limits : Limits} (c : Command) (style : Style) (resync : Bool) (name x y : List ℕ) (r r' r'' d d' w w' : Option (List ℕ)) (n n' : Counts) (k k' : Kept) (ps : List Part)
+pub passed_ahead : {limits : Limits} (c : Command) (style : Counts → Style) (resync : Bool) (name x y : List ℕ) (r r' r'' d d' w w' : Option (List ℕ)) (n n' : Counts) (k k' : Kept) (ps : List Part)
     → Passed limits c style resync name x r r' d d' w w' n n' k k' ps → Looks r' r'' x y → Passed limits c style resync name y r r'' d d' w w' n n' k k' ps
 passed_ahead c style resync name x y r r' r'' d d' w w' n n' k k' ps p looks = record {
   parts = p.parts;
@@ -86,14 +90,17 @@ passed_ahead c style resync name x y r r' r'' d d' w w' n n' k k' ps p looks = r
 }
 
 -- one more part is passed, and these bytes are ahead then
-pub passed_more : {limits : Limits} (c : Command) (style : Style) (resync : Bool) (name x y : List ℕ) (r r' r'' d d' d'' w w' w'' : Option (List ℕ)) (n n' n'' : Counts) (k k' k'' : Kept)
-    (ps : List Part) (p : Part) → Passed limits c style resync name x r r' d d' w w' n n' k k' ps → IsPart limits c style resync name r (length (bytes_of_parts ps)) (fold work_behind no_work ps) p
+pub passed_more : {limits : Limits} (c : Command) (style : Counts → Style) (resync : Bool) (name x y : List ℕ) (r r' r'' d d' d'' w w' w'' : Option (List ℕ)) (n n' n'' : Counts) (k k' k'' : Kept)
+    (ps : List Part) (p : Part) → Passed limits c style resync name x r r' d d' w w' n n' k k' ps
+    → IsPart limits c (style n') resync name r (length (bytes_of_parts ps)) (fold work_behind no_work ps) p
     → ((before : Option (List ℕ)) → Consumes before r' x → Consumes before r'' (bytes_of_part p ++ y)) → Writes c (made_of_part p) d' d'' k' k''
     → (firsts_of k'' ≡ firsts_behind c (firsts_of k') (forms_of_part p)) × (repeats_of_part p ≡ repeats_of c (firsts_of k') (forms_of_part p))
     → Appends w' w'' (lines_of_part p) → n'' ≡ count_part n' p
     → tabled k'' ≡ fold with_document (tabled k') (fields_of_part p) → Passed limits c style resync name y r r'' d d'' w w'' n n'' k k'' (ps ++ p ∷ [])
 passed_more {limits} c style resync name x y r r' r'' d d' d'' w w' w'' n n' n'' k k' k'' ps p passed is read written (placed, repeated) told counted added = record {
-  parts = parts_more limits c style resync name r 0 no_work ps p passed.parts (subst (λ (n : ℕ). IsPart limits c style resync name r n (fold work_behind no_work ps) p) (sym (zero-add _)) is);
+  parts = parts_more limits c style resync name r 0 no_work n ps p passed.parts
+      (subst (λ (m : Counts). IsPart limits c (style m) resync name r (0 + length (bytes_of_parts ps)) (fold work_behind no_work ps) p) passed.is_counted
+      (subst (λ (m : ℕ). IsPart limits c (style n') resync name r m (fold work_behind no_work ps) p) (sym (zero-add (length (bytes_of_parts ps)))) is));
   is_read =
       let all = read_behind (bytes_of_parts ps) x (bytes_of_part p ++ y) r r' r'' passed.is_read read in
       subst (Consumes r r'') (sym (append_assoc (bytes_of_parts ps) (bytes_of_part p) y) ∙ ap (λ l. l ++ y) (one_more bytes_of_part ps p)) all;
@@ -117,14 +124,14 @@ pub bytes_more : (ps : List Part) (p : Part) → length (bytes_of_parts (ps ++ p
 bytes_more ps p = ap length (sym (one_more bytes_of_part ps p)) ∙ length-append (bytes_of_parts ps) (bytes_of_part p)
 
 -- what the loop keeps: parts were passed, the next one begins behind them, and what the searches in them cost
-pub record HasPassed (limits : Limits) (c : Command) (style : Style) (resync : Bool) (name ahead : List ℕ) (r r' d d' w w' : Option (List ℕ)) (n n' : Counts) (k k' : Kept)
+pub record HasPassed (limits : Limits) (c : Command) (style : Counts → Style) (resync : Bool) (name ahead : List ℕ) (r r' d d' w w' : Option (List ℕ)) (n n' : Counts) (k k' : Kept)
     (offset : ℕ) (work : Work) : Type 0 where
   pub ps : List Part
   pub passed : Passed limits c style resync name ahead r r' d d' w w' n n' k k' ps
   pub at : offset ≡ length (bytes_of_parts ps)
   pub worked : work ≡ fold work_behind no_work ps
 
-abbrev pub has_passed_none : {limits : Limits} {c : Command} {style : Style} {resync : Bool} {name : List ℕ} {r r' d w : Option (List ℕ)} {n : Counts} {k : Kept}
+abbrev pub has_passed_none : {limits : Limits} {c : Command} {style : Counts → Style} {resync : Bool} {name : List ℕ} {r r' d w : Option (List ℕ)} {n : Counts} {k : Kept}
     (front : List ℕ) (x : Window) (v : Work) → HasPassedFront front r r' x → v ≡ no_work → HasPassed limits c style resync name (ahead_of x) r r' d d w w n n k k x.offset v
 has_passed_none front x v h unworked = record {
   ps = skipped front ∷ [];
@@ -133,23 +140,39 @@ has_passed_none front x v h unworked = record {
   worked = unworked;
 }
 
+pub repeats_counted : (at : Origin) (first : Option Origin) → length (repeat_at at first) ≡ cond (is_some first) 1 0
+repeats_counted at None = refl
+repeats_counted at (Some first) = refl
+
 -- a piece in front of the bytes ahead is passed
-abbrev pub has_passed_piece : {limits : Limits} (c : Command) (style : Style) (resync : Bool) (name x y z b : List ℕ) (r r' r'' d d' d'' w w' w'' : Option (List ℕ)) (n n' n'' : Counts)
-    (k k' k'' : Kept) (offset behind : ℕ) (v v' : Work) (f : Finding)
+abbrev pub has_passed_piece : {limits : Limits} (c : Command) (style : Counts → Style) (resync : Bool) (name x y z b : List ℕ) (r r' r'' d d' d'' w w' w'' : Option (List ℕ)) (n n' n'' : Counts)
+    (k k' k'' : Kept) (offset behind : ℕ) (v v' : Work) (o : Outcome)
     → HasPassed limits c style resync name x r r' d d' w w' n n' k k' offset v → Looks r' r'' x y → IsPiece limits.bytes b × (y ≡ b ++ z) × (behind ≡ offset + length b)
-    → ((s : List ℕ) → Consumes (Some s) r' x → (resync ≡ true → IsBelieved limits s offset (length b) v') × Spends limits s offset v v') → PassesOne limits c style name offset b d' d'' w' w'' k' k'' f
-    → ((e : Entry) → length e.bytes ≡ length b → e.finding ≡ f → n'' ≡ count_entry n' e)
+    → ((s : List ℕ) → Consumes (Some s) r' x → (resync ≡ true → IsBelieved limits s offset (length b) v') × Spends limits s offset v v')
+    → PassesOne limits c (style n') name offset b d' d'' w' w'' k' k'' o
+    → ((e : Entry) → length e.bytes ≡ length b → e.finding ≡ o.finding → e.findings ≡ findings_of c o → n'' ≡ count_entry n' e)
     → HasPassed limits c style resync name z r r'' d d'' w w'' n n'' k k'' behind v'
-has_passed_piece {limits} c style resync name x y z b r r' r'' d d' d'' w w' w'' n n' n'' k k' k'' offset behind v v' f h looks (is, split, sum) taken passes counted =
+has_passed_piece {limits} c style resync name x y z b r r' r'' d d' d'' w w' w'' n n' n'' k k' k'' offset behind v v' o h looks (is, split, sum) taken passes counted =
     let bytes = bytes_of_parts h.ps in
     let at = origin_at name (length bytes) in
-    let ((told, found, (made, makes, put, (first, places, (lines, reports, reported)))), (fields, has, added)) =
-    subst (λ (m : ℕ). PassesOne limits c style name m b d' d'' w' w'' k' k'' f) h.at passes in
+    let ((told, found, (made, makes, put, (first, places, repeats, (lines, reports, reported)))), (fields, has, added)) =
+    subst (λ (m : ℕ). PassesOne limits c (style n') name m b d' d'' w' w'' k' k'' o) h.at passes in
     let repeated = repeat_at at first in
-    let e : Entry =
-    record { bytes = b; finding = f; told = told; made = made; forms = placed_at at made; repeats = repeated; lines = lines ++ lines_of_repeats style repeated; fields = fields; work = v' } in
-    let entry : IsEntry limits c style name (length bytes) e =
-    record { piece = is; found = found; makes = makes; placed = refl; first = first; repeats = refl; lines = lines; reports = reports; told = refl; counts = has } in
+    let e : Entry = record {
+      bytes = b;
+      finding = o.finding;
+      told = told;
+      made = made;
+      forms = placed_at at made;
+      repeats = repeated;
+      findings = findings_in c o.finding + length repeated;
+      lines = lines ++ lines_of_repeats (style n') repeated;
+      fields = fields;
+      work = v';
+    } in
+    let entry : IsEntry limits c (style n') name (length bytes) e =
+    record { piece = is; found = found; makes = makes; placed = refl; first = first; repeats = refl; findings = refl; lines = lines; reports = reports; told = refl; counts = has } in
+    let all : e.findings ≡ findings_of c o = ap (λ m. findings_in c o.finding + m) (repeats_counted at first ∙ ap (λ (b : Bool). cond b 1 0) (sym repeats)) in
     let here : (s : List ℕ) → Consumes (Some s) r' x → IsTaken limits resync s offset v e = λ s all. record { believed = (taken s all).0; spends = (taken s all).1 } in
     let kept : IfSome r (λ s. IsTaken limits resync (drop (length bytes) s) (length bytes) (fold work_behind no_work h.ps) e) =
     input_behind bytes x r r' (λ s. IsTaken limits resync s (length bytes) (fold work_behind no_work h.ps) e) h.passed.is_read
@@ -158,31 +181,31 @@ has_passed_piece {limits} c style resync name x y z b r r' r'' d d' d'' w w' w''
     record {
       ps = h.ps ++ piece e ∷ [];
       passed = passed_more c style resync name x z r r' r'' d d' d'' w w' w'' n n' n'' k k' k'' h.ps (piece e) h.passed (entry, kept) read put (places.placed, places.repeats)
-          reported (counted e refl refl) added;
+          reported (counted e refl refl all) added;
       at = sum ∙ ap (λ m. m + length b) h.at ∙ sym (bytes_more h.ps (piece e));
       worked = sym (fold-append work_behind no_work h.ps (piece e ∷ []));
     }
 
 -- the document in front of the bytes ahead is passed
-abbrev pub has_passed_front : {limits : Limits} (any : Bool) (c : Command) (style : Style) (resync : Bool) (name : List ℕ) (x y z : Window) (r r' r'' d d' d'' w w' w'' : Option (List ℕ))
+abbrev pub has_passed_front : {limits : Limits} (any : Bool) (c : Command) (style : Counts → Style) (resync : Bool) (name : List ℕ) (x y z : Window) (r r' r'' d d' d'' w w' w'' : Option (List ℕ))
     (n n' n'' : Counts) (k k' k'' : Kept) (len : ℕ) (v v' : Work)
     → HasPassed limits c style resync name (ahead_of x) r r' d d' w w' n n' k k' x.offset v → TellsPart limits resync r' r'' x y v v' (next.Document len)
-    → PassesFront limits any c style name len y z d' d'' w' w'' n' n'' k' k''
+    → PassesFront limits any c (style n') name len y z d' d'' w' w'' n' n'' k' k''
     → HasPassed limits c style resync name (ahead_of z) r r'' d d'' w w'' n n'' k k'' z.offset v'
 has_passed_front {limits} any c style resync name x y z r r' r'' d d' d'' w w' w'' n n' n'' k k' k'' len v v' h t p =
     let b = take len (ahead_of y) in
     let stays = t.searches.stays in
     let split : ahead_of y ≡ b ++ ahead_of z = sym (take-append-drop len (ahead_of y)) ∙ ap (λ l. b ++ l) (sym p.ahead) in
     let size : length b ≡ len = length-take-le len (ahead_of y) t.ahead.0 in
-    let passes = subst (λ (m : ℕ). PassesOne limits c style name m b d' d'' w' w'' k' k'' p.finding) stays.offset p.passed in
+    let passes = subst (λ (m : ℕ). PassesOne limits c (style n') name m b d' d'' w' w'' k' k'' p.outcome) stays.offset p.passed in
     let sum : z.offset ≡ x.offset + length b = p.offset ∙ ap (λ m. m + len) stays.offset ∙ ap (λ m. x.offset + m) (sym size) in
-    has_passed_piece c style resync name (ahead_of x) (ahead_of y) (ahead_of z) b r r' r'' d d' d'' w w' w'' n n' n'' k k' k'' x.offset z.offset v v' p.finding h stays.looks
+    has_passed_piece c style resync name (ahead_of x) (ahead_of y) (ahead_of z) b r r' r'' d d' d'' w w' w'' n n' n'' k k' k'' x.offset z.offset v v' p.outcome h stays.looks
     (t.ahead.1, split, sum) (λ s all. (subst (λ (m : ℕ). resync ≡ true → IsBelieved limits s x.offset m v') (sym size) (t.is s all), t.searches.spends s all)) passes
-    (λ e same found. p.is_counted e (same ∙ size) found)
+    (λ e same found all. p.is_counted e (same ∙ size) found all)
 
 -- nothing more was written, reported or counted
-abbrev pub has_passed_same : {limits : Limits} (c : Command) (style : Style) (resync : Bool) (name ahead : List ℕ) (r r' d d' d'' w w' w'' : Option (List ℕ)) (n n' n'' : Counts) (k k' k'' : Kept)
-    (offset : ℕ) (v : Work) → HasPassed limits c style resync name ahead r r' d d' w w' n n' k k' offset v → WritesNothing d' d'' w' w'' n' n'' k' k''
+abbrev pub has_passed_same : {limits : Limits} (c : Command) (style : Counts → Style) (resync : Bool) (name ahead : List ℕ) (r r' d d' d'' w w' w'' : Option (List ℕ)) (n n' n'' : Counts)
+    (k k' k'' : Kept) (offset : ℕ) (v : Work) → HasPassed limits c style resync name ahead r r' d d' w w' n n' k k' offset v → WritesNothing d' d'' w' w'' n' n'' k' k''
     → HasPassed limits c style resync name ahead r r' d d'' w w'' n n'' k k'' offset v
 has_passed_same {limits} c style resync name ahead r r' d d' d'' w w' w'' n n' n'' k k' k'' offset v h (out, report, counts, kept) = record {
   ps = h.ps;
@@ -207,7 +230,7 @@ pub next_passed : {limits : Limits} (c : Command) (style : Style) (resync : Bool
     → IsWork v → TellsNext limits.bytes r r' x y 0 (next.Document len) → PassesFront limits (not resync) c style name len y z d d' w w' n n' k k'
     → PassesNext limits c style resync name r r' x z v v d d' w w' n n' k k' (next.Document len)
 next_passed {limits} c style resync name r r' d d' w w' x y z v n n' k k' len work t p =
-    let sound : resync ≡ true → IsSound limits (take len (ahead_of y)) = λ asked. judges_sound c (take len (ahead_of y)) p.finding p.passed.0.0 t.is.1 p.passed.0.1 (p.clean (ap not asked)) in
+    let sound : resync ≡ true → IsSound limits (take len (ahead_of y)) = λ asked. judges_sound c (take len (ahead_of y)) p.outcome.finding p.passed.0.0 t.is.1 p.passed.0.1 (p.clean (ap not asked)) in
     (not resync, y, tells_document resync r r' x y v len work sound t, p)
 
 -- the one whose length is believed
@@ -221,45 +244,45 @@ front_passed {limits} c style name len y z d d' d'' w w' w'' n n' n'' k k' k'' t
     (subst (λ (a : Option (List ℕ)). PassesFront limits true c style name len y z a d'' w' w'' n' n'' k' k'') out may)))
 
 -- bytes that are passed over are a gap
-pub gap_of : {limits : Limits} (c : Command) (style : Style) (resync : Bool) (name : List ℕ) (x y z : Window) (r r' r'' q d d' w w' : Option (List ℕ)) (n n' : Counts)
+pub gap_of : {limits : Limits} (c : Command) (style : Counts → Style) (resync : Bool) (name : List ℕ) (x y z : Window) (r r' r'' q d d' w w' : Option (List ℕ)) (n n' : Counts)
     (k k' : Kept) (v v' v'' : Work) (e : Ending) (skip : Skip)
     (h : HasPassed limits c style resync name (ahead_of x) r r' d d' w w' n n' k k' x.offset v) → TellsPart limits resync r' r'' x y v v' (next.End e) → resync ≡ true
     → (skips : SkipsTo limits r'' q y z v' v'' skip)
-    → IsGap limits style resync name r (length (bytes_of_parts h.ps)) (fold work_behind no_work h.ps)
-    (record { bytes = skips.passes.bytes; end = e; skip = skip; work = v''; lines = ending_line style name (length (bytes_of_parts h.ps)) e (rest.PassedOver skip) })
+    → IsGap limits (style n') resync name r (length (bytes_of_parts h.ps)) (fold work_behind no_work h.ps)
+    (record { bytes = skips.passes.bytes; end = e; skip = skip; work = v''; lines = ending_line (style n') name (length (bytes_of_parts h.ps)) e (rest.PassedOver skip) })
 gap_of {limits} c style resync name x y z r r' r'' q d d' w w' n n' k k' v v' v'' e skip h t asked skips =
     let bytes = bytes_of_parts h.ps in
     let stays = t.searches.stays in
-    let g : Gap = record { bytes = skips.passes.bytes; end = e; skip = skip; work = v''; lines = ending_line style name (length bytes) e (rest.PassedOver skip) } in
+    let g : Gap = record { bytes = skips.passes.bytes; end = e; skip = skip; work = v''; lines = ending_line (style n') name (length bytes) e (rest.PassedOver skip) } in
     let at : y.offset ≡ length bytes = stays.offset ∙ h.at in
     let here : (s : List ℕ) → Consumes (Some s) r' (ahead_of x) → IsNextPlace limits s (length bytes) v v'' skip = λ s all.
     let before : Spends limits s (length bytes) v v' = subst (λ (m : ℕ). Spends limits s m v v') h.at (t.searches.spends s all) in
     place_since s (length bytes) v v' v'' skip before (subst (λ (m : ℕ). IsNextPlace limits s m v' v'' skip) at (skips.is s (stays.looks.is_read (Some s) all))) in
-    let is : IsGap limits style resync name r (length bytes) v g = record {
+    let is : IsGap limits (style n') resync name r (length bytes) v g = record {
       asked = asked;
       breaks = input_behind bytes (ahead_of x) r r' (BreaksWith limits e) h.passed.is_read t.is;
       len = skips.passes.len;
       next = input_behind bytes (ahead_of x) r r' (λ s. IsNextPlace limits s (length bytes) v v'' skip) h.passed.is_read here;
       reports = refl;
     } in
-    subst (λ (u : Work). IsGap limits style resync name r (length bytes) u g) h.worked is
+    subst (λ (u : Work). IsGap limits (style n') resync name r (length bytes) u g) h.worked is
 
 -- a gap is passed
-abbrev pub has_passed_gap : {limits : Limits} (c : Command) (style : Style) (resync : Bool) (name : List ℕ) (x y z : Window) (r r' r'' q d d' w w' w'' : Option (List ℕ)) (n n' n'' : Counts)
+abbrev pub has_passed_gap : {limits : Limits} (c : Command) (style : Counts → Style) (resync : Bool) (name : List ℕ) (x y z : Window) (r r' r'' q d d' w w' w'' : Option (List ℕ)) (n n' n'' : Counts)
     (k k' : Kept) (v v' v'' : Work) (e : Ending)
     → HasPassed limits c style resync name (ahead_of x) r r' d d' w w' n n' k k' x.offset v → TellsPart limits resync r' r'' x y v v' (next.End e) → resync ≡ true
-    → PassesGap limits style name e r'' q y z v' v'' w' w'' n' n''
+    → PassesGap limits (style n') name e r'' q y z v' v'' w' w'' n' n''
     → HasPassed limits c style resync name (ahead_of z) r q d d' w w'' n n'' k k' z.offset v''
 has_passed_gap c style resync name x y z r r' r'' q d d' w w' w'' n n' n'' k k' v v' v'' e h t asked over =
     let bytes = bytes_of_parts h.ps in
     let skip = over.skip in
     let p = over.skips.passes in
-    let line = ending_line style name (length bytes) e (rest.PassedOver skip) in
+    let line = ending_line (style n') name (length bytes) e (rest.PassedOver skip) in
     let g : Gap = record { bytes = p.bytes; end = e; skip = skip; work = v''; lines = line } in
     let read = passed_ahead c style resync name (ahead_of x) (ahead_of y) r r' r'' d d' w w' n n' k k' h.ps h.passed t.searches.stays.looks in
     let at : y.offset ≡ length bytes = t.searches.stays.offset ∙ h.at in
     let is = gap_of c style resync name x y z r r' r'' q d d' w w' n n' k k' v v' v'' e skip h t asked over.skips in
-    let told : Appends w' w'' line = subst (λ m. Appends w' w'' (ending_line style name m e (rest.PassedOver skip))) at over.told in
+    let told : Appends w' w'' line = subst (λ m. Appends w' w'' (ending_line (style n') name m e (rest.PassedOver skip))) at over.told in
     record {
       ps = h.ps ++ gap g ∷ [];
       passed = passed_more c style resync name (ahead_of y) (ahead_of z) r r'' q d d' d' w w' w'' n n' n'' k k' k' h.ps (gap g) read is p.is_read
@@ -269,8 +292,8 @@ has_passed_gap c style resync name x y z r r' r'' q d d' w w' w'' n n' n'' k k' 
     }
 
 -- what is next was told, and nothing is passed yet
-abbrev pub has_passed_ahead : {limits : Limits} (c : Command) (style : Style) (resync : Bool) (name : List ℕ) (x y : Window) (r r' r'' d d' w w' : Option (List ℕ)) (n n' : Counts) (k k' : Kept)
-    (v v' : Work) (told : Next)
+abbrev pub has_passed_ahead : {limits : Limits} (c : Command) (style : Counts → Style) (resync : Bool) (name : List ℕ) (x y : Window) (r r' r'' d d' w w' : Option (List ℕ)) (n n' : Counts)
+    (k k' : Kept) (v v' : Work) (told : Next)
     → HasPassed limits c style resync name (ahead_of x) r r' d d' w w' n n' k k' x.offset v → TellsPart limits resync r' r'' x y v v' told
     → HasPassed limits c style resync name (ahead_of y) r r'' d d' w w' n n' k k' y.offset v
 has_passed_ahead c style resync name x y r r' r'' d d' w w' n n' k k' v v' told h t = record {

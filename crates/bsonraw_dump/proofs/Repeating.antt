@@ -1,5 +1,5 @@
 -- How the places of documents grow by one more, and the repeats among them.
-use Rattle.std.proofs.Common.{◌≡◌, ℕ, List, [], ◌∷◌, ◌++◌, Option, ap, append_assoc, fold, inr, refl, sym, ◌∙◌}
+use Rattle.std.proofs.Common.{◌≡◌, ℕ, List, [], ◌∷◌, ◌++◌, Bool, Option, None, Some, ap, append_assoc, fold, inr, is_some, refl, sym, ◌∙◌}
 use Rattle.std.proofs.KnownBytes.{Appends-trans}
 use Rattle.std.proofs.lemmas.Grind.{fold-append}
 use Rattle.std.specs.Io.KnownBytes.{Appends}
@@ -68,6 +68,10 @@ repeats_more command.Unique f xs ys = repeats-append f xs ys
 repeats_more (command.Json style) f xs ys = refl
 repeats_more (command.Pick picking) f xs ys = refl
 
+some_mapped : (first : Option Origin) → is_some first ≡ is_some (option_map origin_of first)
+some_mapped None = refl
+some_mapped (Some first) = refl
+
 module _ (c : Command) (style : Style) (at : Origin) (b : List ℕ) (f : Finding) (told : Option Account) (d d' w w' w'' : Option (List ℕ)) (k k' : Kept) (first : Option Origin) where
   -- the line of a repeat, if the document at this place is one
   abbrev pub line_of_repeat : List ℕ
@@ -77,10 +81,10 @@ module _ (c : Command) (style : Style) (at : Origin) (b : List ℕ) (f : Finding
   IsReported = (lines : List ℕ) × Reports c style at.name.now at.offset b f told lines × Appends w w' lines
 
   -- what is found is reported, then a document is written, then its line
-  pub passes_one : (limits : Limits) → Judges limits c b f told → IsReported → Emits c at b f d d' k k' first → Appends w' w'' line_of_repeat
-      → WritesOne limits c style at.name.now at.offset b d d' w w'' k k' f
-  passes_one limits judged (lines, reports, put) (made, makes, (writes, places)) repeated =
-      (told, judged, (made, makes, writes, (option_map origin_of first, places, (lines, reports, Appends-trans w w' w'' lines line_of_repeat put repeated))))
+  pub passes_one : (limits : Limits) (repeats : Bool) → repeats ≡ is_some first → Judges limits c b f told → IsReported → Emits c at b f d d' k k' first → Appends w' w'' line_of_repeat
+      → WritesOne limits c style at.name.now at.offset b d d' w w'' k k' (record { finding = f; repeats = repeats })
+  passes_one limits repeats same judged (lines, reports, put) (made, makes, (writes, places)) repeated =
+      (told, judged, (made, makes, writes, (option_map origin_of first, places, same ∙ some_mapped first, (lines, reports, Appends-trans w w' w'' lines line_of_repeat put repeated))))
 
   -- or a front of that
   pub halts_repeat : IsReported → Emits c at b f d d' k k' first → AppendsFront w' w'' line_of_repeat → HaltsInside c style at.name.now at.offset b f told k d d' w w''

@@ -5,7 +5,7 @@ use Rattle.std.proofs.KnownBytes.{Appends-kept}
 use Rattle.raw_tree.specs.declared.reader.limits.Limits.{Limits}
 use Rattle.bsonraw_dump.specs.Reading.{GoesAhead, IsReadBehind, ReadsRest, ahead_of}
 use Rattle.bsonraw_dump.specs.Resync.{TellsPart}
-use Rattle.bsonraw_dump.specs.Run.{Ends, EndsAs, FailsAt, IsLeft, Leaves, PassesAll, StopsAt, bytes_of_parts, count_end, count_left, lines_of_parts}
+use Rattle.bsonraw_dump.specs.Run.{Ends, EndsAs, FailsAt, IsLeft, Leaves, PassesAll, StopsAt, bytes_of_parts, count_end, count_rest, lines_of_parts}
 use Rattle.bsonraw_dump.specs.Cut.{EndsWith}
 use Rattle.bsonraw_dump.specs.Told.{ending_line}
 use Rattle.bsonraw_dump.specs.declared.command.Command.{Command}
@@ -64,7 +64,7 @@ fails_here limits resync r y left from start stop.Enough fails at end = absurd f
 fails_here limits resync r y left from start (stop.Left e) fails at end = absurd fails
 fails_here limits resync r y left from start (stop.Failed there error) fails at end = (fails ∙ at, end)
 
-module _ {limits : Limits} (c : Command) (style : Style) (resync : Bool) (name : List ℕ) (r r' r'' d d' w w' w'' : Option (List ℕ)) (n n' n'' : Counts) (k k' : Kept) where
+module _ {limits : Limits} (c : Command) (style : Counts → Style) (resync : Bool) (name : List ℕ) (r r' r'' d d' w w' w'' : Option (List ℕ)) (n n' n'' : Counts) (k k' : Kept) where
   -- the input is at its end
   abbrev pub stops_end : (x y : Window) (v v' : Work) → HasPassed limits c style resync name (ahead_of x) r r' d d' w w' n n' k k' x.offset v → TellsPart limits resync r' r'' x y v v' next.Nothing
       → PassesAll limits c style resync name r r'' d d' w w' n n' k k' y stop.End
@@ -119,7 +119,7 @@ module _ {limits : Limits} (c : Command) (style : Style) (resync : Bool) (name :
 
   -- with what no document begins with
   abbrev pub ends_left : (y : Window) (e : Ending) (failed : Option ReadFailure) → PassesAll limits c style resync name r r' d d' w w' n n' k k' y (stop.Left e)
-      → Leaves limits style name e y r' r'' w' w'' n' n'' failed → Ends limits c style resync name r r'' d d' w w'' n n'' k k' failed
+      → Leaves limits (style n') name e y r' r'' w' w'' n' n'' failed → Ends limits c style resync name r r'' d d' w w'' n n'' k k' failed
   ends_left y e failed p l =
       let (ahead, at, ends, behind, unasked) = p.stops in
       let bytes = bytes_of_parts p.ps in
@@ -128,7 +128,7 @@ module _ {limits : Limits} (c : Command) (style : Style) (resync : Bool) (name :
         | None ↦ λ to_end. (l.ends, unasked, to_end refl)
         | Some f ↦ λ to_end. (l.ends, unasked)
       ] l.to_end in
-      let counted : count_end (Some e) failed n' (length left) ≡ count_left n' (length left) = elim failed as (λ f. count_end (Some e) f n' (length left) ≡ count_left n' (length left)) [
+      let counted : count_end (Some e) failed n' (length left) ≡ count_rest n' (length left) = elim failed as (λ f. count_end (Some e) f n' (length left) ≡ count_rest n' (length left)) [
         | None ↦ refl
         | Some f ↦ refl
       ] in
@@ -152,6 +152,6 @@ module _ {limits : Limits} (c : Command) (style : Style) (resync : Bool) (name :
         end = Some e;
         ends = is;
         fails = subst (λ m. IfSome failed (λ (f : ReadFailure). f.at ≡ m)) here l.fails;
-        told = subst (λ m. Appends w' w'' (ending_line style name m e (rest.NotRead (length left)))) at l.told;
+        told = subst (λ m. Appends w' w'' (ending_line (style n') name m e (rest.NotRead (length left)))) at l.told;
         is_counted = l.is_counted ∙ sym counted;
       }

@@ -3,7 +3,7 @@ use Rattle.std.proofs.Common.{◌≡◌, ◌+◌, ◌<◌, ◌≤◌, ℕ, List,
 use Rattle.std.proofs.lemmas.List.{drop_all, drop_more, map-append, map_more, take-append-drop, take_all}
 use Rattle.std.specs.Io.KnownBytes.{Appends, Keeps}
 use Rattle.bson_json.specs.Written.{AppendsFront}
-use Rattle.bsonraw_dump.specs.Batch.{Comes, CountsInput, CountsMore, CountsRun, EndsAll, IsRun, RunsAll, RunsFront, RunsOver, State, HaltsBefore, HaltsWithin, all_line, cut_of, input_line, start_of, state_of}
+use Rattle.bsonraw_dump.specs.Batch.{Comes, CountsInput, CountsMore, CountsRun, EndsAll, IsRun, RunsAll, RunsFront, RunsOver, State, HaltsBefore, HaltsWithin, all_line, cut_of, input_line, start_of, state_of, style_behind}
 use Rattle.bsonraw_dump.specs.Portion.{EndsPortion, HaltsPortion}
 use Rattle.bsonraw_dump.specs.Run.{no_counts, plus}
 use Rattle.bsonraw_dump.specs.Status.{IsFailureStatus, IsStatus}
@@ -74,13 +74,14 @@ plus_none n = λ i. record {
   passed_over = add-zero n.passed_over i;
   not_read = add-zero n.not_read i;
   files = add-zero n.files i;
+  findings = add-zero n.findings i;
 }
 
 module _ (job : Job) (name : List ℕ) (input : Option (List ℕ)) (d d' w w' w'' : Option (List ℕ)) (t t' : Totals) (n : Counts) where
   -- the input was open
   pub counts_open : (r : Option (List ℕ)) → r ≡ input → CountsRun job name r d d' w w' t t' n → CountsInput job name input d d' w w' t t' n
   counts_open r same (goes_on, ran, counted, cut) =
-      (goes_on, inl (subst (λ (x : Option (List ℕ)). IsRun job name x d d' w w' t.kept t'.kept n goes_on) same ran), counted, cut)
+      (goes_on, inl (subst (λ (x : Option (List ℕ)). IsRun job t.counts name x d d' w w' t.kept t'.kept n goes_on) same ran), counted, cut)
 
   -- its line is written
   pub comes_whole : CountsInput job name input d d' w w' t t' n → Appends w' w'' (input_line job job.command name n) → Comes job input name (state_of d w t) (state_of d' w'' t')
@@ -102,8 +103,8 @@ halts_unread job name input d w k m m' same =
 
 -- A run over an input was whole, or failed, and its line isn't written. So much more is counted.
 pub halts_run : (job : Job) (name : List ℕ) (input left d d' w w' : Option (List ℕ)) (n : Counts) (k k' : Kept) (m m' : Counts) (r : Result (Option ReadFailure) Failure)
-    → IfOk r (EndsPortion job.portion job.limits job.command job.style job.resync name input left d d' w w' no_counts n k k')
-    → OnErr r (HaltsPortion job.portion job.limits job.command job.style job.resync name input d d' w w' no_counts n k) → CountsMore m n m' → HaltsWithin job name input d d' w w' k m m'
+    → IfOk r (EndsPortion job.portion job.limits job.command (style_behind job m) job.resync name input left d d' w w' no_counts n k k')
+    → OnErr r (HaltsPortion job.portion job.limits job.command (style_behind job m) job.resync name input d d' w w' no_counts n k) → CountsMore m n m' → HaltsWithin job name input d d' w w' k m m'
 halts_run job name input left d d' w w' n k k' m m' (Ok failed) ends halts counted =
     inr (w', k', n, is_none failed, inl (record { left = left; failed = failed; ends = ends; could = refl }), front_none w' _, counted)
 halts_run job name input left d d' w w' n k k' m m' (Err e) ends halts counted = inl (n, halts, counted)

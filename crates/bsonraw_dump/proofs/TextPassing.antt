@@ -9,7 +9,7 @@ use Rattle.std.proofs.KnownBytes.{Appends-nil, Appends-trans, Consumes-nil}
 use Rattle.bsonraw_dump.specs.Fronts.{HasFront}
 use Rattle.bsonraw_dump.specs.Reading.{IsWindow, ahead_of}
 use Rattle.bsonraw_dump.specs.TextReading.{Advances, FindsText, GoesOnTo, IsAhead, IsNextText, IsScanned, PassesGap}
-use Rattle.bsonraw_dump.specs.TextRun.{AreTexts, EndsAs, FailsAt, GoesOn, HaltsText, HaltsTexts, HasNoText, IsAstray, IsBegun, IsDocument, IsPassed, IsRefused, IsTextPart, LastGoesOn, PassesBehind, PassesText, ReadsTexts, TellsNoText, TextPart, bytes_of, bytes_of_texts, count_text, joined, lines_of_texts, made_of_texts, turn_behind_texts}
+use Rattle.bsonraw_dump.specs.TextRun.{AreTexts, EndsAs, FailsAt, GoesOn, HaltsText, HaltsTexts, HasNoText, IsAstray, IsBegun, IsDocument, IsPassed, IsRefused, IsTextPart, LastGoesOn, PassesBehind, PassesText, ReadsTexts, TellsNoText, TextPart, bytes_of, bytes_of_texts, count_text, joined, lines_of_texts, made_of_texts, style_of_fault, turn_behind_texts}
 use Rattle.bsonraw_dump.specs.Texts.{EndsGap, HasNoLine, IsOpen, IsTextOf, begins_line, first_position, position_behind, position_over, scanned, turn_behind_gap, turn_over}
 use Rattle.bsonraw_dump.specs.declared.cursor.Cursor.{Cursor}
 use Rattle.bsonraw_dump.specs.declared.cursor.NextText.{NextText}
@@ -48,20 +48,21 @@ last_goes k (x ∷ before) p (first, rest) = last_goes k before p rest
 last_of : (k : Bool) (ps : List TextPart) → AllGoOn k ps → LastGoesOn k ps
 last_of k ps all before p same = last_goes k before p (subst (AllGoOn k) same all)
 
-module _ (k : Bool) (style : Style) (name : List ℕ) (input : Option (List ℕ)) where
-  texts_more : (offset : ℕ) (place : Position) (t : Turn) (ps : List TextPart) (p : TextPart) → AreTexts k style name input offset place t ps → AllGoOn k ps
-      → IsTextPart style name input (offset + length (bytes_of_texts ps)) (position_over place (bytes_of_texts ps)) (turn_behind_texts t ps) p
-      → AreTexts k style name input offset place t (ps ++ p ∷ [])
-  texts_more offset place t [] p are all is =
-      let zero : offset + 0 ≡ offset = omega arith in (subst (λ n. IsTextPart style name input n place t p) zero is, inl refl, tt)
-  texts_more offset place t (x ∷ ps) p (first, _, rest) (go, all) is =
+module _ (k : Bool) (style : TextCounts → Style) (name : List ℕ) (input : Option (List ℕ)) where
+  texts_more : (offset : ℕ) (place : Position) (t : Turn) (n : TextCounts) (ps : List TextPart) (p : TextPart) → AreTexts k style name input offset place t n ps → AllGoOn k ps
+      → IsTextPart (style (fold count_text n ps)) name input (offset + length (bytes_of_texts ps)) (position_over place (bytes_of_texts ps)) (turn_behind_texts t ps) p
+      → AreTexts k style name input offset place t n (ps ++ p ∷ [])
+  texts_more offset place t n [] p are all is =
+      let zero : offset + 0 ≡ offset = omega arith in (subst (λ m. IsTextPart (style n) name input m place t p) zero is, inl refl, tt)
+  texts_more offset place t n (x ∷ ps) p (first, _, rest) (go, all) is =
+      let shown = style (fold count_text (count_text n x) ps) in
       let same : position_over place (bytes_of_texts (x ∷ ps)) ≡ position_over (position_over place (bytes_of x)) (bytes_of_texts ps) =
       fold-append position_behind place (bytes_of x) (bytes_of_texts ps) in
       let size : length (bytes_of_texts (x ∷ ps)) ≡ length (bytes_of x) + length (bytes_of_texts ps) = length-append (bytes_of x) (bytes_of_texts ps) in
       let far : offset + length (bytes_of_texts (x ∷ ps)) ≡ offset + length (bytes_of x) + length (bytes_of_texts ps) = omega (arith, size) in
-      let here = subst (λ q. IsTextPart style name input (offset + length (bytes_of x) + length (bytes_of_texts ps)) q (turn_behind_texts x.behind ps) p) same
-      (subst (λ n. IsTextPart style name input n (position_over place (bytes_of_texts (x ∷ ps))) (turn_behind_texts x.behind ps) p) far is) in
-      (first, inr go, texts_more (offset + length (bytes_of x)) (position_over place (bytes_of x)) x.behind ps p rest all here)
+      let here = subst (λ q. IsTextPart shown name input (offset + length (bytes_of x) + length (bytes_of_texts ps)) q (turn_behind_texts x.behind ps) p) same
+      (subst (λ m. IsTextPart shown name input m (position_over place (bytes_of_texts (x ∷ ps))) (turn_behind_texts x.behind ps) p) far is) in
+      (first, inr go, texts_more (offset + length (bytes_of x)) (position_over place (bytes_of x)) x.behind (count_text n x) ps p rest all here)
 
 one_more : {A : Type 0} (f : TextPart → List A) (ps : List TextPart) (p : TextPart) → flat_map f ps ++ f p ≡ flat_map f (ps ++ p ∷ [])
 one_more f ps p = sym (flat_map-append f ps (p ∷ []) ∙ ap (λ xs. flat_map f ps ++ xs) (append-nil (f p)))
@@ -87,7 +88,7 @@ at_more input r r' x y is (more, p) =
 
 -- what is known of parts in front of an input
 pub record HasTexts (a : AskedTexts) (input d d' w w' : Option (List ℕ)) (n n' : TextCounts) (ps : List TextPart) : Type 0 where
-  pub parts : AreTexts a.keep_going a.style a.name.now input 0 first_position turn.First ps
+  pub parts : AreTexts a.keep_going (style_of_fault a.style a.limit) a.name.now input 0 first_position turn.First n ps
   pub in_front : IfSome input (λ s. HasFront s (bytes_of_texts ps))
   pub is_written : Appends d d' (made_of_texts ps)
   pub is_reported : Appends w w' (lines_of_texts ps)
@@ -138,19 +139,22 @@ nothing_passed a r d w n x none start zero =
 
 module _ (a : AskedTexts) (input r d d' w w' : Option (List ℕ)) (n n' : TextCounts) (x : Cursor) (t : Turn) (g : GoesOnBehind a input r d d' w w' n n' x t) where
   -- one more part comes behind them
-  parts_more : (p : TextPart) → IsTextPart a.style a.name.now input x.window.offset x.place t p
-      → AreTexts a.keep_going a.style a.name.now input 0 first_position turn.First (g.ps ++ p ∷ [])
+  parts_more : (p : TextPart) → IsTextPart (style_of_fault a.style a.limit n') a.name.now input x.window.offset x.place t p
+      → AreTexts a.keep_going (style_of_fault a.style a.limit) a.name.now input 0 first_position turn.First n (g.ps ++ p ∷ [])
   parts_more p is =
       let bytes = bytes_of_texts g.ps in
       let there : x.window.offset ≡ length bytes = g.offset in
       let far : x.window.offset ≡ 0 + length bytes = omega (arith, there) in
-      let first = subst (λ m. IsTextPart a.style a.name.now input m x.place t p) far is in
-      let second = subst (λ q. IsTextPart a.style a.name.now input (0 + length bytes) q t p) g.place first in
-      let here = subst (λ u. IsTextPart a.style a.name.now input (0 + length bytes) (position_over first_position bytes) u p) g.turns second in
-      texts_more a.keep_going a.style a.name.now input 0 first_position turn.First g.ps p g.has.parts g.all here
+      let shown = style_of_fault a.style a.limit in
+      let first = subst (λ m. IsTextPart (shown n') a.name.now input m x.place t p) far is in
+      let second = subst (λ q. IsTextPart (shown n') a.name.now input (0 + length bytes) q t p) g.place first in
+      let third = subst (λ u. IsTextPart (shown n') a.name.now input (0 + length bytes) (position_over first_position bytes) u p) g.turns second in
+      let here = subst (λ (m : TextCounts). IsTextPart (shown m) a.name.now input (0 + length bytes) (position_over first_position bytes) (turn_behind_texts turn.First g.ps) p)
+      g.has.is_counted third in
+      texts_more a.keep_going shown a.name.now input 0 first_position turn.First n g.ps p g.has.parts g.all here
 
   -- it is the last one, in front of the input
-  has_more : (d'' w'' : Option (List ℕ)) (n'' : TextCounts) (p : TextPart) → IsTextPart a.style a.name.now input x.window.offset x.place t p
+  has_more : (d'' w'' : Option (List ℕ)) (n'' : TextCounts) (p : TextPart) → IsTextPart (style_of_fault a.style a.limit n') a.name.now input x.window.offset x.place t p
       → IfSome input (λ s. HasFront s (bytes_of_texts g.ps ++ bytes_of p)) → Appends d' d'' (joined p.made) → Appends w' w'' p.lines → n'' ≡ count_text n' p
       → HasTexts a input d d'' w w'' n n'' (g.ps ++ p ∷ [])
   has_more d'' w'' n'' p is front written told counted = record {
@@ -162,7 +166,7 @@ module _ (a : AskedTexts) (input r d d' w w' : Option (List ℕ)) (n n' : TextCo
   }
 
   -- it is passed
-  goes_more : (r' d'' w'' : Option (List ℕ)) (n'' : TextCounts) (y : Cursor) (p : TextPart) → IsTextPart a.style a.name.now input x.window.offset x.place t p
+  goes_more : (r' d'' w'' : Option (List ℕ)) (n'' : TextCounts) (y : Cursor) (p : TextPart) → IsTextPart (style_of_fault a.style a.limit n') a.name.now input x.window.offset x.place t p
       → Advances r r' x y (bytes_of p) → Appends d' d'' (joined p.made) → Appends w' w'' p.lines → n'' ≡ count_text n' p → GoesOn a.keep_going p
       → GoesOnBehind a input r' d d'' w w'' n n'' y p.behind
   goes_more r' d'' w'' n'' y p is advances written told counted goes =
@@ -315,13 +319,18 @@ gap_ends r q place u v s rest end next here (inl (same, (b, (behind, is), begins
 gap_ends r q place u v s rest end next here (inr (last, (none, done))) =
     subst (λ l. EndsGap place (turn_behind_gap u) l s) (sym (ap (λ l. l ++ rest) none ∙ end done)) last
 
--- of a document nothing is told
-quiet_of : (style : Style) (name : List ℕ) (place : Position) (before : Turn) (ahead : List ℕ) (told : NextText) (what : Went) (text : List ℕ) (made : List (List ℕ)) (lines : List ℕ)
-    (behind : Turn) (k : Bool) → IsPassed style name place before ahead told what text made lines behind → (what ≡ went.Document) ⊎ (k ≡ true) → (lines ≡ []) ⊎ (k ≡ true)
-quiet_of style name place before ahead told what text made lines behind k is (inr asked) = inr asked
-quiet_of style name place before ahead told went.Document text made lines behind k is (inl same) = inl is.quiet
-quiet_of style name place before ahead told went.Refused text made lines behind k is (inl other) = let none : ⊥ = cc in absurd none
-quiet_of style name place before ahead told went.Astray text made lines behind k is (inl other) = let none : ⊥ = cc in absurd none
+-- the bytes of a document
+abbrev pub IsWritten : List (List ℕ) → Type 0
+IsWritten made = (document : List ℕ) × (made ≡ document ∷ [])
+
+-- a document is written, unless the run goes on behind a fault
+written_of : (style : Style) (name : List ℕ) (place : Position) (before : Turn) (ahead : List ℕ) (told : NextText) (what : Went) (text : List ℕ) (made : List (List ℕ)) (lines : List ℕ)
+    (behind : Turn) (k : Bool) → IsPassed style name place before ahead told what text made lines behind → (what ≡ went.Document) ⊎ (k ≡ true)
+    → IsWritten made ⊎ (k ≡ true)
+written_of style name place before ahead told what text made lines behind k is (inr asked) = inr asked
+written_of style name place before ahead told went.Document text made lines behind k is (inl same) = inl (is.document, is.makes)
+written_of style name place before ahead told went.Refused text made lines behind k is (inl other) = let none : ⊥ = cc in absurd none
+written_of style name place before ahead told went.Astray text made lines behind k is (inl other) = let none : ⊥ = cc in absurd none
 
 -- of a text with a fault nothing is written
 none_made : (style : Style) (name : List ℕ) (place : Position) (before : Turn) (ahead : List ℕ) (told : NextText) (what : Went) (text : List ℕ) (made : List (List ℕ)) (lines : List ℕ)
@@ -366,7 +375,7 @@ module _ (a : AskedTexts) (input r d d' w w' : Option (List ℕ)) (n n' : TextCo
       }
 
 halts_has : (a : AskedTexts) (input d d' w w' : Option (List ℕ)) (n n' : TextCounts) (ps : List TextPart) → HasTexts a input d d' w w' n n' ps
-    → HaltsTexts a.keep_going a.style a.name.now input d d' w w' n n'
+    → HaltsTexts a.keep_going (style_of_fault a.style a.limit) a.name.now input d d' w w' n n'
 halts_has a input d d' w w' n n' ps h = record {
   ps = ps;
   parts = h.parts;
@@ -381,6 +390,10 @@ halts_has a input d d' w w' n n' ps h = record {
 
 module _ (a : AskedTexts) (input r r' d d' w w' : Option (List ℕ)) (n n' : TextCounts) (x y : Cursor) (t u : Turn) (told : NextText)
     (g : GoesOnBehind a input r d d' w w' n n' x t) (f : FindsText r r' x y t u told) where
+  -- how its fault is told
+  abbrev shown : Style
+  shown = style_of_fault a.style a.limit n'
+
   -- what is in front of the text
   abbrev before : List ℕ
   before = bytes_of_texts g.ps ++ f.front
@@ -395,16 +408,16 @@ module _ (a : AskedTexts) (input r r' d d' w w' : Option (List ℕ)) (n n' : Tex
 
   -- what is next is a part
   part_of : (text : List ℕ) (made : List (List ℕ)) (lines : List ℕ) (v : Turn)
-      → IsDocument u text made lines v ⊎ IsRefused a.style a.name.now y.place u text made lines v ⊎ IsAstray a.style a.name.now input (length before) y.place u text made lines v
-      → IsTextPart a.style a.name.now input x.window.offset x.place t (record { front = f.front; text = text; made = made; lines = lines; behind = v })
+      → IsDocument u text made lines v ⊎ IsRefused shown a.name.now y.place u text made lines v ⊎ IsAstray shown a.name.now input (length before) y.place u text made lines v
+      → IsTextPart shown a.name.now input x.window.offset x.place t (record { front = f.front; text = text; made = made; lines = lines; behind = v })
   part_of text made lines v is =
-      let first = subst (λ m. IsDocument u text made lines v ⊎ IsRefused a.style a.name.now y.place u text made lines v ⊎ IsAstray a.style a.name.now input m y.place u text made lines v)
+      let first = subst (λ m. IsDocument u text made lines v ⊎ IsRefused shown a.name.now y.place u text made lines v ⊎ IsAstray shown a.name.now input m y.place u text made lines v)
       (sym far_found) is in
       record {
         between = u;
         fronts = f.turns;
-        is = subst (λ q. IsDocument u text made lines v ⊎ IsRefused a.style a.name.now q u text made lines v
-            ⊎ IsAstray a.style a.name.now input (x.window.offset + length f.front) q u text made lines v) f.advances.place first;
+        is = subst (λ q. IsDocument u text made lines v ⊎ IsRefused shown a.name.now q u text made lines v
+            ⊎ IsAstray shown a.name.now input (x.window.offset + length f.front) q u text made lines v) f.advances.place first;
       }
 
   -- the text is in front of the input, behind what is before it
@@ -415,7 +428,7 @@ module _ (a : AskedTexts) (input r r' d d' w w' : Option (List ℕ)) (n n' : Tex
 
   -- and with what is passed over behind it, where it is no whole one
   completed : (what : Went) (text : List ℕ) (made : List (List ℕ)) (lines : List ℕ) (v : Turn) → HasFront (ahead_of y.window) text
-      → IsPassed a.style a.name.now y.place u (ahead_of y.window) told what text made lines v → Completes a.style a.name.now input (bytes_of_texts g.ps) x t f.front text made lines
+      → IsPassed shown a.name.now y.place u (ahead_of y.window) told what text made lines v → Completes shown a.name.now input (bytes_of_texts g.ps) x t f.front text made lines
   completed went.Document text made lines v front is =
       let same : text ≡ text ++ [] = sym (append-nil text) in
       ([], v, part_of (text ++ []) made lines v (inl (subst (λ l. IsDocument u l made lines v) same is)), front_text (text ++ []) (subst (HasFront (ahead_of y.window)) same front))
@@ -423,12 +436,12 @@ module _ (a : AskedTexts) (input r r' d d' w w' : Option (List ℕ)) (n n' : Tex
       let same : text ≡ text ++ [] = sym (append-nil text) in (
         [],
         v,
-        part_of (text ++ []) made lines v (inr (inl (subst (λ l. IsRefused a.style a.name.now y.place u l made lines v) same is))),
+        part_of (text ++ []) made lines v (inr (inl (subst (λ l. IsRefused shown a.name.now y.place u l made lines v) same is))),
         front_text (text ++ []) (subst (HasFront (ahead_of y.window)) same front),
       )
   completed went.Astray text made lines v front is =
       let h = gap_behind input r' before (ahead_of y.window) text y.place u read_found front in
-      let astray = astray_of a.style a.name.now input r' before y.place u (ahead_of y.window) told read_found f.is text h.gap made lines v h.behind is h.none h.next h.ends in (
+      let astray = astray_of shown a.name.now input r' before y.place u (ahead_of y.window) told read_found f.is text h.gap made lines v h.behind is h.none h.next h.ends in (
         h.gap,
         h.behind,
         part_of (text ++ h.gap) made lines h.behind (inr (inr astray)),
@@ -436,8 +449,8 @@ module _ (a : AskedTexts) (input r r' d d' w w' : Option (List ℕ)) (n n' : Tex
       )
 
   -- a run that fails, and wrote a front of what is next
-  pub halts_next : (d'' w'' : Option (List ℕ)) (n'' : TextCounts) → HaltsText a.style a.name.now told y.place u (ahead_of y.window) d' d'' w' w'' → n'' ≡ n'
-      → HaltsTexts a.keep_going a.style a.name.now input d d'' w w'' n n''
+  pub halts_next : (d'' w'' : Option (List ℕ)) (n'' : TextCounts) → HaltsText shown a.name.now told y.place u (ahead_of y.window) d' d'' w' w'' → n'' ≡ n'
+      → HaltsTexts a.keep_going (style_of_fault a.style a.limit) a.name.now input d d'' w w'' n n''
   halts_next d'' w'' n'' (inl same) counted = record {
     ps = g.ps;
     parts = g.has.parts;
@@ -470,7 +483,7 @@ module _ (a : AskedTexts) (input r r' d d' w w' : Option (List ℕ)) (n n' : Tex
         );
       }
 
-  module _ (z : Cursor) (v : Turn) (d'' w'' : Option (List ℕ)) (n'' : TextCounts) (what : Went) (p : PassesText a.style a.name.now told y z u v d' d'' w' w'' n' n'' what) where
+  module _ (z : Cursor) (v : Turn) (d'' w'' : Option (List ℕ)) (n'' : TextCounts) (what : Went) (p : PassesText shown a.name.now told y z u v d' d'' w' w'' n' n'' what) where
     over_text : Advances r r' x z (f.front ++ p.text)
     over_text = advances_more r r' x y z f.front p.text f.advances p.window p.ahead p.place p.offset
 
@@ -489,7 +502,7 @@ module _ (a : AskedTexts) (input r r' d d' w w' : Option (List ℕ)) (n n' : Tex
           ps = g.ps ++ q ∷ [];
           parts = h.parts;
           ends = h.in_front;
-          stops = (asked, (g.ps, q, refl, made ∙ none_made a.style a.name.now y.place u (ahead_of y.window) told what p.text p.made p.lines v p.is other));
+          stops = (asked, (g.ps, q, refl, made ∙ none_made shown a.name.now y.place u (ahead_of y.window) told what p.text p.made p.lines v p.is other));
           is_written = h.is_written;
           is_reported = h.is_reported;
           is_counted = h.is_counted;
@@ -500,26 +513,26 @@ module _ (a : AskedTexts) (input r r' d d' w w' : Option (List ℕ)) (n n' : Tex
         → FailsAt (q.window.offset + length (ahead_of q.window)) e → ReadsTexts a input r'' d d'' w w'' n n'' e
     fails_behind r'' q e asked goes is =
         let (part, made, lines, h) = last_part in
-        let quiet = quiet_of a.style a.name.now y.place u (ahead_of y.window) told what p.text p.made p.lines v a.keep_going p.is asked in
-        let on : GoesOn a.keep_going part = subst (λ l. (l ≡ []) ⊎ (a.keep_going ≡ true)) (sym lines) quiet in
+        let one = written_of shown a.name.now y.place u (ahead_of y.window) told what p.text p.made p.lines v a.keep_going p.is asked in
+        let on : GoesOn a.keep_going part = subst (λ l. IsWritten l ⊎ (a.keep_going ≡ true)) (sym made) one in
         fails_at a input r'' d d'' w w'' n n'' q (g.ps ++ part ∷ []) e h (last_of a.keep_going (g.ps ++ part ∷ []) (go_more a.keep_going g.ps part g.all on))
         (at_more input r' r'' z q (at_more input r r' x z (at_of a input r d d' w w' n n' x t g) (f.front ++ p.text, over_text)) goes) is
 
     -- or writing does
-    pub halts_passed : HaltsTexts a.keep_going a.style a.name.now input d d'' w w'' n n''
+    pub halts_passed : HaltsTexts a.keep_going (style_of_fault a.style a.limit) a.name.now input d d'' w w'' n n''
     halts_passed = let (part, made, lines, h) = last_part in halts_has a input d d'' w w'' n n'' (g.ps ++ part ∷ []) h
 
     -- nothing is passed behind it
     goes_whole : GoesOn a.keep_going (record { front = f.front; text = p.text; made = p.made; lines = p.lines; behind = v })
-        → IsDocument u p.text p.made p.lines v ⊎ IsRefused a.style a.name.now y.place u p.text p.made p.lines v → GoesOnBehind a input r' d d'' w w'' n n'' z v
+        → IsDocument u p.text p.made p.lines v ⊎ IsRefused shown a.name.now y.place u p.text p.made p.lines v → GoesOnBehind a input r' d d'' w w'' n n'' z v
     goes_whole on is =
         let part : TextPart = record { front = f.front; text = p.text; made = p.made; lines = p.lines; behind = v } in
-        let three : IsDocument u p.text p.made p.lines v ⊎ IsRefused a.style a.name.now y.place u p.text p.made p.lines v
-        ⊎ IsAstray a.style a.name.now input (length before) y.place u p.text p.made p.lines v = elim is [ inl a ↦ inl a | inr b ↦ inr (inl b) ] in
+        let three : IsDocument u p.text p.made p.lines v ⊎ IsRefused shown a.name.now y.place u p.text p.made p.lines v
+        ⊎ IsAstray shown a.name.now input (length before) y.place u p.text p.made p.lines v = elim is [ inl a ↦ inl a | inr b ↦ inr (inl b) ] in
         goes_more a input r d d' w w' n n' x t g r' d'' w'' n'' z part (part_of p.text p.made p.lines v three) over_text p.is_written p.is_reported p.is_counted on
 
     -- bytes are
-    goes_gap : (r'' : Option (List ℕ)) (q : Cursor) (s : Turn) → IsBegun a.style a.name.now y.place u (ahead_of y.window) told p.text p.made p.lines v → PassesGap r' r'' z q v s
+    goes_gap : (r'' : Option (List ℕ)) (q : Cursor) (s : Turn) → IsBegun shown a.name.now y.place u (ahead_of y.window) told p.text p.made p.lines v → PassesGap r' r'' z q v s
         → a.keep_going ≡ true → GoesOnBehind a input r'' d d'' w w'' n n'' q s
     goes_gap r'' q s is over asked =
         let text = p.text ++ over.gap in
@@ -536,7 +549,7 @@ module _ (a : AskedTexts) (input r r' d d' w w' : Option (List ℕ)) (n n' : Tex
         let ends = subst (λ m. IfSome input (λ l. EndsGap (position_over y.place text) (turn_behind_gap u) (drop m l) s)) size
         (behind_of input r'' (before ++ text) (ahead_of q.window) (λ l. EndsGap (position_over y.place text) (turn_behind_gap u) l s) read
         (λ rest done. gap_ends r'' q (position_over y.place text) u v s rest done is.next there over.ends)) in
-        let astray = astray_of a.style a.name.now input r' before y.place u (ahead_of y.window) told read_found f.is p.text over.gap p.made p.lines v s is none next ends in
+        let astray = astray_of shown a.name.now input r' before y.place u (ahead_of y.window) told read_found f.is p.text over.gap p.made p.lines v s is none next ends in
         goes_more a input r d d' w w' n n' x t g r'' d'' w'' n'' q part (part_of text p.made p.lines s (inr (inr astray))) both p.is_written p.is_reported p.is_counted (inr asked)
 
 module _ (a : AskedTexts) (input r r' d d' w w' : Option (List ℕ)) (n n' : TextCounts) (x y : Cursor) (t u : Turn) where
@@ -548,11 +561,11 @@ module _ (a : AskedTexts) (input r r' d d' w w' : Option (List ℕ)) (n n' : Tex
 module _ (a : AskedTexts) (input r r' d d' w w' : Option (List ℕ)) (n n' : TextCounts) (x y : Cursor) (t u : Turn) (told : NextText)
     (g : GoesOnBehind a input r d d' w w' n n' x t) (f : FindsText r r' x y t u told) (z : Cursor) (v : Turn) (d'' w'' : Option (List ℕ)) (n'' : TextCounts) where
   -- what is next is passed, and the bytes behind it
-  pub goes_next : (what : Went) (r'' : Option (List ℕ)) (q : Cursor) (s : Turn) → PassesText a.style a.name.now told y z u v d' d'' w' w'' n' n'' what
+  pub goes_next : (what : Went) (r'' : Option (List ℕ)) (q : Cursor) (s : Turn) → PassesText (style_of_fault a.style a.limit n') a.name.now told y z u v d' d'' w' w'' n' n'' what
       → PassesBehind what r' r'' z q v s → (what ≡ went.Document) ⊎ (a.keep_going ≡ true) → GoesOnBehind a input r'' d d'' w w'' n n'' q s
   goes_next went.Document r'' q s p same asked =
       same_behind a input r' r'' d d'' w w'' n n'' z q v s same
-      (goes_whole a input r r' d d' w w' n n' x y t u told g f z v d'' w'' n'' went.Document p (inl p.is.quiet) (inl p.is))
+      (goes_whole a input r r' d d' w w' n n' x y t u told g f z v d'' w'' n'' went.Document p (inl (p.is.document, p.is.makes)) (inl p.is))
   goes_next went.Refused r'' q s p same (inl other) = let none : ⊥ = cc in absurd none
   goes_next went.Refused r'' q s p same (inr asked) =
       same_behind a input r' r'' d d'' w w'' n n'' z q v s same
@@ -600,5 +613,5 @@ module _ (a : AskedTexts) (input r d d' w w' : Option (List ℕ)) (n n' : TextCo
       }
 
   -- one that fails, and writes nothing more
-  pub halts_here : HaltsTexts a.keep_going a.style a.name.now input d d' w w' n n'
+  pub halts_here : HaltsTexts a.keep_going (style_of_fault a.style a.limit) a.name.now input d d' w w' n n'
   halts_here = halts_has a input d d' w w' n n' g.ps g.has

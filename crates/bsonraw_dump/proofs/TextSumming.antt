@@ -6,7 +6,7 @@ use Rattle.std.proofs.KnownBytes.{Appends-nil}
 use Rattle.bson_json.specs.Written.{AppendsFront}
 use Rattle.bsonraw_dump.specs.Fronts.{HasFront}
 use Rattle.bsonraw_dump.specs.TextBatch.{HaltsReading, ReadsFront, ReadsInput, ReadsOver, TextState, text_summary}
-use Rattle.bsonraw_dump.specs.TextRun.{EndsAs, HaltsTexts, ReadsTexts, TextPart, bytes_of_texts}
+use Rattle.bsonraw_dump.specs.TextRun.{EndsAs, HaltsTexts, ReadsTexts, TextPart, bytes_of_texts, style_of_fault}
 use Rattle.bsonraw_dump.specs.declared.style.Style.{Style}
 use Rattle.bsonraw_dump.specs.declared.text_counts.TextCounts.{TextCounts}
 use Rattle.bsonraw_dump.specs.declared.texts.AskedTexts.{AskedTexts}
@@ -52,13 +52,13 @@ module _ (job : TextJob) (bytes_of : List ℕ → Option (List ℕ)) where
 
   -- in the next one
   pub halts_next : {A : Type 0} (f : A → List ℕ) (names : List A) (i : ℕ) (x : A) (last : TextState) (d w : Option (List ℕ)) (n : TextCounts) → i < length names
-      → HaltsTexts job.keep_going job.style (f (get_or names i x)) (bytes_of (f (get_or names i x))) last.out d last.report w last.counts n
+      → HaltsTexts job.keep_going (style_of_fault job.style job.limit) (f (get_or names i x)) (bytes_of (f (get_or names i x))) last.out d last.report w last.counts n
       → HaltsReading job bytes_of (map f (drop i names)) last d w n
   halts_next f names i x last d w n there halts = subst (λ xs. HaltsReading job bytes_of (map f xs) last d w n) (sym (drop_more names i x there)) halts
 
   -- behind all of them
   pub halts_behind : {A : Type 0} (f : A → List ℕ) (names : List A) (i : ℕ) (last : TextState) (d w : Option (List ℕ)) → length names ≤ i → Keeps last.out d
-      → AppendsFront last.report w (text_summary job.style last.counts) → HaltsReading job bytes_of (map f (drop i names)) last d w last.counts
+      → AppendsFront last.report w (text_summary job.style job.limit last.counts) → HaltsReading job bytes_of (map f (drop i names)) last d w last.counts
   halts_behind f names i last d w all kept front =
       subst (λ xs. HaltsReading job bytes_of (map f xs) last d w last.counts) (sym (drop_all i names all)) (kept, front, refl)
 
@@ -68,7 +68,7 @@ nothing_in None = tt
 nothing_in (Some s) = (s, refl)
 
 -- nothing comes of an input
-pub halts_unread : (k : Bool) (style : Style) (name : List ℕ) (input d w : Option (List ℕ)) (n n' : TextCounts) → n' ≡ n → HaltsTexts k style name input d d w w n n'
+pub halts_unread : (k : Bool) (style : TextCounts → Style) (name : List ℕ) (input d w : Option (List ℕ)) (n n' : TextCounts) → n' ≡ n → HaltsTexts k style name input d d w w n n'
 halts_unread k style name input d w n n' counted = record {
   ps = [];
   parts = tt;
@@ -90,7 +90,7 @@ front_in (end.Failed failed) (Some s) left ps ends = ends.0
 
 -- it was read, and nothing more comes
 pub halts_read : (a : AskedTexts) (input left d d' w w' : Option (List ℕ)) (n n' n'' : TextCounts) (ended : TextEnd) → ReadsTexts a input left d d' w w' n n' ended → n'' ≡ n'
-    → HaltsTexts a.keep_going a.style a.name.now input d d' w w' n n''
+    → HaltsTexts a.keep_going (style_of_fault a.style a.limit) a.name.now input d d' w w' n n''
 halts_read a input left d d' w w' n n' n'' ended p counted = record {
   ps = p.ps;
   parts = p.parts;

@@ -27,6 +27,7 @@ use Rattle.bsonraw_dump.specs.declared.pick.Picking.{Picking}
 use Rattle.bsonraw_dump.specs.declared.paths.Paths.{Paths}
 use Rattle.bsonraw_dump.proofs.Repeating.{firsts_none, repeats_none}
 use Rattle.bsonraw_dump.specs.declared.find.Finding.{Finding}
+use Rattle.bsonraw_dump.specs.declared.run.Outcome.{Outcome}
 use Rattle.bsonraw_dump.specs.declared.style.Style.{Style}
 use Rattle.bsonraw_dump.specs.declared.find.Finding.TheVariants as finding
 
@@ -237,7 +238,7 @@ form_made_unique b k d d' (inl same) = inl same
 form_made_unique b k d d' (inr (text, (form, is, it), front)) = inr (text, (form ∷ [], (form, is, refl), it), front)
 
 -- the same where no more is written
-pub writes_same : (limits : Limits) (c : Command) (style : Style) (name : List ℕ) (offset : ℕ) (b : List ℕ) (d d' w w' : Option (List ℕ)) (k k' k'' : Kept) (f : Finding)
-    → WritesOne limits c style name offset b d d' w w' k k' f → KeepsWritten k' k'' → WritesOne limits c style name offset b d d' w w' k k'' f
-writes_same limits c style name offset b d d' w w' k k' k'' f (told, found, (made, makes, writes, (first, places, reported))) (count, forms) =
-    (told, found, (made, makes, writes_kept c made d d' k k' k'' writes (count, forms), (first, record { placed = ap origins_of forms ∙ places.placed; repeats = places.repeats }, reported)))
+pub writes_same : (limits : Limits) (c : Command) (style : Style) (name : List ℕ) (offset : ℕ) (b : List ℕ) (d d' w w' : Option (List ℕ)) (k k' k'' : Kept) (o : Outcome)
+    → WritesOne limits c style name offset b d d' w w' k k' o → KeepsWritten k' k'' → WritesOne limits c style name offset b d d' w w' k k'' o
+writes_same limits c style name offset b d d' w w' k k' k'' o (told, found, (made, makes, writes, (first, places, repeats, reported))) (count, forms) =
+    (told, found, (made, makes, writes_kept c made d d' k k' k'' writes (count, forms), (first, record { placed = ap origins_of forms ∙ places.placed; repeats = places.repeats }, repeats, reported)))

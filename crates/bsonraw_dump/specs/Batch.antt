@@ -1,11 +1,11 @@
 -- What a run over several inputs reads, writes and counts, and how it ends.
-use Rattle.std.specs.Prelude.{◌≡◌, ◌⊎◌, ◌++◌, ◌∷◌, ◌<◌, ◌^◌, ℕ, List, [], Bool, false, Option, None, Some, cond, is_none, nat_lt}
+use Rattle.std.specs.Prelude.{◌≡◌, ◌⊎◌, ◌++◌, ◌∷◌, ◌<◌, ◌-◌, ◌^◌, ℕ, List, [], Bool, false, Option, None, Some, cond, is_none, nat_lt}
 use Rattle.std.specs.Option.{option_map}
 use Rattle.std.specs.Io.KnownBytes.{Appends, Keeps}
 use Rattle.bson_json.specs.Written.{AppendsFront}
 use Rattle.bsonraw_dump.specs.Fields.{no_table, table_text, tabled}
 use Rattle.bsonraw_dump.specs.Portion.{EndsPortion, HaltsPortion}
-use Rattle.bsonraw_dump.specs.Run.{count_left, no_counts, plus}
+use Rattle.bsonraw_dump.specs.Run.{count_left, no_counts, plus, style_at}
 use Rattle.bsonraw_dump.specs.Status.{IsFailureStatus, IsStatus}
 use Rattle.bsonraw_dump.specs.Told.{summary_line}
 use Rattle.bsonraw_dump.specs.Unique.{firsts_of, knows, no_firsts}
@@ -18,6 +18,7 @@ use Rattle.bsonraw_dump.specs.declared.batch.Totals.{Totals}
 use Rattle.bsonraw_dump.specs.declared.command.Command.{Command}
 use Rattle.bsonraw_dump.specs.declared.command.Command.TheVariants as command
 use Rattle.bsonraw_dump.specs.declared.counts.Counts.{Counts}
+use Rattle.bsonraw_dump.specs.declared.style.Style.{Style}
 use Rattle.bsonraw_dump.specs.declared.failure.ReadFailure.{ReadFailure}
 use Rattle.bsonraw_dump.specs.declared.kept.Kept.{Kept}
 use Rattle.bsonraw_dump.specs.declared.status.Status.{Status}
@@ -66,23 +67,31 @@ pub record KeepsNothing (repeats : Bool) (paths : ℕ) (kept : Kept) : Type 0 wh
 
 -- the line that tells what was counted of one input; only check and count have it
 abbrev pub input_line : Job → Command → List ℕ → Counts → List ℕ
-input_line job command.Check name n = summary_line job.style (Some name) job.command n 0
-input_line job command.Count name n = summary_line job.style (Some name) job.command n 0
+input_line job command.Check name n = summary_line job.style (Some name) None job.command n 0
+input_line job command.Count name n = summary_line job.style (Some name) None job.command n 0
 input_line job _ name n = []
 
 -- the line that tells what was counted of all; list has none, and fields has the lines of its paths before it
 abbrev pub all_line : Job → Command → Counts → Kept → List ℕ
 all_line job command.List n kept = []
-all_line job command.Fields n kept = table_text (tabled kept) ++ summary_line job.style None command.Fields n kept.count
-all_line job _ n kept = summary_line job.style None job.command n kept.count
+all_line job command.Fields n kept = table_text (tabled kept) ++ summary_line job.style None job.limit command.Fields n kept.count
+all_line job _ n kept = summary_line job.style None job.limit job.command n kept.count
+
+-- how many findings of an input are printed at most, before which so much was counted
+abbrev pub left_limit : Job → (before : Counts) → Option ℕ
+left_limit job before = option_map (λ most. most - before.findings) job.limit
+
+-- how they are
+abbrev pub style_behind : Job → (before : Counts) → Counts → Style
+style_behind job before = style_at job.style (left_limit job before)
 
 -- An input of which these bytes are known is opened, and run over, as far as it is asked for. Bytes could be passed over in it where
--- reading didn't fail.
-pub record IsRun (job : Job) (name : List ℕ) (input out_old out_new report_old report_new : Option (List ℕ)) (kept_old kept_new : Kept) (counts : Counts)
+-- reading didn't fail. So much was counted before it.
+pub record IsRun (job : Job) (before : Counts) (name : List ℕ) (input out_old out_new report_old report_new : Option (List ℕ)) (kept_old kept_new : Kept) (counts : Counts)
     (goes_on : Bool) : Type 0 where
   pub left : Option (List ℕ)
   pub failed : Option ReadFailure
-  pub ends : EndsPortion job.portion job.limits job.command job.style job.resync name input left out_old out_new report_old report_new no_counts counts kept_old kept_new failed
+  pub ends : EndsPortion job.portion job.limits job.command (style_behind job before) job.resync name input left out_old out_new report_old report_new no_counts counts kept_old kept_new failed
   pub could : goes_on ≡ is_none failed
 
 -- An input isn't opened. None is of which bytes are known. Nothing is written, and it counts as one that isn't read to its end, with no
@@ -96,9 +105,9 @@ pub record IsNotOpened (input out_old out_new report_old report_new : Option (Li
   pub could : goes_on ≡ false
 
 -- one of both
-abbrev pub IsInput : Job → List ℕ → (input out_old out_new report_old report_new : Option (List ℕ)) → (kept_old kept_new : Kept) → Counts → Bool → Type 0
-IsInput job name input out_old out_new report_old report_new kept_old kept_new counts goes_on =
-    IsRun job name input out_old out_new report_old report_new kept_old kept_new counts goes_on
+abbrev pub IsInput : Job → (before : Counts) → List ℕ → (input out_old out_new report_old report_new : Option (List ℕ)) → (kept_old kept_new : Kept) → Counts → Bool → Type 0
+IsInput job before name input out_old out_new report_old report_new kept_old kept_new counts goes_on =
+    IsRun job before name input out_old out_new report_old report_new kept_old kept_new counts goes_on
     ⊎ IsNotOpened input out_old out_new report_old report_new kept_old kept_new counts goes_on
 
 -- What comes of one input more, of which these bytes are known: what was counted of it is put to the rest, and its line is written.
@@ -106,7 +115,7 @@ pub record Comes (job : Job) (input : Option (List ℕ)) (name : List ℕ) (old 
   pub counts : Counts
   pub goes_on : Bool
   pub report_between : Option (List ℕ)
-  pub is : IsInput job name input old.out new.out old.report report_between old.kept new.kept counts goes_on
+  pub is : IsInput job old.counts name input old.out new.out old.report report_between old.kept new.kept counts goes_on
   pub told : Appends report_between new.report (input_line job job.command name counts)
   pub is_counted : new.counts ≡ plus old.counts counts
   pub cut : new.cut ≡ first_cut old.cut counts (input_of name goes_on)
@@ -132,6 +141,7 @@ pub record AreInRange (n : Counts) : Type 0 where
   pub passed_over : n.passed_over < 2 ^ 64
   pub not_read : n.not_read < 2 ^ 64
   pub files : n.files < 2 ^ 64
+  pub findings : n.findings < 2 ^ 64
 
 -- so much more is counted; nothing where a sum would be over the range of a count
 abbrev pub CountsMore : (counts_old counts counts_new : Counts) → Type 0
@@ -140,10 +150,10 @@ CountsMore counts_old counts counts_new = (counts_new ≡ plus counts_old counts
 -- An input isn't done with: the run over it fails. Or it was run over whole, or wasn't opened, and a front of its line is written.
 abbrev pub HaltsWithin : Job → List ℕ → (input out_old out_new report_old report_new : Option (List ℕ)) → Kept → (counts_old counts_new : Counts) → Type 0
 HaltsWithin job name input out_old out_new report_old report_new kept counts_old counts_new =
-    ((counts : Counts) × HaltsPortion job.portion job.limits job.command job.style job.resync name input out_old out_new report_old report_new no_counts counts kept
+    ((counts : Counts) × HaltsPortion job.portion job.limits job.command (style_behind job counts_old) job.resync name input out_old out_new report_old report_new no_counts counts kept
     × CountsMore counts_old counts counts_new)
     ⊎ ((report_between : Option (List ℕ)) × (kept_new : Kept) × (counts : Counts) × (goes_on : Bool)
-    × IsInput job name input out_old out_new report_old report_between kept kept_new counts goes_on × AppendsFront report_between report_new (input_line job job.command name counts)
+    × IsInput job counts_old name input out_old out_new report_old report_between kept kept_new counts goes_on × AppendsFront report_between report_new (input_line job job.command name counts)
     × CountsMore counts_old counts counts_new)
 
 -- What is written of the first of these inputs, which isn't done with. Where none is left, a front of the line of all.
@@ -183,11 +193,11 @@ pub record IsDone (job : Job) (bytes_of : List ℕ → Option (List ℕ)) (names
 -- one input more is put to what was counted, and its run was so
 abbrev pub CountsRun : Job → List ℕ → (input out_old out_new report_old report_new : Option (List ℕ)) → (old new : Totals) → Counts → Type 0
 CountsRun job name input out_old out_new report_old report_new old new counts =
-    (goes_on : Bool) × IsRun job name input out_old out_new report_old report_new old.kept new.kept counts goes_on × (new.counts ≡ plus old.counts counts)
+    (goes_on : Bool) × IsRun job old.counts name input out_old out_new report_old report_new old.kept new.kept counts goes_on × (new.counts ≡ plus old.counts counts)
     × (option_map cut_of new.cut ≡ first_cut (option_map cut_of old.cut) counts (input_of name goes_on))
 
 -- the same, where it may not be opened
 abbrev pub CountsInput : Job → List ℕ → (input out_old out_new report_old report_new : Option (List ℕ)) → (old new : Totals) → Counts → Type 0
 CountsInput job name input out_old out_new report_old report_new old new counts =
-    (goes_on : Bool) × IsInput job name input out_old out_new report_old report_new old.kept new.kept counts goes_on × (new.counts ≡ plus old.counts counts)
+    (goes_on : Bool) × IsInput job old.counts name input out_old out_new report_old report_new old.kept new.kept counts goes_on × (new.counts ≡ plus old.counts counts)
     × (option_map cut_of new.cut ≡ first_cut (option_map cut_of old.cut) counts (input_of name goes_on))

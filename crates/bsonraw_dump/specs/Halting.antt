@@ -78,11 +78,11 @@ HaltsAhead limits c style resync name input offset work kept out_old out_new rep
 
 -- How a run over an input fails. These parts are in front of it. What they give was written, reported and counted, and of what is next a
 -- front was written or reported.
-pub record Halts (limits : Limits) (c : Command) (style : Style) (resync : Bool) (name : List ℕ) (input out_old out_new report_old report_new : Option (List ℕ))
+pub record Halts (limits : Limits) (c : Command) (style : Counts → Style) (resync : Bool) (name : List ℕ) (input out_old out_new report_old report_new : Option (List ℕ))
     (counts_old counts_new : Counts) (kept_old : Kept) : Type 0 where
   pub ps : List Part
   pub in_front : IfSome input (λ s. HasFront s (bytes_of_parts ps))
-  pub parts : AreParts limits c style resync name input 0 no_work ps
+  pub parts : AreParts limits c style resync name input 0 no_work counts_old ps
   pub out_between : Option (List ℕ)
   pub report_between : Option (List ℕ)
   pub kept_between : Kept
@@ -92,7 +92,7 @@ pub record Halts (limits : Limits) (c : Command) (style : Style) (resync : Bool)
   pub is_reported : Appends report_old report_between (lines_of_parts ps)
   pub is_counted : counts_new ≡ fold count_part counts_old ps
   pub is_tabled : tabled kept_between ≡ fold with_document (tabled kept_old) (fields_of_parts ps)
-  pub halts : HaltsAhead limits c style resync name input (length (bytes_of_parts ps)) (fold work_behind no_work ps) kept_between out_between out_new report_between report_new
+  pub halts : HaltsAhead limits c (style counts_new) resync name input (length (bytes_of_parts ps)) (fold work_behind no_work ps) kept_between out_between out_new report_between report_new
 
 -- What the code tells of a run that fails. No public contract cites what follows.
 

@@ -78,7 +78,8 @@ pub record IsChosen (p : Portion) (most : ℕ) (input : Option (List ℕ)) (fron
 
 -- How a run over the documents that are asked for ends: as one over these parts does. Unless reading failed, all in front of them is
 -- passed over, and if it ends before the input does, then with the last document that is asked for.
-pub record EndsPortion (p : Portion) (limits : Limits) (c : Command) (style : Style) (resync : Bool) (name : List ℕ) (read_old read_new out_old out_new report_old report_new : Option (List ℕ))
+pub record EndsPortion (p : Portion) (limits : Limits) (c : Command) (style : Counts → Style) (resync : Bool) (name : List ℕ)
+    (read_old read_new out_old out_new report_old report_new : Option (List ℕ))
     (counts_old counts_new : Counts) (kept_old kept_new : Kept) (failed : Option ReadFailure) : Type 0 where
   pub front : List ℕ
   pub ends : Ends limits c style resync name read_old read_new out_old out_new report_old report_new counts_old counts_new kept_old kept_new failed
@@ -87,7 +88,7 @@ pub record EndsPortion (p : Portion) (limits : Limits) (c : Command) (style : St
   pub to_last : ends.early ≡ true → IsEnough p ends.ps
 
 -- how it fails
-pub record HaltsPortion (p : Portion) (limits : Limits) (c : Command) (style : Style) (resync : Bool) (name : List ℕ) (input out_old out_new report_old report_new : Option (List ℕ))
+pub record HaltsPortion (p : Portion) (limits : Limits) (c : Command) (style : Counts → Style) (resync : Bool) (name : List ℕ) (input out_old out_new report_old report_new : Option (List ℕ))
     (counts_old counts_new : Counts) (kept_old : Kept) : Type 0 where
   pub front : List ℕ
   pub halts : Halts limits c style resync name input out_old out_new report_old report_new counts_old counts_new kept_old
@@ -101,7 +102,8 @@ HasFailed (stop.Failed at error) = Unit {0}
 HasFailed _ = ⊥
 
 -- parts were passed of those that are asked for, and how they end
-pub record PassesPortion (p : Portion) (limits : Limits) (c : Command) (style : Style) (resync : Bool) (name : List ℕ) (read_old read_new out_old out_new report_old report_new : Option (List ℕ))
+pub record PassesPortion (p : Portion) (limits : Limits) (c : Command) (style : Counts → Style) (resync : Bool) (name : List ℕ)
+    (read_old read_new out_old out_new report_old report_new : Option (List ℕ))
     (counts_old counts_new : Counts) (kept_old kept_new : Kept) (window_new : Window) (stopped : Stop) : Type 0 where
   pub front : List ℕ
   pub all : PassesAll limits c style resync name read_old read_new out_old out_new report_old report_new counts_old counts_new kept_old kept_new window_new stopped

@@ -1,5 +1,5 @@
 -- What a run over an input reads, writes and counts.
-use Rattle.std.specs.Prelude.{◌≡◌, ℕ, ◌+◌, List, [], ◌∷◌, ◌++◌, Bool, true, false, Option, None, Some, IfSome, IsNone, codes, decimal, drop, flat_map, fold, length, take}
+use Rattle.std.specs.Prelude.{◌≡◌, ℕ, ◌+◌, ◌-◌, suc, zero, List, [], ◌∷◌, ◌++◌, Bool, true, false, Option, None, Some, IfSome, IsNone, codes, cond, decimal, drop, flat_map, fold, is_some, length, take}
 use Rattle.std.specs.Io.KnownBytes.{Appends, Consumes, IsAtEnd}
 use Rattle.std.specs.Option.{option_map}
 use Rattle.raw_tree.specs.CanonicalForm.{IsCanonicalForm}
@@ -35,9 +35,11 @@ use Rattle.bsonraw_dump.specs.declared.resync.Skip.{Skip}
 use Rattle.raw_resync.specs.declared.work.Work.{Work}
 use Rattle.bsonraw_dump.specs.declared.find.Finding.{Finding}
 use Rattle.bsonraw_dump.specs.declared.find.Finding.TheVariants as finding
+use Rattle.bsonraw_dump.specs.declared.run.Outcome.{Outcome}
 use Rattle.bsonraw_dump.specs.declared.run.Stop.{Stop}
 use Rattle.bsonraw_dump.specs.declared.run.Stop.TheVariants as stop
 use Rattle.bsonraw_dump.specs.declared.style.Style.{Style}
+use Rattle.bsonraw_dump.specs.declared.style.Style.TheVariants as style
 
 -- how many bytes a piece has, and behind that what is told of it
 abbrev pub head_text : List ℕ → Option Account → List ℕ
@@ -50,7 +52,8 @@ told_line style name offset None = []
 told_line style name offset (Some told) = report_line style name offset told
 
 -- a piece of an input, what is found in it and what is told of that, the document that is made of it, if there is one, the same with
--- its place, what it repeats, what is reported of it, its elements, if they are counted, and what the searches cost then
+-- its place, what it repeats, how many findings that is, what is reported of it, its elements, if they are counted, and what the searches
+-- cost then
 pub record Entry : Type 0 where
   pub bytes : List ℕ
   pub finding : Finding
@@ -58,6 +61,7 @@ pub record Entry : Type 0 where
   pub made : List (List ℕ)
   pub forms : List Placed
   pub repeats : List Repeat
+  pub findings : ℕ
   pub lines : List ℕ
   pub fields : List Document
   pub work : Work
@@ -107,6 +111,17 @@ Reports c style name offset b finding.TooDeep told lines = lines ≡ told_line s
 Reports command.Check style name offset b finding.Breached told lines = lines ≡ told_line style name offset told
 Reports c style name offset b found told lines = lines ≡ []
 
+-- how many findings a command has of a piece in which this is found
+abbrev pub findings_in : Command → Finding → ℕ
+findings_in c finding.Damaged = 1
+findings_in c finding.TooDeep = 1
+findings_in command.Check finding.Breached = 1
+findings_in c found = 0
+
+-- the same of what came of it: one more if it is a repeat
+abbrev pub findings_of : Command → Outcome → ℕ
+findings_of c outcome = findings_in c outcome.finding + cond outcome.repeats 1 0
+
 -- the lines of repeats
 abbrev pub lines_of_repeats : Style → List Repeat → List ℕ
 lines_of_repeats style repeats = flat_map (repeat_line style) repeats
@@ -119,6 +134,7 @@ pub record IsEntry (limits : Limits) (c : Command) (style : Style) (name : List 
   pub placed : e.forms ≡ placed_at (origin_at name offset) e.made
   pub first : Option Origin
   pub repeats : e.repeats ≡ repeat_at (origin_at name offset) first
+  pub findings : e.findings ≡ findings_in c e.finding + length e.repeats
   pub lines : List ℕ
   pub reports : Reports c style name offset e.bytes e.finding e.told lines
   pub told : e.lines ≡ lines ++ lines_of_repeats style e.repeats
@@ -197,12 +213,6 @@ IsPart limits c style resync name input offset work (piece e) = IsEntry limits c
 IsPart limits c style resync name input offset work (gap g) = IsGap limits style resync name input offset work g
 IsPart limits c style resync name input offset work (skipped b) = Unit {0}
 
--- parts one behind the other, the first of which begins at this offset of the input, where the searches before it cost so much
-abbrev pub AreParts : Limits → Command → Style → (resync : Bool) → List ℕ → Option (List ℕ) → ℕ → Work → List Part → Type 0
-AreParts limits c style resync name input offset work [] = Unit {0}
-AreParts limits c style resync name input offset work (p ∷ ps) =
-    IsPart limits c style resync name input offset work p × AreParts limits c style resync name input (offset + length (bytes_of_part p)) (work_behind work p) ps
-
 -- these documents are written and counted, or of unique those that are new, and their digests are known then
 pub record Writes (c : Command) (made : List (List ℕ)) (out_old out_new : Option (List ℕ)) (kept_old kept_new : Kept) : Type 0 where
   pub is_written : Appends out_old out_new (written_of c (knows kept_old) made)
@@ -221,24 +231,25 @@ Puts c place made out_old out_new kept_old kept_new first =
     Writes c made out_old out_new kept_old kept_new × Places c (origin_of place) made kept_old kept_new (option_map origin_of first)
 
 -- what is written of a piece at this offset, and what is reported, with the line of a repeat
-abbrev pub WritesOne : Limits → Command → Style → List ℕ → ℕ → List ℕ → (out_old out_new report_old report_new : Option (List ℕ)) → (kept_old kept_new : Kept) → Finding → Type 0
-WritesOne limits c style name offset b out_old out_new report_old report_new kept_old kept_new found =
-    (told : Option Account) × Judges limits c b found told
-    × ((made : List (List ℕ)) × Makes c b found made × Writes c made out_old out_new kept_old kept_new
-    × ((first : Option Origin) × Places c (origin_at name offset) made kept_old kept_new first
-    × ((lines : List ℕ) × Reports c style name offset b found told lines
+abbrev pub WritesOne : Limits → Command → Style → List ℕ → ℕ → List ℕ → (out_old out_new report_old report_new : Option (List ℕ)) → (kept_old kept_new : Kept) → Outcome → Type 0
+WritesOne limits c style name offset b out_old out_new report_old report_new kept_old kept_new outcome =
+    (told : Option Account) × Judges limits c b outcome.finding told
+    × ((made : List (List ℕ)) × Makes c b outcome.finding made × Writes c made out_old out_new kept_old kept_new
+    × ((first : Option Origin) × Places c (origin_at name offset) made kept_old kept_new first × (outcome.repeats ≡ is_some first)
+    × ((lines : List ℕ) × Reports c style name offset b outcome.finding told lines
     × Appends report_old report_new (lines ++ lines_of_repeats style (repeat_at (origin_at name offset) first)))))
 
 -- a piece at this offset is passed: that, and which elements are counted
-abbrev pub PassesOne : Limits → Command → Style → List ℕ → ℕ → List ℕ → (out_old out_new report_old report_new : Option (List ℕ)) → (kept_old kept_new : Kept) → Finding → Type 0
-PassesOne limits c style name offset b out_old out_new report_old report_new kept_old kept_new found =
-    WritesOne limits c style name offset b out_old out_new report_old report_new kept_old kept_new found × CountsFields limits c (origin_at name offset) b found kept_old kept_new
+abbrev pub PassesOne : Limits → Command → Style → List ℕ → ℕ → List ℕ → (out_old out_new report_old report_new : Option (List ℕ)) → (kept_old kept_new : Kept) → Outcome → Type 0
+PassesOne limits c style name offset b out_old out_new report_old report_new kept_old kept_new outcome =
+    WritesOne limits c style name offset b out_old out_new report_old report_new kept_old kept_new outcome
+    × CountsFields limits c (origin_at name offset) b outcome.finding kept_old kept_new
 
 -- A piece is passed, one that may be damaged only where any is; or it isn't, and nothing is written or reported.
 abbrev pub MayPassOne : Limits → (any : Bool) → Command → Style → List ℕ → ℕ → List ℕ → (out_old out_new report_old report_new : Option (List ℕ)) → (kept_old kept_new : Kept)
-    → Option Finding → Type 0
-MayPassOne limits any c style name offset b out_old out_new report_old report_new kept_old kept_new (Some found) =
-    (any ≡ false → ¬ MayBeDamaged found) × PassesOne limits c style name offset b out_old out_new report_old report_new kept_old kept_new found
+    → Option Outcome → Type 0
+MayPassOne limits any c style name offset b out_old out_new report_old report_new kept_old kept_new (Some outcome) =
+    (any ≡ false → ¬ MayBeDamaged outcome.finding) × PassesOne limits c style name offset b out_old out_new report_old report_new kept_old kept_new outcome
 MayPassOne limits any c style name offset b out_old out_new report_old report_new kept_old kept_new None =
     (any ≡ false) × (out_new ≡ out_old) × (report_new ≡ report_old) × (kept_new ≡ kept_old)
 
@@ -262,7 +273,7 @@ fields_of_parts ps = flat_map fields_of_part ps
 
 -- nothing was read
 abbrev pub no_counts : Counts
-no_counts = record { documents = 0; bytes = 0; breached = 0; damaged = 0; too_deep = 0; passed_over = 0; not_read = 0; files = 0 }
+no_counts = record { documents = 0; bytes = 0; breached = 0; damaged = 0; too_deep = 0; passed_over = 0; not_read = 0; files = 0; findings = 0 }
 
 -- one more of what is found
 abbrev pub count_finding : Finding → Counts → Counts
@@ -274,11 +285,11 @@ count_finding finding.Unjudged n = n
 
 -- one more document
 abbrev pub count_entry : Counts → Entry → Counts
-count_entry n e = count_finding e.finding (record n { documents = n.documents + 1; bytes = n.bytes + length e.bytes })
+count_entry n e = count_finding e.finding (record n { documents = n.documents + 1; bytes = n.bytes + length e.bytes; findings = n.findings + e.findings })
 
--- so many bytes more that are passed over
+-- so many bytes more that are passed over, of which a line tells
 abbrev pub count_gap : Counts → ℕ → Counts
-count_gap n count = record n { passed_over = n.passed_over + count }
+count_gap n count = record n { passed_over = n.passed_over + count; findings = n.findings + 1 }
 
 -- one more part
 abbrev pub count_part : Counts → Part → Counts
@@ -290,10 +301,15 @@ count_part n (skipped b) = n
 abbrev pub count_left : Counts → ℕ → Counts
 count_left n count = record n { not_read = n.not_read + count; files = n.files + 1 }
 
--- the same of a file, unless it is read to its end: bytes are left, or reading fails
+-- the same, and a line tells of it
+abbrev pub count_rest : Counts → ℕ → Counts
+count_rest n count = count_left (record n { findings = n.findings + 1 }) count
+
+-- the same of a file, unless it is read to its end: bytes are left, of which a line tells, or reading fails
 abbrev pub count_end : Option Ending → Option ReadFailure → Counts → ℕ → Counts
 count_end None None n count = n
-count_end _ _ n count = count_left n count
+count_end None (Some failed) n count = count_left n count
+count_end (Some end) _ n count = count_rest n count
 
 -- both together
 abbrev pub plus : Counts → Counts → Counts
@@ -306,14 +322,32 @@ plus n m = record {
   passed_over = n.passed_over + m.passed_over;
   not_read = n.not_read + m.not_read;
   files = n.files + m.files;
+  findings = n.findings + m.findings;
 }
+
+-- how what is found is reported where so much was counted before: no findings but as many as are asked for
+abbrev pub with_left : Style → ℕ → Style
+with_left shown zero = style.Quiet
+with_left shown (suc n) = shown
+
+abbrev pub style_at : Style → Option ℕ → Counts → Style
+style_at shown None n = shown
+style_at shown (Some most) n = with_left shown (most - n.findings)
+
+-- Parts one behind the other, the first of which begins at this offset of the input, where the searches before it cost so much, and this was
+-- counted before it. How each is reported goes by what was counted before it.
+abbrev pub AreParts : Limits → Command → (Counts → Style) → (resync : Bool) → List ℕ → Option (List ℕ) → ℕ → Work → Counts → List Part → Type 0
+AreParts limits c style resync name input offset work n [] = Unit {0}
+AreParts limits c style resync name input offset work n (p ∷ ps) =
+    IsPart limits c (style n) resync name input offset work p
+    × AreParts limits c style resync name input (offset + length (bytes_of_part p)) (work_behind work p) (count_part n p) ps
 
 -- These parts were read, and behind them what is ahead; and of the parts this was written and counted, and nothing else. Known
 -- bytes are those of a reader and two writers.
-pub record Passed (limits : Limits) (c : Command) (style : Style) (resync : Bool) (name ahead : List ℕ)
+pub record Passed (limits : Limits) (c : Command) (style : Counts → Style) (resync : Bool) (name ahead : List ℕ)
     (read_old read_new out_old out_new report_old report_new : Option (List ℕ)) (counts_old counts_new : Counts) (kept_old kept_new : Kept)
     (ps : List Part) : Type 0 where
-  pub parts : AreParts limits c style resync name read_old 0 no_work ps
+  pub parts : AreParts limits c style resync name read_old 0 no_work counts_old ps
   pub is_read : Consumes read_old read_new (bytes_of_parts ps ++ ahead)
   pub is_written : Writes c (made_of_parts ps) out_old out_new kept_old kept_new
   pub is_placed : firsts_of kept_new ≡ firsts_behind c (firsts_of kept_old) (forms_of_parts ps)
@@ -333,7 +367,7 @@ EndsAs limits resync false (Some end) (Some failed) left read_new = EndsWith lim
 
 -- How a run ends: parts were passed; then this was left, of which no part is made, and was counted, and its line was written. Where
 -- reading failed, it failed behind it. What was known of the report and what was counted between the two is a part of it.
-pub record Ends (limits : Limits) (c : Command) (style : Style) (resync : Bool) (name : List ℕ) (read_old read_new out_old out_new report_old report_new : Option (List ℕ))
+pub record Ends (limits : Limits) (c : Command) (style : Counts → Style) (resync : Bool) (name : List ℕ) (read_old read_new out_old out_new report_old report_new : Option (List ℕ))
     (counts_old counts_new : Counts) (kept_old kept_new : Kept) (failed : Option ReadFailure) : Type 0 where
   pub ps : List Part
   pub report_between : Option (List ℕ)
@@ -344,7 +378,7 @@ pub record Ends (limits : Limits) (c : Command) (style : Style) (resync : Bool) 
   pub end : Option Ending
   pub ends : EndsAs limits resync early end failed left read_new
   pub fails : IfSome failed (λ failure. failure.at ≡ length (bytes_of_parts ps) + length left)
-  pub told : Appends report_between report_new (last_line style name (length (bytes_of_parts ps)) end (length left))
+  pub told : Appends report_between report_new (last_line (style counts_between) name (length (bytes_of_parts ps)) end (length left))
   pub is_counted : counts_new ≡ count_end end failed counts_between (length left)
 
 -- reading fails
@@ -366,10 +400,10 @@ pub record PassesFront (limits : Limits) (any : Bool) (c : Command) (style : Sty
   pub window : IsWindow window_new
   pub offset : window_new.offset ≡ window_old.offset + len
   pub ahead : ahead_of window_new ≡ drop len (ahead_of window_old)
-  pub finding : Finding
-  pub clean : any ≡ false → ¬ MayBeDamaged finding
-  pub passed : PassesOne limits c style name window_old.offset (take len (ahead_of window_old)) out_old out_new report_old report_new kept_old kept_new finding
-  pub is_counted : (e : Entry) → length e.bytes ≡ len → e.finding ≡ finding → counts_new ≡ count_entry counts_old e
+  pub outcome : Outcome
+  pub clean : any ≡ false → ¬ MayBeDamaged outcome.finding
+  pub passed : PassesOne limits c style name window_old.offset (take len (ahead_of window_old)) out_old out_new report_old report_new kept_old kept_new outcome
+  pub is_counted : (e : Entry) → length e.bytes ≡ len → e.finding ≡ outcome.finding → e.findings ≡ findings_of c outcome → counts_new ≡ count_entry counts_old e
 
 -- nothing is written, reported or counted
 abbrev pub WritesNothing : (out_old out_new report_old report_new : Option (List ℕ)) → (counts_old counts_new : Counts) → (kept_old kept_new : Kept) → Type 0
@@ -409,7 +443,7 @@ FailsAt from (stop.Failed at error) = at ≡ from
 FailsAt from _ = ⊥
 
 -- parts were passed, and how they end
-pub record PassesAll (limits : Limits) (c : Command) (style : Style) (resync : Bool) (name : List ℕ) (read_old read_new out_old out_new report_old report_new : Option (List ℕ))
+pub record PassesAll (limits : Limits) (c : Command) (style : Counts → Style) (resync : Bool) (name : List ℕ) (read_old read_new out_old out_new report_old report_new : Option (List ℕ))
     (counts_old counts_new : Counts) (kept_old kept_new : Kept) (window_new : Window) (stopped : Stop) : Type 0 where
   pub window : IsWindow window_new
   pub ps : List Part
@@ -434,7 +468,7 @@ pub record Leaves (limits : Limits) (style : Style) (name : List ℕ) (end : End
   pub to_end : IsNone failed → IsAtEnd read_new
   pub fails : IfSome failed (λ failure. failure.at ≡ window_old.offset + length (ahead_of window_old ++ more))
   pub told : Appends report_old report_new (ending_line style name window_old.offset end (rest.NotRead (length (ahead_of window_old ++ more))))
-  pub is_counted : counts_new ≡ count_left counts_old (length (ahead_of window_old ++ more))
+  pub is_counted : counts_new ≡ count_rest counts_old (length (ahead_of window_old ++ more))
 
 -- Of this piece at this place, in which this is found, a document is made and written, which repeats the one at that place, if there is one.
 abbrev pub Emits : Command → kept.Origin → List ℕ → Finding → (out_old out_new : Option (List ℕ)) → (kept_old kept_new : Kept) → Option kept.Origin → Type 0

@@ -1,5 +1,5 @@
 -- What a run over several inputs of texts reads, writes and counts, and how it ends.
-use Rattle.std.specs.Prelude.{◌≡◌, ◌≢◌, ◌⊎◌, ◌<◌, ◌++◌, ◌∷◌, ℕ, List, [], false, true, Option, None, Some, codes, decimal}
+use Rattle.std.specs.Prelude.{◌≡◌, ◌≢◌, ◌⊎◌, ◌<◌, ◌-◌, ◌++◌, ◌∷◌, ℕ, List, [], false, true, Option, None, Some, codes, decimal}
 use Rattle.std.specs.IoError.{error_kind}
 use Rattle.std.specs.Option.{option_map}
 use Rattle.std.specs.Io.KnownBytes.{Appends, Keeps}
@@ -8,8 +8,8 @@ use Rattle.std.specs.declared.io.ErrorKind.TheVariants.{BrokenPipe}
 use Rattle.json.specs.Token.{key, number}
 use Rattle.bson_json.specs.Written.{AppendsFront}
 use Rattle.bsonraw_dump.specs.Batch.{CutInput, cut_of, input_of}
-use Rattle.bsonraw_dump.specs.TextRun.{HaltsTexts, ReadsTexts, count_file, no_texts}
-use Rattle.bsonraw_dump.specs.Told.{object_line}
+use Rattle.bsonraw_dump.specs.TextRun.{HaltsTexts, ReadsTexts, count_file, no_texts, style_of_fault}
+use Rattle.bsonraw_dump.specs.Told.{number_member, object_line}
 use Rattle.bsonraw_dump.specs.declared.batch.Done.{Done}
 use Rattle.bsonraw_dump.specs.declared.batch.Lack.{Lack}
 use Rattle.bsonraw_dump.specs.declared.batch.Lack.TheVariants as lack
@@ -26,17 +26,26 @@ use Rattle.bsonraw_dump.specs.declared.texts.TextEnd.TheVariants as end
 use Rattle.bsonraw_dump.specs.declared.texts_batch.TextJob.{TextJob}
 use Rattle.bsonraw_dump.specs.declared.texts_batch.TextTotals.{TextTotals}
 
+-- the faults that aren't told, where at most so many are
+abbrev pub hidden_faults : Option ℕ → TextCounts → Option ℕ
+hidden_faults limit n = option_map (λ most. n.refused - most) limit
+
+abbrev pub hidden_text : Option ℕ → List ℕ
+hidden_text None = []
+hidden_text (Some n) = codes ", findings not printed: " ++ decimal n
+
 -- the line that tells what was counted
-abbrev pub text_summary : Style → TextCounts → List ℕ
-text_summary style.Words n =
+abbrev pub text_summary : Style → Option ℕ → TextCounts → List ℕ
+text_summary style.Words limit n =
     codes "documents: " ++ decimal n.documents ++ codes ", bytes: " ++ decimal n.bytes ++ codes ", faults: " ++ decimal n.refused
-    ++ codes ", files that can't be read: " ++ decimal n.files ++ codes "\n"
-text_summary style.Json n =
+    ++ codes ", files that can't be read: " ++ decimal n.files ++ hidden_text (hidden_faults limit n) ++ codes "\n"
+text_summary style.Json limit n =
     object_line (
     key (codes "documents") ∷ number (decimal n.documents) ∷ key (codes "bytes") ∷ number (decimal n.bytes) ∷ key (codes "faults")
-    ∷ number (decimal n.refused) ∷ key (codes "files that can't be read") ∷ number (decimal n.files) ∷ []
+    ∷ number (decimal n.refused) ∷ key (codes "files that can't be read") ∷ number (decimal n.files)
+    ∷ number_member (codes "findings not printed") (hidden_faults limit n)
     )
-text_summary style.Quiet n = []
+text_summary style.Quiet limit n = []
 
 -- how a run ends that counted so much, unless memory ran out or writing failed
 abbrev pub IsTextStatus : TextCounts → Status → Type 0
@@ -86,6 +95,7 @@ EndsInput (end.Failed failed) name counts_old counts_new cut_old cut_new =
 pub record ReadsOpen (job : TextJob) (input : Option (List ℕ)) (name : List ℕ) (old new : TextState) : Type 0 where
   pub asked : AskedTexts
   pub style : asked.style ≡ job.style
+  pub limit : asked.limit ≡ job.limit
   pub keep_going : asked.keep_going ≡ job.keep_going
   pub named : asked.name.now ≡ name
   pub counts : TextCounts
@@ -115,14 +125,14 @@ ReadsOver job bytes_of (name ∷ names) old new = (between : TextState) × Reads
 pub record ReadsThem (job : TextJob) (bytes_of : List ℕ → Option (List ℕ)) (names : List (List ℕ)) (first last : TextState) (out_new report_new : Option (List ℕ)) : Type 0 where
   pub reads : ReadsOver job bytes_of names first last
   pub out : Keeps last.out out_new
-  pub report : Appends last.report report_new (text_summary job.style last.counts)
+  pub report : Appends last.report report_new (text_summary job.style job.limit last.counts)
 
 -- What is written of the first of these inputs, which isn't done with. Where none is left, a front of the line of all.
 abbrev pub HaltsReading : TextJob → (bytes_of : List ℕ → Option (List ℕ)) → List (List ℕ) → TextState → (out_new report_new : Option (List ℕ)) → TextCounts → Type 0
 HaltsReading job bytes_of [] last out_new report_new counts_new =
-    Keeps last.out out_new × AppendsFront last.report report_new (text_summary job.style last.counts) × (counts_new ≡ last.counts)
+    Keeps last.out out_new × AppendsFront last.report report_new (text_summary job.style job.limit last.counts) × (counts_new ≡ last.counts)
 HaltsReading job bytes_of (name ∷ names) last out_new report_new counts_new =
-    HaltsTexts job.keep_going job.style name (bytes_of name) last.out out_new last.report report_new last.counts counts_new
+    HaltsTexts job.keep_going (style_of_fault job.style job.limit) name (bytes_of name) last.out out_new last.report report_new last.counts counts_new
 
 -- Some of the inputs of these names were read, from this state on, in order; and then a failure came, in the next, or behind all.
 pub record ReadsFront (job : TextJob) (bytes_of : List ℕ → Option (List ℕ)) (names : List (List ℕ)) (first : TextState) (out_new report_new : Option (List ℕ))

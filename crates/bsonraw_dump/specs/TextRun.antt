@@ -1,5 +1,5 @@
 -- What a run over an input of texts reads, writes and counts.
-use Rattle.std.specs.Prelude.{◌≡◌, ◌≢◌, ◌⊎◌, ◌+◌, ◌^◌, ◌≤◌, ◌<◌, ℕ, List, [], ◌∷◌, ◌++◌, Bool, true, false, Option, Some, IfSome, Result, Ok, Err, drop, flat_map, fold, length, min, take}
+use Rattle.std.specs.Prelude.{◌≡◌, ◌≢◌, ◌⊎◌, ◌+◌, ◌-◌, ◌^◌, ◌≤◌, ◌<◌, ℕ, List, [], ◌∷◌, ◌++◌, Bool, true, false, Option, None, Some, IfSome, Result, Ok, Err, drop, flat_map, fold, length, min, take}
 use Rattle.std.specs.Io.KnownBytes.{Appends, Consumes, IsAtEnd}
 use Rattle.std.specs.Str.{IsUtf8, IsValidUpTo}
 use Rattle.bson_model.specs.Tree.{Tree}
@@ -10,7 +10,7 @@ use Rattle.bson_json.specs.Written.{AppendsFront}
 use Rattle.bsonraw_dump.specs.Find.{usual}
 use Rattle.bsonraw_dump.specs.Fronts.{HasFront}
 use Rattle.bsonraw_dump.specs.Reading.{IsWindow, ahead_of}
-use Rattle.bsonraw_dump.specs.Run.{IsReading}
+use Rattle.bsonraw_dump.specs.Run.{IsReading, with_left}
 use Rattle.bsonraw_dump.specs.TextFaults.{fault_line}
 use Rattle.bsonraw_dump.specs.Texts.{CantBe, EndsGap, HasBegun, HasBrace, HasNoLine, IsOpen, IsTextOf, IsWhole, first_position, may_begin, may_end, position_over, reason_between, scanned, turn_behind_document, turn_behind_gap, turn_over}
 use Rattle.bsonraw_dump.specs.TextReading.{PassesGap, ScansAhead}
@@ -127,17 +127,6 @@ pub record IsTextPart (style : Style) (name : List ℕ) (input : Option (List �
       ⊎ IsRefused style name (position_over place p.front) between p.text p.made p.lines p.behind
       ⊎ IsAstray style name input (offset + length p.front) (position_over place p.front) between p.text p.made p.lines p.behind
 
--- parts come behind this one: it is a document, or that is asked for
-abbrev pub GoesOn : (keep_going : Bool) → TextPart → Type 0
-GoesOn keep_going p = (p.lines ≡ []) ⊎ (keep_going ≡ true)
-
--- parts one behind the other, the first of which begins at this offset of an input, of which these bytes are known, and at this place
-abbrev pub AreTexts : (keep_going : Bool) → Style → List ℕ → Option (List ℕ) → (offset : ℕ) → Position → Turn → List TextPart → Type 0
-AreTexts keep_going style name input offset place before [] = Unit {0}
-AreTexts keep_going style name input offset place before (p ∷ ps) =
-    IsTextPart style name input offset place before p × ((ps ≡ []) ⊎ GoesOn keep_going p)
-    × AreTexts keep_going style name input (offset + length (bytes_of p)) (position_over place (bytes_of p)) p.behind ps
-
 abbrev pub bytes_of_texts : List TextPart → List ℕ
 bytes_of_texts ps = flat_map bytes_of ps
 
@@ -178,6 +167,23 @@ count_text n p = count_made n p.made
 abbrev pub count_file : TextCounts → TextCounts
 count_file n = record n { files = n.files + 1 }
 
+-- parts come behind this one: it is a document, or that is asked for
+abbrev pub GoesOn : (keep_going : Bool) → TextPart → Type 0
+GoesOn keep_going p = ((document : List ℕ) × (p.made ≡ document ∷ [])) ⊎ (keep_going ≡ true)
+
+-- how a fault is told, where so much was counted before it: not at all behind as many as are asked for
+abbrev pub style_of_fault : Style → Option ℕ → TextCounts → Style
+style_of_fault shown None n = shown
+style_of_fault shown (Some most) n = with_left shown (most - n.refused)
+
+-- Parts one behind the other, the first of which begins at this offset of an input, of which these bytes are known, and at this place, and
+-- this was counted before it. How a fault is told goes by what was counted before it.
+abbrev pub AreTexts : (keep_going : Bool) → (TextCounts → Style) → List ℕ → Option (List ℕ) → (offset : ℕ) → Position → Turn → TextCounts → List TextPart → Type 0
+AreTexts keep_going style name input offset place before n [] = Unit {0}
+AreTexts keep_going style name input offset place before n (p ∷ ps) =
+    IsTextPart (style n) name input offset place before p × ((ps ≡ []) ⊎ GoesOn keep_going p)
+    × AreTexts keep_going style name input (offset + length (bytes_of p)) (position_over place (bytes_of p)) p.behind (count_text n p) ps
+
 -- How a run over these parts ends, where the input is known to be s, and the reader has this left: behind them is only what may be between
 -- documents, and the input may end there, and is read; a fault is the last part; or reading failed, behind so many bytes.
 abbrev pub EndsAs : TextEnd → List TextPart → (left : Option (List ℕ)) → List ℕ → Type 0
@@ -201,7 +207,7 @@ StopsAt _ keep_going ps = LastGoesOn keep_going ps
 pub record ReadsTexts (asked : AskedTexts) (input left out_old out_new report_old report_new : Option (List ℕ)) (counts_old counts_new : TextCounts)
     (ended : TextEnd) : Type 0 where
   pub ps : List TextPart
-  pub parts : AreTexts asked.keep_going asked.style asked.name.now input 0 first_position turn.First ps
+  pub parts : AreTexts asked.keep_going (style_of_fault asked.style asked.limit) asked.name.now input 0 first_position turn.First counts_old ps
   pub ends : IfSome input (EndsAs ended ps left)
   pub stops : StopsAt ended asked.keep_going ps
   pub is_written : Appends out_old out_new (made_of_texts ps)
@@ -209,25 +215,26 @@ pub record ReadsTexts (asked : AskedTexts) (input left out_old out_new report_ol
   pub is_counted : counts_new ≡ fold count_text counts_old ps
 
 -- nothing is written behind these parts, or a front of what one more gives
-abbrev pub HaltsBehind : (keep_going : Bool) → Style → List ℕ → (input : Option (List ℕ)) → List TextPart → (out_old out_new report_old report_new : Option (List ℕ)) → Type 0
-HaltsBehind keep_going style name input ps out_old out_new report_old report_new =
+abbrev pub HaltsBehind : (keep_going : Bool) → (TextCounts → Style) → List ℕ → (input : Option (List ℕ)) → TextCounts → List TextPart
+    → (out_old out_new report_old report_new : Option (List ℕ)) → Type 0
+HaltsBehind keep_going style name input n ps out_old out_new report_old report_new =
     ((out_new ≡ out_old) × (report_new ≡ report_old))
-    ⊎ ((p : TextPart) × AreTexts keep_going style name input 0 first_position turn.First (ps ++ p ∷ []) × IfSome input (λ s. HasFront s (bytes_of_texts (ps ++ p ∷ [])))
+    ⊎ ((p : TextPart) × AreTexts keep_going style name input 0 first_position turn.First n (ps ++ p ∷ []) × IfSome input (λ s. HasFront s (bytes_of_texts (ps ++ p ∷ [])))
     × AppendsFront out_old out_new (joined p.made) × AppendsFront report_old report_new p.lines)
 
 -- How a run over an input fails. These parts are in front of it. What they give was written, told and counted, and of the next one
 -- a front was written or told.
-pub record HaltsTexts (keep_going : Bool) (style : Style) (name : List ℕ) (input out_old out_new report_old report_new : Option (List ℕ))
+pub record HaltsTexts (keep_going : Bool) (style : TextCounts → Style) (name : List ℕ) (input out_old out_new report_old report_new : Option (List ℕ))
     (counts_old counts_new : TextCounts) : Type 0 where
   pub ps : List TextPart
-  pub parts : AreTexts keep_going style name input 0 first_position turn.First ps
+  pub parts : AreTexts keep_going style name input 0 first_position turn.First counts_old ps
   pub in_front : IfSome input (λ s. HasFront s (bytes_of_texts ps))
   pub out_between : Option (List ℕ)
   pub report_between : Option (List ℕ)
   pub is_written : Appends out_old out_between (made_of_texts ps)
   pub is_reported : Appends report_old report_between (lines_of_texts ps)
   pub is_counted : counts_new ≡ fold count_text counts_old ps
-  pub halts : HaltsBehind keep_going style name input ps out_between out_new report_between report_new
+  pub halts : HaltsBehind keep_going style name input counts_old ps out_between out_new report_between report_new
 
 -- What the code tells of one part. No public contract cites what follows.
 

@@ -188,9 +188,15 @@ damaged_counts _ n = (codes "damaged", n.damaged) ∷ (codes "too deep", n.too_d
 abbrev pub left_counts : Counts → List Count
 left_counts n = (codes "bytes passed over", n.passed_over) ∷ (codes "bytes not read", n.not_read) ∷ (codes "files not read to the end", n.files) ∷ []
 
--- all that is counted beside the documents
-abbrev pub counts_of : Command → Counts → ℕ → List Count
-counts_of c n kept = (codes "bytes", n.bytes) ∷ kept_counts c n kept ++ breached_counts c n ++ damaged_counts c n ++ left_counts n
+-- the findings that aren't printed, where at most so many are
+abbrev pub hidden_counts : Option ℕ → Counts → List Count
+hidden_counts None n = []
+hidden_counts (Some most) n = (codes "findings not printed", n.findings - most) ∷ []
+
+-- all that is counted beside the documents, where at most so many findings are printed
+abbrev pub counts_of : Option ℕ → Command → Counts → ℕ → List Count
+counts_of limit c n kept =
+    (codes "bytes", n.bytes) ∷ kept_counts c n kept ++ breached_counts c n ++ damaged_counts c n ++ left_counts n ++ hidden_counts limit n
 
 -- a number behind its name, in words
 abbrev pub count_text : Count → List ℕ
@@ -218,10 +224,10 @@ name_members None = []
 name_members (Some name) = key (codes "file") ∷ string name ∷ []
 
 -- the line that tells what was counted of an input, or of all
-abbrev pub summary_line : Style → Option (List ℕ) → Command → Counts → ℕ → List ℕ
-summary_line style.Words name c n kept = name_text name ++ counts_text n.documents (counts_of c n kept) ++ codes "\n"
-summary_line style.Json name c n kept = object_line (name_members name ++ count_members (codes "documents", n.documents) ++ flat_map count_members (counts_of c n kept))
-summary_line style.Quiet name c n kept = []
+abbrev pub summary_line : Style → Option (List ℕ) → Option ℕ → Command → Counts → ℕ → List ℕ
+summary_line style.Words name limit c n kept = name_text name ++ counts_text n.documents (counts_of limit c n kept) ++ codes "\n"
+summary_line style.Json name limit c n kept = object_line (name_members name ++ count_members (codes "documents", n.documents) ++ flat_map count_members (counts_of limit c n kept))
+summary_line style.Quiet name limit c n kept = []
 
 -- What the code tells of an object that is written. No public contract cites it.
 

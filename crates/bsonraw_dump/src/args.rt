@@ -57,11 +57,13 @@ fn findings<'a>(
         .value_parser(FORMS)
         .help("Prints what is found as words, or as objects of JSON, a line each")
         .action(ArgAction::Set);
+    let limit = "Prints the first N findings only; the last line says how many others there are";
     let quiet = "Prints no findings and no counts; the exit status says what was found";
     command
         .arg(form)?
         .arg(switch(alloc, "json", "As --findings=json"))?
-        .arg(switch(alloc, "quiet", quiet).short('q'))
+        .arg(switch(alloc, "quiet", quiet).short('q'))?
+        .arg(number(alloc, "limit", "N", 0, u64::MAX, limit))
 }
 
 fn switch<'a>(alloc: Global, name: &'a str, help: &'a str) -> Arg<'a> {
@@ -310,6 +312,10 @@ fn task_of<'a>(
             style,
             resync: matches.get_flag("resync"),
             repeats: matches!(command, Command::Unique) && matches.get_flag("repeats"),
+            limit: match command {
+                Command::List | Command::Fields => None,
+                _ => matches.get_one("limit"),
+            },
             limits: limits_of(matches),
             portion: Portion {
                 at: matches.get_one("at").unwrap_or(0),
@@ -340,6 +346,7 @@ fn text_task<'a>(alloc: Global, matches: &ArgMatches<'a>) -> Result<Task<'a>, Er
         reading: Reading::Texts(TextJob {
             style: style_of(matches),
             keep_going: matches.get_flag("keep-going"),
+            limit: matches.get_one("limit"),
         }),
         output: matches.get_str("output").filter(|name| *name != "-"),
         inputs: inputs_of(alloc, matches)?,

@@ -5,7 +5,7 @@ ghost use Rattle.std.specs.Prelude.{◌≡◌, None, map, IfErr, IfOk, MatchBool
 ghost use Rattle.std.specs.Io.KnownBytes.{Appends, Keeps};
 ghost use Rattle.std.specs.Option.{option_map};
 ghost use Rattle.bson_json.specs.Written.{AppendsFront};
-ghost use Rattle.bsonraw_dump.specs.Batch.{AreInRange, Comes, CountsInput, CountsRun, IsDone, KeepsNothing, RunsAll, RunsFront, State, HaltsWithin, all_line, cut_of, first_cut, input_line, input_of, state_of};
+ghost use Rattle.bsonraw_dump.specs.Batch.{AreInRange, Comes, CountsInput, CountsRun, IsDone, KeepsNothing, RunsAll, RunsFront, State, HaltsWithin, all_line, cut_of, first_cut, input_line, input_of, left_limit, state_of};
 ghost use Rattle.bsonraw_dump.specs.Run.{IsReading, no_counts, plus};
 ghost use Rattle.bsonraw_dump.specs.declared.command.Command.TheVariants.{Fields};
 ghost use Rattle.bsonraw_dump.specs.Status.{HasDamage, IsFailureStatus, IsStatus};
@@ -41,6 +41,8 @@ pub struct Job<'a> {
     pub repeats: bool,
     /// of how many paths elements are counted at most
     pub paths: usize,
+    /// at most so many findings are printed
+    pub limit: Option<u64>,
 }
 
 /// An input that wasn't read to its end.
@@ -231,6 +233,7 @@ fn run_open<'a, I: Inputs, D: Write, W: Write>(
     let asked = Asked {
         command: job.command,
         style: job.style,
+        limit: left_of(job, totals.counts),
         resync: job.resync,
         limits: job.limits,
         portion: job.portion,
@@ -253,6 +256,16 @@ fn run_open<'a, I: Inputs, D: Write, W: Write>(
     Ok(counts)
 }
 
+/// How many findings of an input are printed at most, before which so much was counted.
+fn left_of(job: Job<'_>, before: Counts) -> Option<u64>
+    ensures { result ≡ left_limit job.entry before }
+{
+    match job.limit {
+        Some(most) => Some(most.saturating_sub(before.findings)),
+        None => None,
+    }
+}
+
 /// Of `check` and `count`, writes what was counted of one input.
 fn put_counts<W: Write>(
     alloc: Global,
@@ -272,6 +285,7 @@ fn put_counts<W: Write>(
             alloc,
             job.style,
             Some(name),
+            None,
             job.command,
             counts,
             0,
@@ -313,6 +327,7 @@ fn put_all_counts<W: Write>(
             alloc,
             job.style,
             None,
+            job.limit,
             job.command,
             &totals.counts,
             totals.kept.count(),
@@ -340,6 +355,7 @@ fn put_fields<W: Write>(
         alloc,
         job.style,
         None,
+        job.limit,
         Command::Fields,
         &totals.counts,
         totals.kept.count(),

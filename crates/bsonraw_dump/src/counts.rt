@@ -1,6 +1,6 @@
 ghost use Rattle.std.specs.Prelude.{◌≡◌, ◌+◌, IfSome, IsNone, length};
 ghost use Rattle.bsonraw_dump.specs.Batch.{AreInRange};
-ghost use Rattle.bsonraw_dump.specs.Run.{Entry, count_entry, count_gap, count_left, no_counts, plus};
+ghost use Rattle.bsonraw_dump.specs.Run.{Entry, count_entry, count_gap, count_left, count_rest, no_counts, plus};
 
 use crate::find::Finding;
 
@@ -23,6 +23,8 @@ pub struct Counts {
     pub not_read: u64,
     /// those files
     pub files: u64,
+    /// what was found of which a line tells, printed or not
+    pub findings: u64,
 }
 
 impl Counts {
@@ -39,19 +41,21 @@ impl Counts {
             passed_over: 0,
             not_read: 0,
             files: 0,
+            findings: 0,
         }
     }
 
-    /// One document more, of so many bytes, in which this was found; `None` where a count would be over its range.
-    pub fn with(self, len: usize, finding: Finding) -> Option<Counts>
-        ensures counted { (e : Entry) → length e.bytes ≡ len → e.finding ≡ finding → IfSome result
+    /// One document more, of so many bytes, in which this was found, with so many findings; `None` where a count would be over its range.
+    pub fn with(self, len: usize, finding: Finding, findings: u64) -> Option<Counts>
+        ensures counted { (e : Entry) → length e.bytes ≡ len → e.finding ≡ finding → e.findings ≡ findings → IfSome result
             (λ n. n ≡ count_entry self e) }
-        ensures none { (e : Entry) → length e.bytes ≡ len → e.finding ≡ finding → IsNone result
+        ensures none { (e : Entry) → length e.bytes ≡ len → e.finding ≡ finding → e.findings ≡ findings → IsNone result
             → ¬ AreInRange (count_entry self e) }
     {
         let read = Counts {
             documents: self.documents.checked_add(1)?,
             bytes: self.bytes.checked_add(len as u64)?,
+            findings: self.findings.checked_add(findings)?,
             ..self
         };
         match finding {
@@ -78,6 +82,7 @@ impl Counts {
     {
         Some(Counts {
             passed_over: self.passed_over.checked_add(count)?,
+            findings: self.findings.checked_add(1)?,
             ..self
         })
     }
@@ -95,6 +100,18 @@ impl Counts {
         })
     }
 
+    /// The same, and a line tells of it.
+    pub fn with_rest(self, count: u64) -> Option<Counts>
+        ensures counted { IfSome result (λ n. n ≡ count_rest self count) }
+        ensures none { IsNone result → ¬ AreInRange (count_rest self count) }
+    {
+        let told = Counts {
+            findings: self.findings.checked_add(1)?,
+            ..self
+        };
+        told.with_left(count)
+    }
+
     /// Both together; `None` where a count would be over its range.
     pub fn plus(self, other: Counts) -> Option<Counts>
         ensures sum { IfSome result (λ n. n ≡ plus self other) }
@@ -109,6 +126,7 @@ impl Counts {
             passed_over: self.passed_over.checked_add(other.passed_over)?,
             not_read: self.not_read.checked_add(other.not_read)?,
             files: self.files.checked_add(other.files)?,
+            findings: self.findings.checked_add(other.findings)?,
         })
     }
 }

@@ -152,7 +152,7 @@ fn put_why(object: &mut Writer, why: Why) -> Result<(), AllocError>
 }
 
 /// Puts a member that is a number, where there is one.
-fn put_some(object: &mut Writer, name: &str, value: Option<u64>) -> Result<(), AllocError>
+pub fn put_some(object: &mut Writer, name: &str, value: Option<u64>) -> Result<(), AllocError>
     ensures { OnOk result (Grows object.old object.new (number_member name.now value)) }
 {
     match value {

@@ -17,7 +17,7 @@ ghost use Rattle.bsonraw_dump.specs.Fields.{CountsFields, IsCounted, KeepsWritte
 ghost use Rattle.bsonraw_dump.specs.Find.{Account, account_of};
 ghost use Rattle.bsonraw_dump.specs.Unique.{CountsOne, knows, origin_of, repeat_at, written_of};
 ghost use Rattle.bsonraw_dump.specs.Told.{ending_line, line, summary_line};
-ghost use Rattle.bsonraw_dump.specs.Run.{Emits, FailsAt, IsLeft, IsReading, Leaves, MayPassFront, MayPassOne, PassesGap, PassesNext, Puts, Reports, WritesNothing, head_text, lines_of_repeats};
+ghost use Rattle.bsonraw_dump.specs.Run.{Emits, FailsAt, IsLeft, IsReading, Leaves, MayPassFront, MayPassOne, PassesGap, PassesNext, Puts, Reports, WritesNothing, findings_of, head_text, lines_of_repeats, style_at};
 ghost use Rattle.bsonraw_dump.specs.Run as says;
 ghost use Rattle.raw_tree.specs.CanonicalForm.{IsCanonicalForm};
 ghost use Rattle.raw_view.specs.Frame.Envelope.{IsEnvelope};
@@ -58,6 +58,8 @@ pub struct Asked<'a> {
     pub command: Command<'a>,
     /// how what is found is printed
     pub style: Style,
+    /// at most so many findings are printed
+    pub limit: Option<u64>,
     /// whether bytes are passed over where no document begins
     pub resync: bool,
     /// what a document may cost
@@ -66,6 +68,45 @@ pub struct Asked<'a> {
     pub portion: Portion,
     /// its name, which begins each line
     pub name: &'a str,
+}
+
+impl<'a> Asked<'a> {
+    /// The same of what is next, where so much was counted: nothing is printed where enough was.
+    fn at(self, counts: Counts) -> Asked<'a>
+        ensures { result ≡ record self.entry { style = style_at self.entry.style self.entry.limit counts } }
+    {
+        let left = match self.limit {
+            Some(most) => most.saturating_sub(counts.findings),
+            None => 1,
+        };
+        let style = match left {
+            0 => Style::Quiet,
+            _ => self.style,
+        };
+        Asked { style, ..self }
+    }
+}
+
+/// What came of a document.
+#[derive(Clone, Copy)]
+pub struct Outcome {
+    /// what was found in it
+    pub finding: Finding,
+    /// whether its form came before, and is told
+    pub repeats: bool,
+}
+
+impl Outcome {
+    /// How many findings that is.
+    fn findings(self, command: Command<'_>) -> u64
+        ensures { result ≡ findings_of command.entry self }
+    {
+        let found = match (command, self.finding) {
+            (_, Finding::Damaged | Finding::TooDeep) | (Command::Check, Finding::Breached) => 1,
+            (_, Finding::Canonical | Finding::Breached | Finding::Unjudged) => 0,
+        };
+        found + u64::from(self.repeats)
+    }
 }
 
 /// How the documents of an input end, and the bytes that are passed over between them.
@@ -93,9 +134,9 @@ pub fn run<'a, R: Read, D: Write, W: Write>(
     counts: &mut Counts,
     kept: &mut Kept<'a>,
 ) -> Result<Option<ReadFailure>, Failure>
-    ensures ends { IfOk result (EndsPortion asked.entry.portion asked.entry.limits asked.entry.command asked.entry.style asked.entry.resync asked.entry.name.now (R.remaining reader.old) (R.remaining reader.new)
+    ensures ends { IfOk result (EndsPortion asked.entry.portion asked.entry.limits asked.entry.command (style_at asked.entry.style asked.entry.limit) asked.entry.resync asked.entry.name.now (R.remaining reader.old) (R.remaining reader.new)
         (D.contents out.old) (D.contents out.new) (W.contents report.old) (W.contents report.new) counts.old counts.new kept.old kept.new) }
-    ensures halts { OnErr result (HaltsPortion asked.entry.portion asked.entry.limits asked.entry.command asked.entry.style asked.entry.resync asked.entry.name.now (R.remaining reader.old)
+    ensures halts { OnErr result (HaltsPortion asked.entry.portion asked.entry.limits asked.entry.command (style_at asked.entry.style asked.entry.limit) asked.entry.resync asked.entry.name.now (R.remaining reader.old)
         (D.contents out.old) (D.contents out.new) (W.contents report.old) (W.contents report.new) counts.old counts.new kept.old) }
     ensures failed { IfErr result (λ failure. ¬ IsReading failure) }
 {
@@ -103,7 +144,10 @@ pub fn run<'a, R: Read, D: Write, W: Write>(
     match pass_all(alloc, asked, reader, &mut window, out, report, counts, kept)? {
         Stop::End => Ok(None),
         Stop::Enough => Ok(None),
-        Stop::Left(ending) => { leave(alloc, asked, ending, reader, &mut window, report, counts) }
+        Stop::Left(ending) => {
+            let here = asked.at(*counts);
+            leave(alloc, here, ending, reader, &mut window, report, counts)
+        }
         Stop::Failed(from, error) => {
             let at = window.end()?;
             *counts = in_range(counts.with_left(at.saturating_sub(from)))?;
@@ -124,9 +168,9 @@ fn pass_all<'a, R: Read, D: Write, W: Write>(
     kept: &mut Kept<'a>,
 ) -> Result<Stop, Failure>
     requires { IsWindow window.old × (ahead_of window.old ≡ []) × (window.old.offset ≡ 0) }
-    ensures passed { IfOk result (PassesPortion asked.entry.portion asked.entry.limits asked.entry.command asked.entry.style asked.entry.resync asked.entry.name.now (R.remaining reader.old) (R.remaining reader.new)
+    ensures passed { IfOk result (PassesPortion asked.entry.portion asked.entry.limits asked.entry.command (style_at asked.entry.style asked.entry.limit) asked.entry.resync asked.entry.name.now (R.remaining reader.old) (R.remaining reader.new)
         (D.contents out.old) (D.contents out.new) (W.contents report.old) (W.contents report.new) counts.old counts.new kept.old kept.new window.new) }
-    ensures halts { OnErr result (HaltsPortion asked.entry.portion asked.entry.limits asked.entry.command asked.entry.style asked.entry.resync asked.entry.name.now (R.remaining reader.old)
+    ensures halts { OnErr result (HaltsPortion asked.entry.portion asked.entry.limits asked.entry.command (style_at asked.entry.style asked.entry.limit) asked.entry.resync asked.entry.name.now (R.remaining reader.old)
         (D.contents out.old) (D.contents out.new) (W.contents report.old) (W.contents report.new) counts.old counts.new kept.old) }
     ensures failed { IfErr result (λ failure. ¬ IsReading failure) }
 {
@@ -140,8 +184,9 @@ fn pass_all<'a, R: Read, D: Write, W: Write>(
             return Ok(Stop::Enough);
         }
         let from = window.offset();
+        let here = asked.at(*counts);
         let next = match pass_next(
-            alloc, asked, reader, window, &mut work, out, report, counts, kept,
+            alloc, here, reader, window, &mut work, out, report, counts, kept,
         ) {
             Ok(next) => next,
             Err(failure) => return stopped(from, failure),
@@ -154,7 +199,7 @@ fn pass_all<'a, R: Read, D: Write, W: Write>(
                     return Ok(Stop::Left(ending));
                 }
                 if let Err(failure) = pass_gap(
-                    alloc, asked, ending, reader, window, &mut work, report, counts,
+                    alloc, here, ending, reader, window, &mut work, report, counts,
                 ) {
                     return stopped(from, failure);
                 }
@@ -204,7 +249,7 @@ fn leave<R: Read, W: Write>(
         report,
     )?;
     let at = in_range(offset.checked_add(rest.count))?;
-    *counts = in_range(counts.with_left(rest.count))?;
+    *counts = in_range(counts.with_rest(rest.count))?;
     Ok(failure_at(at, rest.failure))
 }
 
@@ -295,10 +340,11 @@ fn pass_front<'a, D: Write, W: Write>(
     ensures failed { IfErr result (λ failure. ¬ IsReading failure) }
 {
     let bytes = &window.ahead()[..len];
-    let Some(finding) = pass(alloc, asked, any, window.offset(), bytes, out, report, kept)? else {
+    let Some(outcome) = pass(alloc, asked, any, window.offset(), bytes, out, report, kept)? else {
         return Ok(false);
     };
-    let counted = in_range(counts.with(len, finding))?;
+    let findings = outcome.findings(asked.command);
+    let counted = in_range(counts.with(len, outcome.finding, findings))?;
     window.pass(len)?;
     *counts = counted;
     Ok(true)
@@ -331,7 +377,7 @@ fn pass_gap<R: Read, W: Write>(
     Ok(())
 }
 
-/// Passes one document, and returns what is found in it; one that may be damaged only where any is passed.
+/// Passes one document, and returns what came of it; one that may be damaged only where any is passed.
 fn pass<'a, D: Write, W: Write>(
     alloc: Global,
     asked: Asked<'a>,
@@ -341,7 +387,7 @@ fn pass<'a, D: Write, W: Write>(
     out: &mut D,
     report: &mut W,
     kept: &mut Kept<'a>,
-) -> Result<Option<Finding>, Failure>
+) -> Result<Option<Outcome>, Failure>
     requires { IsPiece asked.limits.bytes bytes.now }
     ensures passed { IfOk result (MayPassOne asked.entry.limits any asked.entry.command asked.entry.style asked.entry.name.now offset bytes.now
         (D.contents out.old) (D.contents out.new) (W.contents report.old) (W.contents report.new) kept.old kept.new) }
@@ -372,7 +418,10 @@ fn pass<'a, D: Write, W: Write>(
     let first = emit(alloc, asked.command, limits, at, finding, bytes, out, kept)?;
     put_repeat(alloc, asked.style, at, first, report)?;
     count_fields(alloc, asked.command, limits, finding, at, bytes, kept)?;
-    Ok(Some(finding))
+    Ok(Some(Outcome {
+        finding,
+        repeats: first.is_some(),
+    }))
 }
 
 /// Counts the elements of a document in which this was found, where the command counts them.
@@ -555,20 +604,21 @@ pub fn put_summary<W: Write>(
     alloc: Global,
     style: Style,
     name: Option<&str>,
+    limit: Option<u64>,
     command: Command<'_>,
     counts: &Counts,
     kept: u64,
     report: &mut W,
 ) -> Result<(), Failure>
     ensures written { OnOk result (Appends (W.contents report.old) (W.contents report.new)
-        (summary_line style (option_copied name.entry) command.entry counts.now kept)) }
+        (summary_line style (option_copied name.entry) limit command.entry counts.now kept)) }
     ensures front { OnErr result (AppendsFront (W.contents report.old) (W.contents report.new)
-        (summary_line style (option_copied name.entry) command.entry counts.now kept)) }
+        (summary_line style (option_copied name.entry) limit command.entry counts.now kept)) }
     ensures failed { IfErr result (λ failure. ¬ IsReading failure) }
 {
     let text = match style {
-        Style::Words => summary(alloc, name, command, counts, kept)?,
-        Style::Json => summary_object(alloc, name, command, counts, kept)?,
+        Style::Words => summary(alloc, name, limit, command, counts, kept)?,
+        Style::Json => summary_object(alloc, name, limit, command, counts, kept)?,
         Style::Quiet => Vec::new(alloc),
     };
     put(report, &text)

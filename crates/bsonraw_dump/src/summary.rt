@@ -3,7 +3,7 @@
 
 ghost use Rattle.std.specs.Prelude.{◌≡◌, ◌++◌, ◌∷◌, [], IfOk, OnOk, flat_map, map};
 ghost use Rattle.std.specs.Option.{option_copied};
-ghost use Rattle.bsonraw_dump.specs.Told.{Grows, breached_counts, count_members, count_of, count_text, counts_of, damaged_counts, kept_counts, left_counts, name_members, name_text, next_text, summary_line};
+ghost use Rattle.bsonraw_dump.specs.Told.{Grows, breached_counts, count_members, count_of, count_text, counts_of, damaged_counts, hidden_counts, kept_counts, left_counts, name_members, name_text, next_text, summary_line};
 ghost use Rattle.bsonraw_dump.specs.declared.style.Style.TheVariants.{Json, Words};
 
 use crate::command::Command;
@@ -100,14 +100,29 @@ fn push_left(all: &mut Vec<Count>, counts: &Counts) -> Result<(), AllocError>
     push(all, "files not read to the end", counts.files)
 }
 
+/// The findings that weren't printed, where at most so many are.
+fn push_hidden(all: &mut Vec<Count>, limit: Option<u64>, counts: &Counts) -> Result<(), AllocError>
+    ensures { OnOk result (map count_of all.new.items ≡ map count_of all.old.items ++ hidden_counts limit counts.now) }
+{
+    match limit {
+        Some(most) => push(
+            all,
+            "findings not printed",
+            counts.findings.saturating_sub(most),
+        ),
+        None => Ok(()),
+    }
+}
+
 /// All that was counted beside the documents.
 fn counted(
     alloc: Global,
+    limit: Option<u64>,
     command: Command<'_>,
     counts: &Counts,
     kept: u64,
 ) -> Result<Vec<Count>, AllocError>
-    ensures { IfOk result (λ all. map count_of all.items ≡ counts_of command.entry counts.now kept) }
+    ensures { IfOk result (λ all. map count_of all.items ≡ counts_of limit command.entry counts.now kept) }
 {
     let mut all = Vec::new(alloc);
     push(&mut all, "bytes", counts.bytes)?;
@@ -115,6 +130,7 @@ fn counted(
     push_breached(&mut all, command, counts)?;
     push_damaged(&mut all, command, counts)?;
     push_left(&mut all, counts)?;
+    push_hidden(&mut all, limit, counts)?;
     Ok(all)
 }
 
@@ -154,16 +170,17 @@ fn push_name(alloc: Global, text: &mut Vec<u8>, name: Option<&str>) -> Result<()
 pub fn summary(
     alloc: Global,
     name: Option<&str>,
+    limit: Option<u64>,
     command: Command<'_>,
     counts: &Counts,
     kept: u64,
 ) -> Result<Vec<u8>, AllocError>
-    ensures { IfOk result (λ text. text.items ≡ summary_line Words (option_copied name.entry) command.entry counts.now kept) }
+    ensures { IfOk result (λ text. text.items ≡ summary_line Words (option_copied name.entry) limit command.entry counts.now kept) }
 {
     let mut text = Vec::new(alloc);
     push_name(alloc, &mut text, name)?;
     push_count(&mut text, "documents", counts.documents)?;
-    push_counts(&mut text, &counted(alloc, command, counts, kept)?)?;
+    push_counts(&mut text, &counted(alloc, limit, command, counts, kept)?)?;
     push_words(&mut text, "\n")?;
     Ok(text)
 }
@@ -191,15 +208,16 @@ fn put_name(object: &mut Writer, name: Option<&str>) -> Result<(), AllocError>
 pub fn summary_object(
     alloc: Global,
     name: Option<&str>,
+    limit: Option<u64>,
     command: Command<'_>,
     counts: &Counts,
     kept: u64,
 ) -> Result<Vec<u8>, AllocError>
-    ensures { IfOk result (λ text. text.items ≡ summary_line Json (option_copied name.entry) command.entry counts.now kept) }
+    ensures { IfOk result (λ text. text.items ≡ summary_line Json (option_copied name.entry) limit command.entry counts.now kept) }
 {
     let mut object = begun(alloc)?;
     put_name(&mut object, name)?;
     put_number(&mut object, "documents", counts.documents)?;
-    put_counts(&mut object, &counted(alloc, command, counts, kept)?)?;
+    put_counts(&mut object, &counted(alloc, limit, command, counts, kept)?)?;
     ended(object)
 }

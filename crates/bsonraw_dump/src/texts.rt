@@ -8,7 +8,7 @@ ghost use Rattle.bsonraw_dump.specs.Reading.{IsWindow, ahead_of};
 ghost use Rattle.bsonraw_dump.specs.Run.{IsReading};
 ghost use Rattle.bsonraw_dump.specs.TextFaults.{fault_line};
 ghost use Rattle.bsonraw_dump.specs.TextReading.{GoesOnTo, PassesAhead, ScansAhead};
-ghost use Rattle.bsonraw_dump.specs.TextRun.{FailsAt, Gives, HaltsTexts, HasNext, IsFaultOf, IsMadeOf, IsUnendedFault, PassesBehind, PassesPart, ReadsTexts, TellsNoText, count_made};
+ghost use Rattle.bsonraw_dump.specs.TextRun.{FailsAt, Gives, HaltsTexts, HasNext, IsFaultOf, IsMadeOf, IsUnendedFault, PassesBehind, PassesPart, ReadsTexts, TellsNoText, count_made, style_of_fault};
 ghost use Rattle.bsonraw_dump.specs.declared.cursor.NextText.{NextText as Told};
 ghost use Rattle.bsonraw_dump.specs.declared.cursor.NextText.TheVariants.{Text};
 ghost use Rattle.bsonraw_dump.specs.declared.texts.Went.TheVariants.{Document};
@@ -34,10 +34,29 @@ use std::{io, str};
 pub struct AskedTexts<'a> {
     /// how what is found is printed
     pub style: Style,
+    /// at most so many faults are told
+    pub limit: Option<u64>,
     /// whether reading goes on behind a fault
     pub keep_going: bool,
     /// its name, which begins each line
     pub name: &'a str,
+}
+
+impl<'a> AskedTexts<'a> {
+    /// The same of what is next, where so much was counted: no fault is told where enough were.
+    fn at(self, counts: TextCounts) -> AskedTexts<'a>
+        ensures { result ≡ record self.entry { style = style_of_fault self.entry.style self.entry.limit counts } }
+    {
+        let left = match self.limit {
+            Some(most) => most.saturating_sub(counts.refused),
+            None => 1,
+        };
+        let style = match left {
+            0 => Style::Quiet,
+            _ => self.style,
+        };
+        AskedTexts { style, ..self }
+    }
 }
 
 /// How a run over an input of texts ends.
@@ -84,7 +103,7 @@ pub fn read_texts<R: Read, D: Write, W: Write>(
 ) -> Result<TextEnd, Failure>
     ensures reads { IfOk result (ReadsTexts asked.entry (R.remaining reader.old) (R.remaining reader.new) (D.contents out.old) (D.contents out.new) (W.contents report.old) (W.contents report.new)
         counts.old counts.new) }
-    ensures halts { OnErr result (HaltsTexts asked.entry.keep_going asked.entry.style asked.entry.name.now (R.remaining reader.old) (D.contents out.old) (D.contents out.new)
+    ensures halts { OnErr result (HaltsTexts asked.entry.keep_going (style_of_fault asked.entry.style asked.entry.limit) asked.entry.name.now (R.remaining reader.old) (D.contents out.old) (D.contents out.new)
         (W.contents report.old) (W.contents report.new) counts.old counts.new) }
     ensures failed { IfErr result (λ failure. ¬ IsReading failure) }
 {
@@ -96,9 +115,10 @@ pub fn read_texts<R: Read, D: Write, W: Write>(
             Ok(next) => next,
             Err(failure) => return stopped(&cursor, failure),
         };
+        let here = asked.at(*counts);
         let went = pass_next(
             alloc,
-            asked,
+            here,
             next,
             &mut cursor,
             &mut turn,

@@ -1,20 +1,20 @@
 //! Reads inputs of texts, one after the other.
 #![tactic(auto)]
 
-ghost use Rattle.std.specs.Prelude.{◌≡◌, None, false, map, IfErr, IfOk, OnErr, OnOk};
+ghost use Rattle.std.specs.Prelude.{◌≡◌, ◌++◌, None, false, map, IfErr, IfOk, OnErr, OnOk};
 ghost use Rattle.std.specs.Io.KnownBytes.{Appends};
 ghost use Rattle.std.specs.Option.{option_map};
 ghost use Rattle.bson_json.specs.Written.{AppendsFront};
 ghost use Rattle.bsonraw_dump.specs.Batch.{cut_of, input_of};
 ghost use Rattle.bsonraw_dump.specs.Run.{IsReading};
-ghost use Rattle.bsonraw_dump.specs.TextBatch.{EndsInput, IsTextFailureStatus, IsTextStatus, IsTextsDone, ReadsAll, ReadsFront, ReadsInput, ReadsOpen, first_text_cut, text_state, text_summary};
-ghost use Rattle.bsonraw_dump.specs.TextRun.{AreTextsInRange, HaltsTexts, count_file, no_texts};
+ghost use Rattle.bsonraw_dump.specs.TextBatch.{EndsInput, IsTextFailureStatus, IsTextStatus, IsTextsDone, ReadsAll, ReadsFront, ReadsInput, ReadsOpen, first_text_cut, hidden_faults, hidden_text, text_state, text_summary};
+ghost use Rattle.bsonraw_dump.specs.TextRun.{AreTextsInRange, HaltsTexts, count_file, no_texts, style_of_fault};
 ghost use Rattle.bsonraw_dump.specs.declared.style.Style.TheVariants.{Json, Words};
 
 use crate::batch::{Cut, Done, Lack, flush};
 use crate::failure::{Failure, in_range};
 use crate::inputs::Inputs;
-use crate::object::{begun, ended, put_number};
+use crate::object::{begun, ended, put_number, put_some};
 use crate::status::Status;
 use crate::style::Style;
 use crate::text::{push_number, push_words};
@@ -31,6 +31,8 @@ pub struct TextJob {
     pub style: Style,
     /// whether reading goes on behind a fault
     pub keep_going: bool,
+    /// at most so many faults are told
+    pub limit: Option<u64>,
 }
 
 /// What came of the inputs so far.
@@ -123,7 +125,7 @@ fn read_each<'a, I: Inputs, D: Write, W: Write>(
         read_one(alloc, job, inputs, name, out, report, totals)?;
     }
     flush(out)?;
-    put_counts(alloc, job.style, totals.counts, report)?;
+    put_counts(alloc, job, totals.counts, report)?;
     flush(report)
 }
 
@@ -139,7 +141,7 @@ fn read_one<'a, I: Inputs, D: Write, W: Write>(
 ) -> Result<(), Failure>
     ensures reads { OnOk result (ReadsInput job (I.bytes_of inputs.now name.entry.now) name.entry.now
         (text_state (D.contents out.old) (W.contents report.old) totals.old) (text_state (D.contents out.new) (W.contents report.new) totals.new)) }
-    ensures halts { OnErr result (HaltsTexts job.keep_going job.style name.entry.now (I.bytes_of inputs.now name.entry.now) (D.contents out.old) (D.contents out.new)
+    ensures halts { OnErr result (HaltsTexts job.keep_going (style_of_fault job.style job.limit) name.entry.now (I.bytes_of inputs.now name.entry.now) (D.contents out.old) (D.contents out.new)
         (W.contents report.old) (W.contents report.new) totals.old.counts totals.new.counts) }
     ensures failed { IfErr result (λ failure. ¬ IsReading failure) }
 {
@@ -168,12 +170,13 @@ fn read_open<'a, I: Inputs, D: Write, W: Write>(
 ) -> Result<(), Failure>
     ensures reads { OnOk result (ReadsOpen job (I.Input.remaining input.old) name.entry.now
         (text_state (D.contents out.old) (W.contents report.old) totals.old) (text_state (D.contents out.new) (W.contents report.new) totals.new)) }
-    ensures halts { OnErr result (HaltsTexts job.keep_going job.style name.entry.now (I.Input.remaining input.old) (D.contents out.old) (D.contents out.new)
+    ensures halts { OnErr result (HaltsTexts job.keep_going (style_of_fault job.style job.limit) name.entry.now (I.Input.remaining input.old) (D.contents out.old) (D.contents out.new)
         (W.contents report.old) (W.contents report.new) totals.old.counts totals.new.counts) }
     ensures failed { IfErr result (λ failure. ¬ IsReading failure) }
 {
     let asked = AskedTexts {
         style: job.style,
+        limit: job.limit,
         keep_going: job.keep_going,
         name,
     };
@@ -208,24 +211,24 @@ fn end_input<'a, I: Inputs>(
 /// Writes what was counted of all inputs.
 fn put_counts<W: Write>(
     alloc: Global,
-    style: Style,
+    job: TextJob,
     counts: TextCounts,
     report: &mut W,
 ) -> Result<(), Failure>
-    ensures written { OnOk result (Appends (W.contents report.old) (W.contents report.new) (text_summary style counts)) }
-    ensures front { OnErr result (AppendsFront (W.contents report.old) (W.contents report.new) (text_summary style counts)) }
+    ensures written { OnOk result (Appends (W.contents report.old) (W.contents report.new) (text_summary job.style job.limit counts)) }
+    ensures front { OnErr result (AppendsFront (W.contents report.old) (W.contents report.new) (text_summary job.style job.limit counts)) }
     ensures failed { IfErr result (λ failure. ¬ IsReading failure) }
 {
-    let line = match style {
-        Style::Words => words_of(alloc, counts)?,
-        Style::Json => object_of(alloc, counts)?,
+    let line = match job.style {
+        Style::Words => words_of(alloc, job.limit, counts)?,
+        Style::Json => object_of(alloc, job.limit, counts)?,
         Style::Quiet => Vec::new(alloc),
     };
     put(report, &line)
 }
 
-fn words_of(alloc: Global, counts: TextCounts) -> Result<Vec<u8>, AllocError>
-    ensures { IfOk result (λ line. line.items ≡ text_summary Words counts) }
+fn words_of(alloc: Global, limit: Option<u64>, counts: TextCounts) -> Result<Vec<u8>, AllocError>
+    ensures { IfOk result (λ line. line.items ≡ text_summary Words limit counts) }
 {
     let mut line = Vec::new(alloc);
     push_words(&mut line, "documents: ")?;
@@ -236,18 +239,42 @@ fn words_of(alloc: Global, counts: TextCounts) -> Result<Vec<u8>, AllocError>
     push_number(&mut line, counts.refused)?;
     push_words(&mut line, ", files that can't be read: ")?;
     push_number(&mut line, counts.files)?;
+    push_hidden(&mut line, hidden(limit, counts))?;
     push_words(&mut line, "\n")?;
     Ok(line)
 }
 
-fn object_of(alloc: Global, counts: TextCounts) -> Result<Vec<u8>, AllocError>
-    ensures { IfOk result (λ line. line.items ≡ text_summary Json counts) }
+/// The faults that weren't told, where at most so many are.
+fn hidden(limit: Option<u64>, counts: TextCounts) -> Option<u64>
+    ensures { result ≡ hidden_faults limit counts }
+{
+    match limit {
+        Some(most) => Some(counts.refused.saturating_sub(most)),
+        None => None,
+    }
+}
+
+fn push_hidden(line: &mut Vec<u8>, hidden: Option<u64>) -> Result<(), AllocError>
+    ensures { OnOk result (line.new.items ≡ line.old.items ++ hidden_text hidden) }
+{
+    match hidden {
+        Some(number) => {
+            push_words(line, ", findings not printed: ")?;
+            push_number(line, number)
+        }
+        None => Ok(()),
+    }
+}
+
+fn object_of(alloc: Global, limit: Option<u64>, counts: TextCounts) -> Result<Vec<u8>, AllocError>
+    ensures { IfOk result (λ line. line.items ≡ text_summary Json limit counts) }
 {
     let mut object = begun(alloc)?;
     put_number(&mut object, "documents", counts.documents)?;
     put_number(&mut object, "bytes", counts.bytes)?;
     put_number(&mut object, "faults", counts.refused)?;
     put_number(&mut object, "files that can't be read", counts.files)?;
+    put_some(&mut object, "findings not printed", hidden(limit, counts))?;
     ended(object)
 }
 

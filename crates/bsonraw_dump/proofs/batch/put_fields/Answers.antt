@@ -28,7 +28,7 @@ returns-clause-written g c =
     let lines = subst (λ (x : List ℕ). Appends w w' x) text c.in_ok-put.ensures.written in
     on_ok c.put_summary.result _ _
     (λ put. Appends-trans w w' w'' _ _ lines
-    (subst (λ (n : ℕ). Appends w' w'' (summary_line c.args.job.style None command.Fields c.args.totals.now.counts n)) c.count.ensures put)) c.put_summary.ensures.written
+    (subst (λ (n : ℕ). Appends w' w'' (summary_line c.args.job.style None c.args.job.limit command.Fields c.args.totals.now.counts n)) c.count.ensures put)) c.put_summary.ensures.written
 
 pub returns-clause-front : goal.returns-clause-front
 returns-clause-front g c =
@@ -40,4 +40,4 @@ returns-clause-front g c =
     let lines = subst (λ (x : List ℕ). Appends w w' x) text c.in_ok-put.ensures.written in
     on_err c.put_summary.result _ _
     (λ front. front_behind w w' w'' _ _ lines
-    (subst (λ (n : ℕ). AppendsFront w' w'' (summary_line c.args.job.style None command.Fields c.args.totals.now.counts n)) c.count.ensures front)) c.put_summary.ensures.front
+    (subst (λ (n : ℕ). AppendsFront w' w'' (summary_line c.args.job.style None c.args.job.limit command.Fields c.args.totals.now.counts n)) c.count.ensures front)) c.put_summary.ensures.front

@@ -1,7 +1,7 @@
 use Rattle.std.proofs.Common.{rules, ◌≡◌, ◌+◌, ◌++◌, ℕ, IfSome, inr, length, ap, sym, ◌∙◌, subst}
 use Rattle.std.specs.Io.KnownBytes.{Appends}
 use Rattle.bsonraw_dump.specs.Reading.{ahead_of}
-use Rattle.bsonraw_dump.specs.Run.{count_left}
+use Rattle.bsonraw_dump.specs.Run.{count_rest}
 use Rattle.bsonraw_dump.specs.Told.{ending_line}
 use Rattle.bsonraw_dump.specs.declared.ending.Rest.TheVariants as rest
 use Rattle.bsonraw_dump.specs.declared.failure.ReadFailure.{ReadFailure}
@@ -18,7 +18,7 @@ returns-clause-left g c =
     let old = g.W.Write.contents c.args.report.now in
     let new = g.W.Write.contents c.put_ending.new.report in
     let at : c.offset-offset.result ≡ w.offset = c.offset-offset.ensures in
-    let counted : c.in_ok-counts.field-0 ≡ count_left n drained.count = search rules in
+    let counted : c.in_ok-counts.field-0 ≡ count_rest n drained.count = search rules in
     let sum : c.in_ok-at.at ≡ c.offset-offset.result + drained.count = search rules in
     let end : c.in_ok-at.at ≡ w.offset + length all = sum ∙ ap (λ m. m + drained.count) at ∙ ap (λ m. w.offset + m) (sym left.len) in
     record {
@@ -29,7 +29,7 @@ returns-clause-left g c =
       fails = subst (λ m. IfSome c.failure_at.result (λ (f : ReadFailure). f.at ≡ m)) end c.failure_at.ensures.at;
       told = subst (λ m. Appends old new (ending_line c.args.asked.style c.args.asked.name.now w.offset c.args.ending (rest.NotRead m))) (sym left.len)
           (subst (λ m. Appends old new (ending_line c.args.asked.style c.args.asked.name.now m c.args.ending (rest.NotRead drained.count))) at c.in_ok-put_ending.ensures.written);
-      is_counted = counted ∙ ap (count_left n) (sym left.len);
+      is_counted = counted ∙ ap (count_rest n) (sym left.len);
     }
 
 pub returns-in_err-counts-clause-halts : goal.returns-in_err-counts-clause-halts

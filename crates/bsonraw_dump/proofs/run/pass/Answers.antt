@@ -34,14 +34,15 @@ returns-clause-passed g c =
     let found = c.in_ok-found.found in
     let passes = passes_one c.args.asked.command c.args.asked.style at c.args.bytes.now found.finding (option_map account_of found.told) (g.D.Write.contents c.args.out.now)
     (g.D.Write.contents c.emit.new.out) (g.W.Write.contents c.args.report.now) (g.W.Write.contents c.report_found.new.report) (g.W.Write.contents c.put_repeat.new.report)
-    c.args.kept.now c.emit.new.kept c.in_ok-first.first c.args.asked.limits
+    c.args.kept.now c.emit.new.kept c.in_ok-first.first c.args.asked.limits c.is_some.result c.is_some.ensures
     c.in_ok-found.ensures c.in_ok-report_found.ensures.reported c.in_ok-first.ensures.written c.in_ok-put_repeat.ensures.written in
     let asked = c.args.asked in
     let k = c.args.kept.now in
     let k' = c.emit.new.kept in
     let k'' = c.count_fields.new.kept in
     let same = writes_same asked.limits asked.command asked.style asked.name.now c.args.offset c.args.bytes.now (g.D.Write.contents c.args.out.now) (g.D.Write.contents c.emit.new.out)
-    (g.W.Write.contents c.args.report.now) (g.W.Write.contents c.put_repeat.new.report) k k' k'' found.finding passes c.count_fields.ensures.written in
+    (g.W.Write.contents c.args.report.now) (g.W.Write.contents c.put_repeat.new.report) k k' k''
+    (record { finding = found.finding; repeats = c.is_some.result }) passes c.count_fields.ensures.written in
     let counted = counts_kept asked.limits asked.command (origin_at asked.name.now c.args.offset) c.args.bytes.now found.finding k k' k'' c.emit.ensures.paths c.in_ok-count_fields.ensures.counted in
     (search rules, (same, counted))
 

@@ -1,5 +1,6 @@
 use Rattle.bsonraw_dump.specs.Reading.{IsWindow, ahead_of}
 use Rattle.raw_resync.specs.Seeking.{IsWork}
+use Rattle.bsonraw_dump.specs.Run.{style_at}
 use Rattle.bsonraw_dump.proofs.Choosing.{HasPassedPortion}
 use Rattle.bsonraw_dump.proofs.run.pass_all.Given as goal
 
@@ -7,6 +8,6 @@ use Rattle.bsonraw_dump.proofs.run.pass_all.Given as goal
 abbrev pub invariant-loop : goal.invariant-loop
 invariant-loop g l =
     IsWindow l.window × IsWork l.work
-    × HasPassedPortion l.asked.portion l.asked.limits l.asked.command l.asked.style l.asked.resync l.asked.name.now (ahead_of l.window) (g.R.Read.remaining l.fn.reader)
+    × HasPassedPortion l.asked.portion l.asked.limits l.asked.command (style_at l.asked.style l.asked.limit) l.asked.resync l.asked.name.now (ahead_of l.window) (g.R.Read.remaining l.fn.reader)
     (g.R.Read.remaining l.reader) (g.D.Write.contents l.initial.out) (g.D.Write.contents l.out) (g.W.Write.contents l.initial.report)
     (g.W.Write.contents l.report) l.initial.counts l.counts l.initial.kept l.kept l.window.offset l.work

@@ -6,8 +6,8 @@ use Rattle.bsonraw_dump.proofs.Fronts.{on_any}
 use Rattle.bsonraw_dump.proofs.Halting.{halts_passed}
 use Rattle.bsonraw_dump.proofs.run.pass_front.Goals as goal
 
-pub returns-in_err-finding-clause-halts : goal.returns-in_err-finding-clause-halts
-returns-in_err-finding-clause-halts g c =
+pub returns-in_err-outcome-clause-halts : goal.returns-in_err-outcome-clause-halts
+returns-in_err-outcome-clause-halts g c =
     let asked = c.args.asked in
     let any = c.args.any in
     let old = g.D.Write.contents c.args.out.now in
@@ -16,7 +16,7 @@ returns-in_err-finding-clause-halts g c =
     let reported = g.W.Write.contents c.pass.new.report in
     let k = c.args.kept.now in
     let here = subst (λ (m : ℕ). HaltsOne asked.limits any asked.command asked.style asked.name.now m (take c.args.len c.ahead.result.now) k old new report reported) c.offset.ensures
-    c.in_err-finding.ensures.halts in
+    c.in_err-outcome.ensures.halts in
     on_any _ _ (subst (λ (x : List ℕ). HaltsOne asked.limits any asked.command asked.style asked.name.now c.args.window.now.offset (take c.args.len x) k old new report reported) c.ahead.ensures here)
 
 pub returns-in_err-counted-clause-halts : goal.returns-in_err-counted-clause-halts
@@ -29,9 +29,9 @@ returns-in_err-counted-clause-halts g c =
     let reported = g.W.Write.contents c.pass.new.report in
     let k = c.args.kept.now in
     let k' = c.pass.new.kept in
-    let f = c.in-Some.finding in
+    let f = c.in-Some.outcome in
     let may = subst (MayPassOne asked.limits any asked.command asked.style asked.name.now c.offset.result (take c.args.len c.ahead.result.now) old new report reported k k')
-    c.in-Some.is c.in_ok-finding.ensures.passed in
+    c.in-Some.is c.in_ok-outcome.ensures.passed in
     let here = subst (λ (m : ℕ). MayPassOne asked.limits any asked.command asked.style asked.name.now m (take c.args.len c.ahead.result.now) old new report reported k k' (Some f))
     c.offset.ensures may in
     let passes = subst (λ (x : List ℕ). MayPassOne asked.limits any asked.command asked.style asked.name.now c.args.window.now.offset (take c.args.len x) old new report reported k k' (Some f))
@@ -48,9 +48,9 @@ returns-in_err-pass-clause-halts g c =
     let reported = g.W.Write.contents c.pass.new.report in
     let k = c.args.kept.now in
     let k' = c.pass.new.kept in
-    let f = c.in-Some.finding in
+    let f = c.in-Some.outcome in
     let may = subst (MayPassOne asked.limits any asked.command asked.style asked.name.now c.offset.result (take c.args.len c.ahead.result.now) old new report reported k k')
-    c.in-Some.is c.in_ok-finding.ensures.passed in
+    c.in-Some.is c.in_ok-outcome.ensures.passed in
     let here = subst (λ (m : ℕ). MayPassOne asked.limits any asked.command asked.style asked.name.now m (take c.args.len c.ahead.result.now) old new report reported k k' (Some f))
     c.offset.ensures may in
     let passes = subst (λ (x : List ℕ). MayPassOne asked.limits any asked.command asked.style asked.name.now c.args.window.now.offset (take c.args.len x) old new report reported k k' (Some f))

@@ -1,6 +1,8 @@
 use Rattle.std.proofs.Common.{subst}
+use Rattle.bsonraw_dump.specs.Reading.{ahead_of}
 use Rattle.bsonraw_dump.specs.TextReading.{FindsText}
-use Rattle.bsonraw_dump.specs.TextRun.{ReadsTexts}
+use Rattle.bsonraw_dump.specs.TextRun.{HaltsText, PassesText, ReadsTexts}
+use Rattle.bsonraw_dump.specs.declared.texts.AskedTexts.{AskedTexts}
 use Rattle.bsonraw_dump.proofs.Fronts.{on_any}
 use Rattle.bsonraw_dump.proofs.Stopping.{if_ok}
 use Rattle.bsonraw_dump.proofs.TextPassing.{fails_behind, fails_here, goes_next, halts_here, halts_next, halts_passed, nothing_passed, stops_end, stops_fault, window_behind}
@@ -42,11 +44,13 @@ returns-then-stops g c =
     let out = g.D.Write.contents in
     let report = g.W.Write.contents in
     let new = c.pass_next.new in
+    let passed = subst (λ (b : AskedTexts). PassesText b.style b.name.now c.in-Ok.next c.find_text.new.self new.cursor c.find_text.new.turn new.turn (out c.loop.out) (out new.out)
+    (report c.loop.report) (report new.report) c.loop.counts new.counts c.in_ok-went.went) c.at-here.ensures c.in_ok-went.ensures in
     record {
       reads = stops_fault c.args.asked (read c.args.reader.now) (read c.loop.reader) (read c.find_text.new.reader) (out c.args.out.now) (out c.loop.out)
           (report c.args.report.now) (report c.loop.report) c.args.counts.now c.loop.counts c.loop.cursor c.find_text.new.self c.loop.turn c.find_text.new.turn
           c.in-Ok.next c.loop.invariant.1 c.in-Ok.ensures.found new.cursor new.turn (out new.out) (report new.report) new.counts c.in_ok-went.went
-          c.in_ok-went.ensures (read c.find_text.new.reader) c.if-stops.ensures;
+          passed (read c.find_text.new.reader) c.if-stops.ensures;
       halts = tt;
       failed = tt;
     }
@@ -58,6 +62,8 @@ returns-in-Err-pass_behind g c =
     let report = g.W.Write.contents in
     let new = c.pass_next.new in
     let q = c.pass_behind.new.cursor in
+    let passed = subst (λ (b : AskedTexts). PassesText b.style b.name.now c.in-Ok.next c.find_text.new.self new.cursor c.find_text.new.turn new.turn (out c.loop.out) (out new.out)
+    (report c.loop.report) (report new.report) c.loop.counts new.counts c.in_ok-went.went) c.at-here.ensures c.in_ok-went.ensures in
     record {
       reads = if_ok c.stopped-in-Err-pass_behind.result _
           (ReadsTexts c.args.asked (read c.args.reader.now) (read c.pass_behind.new.reader) (out c.args.out.now) (out new.out) (report c.args.report.now) (report new.report)
@@ -66,12 +72,12 @@ returns-in-Err-pass_behind g c =
           fails_behind c.args.asked (read c.args.reader.now) (read c.loop.reader) (read c.find_text.new.reader) (out c.args.out.now) (out c.loop.out)
           (report c.args.report.now) (report c.loop.report) c.args.counts.now c.loop.counts c.loop.cursor c.find_text.new.self c.loop.turn c.find_text.new.turn
           c.in-Ok.next c.loop.invariant.1 c.in-Ok.ensures.found new.cursor new.turn (out new.out) (report new.report) new.counts c.in_ok-went.went
-          c.in_ok-went.ensures (read c.pass_behind.new.reader) q e c.if-stops.ensures (c.in-Err-pass_behind.ensures.fails is.0) is.1)
+          passed (read c.pass_behind.new.reader) q e c.if-stops.ensures (c.in-Err-pass_behind.ensures.fails is.0) is.1)
           c.stopped-in-Err-pass_behind.ensures.stops;
       halts = on_any _ _ (halts_passed c.args.asked (read c.args.reader.now) (read c.loop.reader) (read c.find_text.new.reader) (out c.args.out.now) (out c.loop.out)
           (report c.args.report.now) (report c.loop.report) c.args.counts.now c.loop.counts c.loop.cursor c.find_text.new.self c.loop.turn c.find_text.new.turn
           c.in-Ok.next c.loop.invariant.1 c.in-Ok.ensures.found new.cursor new.turn (out new.out) (report new.report) new.counts c.in_ok-went.went
-          c.in_ok-went.ensures);
+          passed);
       failed = c.stopped-in-Err-pass_behind.ensures.failed;
     }
 
@@ -89,9 +95,11 @@ returns-in_err-went-clause-halts g c =
     let out = g.D.Write.contents in
     let report = g.W.Write.contents in
     let new = c.pass_next.new in
+    let stops = subst (λ (b : AskedTexts). HaltsText b.style b.name.now c.in-Ok.next c.find_text.new.self.place c.find_text.new.turn (ahead_of c.find_text.new.self.window)
+    (out c.loop.out) (out new.out) (report c.loop.report) (report new.report)) c.at-here.ensures c.in_err-went.ensures.0 in
     on_any _ _ (halts_next c.args.asked (read c.args.reader.now) (read c.loop.reader) (read c.find_text.new.reader) (out c.args.out.now) (out c.loop.out)
     (report c.args.report.now) (report c.loop.report) c.args.counts.now c.loop.counts c.loop.cursor c.find_text.new.self c.loop.turn c.find_text.new.turn
-    c.in-Ok.next c.loop.invariant.1 c.in-Ok.ensures.found (out new.out) (report new.report) new.counts c.in_err-went.ensures.0 c.in_err-went.ensures.1)
+    c.in-Ok.next c.loop.invariant.1 c.in-Ok.ensures.found (out new.out) (report new.report) new.counts stops c.in_err-went.ensures.1)
 
 pub returns-clause-halts : goal.returns-clause-halts
 returns-clause-halts g c =
@@ -107,7 +115,8 @@ loop-preserved g c =
     let out = g.D.Write.contents in
     let report = g.W.Write.contents in
     let new = c.pass_next.new in
-    let passed = c.in_ok-went.ensures in (
+    let passed = subst (λ (b : AskedTexts). PassesText b.style b.name.now c.in-Ok.next c.find_text.new.self new.cursor c.find_text.new.turn new.turn (out c.loop.out) (out new.out)
+    (report c.loop.report) (report new.report) c.loop.counts new.counts c.in_ok-went.went) c.at-here.ensures c.in_ok-went.ensures in (
       window_behind c.in_ok-went.went (read c.find_text.new.reader) (read c.pass_behind.new.reader) new.cursor c.pass_behind.new.cursor new.turn
           c.pass_behind.new.turn c.in_default.ensures.passed passed.window,
       goes_next c.args.asked (read c.args.reader.now) (read c.loop.reader) (read c.find_text.new.reader) (out c.args.out.now) (out c.loop.out)

@@ -25,7 +25,7 @@ returns-clause-reads g c =
         reads = reads_all c.args.job (g.I.Inputs.bytes_of c.args.inputs.now) (λ (name : Bor (List ℕ)). name.now) c.args.names.now c.loop-name.name-index first last
             c.loop-name-test.false c.loop-name.invariant;
         out = c.flush.ensures.kept;
-        report = Appends-kept (g.W.Write.contents c.loop-name.report) told new (text_summary c.args.job.style c.loop-name.totals.counts) c.in_ok-put_counts.ensures.written
+        report = Appends-kept (g.W.Write.contents c.loop-name.report) told new (text_summary c.args.job.style c.args.job.limit c.loop-name.totals.counts) c.in_ok-put_counts.ensures.written
             c.flush-2.ensures.kept;
       },
       refl,

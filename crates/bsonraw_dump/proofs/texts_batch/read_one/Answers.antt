@@ -1,6 +1,6 @@
 use Rattle.std.proofs.Common.{◌≡◌, inl, subst}
 use Rattle.bsonraw_dump.specs.TextBatch.{ReadsInput, ReadsOpen, text_state}
-use Rattle.bsonraw_dump.specs.TextRun.{HaltsTexts}
+use Rattle.bsonraw_dump.specs.TextRun.{HaltsTexts, style_of_fault}
 use Rattle.bsonraw_dump.proofs.Fronts.{on_err}
 use Rattle.bsonraw_dump.proofs.Listed.{on_ok}
 use Rattle.bsonraw_dump.proofs.TextSumming.{halts_unread}
@@ -23,8 +23,8 @@ returns-in-Ok-clause-halts g c =
     let w' = g.W.Write.contents c.read_open.new.report in
     let n = c.args.totals.now.counts in
     let n' = c.read_open.new.totals.counts in
-    on_err c.read_open.result _ (HaltsTexts c.args.job.keep_going c.args.job.style name (g.I.Inputs.bytes_of c.args.inputs.now name) d d' w w' n n')
-    (λ halts. subst (λ x. HaltsTexts c.args.job.keep_going c.args.job.style name x d d' w w' n n') c.in-Ok.ensures.bytes halts) c.read_open.ensures.halts
+    on_err c.read_open.result _ (HaltsTexts c.args.job.keep_going (style_of_fault c.args.job.style c.args.job.limit) name (g.I.Inputs.bytes_of c.args.inputs.now name) d d' w w' n n')
+    (λ halts. subst (λ x. HaltsTexts c.args.job.keep_going (style_of_fault c.args.job.style c.args.job.limit) name x d d' w w' n n') c.in-Ok.ensures.bytes halts) c.read_open.ensures.halts
 
 pub returns-in-Err-clause-halts : goal.returns-in-Err-clause-halts
 returns-in-Err-clause-halts g c =
@@ -35,4 +35,5 @@ returns-in-Err-clause-halts g c =
     let w = g.W.Write.contents c.args.report.now in
     let n = c.args.totals.now.counts in
     let n' = c.fail.new.self.counts in
-    on_err c.fail.result (n' ≡ n) (HaltsTexts job.keep_going job.style name input d d w w n n') (halts_unread job.keep_going job.style name input d w n n') c.fail.ensures.uncounted
+    on_err c.fail.result (n' ≡ n) (HaltsTexts job.keep_going (style_of_fault job.style job.limit) name input d d w w n n')
+    (halts_unread job.keep_going (style_of_fault job.style job.limit) name input d w n n') c.fail.ensures.uncounted

@@ -1,5 +1,5 @@
 use Rattle.std.proofs.Common.{◌≡◌}
-use Rattle.bsonraw_dump.specs.TextRun.{HaltsTexts}
+use Rattle.bsonraw_dump.specs.TextRun.{HaltsTexts, style_of_fault}
 use Rattle.bsonraw_dump.proofs.Fronts.{on_err}
 use Rattle.bsonraw_dump.proofs.TextSumming.{halts_read}
 use Rattle.bsonraw_dump.proofs.texts_batch.read_open.Goals as goal
@@ -14,5 +14,5 @@ returns-clause-halts g c =
     let n = c.args.totals.now.counts in
     let n' = c.read_texts.new.counts in
     let n'' = c.end_input.new.totals.counts in
-    on_err c.end_input.result (n'' ≡ n') (HaltsTexts c.args.job.keep_going c.args.job.style c.args.name.now input d d' w w' n n'')
+    on_err c.end_input.result (n'' ≡ n') (HaltsTexts c.args.job.keep_going (style_of_fault c.args.job.style c.args.job.limit) c.args.name.now input d d' w w' n n'')
     (halts_read _ input _ d d' w w' n n' n'' c.in_ok-end.end c.in_ok-end.ensures.reads) c.end_input.ensures.uncounted
