@@ -1,5 +1,5 @@
 use crate::trees::checks::{becomes_tree, check_written};
-use crate::trees::trees_fixtures::{one_and_two, one_pair};
+use crate::trees::trees_fixtures::{one_and_two, one_pair, tree_of};
 use raw_bson::{Bson, Document, RawBson, RawDocumentBuf, canonical_bytes, document_from_raw};
 use std::alloc::Global;
 use std::test::Fail;
@@ -30,6 +30,21 @@ fn a_canonical_form_is_its_own(rt: HostRuntime) -> Result<(), Fail> {
         check_written(canonical_bytes(rt.alloc(), bytes), form)?;
     }
     Ok(())
+}
+
+/// Whether both were read, and are two trees.
+fn differ(one: &raw_bson::Result<Document>, other: &raw_bson::Result<Document>) -> bool {
+    match (one, other) {
+        (Ok(one), Ok(other)) => one != other,
+        _ => false,
+    }
+}
+
+#[test]
+fn the_order_of_keys_counts(rt: HostRuntime) -> Result<(), Fail> {
+    let alloc = rt.alloc();
+    let are_two = differ(&tree_of(alloc, A_THEN_B), &tree_of(alloc, B_THEN_A));
+    holds(are_two, "two orders of two keys")
 }
 
 /// The owned value of the list of the numbers 1 and 2.
