@@ -1,6 +1,6 @@
-//! Pushes onto damaged arrays: what is there isn't looked at, and a refused one leaves it. Keys of damaged documents.
+//! Appends and pushes onto damage: what is there isn't looked at, and a refused one leaves it. Keys of damaged documents.
 
-use raw_bson::{RawArrayBuf, RawBson, Reason, Regex};
+use raw_bson::{RawArrayBuf, RawBson, RawDocumentBuf, Reason, Regex};
 use std::alloc::Global;
 use std::test::Fail;
 use test_fixtures::*;
@@ -8,6 +8,42 @@ use test_fixtures::*;
 /// A regular expression that can't be written: its options hold a 0.
 fn refused_regex(alloc: Global) -> raw_bson::Result<RawBson> {
     Ok(RawBson::from(Regex::new(alloc, "a", "i\0")?))
+}
+
+/// Documents, and what becomes of them by an append of `true` under the key `b`.
+const APPENDS: &[(&[u8], &[u8])] = &[
+    (SWALLOWED_TERMINATOR, b"\x0A\0\0\0\x0A\x08b\0\x01\0"),
+    (TAG_ZERO, b"\x0A\0\0\0\0\x08b\0\x01\0"),
+    (
+        NEGATIVE_DOCUMENT_LENGTH,
+        b"\x10\0\0\0\x03a\0\xFF\xFF\xFF\xFF\x08b\0\x01\0",
+    ),
+    (DECLARED_LENGTH_THREE, DECLARED_LENGTH_THREE_APPENDED),
+];
+
+/// Whether the document is as it was after a refused append, and has these bytes after the next one.
+fn is_appended(document: &mut RawDocumentBuf, regex: RawBson, before: &[u8], after: &[u8]) -> bool {
+    is_refused(&document.append("r", regex), Reason::InteriorNul, None)
+        && document.as_bytes() == before
+        && document.append("b", RawBson::from(true)).is_ok()
+        && document.as_bytes() == after
+}
+
+/// The same of a buffer of its bytes.
+fn is_damage_appended_to(alloc: Global, before: &[u8], after: &[u8]) -> bool {
+    match (document_of(alloc, before), refused_regex(alloc)) {
+        (Ok(mut document), Ok(regex)) => is_appended(&mut document, regex, before, after),
+        _ => false,
+    }
+}
+
+#[test]
+fn appends_onto_damage(rt: HostRuntime) -> Result<(), Fail> {
+    for (before, after) in APPENDS {
+        let is_so = is_damage_appended_to(rt.alloc(), before, after);
+        holds(is_so, "an append")?;
+    }
+    Ok(())
 }
 
 /// Arrays, with their texts, which show their bytes and counts, before and after a push of a null.
@@ -55,6 +91,22 @@ fn pushes_onto_damage(rt: HostRuntime) -> Result<(), Fail> {
         )?;
     }
     Ok(())
+}
+
+/// Whether a null is pushed onto an array where it is in a value.
+fn is_pushed_in_a_value(value: &mut RawBson) -> bool {
+    match value.as_array_mut() {
+        Some(array) => array.push(RawBson::Null).is_ok(),
+        None => false,
+    }
+}
+
+#[test]
+fn push_onto_a_swallowed_terminator_in_a_value(rt: HostRuntime) -> Result<(), Fail> {
+    let mut value = RawBson::from(array_of(rt.alloc(), SWALLOWED_TERMINATOR)?);
+    let text = "Array(RawArrayBuf { data: \"090000000a0a320000\", len: 3 })";
+    let is_pushed = is_pushed_in_a_value(&mut value) && has_debug_text(rt.alloc(), &value, text);
+    holds(is_pushed, text)
 }
 
 /// Whether the buffer of these bytes says as wanted whether it has the key.

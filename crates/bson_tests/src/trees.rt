@@ -12,3 +12,4 @@ mod readings;
 mod trees;
 mod trees_fixtures;
 mod validation;
+mod worked;
