@@ -1,9 +1,9 @@
 use std::test::Fail;
 use test_fixtures::Checks;
 
-/// Each getter has the value of its kind, also where a request for memory is refused.
+/// Each getter has the value of its kind, and asks for no memory.
 #[test]
-fn getters_or_out_of_memory(rt: HostRuntime) -> Result<(), Fail> {
+fn getters_of_values_take_no_memory(rt: HostRuntime) -> Result<(), Fail> {
     Checks::refusable(rt.alloc()).values_of_getters()?;
     Ok(())
 }
