@@ -1,5 +1,5 @@
 use crate::checks::{check_array_text, is_item, is_one_pair};
-use raw_bson::{ElementType, RawArrayBuf, RawBson, RawBsonRef, ToRawArrayBuf};
+use raw_bson::{ElementType, RawArrayBuf, RawBson, RawBsonRef, Reason, Regex, ToRawArrayBuf};
 use std::alloc::Global;
 use std::test::Fail;
 use test_fixtures::*;
@@ -45,6 +45,50 @@ fn is_pushed(alloc: Global, array: &RawArrayBuf) -> bool {
 fn push_onto_a_swallowed_terminator(rt: HostRuntime) -> Result<(), Fail> {
     let array = pushed_onto_a_swallowed_terminator(rt.alloc())?;
     holds(is_pushed(rt.alloc(), &array), "a null pushed")
+}
+
+/// An array of these texts.
+fn array_of_texts(alloc: Global, texts: &[&str]) -> Result<RawArrayBuf, Fail> {
+    let mut array = RawArrayBuf::new(alloc)?;
+    for text in texts {
+        array.push(RawBson::from_str(alloc, text)?)?;
+    }
+    Ok(array)
+}
+
+/// Whether the array is of four texts.
+fn are_four_texts(checks: Checks, array: &RawArrayBuf) -> bool {
+    array.as_bytes().len() == 67
+        && array.as_bytes().starts_with(b"\x43\0\0\0")
+        && matches!(array.get_str(0), Ok("binary"))
+        && matches!(array.get_str(3), Ok("notation"))
+        && checks.is_no_value(&array.get_str(4), NoValue::NotPresent, "4")
+}
+
+#[test]
+fn four_texts_pushed(rt: HostRuntime) -> Result<(), Fail> {
+    let texts = ["binary", "serialized", "object", "notation"];
+    let array = array_of_texts(rt.alloc(), texts.as_slice())?;
+    holds(
+        are_four_texts(Checks::ample(rt.alloc()), &array),
+        "four texts",
+    )
+}
+
+/// Whether the empty array refuses this value and stays as it is.
+fn is_push_refused(alloc: Global, array: &mut RawArrayBuf, value: RawBson) -> bool {
+    is_refused(&array.push(value), Reason::InteriorNul, None)
+        && has_debug_text(alloc, array, "RawArrayBuf { data: \"0500000000\", len: 0 }")
+}
+
+#[test]
+fn pattern_with_a_nul_pushed(rt: HostRuntime) -> Result<(), Fail> {
+    let regex = Regex::new(rt.alloc(), "a\0", "")?;
+    let mut array = RawArrayBuf::new(rt.alloc())?;
+    holds(
+        is_push_refused(rt.alloc(), &mut array, RawBson::from(regex)),
+        "a 0 in a pattern",
+    )
 }
 
 /// An array of a text and a number.

@@ -1,5 +1,8 @@
-use crate::checks::is_pair;
-use raw_bson::{Binary, BinarySubtype, RawBson, RawBsonRef, RawDocument, RawDocumentBuf, Reason};
+use crate::checks::{is_one_pair, is_pair};
+use raw_bson::{
+    Binary, BinarySubtype, RawBson, RawBsonRef, RawDocument, RawDocumentBuf, RawRegexRef, Reason,
+    Regex,
+};
 use std::alloc::Global;
 use std::test::Fail;
 use test_fixtures::*;
@@ -55,6 +58,49 @@ fn interior_nul(rt: HostRuntime) -> Result<(), Fail> {
     let mut document = RawDocumentBuf::new(rt.alloc())?;
     let is_right = refuses_a_nul(&mut document) && takes_a_nul(&mut document);
     holds(is_right, "a 0 in a key and in a text")
+}
+
+#[test]
+fn pattern_with_a_nul(rt: HostRuntime) -> Result<(), Fail> {
+    let regex = Regex::new(rt.alloc(), "a\0", "")?;
+    let mut document = RawDocumentBuf::new(rt.alloc())?;
+    let answer = document.append("regex", RawBson::from(regex));
+    holds(is_append_refused(&answer, &document), "a 0 in a pattern")
+}
+
+/// Whether the document has just this regular expression.
+fn is_whitespace_class(alloc: Global, document: &RawDocumentBuf) -> bool {
+    let bytes = b"\x16\0\0\0\x0Bregex\0end\\s*$\0i\0\0";
+    let regex = RawBsonRef::RegularExpression(RawRegexRef {
+        pattern: "end\\s*$",
+        options: "i",
+    });
+    document.as_bytes() == bytes.as_slice() && is_one_pair(alloc, document.as_ref(), "regex", regex)
+}
+
+#[test]
+fn regex_with_a_whitespace_class(rt: HostRuntime) -> Result<(), Fail> {
+    let regex = Regex::new(rt.alloc(), "end\\s*$", "i")?;
+    let mut document = RawDocumentBuf::new(rt.alloc())?;
+    document.append("regex", RawBson::from(regex))?;
+    holds(
+        is_whitespace_class(rt.alloc(), &document),
+        "a class of whitespace",
+    )
+}
+
+#[test]
+fn a_key_with_a_nul_from_an_iterator(rt: HostRuntime) -> Result<(), Fail> {
+    let pairs = [
+        ("a", RawBson::from(true)),
+        ("b\0", RawBson::Null),
+        ("c", RawBson::Null),
+    ];
+    let answer = RawDocumentBuf::from_iter(rt.alloc(), pairs.into_iter());
+    holds(
+        is_refused(&answer, Reason::InteriorNul, None),
+        "a 0 in the second key",
+    )
 }
 
 #[test]

@@ -1,6 +1,7 @@
 use crate::checks::{check_array_text, holds_of};
 use raw_bson::{
-    ElementType, RawBson, RawDocument, RawElement, ToRawArrayBuf, ToRawBson, ToRawDocumentBuf,
+    ElementType, RawBson, RawBsonRef, RawDocument, RawElement, RawRegexRef, ToRawArrayBuf,
+    ToRawBson, ToRawDocumentBuf,
 };
 use std::alloc::Global;
 use std::test::Fail;
@@ -63,6 +64,21 @@ fn a_borrowed_value_of_each_kind_is_copied(rt: HostRuntime) -> Result<(), Fail> 
         holds_of(is_copied(&owned(rt.alloc(), kind), kind), kind)?;
     }
     Ok(())
+}
+
+/// A regular expression with these options.
+fn with_options(options: &str) -> RawBsonRef<'_> {
+    RawBsonRef::from(RawRegexRef {
+        pattern: "a",
+        options,
+    })
+}
+
+#[test]
+fn options_are_put_in_order(rt: HostRuntime) -> Result<(), Fail> {
+    let copy = with_options("mi").to_raw_bson(rt.alloc())?;
+    let are_sorted = copy.as_raw_bson_ref() == with_options("im");
+    holds(are_sorted, "options in order")
 }
 
 /// The copy of the element's value is this text.
