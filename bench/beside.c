@@ -217,13 +217,17 @@ static size_t print(uint32_t is_canonical, uint8_t *to, size_t len) {
     return (size_t)report.count;
 }
 
-PAIR(ours_json) { print(0, room, sizeof room); }
-PAIR(theirs_json) {
+static void theirs_print(char *as_json(const bson_t *, size_t *)) {
     bson_t viewed = view(typical);
-    char *text = bson_as_relaxed_extended_json(&viewed, NULL);
-    wants(text != NULL, "bson_as_relaxed_extended_json");
+    char *text = as_json(&viewed, NULL);
+    wants(text != NULL, "bson_as_.._extended_json");
     bson_free(text);
 }
+
+PAIR(ours_json) { print(0, room, sizeof room); }
+PAIR(theirs_json) { theirs_print(bson_as_relaxed_extended_json); }
+PAIR(ours_json_canonical) { print(1, room, sizeof room); }
+PAIR(theirs_json_canonical) { theirs_print(bson_as_canonical_extended_json); }
 
 static void ours_read(struct bytes text) {
     struct bsonraw_json_report found;
@@ -435,6 +439,7 @@ static const struct pair {
     {"build", {ours_build, theirs_build}},
     {"check", {ours_check, theirs_check}},
     {"json", {ours_json, theirs_json}},
+    {"json_canonical", {ours_json_canonical, theirs_json_canonical}},
     {"from_relaxed", {ours_from_relaxed, theirs_from_relaxed}},
     {"from_canonical", {ours_from_canonical, theirs_from_canonical}},
     {"fields_looked_up", {ours_fields_looked_up, theirs_fields_looked_up}},
