@@ -2,7 +2,7 @@
 use Rattle.std.proofs.Common.{◌≡◌, ◌+◌, ◌<◌, ◌≤◌, ℕ, zero, suc, List, [], ◌∷◌, ◌++◌, Bool, true, false, not, Option, None, Some, Ok, ap, append-nil, append_assoc, arith, bytes_eq, codes, cond, decimal, drop, flat_map, get_or, inl, inr, length, map, min, nat_lt, position, refl, subst, sym, take, ◌∙◌}
 use Rattle.std.proofs.lemmas.Bool.{le-ltb, lt-ltb}
 use Rattle.std.proofs.lemmas.Grind.{flat_map-append}
-use Rattle.std.proofs.lemmas.List.{at_drop_more, length-map, map_push, take-map, take_more}
+use Rattle.std.proofs.lemmas.List.{at_drop_more, length-map, map_push, take_more}
 use Rattle.std.proofs.lemmas.Map.Keys.{IsDistinct-head, IsDistinct-tail}
 use Rattle.std.proofs.lemmas.Slice.Eq.{bytes_eq-Decides}
 use Rattle.std.specs.List.{AllByRecursion, IsDistinct, position_or_len}
@@ -10,12 +10,11 @@ use Rattle.raw_form.specs.Tokens.{Flattens, HasTokens, filled_from}
 use Rattle.raw_form.specs.declared.token.Token.{Token}
 use Rattle.raw_tree.specs.declared.reader.limits.Limits.{Limits}
 use Rattle.raw_view.specs.declared.element_type.ElementType.{ElementType}
-use Rattle.bsonraw_dump.specs.Fields.{Around, Document, Field, HasFields, IsCounted, Table, fields_of, kind_words, kinds, kinds_text, leave_out, numbers_text, outermost, rows_text, row_line, with_field, with_path, with_value}
+use Rattle.bsonraw_dump.specs.Fields.{Document, Field, HasFields, IsCounted, Table, fields_of, kind_words, kinds, kinds_text, leave_out, numbers_text, outermost, rows_text, row_line, with_field, with_path, with_value}
 use Rattle.bsonraw_dump.specs.Unique.{Origin}
 use Rattle.bsonraw_dump.specs.declared.command.Command.{Command}
 use Rattle.bsonraw_dump.specs.declared.command.Command.TheVariants as command
 use Rattle.bsonraw_dump.specs.declared.find.Finding.{Finding}
-use Rattle.bsonraw_dump.specs.declared.find.Finding.TheVariants as finding
 use Rattle.bsonraw_dump.specs.declared.paths.Row.{Row}
 
 -- tokens

@@ -1,7 +1,7 @@
 //! What was counted of the values under each path.
 #![tactic(auto)]
 
-ghost use Rattle.std.specs.Prelude.{◌≡◌, ◌<◌, ◌+◌, ◌++◌, None, Some, false, true, bytes_eq, cond, IfErr, IfOk, IfSome, IsNone, OnOk, get_or, length, min, nat_eq, position, set};
+ghost use Rattle.std.specs.Prelude.{◌≡◌, ◌<◌, ◌+◌, ◌++◌, ◌^◌, ◌≤◌, None, Some, false, true, bytes_eq, cond, IfErr, IfOk, IfSome, IsNone, OnOk, get_or, length, min, nat_eq, position, set};
 ghost use Rattle.indexmap.specs.IndexSet.{contains_by};
 ghost use Rattle.bsonraw_dump.specs.Fields.{count_value, first_text, kind_place, kind_words, kinds_text, leave_out, next_document, no_row, no_table, numbers_text, row_line, rows_text, table_of, table_text, with_field, with_path, with_value};
 ghost use Rattle.bsonraw_dump.specs.Run.{IsReading};
@@ -77,7 +77,8 @@ impl Row {
 
     /// How many documents there are with the one with this number; `None` where they would be over the range of a count.
     fn documents_with(&self, document: u64) -> Option<u64>
-        ensures { IfSome result (λ n. n ≡ cond (nat_eq self.now.last document) self.now.documents (self.now.documents + 1)) }
+        ensures with { IfSome result (λ n. n ≡ cond (nat_eq self.now.last document) self.now.documents (self.now.documents + 1)) }
+        ensures none { IsNone result → (2 ^ 64 ≤ self.now.documents + 1) × (nat_eq self.now.last document ≡ false) }
     {
         if self.last == document {
             Some(self.documents)

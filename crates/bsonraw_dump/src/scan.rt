@@ -1,7 +1,7 @@
 //! Where the text of a document ends.
 #![tactic(auto)]
 
-ghost use Rattle.std.specs.Prelude.{◌≡◌, ◌-◌, ℕ, List, ◌≤◌, ◌<◌, ◌^◌, fold, length, MatchBool, take};
+ghost use Rattle.std.specs.Prelude.{◌≡◌, ◌-◌, ℕ, List, ◌≤◌, ◌<◌, ◌^◌, fold, length, min, MatchBool, take};
 ghost use Rattle.bsonraw_dump.specs.Texts.{HasBegun, IsOpen, closed, in_levels, in_text, opened, scanned, start, step};
 ghost use Rattle.bsonraw_dump.specs.Texts as says;
 ghost use Rattle.bsonraw_dump.specs.TextReading.{ScansAhead};
@@ -41,7 +41,8 @@ impl Scanned {
     /// Goes on over the bytes behind, up to the most of a text.
     pub fn on(self, ahead: &[u8]) -> Scanned
         requires { ScansAhead ahead.now self × IsOpen self.scan × (self.len ≤ length ahead.now) × (self.len < 2 ^ 27) }
-        ensures { ScansAhead ahead.now result }
+        ensures scans { ScansAhead ahead.now result }
+        ensures all { IsOpen result.scan → result.len ≡ min (length ahead.now) (2 ^ 27) }
     {
         let end = ahead.len().min(MOST_TEXT);
         let more = self.scan.over(&ahead[self.len..end]);

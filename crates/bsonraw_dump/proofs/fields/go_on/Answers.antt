@@ -1,6 +1,5 @@
-use Rattle.std.proofs.Common.{◌≡◌, ◌+◌, ◌-◌, ◌++◌, ◌∙◌, List, ap, cond, false, get_or, length, map, subst, sym, take, ℕ}
-use Rattle.bsonraw_dump.specs.Fields.{AreLevels, Around, levels_around, innermost, level_of, levels_of, path_of}
-use Rattle.bsonraw_dump.specs.declared.fields.Level.{Level}
+use Rattle.std.proofs.Common.{◌≡◌, ◌+◌, ◌++◌, ◌∙◌, List, ap, sym, take, ℕ}
+use Rattle.bsonraw_dump.specs.Fields.{Around, path_of}
 use Rattle.bsonraw_dump.proofs.Listed.{on_ok}
 use Rattle.bsonraw_dump.proofs.Prefixes.{gone_on, innermost_left, last_of}
 use Rattle.bsonraw_dump.proofs.fields.go_on.Goals as goal

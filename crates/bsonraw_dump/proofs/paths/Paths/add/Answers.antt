@@ -1,4 +1,4 @@
-use Rattle.std.proofs.Common.{rules, ◌≡◌, ◌≤◌, ◌∙◌, Global, List, None, Option, Some, Vec, ap, bytes_eq, length, position, sym, ℕ}
+use Rattle.std.proofs.Common.{rules, ◌≡◌, ◌≤◌, ◌∙◌, Global, List, None, Some, Vec, ap, bytes_eq, length, position, sym, ℕ}
 use Rattle.bsonraw_dump.specs.Fields.{Field, Table, table_of}
 use Rattle.bsonraw_dump.specs.Unique.{origin_of}
 use Rattle.bsonraw_dump.specs.declared.paths.Row.{Row}

@@ -3,8 +3,8 @@ use Rattle.std.proofs.lemmas.List.{length-take}
 use Rattle.bsonraw_dump.proofs.Scanning.{scans_on}
 use Rattle.bsonraw_dump.proofs.scan.Scanned.on.Goals as goal
 
-pub returns : goal.returns
-returns c =
+pub returns-clause-scans : goal.returns-clause-scans
+returns-clause-scans c =
     let f = c.args.self in
     let m = c.over-more.result in
     let ahead = c.args.ahead.now in
