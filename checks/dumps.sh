@@ -114,6 +114,7 @@ dumps = {
     "twice.unique": "one repeated.form nested.form empty",
     "twice.later": "array options one",
     "twice.both": "one repeated.form nested.form empty array.form options.form",
+    "twice.first": "one repeated nested empty array options",
 }
 for name, parts in dumps.items():
     made[name] = b"".join(made[part] for part in parts.split())
@@ -844,6 +845,11 @@ wants '' '"twice.bson":31: repeats "twice.bson":0
 '
 cat twice.both >wanted.out
 run 'repeats over files' 1 unique --repeats twice.bson twice.later sound.bson
+cat twice.first >wanted.out
+run 'the first of each form as it is, over files' 1 unique --repeats --as-is twice.bson twice.later sound.bson
+wrote 8 $((78 + $(stat -c %s breaches.canon))) 4 4 0 0 0 0 0 >wanted.err
+cat breaches.canon >wanted.out
+run 'forms before the documents that have them' 0 unique --as-is breaches.canon breaches.bson
 wants '' '"twice.bson":31: repeats "twice.bson":0
 "twice.bson":70: damaged at /0:"a", byte 4: a boolean is neither 0 nor 1: 2
 "twice.bson":79: repeats "twice.bson":12

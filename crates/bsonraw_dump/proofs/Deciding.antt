@@ -372,7 +372,7 @@ judges_sound command.List b f told piece found clean = finds_sound b f told piec
 judges_sound command.Canon b f told piece found clean = finds_sound b f told piece found clean
 judges_sound command.Sound b f told piece found clean = finds_sound b f told piece found clean
 judges_sound command.Fields b f told piece found clean = finds_sound b f told piece found clean
-judges_sound command.Unique b f told piece found clean = finds_sound b f told piece found clean
+judges_sound (command.Unique spelling) b f told piece found clean = finds_sound b f told piece found clean
 judges_sound (command.Json style) b f told piece found clean = finds_sound b f told piece found clean
 judges_sound (command.Pick picking) b f told piece found clean = finds_sound b f told piece found clean
 

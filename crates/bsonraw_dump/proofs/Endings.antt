@@ -8,8 +8,10 @@ use Rattle.raw_view.proofs.Face.{document_framed}
 use Rattle.bson_json.specs.declared.style.Style as json
 use Rattle.bsonraw_dump.specs.Binary.{MakesBson, MakesNoBson}
 use Rattle.bsonraw_dump.specs.Pick.{IsPicked, IsPrinted}
+use Rattle.bsonraw_dump.specs.Unique.{Made, plain}
 use Rattle.bsonraw_dump.specs.declared.command.Command.{Command}
 use Rattle.bsonraw_dump.specs.declared.command.Command.TheVariants as command
+use Rattle.bsonraw_dump.specs.declared.command.Spelling.{Spelling}
 use Rattle.bsonraw_dump.specs.declared.pick.Picking.{Picking}
 
 -- no bytes end both ways
@@ -25,13 +27,13 @@ framed_ends x = sym (append_assoc (le32 (pos (4 + length (x ++ 0 ∷ [])))) x (0
 abbrev front_of_framed : List ℕ → List ℕ
 front_of_framed x = le32 (pos (4 + length (x ++ 0 ∷ []))) ++ x
 
-abbrev one : List ℕ → List (List ℕ)
-one x = x ∷ []
+abbrev one : List ℕ → List Made
+one x = plain x ∷ []
 
-abbrev first_made : List (List ℕ) → List ℕ
-first_made made = get_or made 0 []
+abbrev bytes_first : List Made → List ℕ
+bytes_first made = (get_or made 0 (plain [])).bytes
 
-keeps_bson : (made : List (List ℕ)) (b : List ℕ) → IsEnvelope b → made ≡ b ∷ [] → (d : List ℕ) × (made ≡ (d ++ 0 ∷ []) ∷ [])
+keeps_bson : (made : List Made) (b : List ℕ) → IsEnvelope b → made ≡ plain b ∷ [] → (d : List ℕ) × (made ≡ plain (d ++ 0 ∷ []) ∷ [])
 keeps_bson made b is same = (front_of_framed (inside_of b), same ∙ ap one (document_framed b is ∙ framed_ends (inside_of b)))
 
 sound_makes : MakesBson command.Sound
@@ -40,23 +42,23 @@ sound_makes b made is makes = keeps_bson made b is makes
 canon_makes : MakesBson command.Canon
 canon_makes b made is makes = keeps_bson made b is makes
 
-unique_makes : MakesBson command.Unique
-unique_makes b made is makes = keeps_bson made b is makes
+unique_makes : (spelling : Spelling) → MakesBson (command.Unique spelling)
+unique_makes spelling b made is makes = keeps_bson made b is makes
 
 check_makes_none : MakesNoBson command.Check
-check_makes_none b d e = let n : 1 ≡ 0 = ap length e in omega (arith, n)
+check_makes_none b d form e = let n : 1 ≡ 0 = ap length e in omega (arith, n)
 
 list_makes_none : MakesNoBson command.List
-list_makes_none b d e = let n : 1 ≡ 0 = ap length e in omega (arith, n)
+list_makes_none b d form e = let n : 1 ≡ 0 = ap length e in omega (arith, n)
 
 count_makes_none : MakesNoBson command.Count
-count_makes_none b d e = let n : 1 ≡ 0 = ap length e in omega (arith, n)
+count_makes_none b d form e = let n : 1 ≡ 0 = ap length e in omega (arith, n)
 
 fields_makes_none : MakesNoBson command.Fields
-fields_makes_none b d e = let n : 1 ≡ 0 = ap length e in omega (arith, n)
+fields_makes_none b d form e = let n : 1 ≡ 0 = ap length e in omega (arith, n)
 
 json_makes_none : (style : json.Style) → MakesNoBson (command.Json style)
-json_makes_none style b d (text, is, e) = both_ends text d (sym (ap first_made e))
+json_makes_none style b d form (text, is, e) = both_ends text d (sym (ap bytes_first e))
 
 -- what is picked is a document, or its line
 printed : (style : Option json.Style) (paths b picked : List ℕ) → ((document : List ℕ) × IsPicked b paths document × IsPrinted style document picked)
@@ -81,12 +83,12 @@ pick_makes picking e b made env (picked, is, same) =
     (d, same ∙ ap one ends)
 
 pick_makes_none : (picking : Picking) → is_none picking.style ≡ false → MakesNoBson (command.Pick picking)
-pick_makes_none picking e b d (picked, is, same) = line_printed picking.style picking.paths.now b picked d e is (sym (ap first_made same))
+pick_makes_none picking e b d form (picked, is, same) = line_printed picking.style picking.paths.now b picked d e is (sym (ap bytes_first same))
 
-pub bson_made : (c : Command) → (c ≡ command.Canon) ⊎ (c ≡ command.Sound) ⊎ (c ≡ command.Unique) → MakesBson c
+pub bson_made : (c : Command) → (c ≡ command.Canon) ⊎ (c ≡ command.Sound) ⊎ ((spelling : Spelling) × (c ≡ command.Unique spelling)) → MakesBson c
 bson_made c (inl e) = subst MakesBson (sym e) canon_makes
 bson_made c (inr (inl e)) = subst MakesBson (sym e) sound_makes
-bson_made c (inr (inr e)) = subst MakesBson (sym e) unique_makes
+bson_made c (inr (inr (spelling, e))) = subst MakesBson (sym e) (unique_makes spelling)
 
 pub none_made : (c : Command) → (c ≡ command.Check) ⊎ (c ≡ command.List) ⊎ (c ≡ command.Count) ⊎ (c ≡ command.Fields) ⊎ ((style : json.Style) × (c ≡ command.Json style)) → MakesNoBson c
 none_made c (inl e) = subst MakesNoBson (sym e) check_makes_none

@@ -59,7 +59,7 @@ reports_front command.Count style name offset b f told old new text other report
 reports_front command.Sound style name offset b f told old new text other reports front = (front.front, (text, reports, (front.behind, front.whole)), front.put)
 reports_front command.Fields style name offset b f told old new text other reports front = (front.front, (text, reports, (front.behind, front.whole)), front.put)
 reports_front command.Canon style name offset b f told old new text other reports front = (front.front, (text, reports, (front.behind, front.whole)), front.put)
-reports_front command.Unique style name offset b f told old new text other reports front = (front.front, (text, reports, (front.behind, front.whole)), front.put)
+reports_front (command.Unique spelling) style name offset b f told old new text other reports front = (front.front, (text, reports, (front.behind, front.whole)), front.put)
 reports_front (command.Json form) style name offset b f told old new text other reports front = (front.front, (text, reports, (front.behind, front.whole)), front.put)
 reports_front (command.Pick picking) style name offset b f told old new text other reports front = (front.front, (text, reports, (front.behind, front.whole)), front.put)
 

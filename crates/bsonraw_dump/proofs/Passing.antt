@@ -11,7 +11,7 @@ use Rattle.bsonraw_dump.proofs.Repeating.{firsts_more, firsts_none, repeats_more
 use Rattle.bsonraw_dump.proofs.Writing.{writes_none, writes_more}
 use Rattle.std.proofs.lemmas.Grind.{flat_map-append, fold-append}
 use Rattle.bsonraw_dump.specs.Cut.{IsPiece}
-use Rattle.bsonraw_dump.specs.Fields.{Document, HasFields, Table, tabled, with_document}
+use Rattle.bsonraw_dump.specs.Fields.{Table, tabled, with_document}
 use Rattle.bsonraw_dump.specs.Portion.{HasPassedFront}
 use Rattle.bsonraw_dump.specs.Reading.{Looks, TellsNext, ahead_of}
 use Rattle.bsonraw_dump.specs.Resync.{BreaksWith, IsBelieved, IsNextPlace, SkipsTo, Spends, TellsPart}
@@ -20,7 +20,7 @@ use Rattle.raw_resync.specs.Seeking.{IsWork, no_work}
 use Rattle.raw_resync.specs.declared.work.Work.{Work}
 use Rattle.bsonraw_dump.specs.Run.{AreParts, Entry, Gap, IsEntry, IsGap, IsPart, IsReading, IsTaken, Part, piece, gap, skipped, Passed, PassesFront, PassesGap, PassesNext, PassesOne, MayPassFront, Writes, WritesNothing, bytes_of_part, bytes_of_parts, made_of_part, made_of_parts, forms_of_part, forms_of_parts, lines_of_part, fields_of_part, fields_of_parts, lines_of_repeats, repeats_of_part, count_entry, count_part, findings_in, findings_of, work_behind}
 use Rattle.bsonraw_dump.specs.Told.{ending_line}
-use Rattle.bsonraw_dump.specs.Unique.{Firsts, Origin, firsts_behind, firsts_of, origin_at, placed_at, repeat_at, repeats_of}
+use Rattle.bsonraw_dump.specs.Unique.{Firsts, Made, Origin, firsts_behind, firsts_of, origin_at, placed_at, repeat_at, repeats_of}
 use Rattle.bsonraw_dump.specs.declared.ending.Ending.{Ending}
 use Rattle.bsonraw_dump.specs.declared.ending.Rest.TheVariants as rest
 use Rattle.bsonraw_dump.specs.declared.failure.Failure.{Failure}
@@ -104,7 +104,7 @@ passed_more {limits} c style resync name x y r r' r'' d d' d'' w w' w'' n n' n''
   is_read =
       let all = read_behind (bytes_of_parts ps) x (bytes_of_part p ++ y) r r' r'' passed.is_read read in
       subst (Consumes r r'') (sym (append_assoc (bytes_of_parts ps) (bytes_of_part p) y) ∙ ap (λ l. l ++ y) (one_more bytes_of_part ps p)) all;
-  is_written = subst (λ (xs : List (List ℕ)). Writes c xs d d'' k k'') (one_more made_of_part ps p) (writes_more c (made_of_parts ps) (made_of_part p) d d' d'' k k' k'' passed.is_written written);
+  is_written = subst (λ (xs : List Made). Writes c xs d d'' k k'') (one_more made_of_part ps p) (writes_more c (made_of_parts ps) (made_of_part p) d d' d'' k k' k'' passed.is_written written);
   is_placed =
       placed ∙ ap (λ (f : Firsts). firsts_behind c f (forms_of_part p)) passed.is_placed ∙ sym (firsts_more c (firsts_of k) (forms_of_parts ps) (forms_of_part p))
       ∙ ap (firsts_behind c (firsts_of k)) (one_more forms_of_part ps p);

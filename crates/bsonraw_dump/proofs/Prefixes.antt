@@ -1,5 +1,5 @@
 -- How the levels around elements follow one another, where the path of the last element begins with what theirs begin with.
-use Rattle.std.proofs.Common.{◌≡◌, ◌+◌, ◌-◌, ◌<◌, ◌≤◌, ◌∙◌, ℕ, zero, suc, List, [], ◌∷◌, ◌++◌, Bool, ap, arith, codes, cond, false, get_or, length, map, nat_eq, nat_lt, refl, subst, sym, take}
+use Rattle.std.proofs.Common.{◌≡◌, ◌-◌, ◌<◌, ◌≤◌, ◌∙◌, ℕ, zero, suc, List, [], ◌∷◌, ◌++◌, Bool, ap, arith, codes, cond, false, get_or, length, map, nat_eq, nat_lt, refl, subst, sym, take}
 use Rattle.std.proofs.lemmas.Bool.{lt-ltb}
 use Rattle.std.proofs.lemmas.List.{length-append, length-map, length-take-le, map_push, take-map}
 use Rattle.std.specs.List.{AllByRecursion}

@@ -24,7 +24,7 @@ firsts_none command.Count f = refl
 firsts_none command.Canon f = refl
 firsts_none command.Sound f = refl
 firsts_none command.Fields f = refl
-firsts_none command.Unique f = refl
+firsts_none (command.Unique spelling) f = refl
 firsts_none (command.Json style) f = refl
 firsts_none (command.Pick picking) f = refl
 
@@ -35,7 +35,7 @@ repeats_none command.Count f = refl
 repeats_none command.Canon f = refl
 repeats_none command.Sound f = refl
 repeats_none command.Fields f = refl
-repeats_none command.Unique f = refl
+repeats_none (command.Unique spelling) f = refl
 repeats_none (command.Json style) f = refl
 repeats_none (command.Pick picking) f = refl
 
@@ -46,7 +46,7 @@ firsts_more command.Count f xs ys = refl
 firsts_more command.Canon f xs ys = refl
 firsts_more command.Sound f xs ys = refl
 firsts_more command.Fields f xs ys = refl
-firsts_more command.Unique f xs ys = fold-append with_first f xs ys
+firsts_more (command.Unique spelling) f xs ys = fold-append with_first f xs ys
 firsts_more (command.Json style) f xs ys = refl
 firsts_more (command.Pick picking) f xs ys = refl
 
@@ -64,7 +64,7 @@ repeats_more command.Count f xs ys = refl
 repeats_more command.Canon f xs ys = refl
 repeats_more command.Sound f xs ys = refl
 repeats_more command.Fields f xs ys = refl
-repeats_more command.Unique f xs ys = repeats-append f xs ys
+repeats_more (command.Unique spelling) f xs ys = repeats-append f xs ys
 repeats_more (command.Json style) f xs ys = refl
 repeats_more (command.Pick picking) f xs ys = refl
 

@@ -1,5 +1,5 @@
 -- How what was written grows by more documents.
-use Rattle.std.proofs.Common.{◌≡◌, ◌+◌, ◌⊎◌, ℕ, List, [], ◌∷◌, ◌++◌, Bool, Option, None, arith, codes, fold, inl, inr, length, length-append, sym, ap, ◌∙◌, subst, refl, append_assoc, append-nil}
+use Rattle.std.proofs.Common.{◌≡◌, ◌+◌, ◌⊎◌, ℕ, List, [], ◌∷◌, ◌++◌, Bool, Option, None, arith, codes, flat_map, fold, inl, inr, length, length-append, sym, ap, ◌∙◌, subst, refl, append_assoc, append-nil}
 use Rattle.std.specs.Io.KnownBytes.{Appends}
 use Rattle.std.proofs.KnownBytes.{Appends-nil, Appends-trans}
 use Rattle.std.proofs.lemmas.Grind.{flat_map-append, fold-append}
@@ -16,11 +16,12 @@ use Rattle.bsonraw_dump.specs.Fronts.{WritesFront}
 use Rattle.bsonraw_dump.specs.Halting.{IsMade}
 use Rattle.bsonraw_dump.proofs.Fronts.{front_behind, front_first}
 use Rattle.bsonraw_dump.specs.Pick.{IsPicked, IsPickedAs, IsPrinted}
-use Rattle.bsonraw_dump.specs.Run.{Emits, Makes, MakesJson, MakesPicked, Writes, WritesOne}
-use Rattle.bsonraw_dump.specs.Unique.{CountsOne, first_forms, firsts_of, has_digest, if_new, joined, kept_of, known_behind, knows, origins_of, placed, with_form, written_of}
+use Rattle.bsonraw_dump.specs.Run.{Emits, Makes, MakesJson, MakesPicked, Writes, WritesOne, spelled}
+use Rattle.bsonraw_dump.specs.Unique.{CountsOne, Made, first_made, firsts_of, has_digest, if_new, kept_of, known_behind, knows, made_as, origins_of, placed, plain, with_made, written_of}
 use Rattle.bsonraw_dump.specs.Unique as says
 use Rattle.bsonraw_dump.specs.declared.command.Command.{Command}
 use Rattle.bsonraw_dump.specs.declared.command.Command.TheVariants as command
+use Rattle.bsonraw_dump.specs.declared.command.Spelling.{Spelling}
 use Rattle.bsonraw_dump.specs.declared.kept.Kept.{Kept}
 use Rattle.bsonraw_dump.specs.declared.kept.Origin.{Origin}
 use Rattle.bsonraw_dump.specs.declared.pick.Picking.{Picking}
@@ -31,17 +32,18 @@ use Rattle.bsonraw_dump.specs.declared.run.Outcome.{Outcome}
 use Rattle.bsonraw_dump.specs.declared.style.Style.{Style}
 use Rattle.bsonraw_dump.specs.declared.find.Finding.TheVariants as finding
 
-joined-append : (xs ys : List (List ℕ)) → joined (xs ++ ys) ≡ joined xs ++ joined ys
-joined-append xs ys = flat_map-append (λ (d : List ℕ). d) xs ys
+-- the bytes of what is made
+abbrev written : Made → List ℕ
+written m = m.bytes
 
-first_forms-append : (known : List ℕ → Bool) (xs ys : List (List ℕ)) → first_forms known (xs ++ ys) ≡ first_forms known xs ++ first_forms (fold with_form known xs) ys
-first_forms-append known [] ys = refl
-first_forms-append known (x ∷ xs) ys =
+first_made-append : (known : List ℕ → Bool) (xs ys : List Made) → first_made known (xs ++ ys) ≡ first_made known xs ++ first_made (fold with_made known xs) ys
+first_made-append known [] ys = refl
+first_made-append known (x ∷ xs) ys =
     let here = if_new known x in
-    let next = with_form known x in
-    ap (λ l. here ++ l) (first_forms-append next xs ys) ∙ sym (append_assoc here (first_forms next xs) (first_forms (fold with_form next xs) ys))
+    let next = with_made known x in
+    ap (λ l. here ++ l) (first_made-append next xs ys) ∙ sym (append_assoc here (first_made next xs) (first_made (fold with_made next xs) ys))
 
-kept_of-append : (c : Command) (known : List ℕ → Bool) (xs ys : List (List ℕ)) → kept_of c known (xs ++ ys) ≡ kept_of c known xs ++ kept_of c (known_behind c known xs) ys
+kept_of-append : (c : Command) (known : List ℕ → Bool) (xs ys : List Made) → kept_of c known (xs ++ ys) ≡ kept_of c known xs ++ kept_of c (known_behind c known xs) ys
 kept_of-append command.Check known xs ys = refl
 kept_of-append command.List known xs ys = refl
 kept_of-append command.Count known xs ys = refl
@@ -50,12 +52,13 @@ kept_of-append command.Sound known xs ys = refl
 kept_of-append command.Fields known xs ys = refl
 kept_of-append (command.Json style) known xs ys = refl
 kept_of-append (command.Pick picking) known xs ys = refl
-kept_of-append command.Unique known xs ys = first_forms-append known xs ys
+kept_of-append (command.Unique spelling) known xs ys = first_made-append known xs ys
 
-written_of-append : (c : Command) (known : List ℕ → Bool) (xs ys : List (List ℕ)) → written_of c known (xs ++ ys) ≡ written_of c known xs ++ written_of c (known_behind c known xs) ys
-written_of-append c known xs ys = ap joined (kept_of-append c known xs ys) ∙ joined-append (kept_of c known xs) (kept_of c (known_behind c known xs) ys)
+written_of-append : (c : Command) (known : List ℕ → Bool) (xs ys : List Made) → written_of c known (xs ++ ys) ≡ written_of c known xs ++ written_of c (known_behind c known xs) ys
+written_of-append c known xs ys =
+    ap (flat_map written) (kept_of-append c known xs ys) ∙ flat_map-append written (kept_of c known xs) (kept_of c (known_behind c known xs) ys)
 
-known_behind-append : (c : Command) (known : List ℕ → Bool) (xs ys : List (List ℕ)) → known_behind c known (xs ++ ys) ≡ known_behind c (known_behind c known xs) ys
+known_behind-append : (c : Command) (known : List ℕ → Bool) (xs ys : List Made) → known_behind c known (xs ++ ys) ≡ known_behind c (known_behind c known xs) ys
 known_behind-append command.Check known xs ys = refl
 known_behind-append command.List known xs ys = refl
 known_behind-append command.Count known xs ys = refl
@@ -64,7 +67,7 @@ known_behind-append command.Sound known xs ys = refl
 known_behind-append command.Fields known xs ys = refl
 known_behind-append (command.Json style) known xs ys = refl
 known_behind-append (command.Pick picking) known xs ys = refl
-known_behind-append command.Unique known xs ys = fold-append with_form known xs ys
+known_behind-append (command.Unique spelling) known xs ys = fold-append with_made known xs ys
 
 nothing_kept : (c : Command) (known : List ℕ → Bool) → kept_of c known [] ≡ []
 nothing_kept command.Check known = refl
@@ -75,7 +78,7 @@ nothing_kept command.Sound known = refl
 nothing_kept command.Fields known = refl
 nothing_kept (command.Json style) known = refl
 nothing_kept (command.Pick picking) known = refl
-nothing_kept command.Unique known = refl
+nothing_kept (command.Unique spelling) known = refl
 
 nothing_known : (c : Command) (known : List ℕ → Bool) (d : List ℕ) → known d ≡ known_behind c known [] d
 nothing_known command.Check known d = refl
@@ -86,12 +89,12 @@ nothing_known command.Sound known d = refl
 nothing_known command.Fields known d = refl
 nothing_known (command.Json style) known d = refl
 nothing_known (command.Pick picking) known d = refl
-nothing_known command.Unique known d = refl
+nothing_known (command.Unique spelling) known d = refl
 
 -- nothing is made
 pub writes_nothing : (c : Command) (d d' : Option (List ℕ)) (k : Kept) → Appends d d' [] → Writes c [] d d' k k
 writes_nothing c d d' k put = record {
-  is_written = subst (λ l. Appends d d' (joined l)) (sym (nothing_kept c (knows k))) put;
+  is_written = subst (λ l. Appends d d' (flat_map written l)) (sym (nothing_kept c (knows k))) put;
   is_known = nothing_known c (knows k);
   is_counted = let none : length (kept_of c (knows k) []) ≡ 0 = ap length (nothing_kept c (knows k)) in omega arith;
 }
@@ -99,7 +102,7 @@ writes_nothing c d d' k put = record {
 pub writes_none : (c : Command) (out : Option (List ℕ)) (k : Kept) → Writes c [] out out k k
 writes_none c out k = writes_nothing c out out k (Appends-nil out)
 
-pub writes_more : (c : Command) (xs ys : List (List ℕ)) (d d' d'' : Option (List ℕ)) (k k' k'' : Kept) → Writes c xs d d' k k' → Writes c ys d' d'' k' k'' → Writes c (xs ++ ys) d d'' k k''
+pub writes_more : (c : Command) (xs ys : List Made) (d d' d'' : Option (List ℕ)) (k k' k'' : Kept) → Writes c xs d d' k k' → Writes c ys d' d'' k' k'' → Writes c (xs ++ ys) d d'' k k''
 writes_more c xs ys d d' d'' k k' k'' first second =
     let behind = known_behind c (knows k) xs in
     let same : knows k' ≡ behind = λ i. λ (x : List ℕ). first.is_known x i in
@@ -120,7 +123,7 @@ known_same : (k k' : Kept) (d : List ℕ) → k'.forms ≡ k.forms → knows k' 
 known_same k k' d same = ap (λ forms. has_digest forms d) same
 
 -- the same is written and known where no more is counted
-pub writes_kept : (c : Command) (made : List (List ℕ)) (d d' : Option (List ℕ)) (k k' k'' : Kept) → Writes c made d d' k k' → KeepsWritten k' k'' → Writes c made d d' k k''
+pub writes_kept : (c : Command) (made : List Made) (d d' : Option (List ℕ)) (k k' k'' : Kept) → Writes c made d d' k k' → KeepsWritten k' k'' → Writes c made d d' k k''
 writes_kept c made d d' k k' k'' writes (count, digests) = record {
   is_written = writes.is_written;
   is_known = λ x. known_same k' k'' x digests ∙ writes.is_known x;
@@ -132,7 +135,7 @@ pub counts_kept : (limits : Limits) (c : Command) (place : says.Origin) (b : Lis
     → CountsFields limits c place b f k k''
 counts_kept limits c place b f k k' k'' same (ds, has, added) = (ds, has, added ∙ ap (λ (p : Paths). fold with_document (table_of p) ds) same)
 
-line_written : (style : json.Style) (line : List ℕ) (d d' : Option (List ℕ)) (k k' : Kept) → Appends d d' line → CountsOne k k' → Writes (command.Json style) (line ∷ []) d d' k k'
+line_written : (style : json.Style) (line : List ℕ) (d d' : Option (List ℕ)) (k k' : Kept) → Appends d d' line → CountsOne k k' → Writes (command.Json style) (plain line ∷ []) d d' k k'
 line_written style line d d' k k' put (counted, same) = record {
   is_written = subst (Appends d d') (sym (append-nil line)) put;
   is_known = λ x. known_same k k' x same;
@@ -149,11 +152,11 @@ pub json_emitted : (style : json.Style) (at : Origin) (b : List ℕ) (f : Findin
     → (text : List ℕ) × IsJson style b text × Appends d d' (text ++ codes "\n") × CountsOne k k' → Emits (command.Json style) at b f d d' k k' None
 json_emitted style at b f d d' k k' sound (text, is, put, counted) =
     let line = text ++ codes "\n" in
-    let made : MakesJson style b f (line ∷ []) = elim sound [
-      | inl canonical ↦ subst (λ x. MakesJson style b x (line ∷ [])) (sym canonical) (text, is, refl)
-      | inr breached ↦ subst (λ x. MakesJson style b x (line ∷ [])) (sym breached) (text, is, refl)
+    let made : MakesJson style b f (plain line ∷ []) = elim sound [
+      | inl canonical ↦ subst (λ x. MakesJson style b x (plain line ∷ [])) (sym canonical) (text, is, refl)
+      | inr breached ↦ subst (λ x. MakesJson style b x (plain line ∷ [])) (sym breached) (text, is, refl)
     ] in
-    (line ∷ [], made, (line_written style line d d' k k' put counted, record { placed = ap origins_of counted.1; repeats = refl }))
+    (plain line ∷ [], made, (line_written style line d d' k k' put counted, record { placed = ap origins_of counted.1; repeats = refl }))
 
 -- these are the texts of a document with a line feed
 abbrev pub IsJsonLine : json.Style → List ℕ → List ℕ → Type 0
@@ -180,11 +183,11 @@ pub json_made : (style : json.Style) (b : List ℕ) (f : Finding) (k : Kept) (d 
     → WritesFront (IsJsonLine style b) d d' → WritesFront (IsMade (command.Json style) b f k) d d'
 json_made style b f k d d' sound (inl same) = inl same
 json_made style b f k d d' sound (inr (line, (text, is, it), front)) =
-    let made : MakesJson style b f (line ∷ []) = elim sound [
-      | inl canonical ↦ subst (λ x. MakesJson style b x (line ∷ [])) (sym canonical) (text, is, ap (λ (x : List ℕ). x ∷ []) it)
-      | inr breached ↦ subst (λ x. MakesJson style b x (line ∷ [])) (sym breached) (text, is, ap (λ (x : List ℕ). x ∷ []) it)
+    let made : MakesJson style b f (plain line ∷ []) = elim sound [
+      | inl canonical ↦ subst (λ x. MakesJson style b x (plain line ∷ [])) (sym canonical) (text, is, ap (λ (x : List ℕ). plain x ∷ []) it)
+      | inr breached ↦ subst (λ x. MakesJson style b x (plain line ∷ [])) (sym breached) (text, is, ap (λ (x : List ℕ). plain x ∷ []) it)
     ] in
-    inr (line, (line ∷ [], made, sym (append-nil line)), front)
+    inr (line, (plain line ∷ [], made, sym (append-nil line)), front)
 
 -- the document of what is picked is printed in this way
 pub is_picked_as : (picking : Picking) (style : Option json.Style) (b document made : List ℕ) → picking.style ≡ style → IsPicked b picking.paths.now document
@@ -198,7 +201,7 @@ front_picked picking style b document d d' same is (inl none) = inl none
 front_picked picking style b document d d' same is (inr (made, printed, front)) = inr (made, is_picked_as picking style b document made same is printed, front)
 
 -- a document that is picked is written
-picked_written : (picking : Picking) (made : List ℕ) (d d' : Option (List ℕ)) (k k' : Kept) → Appends d d' made → CountsOne k k' → Writes (command.Pick picking) (made ∷ []) d d' k k'
+picked_written : (picking : Picking) (made : List ℕ) (d d' : Option (List ℕ)) (k k' : Kept) → Appends d d' made → CountsOne k k' → Writes (command.Pick picking) (plain made ∷ []) d d' k k'
 picked_written picking made d d' k k' put (counted, same) = record {
   is_written = subst (Appends d d') (sym (append-nil made)) put;
   is_known = λ x. known_same k k' x same;
@@ -206,36 +209,42 @@ picked_written picking made d d' k k' put (counted, same) = record {
 }
 
 makes_picked : (picking : Picking) (b : List ℕ) (f : Finding) (made : List ℕ) → (f ≡ finding.Canonical) ⊎ (f ≡ finding.Breached) → IsPickedAs picking b made
-    → MakesPicked picking b f (made ∷ [])
-makes_picked picking b f made (inl canonical) is = subst (λ x. MakesPicked picking b x (made ∷ [])) (sym canonical) (made, is, refl)
-makes_picked picking b f made (inr breached) is = subst (λ x. MakesPicked picking b x (made ∷ [])) (sym breached) (made, is, refl)
+    → MakesPicked picking b f (plain made ∷ [])
+makes_picked picking b f made (inl canonical) is = subst (λ x. MakesPicked picking b x (plain made ∷ [])) (sym canonical) (made, is, refl)
+makes_picked picking b f made (inr breached) is = subst (λ x. MakesPicked picking b x (plain made ∷ [])) (sym breached) (made, is, refl)
 
 -- of a document without damage that is what comes of it
 pub picked_emitted : (picking : Picking) (at : Origin) (b : List ℕ) (f : Finding) (d d' : Option (List ℕ)) (k k' : Kept) → (f ≡ finding.Canonical) ⊎ (f ≡ finding.Breached)
     → (made : List ℕ) × IsPickedAs picking b made × Appends d d' made × CountsOne k k' → Emits (command.Pick picking) at b f d d' k k' None
 picked_emitted picking at b f d d' k k' sound (made, is, put, counted) =
-    (made ∷ [], makes_picked picking b f made sound is, (picked_written picking made d d' k k' put counted, record { placed = ap origins_of counted.1; repeats = refl }))
+    (plain made ∷ [], makes_picked picking b f made sound is, (picked_written picking made d d' k k' put counted, record { placed = ap origins_of counted.1; repeats = refl }))
 
 -- or a front of it is written
 pub picked_made : (picking : Picking) (b : List ℕ) (f : Finding) (k : Kept) (d d' : Option (List ℕ)) → (f ≡ finding.Canonical) ⊎ (f ≡ finding.Breached)
     → WritesFront (IsPickedAs picking b) d d' → WritesFront (IsMade (command.Pick picking) b f k) d d'
 picked_made picking b f k d d' sound (inl same) = inl same
-picked_made picking b f k d d' sound (inr (made, is, front)) = inr (made, (made ∷ [], makes_picked picking b f made sound is, sym (append-nil made)), front)
+picked_made picking b f k d d' sound (inr (made, is, front)) = inr (made, (plain made ∷ [], makes_picked picking b f made sound is, sym (append-nil made)), front)
 
--- this is written of the canonical form of a document
+-- what is made of a document with this canonical form, and this is written of it
+abbrev pub form_made : Command → (b form : List ℕ) → List Made
+form_made c b form = made_as (spelled c b form) form ∷ []
+
 abbrev pub IsFormWritten : Command → List ℕ → Kept → List ℕ → Type 0
-IsFormWritten c b k text = (form : List ℕ) × IsCanonicalForm b form × (text ≡ written_of c (knows k) (form ∷ []))
+IsFormWritten c b k text = (form : List ℕ) × IsCanonicalForm b form × (text ≡ written_of c (knows k) (form_made c b form))
 
--- of a document that isn't canonical a front of its form is written
+pub spelled_made : (c : Command) (b form text : List ℕ) (k : Kept) → text ≡ spelled c b form → written_of c (knows k) (made_as text form ∷ []) ≡ written_of c (knows k) (form_made c b form)
+spelled_made c b form text k same = ap (λ (x : List ℕ). written_of c (knows k) (made_as x form ∷ [])) same
+
+-- of a document that isn't canonical a front of that is written
 pub form_made_canon : (b : List ℕ) (k : Kept) (d d' : Option (List ℕ)) → WritesFront (IsFormWritten command.Canon b k) d d'
     → WritesFront (IsMade command.Canon b finding.Breached k) d d'
 form_made_canon b k d d' (inl same) = inl same
-form_made_canon b k d d' (inr (text, (form, is, it), front)) = inr (text, (form ∷ [], (form, is, refl), it), front)
+form_made_canon b k d d' (inr (text, (form, is, it), front)) = inr (text, (form_made command.Canon b form, (form, is, refl), it), front)
 
-pub form_made_unique : (b : List ℕ) (k : Kept) (d d' : Option (List ℕ)) → WritesFront (IsFormWritten command.Unique b k) d d'
-    → WritesFront (IsMade command.Unique b finding.Breached k) d d'
-form_made_unique b k d d' (inl same) = inl same
-form_made_unique b k d d' (inr (text, (form, is, it), front)) = inr (text, (form ∷ [], (form, is, refl), it), front)
+pub form_made_unique : (spelling : Spelling) (b : List ℕ) (k : Kept) (d d' : Option (List ℕ)) → WritesFront (IsFormWritten (command.Unique spelling) b k) d d'
+    → WritesFront (IsMade (command.Unique spelling) b finding.Breached k) d d'
+form_made_unique spelling b k d d' (inl same) = inl same
+form_made_unique spelling b k d d' (inr (text, (form, is, it), front)) = inr (text, (form_made (command.Unique spelling) b form, (form, is, refl), it), front)
 
 -- the same where no more is written
 pub writes_same : (limits : Limits) (c : Command) (style : Style) (name : List ℕ) (offset : ℕ) (b : List ℕ) (d d' w w' : Option (List ℕ)) (k k' k'' : Kept) (o : Outcome)

@@ -14,7 +14,7 @@ use Rattle.bsonraw_dump.specs.Reading.{ahead_of}
 use Rattle.bsonraw_dump.specs.Resync.{IsBelieved, SkipsTo, Spends}
 use Rattle.bsonraw_dump.specs.Run.{AreParts, Gap, IsGap, Makes, Part, Reports, Writes, bytes_of_parts, count_part, fields_of_parts, head_text, forms_of_parts, lines_of_parts, lines_of_repeats, made_of_parts, repeats_of_parts, work_behind}
 use Rattle.bsonraw_dump.specs.Told.{ending_line, last_line, line}
-use Rattle.bsonraw_dump.specs.Unique.{firsts_behind, firsts_of, knows, origin_at, placed_at, repeats_of, written_of}
+use Rattle.bsonraw_dump.specs.Unique.{Made, firsts_behind, firsts_of, knows, origin_at, placed_at, repeats_of, written_of}
 use Rattle.bsonraw_dump.specs.declared.command.Command.{Command}
 use Rattle.bsonraw_dump.specs.declared.command.Command.TheVariants as command
 use Rattle.bsonraw_dump.specs.declared.counts.Counts.{Counts}
@@ -38,7 +38,7 @@ ReportsFront c style name offset b found told text = (lines : List ℕ) × Repor
 
 -- this is written of the documents that a command makes of a piece b in which this is found
 abbrev pub IsMade : Command → List ℕ → Finding → Kept → List ℕ → Type 0
-IsMade c b found kept text = (made : List (List ℕ)) × Makes c b found made × (text ≡ written_of c (knows kept) made)
+IsMade c b found kept text = (made : List Made) × Makes c b found made × (text ≡ written_of c (knows kept) made)
 
 -- Of a piece b, in which this is found, a front is reported, and nothing is written. Or all is reported, and a front is written, or nothing.
 -- Or all is written, and a front of the line of a repeat is reported.
@@ -46,7 +46,7 @@ abbrev pub HaltsInside : Command → Style → List ℕ → ℕ → List ℕ →
 HaltsInside c style name offset b found told kept out_old out_new report_old report_new =
     ((out_new ≡ out_old) × ((lines : List ℕ) × ReportsFront c style name offset b found told lines × Appends report_old report_new lines))
     ⊎ (WritesFront (IsMade c b found kept) out_old out_new × ((lines : List ℕ) × Reports c style name offset b found told lines × Appends report_old report_new lines))
-    ⊎ ((made : List (List ℕ)) × Makes c b found made × Appends out_old out_new (written_of c (knows kept) made)
+    ⊎ ((made : List Made) × Makes c b found made × Appends out_old out_new (written_of c (knows kept) made)
     × ((lines : List ℕ) × (front : List ℕ) × Reports c style name offset b found told lines
     × HasFront (lines_of_repeats style (repeats_of c (firsts_of kept) (placed_at (origin_at name offset) made))) front × Appends report_old report_new (lines ++ front)))
 

@@ -20,12 +20,13 @@ use Rattle.bsonraw_dump.specs.Listing.{ListsDocument}
 use Rattle.bsonraw_dump.specs.Pick.{IsPickedAs}
 use Rattle.bsonraw_dump.specs.declared.pick.Picking.{Picking}
 use Rattle.bsonraw_dump.specs.Told.{ending_line, last_line, line, repeat_line, report_line, words_of}
-use Rattle.bsonraw_dump.specs.Unique.{Origin, Placed, Repeat, firsts_behind, firsts_of, kept_of, known_behind, knows, origin_at, origin_of, placed_at, repeat_at, repeats_of, written_of}
+use Rattle.bsonraw_dump.specs.Unique.{Made, Origin, Placed, Repeat, firsts_behind, firsts_of, kept_of, known_behind, knows, made_as, origin_at, origin_of, placed_at, plain, repeat_at, repeats_of, written_of}
 use Rattle.bsonraw_dump.specs.declared.failure.Failure.{Failure}
 use Rattle.bsonraw_dump.specs.declared.failure.ReadFailure.{ReadFailure}
 use Rattle.bsonraw_dump.specs.declared.failure.Failure.TheVariants as failure
 use Rattle.bsonraw_dump.specs.declared.command.Command.{Command}
 use Rattle.bsonraw_dump.specs.declared.command.Command.TheVariants as command
+use Rattle.bsonraw_dump.specs.declared.command.Spelling.TheVariants as spelling
 use Rattle.bsonraw_dump.specs.declared.counts.Counts.{Counts}
 use Rattle.bsonraw_dump.specs.declared.kept.Kept.{Kept}
 use Rattle.bsonraw_dump.specs.declared.kept.Origin as kept
@@ -51,14 +52,14 @@ abbrev pub told_line : Style → List ℕ → ℕ → Option Account → List �
 told_line style name offset None = []
 told_line style name offset (Some told) = report_line style name offset told
 
--- a piece of an input, what is found in it and what is told of that, the document that is made of it, if there is one, the same with
+-- a piece of an input, what is found in it and what is told of that, the document that is made of it, if there is one, its form with
 -- its place, what it repeats, how many findings that is, what is reported of it, its elements, if they are counted, and what the searches
 -- cost then
 pub record Entry : Type 0 where
   pub bytes : List ℕ
   pub finding : Finding
   pub told : Option Account
-  pub made : List (List ℕ)
+  pub made : List Made
   pub forms : List Placed
   pub repeats : List Repeat
   pub findings : ℕ
@@ -66,29 +67,34 @@ pub record Entry : Type 0 where
   pub fields : List Document
   pub work : Work
 
--- the canonical form of a piece b in which this is found, unless it is damaged or too deep, or isn't judged
-abbrev pub MakesForm : List ℕ → Finding → List (List ℕ) → Type 0
-MakesForm b finding.Canonical made = made ≡ b ∷ []
-MakesForm b finding.Breached made = (form : List ℕ) × IsCanonicalForm b form × (made ≡ form ∷ [])
-MakesForm b _ made = made ≡ []
+-- what is written of a piece b with this canonical form: the form, or the piece as it is
+abbrev pub spelled : Command → (b form : List ℕ) → List ℕ
+spelled (command.Unique spelling.Original) b form = b
+spelled c b form = form
+
+-- what is made of a piece b in which this is found: what is written of it, and its form; nothing if it is damaged or too deep, or isn't judged
+abbrev pub MakesForm : Command → List ℕ → Finding → List Made → Type 0
+MakesForm c b finding.Canonical made = made ≡ plain b ∷ []
+MakesForm c b finding.Breached made = (form : List ℕ) × IsCanonicalForm b form × (made ≡ made_as (spelled c b form) form ∷ [])
+MakesForm c b _ made = made ≡ []
 
 -- the line of a piece b in which this is found, unless it is damaged or too deep, or isn't judged: its text as Extended JSON, and a line feed
-abbrev pub MakesJson : json.Style → List ℕ → Finding → List (List ℕ) → Type 0
+abbrev pub MakesJson : json.Style → List ℕ → Finding → List Made → Type 0
 MakesJson style b finding.Damaged made = made ≡ []
 MakesJson style b finding.TooDeep made = made ≡ []
 MakesJson style b finding.Unjudged made = made ≡ []
-MakesJson style b _ made = (text : List ℕ) × IsJson style b text × (made ≡ (text ++ codes "\n") ∷ [])
+MakesJson style b _ made = (text : List ℕ) × IsJson style b text × (made ≡ plain (text ++ codes "\n") ∷ [])
 
 -- the document that is picked of a piece b in which this is found, unless it is damaged or too deep, or isn't judged; or its line
-abbrev pub MakesPicked : Picking → List ℕ → Finding → List (List ℕ) → Type 0
+abbrev pub MakesPicked : Picking → List ℕ → Finding → List Made → Type 0
 MakesPicked picking b finding.Damaged made = made ≡ []
 MakesPicked picking b finding.TooDeep made = made ≡ []
 MakesPicked picking b finding.Unjudged made = made ≡ []
-MakesPicked picking b _ made = (picked : List ℕ) × IsPickedAs picking b picked × (made ≡ picked ∷ [])
+MakesPicked picking b _ made = (picked : List ℕ) × IsPickedAs picking b picked × (made ≡ plain picked ∷ [])
 
 -- what a command makes of a piece b in which this is found: check, list, count and fields nothing; sound the piece itself, unless it is damaged or too deep; canon
--- and unique its canonical form; json its line; pick the document of some of its elements
-abbrev pub Makes : Command → List ℕ → Finding → List (List ℕ) → Type 0
+-- and unique its canonical form, or unique the piece itself, where it is asked for; json its line; pick the document of some of its elements
+abbrev pub Makes : Command → List ℕ → Finding → List Made → Type 0
 Makes command.Check b found made = made ≡ []
 Makes command.List b found made = made ≡ []
 Makes command.Count b found made = made ≡ []
@@ -96,9 +102,9 @@ Makes command.Fields b found made = made ≡ []
 Makes command.Sound b finding.Damaged made = made ≡ []
 Makes command.Sound b finding.TooDeep made = made ≡ []
 Makes command.Sound b finding.Unjudged made = made ≡ []
-Makes command.Sound b _ made = made ≡ b ∷ []
-Makes command.Canon b found made = MakesForm b found made
-Makes command.Unique b found made = MakesForm b found made
+Makes command.Sound b _ made = made ≡ plain b ∷ []
+Makes command.Canon b found made = MakesForm command.Canon b found made
+Makes (command.Unique spelling) b found made = MakesForm (command.Unique spelling) b found made
 Makes (command.Json style) b found made = MakesJson style b found made
 Makes (command.Pick picking) b found made = MakesPicked picking b found made
 
@@ -176,7 +182,7 @@ bytes_of_part (piece e) = e.bytes
 bytes_of_part (gap g) = g.bytes
 bytes_of_part (skipped b) = b
 
-abbrev pub made_of_part : Part → List (List ℕ)
+abbrev pub made_of_part : Part → List Made
 made_of_part (piece e) = e.made
 made_of_part (gap g) = []
 made_of_part (skipped b) = []
@@ -213,20 +219,20 @@ IsPart limits c style resync name input offset work (piece e) = IsEntry limits c
 IsPart limits c style resync name input offset work (gap g) = IsGap limits style resync name input offset work g
 IsPart limits c style resync name input offset work (skipped b) = Unit {0}
 
--- these documents are written and counted, or of unique those that are new, and their digests are known then
-pub record Writes (c : Command) (made : List (List ℕ)) (out_old out_new : Option (List ℕ)) (kept_old kept_new : Kept) : Type 0 where
+-- these documents are written and counted, or of unique those whose forms are new, and the digests of their forms are known then
+pub record Writes (c : Command) (made : List Made) (out_old out_new : Option (List ℕ)) (kept_old kept_new : Kept) : Type 0 where
   pub is_written : Appends out_old out_new (written_of c (knows kept_old) made)
   pub is_known : (d : List ℕ) → knows kept_new d ≡ known_behind c (knows kept_old) made d
   pub is_counted : kept_new.count ≡ kept_old.count + length (kept_of c (knows kept_old) made)
 
--- These documents are made of the one at this place, which is kept where their digest has none; and it repeats the first of their
--- digest, if one came before.
-pub record Places (c : Command) (place : Origin) (made : List (List ℕ)) (kept_old kept_new : Kept) (first : Option Origin) : Type 0 where
+-- These documents are made of the one at this place, which is kept where the digest of their form has none; and it repeats the first
+-- with that digest, if one came before.
+pub record Places (c : Command) (place : Origin) (made : List Made) (kept_old kept_new : Kept) (first : Option Origin) : Type 0 where
   pub placed : firsts_of kept_new ≡ firsts_behind c (firsts_of kept_old) (placed_at place made)
   pub repeats : repeat_at place first ≡ repeats_of c (firsts_of kept_old) (placed_at place made)
 
 -- the same of the code, and they are written
-abbrev pub Puts : Command → kept.Origin → List (List ℕ) → (out_old out_new : Option (List ℕ)) → (kept_old kept_new : Kept) → Option kept.Origin → Type 0
+abbrev pub Puts : Command → kept.Origin → List Made → (out_old out_new : Option (List ℕ)) → (kept_old kept_new : Kept) → Option kept.Origin → Type 0
 Puts c place made out_old out_new kept_old kept_new first =
     Writes c made out_old out_new kept_old kept_new × Places c (origin_of place) made kept_old kept_new (option_map origin_of first)
 
@@ -234,7 +240,7 @@ Puts c place made out_old out_new kept_old kept_new first =
 abbrev pub WritesOne : Limits → Command → Style → List ℕ → ℕ → List ℕ → (out_old out_new report_old report_new : Option (List ℕ)) → (kept_old kept_new : Kept) → Outcome → Type 0
 WritesOne limits c style name offset b out_old out_new report_old report_new kept_old kept_new outcome =
     (told : Option Account) × Judges limits c b outcome.finding told
-    × ((made : List (List ℕ)) × Makes c b outcome.finding made × Writes c made out_old out_new kept_old kept_new
+    × ((made : List Made) × Makes c b outcome.finding made × Writes c made out_old out_new kept_old kept_new
     × ((first : Option Origin) × Places c (origin_at name offset) made kept_old kept_new first × (outcome.repeats ≡ is_some first)
     × ((lines : List ℕ) × Reports c style name offset b outcome.finding told lines
     × Appends report_old report_new (lines ++ lines_of_repeats style (repeat_at (origin_at name offset) first)))))
@@ -256,7 +262,7 @@ MayPassOne limits any c style name offset b out_old out_new report_old report_ne
 abbrev pub bytes_of_parts : List Part → List ℕ
 bytes_of_parts ps = flat_map bytes_of_part ps
 
-abbrev pub made_of_parts : List Part → List (List ℕ)
+abbrev pub made_of_parts : List Part → List Made
 made_of_parts ps = flat_map made_of_part ps
 
 abbrev pub lines_of_parts : List Part → List ℕ
@@ -473,4 +479,4 @@ pub record Leaves (limits : Limits) (style : Style) (name : List ℕ) (end : End
 -- Of this piece at this place, in which this is found, a document is made and written, which repeats the one at that place, if there is one.
 abbrev pub Emits : Command → kept.Origin → List ℕ → Finding → (out_old out_new : Option (List ℕ)) → (kept_old kept_new : Kept) → Option kept.Origin → Type 0
 Emits c place b found out_old out_new kept_old kept_new first =
-    (made : List (List ℕ)) × Makes c b found made × Puts c place made out_old out_new kept_old kept_new first
+    (made : List Made) × Makes c b found made × Puts c place made out_old out_new kept_old kept_new first

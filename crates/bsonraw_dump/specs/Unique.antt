@@ -31,6 +31,18 @@ origin_at name offset = record { name = name; offset = offset }
 abbrev pub origin_of : kept.Origin → Origin
 origin_of place = origin_at place.name.now place.offset
 
+-- a document that a command makes: the bytes that are written of it, and the form by whose digest it is known
+pub record Made : Type 0 where
+  pub bytes : List ℕ
+  pub form : List ℕ
+
+abbrev pub made_as : (bytes form : List ℕ) → Made
+made_as bytes form = record { bytes = bytes; form = form }
+
+-- one that is known by its own bytes
+abbrev pub plain : List ℕ → Made
+plain bytes = made_as bytes bytes
+
 -- a form, and the place of the document that it is made of
 pub record Placed : Type 0 where
   pub place : Origin
@@ -39,9 +51,9 @@ pub record Placed : Type 0 where
 abbrev pub placed : Origin → List ℕ → Placed
 placed place form = record { place = place; form = form }
 
--- the forms that are made of the document at this place
-abbrev pub placed_at : Origin → List (List ℕ) → List Placed
-placed_at place forms = map (placed place) forms
+-- the forms of what is made of the document at this place
+abbrev pub placed_at : Origin → List Made → List Placed
+placed_at place made = map (λ (m : Made). placed place m.form) made
 
 -- the places of documents by the digests of their forms; none where no places are kept
 abbrev pub Firsts : Type 0
@@ -90,7 +102,7 @@ abbrev pub has_digest : Forms → List ℕ → Bool
 has_digest (forms.Digests digests) d = contains (slice_cmp nat_cmp) digests d
 has_digest (forms.Firsts places) d = is_some (get (slice_cmp nat_cmp) places d)
 
--- whether the digests of what was written have this one
+-- whether the digests of the forms of what was written have this one
 abbrev pub knows : Kept → List ℕ → Bool
 knows kept d = has_digest kept.forms d
 
@@ -110,41 +122,45 @@ CountsOne old new = (new.count ≡ old.count + 1) × (new.forms ≡ old.forms)
 abbrev pub with_form : (List ℕ → Bool) → List ℕ → List ℕ → Bool
 with_form known form d = cond (bytes_eq (digest_of form) d) true (known d)
 
--- the form, unless its digest is known
-abbrev pub if_new : (List ℕ → Bool) → List ℕ → List (List ℕ)
-if_new known form = cond (known (digest_of form)) [] (form ∷ [])
+-- the same of what is made
+abbrev pub with_made : (List ℕ → Bool) → Made → List ℕ → Bool
+with_made known m = with_form known m.form
 
--- forms in the order of their arrival, without those whose digest is known or came before
-abbrev pub first_forms : (List ℕ → Bool) → List (List ℕ) → List (List ℕ)
-first_forms known [] = []
-first_forms known (form ∷ forms) = if_new known form ++ first_forms (with_form known form) forms
+-- what is made, unless the digest of its form is known
+abbrev pub if_new : (List ℕ → Bool) → Made → List Made
+if_new known m = cond (known (digest_of m.form)) [] (m ∷ [])
+
+-- what is made, in the order of its arrival, without what has a form whose digest is known or came before
+abbrev pub first_made : (List ℕ → Bool) → List Made → List Made
+first_made known [] = []
+first_made known (m ∷ made) = if_new known m ++ first_made (with_made known m) made
 
 -- documents one behind the other
 abbrev pub joined : List (List ℕ) → List ℕ
 joined documents = flat_map (λ d. d) documents
 
--- the documents that a command keeps of those that it makes: unique those whose digest didn't come before, the others all
-abbrev pub kept_of : Command → (List ℕ → Bool) → List (List ℕ) → List (List ℕ)
-kept_of command.Unique known documents = first_forms known documents
-kept_of _ known documents = documents
+-- what a command keeps of the documents that it makes: unique those whose form's digest didn't come before, the others all
+abbrev pub kept_of : Command → (List ℕ → Bool) → List Made → List Made
+kept_of (command.Unique spelling) known made = first_made known made
+kept_of _ known made = made
 
--- what is written of them
-abbrev pub written_of : Command → (List ℕ → Bool) → List (List ℕ) → List ℕ
-written_of c known documents = joined (kept_of c known documents)
+-- what is written of them, one behind the other
+abbrev pub written_of : Command → (List ℕ → Bool) → List Made → List ℕ
+written_of c known made = flat_map (λ (m : Made). m.bytes) (kept_of c known made)
 
 -- the digests that are known behind these documents
-abbrev pub known_behind : Command → (List ℕ → Bool) → List (List ℕ) → List ℕ → Bool
-known_behind command.Unique known documents = fold with_form known documents
-known_behind _ known documents = known
+abbrev pub known_behind : Command → (List ℕ → Bool) → List Made → List ℕ → Bool
+known_behind (command.Unique spelling) known made = fold with_made known made
+known_behind _ known made = known
 
 -- the repeats among the documents of which a command makes these; unique alone has any
 abbrev pub repeats_of : Command → Firsts → List Placed → List Repeat
-repeats_of command.Unique firsts ps = repeats firsts ps
+repeats_of (command.Unique spelling) firsts ps = repeats firsts ps
 repeats_of _ firsts ps = []
 
 -- the places that are known behind these documents
 abbrev pub firsts_behind : Command → Firsts → List Placed → Firsts
-firsts_behind command.Unique firsts ps = fold with_first firsts ps
+firsts_behind (command.Unique spelling) firsts ps = fold with_first firsts ps
 firsts_behind _ firsts ps = firsts
 
 -- What the code tells of a form that is put to the others. No public contract cites it.

@@ -2,7 +2,7 @@
 #![tactic(auto)]
 
 use crate::batch::Job;
-use crate::command::Command;
+use crate::command::{Command, Spelling};
 use crate::find::most_allowed;
 use crate::pick::Picking;
 use crate::portion::Portion;
@@ -145,6 +145,20 @@ fn printing<'a>(
         ))
 }
 
+fn uniques<'a>(alloc: Global) -> Result<clap::Command<'a>, AllocError> {
+    let repeats =
+        "Names each document whose form came before, with the first of that form; takes 170 bytes a form at most";
+    let command = clap::Command::new(alloc, "unique")
+        .about("Writes each canonical form once; takes 100 bytes of memory a form at most")
+        .arg(switch(alloc, "repeats", repeats))?
+        .arg(switch(
+            alloc,
+            "as-is",
+            "Writes the first document of each form unchanged, in place of the form",
+        ))?;
+    writing(alloc, command)
+}
+
 fn documents_as_json<'a>(alloc: Global) -> Result<clap::Command<'a>, AllocError> {
     let command = clap::Command::new(alloc, "json").about(
         "Writes each document without damage as MongoDB Extended JSON v2, a line each",
@@ -208,11 +222,6 @@ pub fn command_line<'a>(alloc: Global) -> Result<clap::Command<'a>, AllocError> 
     let sound = clap::Command::new(alloc, "sound").about(
         "Writes each document without damage, unchanged",
     );
-    let unique = clap::Command::new(alloc, "unique").about(
-        "Writes each canonical form once; takes 100 bytes of memory a form at most",
-    );
-    let repeats =
-        "Names each document whose form came before, with the first of that form; takes 170 bytes a form at most";
     clap::Command::new(alloc, "bsonraw-dump")
         .bin_name("bsonraw-dump")?
         .version(VERSION)
@@ -224,7 +233,7 @@ pub fn command_line<'a>(alloc: Global) -> Result<clap::Command<'a>, AllocError> 
         .subcommand(fields(alloc)?)?
         .subcommand(writing(alloc, canon)?)?
         .subcommand(writing(alloc, sound)?)?
-        .subcommand(writing(alloc, unique.arg(switch(alloc, "repeats", repeats))?)?)?
+        .subcommand(uniques(alloc)?)?
         .subcommand(documents_as_json(alloc)?)?
         .subcommand(picks(alloc)?)?
         .subcommand(texts(alloc)?)
@@ -264,6 +273,14 @@ fn limits_of(matches: &ArgMatches<'_>) -> Limits {
     }
 }
 
+fn spelling_of(matches: &ArgMatches<'_>) -> Spelling {
+    if matches.get_flag("as-is") {
+        Spelling::Original
+    } else {
+        Spelling::Canonical
+    }
+}
+
 fn picking_of<'a>(matches: &ArgMatches<'a>) -> Picking<'a> {
     Picking {
         paths: matches.get_str("PATHS").unwrap_or(""),
@@ -292,9 +309,11 @@ fn task_of<'a>(
 ) -> Result<Task<'a>, Error> {
     let output = match command {
         Command::Check | Command::List | Command::Count | Command::Fields => None,
-        Command::Canon | Command::Sound | Command::Unique | Command::Json(_) | Command::Pick(_) => {
-            matches.get_str("output").filter(|name| *name != "-")
-        }
+        Command::Canon
+        | Command::Sound
+        | Command::Unique(_)
+        | Command::Json(_)
+        | Command::Pick(_) => { matches.get_str("output").filter(|name| *name != "-") }
     };
     let style = match command {
         Command::List | Command::Fields => Style::Words,
@@ -302,7 +321,7 @@ fn task_of<'a>(
         | Command::Count
         | Command::Canon
         | Command::Sound
-        | Command::Unique
+        | Command::Unique(_)
         | Command::Json(_)
         | Command::Pick(_) => style_of(matches),
     };
@@ -311,7 +330,7 @@ fn task_of<'a>(
             command,
             style,
             resync: matches.get_flag("resync"),
-            repeats: matches!(command, Command::Unique) && matches.get_flag("repeats"),
+            repeats: matches!(command, Command::Unique(_)) && matches.get_flag("repeats"),
             limit: match command {
                 Command::List | Command::Fields => None,
                 _ => matches.get_one("limit"),
@@ -375,7 +394,8 @@ pub fn parsed<'a>(alloc: Global, words: &'a [String]) -> Result<Option<Task<'a>>
         return Ok(Some(task_of(alloc, Command::Sound, inner)?));
     }
     if let Some(inner) = matches.subcommand_matches("unique") {
-        return Ok(Some(task_of(alloc, Command::Unique, inner)?));
+        let command = Command::Unique(spelling_of(inner));
+        return Ok(Some(task_of(alloc, command, inner)?));
     }
     if let Some(inner) = matches.subcommand_matches("json") {
         let command = Command::Json(json_style_of(inner));

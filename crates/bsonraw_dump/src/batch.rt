@@ -294,7 +294,7 @@ fn put_counts<W: Write>(
         Command::List
         | Command::Canon
         | Command::Sound
-        | Command::Unique
+        | Command::Unique(_)
         | Command::Fields
         | Command::Json(_)
         | Command::Pick(_) => put(report, b""),
@@ -321,7 +321,7 @@ fn put_all_counts<W: Write>(
         | Command::Count
         | Command::Canon
         | Command::Sound
-        | Command::Unique
+        | Command::Unique(_)
         | Command::Json(_)
         | Command::Pick(_) => put_summary(
             alloc,

@@ -7,6 +7,15 @@ ghost use Rattle.bsonraw_dump.specs.Binary.{MakesBson, MakesNoBson};
 use crate::pick::Picking;
 use bson_json::Style;
 
+/// What `unique` writes of a document.
+#[derive(Clone, Copy)]
+pub enum Spelling {
+    /// its canonical form
+    Canonical,
+    /// its bytes, as they are
+    Original,
+}
+
 /// What is asked of the documents of an input.
 #[derive(Clone, Copy)]
 pub enum Command<'a> {
@@ -20,8 +29,8 @@ pub enum Command<'a> {
     Canon,
     /// each without damage, unchanged
     Sound,
-    /// the canonical form of each without damage, where it is the first with its digest
-    Unique,
+    /// of each without damage the canonical form, or the bytes as they are, where its form is the first with its digest
+    Unique(Spelling),
     /// what the elements of all have under each path
     Fields,
     /// each without damage as Extended JSON, with a line feed behind it
@@ -36,7 +45,7 @@ impl Command<'_> {
         ensures { MatchBool result (MakesBson self.entry) (MakesNoBson self.entry) }
     {
         match self {
-            Command::Canon | Command::Sound | Command::Unique => true,
+            Command::Canon | Command::Sound | Command::Unique(_) => true,
             Command::Pick(picking) => picking.style.is_none(),
             Command::Check | Command::List | Command::Count | Command::Fields | Command::Json(_) =>
                 false,

@@ -189,7 +189,11 @@ fn start(rt: &HostRuntime, task: &Task<'_>) -> Status {
         }
         Some(Command::List) => each(rt, task, &mut io::sink(), &mut out).status,
         Some(
-            Command::Canon | Command::Sound | Command::Unique | Command::Json(_) | Command::Pick(_),
+            Command::Canon
+            | Command::Sound
+            | Command::Unique(_)
+            | Command::Json(_)
+            | Command::Pick(_),
         )
         | None => each(rt, task, &mut out, &mut rt.stderr()).status,
     }

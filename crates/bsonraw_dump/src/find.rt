@@ -98,7 +98,7 @@ pub fn judged<'a>(
         | Command::List
         | Command::Canon
         | Command::Sound
-        | Command::Unique
+        | Command::Unique(_)
         | Command::Fields
         | Command::Json(_)
         | Command::Pick(_) => find(alloc, limits, bytes),

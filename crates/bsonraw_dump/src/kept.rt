@@ -22,7 +22,7 @@ pub struct Origin<'a> {
     pub offset: u64,
 }
 
-/// The digests of the forms that were written, in 32 bytes.
+/// The digests of the forms of what was written, in 32 bytes.
 #[derive(Drop)]
 enum Forms<'a> {
     /// no more than them

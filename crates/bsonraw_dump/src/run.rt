@@ -15,7 +15,7 @@ ghost use Rattle.bsonraw_dump.specs.Portion.{EndsPortion, HaltsPortion, PassesPo
 ghost use Rattle.bsonraw_dump.specs.Listing.{ListsDocument};
 ghost use Rattle.bsonraw_dump.specs.Fields.{CountsFields, IsCounted, KeepsWritten};
 ghost use Rattle.bsonraw_dump.specs.Find.{Account, account_of};
-ghost use Rattle.bsonraw_dump.specs.Unique.{CountsOne, knows, origin_of, repeat_at, written_of};
+ghost use Rattle.bsonraw_dump.specs.Unique.{CountsOne, knows, made_as, origin_of, repeat_at, written_of};
 ghost use Rattle.bsonraw_dump.specs.Told.{ending_line, line, summary_line};
 ghost use Rattle.bsonraw_dump.specs.Run.{Emits, FailsAt, IsLeft, IsReading, Leaves, MayPassFront, MayPassOne, PassesGap, PassesNext, Puts, Reports, WritesNothing, findings_of, head_text, lines_of_repeats, style_at};
 ghost use Rattle.bsonraw_dump.specs.Run as says;
@@ -24,8 +24,9 @@ ghost use Rattle.raw_view.specs.Frame.Envelope.{IsEnvelope};
 ghost use Rattle.bson_json.specs.Json.{IsJson};
 ghost use Rattle.bson_json.specs.Written.{AppendsFront};
 ghost use Rattle.bsonraw_dump.specs.declared.command.Command.TheVariants.{Unique};
+ghost use Rattle.bsonraw_dump.specs.declared.command.Spelling as spells;
 
-use crate::command::Command;
+use crate::command::{Command, Spelling};
 use crate::counts::Counts;
 use crate::ending::{Ending, Rest};
 use crate::failure::{Failure, ReadFailure, in_range};
@@ -483,7 +484,7 @@ fn report_found<W: Write>(
         | (
             Command::Canon
             | Command::Sound
-            | Command::Unique
+            | Command::Unique(_)
             | Command::Json(_)
             | Command::Pick(_)
             | Command::Count
@@ -675,16 +676,17 @@ fn emit<'a, D: Write>(
             Ok(None)
         }
         (Command::Sound, Finding::Canonical | Finding::Breached) => {
-            put_document(command, origin, bytes, out, kept)
+            put_document(command, origin, bytes, bytes, out, kept)
         }
-        (Command::Canon | Command::Unique, Finding::Canonical) => {
-            put_document(command, origin, bytes, out, kept)
+        (Command::Canon | Command::Unique(_), Finding::Canonical) => {
+            put_document(command, origin, bytes, bytes, out, kept)
         }
         (Command::Canon, Finding::Breached) => {
             put_form(alloc, Command::Canon, limits, origin, bytes, out, kept)
         }
-        (Command::Unique, Finding::Breached) => {
-            put_form(alloc, Command::Unique, limits, origin, bytes, out, kept)
+        (Command::Unique(spelling), Finding::Breached) => {
+            let command = Command::Unique(spelling);
+            put_form(alloc, command, limits, origin, bytes, out, kept)
         }
         (Command::Json(style), Finding::Canonical | Finding::Breached) => {
             put_json(alloc, style, limits, bytes, out, kept)?;
@@ -697,7 +699,8 @@ fn emit<'a, D: Write>(
     }
 }
 
-/// Writes the canonical form of a document. The one that is over the range of lengths counts as one without memory.
+/// Writes the canonical form of a document, or of `unique` the document as it is, where that is asked for. A form that is over the range
+/// of lengths counts as one without memory.
 fn put_form<'a, D: Write>(
     alloc: Global,
     command: Command<'_>,
@@ -708,16 +711,39 @@ fn put_form<'a, D: Write>(
     kept: &mut Kept<'a>,
 ) -> Result<Option<Origin<'a>>, Failure>
     ensures written { IfOk result (λ first. (form : List ℕ) × IsCanonicalForm bytes.now form
-        × Puts command.entry origin.entry (form ∷ []) (D.contents out.old) (D.contents out.new) kept.old kept.new first) }
+        × Puts command.entry origin.entry (made_as (says.spelled command.entry bytes.now form) form ∷ []) (D.contents out.old) (D.contents out.new) kept.old kept.new first) }
     ensures front { OnErr result (WritesFront
-        (λ text. (form : List ℕ) × IsCanonicalForm bytes.now form × (text ≡ written_of command.entry (knows kept.old) (form ∷ [])))
+        (λ text. (form : List ℕ) × IsCanonicalForm bytes.now form
+        × (text ≡ written_of command.entry (knows kept.old) (made_as (says.spelled command.entry bytes.now form) form ∷ [])))
         (D.contents out.old) (D.contents out.new)) }
     ensures paths { kept.new.paths ≡ kept.old.paths }
     ensures failed { IfErr result (λ failure. ¬ IsReading failure) }
 {
     match canonical_within(alloc, bytes, limits) {
-        Ok(form) => put_document(command, origin, &form, out, kept),
+        Ok(form) => {
+            let form = form.as_slice();
+            let document = spelled(command, bytes, form);
+            put_document(command, origin, document, form, out, kept)
+        }
         Err(_) => Err(Failure::Memory),
+    }
+}
+
+/// What is written of a document with this canonical form.
+fn spelled<'a>(command: Command<'_>, bytes: &'a [u8], form: &'a [u8]) -> &'a [u8]
+    ensures { result.now ≡ says.spelled command.entry bytes.now form.now }
+{
+    match command {
+        Command::Unique(Spelling::Original) => bytes,
+        Command::Unique(Spelling::Canonical)
+        | Command::Check
+        | Command::List
+        | Command::Count
+        | Command::Canon
+        | Command::Sound
+        | Command::Fields
+        | Command::Json(_)
+        | Command::Pick(_) => form,
     }
 }
 
@@ -779,23 +805,24 @@ fn put_picked<D: Write>(
     }
 }
 
-/// Writes a document that the command makes of one at this place: of `unique` where its digest is new. Returns the place of the first
-/// document with its digest, if one came before.
+/// Writes a document that the command makes of one at this place: of `unique` where the digest of its form is new. Returns the place of
+/// the first document with that digest, if one came before.
 fn put_document<'a, D: Write>(
     command: Command<'_>,
     origin: Origin<'a>,
     document: &[u8],
+    form: &[u8],
     out: &mut D,
     kept: &mut Kept<'a>,
 ) -> Result<Option<Origin<'a>>, Failure>
     ensures written { IfOk result
-        (Puts command.entry origin.entry (document.now ∷ []) (D.contents out.old) (D.contents out.new) kept.old kept.new) }
-    ensures front { OnErr result (AppendsFront (D.contents out.old) (D.contents out.new) (written_of command.entry (knows kept.old) (document.now ∷ []))) }
+        (Puts command.entry origin.entry (made_as document.now form.now ∷ []) (D.contents out.old) (D.contents out.new) kept.old kept.new) }
+    ensures front { OnErr result (AppendsFront (D.contents out.old) (D.contents out.new) (written_of command.entry (knows kept.old) (made_as document.now form.now ∷ []))) }
     ensures paths { kept.new.paths ≡ kept.old.paths }
     ensures failed { IfErr result (λ failure. ¬ IsReading failure) }
 {
     match command {
-        Command::Unique => put_new(origin, document, out, kept),
+        Command::Unique(_) => put_new(origin, document, form, out, kept),
         Command::Check
         | Command::List
         | Command::Count
@@ -822,20 +849,22 @@ fn put_one<D: Write>(bytes: &[u8], out: &mut D, kept: &mut Kept<'_>) -> Result<(
     kept.count_one()
 }
 
-/// Writes a document whose digest is new, which is known then. Of another it returns the place of the first with its digest.
+/// Writes a document whose form has a new digest, which is known then. Of another it returns the place of the first with its digest.
 fn put_new<'a, D: Write>(
     origin: Origin<'a>,
     document: &[u8],
+    form: &[u8],
     out: &mut D,
     kept: &mut Kept<'a>,
 ) -> Result<Option<Origin<'a>>, Failure>
-    ensures written { IfOk result
-        (Puts Unique origin.entry (document.now ∷ []) (D.contents out.old) (D.contents out.new) kept.old kept.new) }
-    ensures front { OnErr result (AppendsFront (D.contents out.old) (D.contents out.new) (written_of Unique (knows kept.old) (document.now ∷ []))) }
+    ensures written { IfOk result (λ first. (spelling : spells.Spelling)
+        → Puts (Unique spelling) origin.entry (made_as document.now form.now ∷ []) (D.contents out.old) (D.contents out.new) kept.old kept.new first) }
+    ensures front { OnErr result ((spelling : spells.Spelling)
+        → AppendsFront (D.contents out.old) (D.contents out.new) (written_of (Unique spelling) (knows kept.old) (made_as document.now form.now ∷ []))) }
     ensures paths { kept.new.paths ≡ kept.old.paths }
     ensures failed { IfErr result (λ failure. ¬ IsReading failure) }
 {
-    match kept.add(origin, document)? {
+    match kept.add(origin, form)? {
         Added::New => {
             put_one(document, out, kept)?;
             Ok(None)

@@ -40,7 +40,11 @@ fn push_kept(
 {
     match command {
         Command::Check | Command::List | Command::Count | Command::Fields => Ok(()),
-        Command::Canon | Command::Sound | Command::Unique | Command::Json(_) | Command::Pick(_) => {
+        Command::Canon
+        | Command::Sound
+        | Command::Unique(_)
+        | Command::Json(_)
+        | Command::Pick(_) => {
             push(all, "kept", kept)?;
             push(all, "left out", counts.documents.saturating_sub(kept))
         }
@@ -60,7 +64,7 @@ fn push_breached(
         Command::List
         | Command::Count
         | Command::Sound
-        | Command::Unique
+        | Command::Unique(_)
         | Command::Fields
         | Command::Json(_)
         | Command::Pick(_) => Ok(()),
@@ -81,7 +85,7 @@ fn push_damaged(
         | Command::List
         | Command::Canon
         | Command::Sound
-        | Command::Unique
+        | Command::Unique(_)
         | Command::Fields
         | Command::Json(_)
         | Command::Pick(_) => {

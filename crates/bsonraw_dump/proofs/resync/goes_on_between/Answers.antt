@@ -1,5 +1,4 @@
 use Rattle.std.proofs.Common.{refl, not}
-use Rattle.raw_resync.specs.declared.search.Sought.TheVariants as sought
 use Rattle.bsonraw_dump.proofs.Deciding.{inside_found, inside_none, places, sought_none, sought_on}
 use Rattle.bsonraw_dump.proofs.Skipping.{not_true, seeks_ahead}
 use Rattle.bsonraw_dump.proofs.resync.goes_on_between.Goals as goal

@@ -1,4 +1,4 @@
-use Rattle.std.proofs.Common.{rules, ◌≡◌, ◌⊎◌, ℕ, List, [], ◌∷◌, None, refl, subst, sym}
+use Rattle.std.proofs.Common.{rules, ◌≡◌, ◌⊎◌, ℕ, List, [], None, refl, subst, sym}
 use Rattle.std.proofs.lemmas.Result.{IfOk-weaker}
 use Rattle.raw_tree.specs.CanonicalForm.{IsCanonicalForm}
 use Rattle.bsonraw_dump.specs.declared.command.Command.TheVariants as command
@@ -7,7 +7,7 @@ use Rattle.bsonraw_dump.specs.Fronts.{WritesFront}
 use Rattle.bsonraw_dump.specs.Halting.{IsMade}
 use Rattle.bsonraw_dump.specs.Run.{Emits, Makes, Puts}
 use Rattle.bsonraw_dump.proofs.Fronts.{on_any, on_err}
-use Rattle.bsonraw_dump.proofs.Writing.{IsFormWritten, form_made_canon, form_made_unique, json_emitted, json_made, nothing_emitted, picked_emitted, picked_made}
+use Rattle.bsonraw_dump.proofs.Writing.{IsFormWritten, form_made, form_made_canon, form_made_unique, json_emitted, json_made, nothing_emitted, picked_emitted, picked_made}
 use Rattle.bsonraw_dump.proofs.run.emit.Goals as goal
 use Rattle.bsonraw_dump.proofs.run.emit.Goals.{in-Check-1, in-Sound+in-Damaged-1, in-Canon+in-Damaged-1, in-Unique+in-Damaged-1, in-Json+in-Damaged-1, in-Pick+in-Damaged-1}
 
@@ -73,10 +73,12 @@ returns-in-Unique-Breached-clause-front g c =
     let b = c.args.bytes.now in
     let old = g.D.Write.contents c.args.out.now in
     let new = g.D.Write.contents c.put_form-in-Unique-Breached.new.out in
+    let unique = command.Unique c.in-Unique-Breached.spelling in
     let k = c.args.kept.now in
-    on_err c.put_form-in-Unique-Breached.result (WritesFront (IsFormWritten command.Unique b k) old new) (WritesFront (IsMade c.args.command b c.args.finding k) old new)
+    on_err c.put_form-in-Unique-Breached.result (WritesFront (IsFormWritten unique b k) old new) (WritesFront (IsMade c.args.command b c.args.finding k) old new)
     (λ front. subst (λ x. WritesFront (IsMade x b c.args.finding k) old new) (sym c.in-Unique-Breached.is-0)
-    (subst (λ x. WritesFront (IsMade command.Unique b x k) old new) (sym c.in-Unique-Breached.is-1) (form_made_unique b k old new front))) c.put_form-in-Unique-Breached.ensures.front
+    (subst (λ x. WritesFront (IsMade unique b x k) old new) (sym c.in-Unique-Breached.is-1) (form_made_unique c.in-Unique-Breached.spelling b k old new front)))
+    c.put_form-in-Unique-Breached.ensures.front
 
 pub returns-in_ok-put-in-Check-default-clause-written : goal.returns-in_ok-put-in-Check-default-clause-written
 returns-in_ok-put-in-Check-default-clause-written g c =
@@ -105,10 +107,10 @@ returns-in-Canon-Breached-clause-written g c =
     let new = g.D.Write.contents c.put_form.new.out in
     let k = c.args.kept.now in
     let k' = c.put_form.new.kept in
-    IfOk-weaker c.put_form.result (λ first. (form : List ℕ) × IsCanonicalForm b form × Puts command.Canon at (form ∷ []) old new k k' first)
+    IfOk-weaker c.put_form.result (λ first. (form : List ℕ) × IsCanonicalForm b form × Puts command.Canon at (form_made command.Canon b form) old new k k' first)
     (λ first. Emits c.args.command at b f old new k k' first)
     (λ first h. subst (λ x. Emits x at b f old new k k' first) (sym c.in-Canon-Breached.is-0)
-    (subst (λ x. Emits command.Canon at b x old new k k' first) (sym c.in-Canon-Breached.is-1) (h.0 ∷ [], (h.0, h.1, refl), h.2))) c.put_form.ensures.written
+    (subst (λ x. Emits command.Canon at b x old new k k' first) (sym c.in-Canon-Breached.is-1) (form_made command.Canon b h.0, (h.0, h.1, refl), h.2))) c.put_form.ensures.written
 
 pub returns-in-Unique-Breached-clause-written : goal.returns-in-Unique-Breached-clause-written
 returns-in-Unique-Breached-clause-written g c =
@@ -119,7 +121,8 @@ returns-in-Unique-Breached-clause-written g c =
     let new = g.D.Write.contents c.put_form-in-Unique-Breached.new.out in
     let k = c.args.kept.now in
     let k' = c.put_form-in-Unique-Breached.new.kept in
-    IfOk-weaker c.put_form-in-Unique-Breached.result (λ first. (form : List ℕ) × IsCanonicalForm b form × Puts command.Unique at (form ∷ []) old new k k' first)
+    let unique = command.Unique c.in-Unique-Breached.spelling in
+    IfOk-weaker c.put_form-in-Unique-Breached.result (λ first. (form : List ℕ) × IsCanonicalForm b form × Puts unique at (form_made unique b form) old new k k' first)
     (λ first. Emits c.args.command at b f old new k k' first)
     (λ first h. subst (λ x. Emits x at b f old new k k' first) (sym c.in-Unique-Breached.is-0)
-    (subst (λ x. Emits command.Unique at b x old new k k' first) (sym c.in-Unique-Breached.is-1) (h.0 ∷ [], (h.0, h.1, refl), h.2))) c.put_form-in-Unique-Breached.ensures.written
+    (subst (λ x. Emits unique at b x old new k k' first) (sym c.in-Unique-Breached.is-1) (form_made unique b h.0, (h.0, h.1, refl), h.2))) c.put_form-in-Unique-Breached.ensures.written

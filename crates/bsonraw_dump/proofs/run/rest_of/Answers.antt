@@ -2,7 +2,6 @@ use Rattle.std.proofs.Common.{None, subst, sym}
 use Rattle.bsonraw_dump.specs.Cut.{EndsWith}
 use Rattle.bsonraw_dump.specs.Reading.{IsReadBehind, ReadsRest, ahead_of}
 use Rattle.bsonraw_dump.specs.Run.{IsLeft}
-use Rattle.bsonraw_dump.specs.declared.ending.Ending.TheVariants as ending
 use Rattle.bsonraw_dump.proofs.Stopping.{if_ok, left_cut, left_unsound}
 use Rattle.bsonraw_dump.proofs.run.rest_of.Goals as goal
 
