@@ -49,7 +49,7 @@ pub(crate) fn short_text(bytes: &[u8], len: usize) -> Option<&str>
     Some(ascii_text(bytes.split_at(len).0))
 }
 
-/// The text of bytes that aren't all ASCII. A fault in a long one is told by `std`, which reads it once more.
+/// The text of bytes that needn't be ASCII. A fault in a long one is told by `std`, which reads it once more.
 #[inline(never)]
 fn wide_text(bytes: &[u8]) -> Result<&str, Utf8Error>
     ensures text { IfOk result (λ text. (text.now ≡ bytes.now) × IsUtf8 bytes.now) }
@@ -82,8 +82,12 @@ pub(crate) fn front_text(bytes: &[u8], len: usize) -> Result<&str, Utf8Error>
     ensures text { IfOk result (λ text. (text.now ≡ take len bytes.now) × IsUtf8 text.now) }
     ensures fault { OnErr result (¬ IsUtf8 (take len bytes.now)) }
 {
+    let front = bytes.split_at(len).0;
+    if LANES < len {
+        return text_from(front);
+    }
     match short_text(bytes, len) {
         Some(text) => Ok(text),
-        None => text_from(bytes.split_at(len).0),
+        None => wide_text(front),
     }
 }
