@@ -23,10 +23,10 @@ What each edit came to:
 The first is well, the second is told, so that somebody mends the edit, and the others fail the run. Each verdict but bad is
 kept at once in ~/.cache/foyeranise, by a checksum of all that it rests on, and --anew ignores these. The proofs that edits
 are tried over go on from what `rt check` left in the crates' out/, but with --from-nothing. With --beside, a run of `rt ci` in
-this folder proves the crates as they are: the edits of a crate begin once the file that is named says so, over the
-libraries that the run left, and only the edited functions are proved. A function of the crate that is not edited, and that the
-run noted as proved, has a hole for its proof: of what an edited one calls, its proof needs the contract alone. So what has no
-complaint, and depends on such a hole alone, is still proved. --leave leaves what the check of
+this folder proves the crates as they are: the edits of a crate begin once the file that is named says that those below it are
+proved, over the libraries that the run left, and only the edited functions are proved. A function of the crate that is not
+edited has a hole for its proof, where its source tells its name: of what an edited one calls, its proof needs the contract
+alone. So what has no complaint, and depends on such a hole alone, is still proved. --leave leaves what the check of
 a crate kept, for the crate's build. Two flags prove nothing: --applies sees that each edit applies, and --compiles that
 each edited text compiles, many edits in a copy, over the libraries that `rt check` built.
 """
@@ -64,6 +64,13 @@ pub {name}_spec : {{M : Type 1}} → statement M
 {name}_spec = ?
 """
 
+# the beginning of a block of functions: of a trait, and what it is of, for a type, or of a type alone; of another; and a function
+BLOCK = re.compile(r"impl(?:<.*?>)? (?:(?:\w+::)*(\w+)(?:<(\w+)>)? for )?(\w+)(?:<.*>)? \{")
+OTHER_BLOCK = re.compile(r'(?:unsafe )?impl\b|(?:pub(?:\([^)]*\))? )?trait\b|extern "C" \{|mod \w+ \{|macro_rules')
+FUNCTION = re.compile(r'(    )?(?:pub(?:\([^)]*\))? )?(?:const |unsafe |extern "C" )*fn (\w+)')
+TYPE = re.compile(r"(?m)^(?:pub(?:\([^)]*\))? )?(?:struct|enum) (\w+)")
+TESTS = re.compile(r"#\[cfg\(test\)\]\s+mod (\w+);")
+
 # complaints that a proof names what isn't there any more
 NAMES_LOST = re.compile(r"has no field|is not in scope|has no `|was not admitted|is no name")
 
@@ -88,6 +95,40 @@ def libraries(top):
 
 def static_libraries(top):
     return re.findall(r"(?m)^(\w+) staticlib\b.*:", (top / "crates.txt").read_text())
+
+
+def modules_of(crate):
+    """Returns the texts of a crate's modules, by their paths below it, without those of tests."""
+    texts = {}
+    for file in (crate / "src").rglob("*.rt"):
+        parts = file.relative_to(crate / "src").with_suffix("").parts
+        texts["::".join(it for it in parts if it not in ("lib", "main"))] = file.read_text()
+    tests = [f"{at}::{name}".removeprefix("::") for at, text in texts.items() for name in TESTS.findall(text)]
+    return {at: text for at, text in texts.items() if not any(f"{at}::".startswith(f"{it}::") for it in tests)}
+
+
+def functions_of(crate):
+    """Returns the functions of a crate whose names its source tells, as the prover names them: those in modules, in blocks of the
+    crate's own types, and in blocks of traits for these."""
+    texts, homes, found = modules_of(crate), {}, []
+    for at, text in texts.items():
+        for name in TYPE.findall(text):
+            homes.setdefault(name, []).append(at)
+    for at, text in texts.items():
+        block = at
+        for line in text.splitlines():
+            if head := BLOCK.match(line):
+                trait, of, name = head.groups("")
+                home = [it for it in homes.get(name, []) if trait or it == at] or homes.get(name, [])
+                own = f"{name}{'' if trait == 'Drop' else trait}{of[:1].upper()}{of[1:]}"
+                block = f"{at if trait else home[0]}::{own}" if len(home) == 1 else None
+            elif OTHER_BLOCK.match(line):
+                block = None
+            elif line.startswith("}"):
+                block = at
+            elif block is not None and (function := FUNCTION.match(line)) and bool(function[1]) == (block != at):
+                found.append("::".join([crate.name, *block.split("::"), function[2]]).replace("::::", "::"))
+    return found
 
 
 @dataclasses.dataclass(eq=False)
@@ -233,7 +274,7 @@ class Prover:
 
     def __init__(self, top, jobs, keep, from_nothing, leave=None):
         self.top, self.jobs, self.keep, self.leave, self.checks = top, jobs, keep, leave, 0
-        # crates whose edits are tried over the libraries of a run beside, with the functions that it proved, and the
+        # crates whose edits are tried over the libraries of a run beside, with the functions that it proves, and the
         # libraries that were taken for that
         self.over, self.taken = {}, set()
         self.counting, self.taking = threading.Lock(), threading.Lock()
@@ -326,7 +367,7 @@ class Prover:
         return ran
 
     def put_holes(self, folder, crate, asked):
-        """Puts a hole for the proof of each function that the run beside proved, but for those that are asked for."""
+        """Puts a hole for the proof of each function that the run beside proves, but for those that are asked for."""
         shutil.rmtree(folder / "proofs", ignore_errors=True)
         if (self.top / "crates" / crate / "proofs").is_dir():
             shutil.copytree(self.top / "crates" / crate / "proofs", folder / "proofs")
@@ -533,35 +574,35 @@ def compile_all(top, edits, jobs):
 
 
 class Beside:
-    """A run of `rt ci` in the same folder, which notes each crate in a file as it is proved, behind a line `fn NAME` for each
-    function of it, or as it says that it is kept, with no such line; and a line `.` at its end."""
+    """A run of `rt ci` in the same folder, which notes each crate in a file as it is proved, or kept of an earlier run, and a line `.` at
+    its end."""
 
     def __init__(self, top, file):
         self.top, self.file = top, file
 
     def crates(self, wanted):
-        """Gives these crates, and their functions, each as soon as it is proved and the libraries below it are there."""
-        left = list(wanted)
+        """Gives these crates, each as soon as the libraries below it are proved, and there."""
+        below, left = libraries(self.top), list(wanted)
         while left:
             noted = self.file.read_text().split("\n")[:-1] if self.file.is_file() else []
-            for crate in [it for it in left if it in noted]:
+            for crate in [it for it in left if set(below[it]) <= set(noted)]:
                 left.remove(crate)
-                if all((self.top / "crates" / it / f"out/rlib/{it}.rlib").is_dir() for it in libraries(self.top)[crate]):
-                    yield crate, [it[3:] for it in noted if it.startswith(f"fn {crate}::")]
+                if all((self.top / "crates" / it / f"out/rlib/{it}.rlib").is_dir() for it in below[crate]):
+                    yield crate
             if "." in noted:
                 return
             time.sleep(1)
 
 
 def try_all(top, edits, jobs, at_once, keep, from_nothing, leave, beside):
-    """Tries the edits of each crate as soon as it is proved: by a run beside, or here, with those below it."""
+    """Tries the edits of each crate as soon as those below it are proved by a run beside, or it is proved here, with these."""
     prover = Prover(top, jobs, keep, from_nothing, leave)
     try:
         with concurrent.futures.ThreadPoolExecutor(at_once) as pool:
             start = lambda crate: pool.submit(try_crate, prover, crate, [it for it in edits if it.crate == crate])
             tried, wanted = [], [it for it in libraries(top) if any(edit.crate == it for edit in edits)]
-            for crate, functions in Beside(top, beside).crates(wanted) if beside else ():
-                prover.over[crate] = functions
+            for crate in Beside(top, beside).crates(wanted) if beside else ():
+                prover.over[crate] = functions_of(top / "crates" / crate)
                 tried.append(start(crate))
             tried += prove_and_try(prover, [it for it in wanted if it not in prover.over], edits, start)
             for it in tried:

@@ -38,8 +38,61 @@ pub fn after_next(x: u8) -> u16
 
 NEXT_IS_WRONG = ("x as u16 + 1", "x as u16 + 2")
 
-# what a run of `rt ci` notes of the crate
-PROVED = "fn tiny::next\nfn tiny::after_next\ntiny\n.\n"
+# what a run of `rt ci` notes of the crates
+PROVED = "tiny\n.\n"
+
+NAMES = {
+    "lib.rt": """
+pub mod inner;
+#[cfg(test)]
+mod tests;
+
+pub struct Outer;
+
+impl<'a> From<&'a str> for Outer {
+    fn from(text: &'a str) -> Outer { Outer }
+}
+
+impl Outer {
+    pub(crate) const fn new() -> Outer {
+        fn within() {}
+        Outer
+    }
+}
+
+pub extern "C" fn exported() {}
+
+extern "C" {
+    fn foreign();
+}
+""",
+    "inner.rt": """
+enum Kind { One }
+
+impl fmt::Display for Kind {
+    fn fmt(&self) {}
+}
+
+impl From<bool> for Kind {
+    fn from(is: bool) -> Kind { Kind::One }
+}
+
+impl Drop for Kind {
+    fn drop(&mut self) {}
+}
+
+impl Outer {
+    pub fn other(&self) {}
+}
+
+impl<W: Write> Sink for W {
+    fn accept(&mut self) {}
+}
+
+fn free() {}
+""",
+    "tests.rt": "fn helper() {}\n",
+}
 
 
 def edit(*changes, functions=None):
@@ -92,22 +145,23 @@ class Edits(unittest.TestCase):
         self.assertIn("tiny/after_next_is_the_same: NOT REFUSED", printed)
         self.assertIn("edits: 2 of 3 are refused", printed)
 
-    def test_wrong_bodies_of_a_crate_that_was_kept_are_refused(self):
-        # (the run beside says nothing of its functions)
-        status, printed = self.beside("tiny\n.\n", {
-            "after_next_is_the_same": edit(("next(x) + 1", "1 + next(x)"), functions="after_next"),
-            "after_next_is_wrong": edit(("next(x) + 1", "next(x) + 2"), functions="after_next"),
-        })
-        self.assertEqual(status, 1, printed)
-        self.assertIn("tiny/after_next_is_the_same: NOT REFUSED", printed)
-        self.assertIn("edits: 1 of 2 are refused", printed)
+    def test_functions_are_told_by_the_source(self):
+        for name, text in NAMES.items():
+            (self.top / "crates/tiny/src" / name).write_text(text)
+        wanted = {
+            "Outer::new", "Outer::other", "exported", "inner::Kind::drop", "inner::KindDisplay::fmt", "inner::KindFromBool::from", "inner::free",
+        }
+        self.assertEqual(set(script.functions_of(self.top / "crates/tiny")), {f"tiny::{it}" for it in wanted})
 
-    def test_the_work_of_a_crate_that_the_run_beside_proved_is_left(self):
+    def test_the_work_of_a_crate_that_the_run_beside_proves_is_left(self):
         status, printed = self.leaving(PROVED, {"next_is_wrong": edit(NEXT_IS_WRONG, functions="next")})
         self.assertEqual(status, 0, printed)
         self.assertIn("edits: 1 of 1 are refused", printed)
 
-    def test_a_crate_that_the_run_beside_did_not_prove_is_proved_here(self):
+    def test_a_crate_over_one_that_the_run_beside_did_not_prove_is_proved_here(self):
+        (self.top / "crates/low/src").mkdir(parents=True)
+        (self.top / "crates/low/src/lib.rt").write_text(SOURCE)
+        (self.top / "crates.txt").write_text("low:\ntiny: low\n")
         status, printed = self.leaving(".\n", {
             "next_is_wrong": edit(NEXT_IS_WRONG, functions="next"),
             "after_next_is_wrong": edit(("next(x) + 1", "next(x) + 2"), functions="after_next"),
