@@ -36,10 +36,10 @@ for format in relaxed canonical; do
     cat "$work/said"
 done
 
-# One document that is changed has to be told: the first that has a key.
-sed '0,/"/s/"/"x/' "$work/ours" >"$work/changed"
+# Documents with another first key have to be told.
+sed 's/"/"x/' "$work/ours" >"$work/changed"
 if documents compare "$work/changed" "$work/theirs" >"$work/said"; then
-    echo "json.sh: a document with another key is taken for the same, seed $seed" >&2
+    echo "json.sh: documents with another key are taken for the same, seed $seed" >&2
     failed=1
 fi
 

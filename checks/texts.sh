@@ -36,10 +36,10 @@ if ! "$python" -B checks/json_texts.py compare "$work/made" "$work/ours" "$work/
     exit 1
 fi
 
-# A document with another byte has to be told.
-sed '0,/^0C/s//0D/' "$work/ours" >"$work/changed"
+# Documents with another byte have to be told.
+sed 's/^0C/0D/' "$work/ours" >"$work/changed"
 if "$python" -B checks/json_texts.py compare "$work/made" "$work/changed" "$work/libbson" >/dev/null; then
-    echo "texts.sh: another document is taken for the same, seed $seed" >&2
+    echo "texts.sh: other documents are taken for the same, seed $seed" >&2
     exit 1
 fi
 
