@@ -248,11 +248,24 @@ class Said:
 
 @dataclasses.dataclass
 class Checked:
-    """A check's status, what it printed, and how many seconds it took for each function (the first with what is read before)."""
+    """A check's status, what it printed, and how many processor seconds it took, and for each function (the first with what is read
+    before)."""
 
     returncode: int
     stdout: str
     took: dict[str, float]
+    spent: float
+
+
+def spent_by(process):
+    """Returns the processor seconds of a process and of those below it, which have not ended."""
+    at = pathlib.Path("/proc") / str(process)
+    try:
+        ticks = (at / "stat").read_text().rpartition(")")[2].split()[11:15]
+        below = [it for task in (at / "task").iterdir() for it in (task / "children").read_text().split()]
+    except OSError:
+        return 0
+    return sum(map(int, ticks)) / os.sysconf("SC_CLK_TCK") + sum(map(spent_by, below))
 
 
 def take_work(from_top, to_top, crate, *parts, copy=shutil.copy2):
@@ -310,12 +323,15 @@ class Prover:
                 words += ["--crate-type", "staticlib"]
         how = {"cwd": copy / "crates" / crate, "text": True, "errors": "replace", "stdin": subprocess.DEVNULL}
         with subprocess.Popen(words, stdout=subprocess.PIPE, stderr=subprocess.STDOUT, **how) as ran:
-            lines, took, begun = [], {}, time.monotonic()
+            lines, took, before = [], {}, 0
             for line in ran.stdout:
                 lines.append(line)
                 if at := re.match(r"checked (\S+), \d+ of \d+", line):
-                    took[at[1]], begun = time.monotonic() - begun, time.monotonic()
-        return Checked(ran.returncode, "".join(lines), took)
+                    now = spent_by(ran.pid)
+                    took[at[1]], before = now - before, now
+            _, status, used = os.wait4(ran.pid, 0)
+            ran.returncode = os.waitstatus_to_exitcode(status)
+        return Checked(ran.returncode, "".join(lines), took, used.ru_utime + used.ru_stime)
 
     def prove(self, crate):
         """Proves the crate as it is, and returns whether that went well."""
@@ -436,11 +452,10 @@ def judge(edit, said, edited):
 
 def try_round(prover, crate, now, texts):
     """Checks these edits at once, and judges each."""
-    begun = time.monotonic()
     ran = prover.check_edited(crate, texts, "--allow-holes", *prover.only(crate, now))
     dearest = sorted(ran.took, key=ran.took.get)[:-4:-1]
     print(
-        f"    {crate}: {len(now)} edits in a check of {time.monotonic() - begun:.0f} s, most in",
+        f"    {crate}: {len(now)} edits in a check of {ran.spent:.0f} processor seconds, most in",
         ", ".join(f"{it.removeprefix(crate + '::')} {ran.took[it]:.0f}" for it in dearest),
         flush=True,
     )

@@ -9,7 +9,7 @@ use Rattle.std.specs.Char.{digit_value}
 use Rattle.std.specs.Str.Parse.{AllDigits, digits_value, digits_value_after}
 use Rattle.fast_float.specs.Text.{Parts, scan, digits_of}
 use Rattle.bson_from_json.specs.DecimalTexts.{IsExactly, IsPreferred, IsWord, WritesBits, WritesFinite, distance}
-use Rattle.bson_from_json.specs.Digits.{HasRoom, IsTooLong}
+use Rattle.bson_from_json.specs.Digits.{FitsDecimal128, FitsNoDecimal128}
 
 pub tens : (i j : ℕ) → i ≤ j → 10 ^ i ≤ 10 ^ j
 tens i j le = pow-le-pow_right (lit< tt) le
@@ -126,7 +126,7 @@ module _ (d a k up down : ℕ) (is : d ≡ a * 10 ^ k) where
       → distance (up + 6176) (n + down) ≤ distance (up + 6176) (m + down)
   nearest_of n m p q r = omega arith
 
-  pub preferred_with_zeros : HasRoom a k → (c n : ℕ) → IsPreferred a (up + k) down c n → IsPreferred d up down c n
+  pub preferred_with_zeros : FitsDecimal128 a k → (c n : ℕ) → IsPreferred a (up + k) down c n → IsPreferred d up down c n
   preferred_with_zeros room c n p = record {
     exact = with_zeros c n p.exact;
     nearest = λ other m e.
@@ -195,7 +195,7 @@ some_there a up down none =
       | inr some ↦ some
     ]
 
-module _ (d a k : ℕ) {up down up' down' : ℕ} (is : d ≡ a * 10 ^ k) (room : HasRoom a k) where
+module _ (d a k : ℕ) {up down up' down' : ℕ} (is : d ≡ a * 10 ^ k) (room : FitsDecimal128 a k) where
   pub preferred : Reaches up down k up' down' → (c n : ℕ) → IsPreferred a up' down' c n → IsPreferred d up down c n
   preferred (inl (e, f)) c n p = preferred_with_zeros d a k up down is room c n (subst (λ (x : ℕ). IsPreferred a x down c n) e (subst (λ (x : ℕ). IsPreferred a up' x c n) f p))
   preferred (inr (inl (far, far'))) c n p =
@@ -230,7 +230,7 @@ reaches_down x e k k' f same few short is =
       | inr far ↦ inr (inr (omega arith, omega arith))
     ]
 
-pub moved : (a k up down up' down' : ℕ) → HasRoom a k → Reaches up down k up' down' → (o : Option (ℕ × ℕ)) → IfSome o (λ r. IsPreferred a up' down' r.0 r.1)
+pub moved : (a k up down up' down' : ℕ) → FitsDecimal128 a k → Reaches up down k up' down' → (o : Option (ℕ × ℕ)) → IfSome o (λ r. IsPreferred a up' down' r.0 r.1)
     → IfSome o (λ r. IsPreferred (a * 10 ^ k) up down r.0 r.1)
 moved a k up down up' down' room reaches None p = tt
 moved a k up down up' down' room reaches (Some r) p = preferred (a * 10 ^ k) a k refl room reaches r.0 r.1 p
@@ -269,15 +269,15 @@ after_rest n (d ∷ ds) zero = refl
 after_rest n (d ∷ ds) (suc i) = after_rest (n * 10 + digit_value d) ds i
 
 -- a digit that there is no room for
-pub full_too_long : (a k digit : ℕ) → 10 ^ 33 ≤ a → 0 < digit → digit < 10 → IsTooLong (a * 10 ^ k * 10 + digit)
+pub full_too_long : (a k digit : ℕ) → 10 ^ 33 ≤ a → 0 < digit → digit < 10 → FitsNoDecimal128 (a * 10 ^ k * 10 + digit)
 full_too_long a k digit full some one c zero few e = omega (arith, at_least a k)
 full_too_long a k digit full some one c (suc j) few e = omega (arith, one_more c j)
 
-too_long_digit : (v digit : ℕ) → digit < 10 → IsTooLong v → IsTooLong (v * 10 + digit)
+too_long_digit : (v digit : ℕ) → digit < 10 → FitsNoDecimal128 v → FitsNoDecimal128 (v * 10 + digit)
 too_long_digit v digit one long c zero few e = long v 0 (omega arith) (omega arith)
 too_long_digit v digit one long c (suc j) few e = long c j few (omega (arith, one_more c j))
 
-too_long_after : (v : ℕ) (ds : List ℕ) → AllDigits 10 ds → IsTooLong v → IsTooLong (digits_value_after 10 v ds)
+too_long_after : (v : ℕ) (ds : List ℕ) → AllDigits 10 ds → FitsNoDecimal128 v → FitsNoDecimal128 (digits_value_after 10 v ds)
 too_long_after v [] h long = long
 too_long_after v (d ∷ ds) h long = too_long_after (v * 10 + digit_value d) ds h.1 (too_long_digit v (digit_value d) h.0 long)
 
@@ -287,10 +287,10 @@ all_behind [] (suc i) h = h
 all_behind (d ∷ ds) zero h = h
 all_behind (d ∷ ds) (suc i) h = all_behind ds i h.1
 
-pub too_long_whole : (n : ℕ) (ds : List ℕ) (i : ℕ) → AllDigits 10 ds → IsTooLong (digits_value_after 10 n (take i ds)) → IsTooLong (digits_value_after 10 n ds)
-too_long_whole n ds i h long = subst IsTooLong (sym (after_rest n ds i)) (too_long_after (digits_value_after 10 n (take i ds)) (drop i ds) (all_behind ds i h) long)
+pub too_long_whole : (n : ℕ) (ds : List ℕ) (i : ℕ) → AllDigits 10 ds → FitsNoDecimal128 (digits_value_after 10 n (take i ds)) → FitsNoDecimal128 (digits_value_after 10 n ds)
+too_long_whole n ds i h long = subst FitsNoDecimal128 (sym (after_rest n ds i)) (too_long_after (digits_value_after 10 n (take i ds)) (drop i ds) (all_behind ds i h) long)
 
-pub first_room : (a k digit : ℕ) → HasRoom a k → a < 10 ^ 33 → (a * 10 + digit) * 10 ^ 0 ≡ a * 10 ^ k * 10 + digit
+pub first_room : (a k digit : ℕ) → FitsDecimal128 a k → a < 10 ^ 33 → (a * 10 + digit) * 10 ^ 0 ≡ a * 10 ^ k * 10 + digit
 first_room a k digit room less =
     elim (eq-zero-or-pos k) [
       | inl e ↦ subst (λ (x : ℕ). (a * 10 + digit) * 10 ^ 0 ≡ a * 10 ^ x * 10 + digit) (sym e) (omega arith)
@@ -304,18 +304,18 @@ pub above_zero : (n : ℕ) → (n ≡ 0 → ⊥) → 0 < n
 above_zero n some = elim (eq-zero-or-pos n) [ inl e ↦ absurd (some e) | inr p ↦ p ]
 
 pub too_long_at : (n kept : ℕ) (ds : List ℕ) (i : ℕ) → AllDigits 10 ds → i < length ds → digits_value_after 10 n (take i ds) ≡ kept
-    → IsTooLong (kept * 10 + (get_or ds i 0 - 48)) → IsTooLong (digits_value_after 10 n ds)
+    → FitsNoDecimal128 (kept * 10 + (get_or ds i 0 - 48)) → FitsNoDecimal128 (digits_value_after 10 n ds)
 too_long_at n kept ds i h l is long =
-    too_long_whole n ds (i + 1) h (subst IsTooLong (sym (after_more n ds i h l ∙ ap (λ (x : ℕ). x * 10 + (get_or ds i 0 - 48)) is)) long)
+    too_long_whole n ds (i + 1) h (subst FitsNoDecimal128 (sym (after_more n ds i h l ∙ ap (λ (x : ℕ). x * 10 + (get_or ds i 0 - 48)) is)) long)
 
-pub too_long_behind : (xs ys : List ℕ) → AllDigits 10 ys → IsTooLong (digits_value_after 10 0 xs) → IsTooLong (digits_value_after 10 0 (xs ++ ys))
-too_long_behind xs ys h long = subst IsTooLong (sym (after-append 0 xs ys)) (too_long_after (digits_value_after 10 0 xs) ys h long)
+pub too_long_behind : (xs ys : List ℕ) → AllDigits 10 ys → FitsNoDecimal128 (digits_value_after 10 0 xs) → FitsNoDecimal128 (digits_value_after 10 0 (xs ++ ys))
+too_long_behind xs ys h long = subst FitsNoDecimal128 (sym (after-append 0 xs ys)) (too_long_after (digits_value_after 10 0 xs) ys h long)
 
 pub after_both : (xs ys : List ℕ) (n : ℕ) → digits_value_after 10 0 xs ≡ n → digits_value_after 10 0 (xs ++ ys) ≡ digits_value_after 10 n ys
 after_both xs ys n e = after-append 0 xs ys ∙ ap (λ (x : ℕ). digits_value_after 10 x ys) e
 
 -- a number of too many digits is none
-pub none_long : (d up down c n : ℕ) → IsTooLong d → IsExactly d up down c n → ⊥
+pub none_long : (d up down c n : ℕ) → FitsNoDecimal128 d → IsExactly d up down c n → ⊥
 none_long d up down c n long is =
     elim (cases_lt (n + down) (up + 6176)) [
       | inl less ↦ let j = up + 6176 - (n + down) in
@@ -331,12 +331,12 @@ no_bits negative s a b c f bits (inl (inr w, is)) = b w
 no_bits negative s a b c f bits (inr (inl (w, is))) = c w
 no_bits negative s a b c f bits (inr (inr (d, n, w, is))) = f d n w
 
-pub long_finite : (s whole fraction : List ℕ) (p : Parts) → p ≡ scan s → whole ≡ p.whole → fraction ≡ p.fraction → IsTooLong (digits_value 10 (whole ++ fraction))
+pub long_finite : (s whole fraction : List ℕ) (p : Parts) → p ≡ scan s → whole ≡ p.whole → fraction ≡ p.fraction → FitsNoDecimal128 (digits_value 10 (whole ++ fraction))
     → (c n : ℕ) → WritesFinite s c n → ⊥
 long_finite s whole fraction p e f g long c n (d, up, down, w, is) =
     let same : digits_value 10 (whole ++ fraction) ≡ digits_of (scan s) =
     ap (λ (x : List ℕ). digits_value 10 (x ++ fraction)) f ∙ ap (λ (x : List ℕ). digits_value 10 (p.whole ++ x)) g ∙ ap digits_of e in
-    none_long d up down c n (subst IsTooLong (same ∙ sym w.digits) long) is.exact
+    none_long d up down c n (subst FitsNoDecimal128 (same ∙ sym w.digits) long) is.exact
 
 pub on_err : {T E : Type 0} (r : Result T E) {P : Type 0} → P → OnErr r P
 on_err (Ok x) p = tt

@@ -16,7 +16,7 @@ use Rattle.raw_bson.specs.ElementType.{ElementType}
 use Rattle.raw_bson.specs.Kind.{tag_of}
 use Rattle.raw_bson.specs.Payload.{unset}
 use Rattle.bson_from_json.specs.Meaning.{Means, is_wrapper_key}
-use Rattle.bson_from_json.specs.Levels.{before_scope, headed, level_at, array_level, with_len, HasMembers, MayBeIn, bracket, behind_bracket, ended, Rest, ValueIn, levels_of, bytes_of, RestOf, TakesLevel, Closes, TakesValue, Puts, leaf_element, TakesLeaf, SaysBytes}
+use Rattle.bson_from_json.specs.Levels.{before_scope, headed, level_at, array_level, with_len, HasMembers, MayBeIn, bracket, behind_bracket, ended, Rest, ValueIn, levels_of, bytes_of, RestOf, TakesLevel, ClosesBracket, TakesValue, Puts, leaf_element, TakesLeaf, SaysBytes}
 use Rattle.bson_from_json.specs.declared.levels.Holder.{Holder}
 use Rattle.bson_from_json.specs.declared.levels.Holder.TheVariants as holder
 use Rattle.bson_from_json.specs.declared.levels.Level.{Level}
@@ -99,7 +99,7 @@ module _ (old new : Reader) where
 
   -- the end of a level, behind its bracket
   pub end_taken : {mid : Reader} (l : Level) → IsAt mid old.document.levels.items (bytes_of old) mid.source.tokens → old.source.tokens ≡ bracket l.holder ∷ mid.source.tokens
-      → HasMembers l.holder ⊎ (bracket l.holder ≡ Token.end_array) → Closes mid new l → TakesLevel old new l
+      → HasMembers l.holder ⊎ (bracket l.holder ≡ Token.end_array) → ClosesBracket mid new l → TakesLevel old new l
   end_taken {mid} l is e may closes = record {
     made = λ out rest.
         let at = closes.made may out rest in
@@ -109,7 +109,7 @@ module _ (old new : Reader) where
   }
 
   pub closed : (l : Level) (ts : List Token) → IsAt new old.document.levels.items (ended l.holder l.start (bytes_of old ++ 0 ∷ [])) ts
-      → old.source.tokens ≡ behind_bracket l.holder ++ ts → Closes old new l
+      → old.source.tokens ≡ behind_bracket l.holder ++ ts → ClosesBracket old new l
   closed l ts is e = record {
     made = λ may out rest.
         subst (λ (x : List Token). Rest out (l ∷ levels_of old) (bytes_of old) (bracket l.holder ∷ x)) (sym e)
@@ -117,21 +117,21 @@ module _ (old new : Reader) where
   }
 
   pub plain_closed : (l : Level) → ((start : ℕ) → l.holder ≡ holder.Scope start → ⊥) → ((start : ℕ) (code : Bor (List ℕ)) → l.holder ≡ holder.ScopeBeforeCode start code → ⊥)
-      → new.document.levels.items ≡ old.document.levels.items → bytes_of new ≡ with_len l.start (bytes_of old ++ 0 ∷ []) → new.source ≡ old.source → Closes old new l
+      → new.document.levels.items ≡ old.document.levels.items → bytes_of new ≡ with_len l.start (bytes_of old ++ 0 ∷ []) → new.source ≡ old.source → ClosesBracket old new l
   plain_closed l a b levels bytes same =
       let (none, plain) = plain_holder l.holder a b in
       closed l old.source.tokens (record { levels = levels; bytes = bytes ∙ sym (plain l.start (bytes_of old ++ 0 ∷ [])); tokens = ap (λ (x : Source). x.tokens) same })
       (sym (ap (λ (x : List Token). x ++ old.source.tokens) none))
 
   pub scope_closed : {b : List ℕ} (l : Level) (start : ℕ) → l.holder ≡ holder.Scope start → new.document.levels.items ≡ old.document.levels.items
-      → b ≡ with_len l.start (bytes_of old ++ 0 ∷ []) → bytes_of new ≡ with_len start b → old.source.tokens ≡ Token.end_object ∷ new.source.tokens → Closes old new l
+      → b ≡ with_len l.start (bytes_of old ++ 0 ∷ []) → bytes_of new ≡ with_len start b → old.source.tokens ≡ Token.end_object ∷ new.source.tokens → ClosesBracket old new l
   scope_closed {b} l start is levels f bytes e = closed l new.source.tokens
       (record { levels = levels; bytes = bytes ∙ ap (λ (x : List ℕ). with_len start x) f ∙ sym (ap (λ (h : Holder). ended h l.start (bytes_of old ++ 0 ∷ [])) is); tokens = refl })
       (e ∙ sym (ap (λ (h : Holder). behind_bracket h ++ new.source.tokens) is))
 
   pub code_closed : {b : List ℕ} (l : Level) (start : ℕ) (code : Bor (List ℕ)) → l.holder ≡ holder.ScopeBeforeCode start code → new.document.levels.items ≡ old.document.levels.items
       → b ≡ with_len l.start (bytes_of old ++ 0 ∷ []) → bytes_of new ≡ with_len start b
-      → old.source.tokens ≡ Token.key (codes "$code") ∷ Token.string code.now ∷ Token.end_object ∷ new.source.tokens → Closes old new l
+      → old.source.tokens ≡ Token.key (codes "$code") ∷ Token.string code.now ∷ Token.end_object ∷ new.source.tokens → ClosesBracket old new l
   code_closed {b} l start code is levels f bytes e = closed l new.source.tokens
       (record { levels = levels; bytes = bytes ∙ ap (λ (x : List ℕ). with_len start x) f ∙ sym (ap (λ (h : Holder). ended h l.start (bytes_of old ++ 0 ∷ [])) is); tokens = refl })
       (e ∙ sym (ap (λ (h : Holder). behind_bracket h ++ new.source.tokens) is))

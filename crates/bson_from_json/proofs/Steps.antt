@@ -14,7 +14,7 @@ use Rattle.raw_bson.specs.Kind.{kind_of_leaf}
 use Rattle.raw_bson.specs.Payload.{unset}
 use Rattle.bson_from_json.specs.Meaning.{AreMembers, Means, has_wrapper_key, is_wrapper_key}
 use Rattle.bson_from_json.specs.Wrapped.{IsWrapped, one_member}
-use Rattle.bson_from_json.specs.Levels.{headed, with_len, HasMembers, MayBeIn, ArePairs, GoesOn, bracket, behind_bracket, ended, Makes, RestIn, ValueIn}
+use Rattle.bson_from_json.specs.Levels.{headed, with_len, HasMembers, MayBeIn, ArePairs, HasRestOfLevel, bracket, behind_bracket, ended, Makes, RestIn, ValueIn}
 use Rattle.bson_from_json.specs.declared.levels.Holder.{Holder}
 use Rattle.bson_from_json.specs.declared.levels.Holder.TheVariants as holder
 use Rattle.bson_from_json.specs.declared.levels.Level.{Level}
@@ -66,8 +66,8 @@ neither false b e f = f
 neither true b e f = e
 
 -- a member
-goes_on : (h : Holder) (k : List ℕ) (j : Json) (t : Tree) (inside : List Token) (bytes : List ℕ) → HasMembers h → MayBeIn h k → Means j t → GoesOn h inside bytes
-    → GoesOn h (Token.key k ∷ (json_tokens j ++ inside)) (element_of (kind_of_tree t) k (tree_payload t) ++ bytes)
+goes_on : (h : Holder) (k : List ℕ) (j : Json) (t : Tree) (inside : List Token) (bytes : List ℕ) → HasMembers h → MayBeIn h k → Means j t → HasRestOfLevel h inside bytes
+    → HasRestOfLevel h (Token.key k ∷ (json_tokens j ++ inside)) (element_of (kind_of_tree t) k (tree_payload t) ++ bytes)
 goes_on holder.Text k j t inside bytes has may means (ms, es, pairs) = (member k j ms, entry_then k t es, more k j t means pairs)
 goes_on holder.Document k j t inside bytes has may means (ms, es, none, pairs) =
     (member k j ms, entry_then k t es, neither (is_wrapper_key k) (has_wrapper_key ms) may none, more k j t means pairs)

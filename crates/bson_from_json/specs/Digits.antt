@@ -2,9 +2,9 @@
 use Rattle.std.specs.Prelude.{◌≡◌, ℕ, ◌*◌, ◌^◌, ◌<◌, ◌≤◌}
 
 -- a number with zeros behind it, which are none unless it has 34 digits
-abbrev pub HasRoom : ℕ → ℕ → Type 0
-HasRoom c zeros = (c < 10 ^ 34) × (0 < zeros → 10 ^ 33 ≤ c)
+abbrev pub FitsDecimal128 : ℕ → ℕ → Type 0
+FitsDecimal128 c zeros = (c < 10 ^ 34) × (0 < zeros → 10 ^ 33 ≤ c)
 
 -- no number of at most 34 digits with zeros behind it
-abbrev pub IsTooLong : ℕ → Type 0
-IsTooLong d = (c zeros : ℕ) → c < 10 ^ 34 → ¬ (d ≡ c * 10 ^ zeros)
+abbrev pub FitsNoDecimal128 : ℕ → Type 0
+FitsNoDecimal128 d = (c zeros : ℕ) → c < 10 ^ 34 → ¬ (d ≡ c * 10 ^ zeros)

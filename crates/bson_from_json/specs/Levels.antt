@@ -94,13 +94,13 @@ HasFirstOf P k ts bytes =
     × (ts ≡ json_tokens j ++ others) × (bytes ≡ element_of (kind_of_tree t) k (tree_payload t) ++ more)
 
 -- a level goes on with these tokens up to its bracket, which say these elements
-abbrev pub GoesOn : Holder → List Token → List ℕ → Type 0
-GoesOn holder.Text ts bytes = HasPairs ts bytes
-GoesOn holder.Document ts bytes = HasOrdinaryPairs ts bytes
-GoesOn (holder.Begun first) ts bytes = HasFirstOf HasOrdinaryPairs first.now ts bytes
-GoesOn (holder.Array items) ts bytes = HasItems items ts bytes
-GoesOn (holder.Scope start) ts bytes = HasPairs ts bytes
-GoesOn (holder.ScopeBeforeCode start code) ts bytes = HasPairs ts bytes
+abbrev pub HasRestOfLevel : Holder → List Token → List ℕ → Type 0
+HasRestOfLevel holder.Text ts bytes = HasPairs ts bytes
+HasRestOfLevel holder.Document ts bytes = HasOrdinaryPairs ts bytes
+HasRestOfLevel (holder.Begun first) ts bytes = HasFirstOf HasOrdinaryPairs first.now ts bytes
+HasRestOfLevel (holder.Array items) ts bytes = HasItems items ts bytes
+HasRestOfLevel (holder.Scope start) ts bytes = HasPairs ts bytes
+HasRestOfLevel (holder.ScopeBeforeCode start code) ts bytes = HasPairs ts bytes
 
 abbrev pub bracket : Holder → Token
 bracket (holder.Array items) = end_array
@@ -135,7 +135,7 @@ Makes = List ℕ → List Token → Type 0
 -- a level goes on behind the bytes b, and what is made of it is made on
 abbrev pub RestIn : Holder → ℕ → Makes → Makes
 RestIn h start On = λ b ts.
-    (inside : List Token) × (bytes : List ℕ) × (behind : List Token) × GoesOn h inside bytes × (ts ≡ inside ++ (behind_bracket h ++ behind))
+    (inside : List Token) × (bytes : List ℕ) × (behind : List Token) × HasRestOfLevel h inside bytes × (ts ≡ inside ++ (behind_bracket h ++ behind))
     × On (ended h start (b ++ (bytes ++ 0 ∷ []))) behind
 
 -- behind the bytes b these levels, the innermost first, are ended by just these tokens, and the whole is out
@@ -165,7 +165,7 @@ pub record TakesLevel (old new : Reader) (l : Level) : Type 0 where
   pub made : (out : List ℕ) → RestOf out new → Rest out (l ∷ levels_of old) (bytes_of old) old.source.tokens
 
 -- .. and its bracket before it
-pub record Closes (old new : Reader) (l : Level) : Type 0 where
+pub record ClosesBracket (old new : Reader) (l : Level) : Type 0 where
   pub made : HasMembers l.holder ⊎ (bracket l.holder ≡ end_array) → (out : List ℕ) → RestOf out new
       → Rest out (l ∷ levels_of old) (bytes_of old) (bracket l.holder ∷ old.source.tokens)
 

@@ -4,7 +4,7 @@ ghost use Rattle.std.specs.Char.{to_ascii_lowercase};
 ghost use Rattle.std.specs.Str.Parse.{AllDigits, digits_value, digits_value_after, starts_with_minus};
 ghost use Rattle.std.specs.Float.Parse.{without_sign};
 ghost use Rattle.bson_from_json.specs.DecimalTexts.{IsExactly, IsPreferred, WritesDecimal, WritesBits, WritesFinite, sign_bit};
-ghost use Rattle.bson_from_json.specs.Digits.{HasRoom, IsTooLong};
+ghost use Rattle.bson_from_json.specs.Digits.{FitsDecimal128, FitsNoDecimal128};
 
 use crate::error::JsonReason;
 use crate::wrapper::Wrapper;
@@ -36,7 +36,7 @@ const NO_DECIMAL: JsonReason = JsonReason::Malformed(Wrapper::NumberDecimal);
 struct Kept {
     coefficient: u128,
     zeros: u64,
-    ghost room: { HasRoom coefficient zeros },
+    ghost room: { FitsDecimal128 coefficient zeros },
 }
 
 /// The bytes of the Decimal128 that a text writes, which is exactly its value: no digit is rounded away.
@@ -142,7 +142,7 @@ fn digits_of(whole: &[u8], fraction: &[u8]) -> Option<Kept>
     requires fraction { AllDigits 10 fraction.now }
     requires bound { length whole.now + length fraction.now ≤ 2 ^ 63 }
     ensures some { IfSome result (λ kept. digits_value 10 (whole.now ++ fraction.now) ≡ kept.coefficient * 10 ^ kept.zeros) }
-    ensures none { result ≡ None → IsTooLong (digits_value 10 (whole.now ++ fraction.now)) }
+    ensures none { result ≡ None → FitsNoDecimal128 (digits_value 10 (whole.now ++ fraction.now)) }
     ensures bound { IfSome result (λ kept. kept.zeros ≤ 2 ^ 63) }
 {
     let kept = Kept {
@@ -171,7 +171,7 @@ impl Kept {
         requires bound { self.zeros + length digits.now ≤ 2 ^ 63 }
         ensures some { IfSome result (λ kept. digits_value_after 10 (self.coefficient * 10 ^ self.zeros) digits.now
             ≡ kept.coefficient * 10 ^ kept.zeros) }
-        ensures none { result ≡ None → IsTooLong (digits_value_after 10 (self.coefficient * 10 ^ self.zeros) digits.now) }
+        ensures none { result ≡ None → FitsNoDecimal128 (digits_value_after 10 (self.coefficient * 10 ^ self.zeros) digits.now) }
         ensures bound { IfSome result (λ kept. kept.zeros ≤ self.zeros + length digits.now) }
     {
         let mut kept = self;
@@ -186,7 +186,7 @@ impl Kept {
         requires digit { digit < 10 }
         requires bound { self.zeros < 2 ^ 63 }
         ensures some { IfSome result (λ kept. kept.coefficient * 10 ^ kept.zeros ≡ self.coefficient * 10 ^ self.zeros * 10 + digit) }
-        ensures none { result ≡ None → IsTooLong (self.coefficient * 10 ^ self.zeros * 10 + digit) }
+        ensures none { result ≡ None → FitsNoDecimal128 (self.coefficient * 10 ^ self.zeros * 10 + digit) }
         ensures bound { IfSome result (λ kept. kept.zeros ≤ self.zeros + 1) }
     {
         if self.coefficient < LEAST_FULL {

@@ -11,7 +11,7 @@ ghost use Rattle.bson_from_json.specs.Numbers.{IsPlain};
 ghost use Rattle.raw_bson.specs.Tree.{Tree};
 ghost use Rattle.raw_bson.specs.WithinLimits.{ReadsWithin};
 ghost use Rattle.bson_from_json.specs.Left.{left_of};
-ghost use Rattle.bson_from_json.specs.Levels.{Closes, HasMembers, MayBeIn, Puts, SaysBytes, TakesLevel, TakesValue, array_level, leaf_element};
+ghost use Rattle.bson_from_json.specs.Levels.{ClosesBracket, HasMembers, MayBeIn, Puts, SaysBytes, TakesLevel, TakesValue, array_level, leaf_element};
 ghost use Rattle.bson_from_json.specs.Place.{IsPlaceIn};
 ghost use Rattle.bson_from_json.specs.declared.levels.Holder.TheVariants.{Array};
 ghost use Rattle.bson_from_json.specs.Ends.{KeepsClosed, KeepsLevel, KeepsValue, LacksLevel, LacksValue, LacksWhole, LacksWrapper};
@@ -210,7 +210,7 @@ impl<'a> Reader<'a> {
     /// Ends a level that was taken off, whose bracket is passed, and the wrapper that it is in.
     fn close(&mut self, level: Level<'a>) -> Result<(), JsonReason>
         ensures less { OnOk result (left_of self.new ≤ left_of self.old) }
-        ensures rest { OnOk result (Closes self.old self.new level.entry) }
+        ensures rest { OnOk result (ClosesBracket self.old self.new level.entry) }
         ensures keeps { OnOk result (KeepsClosed self.old self.new level.entry) }
         ensures none { IfErr result (λ reason. LeavesOpen reason ⊎ LacksWrapper level.entry.holder self.old.source.tokens) }
     {

@@ -4,7 +4,7 @@ use Rattle.bson_model.specs.Tree.{Tree}
 use Rattle.raw_tree.specs.Reading.{Reads, ReadsUpTo}
 use Rattle.raw_tree.specs.Reading as reading
 use Rattle.bson_json.specs.Json.{IsJson, end_text}
-use Rattle.bson_json.specs.Levels.{Level, sort_of, after}
+use Rattle.bson_json.specs.Levels.{Level, level_sort, after}
 use Rattle.bson_json.specs.Written.{Grows, GrowsFront, HasFront, Moves}
 use Rattle.bson_json.specs.declared.level.Sort.TheVariants as sort
 use Rattle.bson_json.specs.declared.style.Style.{Style}
@@ -106,15 +106,15 @@ module _ {S : Type 0} {has : S → ℕ → List ℕ → Type 0} {style : Style} 
 -- a level is at its end
 pub halfway_closes : {S : Type 0} {has : S → ℕ → List ℕ → Type 0} {style : Style} {depth : ℕ} {b : List ℕ} {l : Level} {old now : S} {block : List ℕ}
     (ws : List Level) (w : Level) (s more : List ℕ) → IsHalfway has style depth b (ws ++ w ∷ []) l old now block → length (ws ++ w ∷ []) < depth → l.elements ≡ Some s → s ≡ 0 ∷ []
-    → more ≡ block ++ (end_text style.layout (length (ws ++ w ∷ [])) (sort_of l.sort) l.first ++ after l.sort) → IsHalfway has style depth b ws w old now more
+    → more ≡ block ++ (end_text style.layout (length (ws ++ w ∷ [])) (level_sort l.sort) l.first ++ after l.sort) → IsHalfway has style depth b ws w old now more
 halfway_closes {style = style} {b = b} {l = l} ws w s more is few e final grown =
     halfway_grows is ws w more _ grown (λ n enough told printing. printing_closes style b n ws w l s told (deep is few n enough) printing e final) (λ n. readable_left n ws w l)
 
 pub halfway_ends : {S : Type 0} {has : S → ℕ → List ℕ → Type 0} {style : Style} {depth : ℕ} {b : List ℕ} {l : Level} {old now : S} {block : List ℕ} (s more : List ℕ)
     → IsHalfway has style depth b [] l old now block → 0 < depth → l.elements ≡ Some s → s ≡ 0 ∷ []
-    → more ≡ block ++ (end_text style.layout 0 (sort_of l.sort) l.first ++ after l.sort) → IsPrinted has style b old now more
+    → more ≡ block ++ (end_text style.layout 0 (level_sort l.sort) l.first ++ after l.sort) → IsPrinted has style b old now more
 halfway_ends {style = style} {depth = depth} {b = b} {l = l} {block = block} s more is few e final grown =
-    let end = end_text style.layout 0 (sort_of l.sort) l.first ++ after l.sort in
+    let end = end_text style.layout 0 (level_sort l.sort) l.first ++ after l.sort in
     record {
       passed = is.passed;
       put = is.put;

@@ -8,7 +8,7 @@ use Rattle.raw_view.proofs.Face.{one_frame, no_frame_at_final, one_meaning}
 use Rattle.raw_tree.specs.Reading.{ReadsRest, ReadsUpTo, StandsFor, Holds}
 use Rattle.raw_tree.specs.Reading as reading
 use Rattle.bson_json.specs.Json.{AreMembersJson, IsJsonUpTo}
-use Rattle.bson_json.specs.Levels.{Level, IsReadableUpTo, sort_of, after}
+use Rattle.bson_json.specs.Levels.{Level, IsReadableUpTo, level_sort, after}
 use Rattle.bson_json.specs.declared.level.Sort.{Sort}
 use Rattle.bson_json.specs.declared.style.Style.{Style}
 
@@ -85,7 +85,7 @@ module _ (style : Style) where
   abbrev pub LeftIn : ℕ → ℕ → Option (List ℕ) → Sort → Bool → List ℕ → Type 0
   LeftIn n depth None sort first text = ⊥
   LeftIn n depth (Some s) sort first text =
-      (frames : List Frame) × (members : List ℕ) × IsWalk s frames Done × AreMembersJson style depth (IsJsonUpTo style n (suc depth)) (sort_of sort) first frames members
+      (frames : List Frame) × (members : List ℕ) × IsWalk s frames Done × AreMembersJson style depth (IsJsonUpTo style n (suc depth)) (level_sort sort) first frames members
       × (text ≡ members ++ after sort)
 
   abbrev pub LeftOf : ℕ → ℕ → Level → List ℕ → Type 0

@@ -9,7 +9,7 @@ use Rattle.raw_tree.specs.Reading.{ReadsUpTo, Holds}
 use Rattle.raw_tree.specs.Reading as reading
 use Rattle.bson_json.specs.Json.{IsJson, IsJsonUpTo, IsValueJson, before_scope, end_text, head_text}
 use Rattle.bson_json.specs.Leaves.{IsLeafJson}
-use Rattle.bson_json.specs.Levels.{Level, IsReadableUpTo, sort_of, after}
+use Rattle.bson_json.specs.Levels.{Level, IsReadableUpTo, level_sort, after}
 use Rattle.bson_json.specs.declared.level.Sort.{Sort}
 use Rattle.bson_json.specs.declared.level.Sort.TheVariants as sort
 use Rattle.bson_json.specs.declared.style.Style.{Style}
@@ -59,21 +59,21 @@ module _ (style : Style) (b : List ℕ) where
 
 module _ (style : Style) where
   -- a level that is at its end has its end as its text
-  ended : (m depth : ℕ) (l : Level) (s : List ℕ) → l.elements ≡ Some s → s ≡ 0 ∷ [] → LeftOf style m depth l (end_text style.layout depth (sort_of l.sort) l.first ++ after l.sort)
+  ended : (m depth : ℕ) (l : Level) (s : List ℕ) → l.elements ≡ Some s → s ≡ 0 ∷ [] → LeftOf style m depth l (end_text style.layout depth (level_sort l.sort) l.first ++ after l.sort)
   ended m depth l s e final = subst (λ (x : Option (List ℕ)). LeftIn style m depth x l.sort l.first
-      (end_text style.layout depth (sort_of l.sort) l.first ++ after l.sort)) (sym e)
-      ([], end_text style.layout depth (sort_of l.sort) l.first, final, refl, refl)
+      (end_text style.layout depth (level_sort l.sort) l.first ++ after l.sort)) (sym e)
+      ([], end_text style.layout depth (level_sort l.sort) l.first, final, refl, refl)
 
   pub printing_ends : (b : List ℕ) (n : ℕ) (l : Level) (s told : List ℕ) → 0 < n → IsPrinting style b n [] l told → l.elements ≡ Some s → s ≡ 0 ∷ []
-      → IsJson style b (told ++ (end_text style.layout 0 (sort_of l.sort) l.first ++ after l.sort))
+      → IsJson style b (told ++ (end_text style.layout 0 (level_sort l.sort) l.first ++ after l.sort))
   printing_ends b zero l s told few is e final = absurd (omega (arith, few))
-  printing_ends b (suc n) l s told few is e final = (suc n, is.rest (end_text style.layout 0 (sort_of l.sort) l.first ++ after l.sort) (ended n 0 l s e final))
+  printing_ends b (suc n) l s told few is e final = (suc n, is.rest (end_text style.layout 0 (level_sort l.sort) l.first ++ after l.sort) (ended n 0 l s e final))
 
   pub printing_closes : (b : List ℕ) (n : ℕ) (ws : List Level) (w l : Level) (s told : List ℕ) → length (ws ++ w ∷ []) < n → IsPrinting style b n (ws ++ w ∷ []) l told
-      → l.elements ≡ Some s → s ≡ 0 ∷ [] → IsPrinting style b n ws w (told ++ (end_text style.layout (length (ws ++ w ∷ [])) (sort_of l.sort) l.first ++ after l.sort))
+      → l.elements ≡ Some s → s ≡ 0 ∷ [] → IsPrinting style b n ws w (told ++ (end_text style.layout (length (ws ++ w ∷ [])) (level_sort l.sort) l.first ++ after l.sort))
   printing_closes b n ws w l s told few is e final =
       let depth = length (ws ++ w ∷ []) in
-      let end = end_text style.layout depth (sort_of l.sort) l.first ++ after l.sort in
+      let end = end_text style.layout depth (level_sort l.sort) l.first ++ after l.sort in
       let at : depth ≡ suc 0 + length ws = length-append ws (w ∷ []) ∙ omega arith in
       let last : IsLast style depth l end = record { left = λ m. ended m depth l s e final } in
       record {
@@ -103,10 +103,10 @@ module _ (style : Style) where
 module _ {style : Style} {b : List ℕ} {n : ℕ} {ws : List Level} {l : Level} {told : List ℕ} (is : IsPrinting style b n ws l told) where
   -- a value that holds no others
   pub printing_leaf : {f : Frame} {leaf : Leaf} {rest : Option (List ℕ)} (shown : List ℕ) → IsNext l.elements f (raw.single leaf) rest → IsLeafJson style.format leaf shown
-      → IsPrinting style b n ws (behind l rest) (told ++ (head_text style.layout (length ws + 1) (sort_of l.sort) l.first f.key ++ shown))
+      → IsPrinting style b n ws (behind l rest) (told ++ (head_text style.layout (length ws + 1) (level_sort l.sort) l.first f.key ++ shown))
   printing_leaf {f} {leaf} {rest} shown next json =
       let depth = length ws in
-      let head = head_text style.layout (length ws + 1) (sort_of l.sort) l.first f.key in
+      let head = head_text style.layout (length ws + 1) (level_sort l.sort) l.first f.key in
       let one_more : length ws + 1 ≡ suc (length ws) = omega arith in
       let from_top : length ws ≡ 0 + length ws = omega arith in
       let step = λ (m : ℕ) (a : List ℕ) (left : LeftOf style m depth (behind l rest) a).
@@ -115,7 +115,7 @@ module _ {style : Style} {b : List ℕ} {n : ℕ} {ws : List Level} {l : Level} 
         f ∷ here.0,
         head ++ (shown ++ here.1),
         (next.r, next.at, here.2),
-        (raw.single leaf, shown, here.1, next.means, json, here.3, ap (λ (k : ℕ). head_text style.layout k (sort_of l.sort) l.first f.key ++ (shown ++ here.1)) one_more),
+        (raw.single leaf, shown, here.1, next.means, json, here.3, ap (λ (k : ℕ). head_text style.layout k (level_sort l.sort) l.first f.key ++ (shown ++ here.1)) one_more),
         append_assoc head shown a ∙ ap (λ (x : List ℕ). head ++ (shown ++ x)) here.4
             ∙ sym (append_assoc head (shown ++ here.1) (after l.sort) ∙ ap (λ (x : List ℕ). head ++ x) (append_assoc shown here.1 (after l.sort))),
       ) in
@@ -128,16 +128,16 @@ module _ {style : Style} {b : List ℕ} {n : ℕ} {ws : List Level} {l : Level} 
 
   -- a value that holds others
   pub printing_opens : {f : Frame} {v : RawValue} {rest : Option (List ℕ)} (d : List ℕ) (o : Sort) (piece : List ℕ) → IsNext l.elements f v rest → Opens v d o piece
-      → IsPrinting style b n (ws ++ behind l rest ∷ []) (opened d o) (told ++ (head_text style.layout (length ws + 1) (sort_of l.sort) l.first f.key ++ piece))
+      → IsPrinting style b n (ws ++ behind l rest ∷ []) (opened d o) (told ++ (head_text style.layout (length ws + 1) (level_sort l.sort) l.first f.key ++ piece))
   printing_opens {f} {v} {rest} d o piece next opens =
       let depth = length ws in
-      let head = head_text style.layout (length ws + 1) (sort_of l.sort) l.first f.key in
+      let head = head_text style.layout (length ws + 1) (level_sort l.sort) l.first f.key in
       let one_more : length ws + 1 ≡ suc (length ws) = omega arith in
       let from_top : length ws ≡ 0 + length ws = omega arith in
       let step = λ (m : ℕ) (a c : List ℕ) (inside : LeftOf style m (suc depth) (opened d o) a) (left : LeftOf style (suc m) depth (behind l rest) c).
       let here : LeftIn style (suc m) depth (Some next.r) l.sort false c = subst (λ (x : Option (List ℕ)). LeftIn style (suc m) depth x l.sort false c) next.rest_is left in
       let shown = piece ++ a in
-      let numbered = λ (k : ℕ). head_text style.layout k (sort_of l.sort) l.first f.key ++ (shown ++ here.1) in
+      let numbered = λ (k : ℕ). head_text style.layout k (level_sort l.sort) l.first f.key ++ (shown ++ here.1) in
       let whole : LeftIn style (suc m) depth (Some next.s) l.sort l.first ((head ++ piece) ++ (a ++ c)) = (
         f ∷ here.0,
         head ++ (shown ++ here.1),

@@ -16,7 +16,7 @@ use Rattle.bson_json.specs.Decimals.{decimal128_text}
 use Rattle.bson_json.specs.Doubles.{IsDoubleJson, IsDoubleText, wrapped_double}
 use Rattle.bson_json.specs.Json.{AreMembersJson, IsJsonUpTo, IsValueJson, before_scope, end_text, head_text, opening}
 use Rattle.bson_json.specs.Leaves.{IsLeafJson, binary_json, boolean_json, int32_json, int64_json, object_id_json, pointer_json, regex_json, timestamp_json}
-use Rattle.bson_json.specs.Levels.{Level, IsReadableUpTo, sort_of, after}
+use Rattle.bson_json.specs.Levels.{Level, IsReadableUpTo, level_sort, after}
 use Rattle.bson_json.specs.declared.level.Sort as level
 use Rattle.bson_json.specs.declared.style.Format.{Format}
 use Rattle.bson_json.specs.declared.style.Format.TheVariants.{Relaxed, Canonical}
@@ -85,7 +85,7 @@ module _ (style : Style) where
   left_has : (n depth : ℕ) (elements : Option (List ℕ)) (o : level.Sort) (first : Bool) → IsReadableUpTo n elements → (text : List ℕ) × LeftIn style n depth elements o first text
   left_has n depth None o first h = absurd h
   left_has n depth (Some s) o first (pairs, (frames, walk, stand)) =
-      let (members, are) = members_have style depth n (up_to_has style n (suc depth)) (sort_of o) first frames pairs stand in (members ++ after o, (frames, members, walk, are, refl))
+      let (members, are) = members_have style depth n (up_to_has style n (suc depth)) (level_sort o) first frames pairs stand in (members ++ after o, (frames, members, walk, are, refl))
 
   pub all_left_has : (n depth : ℕ) (ws : List Level) (l : Level) → AllReadable n ws l → (text : List ℕ) × AllLeft style n depth ws l text
   all_left_has zero depth ws l h = absurd h

@@ -29,7 +29,7 @@ use Rattle.raw_tree.specs.Reading.{Sort, as_document, as_array}
 use Rattle.bson_json.specs.Dates.{IsDateJson, IsInstantText, IsWrappedDate, fraction_text, four_digits, last_digit, second_text, three_digits, two_digits}
 use Rattle.bson_json.specs.Decimals.{behind_point, decimal128_text, decimal_of, decimal_text, exponent_text, finite_text, plain_text, scientific_text}
 use Rattle.bson_json.specs.Doubles.{IsDoubleJson, IsDoubleText, IsWrappedDouble}
-use Rattle.bson_json.specs.Json.{AreMembersJson, IsJson, IsJsonUpTo, IsValueJson, before_scope, closing, colon, comma, end_text, head_text, key_text, line, opening}
+use Rattle.bson_json.specs.Json.{AreMembersJson, IsJson, IsJsonUpTo, IsValueJson, before_scope, closing, colon, comma, end_text, head_text, member_key, line, opening}
 use Rattle.bson_json.specs.Leaves.{IsLeafJson}
 use Rattle.bson_json.specs.declared.decimals.Decimal.{Decimal}
 use Rattle.bson_json.specs.declared.decimals.Decimal.TheVariants.{NaN, Infinity, Finite}
@@ -306,12 +306,12 @@ colon_utf8 : (layout : Layout) → IsUtf8 (colon layout)
 colon_utf8 OneLine = IsUtf8-are_ascii (codes ":") refl
 colon_utf8 Indented = IsUtf8-are_ascii (codes ": ") refl
 
-key_utf8 : (layout : Layout) (sort : Sort) (key : List ℕ) → IsUtf8 key → IsUtf8 (key_text layout sort key)
+key_utf8 : (layout : Layout) (sort : Sort) (key : List ℕ) → IsUtf8 key → IsUtf8 (member_key layout sort key)
 key_utf8 layout as_document key u = IsUtf8-append (quoted key) (colon layout) (IsUtf8-quoted key u) (colon_utf8 layout)
 key_utf8 layout as_array key u = IsUtf8-nil
 
 head_utf8 : (layout : Layout) (depth : ℕ) (sort : Sort) (first : Bool) (key : List ℕ) → IsUtf8 key → IsUtf8 (head_text layout depth sort first key)
-head_utf8 layout depth sort first key u = between (comma first) (line layout depth) (key_text layout sort key) (comma_utf8 first) (line_utf8 layout depth) (key_utf8 layout sort key u)
+head_utf8 layout depth sort first key u = between (comma first) (line layout depth) (member_key layout sort key) (comma_utf8 first) (line_utf8 layout depth) (key_utf8 layout sort key u)
 
 end_utf8 : (layout : Layout) (depth : ℕ) (sort : Sort) (first : Bool) → IsUtf8 (end_text layout depth sort first)
 end_utf8 layout depth sort true = closing_utf8 sort
@@ -329,7 +329,7 @@ module _ (style : Style) (depth : ℕ) (Nested : Sort → List ℕ → List ℕ 
   members_utf8 : (sort : Sort) (first : Bool) (s : List ℕ) (frames : List Frame) (text : List ℕ) → IsWalk s frames Done → AreMembersJson style depth Nested sort first frames text → IsUtf8 text
   members_utf8 sort first s [] text walk e = subst IsUtf8 (sym e) (end_utf8 style.layout depth sort first)
   members_utf8 sort first s (f ∷ fs) text (r, at, walk) (v, shown, others, means, is, rest, e) =
-      subst IsUtf8 (sym e) (between (head_text style.layout (suc depth) sort first f.key) shown others (head_utf8 style.layout (suc depth) sort first f.key at.key_text)
+      subst IsUtf8 (sym e) (between (head_text style.layout (suc depth) sort first f.key) shown others (head_utf8 style.layout (suc depth) sort first f.key at.key_utf8)
       (value_utf8 v shown (texts_of f.kind f.payload v means) is) (members_utf8 sort false r fs others walk rest))
 
 up_to_utf8 : (style : Style) (n depth : ℕ) (sort : Sort) (b text : List ℕ) → IsJsonUpTo style n depth sort b text → IsUtf8 text

@@ -22,7 +22,7 @@ use Rattle.raw_form.specs.declared.walk.WalkError.{WalkError}
 use Rattle.raw_form.specs.declared.walk.WalkError.TheVariants as error
 use Rattle.raw_form.proofs.Face.{barrier_told}
 use Rattle.bson_json.specs.Json.{end_text, head_text}
-use Rattle.bson_json.specs.Levels.{Level, PutsOpening, PutsSingle, after, error_of, sort_of}
+use Rattle.bson_json.specs.Levels.{Level, PutsOpening, PutsSingle, after, error_of, level_sort}
 use Rattle.bson_json.specs.Passing.{Guards, TellsBriefly, TellsPassError, TellsPrintError}
 use Rattle.bson_json.specs.Written.{Moves}
 use Rattle.bson_json.specs.declared.level.Sort.{Sort}
@@ -72,13 +72,13 @@ going_begins has style {limits} {document} {w} {l} old sorts block begins none i
 
 -- what was put before a member's value
 pub head_put : (layout : Layout) (o : Sort) (block mid : List ℕ) {key known : List ℕ} {depth n : ℕ} (first : Bool) → depth ≡ n → key ≡ known
-    → Appends (Some block) (Some mid) (head_text layout (depth + 1) (sort_of o) first key) → mid ≡ block ++ head_text layout (n + 1) (sort_of o) first known
-head_put layout o block mid first d k put = put ∙ (λ i. block ++ head_text layout (d i + 1) (sort_of o) first (k i))
+    → Appends (Some block) (Some mid) (head_text layout (depth + 1) (level_sort o) first key) → mid ≡ block ++ head_text layout (n + 1) (level_sort o) first known
+head_put layout o block mid first d k put = put ∙ (λ i. block ++ head_text layout (d i + 1) (level_sort o) first (k i))
 
 -- and behind the last
 pub end_put : (layout : Layout) (o : Sort) (block mid : List ℕ) {depth n : ℕ} (first : Bool) → depth ≡ n
-    → Appends (Some block) (Some mid) (end_text layout depth (sort_of o) first ++ after o) → mid ≡ block ++ (end_text layout n (sort_of o) first ++ after o)
-end_put layout o block mid first d put = put ∙ (λ i. block ++ (end_text layout (d i) (sort_of o) first ++ after o))
+    → Appends (Some block) (Some mid) (end_text layout depth (level_sort o) first ++ after o) → mid ≡ block ++ (end_text layout n (level_sort o) first ++ after o)
+end_put layout o block mid first d put = put ∙ (λ i. block ++ (end_text layout (d i) (level_sort o) first ++ after o))
 
 -- the walk over the same document, with as many levels that may wait
 pub record IsSameWalk (w new : Walk) : Type 0 where
@@ -106,7 +106,7 @@ module _ {S : Type 0} {has : S → ℕ → List ℕ → Type 0} {style : Style} 
 
   -- what is before the value of a member with this key
   abbrev head_of : List ℕ → ℕ → List ℕ
-  head_of key depth = head_text style.layout (depth + 1) (sort_of o) (nat_eq l.number 0) key
+  head_of key depth = head_text style.layout (depth + 1) (level_sort o) (nat_eq l.number 0) key
 
   headed : (mid key : List ℕ) → mid ≡ block ++ head_of key (length sorts) → mid ≡ block ++ head_of key (length (shown_each is.waits sorts))
   headed mid key e = e ∙ ap (λ (n : ℕ). block ++ head_of key n) (sym size)
@@ -154,7 +154,7 @@ module _ {S : Type 0} {has : S → ℕ → List ℕ → Type 0} {style : Style} 
         }
 
     pub going_outside : {to : walk.Level} (p : Sort) (more : List ℕ) (outer_sorts : List Sort) → LeavesOrEnds w l is.waits new to true → sorts ≡ outer_sorts ++ p ∷ []
-        → more ≡ block ++ (end_text style.layout (length sorts) (sort_of o) (nat_eq l.number 0) ++ after o) → IsGoing has style limits document new to outer_sorts p old now more
+        → more ≡ block ++ (end_text style.layout (length sorts) (level_sort o) (nat_eq l.number 0) ++ after o) → IsGoing has style limits document new to outer_sorts p old now more
     going_outside {to} p more outer_sorts (outer, x, waits_are, further, over, goes) sorts_are put =
         let (s, left) = along_left is.along in
         let fewer : length outer ≡ length outer_sorts =
@@ -166,7 +166,7 @@ module _ {S : Type 0} {has : S → ℕ → List ℕ → Type 0} {style : Style} 
         let halfway = subst (λ (ls : List Level). IsHalfway has style limits.depth (bytes_of document) ls (shown l o) old now block) waiting is.halfway in
         let deep_enough = subst (λ (ls : List Level). length ls < limits.depth) waiting low in
         let depth : length sorts ≡ length (shown_each outer outer_sorts ++ around ∷ []) = sym size ∙ ap length waiting in
-        let grown = put ∙ ap (λ (n : ℕ). block ++ (end_text style.layout n (sort_of o) (nat_eq l.number 0) ++ after o)) depth in
+        let grown = put ∙ ap (λ (n : ℕ). block ++ (end_text style.layout n (level_sort o) (nat_eq l.number 0) ++ after o)) depth in
         record {
           waits = outer;
           along = further.along;
@@ -190,13 +190,13 @@ module _ {S : Type 0} {has : S → ℕ → List ℕ → Type 0} {style : Style} 
       (t, read_within limits (bytes_of document) t is.few (subst (λ (n : ℕ). ReadsUpTo n as_document (bytes_of document) t) is.levels here))
 
   pub going_ends : (new : Walk) (to : walk.Level) (more : List ℕ) → LeavesOrEnds w l is.waits new to false
-      → more ≡ block ++ (end_text style.layout (length sorts) (sort_of o) (nat_eq l.number 0) ++ after o) → IsPrinted has style (bytes_of document) old now more
+      → more ≡ block ++ (end_text style.layout (length sorts) (level_sort o) (nat_eq l.number 0) ++ after o) → IsPrinted has style (bytes_of document) old now more
   going_ends new to more (t, reads, none, over) put =
       let (s, left) = along_left is.along in
       let waiting : shown_each is.waits sorts ≡ [] = ap (λ (ws : List Wait). shown_each ws sorts) none in
       let halfway = subst (λ (ls : List Level). IsHalfway has style limits.depth (bytes_of document) ls (shown l o) old now block) waiting is.halfway in
       let depth : length sorts ≡ 0 = sym is.as_many ∙ ap length none in
-      let grown = put ∙ ap (λ (n : ℕ). block ++ (end_text style.layout n (sort_of o) (nat_eq l.number 0) ++ after o)) depth in
+      let grown = put ∙ ap (λ (n : ℕ). block ++ (end_text style.layout n (level_sort o) (nat_eq l.number 0) ++ after o)) depth in
       halfway_ends s more halfway (omega (arith, is.levels)) left (over s left) grown
 
   brief_pass : (unseen : Bool) (new : S) (e : PrintError) → TellsPassError has limits (bytes_of document) unseen now new block e → TellsBriefly limits (bytes_of document) e

@@ -34,13 +34,13 @@ colon OneLine = codes ":"
 colon Indented = codes ": "
 
 -- the key of a document's member; an array's keys are not printed
-abbrev pub key_text : Layout → Sort → List ℕ → List ℕ
-key_text layout as_document key = quoted key ++ colon layout
-key_text layout as_array key = []
+abbrev pub member_key : Layout → Sort → List ℕ → List ℕ
+member_key layout as_document key = quoted key ++ colon layout
+member_key layout as_array key = []
 
 -- what is before a member's value: a comma, a line of its own, its key
 abbrev pub head_text : Layout → ℕ → Sort → Bool → List ℕ → List ℕ
-head_text layout depth sort first key = comma first ++ (line layout depth ++ key_text layout sort key)
+head_text layout depth sort first key = comma first ++ (line layout depth ++ member_key layout sort key)
 
 -- what is behind the last member: the bracket, on a line of its own unless there is no member
 abbrev pub end_text : Layout → ℕ → Sort → Bool → List ℕ

@@ -24,10 +24,10 @@ pub record Level : Type 0 where
   pub first : Bool
 
 -- how the bytes of a level are read
-abbrev pub sort_of : Sort → reading.Sort
-sort_of sort.Document = as_document
-sort_of sort.Array = as_array
-sort_of sort.Scope = as_document
+abbrev pub level_sort : Sort → reading.Sort
+level_sort sort.Document = as_document
+level_sort sort.Array = as_array
+level_sort sort.Scope = as_document
 
 -- what is behind the last bracket of a level
 abbrev pub after : Sort → List ℕ

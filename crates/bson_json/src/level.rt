@@ -5,7 +5,7 @@ ghost use Rattle.std.specs.Prelude.{◌++◌, ◌*◌, ℕ, List, OnOk, IfOk, re
 ghost use Rattle.std.specs.Io.KnownBytes.{Appends};
 ghost use Rattle.bson_json.specs.Json.{colon, end_text, head_text, line};
 ghost use Rattle.json.specs.Print.{quoted};
-ghost use Rattle.bson_json.specs.Levels.{PutsOpening, PutsSingle, sort_of, after};
+ghost use Rattle.bson_json.specs.Levels.{PutsOpening, PutsSingle, level_sort, after};
 ghost use Rattle.raw_tree.specs.Reading.{Holds};
 ghost use Rattle.raw_view.specs.Meaning.Value.{value_of};
 
@@ -77,7 +77,7 @@ pub(crate) fn put_head<W: Write>(
     key: &str,
 ) -> io::Result<()>
     ensures { OnOk result
-        (Appends (W.contents out.old) (W.contents out.new) (head_text layout depth (sort_of sort) first key.now)) }
+        (Appends (W.contents out.old) (W.contents out.new) (head_text layout depth (level_sort sort) first key.now)) }
 {
     if !first {
         put(out, b",")?;
@@ -98,7 +98,7 @@ pub(crate) fn put_end<W: Write>(
     first: bool,
 ) -> io::Result<()>
     ensures { OnOk result
-        (Appends (W.contents out.old) (W.contents out.new) (end_text layout depth (sort_of sort) first ++ after sort)) }
+        (Appends (W.contents out.old) (W.contents out.new) (end_text layout depth (level_sort sort) first ++ after sort)) }
 {
     if !first {
         put_line(out, layout, depth)?;

@@ -51,10 +51,10 @@ module _ {T : Type 0} (ks : List (Bor (List ℕ))) (vs : List T) where
   abbrev pub IsSoFar : List (String Global) → ℕ → Type 0
   IsSoFar set i = (length set ≡ i) × (pairs_by string_bytes set (take i vs) ≡ keep (take i columns))
 
-  pub set_more : (set new : List (String Global)) (i : ℕ) (d : Bor (List ℕ)) (text : String Global) → i < length ks → length vs ≡ length ks
+  pub set_more : {new : List (String Global)} (set : List (String Global)) (i : ℕ) (d : Bor (List ℕ)) (text : String Global) → i < length ks → length vs ≡ length ks
       → string_bytes text ≡ (slice_index_or ks i d).now → list_any (test string_bytes (string_bytes text)) set ≡ false → new ≡ set ++ text ∷ [] → IsSoFar set i
       → IsSoFar new (i + 1)
-  set_more set new i d text within same e none more h =
+  set_more {new = new} set i d text within same e none more h =
       let v = there i vs (omega (arith, within, same)) in
       let long : length (take i vs) ≡ length set = omega (arith, length-take i vs, within, same, h.0) in
       let put = (lost string_bytes (string_bytes text) v.0 set (take i vs) long none).1 text refl in (

@@ -26,8 +26,8 @@ IsThis None wanted = ⊥
 IsThis (Some v) wanted = v ≡ wanted
 
 -- a number over this
-abbrev pub IsOver : ℤ → RawValue → Type 0
-IsOver least v = (number : ℤ) × (v ≡ single (int32 number)) × IsTrue (int_lt least number)
+abbrev pub IsGreater : ℤ → RawValue → Type 0
+IsGreater least v = (number : ℤ) × (v ≡ single (int32 number)) × IsTrue (int_lt least number)
 
 -- the result that a search within an array means
 abbrev pub of_search : Result Bool Error → Result (Unit {0}) Unmet
@@ -38,7 +38,7 @@ of_search (Err e) = Err (unmet.Damaged e)
 -- What an operator says of what was found. It isn't met by nothing.
 abbrev pub MeetsOperator : Option RawValue → Operator → Result (Unit {0}) Unmet → Type 0
 MeetsOperator None op r = r ≡ Err unmet.Differs
-MeetsOperator (Some v) (operator.Over least) r = Wants (IsOver least v) r
+MeetsOperator (Some v) (operator.Over least) r = Wants (IsGreater least v) r
 MeetsOperator (Some v) (operator.Among a) r = (sought : Result Bool Error) × SeeksOne (λ e. e) (λ key w. w ≡ v) (array_bytes_of a) sought × (r ≡ of_search sought)
 
 -- the operator of this name with this operand

@@ -10,14 +10,14 @@ keys_of path = map (λ key. key.now) path
 
 -- what a look-up found, and then what is found below it: below a value what Below says; a fault stays, and so does
 -- nothing
-abbrev pub GoesOn : (RawValue → Option Meaning → Type 0) → Option Meaning → Option Meaning → Type 0
-GoesOn Below (Some (value v)) found = Below v found
-GoesOn Below (Some (faulty fault)) found = found ≡ Some (faulty fault)
-GoesOn Below None found = found ≡ None
+abbrev pub LooksBelow : (RawValue → Option Meaning → Type 0) → Option Meaning → Option Meaning → Type 0
+LooksBelow Below (Some (value v)) found = Below v found
+LooksBelow Below (Some (faulty fault)) found = found ≡ Some (faulty fault)
+LooksBelow Below None found = found ≡ None
 
 -- what is found under these keys, one below the other, from this value on: below a document what a look-up finds, and
 -- so on; below any other value nothing
 abbrev pub GoesDown : RawValue → List (List ℕ) → Option Meaning → Type 0
 GoesDown here [] found = found ≡ Some (value here)
-GoesDown (document b) (key ∷ keys) found = (next : Option Meaning) × LooksUp b key next × GoesOn (λ v. GoesDown v keys) next found
+GoesDown (document b) (key ∷ keys) found = (next : Option Meaning) × LooksUp b key next × LooksBelow (λ v. GoesDown v keys) next found
 GoesDown _ (key ∷ keys) found = found ≡ None

@@ -36,8 +36,8 @@ abbrev pub none : Tally
 none = record { documents = 0; canonical = 0; sum = pos 0 }
 
 -- one more of both can be counted
-abbrev pub HasRoom : Tally → Type 0
-HasRoom t = (t.documents + 1 < 2 ^ 64) × (t.canonical + 1 < 2 ^ 64)
+abbrev pub CountsOneMore : Tally → Type 0
+CountsOneMore t = (t.documents + 1 < 2 ^ 64) × (t.canonical + 1 < 2 ^ 64)
 
 -- one document more, which is canonical or not, and has this number
 abbrev pub PlusOne : Tally → Bool → ℤ → Tally → Type 0

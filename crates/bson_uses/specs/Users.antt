@@ -50,13 +50,13 @@ abbrev pub AddsItem : Fields → List ℕ → RawValue → Result Fields NotUser
 AddsItem fields key v r = ((f : Field) × IsField f key v × AddsField fields f r) ⊎ (((f : Field) → ¬ IsField f key v) × (r ≡ Err refused.OtherField))
 
 -- an identifier and an address are among the fields
-abbrev pub IsWhole : Fields → Type 0
-IsWhole fields = (fields.id ≡ true) × (fields.email ≡ true)
+abbrev pub HasAllFields : Fields → Type 0
+HasAllFields fields = (fields.id ≡ true) × (fields.email ≡ true)
 
 -- Ok where each item of the document b adds a field, and these are whole; else what the first item is that adds none, or a
 -- fault before it, or that the fields aren't whole
 abbrev pub ChecksUser : List ℕ → Result (Unit {0}) NotUser → Type 0
-ChecksUser b (Ok _) = (fields : Fields) × FoldsEach damaged AddsItem nothing b (Ok fields) × IsWhole fields
+ChecksUser b (Ok _) = (fields : Fields) × FoldsEach damaged AddsItem nothing b (Ok fields) × HasAllFields fields
 ChecksUser b (Err e) =
     FoldsEach damaged AddsItem nothing b (Err e)
-    ⊎ ((e ≡ refused.Missing) × (fields : Fields) × FoldsEach damaged AddsItem nothing b (Ok fields) × ¬ IsWhole fields)
+    ⊎ ((e ≡ refused.Missing) × (fields : Fields) × FoldsEach damaged AddsItem nothing b (Ok fields) × ¬ HasAllFields fields)

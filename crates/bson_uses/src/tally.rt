@@ -4,7 +4,7 @@ ghost use Rattle.raw_bson.specs.Document.{bytes_of};
 ghost use Rattle.raw_bson.specs.EachItem.{value_in};
 ghost use Rattle.raw_bson.specs.Folds.{ReadsDump};
 ghost use Rattle.raw_form.specs.Verdicts.{IsCanonicalWithin};
-ghost use Rattle.bson_uses.specs.Tallies.{AddsDocument, HasRoom, IsOutOfMemory, PlusOne, RefusesPlus, RefusesTally, Steps, TellsNumber, none, number_in};
+ghost use Rattle.bson_uses.specs.Tallies.{AddsDocument, CountsOneMore, IsOutOfMemory, PlusOne, RefusesPlus, RefusesTally, Steps, TellsNumber, none, number_in};
 
 use raw_bson::{Error, Limits, NoDocument, RawBsonRef, RawDocument};
 use raw_form::{ValidateError, validate_within};
@@ -48,7 +48,7 @@ impl From<Error> for TallyError {
 impl Tally {
     /// With one document more, which is canonical or not, and has this number.
     fn plus(self, canonical: bool, number: i64) -> Result<Tally, TallyError>
-        requires { HasRoom self }
+        requires { CountsOneMore self }
         ensures more { IfOk result (PlusOne self canonical number) }
         ensures over { IfErr result (RefusesPlus self number) }
     {
@@ -113,7 +113,7 @@ fn with_document(
     key: &str,
     limits: Limits,
 ) -> Result<Tally, TallyError>
-    requires { HasRoom tally }
+    requires { CountsOneMore tally }
     ensures { AddsDocument limits key.now tally (bytes_of document.entry) result }
 {
     let canonical = is_canonical(alloc, document, limits)?;

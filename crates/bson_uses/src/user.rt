@@ -2,7 +2,7 @@ ghost use Rattle.std.specs.Prelude.{◌≡◌, ◌↔◌, IsTrue};
 ghost use Rattle.raw_bson.specs.Document.{bytes_of};
 ghost use Rattle.raw_bson.specs.Folds.{FoldsEach};
 ghost use Rattle.raw_bson.specs.Value.{value_of};
-ghost use Rattle.bson_uses.specs.Users.{AddsField, AddsItem, ChecksUser, IsWhole, TellsField, damaged, nothing};
+ghost use Rattle.bson_uses.specs.Users.{AddsField, AddsItem, ChecksUser, HasAllFields, TellsField, damaged, nothing};
 
 use raw_bson::{Error, RawBsonRef, RawDocument};
 use std::alloc::Global;
@@ -71,7 +71,7 @@ impl Fields {
 
     /// Whether none is missing.
     fn is_whole(self) -> bool
-        ensures { IsTrue result ↔ IsWhole self }
+        ensures { IsTrue result ↔ HasAllFields self }
     {
         self.id && self.email
     }

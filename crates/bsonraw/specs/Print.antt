@@ -31,14 +31,14 @@ abbrev pub digits_of : List ℕ → List ℕ
 digits_of text = filter (λ c. not (is_blank c)) text
 
 -- a key in hex; the empty one as a dash
-abbrev pub key_text : List ℕ → List ℕ
-key_text [] = codes "-"
-key_text (x ∷ xs) = encode_lower (x ∷ xs)
+abbrev pub key_hex : List ℕ → List ℕ
+key_hex [] = codes "-"
+key_hex (x ∷ xs) = encode_lower (x ∷ xs)
 
 -- the key of a fault, which may have none
 abbrev pub fault_key_text : Option (List ℕ) → List ℕ
 fault_key_text None = codes "none"
-fault_key_text (Some key) = key_text key
+fault_key_text (Some key) = key_hex key
 
 abbrev pub fault_text : Fault → List ℕ
 fault_text (Malformed _) = codes "malformed"
@@ -46,7 +46,7 @@ fault_text Utf8 = codes "utf8"
 
 -- the line of a frame: tag, key and the payload's length
 abbrev pub frame_line : Frame → List ℕ
-frame_line f = encode_lower (tag_of f.kind ∷ []) ++ codes " " ++ key_text f.key ++ codes " " ++ decimal (length f.payload) ++ codes "\n"
+frame_line f = encode_lower (tag_of f.kind ∷ []) ++ codes " " ++ key_hex f.key ++ codes " " ++ decimal (length f.payload) ++ codes "\n"
 
 abbrev pub frame_lines : List Frame → List ℕ
 frame_lines [] = []

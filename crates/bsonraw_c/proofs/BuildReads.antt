@@ -110,20 +110,20 @@ element_read f b tag key one two is fits r =
     record {
       spelled = refl;
       key_nul_free = is.c_text.0;
-      key_text = is.c_text.1;
+      key_utf8 = is.c_text.1;
       payload_is = subst (λ (p : List ℕ). HasShape f.kind p r) (sym is.payload_is) (parts_shape f.kind one two r is.parts few);
     }
 
 -- and so is a level that was ended
 pub level_read : (k : ElementType) (key p : List ℕ) → IsNested k → IsCText key → IsEnvelope p → (let f : Frame = record { kind = k; key = key; payload = p } in StandsAnywhere f)
-level_read k key p nested text sound r = record { spelled = refl; key_nul_free = text.0; key_text = text.1; payload_is = nested_shape k p r nested sound }
+level_read k key p nested text sound r = record { spelled = refl; key_nul_free = text.0; key_utf8 = text.1; payload_is = nested_shape k p r nested sound }
 
 -- and an element that was read, under another key
 pub copy_read : (f : Frame) (s r key : List ℕ) → IsFrame s f r → IsCText key → (let g : Frame = record f { key = key } in (¬ IsShortScope g) → StandsAnywhere g)
 copy_read f s r key frame text long q = record {
   spelled = refl;
   key_nul_free = text.0;
-  key_text = text.1;
+  key_utf8 = text.1;
   payload_is = shape_before f.kind f.payload r q (λ scoped. cases_le 4 (length f.payload) (λ short. long (scoped, short))) frame.payload_is;
 }
 

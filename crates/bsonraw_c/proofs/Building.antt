@@ -12,7 +12,7 @@ use Rattle.raw_bson.specs.Kind.{tag_of}
 use Rattle.raw_bson.specs.Envelope.{IsEnvelope}
 use Rattle.raw_bson.specs.Number.{le32, max_length}
 use Rattle.raw_view.proofs.Face.{framed_is_envelope}
-use Rattle.bsonraw_c.specs.Build.{Adds, Appends, AppendsElement, AreParts, Closes, Declines, Ends, Holds, HoldsEnded, HoldsLevel, HoldsMore, IsCText, IsElement, IsElementOf, IsOpen, IsReadElement, Opens, RefusesElement, RefusesParts, elements, ended, head_of, key_in, laid_out, layout_of, level_of, opened, put_bytes}
+use Rattle.bsonraw_c.specs.Build.{Adds, Appends, AppendsElement, AreParts, ClosesLevel, Declines, EndsLevel, HoldsElements, HoldsEnded, HoldsLevel, HoldsMore, IsCText, IsElement, IsElementOf, IsOpen, IsReadElement, OpensLevel, RefusesElement, RefusesParts, elements, ended, head_of, key_in, laid_out, layout_of, level_of, opened, put_bytes}
 use Rattle.bsonraw_c.specs.BuildParts.{AddsUnder, ArePartsOf, frame_of_parts}
 use Rattle.bsonraw_c.specs.Codes.{status_code}
 use Rattle.bsonraw_c.specs.Values.{IsOn}
@@ -41,9 +41,9 @@ elements_more [] f = append-nil (frame_bytes f)
 elements_more (g ∷ fs) f = ap (λ (x : List ℕ). frame_bytes g ++ x) (elements_more fs f) ∙ sym (append_assoc (frame_bytes g) (elements fs) (frame_bytes f))
 
 -- a level that takes an element, as an equation of what the room begins with
-pub holds_next : (f : Frame) {old : Builder} (new : Builder) {before : List ℕ} (after : List ℕ) {front : List ℕ} {fs : List Frame} → Holds old before front fs → new.status ≡ pos 0
+pub holds_next : (f : Frame) {old : Builder} (new : Builder) {before : List ℕ} (after : List ℕ) {front : List ℕ} {fs : List Frame} → HoldsElements old before front fs → new.status ≡ pos 0
     → new.begins ≡ old.begins → new.count ≡ old.count + 1 → new.len ≡ old.len + length (frame_bytes f)
-    → take new.len after ≡ (front ++ elements fs) ++ frame_bytes f → Holds new after front (fs ++ f ∷ [])
+    → take new.len after ≡ (front ++ elements fs) ++ frame_bytes f → HoldsElements new after front (fs ++ f ∷ [])
 holds_next f {old} new after {front} {fs} h ok begins count len taken =
     let more = elements_more fs f in
     record {
@@ -55,8 +55,8 @@ holds_next f {old} new after {front} {fs} h ok begins count len taken =
     }
 
 -- an element that was put is held
-pub holds_more : (f : Frame) (old new : Builder) (before after front : List ℕ) (fs : List Frame) → Holds old before front fs → Adds f old new before after
-    → new.status ≡ pos 0 → Holds new after front (fs ++ f ∷ [])
+pub holds_more : (f : Frame) (old new : Builder) (before after front : List ℕ) (fs : List Frame) → HoldsElements old before front fs → Adds f old new before after
+    → new.status ≡ pos 0 → HoldsElements new after front (fs ++ f ∷ [])
 holds_more f old new before after front fs h (inl long) ok = absurd (omega (arith, isnt_well 7 new old long.1.1 ok))
 holds_more f old new before after front fs h (inr (inl small)) ok = absurd (omega (arith, isnt_well 8 new (record old { len = old.len + length (frame_bytes f); count = old.count + 1 }) small.2.1 ok))
 holds_more f old new before after front fs h (inr (inr put)) ok =
@@ -67,9 +67,9 @@ holds_more f old new before after front fs h (inr (inr put)) ok =
     ∙ ap (λ (x : List ℕ). x ++ frame_bytes f) h.taken)
 
 -- a level that was begun is held, without elements
-pub holds_level : (k : ElementType) (key : List ℕ) (tag : ℕ) {old : Builder} (one new : Builder) {before : List ℕ} (after : List ℕ) {front : List ℕ} {fs : List Frame} → Holds old before front fs
-    → Adds (head_of k key) old one before after → new ≡ opened tag one → new.status ≡ pos 0
-    → Holds new after ((front ++ elements fs) ++ frame_bytes (head_of k key)) []
+pub holds_level : (k : ElementType) (key : List ℕ) (tag : ℕ) {old : Builder} (one new : Builder) {before : List ℕ} (after : List ℕ) {front : List ℕ} {fs : List Frame}
+    → HoldsElements old before front fs → Adds (head_of k key) old one before after → new ≡ opened tag one → new.status ≡ pos 0
+    → HoldsElements new after ((front ++ elements fs) ++ frame_bytes (head_of k key)) []
 holds_level k key tag {old} one new {before} after {front} {fs} h adds is ok =
     let head = head_of k key in
     let well : one.status ≡ pos 0 = sym (ap (λ (b : Builder). b.status) is) ∙ ok in
@@ -155,7 +155,7 @@ holds_appended tag key one two old new before after (inr (inr put)) front fs h o
 pub appended_iter : {bytes : List ℕ} {it : Iter} {f : Frame} (key : List ℕ) (p : Parts) (old new : Builder) (before after : List ℕ) → IsOpen old
     → IsOn bytes it f → key ≡ f.key → frame_of_parts (key_in old key) p ≡ record f { key = key_in old key } → AddsUnder key p old new before after
     → AppendsElement bytes it old new before after
-appended_iter key p old new before after goes on is made (inl bad) = absurd (bad.1 (subst IsCText (sym is) (on.stands.key_nul_free, on.stands.key_text)))
+appended_iter key p old new before after goes on is made (inl bad) = absurd (bad.1 (subst IsCText (sym is) (on.stands.key_nul_free, on.stands.key_utf8)))
 appended_iter {f = f} key p old new before after goes on is made (inr adds) =
     let text = subst (λ (k : List ℕ). IsCText (key_in old k)) is adds.0 in
     let g : Frame = record f { key = key_in old f.key } in
@@ -175,7 +175,7 @@ holds_iter bytes it old new before after (inr (inr put)) front fs h ok = (put.1.
 
 -- levels
 
-pub holds_opened : (tag : ℕ) (key : List ℕ) (old new : Builder) (before after : List ℕ) → Opens tag key old new before after → HoldsLevel tag key old new before after
+pub holds_opened : (tag : ℕ) (key : List ℕ) (old new : Builder) (before after : List ℕ) → OpensLevel tag key old new before after → HoldsLevel tag key old new before after
 holds_opened tag key old new before after (inl declines) front fs h ok = absurd (declines_none old new before after declines h.well ok)
 holds_opened tag key old new before after (inr (inl bad)) front fs h ok = absurd (omega (arith, isnt_well 11 new old bad.3.1 ok))
 holds_opened tag key old new before after (inr (inr (inl bad))) front fs h ok = absurd (omega (arith, isnt_well 2 new old bad.5.1 ok))
@@ -210,8 +210,8 @@ put_over offset bytes outer unset inner four size is =
     put_opened offset bytes room ∙ ap (λ (x : List ℕ). x ++ (bytes ++ drop (offset + length bytes) room)) front ∙ ap (λ (x : List ℕ). outer ++ (bytes ++ x)) back
 
 -- a level that was closed is a document
-pub closed_there : (old new : Builder) (before after outer unset : List ℕ) (fs : List Frame) → length unset ≡ 4 → Holds old before (outer ++ unset) fs
-    → Closes old new before after → new.status ≡ pos 0
+pub closed_there : (old new : Builder) (before after outer unset : List ℕ) (fs : List Frame) → length unset ≡ 4 → HoldsElements old before (outer ++ unset) fs
+    → ClosesLevel old new before after → new.status ≡ pos 0
     → (take new.len after ≡ outer ++ framed (elements fs)) × (new.len ≡ length (outer ++ framed (elements fs))) × (new.len ≤ max_length)
 closed_there old new before after outer unset fs four h (inl declines) ok = absurd (declines_none old new before after declines h.well ok)
 closed_there old new before after outer unset fs four h (inr (inl bad)) ok = absurd (omega (arith, isnt_well 7 new old bad.2.1 ok))
@@ -236,15 +236,15 @@ closed_there old new before after outer unset fs four h (inr (inr (inr put))) ok
     )
 
 -- whose envelope is sound
-pub closed_sound : (old new : Builder) (before after outer unset : List ℕ) (fs : List Frame) → length unset ≡ 4 → Holds old before (outer ++ unset) fs
-    → Closes old new before after → new.status ≡ pos 0 → AreBytes after → IsEnvelope (framed (elements fs))
+pub closed_sound : (old new : Builder) (before after outer unset : List ℕ) (fs : List Frame) → length unset ≡ 4 → HoldsElements old before (outer ++ unset) fs
+    → ClosesLevel old new before after → new.status ≡ pos 0 → AreBytes after → IsEnvelope (framed (elements fs))
 closed_sound old new before after outer unset fs four h closes ok bytes =
     let there = closed_there old new before after outer unset fs four h closes ok in
     framed_is_envelope (elements fs) (back_bytes outer (framed (elements fs)) (take new.len after) there.0 (take_bytes new.len after bytes))
     (omega (arith, there.1, there.2, length-append outer (framed (elements fs)), length-append (elements fs) (0 ∷ [])))
 
 -- and is an element of the level around it
-pub holds_ended : (level old new : Builder) (before after : List ℕ) → AreBytes after → Ends level old new before after → HoldsEnded level old new before after
+pub holds_ended : (level old new : Builder) (before after : List ℕ) → AreBytes after → EndsLevel level old new before after → HoldsEnded level old new before after
 holds_ended level old new before after bytes (inl declines) room front key k fs inner h held ok = absurd (declines_none old new before after declines h.well ok)
 holds_ended level old new before after bytes (inr (inl bad)) room front key k fs inner h held ok = absurd (omega (arith, isnt_well 7 new old bad.2.1 ok))
 holds_ended level old new before after bytes (inr (inr (goes, few, (closed, closes, inr (inl small))))) room front key k fs inner h held ok =
@@ -257,7 +257,7 @@ holds_ended level old new before after bytes (inr (inr (goes, few, (closed, clos
     let parted : (payload : List ℕ) → (front ++ elements fs) ++ (tag_of k ∷ (key ++ 0 ∷ payload)) ≡ outer ++ payload =
     λ payload. ap (λ (x : List ℕ). (front ++ elements fs) ++ (tag_of k ∷ x)) (sym (append_assoc key (0 ∷ []) payload))
     ∙ sym (append_assoc (front ++ elements fs) (tag_of k ∷ (key ++ 0 ∷ [])) payload) in
-    let within = subst (λ (x : List ℕ). Holds level before x inner) (parted unset) held in
+    let within = subst (λ (x : List ℕ). HoldsElements level before x inner) (parted unset) held in
     let there = closed_there level closed before after outer unset inner refl within closes well.0 in
     let f = level_of k key inner in
     let sound = closed_sound level closed before after outer unset inner refl within closes well.0 bytes in

@@ -15,7 +15,7 @@ use Rattle.raw_bson.specs.Reason.TheVariants as reason
 use Rattle.bsonraw_c.specs.Build.{IsNested, elements}
 use Rattle.bsonraw_c.specs.Codes.{IsNoFault}
 use Rattle.bsonraw_c.specs.Iters.{Begins, BeginsAt, Descends, GoesThrough, IsAtFrame, IsKept, Returns, StopsAt}
-use Rattle.bsonraw_c.specs.Paths.{FindsAstray, FindsPathOf, FindsStep, Goal, GoesTo, HasSteps, IsStep, Level, Passes, SaysGoal, StepFinds, StepGoesTo, barred, found, is_array, level_from, level_in, missed}
+use Rattle.bsonraw_c.specs.Paths.{FindsAstray, FindsPathOf, FindsStep, Goal, GoesTo, HasSteps, IsStep, Level, AreNoStep, SaysGoal, StepFinds, StepGoesTo, barred, found, is_array, level_from, level_in, missed}
 use Rattle.bsonraw_c.specs.Values.{no_fault}
 use Rattle.bsonraw_c.specs.declared.codes.Status.TheVariants as status
 use Rattle.bsonraw_c.specs.declared.fault.Fault.{Fault}
@@ -81,7 +81,7 @@ StepSays b in_array step old new code =
 -- frames that the step isn't were gone over
 record HasReached (in_array : Bool) (step s : List ℕ) (passed : List Frame) (t : List ℕ) : Type 0 where
   pub leads : LeadsTo s passed t
-  pub passes : Passes in_array step passed
+  pub passes : AreNoStep in_array step passed
 
 module _ {b : List ℕ} {in_array : Bool} {step : List ℕ} {old : Iter} (new : Iter) (code : ℤ) (kept : IsKept old new code) {d s : List ℕ} (g : GoesThrough b old d s)
     {e t : List ℕ} {offset : ℕ} {passed : List Frame} (h : GoesThrough b (record old { next = offset }) e t) (reached : HasReached in_array step s passed t)

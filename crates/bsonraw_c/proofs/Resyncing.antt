@@ -10,7 +10,7 @@ use Rattle.raw_resync.specs.declared.search.Sought.{Sought}
 use Rattle.raw_resync.specs.declared.search.Sought.TheVariants as sought
 use Rattle.raw_resync.specs.declared.work.Work.{Work}
 use Rattle.raw_resync.proofs.Face.{charges_on, disbelieved, spent_more, unjudged_on}
-use Rattle.bsonraw_c.specs.Resync.{BeginsPiece, Costs, FindsFirst, GoesOnIn, GoesOnward, HasNoLength, IsBehind, IsBelieved, IsFirstPlace, IsOnward, LeavesWork, work_of}
+use Rattle.bsonraw_c.specs.Resync.{BeginsPiece, Costs, FindsFirst, GoesOnIn, GoesOnward, HasNoLength, FollowsOrUnknown, IsBelieved, IsFirstPlace, IsOnward, LeavesWork, work_of}
 use Rattle.bsonraw_c.specs.declared.reader.Reader.{Reader}
 use Rattle.bsonraw_c.specs.declared.resync.Onward.{Onward}
 use Rattle.bsonraw_c.specs.declared.resync.Resync.{Resync}
@@ -81,7 +81,7 @@ not_reaching : (limits : Limits) (total len : ℕ) (s : List ℕ) (w : Work) →
 not_reaching limits total len s w ends over (j, low, high, inl reaches) = over.whole refl j low high reaches
 not_reaching limits total len s w ends over (j, low, high, inr (goes, none)) = none ends
 
-believed_behind : (limits : Limits) (total len : ℕ) (s : List ℕ) (old new : Work) (known all : Bool) → BeginsPiece limits.bytes s len → IsBehind limits total (drop len s) old known
+believed_behind : (limits : Limits) (total len : ℕ) (s : List ℕ) (old new : Work) (known all : Bool) → BeginsPiece limits.bytes s len → FollowsOrUnknown limits total (drop len s) old known
     → old.spent ≤ new.spent → PassesOver limits total s 1 len len new all → IsBelieved limits total s len new (known && all)
 believed_behind limits total len s old new true true piece behind more over = record {
   piece = piece;
@@ -156,7 +156,7 @@ module _ (limits : Limits) (at : ℕ) (s : List ℕ) (last : Bool) where
         (is, costs_on limits (at + length s) s old mid new (costs_of limits s last at old mid q.works) costs)
 
     -- or they don't, and one is behind the length
-    pub nowhere_reaching : (old new : Work) (known all : Bool) → IsBehind limits (at + length s) (drop len s) old known
+    pub nowhere_reaching : (old new : Work) (known all : Bool) → FollowsOrUnknown limits (at + length s) (drop len s) old known
         → Seeks limits s last at (record { from = 1; until = len; end = len }) old new (sought.Nowhere all)
         → GoesOnward limits at s old new (record { count = len; is_believed = true; all = known && all })
     nowhere_reaching old new known all behind q =

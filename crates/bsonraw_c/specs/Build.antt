@@ -31,7 +31,7 @@ put_bytes offset bytes room = take offset room ++ (bytes ++ drop (offset + lengt
 
 -- The builder and the room hold a level with these elements. The front is what the room has before them: the last four
 -- bytes of it are where the level's length will be.
-pub record Holds (b : Builder) (room front : List ℕ) (fs : List Frame) : Type 0 where
+pub record HoldsElements (b : Builder) (room front : List ℕ) (fs : List Frame) : Type 0 where
   pub well : b.status ≡ pos 0
   pub begins : length front ≡ b.begins + 4
   pub len : b.len ≡ length front + length (elements fs)
@@ -119,8 +119,8 @@ abbrev pub key_in : Builder → List ℕ → List ℕ
 key_in b key = cond (is_of_array b) (decimal b.count) key
 
 -- the builder takes more: nothing was refused so far; there may have been too little room
-abbrev pub GoesOn : Builder → Type 0
-GoesOn b = (b.status ≡ pos 0) ⊎ (b.status ≡ pos 8)
+abbrev pub TakesMore : Builder → Type 0
+TakesMore b = (b.status ≡ pos 0) ⊎ (b.status ≡ pos 8)
 
 -- the level's length has its four bytes: so it is of a builder that a call has begun
 abbrev pub IsBegun : Builder → Type 0
@@ -128,7 +128,7 @@ IsBegun b = b.begins + 4 ≤ b.len
 
 -- the builder takes an element
 abbrev pub IsOpen : Builder → Type 0
-IsOpen b = GoesOn b × IsBegun b
+IsOpen b = TakesMore b × IsBegun b
 
 -- the element that these arguments are
 pub record IsElement (b : Builder) (tag : ℕ) (key one two : List ℕ) (f : Frame) : Type 0 where
@@ -155,13 +155,13 @@ Refuses s old new before after = (after ≡ before) × (new ≡ record old { sta
 
 -- the builder took no more, and all is as it was
 abbrev pub Sticks : Builder → Builder → List ℕ → List ℕ → Type 0
-Sticks old new before after = (¬ GoesOn old) × (after ≡ before) × (new ≡ old)
+Sticks old new before after = (¬ TakesMore old) × (after ≡ before) × (new ≡ old)
 
 -- the builder takes none: so it was before; or it isn't begun
 abbrev pub Declines : Builder → Builder → List ℕ → List ℕ → Type 0
 Declines old new before after =
     Sticks old new before after
-    ⊎ (GoesOn old × (old.len < old.begins + 4) × Refuses status.BadOffset old new before after)
+    ⊎ (TakesMore old × (old.len < old.begins + 4) × Refuses status.BadOffset old new before after)
 
 -- the builder with one element more, of so many bytes
 abbrev pub grown : Builder → ℕ → Builder
@@ -191,8 +191,8 @@ Appends tag key one two old new before after =
 -- Where the builder and the room held elements, and nothing is refused, they hold these and one more.
 abbrev pub HoldsMore : (Frame → Type 0) → Builder → Builder → List ℕ → List ℕ → Type 0
 HoldsMore IsIt old new before after =
-    (front : List ℕ) (fs : List Frame) → Holds old before front fs → new.status ≡ pos 0
-    → (f : Frame) × IsIt f × Holds new after front (fs ++ f ∷ [])
+    (front : List ℕ) (fs : List Frame) → HoldsElements old before front fs → new.status ≡ pos 0
+    → (f : Frame) × IsIt f × HoldsElements new after front (fs ++ f ∷ [])
 
 -- an element of which the payload is a level's length, which isn't known yet
 abbrev pub head_of : ElementType → List ℕ → Frame
@@ -202,35 +202,35 @@ head_of k key = record { kind = k; key = key; payload = 0 ∷ 0 ∷ 0 ∷ 0 ∷ 
 abbrev pub IsNested : ElementType → Type 0
 IsNested k = (k ≡ kind.EmbeddedDocument) ⊎ (k ≡ kind.Array)
 
-abbrev pub IsLevel : ℕ → ElementType → Type 0
-IsLevel tag k = (tag ≡ tag_of k) × IsNested k
+abbrev pub IsLevelTag : ℕ → ElementType → Type 0
+IsLevelTag tag k = (tag ≡ tag_of k) × IsNested k
 
 -- a level without elements, whose length has just been put
 abbrev pub opened : ℕ → Builder → Builder
 opened tag b = record b { begins = b.len - 4; count = 0; tag = tag }
 
 -- what the beginning of a level leaves: the level's builder is new, and that of the level around it is old
-abbrev pub Opens : ℕ → List ℕ → Builder → Builder → List ℕ → List ℕ → Type 0
-Opens tag key old new before after =
+abbrev pub OpensLevel : ℕ → List ℕ → Builder → Builder → List ℕ → List ℕ → Type 0
+OpensLevel tag key old new before after =
     Declines old new before after
     ⊎ (IsOpen old × (tag ≢ 3) × (tag ≢ 4) × Refuses status.OtherKind old new before after)
-    ⊎ ((k : ElementType) × IsLevel tag k × IsOpen old × (old.tag ≢ 4) × (¬ IsCText key) × Refuses status.Fault old new before after)
-    ⊎ ((k : ElementType) × (one : Builder) × IsLevel tag k × IsOpen old × IsCText (key_in old key) × Adds (head_of k (key_in old key)) old one before after
-    × (((¬ GoesOn one) × (new ≡ one)) ⊎ (GoesOn one × (new ≡ opened tag one))))
+    ⊎ ((k : ElementType) × IsLevelTag tag k × IsOpen old × (old.tag ≢ 4) × (¬ IsCText key) × Refuses status.Fault old new before after)
+    ⊎ ((k : ElementType) × (one : Builder) × IsLevelTag tag k × IsOpen old × IsCText (key_in old key) × Adds (head_of k (key_in old key)) old one before after
+    × (((¬ TakesMore one) × (new ≡ one)) ⊎ (TakesMore one × (new ≡ opened tag one))))
 
 -- Where the builder and the room held elements, and nothing is refused, the new builder and the room hold a level without any.
 abbrev pub HoldsLevel : ℕ → List ℕ → Builder → Builder → List ℕ → List ℕ → Type 0
 HoldsLevel tag key old new before after =
-    (front : List ℕ) (fs : List Frame) → Holds old before front fs → new.status ≡ pos 0
-    → (k : ElementType) × IsLevel tag k × IsCText (key_in old key) × Holds new after ((front ++ elements fs) ++ frame_bytes (head_of k (key_in old key))) []
+    (front : List ℕ) (fs : List Frame) → HoldsElements old before front fs → new.status ≡ pos 0
+    → (k : ElementType) × IsLevelTag tag k × IsCText (key_in old key) × HoldsElements new after ((front ++ elements fs) ++ frame_bytes (head_of k (key_in old key))) []
 
 -- a level with its final 0
 abbrev pub ended : Builder → Builder
 ended b = record b { len = b.len + 1 }
 
 -- What the end of a level leaves: it is too long; or it is counted; or its final 0 and its length are in the room.
-abbrev pub Closes : Builder → Builder → List ℕ → List ℕ → Type 0
-Closes old new before after =
+abbrev pub ClosesLevel : Builder → Builder → List ℕ → List ℕ → Type 0
+ClosesLevel old new before after =
     Declines old new before after
     ⊎ (IsOpen old × (max_length ≤ old.len) × Refuses status.TooLong old new before after)
     ⊎ (IsOpen old × (old.len < max_length) × (length before ≤ old.len) × Refuses status.SmallBuffer (ended old) new before after)
@@ -240,7 +240,7 @@ Closes old new before after =
 -- reads these elements, and then its final 0.
 abbrev pub HoldsDocument : Builder → Builder → List ℕ → List ℕ → Type 0
 HoldsDocument old new before after =
-    (outer unset : List ℕ) (fs : List Frame) → length unset ≡ 4 → Holds old before (outer ++ unset) fs → new.status ≡ pos 0
+    (outer unset : List ℕ) (fs : List Frame) → length unset ≡ 4 → HoldsElements old before (outer ++ unset) fs → new.status ≡ pos 0
     → (take new.len after ≡ outer ++ framed (elements fs)) × IsEnvelope (framed (elements fs)) × (AreRead fs → IsWalk (drop 4 (framed (elements fs))) fs Done)
 
 -- The builder around a level, once the level is closed: it has one element more, and wants room where the level does; or it
@@ -249,14 +249,14 @@ abbrev pub TakesLevel : Builder → Builder → Builder → Type 0
 TakesLevel old level new =
     ((level.status ≡ pos 0) × (new ≡ record old { len = level.len; count = old.count + 1 }))
     ⊎ ((level.status ≡ pos 8) × (new ≡ record old { len = level.len; count = old.count + 1; status = pos 8 }))
-    ⊎ ((¬ GoesOn level) × (new ≡ record old { status = level.status }))
+    ⊎ ((¬ TakesMore level) × (new ≡ record old { status = level.status }))
 
 -- what the end of a level leaves to the builder around it
-abbrev pub Ends : Builder → Builder → Builder → List ℕ → List ℕ → Type 0
-Ends level old new before after =
+abbrev pub EndsLevel : Builder → Builder → Builder → List ℕ → List ℕ → Type 0
+EndsLevel level old new before after =
     Declines old new before after
     ⊎ (IsOpen old × (max_length ≤ old.count) × Refuses status.TooLong old new before after)
-    ⊎ (IsOpen old × (old.count < max_length) × ((closed : Builder) × Closes level closed before after × TakesLevel old closed new))
+    ⊎ (IsOpen old × (old.count < max_length) × ((closed : Builder) × ClosesLevel level closed before after × TakesLevel old closed new))
 
 -- the element that a level with these elements is, once it is ended
 abbrev pub level_of : ElementType → List ℕ → List Frame → Frame
@@ -266,9 +266,9 @@ level_of k key inner = record { kind = k; key = key; payload = framed (elements 
 -- builder holds one element more: the document of the level's, which is read as that wherever it is.
 abbrev pub HoldsEnded : Builder → Builder → Builder → List ℕ → List ℕ → Type 0
 HoldsEnded level old new before after =
-    (room front key : List ℕ) (k : ElementType) (fs inner : List Frame) → Holds old room front fs
-    → Holds level before ((front ++ elements fs) ++ frame_bytes (head_of k key)) inner → new.status ≡ pos 0
-    → Holds new after front (fs ++ level_of k key inner ∷ []) × IsEnvelope (framed (elements inner))
+    (room front key : List ℕ) (k : ElementType) (fs inner : List Frame) → HoldsElements old room front fs
+    → HoldsElements level before ((front ++ elements fs) ++ frame_bytes (head_of k key)) inner → new.status ≡ pos 0
+    → HoldsElements new after front (fs ++ level_of k key inner ∷ []) × IsEnvelope (framed (elements inner))
     × (IsNested k → IsCText key → StandsAnywhere (level_of k key inner))
 
 -- The element that the iterator is at, under the key that it has here. It is read as that wherever it is, unless it is a code
@@ -292,4 +292,4 @@ begun code = record { len = 4; begins = 0; count = 0; tag = 3; status = code }
 -- A document without elements, at the front of the room; or the room has no four bytes.
 abbrev pub Begins : List ℕ → Builder → Type 0
 Begins room new =
-    ((new ≡ begun (pos 0)) × Holds new room (take 4 room) []) ⊎ ((new ≡ begun (pos 8)) × (length room < 4))
+    ((new ≡ begun (pos 0)) × HoldsElements new room (take 4 room) []) ⊎ ((new ≡ begun (pos 8)) × (length room < 4))

@@ -44,8 +44,8 @@ GoesFrom b s old new before after count code =
     ⊎ ((count < length before) × StopsAtFault b t new.next new × Returns status.Fault code))
 
 -- of an iterator with any fields
-abbrev pub GoesOn : List ℕ → Iter → Iter → List Entry → List Entry → ℕ → ℤ → Type 0
-GoesOn b old new before after count code =
+abbrev pub FillsEntries : List ℕ → Iter → Iter → List Entry → List Entry → ℕ → ℤ → Type 0
+FillsEntries b old new before after count code =
     IsKept old new code
     × (((d s : List ℕ) × GoesThrough b old d s × GoesFrom b s old new before after count code)
     ⊎ (StaysAstray b old new code × (count ≡ 0) × (after ≡ before)))

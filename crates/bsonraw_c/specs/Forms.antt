@@ -28,7 +28,7 @@ pub record PutsForm (end : ℕ) (form before after : List ℕ) (report : Report)
   pub status_is : Fits (length form) (length before) s
 
 -- the document b is read as a tree within the limits whose encoding would be too long
-pub record IsTooLong (limits : Limits) (b room path : List ℕ) (report : Report) (s : Status) : Type 0 where
+pub record FormIsTooLong (limits : Limits) (b room path : List ℕ) (report : Report) (s : Status) : Type 0 where
   pub tree : Tree
   pub read : ReadsWithin limits b tree
   pub long : max_length < encoded_len tree
@@ -39,7 +39,7 @@ pub record IsTooLong (limits : Limits) (b room path : List ℕ) (report : Report
 abbrev pub FormsIn : Limits → List ℕ → List ℕ → List ℕ → List ℕ → List ℕ → Report → Status → Type 0
 FormsIn limits b before after room path report s =
     ((form : List ℕ) × IsFormWithin limits b form × PutsForm (length b) form before after report s × (path ≡ room))
-    ⊎ (IsTooLong limits b room path report s × (after ≡ before))
+    ⊎ (FormIsTooLong limits b room path report s × (after ≡ before))
     ⊎ (ReportsBarrier limits b room path report s × (after ≡ before))
     ⊎ (RunsOut limits b room path report s × (after ≡ before))
 

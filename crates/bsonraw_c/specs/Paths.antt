@@ -51,9 +51,9 @@ level_in offset f = record {
 }
 
 -- these elements aren't the step's: in a document they have other keys; in an array their numbers, from 0, are others
-abbrev pub Passes : Bool → List ℕ → List Frame → Type 0
-Passes false step passed = HasNoKey step passed
-Passes true step passed = (n : ℕ) → n < length passed → decimal n ≢ step
+abbrev pub AreNoStep : Bool → List ℕ → List Frame → Type 0
+AreNoStep false step passed = HasNoKey step passed
+AreNoStep true step passed = (n : ℕ) → n < length passed → decimal n ≢ step
 
 -- and behind them this one is: it has this key, or this number
 abbrev pub IsStep : Bool → List ℕ → List Frame → Frame → Type 0
@@ -63,13 +63,13 @@ IsStep true step passed f = decimal (length passed) ≡ step
 -- the first element of the level that is the step's is this frame, whose tag is at this offset
 abbrev pub StepFinds : Level → List ℕ → ℕ → Frame → Type 0
 StepFinds l step offset f =
-    (passed : List Frame) × (s r : List ℕ) × LeadsTo l.left passed s × IsFrame s f r × Passes l.in_array step passed × IsStep l.in_array step passed f
+    (passed : List Frame) × (s r : List ℕ) × LeadsTo l.left passed s × IsFrame s f r × AreNoStep l.in_array step passed × IsStep l.in_array step passed f
     × (offset ≡ l.offset + length (elements passed))
 
 -- no element of the level is the step's, and the level ends so, at this offset
 abbrev pub StepMisses : Level → List ℕ → ℕ → End → Type 0
 StepMisses l step offset end =
-    (frames : List Frame) × IsWalk l.left frames end × Passes l.in_array step frames × (offset ≡ l.offset + length (elements frames))
+    (frames : List Frame) × IsWalk l.left frames end × AreNoStep l.in_array step frames × (offset ≡ l.offset + length (elements frames))
 
 -- Where a path goes: to an element; or to none, and the level of the step that finds none ends so; or to an element with no
 -- level in it, though more steps are left.

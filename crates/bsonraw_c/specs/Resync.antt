@@ -106,9 +106,9 @@ FindsFirst limits at s old new onward =
     (onward.is_believed ≡ false) × IsFirstPlace limits (at + length s) s onward.count new onward.all × Costs limits (at + length s) s old new
 
 -- the end of the input is at t, or a document without damage; or it isn't known
-abbrev pub IsBehind : Limits → (total : ℕ) → List ℕ → Work → (is_known : Bool) → Type 0
-IsBehind limits total t work true = EndsOrBegins limits t
-IsBehind limits total t work false = IsUnjudged limits total t work
+abbrev pub FollowsOrUnknown : Limits → (total : ℕ) → List ℕ → Work → (is_known : Bool) → Type 0
+FollowsOrUnknown limits total t work true = EndsOrBegins limits t
+FollowsOrUnknown limits total t work false = IsUnjudged limits total t work
 
 -- what is left of a search for the next
 abbrev pub LeavesWork : Onward → Work → Resync → Type 0

@@ -1,7 +1,7 @@
 //! A builder of documents in the caller's room, as C keeps it.
 
 ghost use Rattle.std.specs.Prelude.{◌≡◌, ◌≤◌, ◌<◌, ◌+◌, ◌++◌, ◌∷◌, [], ◌↔◌, length, pos, IsTrue, IfSome, IfNone};
-ghost use Rattle.bsonraw_c.specs.Build.{Adds, Appends, AppendsElement, AreParts, Begins, Closes, Ends, GoesOn, HoldsDocument, HoldsEnded, HoldsLevel, HoldsMore, IsBegun, IsElementOf, IsReadElement, IsTooLong, Opens, Refuses, TakesLevel};
+ghost use Rattle.bsonraw_c.specs.Build.{Adds, Appends, AppendsElement, AreParts, Begins, ClosesLevel, EndsLevel, TakesMore, HoldsDocument, HoldsEnded, HoldsLevel, HoldsMore, IsBegun, IsElementOf, IsReadElement, IsTooLong, OpensLevel, Refuses, TakesLevel};
 ghost use Rattle.bsonraw_c.specs.BuildParts.{AddsUnder, frame_of_parts};
 ghost use Rattle.bsonraw_c.specs.Codes.{status_code};
 
@@ -53,10 +53,10 @@ pub extern "C" fn bsonraw_builder_begin(builder: &mut Builder, room: &[u8]) -> i
     builder.status
 }
 
-/// Ends a document, which is then at the front of the room.
+/// EndsLevel a document, which is then at the front of the room.
 #[unsafe(no_mangle)]
 pub extern "C" fn bsonraw_builder_end(builder: &mut Builder, room: &mut [u8]) -> i32
-    ensures closes { Closes builder.old builder.new room.old room.new }
+    ensures closes { ClosesLevel builder.old builder.new room.old room.new }
     ensures holds { HoldsDocument builder.old builder.new room.old room.new }
     ensures status { result ≡ builder.new.status }
 {
@@ -116,7 +116,7 @@ pub extern "C" fn bsonraw_append_begin(
     key: &[u8],
     level: &mut Builder,
 ) -> i32
-    ensures opens { Opens tag key.now builder.now level.new room.old room.new }
+    ensures opens { OpensLevel tag key.now builder.now level.new room.old room.new }
     ensures holds { HoldsLevel tag key.now builder.now level.new room.old room.new }
     ensures status { result ≡ level.new.status }
 {
@@ -128,10 +128,10 @@ pub extern "C" fn bsonraw_append_begin(
     level.status
 }
 
-/// Ends a document or an array, which is then an element of the level that the builder has.
+/// EndsLevel a document or an array, which is then an element of the level that the builder has.
 #[unsafe(no_mangle)]
 pub extern "C" fn bsonraw_append_end(builder: &mut Builder, room: &mut [u8], level: &Builder) -> i32
-    ensures ends { Ends level.now builder.old builder.new room.old room.new }
+    ensures ends { EndsLevel level.now builder.old builder.new room.old room.new }
     ensures holds { HoldsEnded level.now builder.old builder.new room.old room.new }
     ensures status { result ≡ builder.new.status }
 {
@@ -146,7 +146,7 @@ impl Builder {
     /// Whether nothing was refused so far; there may have been too little room.
     #[inline(always)]
     fn goes_on(&self) -> bool
-        ensures { IsTrue result ↔ GoesOn self.now }
+        ensures { IsTrue result ↔ TakesMore self.now }
     {
         self.status == 0 || self.status == 8
     }
@@ -218,7 +218,7 @@ impl Builder {
     /// Appends the element of this tag with these parts.
     #[inline(always)]
     fn append(&mut self, room: &mut [u8], tag: u32, key: &[u8], one: &[u8], two: &[u8])
-        requires { GoesOn self.old }
+        requires { TakesMore self.old }
         ensures { Appends tag key.now one.now two.now self.old self.new room.old room.new }
     {
         if !self.is_begun() {
@@ -233,7 +233,7 @@ impl Builder {
     /// Appends the element that an iterator is at.
     #[inline(always)]
     fn append_iter(&mut self, room: &mut [u8], iter: &Iter, bytes: &[u8])
-        requires { GoesOn self.old }
+        requires { TakesMore self.old }
         ensures { AppendsElement bytes.now iter.now self.old self.new room.old room.new }
     {
         if !self.is_begun() {
@@ -248,8 +248,8 @@ impl Builder {
 
     /// Becomes the builder of a level in its own.
     fn open(&mut self, room: &mut [u8], tag: u32, key: &[u8])
-        requires { GoesOn self.old }
-        ensures { Opens tag key.now self.old self.new room.old room.new }
+        requires { TakesMore self.old }
+        ensures { OpensLevel tag key.now self.old self.new room.old room.new }
     {
         if !self.is_begun() {
             return self.refuse(Status::BadOffset);
@@ -275,7 +275,7 @@ impl Builder {
 
     /// Puts the final 0 of the level, and its length.
     fn close(&mut self, room: &mut [u8])
-        ensures { Closes self.old self.new room.old room.new }
+        ensures { ClosesLevel self.old self.new room.old room.new }
     {
         if !self.goes_on() {
             return;
@@ -297,11 +297,11 @@ impl Builder {
         }
     }
 
-    /// Ends a level, and takes it as an element.
+    /// EndsLevel a level, and takes it as an element.
     #[inline(always)]
     fn end(&mut self, room: &mut [u8], level: &Builder)
-        requires { GoesOn self.old }
-        ensures { Ends level.now self.old self.new room.old room.new }
+        requires { TakesMore self.old }
+        ensures { EndsLevel level.now self.old self.new room.old room.new }
     {
         if !self.is_begun() {
             return self.refuse(Status::BadOffset);

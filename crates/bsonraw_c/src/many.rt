@@ -1,5 +1,5 @@
 ghost use Rattle.std.specs.Prelude.{◌+◌, ◌<◌, ◌^◌, length};
-ghost use Rattle.bsonraw_c.specs.Entries.{GoesOn, IsEntryWorkedOut};
+ghost use Rattle.bsonraw_c.specs.Entries.{FillsEntries, IsEntryWorkedOut};
 ghost use Rattle.raw_bson.specs.ElementSteps.{frame_of};
 
 use crate::codes::Status;
@@ -30,7 +30,7 @@ pub extern "C" fn bsonraw_iter_next_many(
     entries: &mut [Entry],
     count: &mut u64,
 ) -> i32
-    ensures { GoesOn bytes.now iter.old iter.new entries.old entries.new count.new result }
+    ensures { FillsEntries bytes.now iter.old iter.new entries.old entries.new count.new result }
 {
     let end = end_of(bytes);
     *count = 0;

@@ -2,7 +2,7 @@ ghost use Rattle.std.specs.Prelude.{◌≡◌, ◌<◌, ◌+◌, ◌^◌, IfNone
 ghost use Rattle.raw_resync.specs.Charge.{IsBounded};
 ghost use Rattle.raw_resync.specs.Resync.{EndsOrBegins};
 ghost use Rattle.raw_resync.specs.Seeking.{IsWork, LacksPiece};
-ghost use Rattle.bsonraw_c.specs.Resync.{BeginsPiece, FindsFirst, GoesOnward, IsBehind, IsInput, LeavesWork, Resyncs, damage_of, work_of};
+ghost use Rattle.bsonraw_c.specs.Resync.{BeginsPiece, FindsFirst, GoesOnward, FollowsOrUnknown, IsInput, LeavesWork, Resyncs, damage_of, work_of};
 
 use crate::codes::Status;
 use crate::reader::Reader;
@@ -218,7 +218,7 @@ fn behind_or_reaching(
     work: &mut Work,
 ) -> Result<Onward, AllocError>
     requires input { IsInput part × IsWork work.old × BeginsPiece part.limits.bytes part.bytes.now len }
-    requires behind { IsBehind part.limits (part.at + length part.bytes.now) (drop len part.bytes.now) work.old is_known }
+    requires behind { FollowsOrUnknown part.limits (part.at + length part.bytes.now) (drop len part.bytes.now) work.old is_known }
     ensures work { IsWork work.new }
     ensures onward { IfOk result (GoesOnward part.entry.limits part.entry.at part.entry.bytes.now work.old work.new) }
 {

@@ -2,7 +2,7 @@
 use Rattle.std.proofs.Common.{◌≡◌, ℕ, suc, ◌+◌, ◌-◌, ◌≤◌, List, [], ◌∷◌, ◌++◌, Option, None, Some, arith, length, length-drop, length-take-le, take, drop, min, sym, ap, ◌∙◌, refl, append-nil}
 use Rattle.std.proofs.lemmas.List.{drop-take, drop-drop, length-take, take-append-drop, take-take}
 use Rattle.std.specs.Io.KnownBytes.{Consumes, IsAtEnd}
-use Rattle.bsonraw_dump.specs.Reading.{IsWindow, Looks, ahead_of}
+use Rattle.bsonraw_dump.specs.Reading.{IsWindow, ReadsAhead, ahead_of}
 use Rattle.bsonraw_dump.specs.declared.window.Window.{Window}
 
 -- how many bytes are ahead
@@ -24,7 +24,7 @@ passed_within at len n room h within =
     omega arith
 
 -- one after the other
-pub looks_on : (a b c : Option (List ℕ)) (x y z : List ℕ) → Looks a b x y → Looks b c y z → Looks a c x z
+pub looks_on : (a b c : Option (List ℕ)) (x y z : List ℕ) → ReadsAhead a b x y → ReadsAhead b c y z → ReadsAhead a c x z
 looks_on a b c x y z p q =
     let less : length x ≤ length y = p.len in
     let more : length y ≤ length z = q.len in

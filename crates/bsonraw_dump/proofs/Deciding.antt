@@ -18,8 +18,8 @@ use Rattle.raw_resync.specs.declared.work.Work.{Work}
 use Rattle.raw_resync.proofs.Face.{believed, charges_none, charges_on, disbelieved, passes_after, passes_since, spent_more}
 use Rattle.raw_resync.proofs.Face as face
 use Rattle.bsonraw_dump.specs.Cut.{EndsWith, IsPiece}
-use Rattle.bsonraw_dump.specs.Find.{Account, Finds, Judges, MayBeDamaged}
-use Rattle.bsonraw_dump.specs.Reading.{IsReadBehind, IsWindow, Looks, SeesAhead, Stays, TellsNext, ahead_of}
+use Rattle.bsonraw_dump.specs.Find.{Account, Finds, FindsFor, MayBeDamaged}
+use Rattle.bsonraw_dump.specs.Reading.{IsReadBehind, IsWindow, ReadsAhead, SeesAhead, Stays, TellsNext, ahead_of}
 use Rattle.bsonraw_dump.specs.Resync.{BreaksWith, Doubts, GoesOnBehind, GoesOnInside, IsBelieved, IsDoubted, IsNextPlace, Searches, SeesBehind, SeesInside, Spends, TellsPart}
 use Rattle.bsonraw_dump.specs.declared.command.Command.{Command}
 use Rattle.bsonraw_dump.specs.declared.command.Command.TheVariants as command
@@ -39,7 +39,7 @@ pub if_err_on : {A E : Type 0} (r : Result A E) (P Q : Type 0) → (P → Q) →
 if_err_on (Ok x) P Q on is = tt
 if_err_on (Err e) P Q on is = on is
 
-looks_same : (r : Option (List ℕ)) (x : List ℕ) → Looks r r x x
+looks_same : (r : Option (List ℕ)) (x : List ℕ) → ReadsAhead r r x x
 looks_same r x = record { is_read = λ before read. read; len = omega arith; kept = take-length x }
 
 pub stays_same : (r : Option (List ℕ)) (x : Window) → IsWindow x → Stays r r x x
@@ -197,7 +197,7 @@ module _ {limits : Limits} (r r' : Option (List ℕ)) (x y : Window) (v w w' : W
       let more : w.spent ≤ w'.spent = spent_more limits (ahead_of y ++ rest) w w' (seeks.works.charges rest may) in
       let (before, over') = p.over s read in
       let since = passes_since limits (x.offset + length s) s first from end w w' before more over' in
-      (before && all, passes_after limits (x.offset + length s) first from place end s w' before all p.low high since over)
+      (before && all, passes_after limits (x.offset + length s) first from place end s w' p.low high since over)
 
   -- it wants more, and more is read
   pub sought_on : (r'' : Option (List ℕ)) (z : Window) (place n : ℕ) (all there last' : Bool) → told ≡ sought.Wants place n all → SeesAhead r' r'' y z n there
@@ -270,7 +270,7 @@ module _ {limits : Limits} (r r' r'' : Option (List ℕ)) (x y z : Window) (v w 
             let (before, over) = subst (λ n. GoesOnInside limits s n from until end w' false) p.searches.stays.offset (q.is s read') in
             let more : w.spent ≤ w'.spent = spent_more limits s w w' ((q.searches.spends s read').charges) in
             let since = passes_since limits (x.offset + length s) s until len end w w' behind' more over' in
-            (before && behind', passes_after limits (x.offset + length s) from until len end s w' before behind' fewer p.high over since);
+            (before && behind', passes_after limits (x.offset + length s) from until len end s w' fewer p.high over since);
       }
 
 -- how many bytes a piece in front has
@@ -365,7 +365,7 @@ finds_sound b finding.Damaged told piece found clean = absurd (clean (inl refl))
 finds_sound b finding.TooDeep told piece found clean = absurd (clean (inr (inl refl)))
 finds_sound b finding.Unjudged told piece found clean = absurd found
 
-pub judges_sound : {limits : Limits} (c : Command) (b : List ℕ) (f : Finding) (told : Option Account) → IsPiece limits.bytes b → Judges limits c b f told → ¬ MayBeDamaged f → IsSound limits b
+pub judges_sound : {limits : Limits} (c : Command) (b : List ℕ) (f : Finding) (told : Option Account) → IsPiece limits.bytes b → FindsFor limits c b f told → ¬ MayBeDamaged f → IsSound limits b
 judges_sound command.Count b f told piece found clean = absurd (clean (inr (inr found.0)))
 judges_sound command.Check b f told piece found clean = finds_sound b f told piece found clean
 judges_sound command.List b f told piece found clean = finds_sound b f told piece found clean

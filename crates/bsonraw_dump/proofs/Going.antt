@@ -6,7 +6,7 @@ use Rattle.std.specs.Io.KnownBytes.{Consumes}
 use Rattle.bsonraw_dump.specs.Cut.{EndsWith, IsPiece, IsSoundLength, said_len}
 use Rattle.bsonraw_dump.specs.declared.ending.Ending.{Ending}
 use Rattle.bsonraw_dump.specs.declared.ending.Ending.TheVariants as ending
-use Rattle.bsonraw_dump.specs.Reading.{IsNext, IsReadBehind, SeesAhead, TellsNext, ahead_of}
+use Rattle.bsonraw_dump.specs.Reading.{IsNextPiece, IsReadBehind, SeesAhead, TellsNext, ahead_of}
 use Rattle.bsonraw_dump.specs.declared.window.Next.{Next}
 use Rattle.bsonraw_dump.specs.declared.window.Next.TheVariants as next
 use Rattle.bsonraw_dump.specs.declared.window.Window.{Window}
@@ -59,7 +59,7 @@ module _ {most : ℕ} (r r' r'' : Option (List ℕ)) (x y z : Window) (from len 
   size : length (drop from (ahead_of z)) ≡ length (ahead_of z) - from
   size = length-drop from (ahead_of z)
 
-  tells_next : (told : Next) → IsNext most r'' (drop from (ahead_of z)) told → TellsNext most r r'' x z from told
+  tells_next : (told : Next) → IsNextPiece most r'' (drop from (ahead_of z)) told → TellsNext most r r'' x z from told
   tells_next told is = record {
     window = second.window;
     offset = second.offset ∙ first.offset;

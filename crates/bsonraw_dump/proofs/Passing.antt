@@ -13,7 +13,7 @@ use Rattle.std.proofs.lemmas.Grind.{flat_map-append, fold-append}
 use Rattle.bsonraw_dump.specs.Cut.{IsPiece}
 use Rattle.bsonraw_dump.specs.Fields.{Table, tabled, with_document}
 use Rattle.bsonraw_dump.specs.Portion.{HasPassedFront}
-use Rattle.bsonraw_dump.specs.Reading.{Looks, TellsNext, ahead_of}
+use Rattle.bsonraw_dump.specs.Reading.{ReadsAhead, TellsNext, ahead_of}
 use Rattle.bsonraw_dump.specs.Resync.{BreaksWith, IsBelieved, IsNextPlace, SkipsTo, Spends, TellsPart}
 use Rattle.raw_resync.specs.Resync.{IsSound}
 use Rattle.raw_resync.specs.Seeking.{IsWork, no_work}
@@ -77,7 +77,7 @@ input_behind bytes x (Some s) (Some rest) P read holds =
 
 -- more is read ahead
 pub passed_ahead : {limits : Limits} (c : Command) (style : Counts → Style) (resync : Bool) (name x y : List ℕ) (r r' r'' d d' w w' : Option (List ℕ)) (n n' : Counts) (k k' : Kept) (ps : List Part)
-    → Passed limits c style resync name x r r' d d' w w' n n' k k' ps → Looks r' r'' x y → Passed limits c style resync name y r r'' d d' w w' n n' k k' ps
+    → Passed limits c style resync name x r r' d d' w w' n n' k k' ps → ReadsAhead r' r'' x y → Passed limits c style resync name y r r'' d d' w w' n n' k k' ps
 passed_ahead c style resync name x y r r' r'' d d' w w' n n' k k' ps p looks = record {
   parts = p.parts;
   is_read = read_behind (bytes_of_parts ps) x y r r' r'' p.is_read looks.is_read;
@@ -147,7 +147,7 @@ repeats_counted at (Some first) = refl
 -- a piece in front of the bytes ahead is passed
 abbrev pub has_passed_piece : {limits : Limits} (c : Command) (style : Counts → Style) (resync : Bool) (name x y z b : List ℕ) (r r' r'' d d' d'' w w' w'' : Option (List ℕ)) (n n' n'' : Counts)
     (k k' k'' : Kept) (offset behind : ℕ) (v v' : Work) (o : Outcome)
-    → HasPassed limits c style resync name x r r' d d' w w' n n' k k' offset v → Looks r' r'' x y → IsPiece limits.bytes b × (y ≡ b ++ z) × (behind ≡ offset + length b)
+    → HasPassed limits c style resync name x r r' d d' w w' n n' k k' offset v → ReadsAhead r' r'' x y → IsPiece limits.bytes b × (y ≡ b ++ z) × (behind ≡ offset + length b)
     → ((s : List ℕ) → Consumes (Some s) r' x → (resync ≡ true → IsBelieved limits s offset (length b) v') × Spends limits s offset v v')
     → PassesOne limits c (style n') name offset b d' d'' w' w'' k' k'' o
     → ((e : Entry) → length e.bytes ≡ length b → e.finding ≡ o.finding → e.findings ≡ findings_of c o → n'' ≡ count_entry n' e)

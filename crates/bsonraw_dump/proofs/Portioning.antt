@@ -5,7 +5,7 @@ use Rattle.std.proofs.lemmas.Grind.{flat_map-append}
 use Rattle.std.specs.Io.KnownBytes.{Consumes, IsAtEnd}
 use Rattle.bsonraw_dump.specs.Cut.{EndsWith, IsPiece, said_len}
 use Rattle.bsonraw_dump.specs.Portion.{BeginsNone, HasPassedFront, IsAllInFront, IsInFront, IsOther, PassesBytes, PassesDocuments}
-use Rattle.bsonraw_dump.specs.Reading.{GoesAhead, IsNext, IsWindow, Looks, ahead_of}
+use Rattle.bsonraw_dump.specs.Reading.{GoesAhead, IsNextPiece, IsWindow, ReadsAhead, ahead_of}
 use Rattle.bsonraw_dump.specs.Run.{IsReading}
 use Rattle.bsonraw_dump.specs.Unique.{joined}
 use Rattle.bsonraw_dump.specs.declared.ending.Ending.{Ending}
@@ -39,7 +39,7 @@ begins_none (ending.Unsound n) s (four, inr more, same) x is (rest, split) =
 begins_none (ending.WrongLength len) s ends x is front = absurd ends
 
 -- so it is of all that is left where no document is next
-none_next : {most : ℕ} (told : Next) (s ahead : List ℕ) (r : Option (List ℕ)) → IsOther told → IsNext most r ahead told → Consumes (Some s) r ahead → BeginsNone most s
+none_next : {most : ℕ} (told : Next) (s ahead : List ℕ) (r : Option (List ℕ)) → IsOther told → IsNextPiece most r ahead told → Consumes (Some s) r ahead → BeginsNone most s
 none_next (next.Document len) s ahead r other is read = absurd other
 none_next next.Nothing s ahead r other (nothing, end) read = λ x is front.
     let (rest, split) = front in
@@ -59,7 +59,7 @@ pub goes_none : (r : Option (List ℕ)) (x : Window) → IsWindow x → (goes : 
 goes_none r x is = (record { window = is; count = 0; offset = sym (add-zero x.offset); passes = passes_none r (ahead_of x) }, refl)
 
 -- more is read ahead
-pub goes_on : {r r' r'' : Option (List ℕ)} {x y : Window} (z : Window) (goes : GoesAhead r r' x y) → Looks r' r'' (ahead_of y) (ahead_of z) → IsWindow z → z.offset ≡ y.offset
+pub goes_on : {r r' r'' : Option (List ℕ)} {x y : Window} (z : Window) (goes : GoesAhead r r' x y) → ReadsAhead r' r'' (ahead_of y) (ahead_of z) → IsWindow z → z.offset ≡ y.offset
     → (on : GoesAhead r r'' x z) × (on.count ≡ goes.count)
 goes_on {r = r} {r' = r'} {r'' = r''} {x = x} {y = y} z goes looks is at = (
   record {
@@ -92,7 +92,7 @@ documents_none most count r x is = (
 )
 
 -- more is read ahead
-pub documents_on : {most count : ℕ} {r r' r'' : Option (List ℕ)} {x y : Window} (z : Window) (d : PassesDocuments most count r r' x y) → Looks r' r'' (ahead_of y) (ahead_of z) → IsWindow z
+pub documents_on : {most count : ℕ} {r r' r'' : Option (List ℕ)} {x y : Window} (z : Window) (d : PassesDocuments most count r r' x y) → ReadsAhead r' r'' (ahead_of y) (ahead_of z) → IsWindow z
     → z.offset ≡ y.offset → (on : PassesDocuments most count r r'' x z) × (length on.documents ≡ length d.documents)
 documents_on {most = most} {count = count} {r = r} {r' = r'} {r'' = r''} {x = x} {y = y} z d looks is at = (
   record {
@@ -112,7 +112,7 @@ pieces_more (d ∷ ds) b (first, rest) is = (first, pieces_more ds b rest is)
 
 -- a document more is passed
 pub documents_past : {most count : ℕ} {r r' : Option (List ℕ)} {x y : Window} (z : Window) (d : PassesDocuments most count r r' x y) (len : ℕ)
-    → IsNext most r' (ahead_of y) (next.Document len) → length d.documents < count → IsWindow z
+    → IsNextPiece most r' (ahead_of y) (next.Document len) → length d.documents < count → IsWindow z
     → ahead_of z ≡ drop len (ahead_of y) → z.offset ≡ y.offset + len → (on : PassesDocuments most count r r' x z) × (length on.documents ≡ length d.documents + 1)
 documents_past {most = most} {count = count} {r = r} {r' = r'} {x = x} {y = y} z d len (within, is) few window ahead at =
     let b = take len (ahead_of y) in
@@ -220,7 +220,7 @@ module _ {r r' r'' : Option (List ℕ)} {x y z : Window} (p : Portion) (most : �
 
   -- all that is in front
   pub all_in_front : (b : PassesBytes p.at r r' x y) (d : PassesDocuments most p.skip r' r'' y z)
-      → (length d.documents < p.skip → (told : Next) × IsOther told × IsNext most r'' (ahead_of z) told) → ahead_of x ≡ []
+      → (length d.documents < p.skip → (told : Next) × IsOther told × IsNextPiece most r'' (ahead_of z) told) → ahead_of x ≡ []
       → HasPassedFront (b.0.passes.bytes ++ joined d.documents) r r'' z → IsAllInFront p most r (b.0.passes.bytes ++ joined d.documents)
   all_in_front (goes, few, ended) d stops none passed =
       let bytes = goes.passes.bytes in

@@ -6,7 +6,7 @@ use Rattle.std.specs.Io.KnownBytes.{Appends}
 use Rattle.std.specs.Option.{option_map}
 use Rattle.bson_json.specs.Written.{AppendsFront}
 use Rattle.raw_tree.specs.declared.reader.limits.Limits.{Limits}
-use Rattle.bsonraw_dump.specs.Find.{Account, Judges}
+use Rattle.bsonraw_dump.specs.Find.{Account, FindsFor}
 use Rattle.bsonraw_dump.specs.Halting.{HaltsInside}
 use Rattle.bsonraw_dump.specs.Run.{Emits, WritesOne, Reports, lines_of_repeats}
 use Rattle.bsonraw_dump.specs.Unique.{Firsts, Placed, first_at, firsts_behind, origin_of, repeat_at, repeats, repeats_of, with_first}
@@ -81,7 +81,7 @@ module _ (c : Command) (style : Style) (at : Origin) (b : List ℕ) (f : Finding
   IsReported = (lines : List ℕ) × Reports c style at.name.now at.offset b f told lines × Appends w w' lines
 
   -- what is found is reported, then a document is written, then its line
-  pub passes_one : (limits : Limits) (repeats : Bool) → repeats ≡ is_some first → Judges limits c b f told → IsReported → Emits c at b f d d' k k' first → Appends w' w'' line_of_repeat
+  pub passes_one : (limits : Limits) (repeats : Bool) → repeats ≡ is_some first → FindsFor limits c b f told → IsReported → Emits c at b f d d' k k' first → Appends w' w'' line_of_repeat
       → WritesOne limits c style at.name.now at.offset b d d' w w'' k k' (record { finding = f; repeats = repeats })
   passes_one limits repeats same judged (lines, reports, put) (made, makes, (writes, places)) repeated =
       (told, judged, (made, makes, writes, (option_map origin_of first, places, same ∙ some_mapped first, (lines, reports, Appends-trans w w' w'' lines line_of_repeat put repeated))))

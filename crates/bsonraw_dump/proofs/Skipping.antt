@@ -13,7 +13,7 @@ use Rattle.raw_resync.specs.declared.search.Sought.TheVariants as sought
 use Rattle.raw_resync.specs.declared.work.Work.{Work}
 use Rattle.raw_resync.proofs.Face.{charges_further, charges_none, charges_on, passes_join, passes_since, spent_more}
 use Rattle.raw_resync.proofs.Face as face
-use Rattle.bsonraw_dump.specs.Reading.{GoesAhead, IsWindow, Looks, Passes, SeesAhead, Stays, ahead_of}
+use Rattle.bsonraw_dump.specs.Reading.{GoesAhead, IsWindow, ReadsAhead, Consumed, SeesAhead, Stays, ahead_of}
 use Rattle.bsonraw_dump.specs.Resync.{IsNextPlace, SkipsTo, Spends}
 use Rattle.bsonraw_dump.specs.declared.resync.Skip.{Skip}
 use Rattle.bsonraw_dump.specs.declared.window.Window.{Window}
@@ -28,11 +28,11 @@ read_behind bytes x y (Some s) (Some rest) (Some left) read more =
     read ∙ append_assoc bytes x rest ∙ ap (λ l. bytes ++ l) (more (Some (x ++ rest)) refl) ∙ sym (append_assoc bytes y left)
 
 -- nothing is passed over
-pub passes_none : (r : Option (List ℕ)) (x : List ℕ) → Passes r r x x 0
+pub passes_none : (r : Option (List ℕ)) (x : List ℕ) → Consumed r r x x 0
 passes_none r x = record { bytes = []; len = refl; is_read = λ before read. read }
 
 -- more is read ahead
-pub passes_ahead : (r r' r'' : Option (List ℕ)) (x y z : List ℕ) (n : ℕ) → Passes r r' x y n → Looks r' r'' y z → Passes r r'' x z n
+pub passes_ahead : (r r' r'' : Option (List ℕ)) (x y z : List ℕ) (n : ℕ) → Consumed r r' x y n → ReadsAhead r' r'' y z → Consumed r r'' x z n
 passes_ahead r r' r'' x y z n p looks = record {
   bytes = p.bytes;
   len = p.len;
@@ -40,7 +40,7 @@ passes_ahead r r' r'' x y z n p looks = record {
 }
 
 -- so many were passed, and more is read ahead
-pub goes_ahead : (r r' r'' : Option (List ℕ)) (x z w : Window) (n : ℕ) → Passes r r' (ahead_of x) (ahead_of z) n → z.offset ≡ x.offset + n → Stays r' r'' z w → GoesAhead r r'' x w
+pub goes_ahead : (r r' r'' : Option (List ℕ)) (x z w : Window) (n : ℕ) → Consumed r r' (ahead_of x) (ahead_of z) n → z.offset ≡ x.offset + n → Stays r' r'' z w → GoesAhead r r'' x w
 goes_ahead r r' r'' x z w n passes at stays = record {
   window = stays.window;
   count = n;
@@ -49,7 +49,7 @@ goes_ahead r r' r'' x z w n passes at stays = record {
 }
 
 -- more bytes are passed over
-pub passes_more : (r r' : Option (List ℕ)) (x y z : List ℕ) (n k : ℕ) → Passes r r' x y n → k ≤ length y → z ≡ drop k y → Passes r r' x z (n + k)
+pub passes_more : (r r' : Option (List ℕ)) (x y z : List ℕ) (n k : ℕ) → Consumed r r' x y n → k ≤ length y → z ≡ drop k y → Consumed r r' x z (n + k)
 passes_more r r' x y z n k p some is =
     let size : length (take k y) ≡ k = length-take-le k y some in
     let whole : y ≡ take k y ++ z = sym (take-append-drop k y) ∙ ap (λ l. take k y ++ l) (sym is) in
@@ -60,7 +60,7 @@ passes_more r r' x y z n k p some is =
     }
 
 -- what is left behind the bytes that are passed over
-pub left_behind : (r r' : Option (List ℕ)) (x y s : List ℕ) (n : ℕ) → Passes r r' x y n → Consumes (Some s) r x → Consumes (Some (drop n s)) r' y × (n ≤ length s)
+pub left_behind : (r r' : Option (List ℕ)) (x y s : List ℕ) (n : ℕ) → Consumed r r' x y n → Consumes (Some s) r x → Consumes (Some (drop n s)) r' y × (n ≤ length s)
 left_behind r None x y s n p read = absurd (p.is_read (Some s) read)
 left_behind r (Some rest) x y s n p read =
     let all = p.is_read (Some s) read ∙ append_assoc p.bytes y rest in
@@ -88,7 +88,7 @@ pub record IsSearched (limits : Limits) (r r' : Option (List ℕ)) (x y : Window
   pub start : 1 ≤ n + from
   pub within : from ≤ length (ahead_of y)
   pub ends : last ≡ true → IsAtEnd r'
-  pub passes : Passes r r' (ahead_of x) (ahead_of y) n
+  pub passes : Consumed r r' (ahead_of x) (ahead_of y) n
   pub searches : (s : List ℕ) → Consumes (Some s) r (ahead_of x) → IsCovered limits s x.offset old new (n + from) all
 
 pub searched_none : {limits : Limits} (r : Option (List ℕ)) (x : Window) (w : Work) → IsWindow x → IsWork w → 0 < length (ahead_of x) → IsSearched limits r r x x w w 1 false true
@@ -170,7 +170,7 @@ module _ {limits : Limits} (r r' : Option (List ℕ)) (x y : Window) (old mid ne
         let over' = subst (λ n. PassesOver limits (x.offset + length s) (drop is.n s) from place n new more) end
         (subst (λ n. PassesOver limits (x.offset + length s) (drop is.n s) n place q.end new more) begin over) in
         record {
-          over = passes_join limits (x.offset + length s) 1 is.n from place s new all more is.start high
+          over = passes_join limits (x.offset + length s) 1 is.n from place s new is.start high
               (passes_since limits (x.offset + length s) s 1 (is.n + from) 0 mid new all (spent_more limits s mid new here) before.over) over';
           spends = record {
             charges = charges_on limits s old mid new before.spends.charges here;
@@ -212,7 +212,7 @@ module _ {limits : Limits} (r r' : Option (List ℕ)) (x y : Window) (old mid ne
         window = window;
         offset = at ∙ ap (λ m. m + place) is.offset ∙ add_assoc x.offset is.n place ∙ ap (λ m. x.offset + m) (sym count);
         work = work;
-        passes = subst (Passes r r' (ahead_of x) (ahead_of z)) (sym count) over;
+        passes = subst (Consumed r r' (ahead_of x) (ahead_of z)) (sym count) over;
         is = λ s read.
             let here = tells (sought.Found place more) seeks s read in
             let done = searched (sought.Found place more) seeks place more s read low here.4 in

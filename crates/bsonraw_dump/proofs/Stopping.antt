@@ -5,7 +5,7 @@ use Rattle.std.proofs.KnownBytes.{Appends-kept}
 use Rattle.raw_tree.specs.declared.reader.limits.Limits.{Limits}
 use Rattle.bsonraw_dump.specs.Reading.{GoesAhead, IsReadBehind, ReadsRest, ahead_of}
 use Rattle.bsonraw_dump.specs.Resync.{TellsPart}
-use Rattle.bsonraw_dump.specs.Run.{Ends, EndsAs, FailsAt, IsLeft, Leaves, PassesAll, StopsAt, bytes_of_parts, count_end, count_rest, lines_of_parts}
+use Rattle.bsonraw_dump.specs.Run.{EndsRun, EndsAs, FailsAt, IsLeft, Leaves, PassesAll, EndsParts, bytes_of_parts, count_end, count_rest, lines_of_parts}
 use Rattle.bsonraw_dump.specs.Cut.{EndsWith}
 use Rattle.bsonraw_dump.specs.Told.{ending_line}
 use Rattle.bsonraw_dump.specs.declared.command.Command.{Command}
@@ -58,7 +58,7 @@ left_unsound r r' x len drained ends l = record {
 
 -- the last part ended where reading failed
 pub fails_here : (limits : Limits) (resync : Bool) (r : Option (List ℕ)) (y : Window) (left : List ℕ) (from start : ℕ) (s : Stop) → FailsAt from s → from ≡ start
-    → y.offset + length (ahead_of y) ≡ start + length left → StopsAt limits resync s start r y left
+    → y.offset + length (ahead_of y) ≡ start + length left → EndsParts limits resync s start r y left
 fails_here limits resync r y left from start stop.End fails at end = absurd fails
 fails_here limits resync r y left from start stop.Enough fails at end = absurd fails
 fails_here limits resync r y left from start (stop.Left e) fails at end = absurd fails
@@ -119,7 +119,7 @@ module _ {limits : Limits} (c : Command) (style : Counts → Style) (resync : Bo
 
   -- with what no document begins with
   abbrev pub ends_left : (y : Window) (e : Ending) (failed : Option ReadFailure) → PassesAll limits c style resync name r r' d d' w w' n n' k k' y (stop.Left e)
-      → Leaves limits (style n') name e y r' r'' w' w'' n' n'' failed → Ends limits c style resync name r r'' d d' w w'' n n'' k k' failed
+      → Leaves limits (style n') name e y r' r'' w' w'' n' n'' failed → EndsRun limits c style resync name r r'' d d' w w'' n n'' k k' failed
   ends_left y e failed p l =
       let (ahead, at, ends, behind, unasked) = p.stops in
       let bytes = bytes_of_parts p.ps in

@@ -3,7 +3,7 @@ use Rattle.std.proofs.Common.{◌≡◌, ◌+◌, ◌<◌, ◌≤◌, ℕ, List,
 use Rattle.std.proofs.lemmas.List.{drop_all, drop_more, map-append, map_more, take-append-drop, take_all}
 use Rattle.std.specs.Io.KnownBytes.{Appends, Keeps}
 use Rattle.bson_json.specs.Written.{AppendsFront}
-use Rattle.bsonraw_dump.specs.Batch.{Comes, CountsInput, CountsMore, CountsRun, EndsAll, IsRun, RunsAll, RunsFront, RunsOver, State, HaltsBefore, HaltsWithin, all_line, cut_of, input_line, start_of, state_of, style_behind}
+use Rattle.bsonraw_dump.specs.Batch.{CountsAnother, CountsInput, CountsMore, CountsRun, EndsAll, IsRun, RunsAll, RunsFront, RunsOver, State, HaltsBefore, HaltsWithin, all_line, cut_of, input_line, start_of, state_of, style_behind}
 use Rattle.bsonraw_dump.specs.Portion.{EndsPortion, HaltsPortion}
 use Rattle.bsonraw_dump.specs.Run.{no_counts, plus}
 use Rattle.bsonraw_dump.specs.Status.{IsFailureStatus, IsStatus}
@@ -22,14 +22,14 @@ use Rattle.bsonraw_dump.proofs.Choosing.{halts_first}
 
 module _ (job : Job) (bytes_of : List ℕ → Option (List ℕ)) where
   -- one more input is run over
-  pub runs_more : (names : List (List ℕ)) (name : List ℕ) (first between last : State) → RunsOver job bytes_of names first between → Comes job (bytes_of name) name between last
+  pub runs_more : (names : List (List ℕ)) (name : List ℕ) (first between last : State) → RunsOver job bytes_of names first between → CountsAnother job (bytes_of name) name between last
       → RunsOver job bytes_of (names ++ name ∷ []) first last
-  runs_more [] name first between last same comes = (last, subst (λ (s : State). Comes job (bytes_of name) name s last) same comes, refl)
+  runs_more [] name first between last same comes = (last, subst (λ (s : State). CountsAnother job (bytes_of name) name s last) same comes, refl)
   runs_more (x ∷ names) name first between last (next, came, runs) comes = (next, came, runs_more names name next between last runs comes)
 
   -- the same of the first of these
   pub runs_next : {A : Type 0} (f : A → List ℕ) (names : List A) (i : ℕ) (d : A) (first between last : State) → i < length names → RunsOver job bytes_of (map f (take i names)) first between
-      → Comes job (bytes_of (f (get_or names i d))) (f (get_or names i d)) between last → RunsOver job bytes_of (map f (take (i + 1) names)) first last
+      → CountsAnother job (bytes_of (f (get_or names i d))) (f (get_or names i d)) between last → RunsOver job bytes_of (map f (take (i + 1) names)) first last
   runs_next f names i d first between last there runs comes =
       subst (λ (xs : List (List ℕ)). RunsOver job bytes_of xs first last) (sym (map_more f names i d there))
       (runs_more (map f (take i names)) (f (get_or names i d)) first between last runs comes)
@@ -84,7 +84,7 @@ module _ (job : Job) (name : List ℕ) (input : Option (List ℕ)) (d d' w w' w'
       (goes_on, inl (subst (λ (x : Option (List ℕ)). IsRun job t.counts name x d d' w w' t.kept t'.kept n goes_on) same ran), counted, cut)
 
   -- its line is written
-  pub comes_whole : CountsInput job name input d d' w w' t t' n → Appends w' w'' (input_line job job.command name n) → Comes job input name (state_of d w t) (state_of d' w'' t')
+  pub comes_whole : CountsInput job name input d d' w w' t t' n → Appends w' w'' (input_line job job.command name n) → CountsAnother job input name (state_of d w t) (state_of d' w'' t')
   comes_whole (goes_on, is, counted, cut) told =
       record { counts = n; goes_on = goes_on; report_between = w'; is = is; told = told; is_counted = counted; cut = cut }
 

@@ -8,8 +8,8 @@ use Rattle.bsonraw_dump.specs.Fronts.{HasFront}
 use Rattle.bsonraw_dump.specs.Reading.{ahead_of}
 use Rattle.bsonraw_dump.specs.TextFaults.{fault_line}
 use Rattle.bsonraw_dump.specs.TextReading.{PassesAhead}
-use Rattle.bsonraw_dump.specs.TextRun.{Gives, HaltsText, IsBegun, IsDocument, IsFaultOf, IsRefused, PassesText, TellsFault, TellsNoText, count_made}
-use Rattle.bsonraw_dump.specs.Texts.{HasBrace, IsOpen, IsWhole, may_begin, position_over, scanned, turn_behind_document, turn_behind_gap}
+use Rattle.bsonraw_dump.specs.TextRun.{Gives, HaltsText, IsBegun, IsDocument, IsFaultOf, IsRefused, PassesText, TellsTextFault, TellsNoText, count_made}
+use Rattle.bsonraw_dump.specs.Texts.{HasBrace, IsOpen, IsOneText, may_begin, position_over, scanned, turn_behind_document, turn_behind_gap}
 use Rattle.bsonraw_dump.specs.declared.cursor.Cursor.{Cursor}
 use Rattle.bsonraw_dump.specs.declared.cursor.NextText.{NextText}
 use Rattle.bsonraw_dump.specs.declared.position.Position.{Position}
@@ -23,7 +23,7 @@ use Rattle.bsonraw_dump.proofs.Fronts.{front_none}
 
 -- the line of a fault so many bytes behind a place, in the front of what is ahead
 abbrev tells_fault : (style : Style) (name ahead : List ℕ) (place : Position) (len at : ℕ) (reason : TextReason) → len ≤ length ahead → at ≤ len
-    → TellsFault style name place (take len ahead) (fault_line style name (position_over place (take at ahead)) reason)
+    → TellsTextFault style name place (take len ahead) (fault_line style name (position_over place (take at ahead)) reason)
 tells_fault style name ahead place len at reason fits within = record {
   at = at;
   within = subst (λ (n : ℕ). at ≤ n) (sym (length-take-le len ahead fits)) within;
@@ -32,10 +32,10 @@ tells_fault style name ahead place len at reason fits within = record {
 }
 
 -- a text that isn't empty begins with the brace that is ahead
-no_byte : (ahead : List ℕ) → ¬ IsWhole (take 0 ahead)
+no_byte : (ahead : List ℕ) → ¬ IsOneText (take 0 ahead)
 no_byte ahead whole = let same : scan.Levels 0 true ≡ scan.Whole = whole in let none : ⊥ = cc in none
 
-brace_first : (len : ℕ) (ahead : List ℕ) → HasBrace ahead → IsWhole (take len ahead) → HasBrace (take len ahead)
+brace_first : (len : ℕ) (ahead : List ℕ) → HasBrace ahead → IsOneText (take len ahead) → HasBrace (take len ahead)
 brace_first zero ahead brace whole = absurd (no_byte ahead whole)
 brace_first (suc n) ahead (rest, same) whole = (take n rest, ap (take (suc n)) same)
 
@@ -55,7 +55,7 @@ first_of : (len : ℕ) (ahead : List ℕ) → HasFront ahead (take len ahead)
 first_of len ahead = (drop len ahead, sym (take-append-drop len ahead))
 
 module _ (style : Style) (name ahead : List ℕ) (place : Position) (t v : Turn) (len : ℕ) (fits : len ≤ length ahead) where
-  is_document : (document : List ℕ) → may_begin t ≡ true → HasBrace ahead → IsWhole (take len ahead) → Gives (take len ahead) document → v ≡ turn_behind_document t
+  is_document : (document : List ℕ) → may_begin t ≡ true → HasBrace ahead → IsOneText (take len ahead) → Gives (take len ahead) document → v ≡ turn_behind_document t
       → IsDocument t (take len ahead) (document ∷ []) [] v
   is_document document may brace whole is next = record {
     may_be = may;
@@ -79,7 +79,7 @@ module _ (style : Style) (name ahead : List ℕ) (place : Position) (t v : Turn)
       next = next;
     }
 
-    is_refused : may_begin t ≡ true → HasBrace ahead → IsWhole (take len ahead) → IsFaultOf (take len ahead) at reason → v ≡ turn_behind_document t
+    is_refused : may_begin t ≡ true → HasBrace ahead → IsOneText (take len ahead) → IsFaultOf (take len ahead) at reason → v ≡ turn_behind_document t
         → IsRefused style name place t (take len ahead) [] (fault_line style name (position_over place (take at ahead)) reason) v
     is_refused may brace whole why next = record {
       may_be = may;
@@ -110,7 +110,7 @@ module _ (style : Style) (name : List ℕ) (told : NextText) (y z : Cursor) (t v
       is_counted = counted;
     }
 
-    pub passes_refused : may_begin t ≡ true → HasBrace (ahead_of y.window) → IsWhole (take len (ahead_of y.window)) → IsFaultOf (take len (ahead_of y.window)) at reason
+    pub passes_refused : may_begin t ≡ true → HasBrace (ahead_of y.window) → IsOneText (take len (ahead_of y.window)) → IsFaultOf (take len (ahead_of y.window)) at reason
         → v ≡ turn_behind_document t → PassesText style name told y z t v out out w w' n n' went.Refused
     passes_refused may brace whole why next = record {
       window = p.is.0;
@@ -127,7 +127,7 @@ module _ (style : Style) (name : List ℕ) (told : NextText) (y z : Cursor) (t v
     }
 
   pub passes_document : (document : List ℕ) (d d' w : Option (List ℕ)) (n n' : TextCounts) → PassesFirst y z len → may_begin t ≡ true
-      → HasBrace (ahead_of y.window) × IsWhole (take len (ahead_of y.window)) × Gives (take len (ahead_of y.window)) document → Appends d d' document
+      → HasBrace (ahead_of y.window) × IsOneText (take len (ahead_of y.window)) × Gives (take len (ahead_of y.window)) document → Appends d d' document
       → n' ≡ count_made n (document ∷ []) → v ≡ turn_behind_document t → PassesText style name told y z t v d d' w w n n' went.Document
   passes_document document d d' w n n' p may (brace, whole, is) written counted next = record {
     window = p.is.0;
@@ -150,7 +150,7 @@ module _ (ahead : List ℕ) (place : Position) (t : Turn) where
 
   module _ (len : ℕ) (fits : len ≤ length ahead) where
     -- a front of a document
-    pub halts_document : (document : List ℕ) (d d' : Option (List ℕ)) → may_begin t ≡ true → HasBrace ahead → IsWhole (take len ahead) → Gives (take len ahead) document
+    pub halts_document : (document : List ℕ) (d d' : Option (List ℕ)) → may_begin t ≡ true → HasBrace ahead → IsOneText (take len ahead) → Gives (take len ahead) document
         → AppendsFront d d' document → (style : Style) (name : List ℕ) (told : NextText) (w : Option (List ℕ)) → HaltsText style name told place t ahead d d' w w
     halts_document document d d' may brace whole is front style name told w = inr (
       went.Document,
@@ -181,7 +181,7 @@ module _ (ahead : List ℕ) (place : Position) (t : Turn) where
         front,
       )
 
-      pub halts_refused : may_begin t ≡ true → HasBrace ahead → IsWhole (take len ahead) → IsFaultOf (take len ahead) at reason → (told : NextText) (out : Option (List ℕ))
+      pub halts_refused : may_begin t ≡ true → HasBrace ahead → IsOneText (take len ahead) → IsFaultOf (take len ahead) at reason → (told : NextText) (out : Option (List ℕ))
           → HaltsText style name told place t ahead out out w w'
       halts_refused may brace whole why told out = inr (
         went.Refused,

@@ -9,7 +9,7 @@ use Rattle.std.proofs.KnownBytes.{Appends-nil, Appends-trans, Consumes-nil}
 use Rattle.bsonraw_dump.specs.Fronts.{HasFront}
 use Rattle.bsonraw_dump.specs.Reading.{IsWindow, ahead_of}
 use Rattle.bsonraw_dump.specs.TextReading.{Advances, FindsText, GoesOnTo, IsAhead, IsNextText, IsScanned, PassesGap}
-use Rattle.bsonraw_dump.specs.TextRun.{AreTexts, EndsAs, FailsAt, GoesOn, HaltsText, HaltsTexts, HasNoText, IsAstray, IsBegun, IsDocument, IsPassed, IsRefused, IsTextPart, LastGoesOn, PassesBehind, PassesText, ReadsTexts, TellsNoText, TextPart, bytes_of, bytes_of_texts, count_text, joined, lines_of_texts, made_of_texts, style_of_fault, turn_behind_texts}
+use Rattle.bsonraw_dump.specs.TextRun.{AreTexts, EndsAs, FailsAt, IsPassedOver, HaltsText, HaltsTexts, HasNoText, MeetsNoText, IsBegun, IsDocument, Becomes, IsRefused, IsTextPart, LastGoesOn, PassesBehind, PassesText, ReadsTexts, TellsNoText, TextPart, bytes_of, bytes_of_texts, count_text, joined, lines_of_texts, made_of_texts, style_of_fault, turn_behind_texts}
 use Rattle.bsonraw_dump.specs.Texts.{EndsGap, HasNoLine, IsOpen, IsTextOf, begins_line, first_position, position_behind, position_over, scanned, turn_behind_gap, turn_over}
 use Rattle.bsonraw_dump.specs.declared.cursor.Cursor.{Cursor}
 use Rattle.bsonraw_dump.specs.declared.cursor.NextText.{NextText}
@@ -34,14 +34,14 @@ use Rattle.bsonraw_dump.proofs.TextWhole.{unended_says_none}
 -- parts may come behind each of these
 abbrev pub AllGoOn : Bool → List TextPart → Type 0
 AllGoOn keep_going [] = Unit {0}
-AllGoOn keep_going (p ∷ ps) = GoesOn keep_going p × AllGoOn keep_going ps
+AllGoOn keep_going (p ∷ ps) = IsPassedOver keep_going p × AllGoOn keep_going ps
 
-go_more : (k : Bool) (ps : List TextPart) (p : TextPart) → AllGoOn k ps → GoesOn k p → AllGoOn k (ps ++ p ∷ [])
+go_more : (k : Bool) (ps : List TextPart) (p : TextPart) → AllGoOn k ps → IsPassedOver k p → AllGoOn k (ps ++ p ∷ [])
 go_more k [] p all here = (here, tt)
 go_more k (x ∷ ps) p (first, rest) here = (first, go_more k ps p rest here)
 
 -- so may they behind the last
-last_goes : (k : Bool) (before : List TextPart) (p : TextPart) → AllGoOn k (before ++ p ∷ []) → GoesOn k p
+last_goes : (k : Bool) (before : List TextPart) (p : TextPart) → AllGoOn k (before ++ p ∷ []) → IsPassedOver k p
 last_goes k [] p (here, rest) = here
 last_goes k (x ∷ before) p (first, rest) = last_goes k before p rest
 
@@ -167,7 +167,7 @@ module _ (a : AskedTexts) (input r d d' w w' : Option (List ℕ)) (n n' : TextCo
 
   -- it is passed
   goes_more : (r' d'' w'' : Option (List ℕ)) (n'' : TextCounts) (y : Cursor) (p : TextPart) → IsTextPart (style_of_fault a.style a.limit n') a.name.now input x.window.offset x.place t p
-      → Advances r r' x y (bytes_of p) → Appends d' d'' (joined p.made) → Appends w' w'' p.lines → n'' ≡ count_text n' p → GoesOn a.keep_going p
+      → Advances r r' x y (bytes_of p) → Appends d' d'' (joined p.made) → Appends w' w'' p.lines → n'' ≡ count_text n' p → IsPassedOver a.keep_going p
       → GoesOnBehind a input r' d d'' w w'' n n'' y p.behind
   goes_more r' d'' w'' n'' y p is advances written told counted goes =
       let bytes = bytes_of_texts g.ps in
@@ -260,7 +260,7 @@ module _ (style : Style) (name : List ℕ) (input r' : Option (List ℕ)) (bytes
   astray_of : (text gap : List ℕ) (made : List (List ℕ)) (lines : List ℕ) (v behind : Turn) → IsBegun style name place u ahead told text made lines v
       → HasNoLine (position_over place text) gap → ((behind ≡ turn_behind_gap u) ⊎ (behind ≡ turn.Last))
       → IfSome input (λ s. EndsGap (position_over place (text ++ gap)) (turn_behind_gap u) (drop (length bytes + length (text ++ gap)) s) behind)
-      → IsAstray style name input (length bytes) place u (text ++ gap) made lines behind
+      → MeetsNoText style name input (length bytes) place u (text ++ gap) made lines behind
   astray_of text gap made lines v behind is none next ends = record {
     begun = text;
     gap = gap;
@@ -325,7 +325,7 @@ IsWritten made = (document : List ℕ) × (made ≡ document ∷ [])
 
 -- a document is written, unless the run goes on behind a fault
 written_of : (style : Style) (name : List ℕ) (place : Position) (before : Turn) (ahead : List ℕ) (told : NextText) (what : Went) (text : List ℕ) (made : List (List ℕ)) (lines : List ℕ)
-    (behind : Turn) (k : Bool) → IsPassed style name place before ahead told what text made lines behind → (what ≡ went.Document) ⊎ (k ≡ true)
+    (behind : Turn) (k : Bool) → Becomes style name place before ahead told what text made lines behind → (what ≡ went.Document) ⊎ (k ≡ true)
     → IsWritten made ⊎ (k ≡ true)
 written_of style name place before ahead told what text made lines behind k is (inr asked) = inr asked
 written_of style name place before ahead told went.Document text made lines behind k is (inl same) = inl (is.document, is.makes)
@@ -334,7 +334,7 @@ written_of style name place before ahead told went.Astray text made lines behind
 
 -- of a text with a fault nothing is written
 none_made : (style : Style) (name : List ℕ) (place : Position) (before : Turn) (ahead : List ℕ) (told : NextText) (what : Went) (text : List ℕ) (made : List (List ℕ)) (lines : List ℕ)
-    (behind : Turn) → IsPassed style name place before ahead told what text made lines behind → what ≢ went.Document → made ≡ []
+    (behind : Turn) → Becomes style name place before ahead told what text made lines behind → what ≢ went.Document → made ≡ []
 none_made style name place before ahead told went.Document text made lines behind is other = absurd (other refl)
 none_made style name place before ahead told went.Refused text made lines behind is other = is.none
 none_made style name place before ahead told went.Astray text made lines behind is other = is.none
@@ -408,16 +408,16 @@ module _ (a : AskedTexts) (input r r' d d' w w' : Option (List ℕ)) (n n' : Tex
 
   -- what is next is a part
   part_of : (text : List ℕ) (made : List (List ℕ)) (lines : List ℕ) (v : Turn)
-      → IsDocument u text made lines v ⊎ IsRefused shown a.name.now y.place u text made lines v ⊎ IsAstray shown a.name.now input (length before) y.place u text made lines v
+      → IsDocument u text made lines v ⊎ IsRefused shown a.name.now y.place u text made lines v ⊎ MeetsNoText shown a.name.now input (length before) y.place u text made lines v
       → IsTextPart shown a.name.now input x.window.offset x.place t (record { front = f.front; text = text; made = made; lines = lines; behind = v })
   part_of text made lines v is =
-      let first = subst (λ m. IsDocument u text made lines v ⊎ IsRefused shown a.name.now y.place u text made lines v ⊎ IsAstray shown a.name.now input m y.place u text made lines v)
+      let first = subst (λ m. IsDocument u text made lines v ⊎ IsRefused shown a.name.now y.place u text made lines v ⊎ MeetsNoText shown a.name.now input m y.place u text made lines v)
       (sym far_found) is in
       record {
         between = u;
         fronts = f.turns;
         is = subst (λ q. IsDocument u text made lines v ⊎ IsRefused shown a.name.now q u text made lines v
-            ⊎ IsAstray shown a.name.now input (x.window.offset + length f.front) q u text made lines v) f.advances.place first;
+            ⊎ MeetsNoText shown a.name.now input (x.window.offset + length f.front) q u text made lines v) f.advances.place first;
       }
 
   -- the text is in front of the input, behind what is before it
@@ -428,7 +428,7 @@ module _ (a : AskedTexts) (input r r' d d' w w' : Option (List ℕ)) (n n' : Tex
 
   -- and with what is passed over behind it, where it is no whole one
   completed : (what : Went) (text : List ℕ) (made : List (List ℕ)) (lines : List ℕ) (v : Turn) → HasFront (ahead_of y.window) text
-      → IsPassed shown a.name.now y.place u (ahead_of y.window) told what text made lines v → Completes shown a.name.now input (bytes_of_texts g.ps) x t f.front text made lines
+      → Becomes shown a.name.now y.place u (ahead_of y.window) told what text made lines v → Completes shown a.name.now input (bytes_of_texts g.ps) x t f.front text made lines
   completed went.Document text made lines v front is =
       let same : text ≡ text ++ [] = sym (append-nil text) in
       ([], v, part_of (text ++ []) made lines v (inl (subst (λ l. IsDocument u l made lines v) same is)), front_text (text ++ []) (subst (HasFront (ahead_of y.window)) same front))
@@ -514,7 +514,7 @@ module _ (a : AskedTexts) (input r r' d d' w w' : Option (List ℕ)) (n n' : Tex
     fails_behind r'' q e asked goes is =
         let (part, made, lines, h) = last_part in
         let one = written_of shown a.name.now y.place u (ahead_of y.window) told what p.text p.made p.lines v a.keep_going p.is asked in
-        let on : GoesOn a.keep_going part = subst (λ l. IsWritten l ⊎ (a.keep_going ≡ true)) (sym made) one in
+        let on : IsPassedOver a.keep_going part = subst (λ l. IsWritten l ⊎ (a.keep_going ≡ true)) (sym made) one in
         fails_at a input r'' d d'' w w'' n n'' q (g.ps ++ part ∷ []) e h (last_of a.keep_going (g.ps ++ part ∷ []) (go_more a.keep_going g.ps part g.all on))
         (at_more input r' r'' z q (at_more input r r' x z (at_of a input r d d' w w' n n' x t g) (f.front ++ p.text, over_text)) goes) is
 
@@ -523,12 +523,12 @@ module _ (a : AskedTexts) (input r r' d d' w w' : Option (List ℕ)) (n n' : Tex
     halts_passed = let (part, made, lines, h) = last_part in halts_has a input d d'' w w'' n n'' (g.ps ++ part ∷ []) h
 
     -- nothing is passed behind it
-    goes_whole : GoesOn a.keep_going (record { front = f.front; text = p.text; made = p.made; lines = p.lines; behind = v })
+    goes_whole : IsPassedOver a.keep_going (record { front = f.front; text = p.text; made = p.made; lines = p.lines; behind = v })
         → IsDocument u p.text p.made p.lines v ⊎ IsRefused shown a.name.now y.place u p.text p.made p.lines v → GoesOnBehind a input r' d d'' w w'' n n'' z v
     goes_whole on is =
         let part : TextPart = record { front = f.front; text = p.text; made = p.made; lines = p.lines; behind = v } in
         let three : IsDocument u p.text p.made p.lines v ⊎ IsRefused shown a.name.now y.place u p.text p.made p.lines v
-        ⊎ IsAstray shown a.name.now input (length before) y.place u p.text p.made p.lines v = elim is [ inl a ↦ inl a | inr b ↦ inr (inl b) ] in
+        ⊎ MeetsNoText shown a.name.now input (length before) y.place u p.text p.made p.lines v = elim is [ inl a ↦ inl a | inr b ↦ inr (inl b) ] in
         goes_more a input r d d' w w' n n' x t g r' d'' w'' n'' z part (part_of p.text p.made p.lines v three) over_text p.is_written p.is_reported p.is_counted on
 
     -- bytes are

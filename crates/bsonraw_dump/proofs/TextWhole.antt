@@ -13,7 +13,7 @@ use Rattle.json.specs.Token.{Token}
 use Rattle.json.specs.Tree.{items_tokens, json_tokens, members_tokens}
 use Rattle.json.specs.Word.{is_operator, is_space, word}
 use Rattle.bsonraw_dump.specs.TextReading.{ScansAhead}
-use Rattle.bsonraw_dump.specs.Texts.{IsOpen, IsWhole, closed, in_levels, in_text, opened, scanned, start, step}
+use Rattle.bsonraw_dump.specs.Texts.{IsOpen, IsOneText, closed, in_levels, in_text, opened, scanned, start, step}
 use Rattle.bsonraw_dump.specs.declared.scan.Scan.{Scan}
 use Rattle.bsonraw_dump.specs.declared.scan.Scan.TheVariants as scan
 use Rattle.bsonraw_dump.specs.declared.scan.Scanned.{Scanned}
@@ -287,10 +287,10 @@ unfolding lex
 goes [] m = λ p n flag may fits free h stays. absurd (no_end p n may h)
 goes (x ∷ xs) m = λ p n flag may fits free h stays. byte_goes x xs (goes xs) m (class x) p n flag may (is_of_class x, λ b. b) (fits, free) h stays.1
 
-object_is_whole : (text : List ℕ) (ms : Members) → StaysOpen start text → tokens text ≡ json_tokens (json.object ms) → IsWhole text
+object_is_whole : (text : List ℕ) (ms : Members) → StaysOpen start text → tokens text ≡ json_tokens (json.object ms) → IsOneText text
 object_is_whole text ms stays is = goes text between fresh 0 true true tt (λ e. absurd (true≢false e)) (subst (λ l. EndsLevels 0 true l) (sym is) (object_ends ms)) stays
 
-says_whole : (text : List ℕ) (es : Entries) → StaysOpen start text → Says text es → IsWhole text
+says_whole : (text : List ℕ) (es : Entries) → StaysOpen start text → Says text es → IsOneText text
 says_whole text es stays (json.null, is, means) = absurd means
 says_whole text es stays (json.boolean b, is, means) = absurd means
 says_whole text es stays (json.number s, is, means) = absurd means
@@ -324,7 +324,7 @@ open_front text n h =
     was_open (scanned (take n text)) (drop n text)
     (subst (λ (s : Scan). IsOpen s) (ap scanned (sym (take-append-drop n text)) ∙ fold-append step start (take n text) (drop n text)) h)
 
-whole_if : (text : List ℕ) (s : Scan) → scanned text ≡ s → (¬ IsOpen s → IsOpen (scanned (take (length text - 1) text))) → (StaysOpen start text → IsWhole text) → IsWhole text
+whole_if : (text : List ℕ) (s : Scan) → scanned text ≡ s → (¬ IsOpen s → IsOpen (scanned (take (length text - 1) text))) → (StaysOpen start text → IsOneText text) → IsOneText text
 whole_if text (scan.Levels n may) is last shown = shown (stays_open start text (open_front text (length text - 1) (subst (λ (s : Scan). IsOpen s) (sym is) tt)))
 whole_if text (scan.Text n) is last shown = shown (stays_open start text (open_front text (length text - 1) (subst (λ (s : Scan). IsOpen s) (sym is) tt)))
 whole_if text (scan.Escape n) is last shown = shown (stays_open start text (open_front text (length text - 1) (subst (λ (s : Scan). IsOpen s) (sym is) tt)))
@@ -332,7 +332,7 @@ whole_if text scan.Whole is last shown = is
 whole_if text scan.Torn is last shown = shown (stays_open start text (last (λ h. h)))
 
 -- what is read for a text is whole, if it says a document
-said_is_whole : (ahead : List ℕ) (found : Scanned) (es : Entries) → ScansAhead ahead found → Says (take found.len ahead) es → IsWhole (take found.len ahead)
+said_is_whole : (ahead : List ℕ) (found : Scanned) (es : Entries) → ScansAhead ahead found → Says (take found.len ahead) es → IsOneText (take found.len ahead)
 said_is_whole ahead found es scans says =
     let text = take found.len ahead in
     let same : take (length text - 1) text ≡ take (found.len - 1) ahead =
@@ -341,8 +341,8 @@ said_is_whole ahead found es scans says =
     λ done. subst (λ l. IsOpen (scanned l)) (sym same) (scans.last (λ h. done (subst (λ (s : Scan). IsOpen s) scans.scan h))).1 in
     whole_if text (scanned text) refl last (λ stays. says_whole text es stays says)
 
-pub written_is_whole : (ahead document : List ℕ) (found : Scanned) → ScansAhead ahead found → IsWritten (take found.len ahead) document → IsWhole (take found.len ahead)
+pub written_is_whole : (ahead document : List ℕ) (found : Scanned) → ScansAhead ahead found → IsWritten (take found.len ahead) document → IsOneText (take found.len ahead)
 written_is_whole ahead document found scans written = said_is_whole ahead found written.0 scans written.1
 
-pub unended_says_none : (ahead : List ℕ) (found : Scanned) → ScansAhead ahead found → ¬ IsWhole (take found.len ahead) → SaysNone (take found.len ahead)
+pub unended_says_none : (ahead : List ℕ) (found : Scanned) → ScansAhead ahead found → ¬ IsOneText (take found.len ahead) → SaysNone (take found.len ahead)
 unended_says_none ahead found scans never = λ es says. never (said_is_whole ahead found es scans says)

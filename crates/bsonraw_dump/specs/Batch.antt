@@ -111,7 +111,7 @@ IsInput job before name input out_old out_new report_old report_new kept_old kep
     ⊎ IsNotOpened input out_old out_new report_old report_new kept_old kept_new counts goes_on
 
 -- What comes of one input more, of which these bytes are known: what was counted of it is put to the rest, and its line is written.
-pub record Comes (job : Job) (input : Option (List ℕ)) (name : List ℕ) (old new : State) : Type 0 where
+pub record CountsAnother (job : Job) (input : Option (List ℕ)) (name : List ℕ) (old new : State) : Type 0 where
   pub counts : Counts
   pub goes_on : Bool
   pub report_between : Option (List ℕ)
@@ -123,7 +123,7 @@ pub record Comes (job : Job) (input : Option (List ℕ)) (name : List ℕ) (old 
 -- what comes of the inputs of these names, one after the other, where the bytes of each are known or not
 abbrev pub RunsOver : Job → (bytes_of : List ℕ → Option (List ℕ)) → List (List ℕ) → State → State → Type 0
 RunsOver job bytes_of [] old new = new ≡ old
-RunsOver job bytes_of (name ∷ names) old new = (between : State) × Comes job (bytes_of name) name old between × RunsOver job bytes_of names between new
+RunsOver job bytes_of (name ∷ names) old new = (between : State) × CountsAnother job (bytes_of name) name old between × RunsOver job bytes_of names between new
 
 -- The inputs of these names were run over, from this state on, and the line of all was written behind what they gave.
 pub record RunsAll (job : Job) (bytes_of : List ℕ → Option (List ℕ)) (names : List (List ℕ)) (first last : State) (out_new report_new : Option (List ℕ)) : Type 0 where

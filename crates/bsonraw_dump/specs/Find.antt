@@ -176,9 +176,9 @@ Finds limits b finding.TooDeep told = IsBarred limits b finding.TooDeep told
 Finds limits b finding.Unjudged told = ⊥
 
 -- what a command finds in a piece b, and what is told of it: count judges none
-abbrev pub Judges : Limits → Command → List ℕ → Finding → Option Account → Type 0
-Judges limits command.Count b found told = (found ≡ finding.Unjudged) × (told ≡ None)
-Judges limits _ b found told = Finds limits b found told
+abbrev pub FindsFor : Limits → Command → List ℕ → Finding → Option Account → Type 0
+FindsFor limits command.Count b found told = (found ≡ finding.Unjudged) × (told ≡ None)
+FindsFor limits _ b found told = Finds limits b found told
 
 -- a document in which this is found isn't known to be read to its end
 abbrev pub MayBeDamaged : Finding → Type 0

@@ -6,7 +6,7 @@ use Rattle.raw_resync.specs.Seeking.{no_work}
 use Rattle.raw_resync.specs.declared.work.Work.{Work}
 use Rattle.raw_tree.specs.declared.reader.limits.Limits.{Limits}
 use Rattle.bsonraw_dump.specs.Cut.{EndsWith, IsPiece}
-use Rattle.bsonraw_dump.specs.Find.{Account, Judges, MayBeDamaged}
+use Rattle.bsonraw_dump.specs.Find.{Account, FindsFor, MayBeDamaged}
 use Rattle.bsonraw_dump.specs.Fields.{tabled, with_document}
 use Rattle.bsonraw_dump.specs.Fronts.{HasFront, WritesFront}
 use Rattle.bsonraw_dump.specs.Listing.{HasListingFront}
@@ -53,7 +53,7 @@ HaltsInside c style name offset b found told kept out_old out_new report_old rep
 -- the same of what is found in a piece
 abbrev pub HaltsIn : Limits → Command → Style → List ℕ → ℕ → List ℕ → Kept → (out_old out_new report_old report_new : Option (List ℕ)) → Type 0
 HaltsIn limits c style name offset b kept out_old out_new report_old report_new =
-    (found : Finding) × (told : Option Account) × Judges limits c b found told × HaltsInside c style name offset b found told kept out_old out_new report_old report_new
+    (found : Finding) × (told : Option Account) × FindsFor limits c b found told × HaltsInside c style name offset b found told kept out_old out_new report_old report_new
 
 -- A piece is next in s, the end of an input from this offset on, and is taken at its length; where searches before it cost so much.
 pub record IsNextPiece (limits : Limits) (resync : Bool) (s : List ℕ) (offset : ℕ) (work : Work) (b : List ℕ) : Type 0 where
@@ -100,7 +100,7 @@ pub record Halts (limits : Limits) (c : Command) (style : Counts → Style) (res
 abbrev pub HaltsOne : Limits → (any : Bool) → Command → Style → List ℕ → ℕ → List ℕ → Kept → (out_old out_new report_old report_new : Option (List ℕ)) → Type 0
 HaltsOne limits any c style name offset b kept out_old out_new report_old report_new =
     ((out_new ≡ out_old) × (report_new ≡ report_old))
-    ⊎ ((found : Finding) × (told : Option Account) × Judges limits c b found told × (any ≡ false → ¬ MayBeDamaged found)
+    ⊎ ((found : Finding) × (told : Option Account) × FindsFor limits c b found told × (any ≡ false → ¬ MayBeDamaged found)
     × HaltsInside c style name offset b found told kept out_old out_new report_old report_new)
 
 -- the same of the piece that is next in all that was to be read

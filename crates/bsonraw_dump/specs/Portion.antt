@@ -6,8 +6,8 @@ use Rattle.raw_tree.specs.declared.reader.limits.Limits.{Limits}
 use Rattle.bsonraw_dump.specs.Cut.{IsPiece}
 use Rattle.bsonraw_dump.specs.Fronts.{HasFront}
 use Rattle.bsonraw_dump.specs.Halting.{Halts}
-use Rattle.bsonraw_dump.specs.Reading.{GoesAhead, IsNext, IsWindow, ahead_of}
-use Rattle.bsonraw_dump.specs.Run.{Ends, Part, PassesAll, piece, gap, skipped}
+use Rattle.bsonraw_dump.specs.Reading.{GoesAhead, IsNextPiece, IsWindow, ahead_of}
+use Rattle.bsonraw_dump.specs.Run.{EndsRun, Part, PassesAll, piece, gap, skipped}
 use Rattle.bsonraw_dump.specs.Unique.{joined}
 use Rattle.bsonraw_dump.specs.declared.command.Command.{Command}
 use Rattle.bsonraw_dump.specs.declared.counts.Counts.{Counts}
@@ -82,7 +82,7 @@ pub record EndsPortion (p : Portion) (limits : Limits) (c : Command) (style : Co
     (read_old read_new out_old out_new report_old report_new : Option (List ℕ))
     (counts_old counts_new : Counts) (kept_old kept_new : Kept) (failed : Option ReadFailure) : Type 0 where
   pub front : List ℕ
-  pub ends : Ends limits c style resync name read_old read_new out_old out_new report_old report_new counts_old counts_new kept_old kept_new failed
+  pub ends : EndsRun limits c style resync name read_old read_new out_old out_new report_old report_new counts_old counts_new kept_old kept_new failed
   pub chosen : IsChosen p limits.bytes read_old front ends.ps
   pub to_front : IsNone failed → IsAllInFront p limits.bytes read_old front
   pub to_last : ends.early ≡ true → IsEnough p ends.ps
@@ -138,7 +138,7 @@ IsOther _ = Unit {0}
 abbrev pub PassesAllDocuments : (most count : ℕ) → (old new : Option (List ℕ)) → (window_old window_new : Window) → Type 0
 PassesAllDocuments most count old new window_old window_new =
     (passes : PassesDocuments most count old new window_old window_new)
-    × (length passes.documents < count → (told : Next) × IsOther told × IsNext most new (ahead_of window_new) told)
+    × (length passes.documents < count → (told : Next) × IsOther told × IsNextPiece most new (ahead_of window_new) told)
 
 -- these bytes were passed, from the first one of the input on
 pub record HasPassedFront (front : List ℕ) (read_old read_new : Option (List ℕ)) (window_new : Window) : Type 0 where

@@ -29,7 +29,7 @@ abbrev pub ahead_of : Window → List ℕ
 ahead_of w = take w.len (drop w.at w.room.items)
 
 -- Bytes were read behind those that are ahead: whoever had read the ones has read the others, which begin with them.
-pub record Looks (old new : Option (List ℕ)) (ahead more : List ℕ) : Type 0 where
+pub record ReadsAhead (old new : Option (List ℕ)) (ahead more : List ℕ) : Type 0 where
   pub is_read : (before : Option (List ℕ)) → Consumes before old ahead → Consumes before new more
   pub len : length ahead ≤ length more
   pub kept : take (length ahead) more ≡ ahead
@@ -38,7 +38,7 @@ pub record Looks (old new : Option (List ℕ)) (ahead more : List ℕ) : Type 0 
 pub record SeesAhead (old new : Option (List ℕ)) (window_old window_new : Window) (want : ℕ) (is_there : Bool) : Type 0 where
   pub window : IsWindow window_new
   pub offset : window_new.offset ≡ window_old.offset
-  pub looks : Looks old new (ahead_of window_old) (ahead_of window_new)
+  pub looks : ReadsAhead old new (ahead_of window_old) (ahead_of window_new)
   pub there : is_there ≡ true → want ≤ length (ahead_of window_new)
   pub ends : is_there ≡ false → (length (ahead_of window_new) < want) × IsAtEnd new
 
@@ -46,10 +46,10 @@ pub record SeesAhead (old new : Option (List ℕ)) (window_old window_new : Wind
 pub record Stays (old new : Option (List ℕ)) (window_old window_new : Window) : Type 0 where
   pub window : IsWindow window_new
   pub offset : window_new.offset ≡ window_old.offset
-  pub looks : Looks old new (ahead_of window_old) (ahead_of window_new)
+  pub looks : ReadsAhead old new (ahead_of window_old) (ahead_of window_new)
 
 -- what is passed: so many bytes, which were read
-pub record Passes (old new : Option (List ℕ)) (ahead_old ahead_new : List ℕ) (count : ℕ) : Type 0 where
+pub record Consumed (old new : Option (List ℕ)) (ahead_old ahead_new : List ℕ) (count : ℕ) : Type 0 where
   pub bytes : List ℕ
   pub len : length bytes ≡ count
   pub is_read : (before : Option (List ℕ)) → Consumes before old ahead_old → Consumes before new (bytes ++ ahead_new)
@@ -59,7 +59,7 @@ pub record GoesAhead (old new : Option (List ℕ)) (window_old window_new : Wind
   pub window : IsWindow window_new
   pub count : ℕ
   pub offset : window_new.offset ≡ window_old.offset + count
-  pub passes : Passes old new (ahead_of window_old) (ahead_of window_new) count
+  pub passes : Consumed old new (ahead_of window_old) (ahead_of window_new) count
 
 -- The rest of an input is read: those bytes that are ahead, and others behind them. They are so many. Unless reading failed, none
 -- are left.
@@ -76,14 +76,14 @@ IsReadBehind (ending.Unsound len) new = Unit {0}
 IsReadBehind (ending.WrongLength len) new = Unit {0}
 
 -- what is next in the bytes ahead: a document in front; nothing, at the end of the input; or why there is no document
-abbrev pub IsNext : (most : ℕ) → Option (List ℕ) → List ℕ → Next → Type 0
-IsNext most new ahead (next.Document len) = (len ≤ length ahead) × IsPiece most (take len ahead)
-IsNext most new ahead next.Nothing = (ahead ≡ []) × IsAtEnd new
-IsNext most new ahead (next.End ending) = EndsWith most ending ahead × IsReadBehind ending new
+abbrev pub IsNextPiece : (most : ℕ) → Option (List ℕ) → List ℕ → Next → Type 0
+IsNextPiece most new ahead (next.Document len) = (len ≤ length ahead) × IsPiece most (take len ahead)
+IsNextPiece most new ahead next.Nothing = (ahead ≡ []) × IsAtEnd new
+IsNextPiece most new ahead (next.End ending) = EndsWith most ending ahead × IsReadBehind ending new
 
 -- with the known bytes of a reader before and after, and a window: what is next behind so many of the bytes ahead was told
 pub record TellsNext (most : ℕ) (old new : Option (List ℕ)) (window_old window_new : Window) (from : ℕ) (told : Next) : Type 0 where
   pub window : IsWindow window_new
   pub offset : window_new.offset ≡ window_old.offset
-  pub looks : Looks old new (ahead_of window_old) (ahead_of window_new)
-  pub is : IsNext most new (drop from (ahead_of window_new)) told
+  pub looks : ReadsAhead old new (ahead_of window_old) (ahead_of window_new)
+  pub is : IsNextPiece most new (drop from (ahead_of window_new)) told

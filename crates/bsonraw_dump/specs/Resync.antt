@@ -7,7 +7,7 @@ use Rattle.raw_resync.specs.Seeking.{IsWork, PassesOver}
 use Rattle.raw_resync.specs.declared.work.Work.{Work}
 use Rattle.raw_tree.specs.declared.reader.limits.Limits.{Limits}
 use Rattle.bsonraw_dump.specs.Cut.{EndsWith, IsPiece}
-use Rattle.bsonraw_dump.specs.Reading.{IsReadBehind, IsWindow, Passes, Stays, ahead_of}
+use Rattle.bsonraw_dump.specs.Reading.{IsReadBehind, IsWindow, Consumed, Stays, ahead_of}
 use Rattle.bsonraw_dump.specs.declared.ending.Ending.{Ending}
 use Rattle.bsonraw_dump.specs.declared.ending.Ending.TheVariants as ending
 use Rattle.bsonraw_dump.specs.declared.resync.Skip.{Skip}
@@ -57,7 +57,7 @@ pub record SkipsTo (limits : Limits) (old new : Option (List ℕ)) (window_old w
   pub window : IsWindow window_new
   pub offset : window_new.offset ≡ window_old.offset + to.count
   pub work : IsWork work_new
-  pub passes : Passes old new (ahead_of window_old) (ahead_of window_new) to.count
+  pub passes : Consumed old new (ahead_of window_old) (ahead_of window_new) to.count
   pub is : (s : List ℕ) → Consumes (Some s) old (ahead_of window_old) → IsNextPlace limits s window_old.offset work_old work_new to
 
 -- bytes were read, and none passed, and what searches in all that was to be read cost

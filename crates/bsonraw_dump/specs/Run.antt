@@ -14,7 +14,7 @@ use Rattle.bsonraw_dump.specs.declared.window.Drained.{Drained}
 use Rattle.bsonraw_dump.specs.declared.window.Next.{Next}
 use Rattle.bsonraw_dump.specs.declared.window.Next.TheVariants as next
 use Rattle.bsonraw_dump.specs.declared.window.Window.{Window}
-use Rattle.bsonraw_dump.specs.Find.{Account, Judges, MayBeDamaged}
+use Rattle.bsonraw_dump.specs.Find.{Account, FindsFor, MayBeDamaged}
 use Rattle.bsonraw_dump.specs.Fields.{CountsFields, Document, HasFields, tabled, with_document}
 use Rattle.bsonraw_dump.specs.Listing.{ListsDocument}
 use Rattle.bsonraw_dump.specs.Pick.{IsPickedAs}
@@ -135,7 +135,7 @@ lines_of_repeats style repeats = flat_map (repeat_line style) repeats
 -- What is so of a piece at this offset. Behind what is reported of it is the line of a repeat, if it is one.
 pub record IsEntry (limits : Limits) (c : Command) (style : Style) (name : List ℕ) (offset : ℕ) (e : Entry) : Type 0 where
   pub piece : IsPiece limits.bytes e.bytes
-  pub found : Judges limits c e.bytes e.finding e.told
+  pub found : FindsFor limits c e.bytes e.finding e.told
   pub makes : Makes c e.bytes e.finding e.made
   pub placed : e.forms ≡ placed_at (origin_at name offset) e.made
   pub first : Option Origin
@@ -239,7 +239,7 @@ Puts c place made out_old out_new kept_old kept_new first =
 -- what is written of a piece at this offset, and what is reported, with the line of a repeat
 abbrev pub WritesOne : Limits → Command → Style → List ℕ → ℕ → List ℕ → (out_old out_new report_old report_new : Option (List ℕ)) → (kept_old kept_new : Kept) → Outcome → Type 0
 WritesOne limits c style name offset b out_old out_new report_old report_new kept_old kept_new outcome =
-    (told : Option Account) × Judges limits c b outcome.finding told
+    (told : Option Account) × FindsFor limits c b outcome.finding told
     × ((made : List Made) × Makes c b outcome.finding made × Writes c made out_old out_new kept_old kept_new
     × ((first : Option Origin) × Places c (origin_at name offset) made kept_old kept_new first × (outcome.repeats ≡ is_some first)
     × ((lines : List ℕ) × Reports c style name offset b outcome.finding told lines
@@ -373,7 +373,7 @@ EndsAs limits resync false (Some end) (Some failed) left read_new = EndsWith lim
 
 -- How a run ends: parts were passed; then this was left, of which no part is made, and was counted, and its line was written. Where
 -- reading failed, it failed behind it. What was known of the report and what was counted between the two is a part of it.
-pub record Ends (limits : Limits) (c : Command) (style : Counts → Style) (resync : Bool) (name : List ℕ) (read_old read_new out_old out_new report_old report_new : Option (List ℕ))
+pub record EndsRun (limits : Limits) (c : Command) (style : Counts → Style) (resync : Bool) (name : List ℕ) (read_old read_new out_old out_new report_old report_new : Option (List ℕ))
     (counts_old counts_new : Counts) (kept_old kept_new : Kept) (failed : Option ReadFailure) : Type 0 where
   pub ps : List Part
   pub report_between : Option (List ℕ)
@@ -436,12 +436,12 @@ PassesNext limits c style resync name read_old read_new window_old window_new wo
 
 -- How the parts of an input end that were passed: at its end; before it; with bytes that no document begins with; or with an error, where
 -- the last part ended.
-abbrev pub StopsAt : Limits → (resync : Bool) → Stop → (from : ℕ) → (read_new : Option (List ℕ)) → (window_new : Window) → (left : List ℕ) → Type 0
-StopsAt limits resync stop.End from read_new window_new left = (left ≡ []) × IsAtEnd read_new
-StopsAt limits resync stop.Enough from read_new window_new left = Unit {0}
-StopsAt limits resync (stop.Left end) from read_new window_new left =
+abbrev pub EndsParts : Limits → (resync : Bool) → Stop → (from : ℕ) → (read_new : Option (List ℕ)) → (window_new : Window) → (left : List ℕ) → Type 0
+EndsParts limits resync stop.End from read_new window_new left = (left ≡ []) × IsAtEnd read_new
+EndsParts limits resync stop.Enough from read_new window_new left = Unit {0}
+EndsParts limits resync (stop.Left end) from read_new window_new left =
     (left ≡ ahead_of window_new) × (window_new.offset ≡ from) × EndsWith limits.bytes end left × IsReadBehind end read_new × (resync ≡ false)
-StopsAt limits resync (stop.Failed at error) from read_new window_new left = (at ≡ from) × (window_new.offset + length (ahead_of window_new) ≡ from + length left)
+EndsParts limits resync (stop.Failed at error) from read_new window_new left = (at ≡ from) × (window_new.offset + length (ahead_of window_new) ≡ from + length left)
 
 -- reading fails, and the last part ended here
 abbrev pub FailsAt : ℕ → Stop → Type 0
@@ -455,7 +455,7 @@ pub record PassesAll (limits : Limits) (c : Command) (style : Counts → Style) 
   pub ps : List Part
   pub left : List ℕ
   pub passed : Passed limits c style resync name left read_old read_new out_old out_new report_old report_new counts_old counts_new kept_old kept_new ps
-  pub stops : StopsAt limits resync stopped (length (bytes_of_parts ps)) read_new window_new left
+  pub stops : EndsParts limits resync stopped (length (bytes_of_parts ps)) read_new window_new left
 
 -- The rest of an input, with which no document begins, is read: bytes that are ahead, and others behind them. They are so many.
 pub record IsLeft (most : ℕ) (end : Ending) (read_old read_new : Option (List ℕ)) (ahead : List ℕ) (rest : Drained) : Type 0 where

@@ -1,7 +1,7 @@
 -- What reading an input of texts gives, where some of it is read ahead. No public contract cites this file.
 use Rattle.std.specs.Prelude.{◌≡◌, ◌⊎◌, ◌+◌, ◌-◌, ◌^◌, ◌≤◌, ◌<◌, ℕ, List, [], ◌∷◌, ◌++◌, Bool, true, false, Option, None, Some, IfSome, drop, length, take}
 use Rattle.std.specs.Io.KnownBytes.{Consumes, IsAtEnd}
-use Rattle.bsonraw_dump.specs.Reading.{IsWindow, Looks, ahead_of}
+use Rattle.bsonraw_dump.specs.Reading.{IsWindow, ReadsAhead, ahead_of}
 use Rattle.bson_from_json.specs.declared.error.JsonReason.TheVariants as json
 use Rattle.bsonraw_dump.specs.Texts.{CantBe, HasBrace, HasNoLine, IsOpen, begins_line, may_begin, may_end, position_over, reason_between, scanned, turn_behind, turn_over}
 use Rattle.bsonraw_dump.specs.declared.cursor.Cursor.{Cursor}
@@ -18,7 +18,7 @@ pub record LooksOn (old new : Option (List ℕ)) (cursor_old cursor_new : Cursor
   pub window : IsWindow cursor_new.window
   pub place : cursor_new.place ≡ cursor_old.place
   pub offset : cursor_new.window.offset ≡ cursor_old.window.offset
-  pub looks : Looks old new (ahead_of cursor_old.window) (ahead_of cursor_new.window)
+  pub looks : ReadsAhead old new (ahead_of cursor_old.window) (ahead_of cursor_new.window)
 
 -- so it is, and so many bytes are ahead; or fewer, and the input is at its end
 pub record LooksFar (old new : Option (List ℕ)) (cursor_old cursor_new : Cursor) (want : ℕ) (is_there : Bool) : Type 0 where

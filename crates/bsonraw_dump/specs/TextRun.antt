@@ -12,7 +12,7 @@ use Rattle.bsonraw_dump.specs.Fronts.{HasFront}
 use Rattle.bsonraw_dump.specs.Reading.{IsWindow, ahead_of}
 use Rattle.bsonraw_dump.specs.Run.{IsReading, with_left}
 use Rattle.bsonraw_dump.specs.TextFaults.{fault_line}
-use Rattle.bsonraw_dump.specs.Texts.{CantBe, EndsGap, HasBegun, HasBrace, HasNoLine, IsOpen, IsTextOf, IsWhole, first_position, may_begin, may_end, position_over, reason_between, scanned, turn_behind_document, turn_behind_gap, turn_over}
+use Rattle.bsonraw_dump.specs.Texts.{CantBe, EndsGap, HasBegun, HasBrace, HasNoLine, IsOpen, IsTextOf, IsOneText, first_position, may_begin, may_end, position_over, reason_between, scanned, turn_behind_document, turn_behind_gap, turn_over}
 use Rattle.bsonraw_dump.specs.TextReading.{PassesGap, ScansAhead}
 use Rattle.bsonraw_dump.specs.declared.cursor.Cursor.{Cursor}
 use Rattle.bsonraw_dump.specs.declared.cursor.NextText.{NextText}
@@ -53,7 +53,7 @@ Gives text document = IsWritten text document × ((t : Tree) × ReadsWithin usua
 pub record IsDocument (before : Turn) (text : List ℕ) (made : List (List ℕ)) (lines : List ℕ) (behind : Turn) : Type 0 where
   pub may_be : may_begin before ≡ true
   pub brace : HasBrace text
-  pub whole : IsWhole text
+  pub whole : IsOneText text
   pub document : List ℕ
   pub is_written : Gives text document
   pub makes : made ≡ document ∷ []
@@ -61,7 +61,7 @@ pub record IsDocument (before : Turn) (text : List ℕ) (made : List (List ℕ))
   pub next : behind ≡ turn_behind_document before
 
 -- the line of a fault that is so many bytes behind this place
-pub record TellsFault (style : Style) (name : List ℕ) (place : Position) (text lines : List ℕ) : Type 0 where
+pub record TellsTextFault (style : Style) (name : List ℕ) (place : Position) (text lines : List ℕ) : Type 0 where
   pub at : ℕ
   pub within : at ≤ length text
   pub reason : TextReason
@@ -77,9 +77,9 @@ IsFaultOf text at (reason.Json why) = IsUtf8 text × (why ≢ json.OutOfMemory) 
 pub record IsRefused (style : Style) (name : List ℕ) (place : Position) (before : Turn) (text : List ℕ) (made : List (List ℕ)) (lines : List ℕ) (behind : Turn) : Type 0 where
   pub may_be : may_begin before ≡ true
   pub brace : HasBrace text
-  pub whole : IsWhole text
+  pub whole : IsOneText text
   pub none : made ≡ []
-  pub fault : TellsFault style name place text lines
+  pub fault : TellsTextFault style name place text lines
   pub why : IsFaultOf text fault.at fault.reason
   pub next : behind ≡ turn_behind_document before
 
@@ -93,7 +93,7 @@ IsUnendedFault text begun at why =
 -- The text of a document in front of s doesn't come to its end, and says no document: so many bytes of it are begun, and behind so many it
 -- has this fault.
 abbrev pub IsUnended : (s : List ℕ) → (begun at : ℕ) → TextReason → Type 0
-IsUnended s begun at why = (text : List ℕ) × IsTextOf s text × (¬ IsWhole text) × SaysNone text × HasBegun text begun × IsUnendedFault text begun at why
+IsUnended s begun at why = (text : List ℕ) × IsTextOf s text × (¬ IsOneText text) × SaysNone text × HasBegun text begun × IsUnendedFault text begun at why
 
 -- Why no whole text is in front of s, of which so many bytes are begun, and behind how many of them: the input ends where it may not; a
 -- byte can't be there; or a text doesn't come to its end.
@@ -105,7 +105,7 @@ HasNoText before (b ∷ bs) begun at why =
 
 -- No text of a document is at this offset of an input, of which these bytes are known, or one that doesn't come to its end. What there is
 -- of it is passed, and the bytes behind it up to the next line that begins with a brace, or to the end of the input.
-pub record IsAstray (style : Style) (name : List ℕ) (input : Option (List ℕ)) (offset : ℕ) (place : Position) (before : Turn) (text : List ℕ)
+pub record MeetsNoText (style : Style) (name : List ℕ) (input : Option (List ℕ)) (offset : ℕ) (place : Position) (before : Turn) (text : List ℕ)
     (made : List (List ℕ)) (lines : List ℕ) (behind : Turn) : Type 0 where
   pub begun : List ℕ
   pub gap : List ℕ
@@ -113,7 +113,7 @@ pub record IsAstray (style : Style) (name : List ℕ) (input : Option (List ℕ)
   pub unended : IsOpen (scanned begun)
   pub no_line : HasNoLine (position_over place begun) gap
   pub none : made ≡ []
-  pub fault : TellsFault style name place begun lines
+  pub fault : TellsTextFault style name place begun lines
   pub why : IfSome input (λ s. HasNoText before (drop offset s) (length begun) fault.at fault.reason)
   pub next : (behind ≡ turn_behind_gap before) ⊎ (behind ≡ turn.Last)
   pub ends : IfSome input (λ s. EndsGap (position_over place text) (turn_behind_gap before) (drop (offset + length text) s) behind)
@@ -125,7 +125,7 @@ pub record IsTextPart (style : Style) (name : List ℕ) (input : Option (List �
   pub is :
       IsDocument between p.text p.made p.lines p.behind
       ⊎ IsRefused style name (position_over place p.front) between p.text p.made p.lines p.behind
-      ⊎ IsAstray style name input (offset + length p.front) (position_over place p.front) between p.text p.made p.lines p.behind
+      ⊎ MeetsNoText style name input (offset + length p.front) (position_over place p.front) between p.text p.made p.lines p.behind
 
 abbrev pub bytes_of_texts : List TextPart → List ℕ
 bytes_of_texts ps = flat_map bytes_of ps
@@ -168,8 +168,8 @@ abbrev pub count_file : TextCounts → TextCounts
 count_file n = record n { files = n.files + 1 }
 
 -- parts come behind this one: it is a document, or that is asked for
-abbrev pub GoesOn : (keep_going : Bool) → TextPart → Type 0
-GoesOn keep_going p = ((document : List ℕ) × (p.made ≡ document ∷ [])) ⊎ (keep_going ≡ true)
+abbrev pub IsPassedOver : (keep_going : Bool) → TextPart → Type 0
+IsPassedOver keep_going p = ((document : List ℕ) × (p.made ≡ document ∷ [])) ⊎ (keep_going ≡ true)
 
 -- how a fault is told, where so much was counted before it: not at all behind as many as are asked for
 abbrev pub style_of_fault : Style → Option ℕ → TextCounts → Style
@@ -181,7 +181,7 @@ style_of_fault shown (Some most) n = with_left shown (most - n.refused)
 abbrev pub AreTexts : (keep_going : Bool) → (TextCounts → Style) → List ℕ → Option (List ℕ) → (offset : ℕ) → Position → Turn → TextCounts → List TextPart → Type 0
 AreTexts keep_going style name input offset place before n [] = Unit {0}
 AreTexts keep_going style name input offset place before n (p ∷ ps) =
-    IsTextPart (style n) name input offset place before p × ((ps ≡ []) ⊎ GoesOn keep_going p)
+    IsTextPart (style n) name input offset place before p × ((ps ≡ []) ⊎ IsPassedOver keep_going p)
     × AreTexts keep_going style name input (offset + length (bytes_of p)) (position_over place (bytes_of p)) p.behind (count_text n p) ps
 
 -- How a run over these parts ends, where the input is known to be s, and the reader has this left: behind them is only what may be between
@@ -195,12 +195,12 @@ EndsAs (end.Failed failure) ps left s = HasFront s (bytes_of_texts ps) × ((read
 
 -- parts may come behind the last of these
 abbrev pub LastGoesOn : (keep_going : Bool) → List TextPart → Type 0
-LastGoesOn keep_going ps = (before : List TextPart) (p : TextPart) → ps ≡ before ++ p ∷ [] → GoesOn keep_going p
+LastGoesOn keep_going ps = (before : List TextPart) (p : TextPart) → ps ≡ before ++ p ∷ [] → IsPassedOver keep_going p
 
 -- a run stops exactly where the last part has a fault, and it isn't asked to go on
-abbrev pub StopsAt : TextEnd → (keep_going : Bool) → List TextPart → Type 0
-StopsAt end.Stopped keep_going ps = (keep_going ≡ false) × ((before : List TextPart) × (p : TextPart) × (ps ≡ before ++ p ∷ []) × (p.made ≡ []))
-StopsAt _ keep_going ps = LastGoesOn keep_going ps
+abbrev pub StopsRun : TextEnd → (keep_going : Bool) → List TextPart → Type 0
+StopsRun end.Stopped keep_going ps = (keep_going ≡ false) × ((before : List TextPart) × (p : TextPart) × (ps ≡ before ++ p ∷ []) × (p.made ≡ []))
+StopsRun _ keep_going ps = LastGoesOn keep_going ps
 
 -- A run over an input: it is cut into parts, and of these was written, told and counted what is theirs, and nothing else. Known bytes are
 -- those of a reader, before and after, and of two writers.
@@ -209,7 +209,7 @@ pub record ReadsTexts (asked : AskedTexts) (input left out_old out_new report_ol
   pub ps : List TextPart
   pub parts : AreTexts asked.keep_going (style_of_fault asked.style asked.limit) asked.name.now input 0 first_position turn.First counts_old ps
   pub ends : IfSome input (EndsAs ended ps left)
-  pub stops : StopsAt ended asked.keep_going ps
+  pub stops : StopsRun ended asked.keep_going ps
   pub is_written : Appends out_old out_new (made_of_texts ps)
   pub is_reported : Appends report_old report_new (lines_of_texts ps)
   pub is_counted : counts_new ≡ fold count_text counts_old ps
@@ -241,7 +241,7 @@ pub record HaltsTexts (keep_going : Bool) (style : TextCounts → Style) (name :
 -- no whole text is in front of these bytes, of which this was told: so many are begun, and behind so many is this fault
 abbrev pub TellsNoText : (ahead : List ℕ) → NextText → (begun at : ℕ) → TextReason → Type 0
 TellsNoText ahead (next.Text found) begun at why =
-    (¬ IsWhole (take found.len ahead)) × HasBegun (take found.len ahead) begun × IsUnendedFault (take found.len ahead) begun at why
+    (¬ IsOneText (take found.len ahead)) × HasBegun (take found.len ahead) begun × IsUnendedFault (take found.len ahead) begun at why
 TellsNoText ahead (next.Wrong reason) begun at why = (begun ≡ 0) × (at ≡ 0) × (why ≡ reason)
 TellsNoText ahead next.End begun at why = ⊥
 
@@ -250,15 +250,15 @@ pub record IsBegun (style : Style) (name : List ℕ) (place : Position) (before 
     (made : List (List ℕ)) (lines : List ℕ) (behind : Turn) : Type 0 where
   pub unended : IsOpen (scanned text)
   pub none : made ≡ []
-  pub fault : TellsFault style name place text lines
+  pub fault : TellsTextFault style name place text lines
   pub why : TellsNoText ahead told (length text) fault.at fault.reason
   pub next : behind ≡ turn_behind_gap before
 
 -- what came of the bytes ahead, of which this was told: a document, a text with a fault, or what is no text
-abbrev pub IsPassed : Style → List ℕ → Position → (before : Turn) → (ahead : List ℕ) → NextText → Went → List ℕ → List (List ℕ) → (lines : List ℕ) → (behind : Turn) → Type 0
-IsPassed style name place before ahead told went.Document text made lines behind = IsDocument before text made lines behind
-IsPassed style name place before ahead told went.Refused text made lines behind = IsRefused style name place before text made lines behind
-IsPassed style name place before ahead told went.Astray text made lines behind = IsBegun style name place before ahead told text made lines behind
+abbrev pub Becomes : Style → List ℕ → Position → (before : Turn) → (ahead : List ℕ) → NextText → Went → List ℕ → List (List ℕ) → (lines : List ℕ) → (behind : Turn) → Type 0
+Becomes style name place before ahead told went.Document text made lines behind = IsDocument before text made lines behind
+Becomes style name place before ahead told went.Refused text made lines behind = IsRefused style name place before text made lines behind
+Becomes style name place before ahead told went.Astray text made lines behind = IsBegun style name place before ahead told text made lines behind
 
 -- a part is passed, of which these bytes are ahead, and this was told
 pub record PassesText (style : Style) (name : List ℕ) (told : NextText) (cursor_old cursor_new : Cursor) (turn_old turn_new : Turn)
@@ -270,7 +270,7 @@ pub record PassesText (style : Style) (name : List ℕ) (told : NextText) (curso
   pub ahead : ahead_of cursor_old.window ≡ text ++ ahead_of cursor_new.window
   pub place : cursor_new.place ≡ position_over cursor_old.place text
   pub offset : cursor_new.window.offset ≡ cursor_old.window.offset + length text
-  pub is : IsPassed style name cursor_old.place turn_old (ahead_of cursor_old.window) told what text made lines turn_new
+  pub is : Becomes style name cursor_old.place turn_old (ahead_of cursor_old.window) told what text made lines turn_new
   pub is_written : Appends out_old out_new (joined made)
   pub is_reported : Appends report_old report_new lines
   pub is_counted : counts_new ≡ count_made counts_old made
@@ -280,7 +280,7 @@ abbrev pub HaltsText : Style → List ℕ → NextText → Position → (before 
 HaltsText style name told place before ahead out_old out_new report_old report_new =
     ((out_new ≡ out_old) × (report_new ≡ report_old))
     ⊎ ((what : Went) × (text : List ℕ) × (made : List (List ℕ)) × (lines : List ℕ) × (behind : Turn) × HasFront ahead text
-    × IsPassed style name place before ahead told what text made lines behind × AppendsFront out_old out_new (joined made) × AppendsFront report_old report_new lines)
+    × Becomes style name place before ahead told what text made lines behind × AppendsFront out_old out_new (joined made) × AppendsFront report_old report_new lines)
 
 -- What comes of the part that is ahead, of which this was told: it is passed; or it isn't counted, and nothing is written, or a front of what
 -- it gives.

@@ -68,8 +68,8 @@ IsOpen scan.Whole = ⊥
 IsOpen scan.Torn = ⊥
 
 -- The text of a document: what ends its first level, outside of strings, is its last byte. No front of it is one.
-abbrev pub IsWhole : List ℕ → Type 0
-IsWhole t = scanned t ≡ scan.Whole
+abbrev pub IsOneText : List ℕ → Type 0
+IsOneText t = scanned t ≡ scan.Whole
 
 -- it begins with a brace
 abbrev pub HasBrace : List ℕ → Type 0

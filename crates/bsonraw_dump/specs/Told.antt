@@ -23,13 +23,13 @@ abbrev pub line : List ℕ → ℕ → List ℕ → List ℕ
 line name offset text = quoted name ++ codes ":" ++ decimal offset ++ codes ": " ++ text ++ codes "\n"
 
 -- a key behind a colon, in quotes, where there is one
-abbrev pub key_text : Option (List ℕ) → List ℕ
-key_text None = []
-key_text (Some text) = codes ":" ++ quoted text
+abbrev pub key_suffix : Option (List ℕ) → List ℕ
+key_suffix None = []
+key_suffix (Some text) = codes ":" ++ quoted text
 
 -- a step of a path: the number of an element, and its key
 abbrev pub step_text : Step → List ℕ
-step_text step = codes "/" ++ decimal step.number ++ key_text step.key
+step_text step = codes "/" ++ decimal step.number ++ key_suffix step.key
 
 -- the steps of a path; of more than 20 the first ten and the last ten, with two points between
 abbrev pub path_text : List Step → List ℕ

@@ -5,7 +5,7 @@ ghost use Rattle.std.specs.Prelude.{◌≡◌, None, map, IfErr, IfOk, MatchBool
 ghost use Rattle.std.specs.Io.KnownBytes.{Appends, Keeps};
 ghost use Rattle.std.specs.Option.{option_map};
 ghost use Rattle.bson_json.specs.Written.{AppendsFront};
-ghost use Rattle.bsonraw_dump.specs.Batch.{AreInRange, Comes, CountsInput, CountsRun, IsDone, KeepsNothing, RunsAll, RunsFront, State, HaltsWithin, all_line, cut_of, first_cut, input_line, input_of, left_limit, state_of};
+ghost use Rattle.bsonraw_dump.specs.Batch.{AreInRange, CountsAnother, CountsInput, CountsRun, IsDone, KeepsNothing, RunsAll, RunsFront, State, HaltsWithin, all_line, cut_of, first_cut, input_line, input_of, left_limit, state_of};
 ghost use Rattle.bsonraw_dump.specs.Run.{IsReading, no_counts, plus};
 ghost use Rattle.bsonraw_dump.specs.declared.command.Command.TheVariants.{Fields};
 ghost use Rattle.bsonraw_dump.specs.Status.{HasDamage, IsFailureStatus, IsStatus};
@@ -173,7 +173,7 @@ fn run_one<'a, I: Inputs, D: Write, W: Write>(
     report: &mut W,
     totals: &mut Totals<'a>,
 ) -> Result<(), Failure>
-    ensures comes { OnOk result (Comes job.entry (I.bytes_of inputs.now name.entry.now) name.entry.now
+    ensures comes { OnOk result (CountsAnother job.entry (I.bytes_of inputs.now name.entry.now) name.entry.now
         (state_of (D.contents out.old) (W.contents report.old) totals.old) (state_of (D.contents out.new) (W.contents report.new) totals.new)) }
     ensures halts { OnErr result (HaltsWithin job.entry name.entry.now (I.bytes_of inputs.now name.entry.now)
         (D.contents out.old) (D.contents out.new) (W.contents report.old) (W.contents report.new) totals.old.kept totals.old.counts totals.new.counts) }

@@ -11,7 +11,7 @@ ghost use Rattle.raw_form.specs.Places.{FirstBarrierAt};
 ghost use Rattle.raw_form.specs.Verdicts.{FirstVerdict};
 ghost use Rattle.raw_tree.specs.WithinLimits as within;
 ghost use Rattle.raw_tree.specs.declared.reader.limits.Limits.{Limits};
-ghost use Rattle.bsonraw_dump.specs.Find.{account_at, account_of, Finds, Judges, MayBeDamaged, SaysBarrier, named_spot, spot_of, usual, verdict_of, verdict_word};
+ghost use Rattle.bsonraw_dump.specs.Find.{account_at, account_of, Finds, FindsFor, MayBeDamaged, SaysBarrier, named_spot, spot_of, usual, verdict_of, verdict_word};
 ghost use Rattle.bsonraw_dump.specs.Find as says;
 
 use crate::command::Command;
@@ -87,7 +87,7 @@ pub fn judged<'a>(
 ) -> Result<Found<'a>, AllocError>
     requires { length bytes.now ≤ limits.bytes }
     ensures { IfOk result
-        (λ found. Judges limits command.entry bytes.now found.finding (option_map account_of found.told)) }
+        (λ found. FindsFor limits command.entry bytes.now found.finding (option_map account_of found.told)) }
 {
     match command {
         Command::Count => Ok(Found {

@@ -5,7 +5,7 @@ ghost use Rattle.std.specs.Prelude.{◌≡◌, ℕ, List, Option, [], ◌∷◌,
 ghost use Rattle.std.specs.Option.{option_copied, option_map};
 ghost use Rattle.std.specs.Io.KnownBytes.{Appends, Keeps};
 ghost use Rattle.bsonraw_dump.specs.Cut.{EndsWith, IsPiece};
-ghost use Rattle.bsonraw_dump.specs.Find.{Judges};
+ghost use Rattle.bsonraw_dump.specs.Find.{FindsFor};
 ghost use Rattle.bsonraw_dump.specs.Reading.{GoesAhead, IsReadBehind, IsWindow, Stays, ahead_of};
 ghost use Rattle.raw_resync.specs.Seeking.{IsWork};
 ghost use Rattle.bsonraw_dump.specs.Fronts.{WritesFront};
@@ -662,7 +662,7 @@ fn emit<'a, D: Write>(
     out: &mut D,
     kept: &mut Kept<'a>,
 ) -> Result<Option<Origin<'a>>, Failure>
-    requires { (told : Option Account) × Judges limits command bytes.now finding told }
+    requires { (told : Option Account) × FindsFor limits command bytes.now finding told }
     ensures written { IfOk result
         (Emits command.entry origin.entry bytes.now finding (D.contents out.old) (D.contents out.new) kept.old kept.new) }
     ensures front { OnErr result (WritesFront (IsMade command.entry bytes.now finding kept.old) (D.contents out.old) (D.contents out.new)) }

@@ -12,7 +12,7 @@ ghost use Rattle.bsonraw_dump.specs.TextRun.{FailsAt, Gives, HaltsTexts, HasNext
 ghost use Rattle.bsonraw_dump.specs.declared.cursor.NextText.{NextText as Told};
 ghost use Rattle.bsonraw_dump.specs.declared.cursor.NextText.TheVariants.{Text};
 ghost use Rattle.bsonraw_dump.specs.declared.texts.Went.TheVariants.{Document};
-ghost use Rattle.bsonraw_dump.specs.Texts.{HasBrace, IsOpen, IsWhole, may_begin, position_over, scanned};
+ghost use Rattle.bsonraw_dump.specs.Texts.{HasBrace, IsOpen, IsOneText, may_begin, position_over, scanned};
 
 use crate::cursor::{Cursor, NextText};
 use crate::failure::{Failure, ReadFailure, in_range};
@@ -280,7 +280,7 @@ fn pass_document<D: Write>(
     counts: &mut TextCounts,
 ) -> Result<Went, Failure>
     requires { IsWindow cursor.old.window × (may_begin turn.old ≡ true) × HasBrace (ahead_of cursor.old.window)
-        × (len ≤ length (ahead_of cursor.old.window)) × IsWhole (take len (ahead_of cursor.old.window)) × Gives (take len (ahead_of cursor.old.window)) document.now }
+        × (len ≤ length (ahead_of cursor.old.window)) × IsOneText (take len (ahead_of cursor.old.window)) × Gives (take len (ahead_of cursor.old.window)) document.now }
     ensures { (style : Style) (name : List ℕ) (told : Told) (report : Option (List ℕ)) → PassesPart style name told cursor.old cursor.new turn.old turn.new
         (D.contents out.old) (D.contents out.new) report report counts.old counts.new result }
 {
@@ -306,7 +306,7 @@ fn pass_refused<W: Write>(
     counts: &mut TextCounts,
 ) -> Result<Went, Failure>
     requires { IsWindow cursor.old.window × (may_begin turn.old ≡ true) × HasBrace (ahead_of cursor.old.window)
-        × (len ≤ length (ahead_of cursor.old.window)) × IsWhole (take len (ahead_of cursor.old.window)) × (at ≤ len) × IsFaultOf (take len (ahead_of cursor.old.window)) at reason }
+        × (len ≤ length (ahead_of cursor.old.window)) × IsOneText (take len (ahead_of cursor.old.window)) × (at ≤ len) × IsFaultOf (take len (ahead_of cursor.old.window)) at reason }
     ensures { (told : Told) (out : Option (List ℕ)) → PassesPart asked.entry.style asked.entry.name.now told cursor.old cursor.new turn.old turn.new
         out out (W.contents report.old) (W.contents report.new) counts.old counts.new result }
 {

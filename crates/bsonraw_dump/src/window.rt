@@ -4,7 +4,7 @@
 ghost use Rattle.std.specs.Prelude.{◌≡◌, ◌+◌, ◌≤◌, ◌<◌, ◌^◌, ◌⊎◌, ℕ, List, MatchBool, Option, [], true, drop, length, take, IfErr, IfOk, OnErr, OnOk};
 ghost use Rattle.std.specs.Io.KnownBytes.{IsAtEnd};
 ghost use Rattle.bsonraw_dump.specs.Cut.{said_len, IsSoundLength};
-ghost use Rattle.bsonraw_dump.specs.Reading.{FillsBuffer, IsNext, IsWindow, ReadsRest, SeesAhead, Stays, TellsNext, ahead_of};
+ghost use Rattle.bsonraw_dump.specs.Reading.{FillsBuffer, IsNextPiece, IsWindow, ReadsRest, SeesAhead, Stays, TellsNext, ahead_of};
 ghost use Rattle.bsonraw_dump.specs.Run.{IsReading};
 
 use crate::ending::Ending;
@@ -273,7 +273,7 @@ fn length_at(bytes: &[u8], from: usize) -> u32
 /// What is next where so many bytes are left, fewer than a length has.
 fn too_few(count: usize) -> Next
     requires { count < 4 }
-    ensures { (new : Option (List ℕ)) (s : List ℕ) → length s ≡ count → IsAtEnd new → (most : ℕ) → IsNext most new s result }
+    ensures { (new : Option (List ℕ)) (s : List ℕ) → length s ≡ count → IsAtEnd new → (most : ℕ) → IsNextPiece most new s result }
 {
     if count == 0 {
         Next::Nothing

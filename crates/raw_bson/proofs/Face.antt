@@ -16,7 +16,7 @@ pub use Rattle.raw_bson.proofs.Folds.{HasFolded, HasFolded-none, HasFolded-more,
 pub use Rattle.raw_bson.proofs.Folds.{ReadsDump-none, ReadsDump-more, ReadsDump-length, ReadsDump-offset, ReadsDump-grows, joined-more}
 -- a look-up, and then what is asked of the value: how it comes, and what follows
 pub use Rattle.raw_bson.proofs.EachItems.{AsksUnder-found, AsksUnder-fault}
-pub use Rattle.raw_bson.proofs.LookUps.{AsksUnder-ok, AsksUnder-error, GetsByKey-found, GetsByKey-none, one_look_up}
+pub use Rattle.raw_bson.proofs.LookUps.{AsksUnder-ok, AsksUnder-error, GetsByKey-found, GetsByKey-none}
 pub use Rattle.raw_bson.proofs.EachItems.{EachItem-more, EachItem-at, OneItem-at, OneItem-none, ComesTo-not_each, ComesTo-one, HoldsOfEach-not_one}
 -- `==` of borrowed values
 pub use Rattle.raw_bson.proofs.SameViews.{same_view, view_same, view_differs}

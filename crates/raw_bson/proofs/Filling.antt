@@ -16,14 +16,14 @@ module _ {X A : Type 0} (Takes : X → A → Result (Unit {0}) Error → X → T
   takes_more b (y ∷ xs) mid x left h t = (h.0, h.1, takes_more h.0 xs mid x left h.2 t)
 
   -- all items were taken
-  pub filled : {S : Type 0} (empty full : X) (gives : S → Option A → S → Type 0) (start s last after : S) (xs : List A) → s ≡ start → Yields gives s xs last
+  pub filled : {S : Type 0} {last after : S} (empty full : X) (gives : S → Option A → S → Type 0) (start s : S) (xs : List A) → s ≡ start → Yields gives s xs last
       → gives last None after → TakesEach Takes empty xs full → Fills Takes empty gives start (Ok full)
-  filled empty full gives start s last after xs from ran none taken =
+  filled {last = last} {after = after} empty full gives start s xs from ran none taken =
       record { items = xs; given = drained gives start s last after xs from ran none; taken = taken }
 
   -- one more item came and was refused
-  pub refused : {S : Type 0} (empty mid : X) (gives : S → Option A → S → Type 0) (start s last after : S) (xs : List A) (x : A) (e : Error) → s ≡ start
+  pub refused : {S : Type 0} {last after : S} {e : Error} {mid : X} (empty : X) (gives : S → Option A → S → Type 0) (start s : S) (xs : List A) (x : A) → s ≡ start
       → Yields gives s xs last → gives last (Some x) after → TakesEach Takes empty xs mid → Takes mid x (Err e) mid → Fills Takes empty gives start (Err e)
-  refused empty mid gives start s last after xs x e from ran gave taken why =
+  refused {last = last} {after = after} {mid = mid} empty gives start s xs x from ran gave taken why =
       let more = Yields-more gives s xs last x after ran gave in
       inr (record { items = xs; last = x; after = after; left = mid; given = subst (λ q. Yields gives q (xs ++ x ∷ []) after) from more; taken = taken; failed = why })

@@ -51,7 +51,7 @@ pub value_stands : (key : List ℕ) (v : RawValue) → IsUtf8 key → IsNulFreeE
 value_stands key v text nul_free in_range l r = record {
   spelled = refl;
   key_nul_free = nul_free.0;
-  key_text = text;
+  key_utf8 = text;
   payload_is = value_has_shape v r in_range nul_free.1 l;
 }
 
@@ -131,7 +131,7 @@ frame_on m t e f frames b w none =
     record {
       spelled = ap (λ x. x ++ e) front ∙ frame-append (tag_of f.kind) f.key f.payload t e;
       key_nul_free = b.key_nul_free;
-      key_text = b.key_text;
+      key_utf8 = b.key_utf8;
       payload_is = shape_on f.kind f.payload (t ++ 0 ∷ []) (t ++ e) declared b.payload_is;
     }
 

@@ -16,9 +16,9 @@ with_inside zero size (t ∷ ts) = record t { inside = size } ∷ ts
 with_inside (suc n) size (t ∷ ts) = t ∷ with_inside n size ts
 
 -- a barrier of this kind at the document as a whole
-abbrev pub IsWhole : BarrierKind → FlattenError → Type 0
-IsWhole kind (error.Barrier answer) = (answer.kind ≡ kind) × (steps_of answer.place ≡ []) × (answer.place.offset ≡ 0)
-IsWhole kind error.OutOfMemory = ⊥
+abbrev pub IsAtDocument : BarrierKind → FlattenError → Type 0
+IsAtDocument kind (error.Barrier answer) = (answer.kind ≡ kind) × (steps_of answer.place ≡ []) × (answer.place.offset ≡ 0)
+IsAtDocument kind error.OutOfMemory = ⊥
 
 -- the document b, inside of which may be so many levels, has these tokens, or a first barrier
 abbrev pub FlattensTo : ℕ → List ℕ → List Token → List Token → Result ℕ FlattenError → Type 0

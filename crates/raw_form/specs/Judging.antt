@@ -31,9 +31,9 @@ use Rattle.raw_form.specs.declared.verdict.Found.{Found}
 use Rattle.raw_form.specs.declared.walk.WalkError.{WalkError}
 use Rattle.raw_form.specs.declared.walk.WalkError.TheVariants as error
 
-abbrev pub sort_of : Bool → Sort
-sort_of true = as_array
-sort_of false = as_document
+abbrev pub array_sort : Bool → Sort
+array_sort true = as_array
+array_sort false = as_document
 
 -- the value holds no nested bytes; options of it ascend, or descend
 abbrev pub IsSingleWith : (Type 0 → Type 0) → RawValue → Type 0
@@ -45,7 +45,7 @@ IsSingleWith P (raw.scoped code d) = ⊥
 abbrev pub HoldsAsTold : RawValue → Held → Type 0
 HoldsAsTold v held.Nothing = IsSingleWith (λ A. A) v
 HoldsAsTold v held.Descending = IsSingleWith (λ A. ¬ A) v
-HoldsAsTold v (held.Level inner is_array) = HoldsAs v (sort_of is_array) (bytes_of inner)
+HoldsAsTold v (held.Level inner is_array) = HoldsAs v (array_sort is_array) (bytes_of inner)
 
 -- what a frame means breaches by itself: it is a fault, or its options descend
 abbrev pub BreachesItself : Meaning → Cause → Type 0
@@ -71,7 +71,7 @@ TellsJudged sort below own s new k listed (judged.Whole e) =
     × HasKeysSoFar k listed sort below (own ++ (frame_of e).key ∷ []) × AreKeysCanonical sort (own ++ (frame_of e).key ∷ []) × IsSingleWith (λ A. A) v
 TellsJudged sort below own s new k listed (judged.Inside e inner is_array) =
     (r : List ℕ) × (v : RawValue) × IsFrame s (frame_of e) r × Means (frame_of e) (value v) × (new ≡ Some r)
-    × HasKeysSoFar k listed sort below (own ++ (frame_of e).key ∷ []) × AreKeysCanonical sort (own ++ (frame_of e).key ∷ []) × HoldsAs v (sort_of is_array) (bytes_of inner)
+    × HasKeysSoFar k listed sort below (own ++ (frame_of e).key ∷ []) × AreKeysCanonical sort (own ++ (frame_of e).key ∷ []) × HoldsAs v (array_sort is_array) (bytes_of inner)
 TellsJudged sort below own s new k listed (judged.Breach key why) = BreachesHere sort own s (option_copied key) why
 
 -- so it is for the level, whichever it is

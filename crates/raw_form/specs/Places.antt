@@ -19,8 +19,8 @@ abbrev pub BeginsAt : List ℕ → List ℕ → ℕ → Type 0
 BeginsAt b s offset = offset + length s ≡ length b
 
 -- This step alone leads to what is next in s, which begins at this offset of b.
-abbrev pub IsNext : List ℕ → List ℕ → Step → List Step → ℕ → Type 0
-IsNext b s step path offset = (path ≡ step ∷ []) × BeginsAt b s offset
+abbrev pub IsLastStep : List ℕ → List ℕ → Step → List Step → ℕ → Type 0
+IsLastStep b s step path offset = (path ≡ step ∷ []) × BeginsAt b s offset
 
 -- The offset in b of what is inside the nested bytes d at this offset of d. They are the end of the frame in front of s,
 -- behind which q is left. Where no step leads further, d itself is meant, and the offset is that of the frame.
@@ -35,14 +35,14 @@ module _ (Passes : Sort → List ℕ → Tree → Type 0) (Nested : List ℕ →
   -- that of the nested bytes in the value that it means
   abbrev pub BarsFrameAt : (b s : List ℕ) → ℕ → Frame → (q : List ℕ) → Barrier → List Step → ℕ → Type 0
   BarsFrameAt b s number f q x path offset =
-      (IsFaultWith (λ fault. Means f (faulty fault)) x × IsNext b s (record { number = number; key = Some f.key }) path offset)
+      (IsFaultWith (λ fault. Means f (faulty fault)) x × IsLastStep b s (record { number = number; key = Some f.key }) path offset)
       ⊎ ((v : RawValue) × (d : List ℕ) × (steps : List Step) × (inside : ℕ) × Means f (value v) × Holds v d × Nested d x steps inside
       × (path ≡ record { number = number; key = Some f.key } ∷ steps) × IsOffsetOf b s d q steps inside offset)
 
   -- behind so many frames of b, s is left: its walk stops there, with this fault; or the next frame has the barrier
   abbrev pub BarsFrontAt : (b s : List ℕ) → ℕ → Barrier → List Step → ℕ → Type 0
   BarsFrontAt b s number x path offset =
-      (IsFaultWith (λ fault. IsStop s fault.fault fault.key) x × IsNext b s (record { number = number; key = None }) path offset)
+      (IsFaultWith (λ fault. IsStop s fault.fault fault.key) x × IsLastStep b s (record { number = number; key = None }) path offset)
       ⊎ ((f : Frame) × (q : List ℕ) × IsFrame s f q × BarsFrameAt b s number f q x path offset)
 
   -- the first barrier of a document or an array: frames that stand for trees are passed

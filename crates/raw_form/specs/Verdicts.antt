@@ -12,7 +12,7 @@ use Rattle.raw_tree.specs.declared.validator.breach.Cause.{Cause}
 use Rattle.raw_tree.specs.declared.validator.breach.Cause.TheVariants as cause
 use Rattle.raw_tree.specs.declared.reader.limits.Limits.{Limits}
 use Rattle.raw_form.specs.Barriers.{steps_of}
-use Rattle.raw_form.specs.Places.{Step, IsNext, IsOffsetOf}
+use Rattle.raw_form.specs.Places.{Step, IsLastStep, IsOffsetOf}
 use Rattle.raw_form.specs.declared.verdict.PlacedBreach.{PlacedBreach}
 use Rattle.raw_form.specs.declared.verdict.ValidateError.{ValidateError}
 use Rattle.raw_form.specs.declared.verdict.ValidateError.TheVariants as error
@@ -32,8 +32,8 @@ module _ (Passes : Sort → List ℕ → Type 0) (Nested : Sort → List ℕ →
 
   -- that of what the frame means: it is a fault; or its options descend; or it is that of its nested bytes
   abbrev pub JudgesMeaningAt : (b s : List ℕ) → Step → (q : List ℕ) → Meaning → Verdict → List Step → ℕ → Type 0
-  JudgesMeaningAt b s step q (faulty fault) x path offset = (x ≡ breach_of cause.Value) × IsNext b s step path offset
-  JudgesMeaningAt b s step q (value (raw.single l)) x path offset = (¬ DoLeafOptionsAscend l) × (x ≡ breach_of cause.Options) × IsNext b s step path offset
+  JudgesMeaningAt b s step q (faulty fault) x path offset = (x ≡ breach_of cause.Value) × IsLastStep b s step path offset
+  JudgesMeaningAt b s step q (value (raw.single l)) x path offset = (¬ DoLeafOptionsAscend l) × (x ≡ breach_of cause.Options) × IsLastStep b s step path offset
   JudgesMeaningAt b s step q (value (raw.document d)) x path offset = JudgesNestedAt b s step q as_document d x path offset
   JudgesMeaningAt b s step q (value (raw.array d)) x path offset = JudgesNestedAt b s step q as_array d x path offset
   JudgesMeaningAt b s step q (value (raw.scoped code d)) x path offset = JudgesNestedAt b s step q as_document d x path offset
@@ -42,13 +42,13 @@ module _ (Passes : Sort → List ℕ → Type 0) (Nested : Sort → List ℕ →
   -- means
   abbrev pub JudgesFrameAt : Sort → List (List ℕ) → (b s : List ℕ) → Step → Frame → (q : List ℕ) → Verdict → List Step → ℕ → Type 0
   JudgesFrameAt sort keys b s step f q x path offset =
-      ((why : Cause) × BreachesKeys sort keys f.key why × (x ≡ breach_of why) × IsNext b s step path offset)
+      ((why : Cause) × BreachesKeys sort keys f.key why × (x ≡ breach_of why) × IsLastStep b s step path offset)
       ⊎ (AreKeysCanonical sort (keys ++ f.key ∷ []) × (m : Meaning) × Means f m × JudgesMeaningAt b s step q m x path offset)
 
   -- behind so many frames of b, with these keys, s is left: its walk stops there, or it is that of the next frame
   abbrev pub JudgesFrontAt : Sort → List (List ℕ) → (b s : List ℕ) → ℕ → Verdict → List Step → ℕ → Type 0
   JudgesFrontAt sort keys b s number x path offset =
-      ((fault : Fault) × (key : Option (List ℕ)) × IsStop s fault key × (x ≡ breach_of cause.Stop) × IsNext b s (record { number = number; key = None }) path offset)
+      ((fault : Fault) × (key : Option (List ℕ)) × IsStop s fault key × (x ≡ breach_of cause.Stop) × IsLastStep b s (record { number = number; key = None }) path offset)
       ⊎ ((f : Frame) × (q : List ℕ) × IsFrame s f q × JudgesFrameAt sort keys b s (record { number = number; key = Some f.key }) f q x path offset)
 
   -- that of a document or an array: frames are passed whose keys and values are canonical

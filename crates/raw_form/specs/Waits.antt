@@ -43,7 +43,7 @@ StoreEach b (w ∷ ws) [] = ⊥
 StoreEach b (w ∷ ws) (x ∷ xs) = Stores b w x × StoreEach b ws xs
 
 -- the level goes on behind its element
-pub record GoesOn (x : Wait) (elements : Option (List ℕ)) (number offset start : ℕ) : Type 0 where
+pub record ResumesBehind (x : Wait) (elements : Option (List ℕ)) (number offset start : ℕ) : Type 0 where
   pub elements_are : elements ≡ x.elements
   pub number_is : number ≡ x.number + 1
   pub offset_is : offset ≡ x.offset

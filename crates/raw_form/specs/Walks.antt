@@ -15,7 +15,7 @@ use Rattle.raw_form.specs.Aheads as next
 use Rattle.raw_form.specs.Barriers.{TellsBarrier, TellsBarrierWithin, steps_of}
 use Rattle.raw_form.specs.Looking.{IsValueOf, Looks, size_of, step_at}
 use Rattle.raw_form.specs.Places.{BeginsAt, Step}
-use Rattle.raw_form.specs.Waits.{GoesOn, LiesAt, StoreEach, Wait}
+use Rattle.raw_form.specs.Waits.{ResumesBehind, LiesAt, StoreEach, Wait}
 use Rattle.raw_form.specs.declared.barrier.BarrierKind.{BarrierKind}
 use Rattle.raw_form.specs.declared.barrier.BarrierKind.TheVariants as kind
 use Rattle.raw_form.specs.declared.level.Level.{Level}
@@ -126,8 +126,8 @@ pub record IsFurther (from : Level) (walk : Walk) (to : Level) (ws : List Wait) 
   pub within : to.offset ≤ length (bytes_of walk.document)
 
 -- the final 0 of the level is in front of what is left
-abbrev pub IsOver : Option (List ℕ) → Type 0
-IsOver left = (s : List ℕ) → left ≡ Some s → s ≡ 0 ∷ []
+abbrev pub IsAtFinal : Option (List ℕ) → Type 0
+IsAtFinal left = (s : List ℕ) → left ≡ Some s → s ≡ 0 ∷ []
 
 -- it has come to nothing, and what is left of the outermost level begins at this offset
 pub record IsBegun (document : RawDocument) (offset : ℕ) (walk : Walk) (level : Level) : Type 0 where
@@ -185,9 +185,9 @@ IsTooDeep walk from ws e error.OutOfMemory = Unit {0}
 -- at the end of a level the walk goes back to the one around it; where there is none, the document has been read
 abbrev pub LeavesOrEnds : Walk → (from : Level) → List Wait → Walk → (to : Level) → Bool → Type 0
 LeavesOrEnds old from ws new to true =
-    (outer : List Wait) × (w : Wait) × (ws ≡ outer ++ w ∷ []) × IsFurther from new to outer × IsOver from.elements
-    × GoesOn w to.elements to.number to.offset to.start
-LeavesOrEnds old from ws new to false = (t : Tree) × ReadsUpTo (suc old.most_waiting) as_document (bytes_of old.document) t × (ws ≡ []) × IsOver from.elements
+    (outer : List Wait) × (w : Wait) × (ws ≡ outer ++ w ∷ []) × IsFurther from new to outer × IsAtFinal from.elements
+    × ResumesBehind w to.elements to.number to.offset to.start
+LeavesOrEnds old from ws new to false = (t : Tree) × ReadsUpTo (suc old.most_waiting) as_document (bytes_of old.document) t × (ws ≡ []) × IsAtFinal from.elements
 
 -- what a walk comes to behind the level `from`, for which these wait: it is then at the level `to`
 abbrev pub Comes : Walk → (from : Level) → List Wait → Walk → (to : Level) → Result Event WalkError → Type 0

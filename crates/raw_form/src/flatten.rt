@@ -1,7 +1,7 @@
 //! The elements of all levels as tokens.
 #![tactic(auto)]
 
-ghost use Rattle.raw_form.specs.Flattening.{FlattensTo, IsWhole};
+ghost use Rattle.raw_form.specs.Flattening.{FlattensTo, IsAtDocument};
 ghost use Rattle.raw_form.specs.Places.{AllAreBarredAtOnePlace};
 ghost use Rattle.raw_form.specs.Tokens.{Flattens};
 ghost use Rattle.raw_tree.specs.WithinLimits.{AllAreAnsweredOneWay};
@@ -32,7 +32,7 @@ pub enum FlattenError<'a> {
 
 /// The error that a limit is at the document as a whole.
 fn whole<'a>(alloc: Global, kind: BarrierKind<'a>) -> FlattenError<'a>
-    ensures { IsWhole kind.entry result }
+    ensures { IsAtDocument kind.entry result }
 {
     FlattenError::Barrier(Barrier {
         kind,

@@ -2,7 +2,7 @@
 #![tactic(auto)]
 
 ghost use Rattle.std.specs.Prelude.{[], IfOk, IfErr};
-ghost use Rattle.raw_form.specs.Judging.{HoldsAsTold, Judges, sort_of};
+ghost use Rattle.raw_form.specs.Judging.{HoldsAsTold, Judges, array_sort};
 ghost use Rattle.raw_tree.specs.OpenKeys.{AreOpenKeys, HasKeysSoFar};
 ghost use Rattle.raw_tree.specs.References.{texts};
 ghost use Rattle.raw_view.specs.Errors.{IsOutOfMemory};
@@ -59,7 +59,7 @@ pub(crate) fn held_by(value: RawBsonRef<'_>) -> Held<'_>
 
 /// The keys of a level of which no element is judged.
 pub(crate) fn keys_of<'a>(is_array: bool, listed: &[&'a str]) -> KeysSoFar<'a>
-    ensures { HasKeysSoFar result listed.now (sort_of is_array) (texts listed.now) [] }
+    ensures { HasKeysSoFar result listed.now (array_sort is_array) (texts listed.now) [] }
 {
     if is_array {
         KeysSoFar::of_array(listed)

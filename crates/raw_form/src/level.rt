@@ -3,7 +3,7 @@
 
 ghost use Rattle.std.specs.Prelude.{◌≡◌, ◌≤◌, ◌<◌, ◌+◌, ◌^◌, ℕ, List, Some, drop, length};
 ghost use Rattle.raw_form.specs.Looking.{HasValue, HoldsBytes, Sees, size_of};
-ghost use Rattle.raw_form.specs.Waits.{GoesOn, LiesAt, Stores, Wait};
+ghost use Rattle.raw_form.specs.Waits.{ResumesBehind, LiesAt, Stores, Wait};
 ghost use Rattle.raw_view.specs.Document.{bytes_of};
 ghost use Rattle.raw_view.specs.Frame.ElementSteps.{frame_of};
 ghost use Rattle.raw_view.specs.Meaning.Value.{value_of};
@@ -47,7 +47,7 @@ impl<'a> Level<'a> {
         ensures { (x : Wait)
             → Stores (bytes_of document.entry) waiting x
             → offset ≡ x.offset
-            → GoesOn x result.elements result.number result.offset result.start }
+            → ResumesBehind x result.elements result.number result.offset result.start }
     {
         let start = waiting.start as usize;
         let Some(elements) = Elements::from_offset(document_at(document, start), offset - start)

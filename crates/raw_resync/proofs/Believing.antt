@@ -14,9 +14,9 @@ goes_weaker limits least more s few (inl none) = inl none
 goes_weaker limits least more s few (inr (b, rest, sound, split, long, next)) = inr (b, rest, sound, split, omega (arith, few, long), next)
 
 -- places that were passed, and those behind them
-pub passes_after : (limits : Limits) (total low mid high end : ℕ) (s : List ℕ) (w : Work) (a b : Bool) → low ≤ mid → mid ≤ high → PassesOver limits total s low mid end w a
+pub passes_after : {a b : Bool} (limits : Limits) (total low mid high end : ℕ) (s : List ℕ) (w : Work) → low ≤ mid → mid ≤ high → PassesOver limits total s low mid end w a
     → PassesOver limits total s mid high end w b → PassesOver limits total s low high end w (a && b)
-passes_after limits total low mid high end s w a b start more p q = record {
+passes_after {a = a} {b = b} limits total low mid high end s w start more p q = record {
   each = λ j from' to'. elim (cases_lt j mid) [
     | inl before ↦ p.each j from' before
     | inr behind ↦ q.each j behind to'

@@ -6,7 +6,7 @@ use Rattle.std.specs.List.{All}
 use Rattle.raw_tree.specs.declared.reader.limits.Limits.{Limits}
 use Rattle.raw_resync.specs.Pieces.{IsPiece}
 use Rattle.raw_resync.specs.Charge.{Charges, Costs, IsBounded, IsCostIn, IsLeftOut, IsUnjudged}
-use Rattle.raw_resync.specs.Seeking.{IsJudged, IsWork, Judges, Works}
+use Rattle.raw_resync.specs.Seeking.{IsJudged, IsWork, JudgesOrLeaves, Works}
 use Rattle.raw_resync.specs.declared.work.Work.{Work}
 
 -- nothing is charged
@@ -42,7 +42,7 @@ judged_cost limits b true n (sound, len) = inl (sound, len)
 judged_cost limits b false n (damaged, costs) = costs
 
 pub charges_judged : (limits : Limits) (front b rest s : List ℕ) (end : ℕ) (old new : Work) (judged : Option Bool) → s ≡ front ++ (b ++ rest) → IsPiece limits.bytes b
-    → Judges limits b end old new judged → Charges limits s old new
+    → JudgesOrLeaves limits b end old new judged → Charges limits s old new
 charges_judged limits front b rest s end old new None split is (same, few) = subst (Charges limits s old) (sym same) (charges_none limits s old)
 charges_judged limits front b rest s end old new (Some j) split is (n, judged, spent, reach) = record {
   costs = n ∷ [];
@@ -50,7 +50,7 @@ charges_judged limits front b rest s end old new (Some j) split is (n, judged, s
   spent = spent;
 }
 
-pub bounded_judged : (limits : Limits) (total end : ℕ) (b : List ℕ) (old new : Work) (judged : Option Bool) → end ≤ total → IsWork new → Judges limits b end old new judged
+pub bounded_judged : (limits : Limits) (total end : ℕ) (b : List ℕ) (old new : Work) (judged : Option Bool) → end ≤ total → IsWork new → JudgesOrLeaves limits b end old new judged
     → IsBounded total old → IsBounded total new
 bounded_judged limits total end b old new None within work (same, few) bound = subst (IsBounded total) (sym same) bound
 bounded_judged limits total end b old new (Some j) within work (n, judged, spent, reach) bound =

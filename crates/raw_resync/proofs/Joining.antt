@@ -39,7 +39,7 @@ there : (n low j : ℕ) → n + low ≤ j → n + (j - n) ≡ j
 there n low j more = omega (arith, more)
 
 -- places that were passed, and those behind n bytes
-module _ (limits : Limits) (total from n low high : ℕ) (s : List ℕ) (w : Work) (a b : Bool) (start : from ≤ n + low) (more : low ≤ high) (p : PassesOver limits total s from (n + low) 0 w a)
+module _ {a b : Bool} (limits : Limits) (total from n low high : ℕ) (s : List ℕ) (w : Work) (start : from ≤ n + low) (more : low ≤ high) (p : PassesOver limits total s from (n + low) 0 w a)
     (q : PassesOver limits total (drop n s) low high 0 w b) where
   pub passes_join : PassesOver limits total s from (n + high) 0 w (a && b)
   passes_join = record {

@@ -6,7 +6,7 @@ use Rattle.raw_tree.specs.declared.reader.limits.Limits.{Limits}
 use Rattle.raw_resync.specs.Pieces.{IsPiece}
 use Rattle.raw_resync.specs.Resync.{EndsOrBegins, GoesOnWith, IsSound}
 use Rattle.raw_resync.specs.Charge.{IsUnjudged}
-use Rattle.raw_resync.specs.Seeking.{Checks, ChecksBehind, IsWork, JudgesPiece, Judges, MayFollow, TellsBehind, TellsCheck, TellsFront, TellsPiece, check_of}
+use Rattle.raw_resync.specs.Seeking.{Checks, ChecksBehind, IsWork, JudgesPiece, JudgesOrLeaves, MayFollow, TellsBehind, TellsCheck, TellsFront, TellsPiece, check_of}
 use Rattle.raw_resync.specs.declared.check.Check.{Check}
 use Rattle.raw_resync.specs.declared.check.Check.TheVariants as check
 use Rattle.raw_resync.specs.declared.check.Front.TheVariants as front
@@ -28,7 +28,7 @@ pub judges_none : (limits : Limits) (bytes : List ℕ) (last : Bool) (at place l
     → JudgesPiece limits bytes last at place len w w (Some false)
 judges_none limits bytes last at place len w none = record { works = works_none limits bytes last at w; tells = λ sound. none sound.envelope }
 
-told_judged : (limits : Limits) (b : List ℕ) (end : ℕ) (old new : Work) (judged : Option Bool) → Judges limits b end old new judged
+told_judged : (limits : Limits) (b : List ℕ) (end : ℕ) (old new : Work) (judged : Option Bool) → JudgesOrLeaves limits b end old new judged
     → TellsPiece limits b end new judged
 told_judged limits b end old new None (same, few) = let spent : new.spent ≡ old.spent = ap (λ (w : Work). w.spent) same in omega (arith, few, spent)
 told_judged limits b end old new (Some true) (n, (sound, len), spent, reach) = sound
@@ -36,7 +36,7 @@ told_judged limits b end old new (Some false) (n, (damaged, costs), spent, reach
 
 -- another is judged, or left out
 pub judges_piece : (limits : Limits) (bytes : List ℕ) {last : Bool} (at place len : ℕ) (old new : Work) (judged : Option Bool) → place + len ≤ length bytes
-    → IsPiece limits.bytes (take len (drop place bytes)) → IsWork new → Judges limits (take len (drop place bytes)) (at + (place + len)) old new judged
+    → IsPiece limits.bytes (take len (drop place bytes)) → IsWork new → JudgesOrLeaves limits (take len (drop place bytes)) (at + (place + len)) old new judged
     → JudgesPiece limits bytes last at place len old new judged
 judges_piece limits bytes {last} at place len old new judged within is work judges = record {
   works = record {

@@ -30,9 +30,9 @@ IsJudged limits b true n = IsSound limits b × (n ≡ length b)
 IsJudged limits b false n = (¬ IsSound limits b) × Costs limits b n
 
 -- a piece b that ends at this offset of the input is judged, or left out
-abbrev pub Judges : Limits → List ℕ → ℕ → (old new : Work) → Option Bool → Type 0
-Judges limits b end old new None = (new ≡ old) × (8 * end ≤ old.spent + length b)
-Judges limits b end old new (Some is) = (n : ℕ) × IsJudged limits b is n × (new.spent ≡ old.spent + n) × (new.reach ≡ max old.reach end)
+abbrev pub JudgesOrLeaves : Limits → List ℕ → ℕ → (old new : Work) → Option Bool → Type 0
+JudgesOrLeaves limits b end old new None = (new ≡ old) × (8 * end ≤ old.spent + length b)
+JudgesOrLeaves limits b end old new (Some is) = (n : ℕ) × IsJudged limits b is n × (new.spent ≡ old.spent + n) × (new.reach ≡ max old.reach end)
 
 -- no piece is in front of t: it is shorter than its length says, and the last; or no document has this length
 abbrev pub LacksPiece : ℕ → Bool → List ℕ → Type 0

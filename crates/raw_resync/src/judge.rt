@@ -4,7 +4,7 @@
 ghost use Rattle.std.specs.Prelude.{◌≡◌, ◌≤◌, ◌<◌, ◌^◌, IfOk, length};
 ghost use Rattle.raw_view.specs.Document.{bytes_of};
 ghost use Rattle.raw_resync.specs.Pieces.{IsPiece};
-ghost use Rattle.raw_resync.specs.Seeking.{IsJudged, IsWork, Judges};
+ghost use Rattle.raw_resync.specs.Seeking.{IsJudged, IsWork, JudgesOrLeaves};
 
 use crate::charge::looked_at;
 use crate::work::Work;
@@ -27,7 +27,7 @@ pub(crate) fn judge(
 ) -> Result<Option<bool>, AllocError>
     requires { IsPiece limits.bytes (bytes_of document) × IsWork work.old × (end < 2 ^ 66) }
     ensures work { IsWork work.new }
-    ensures judged { IfOk result (Judges limits (bytes_of document.entry) end work.old work.new) }
+    ensures judged { IfOk result (JudgesOrLeaves limits (bytes_of document.entry) end work.old work.new) }
 {
     let len = document.as_bytes().len() as u128;
     let reach = work.reach.max(end);

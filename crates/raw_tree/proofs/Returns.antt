@@ -136,7 +136,7 @@ entries_walk (entry_then key t es) h = (
   record {
     spelled = element-append (tag_of (kind_of_tree t)) key (tree_payload t) (entries_bytes es) (0 ∷ []);
     key_nul_free = h.1;
-    key_text = h.0;
+    key_utf8 = h.0;
     payload_is = h.2.shape (entries_bytes es ++ 0 ∷ []);
   },
   entries_walk es h.3,

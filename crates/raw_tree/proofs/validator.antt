@@ -2,8 +2,8 @@ pub mod EitherWay
 pub mod Judgement
 pub mod KeyOrder
 pub mod LevelKeys
-pub mod Marking
-pub mod Noting
+pub mod Fingerprinting
+pub mod Filtering
 pub mod OneBreach
 pub mod Passed
 pub mod References

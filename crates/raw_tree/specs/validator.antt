@@ -1,7 +1,7 @@
 pub mod Breaches
 pub mod KeySets
-pub mod Marks
-pub mod Notes
+pub mod Fingerprints
+pub mod KeyFilter
 pub mod OpenKeys
 pub mod References
 pub mod Validating

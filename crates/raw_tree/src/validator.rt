@@ -11,11 +11,11 @@ ghost use Rattle.raw_view.specs.Errors.{IsOutOfMemory};
 ghost use Rattle.raw_view.specs.Meaning.Value.{array_bytes_of, value_of};
 
 pub(crate) mod breach;
+pub(crate) mod filter;
+pub(crate) mod fingerprints;
 pub(crate) mod key_set;
 pub(crate) mod keys;
 pub(crate) mod keys_so_far;
-pub(crate) mod marks;
-pub(crate) mod notes;
 
 use crate::validator::breach::{Breach, Cause};
 use crate::validator::keys::Keys;

@@ -11,6 +11,7 @@ pub use Rattle.raw_view.proofs.Values.Meanings.{has_meaning}
 -- and there is one alone
 pub use Rattle.raw_view.proofs.Unique.Walks.{one_frame, one_stop, one_walk, the_walk, no_frame_at_stop, no_frame_at_final, no_stop_at_final}
 pub use Rattle.raw_view.proofs.Unique.Items.{the_items}
+pub use Rattle.raw_view.proofs.Unique.LookUps.{one_look_up}
 pub use Rattle.raw_view.proofs.Unique.Meanings.{one_meaning}
 -- an element is one before any bytes
 pub use Rattle.raw_view.proofs.Frames.Standing.{stands_anywhere}

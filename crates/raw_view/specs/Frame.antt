@@ -95,7 +95,7 @@ pub record Frame : Type 0 where
 pub record IsFrame (s : List ℕ) (f : Frame) (r : List ℕ) : Type 0 where
   pub spelled : s ≡ element_of f.kind f.key (f.payload ++ r)
   pub key_nul_free : NulFree f.key
-  pub key_text : IsUtf8 f.key
+  pub key_utf8 : IsUtf8 f.key
   pub payload_is : HasShape f.kind f.payload r
 
 -- a code with scope whose declared length takes in fewer bytes than the length itself has

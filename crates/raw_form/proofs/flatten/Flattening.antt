@@ -14,7 +14,7 @@ use Rattle.raw_form.specs.Looking.{HoldsNone, Looks, size_of}
 use Rattle.raw_form.specs.Staying.{end_of}
 use Rattle.raw_form.specs.Tokens.{AreInside, AreTokens, AreTokensOf, HasTokens, IsTokenOf, NestedUpTo, filled_from}
 use Rattle.raw_form.specs.Waits.{Wait}
-use Rattle.raw_form.specs.Walks.{IsOpened, IsOver}
+use Rattle.raw_form.specs.Walks.{IsOpened, IsAtFinal}
 use Rattle.raw_form.specs.declared.level.Level.{Level}
 use Rattle.raw_form.specs.Aheads as next
 use Rattle.raw_form.specs.declared.token.Token.{Token}
@@ -72,7 +72,7 @@ flat_whole {inside} {depth} {old = Some s} {offset} new behind e t is (r, v, at,
     (v, t, [], m, inside_none (HasTokens inside (suc depth)) v (offset + size_of (frame_of e)) none, token, refl)
 
 flat_over : (inside depth start : ℕ) (d : List ℕ) (left : Option (List ℕ)) (offset : ℕ) (tokens : List Token) → IsFlat inside depth start d left offset tokens
-    → IsOver left → HasTokens (suc inside) depth start d tokens
+    → IsAtFinal left → HasTokens (suc inside) depth start d tokens
 flat_over inside depth start d None offset tokens is over = absurd is.passed
 flat_over inside depth start d (Some s) offset tokens is over = (is.frames, LeadsTo-walk (drop 4 d) is.frames s Done is.passed (over s refl), is.has)
 
@@ -332,7 +332,7 @@ module _ {most : ℕ} {b : List ℕ} {before : List Token} {ws : List Wait} {lef
           }
 
   -- the end of a level for which another waits
-  pub flattens_end : (outer : List Wait) (w : Wait) (shorter : List ℕ) (place size : ℕ) → ws ≡ outer ++ w ∷ [] → IsOver left → list ≡ shorter ++ place ∷ []
+  pub flattens_end : (outer : List Wait) (w : Wait) (shorter : List ℕ) (place size : ℕ) → ws ≡ outer ++ w ∷ [] → IsAtFinal left → list ≡ shorter ++ place ∷ []
       → size + (place + 1) ≡ count → offset < w.offset → IsFlattening most b before outer w.elements w.offset shorter count (with_inside place size room)
   flattens_end outer w shorter place size same over popped size_is further = leaves is.os is.are_open is.flat is.list_is is.count_is is.filled
     where
@@ -373,7 +373,7 @@ module _ {most : ℕ} {b : List ℕ} {before : List Token} {ws : List Wait} {lef
           }
 
   -- the end of the document
-  pub flattens_all : ws ≡ [] → IsOver left → (ts : List Token) × HasTokens (suc most) 0 0 b ts × (count ≡ length ts) × (room ≡ filled_from 0 before ts)
+  pub flattens_all : ws ≡ [] → IsAtFinal left → (ts : List Token) × HasTokens (suc most) 0 0 b ts × (count ≡ length ts) × (room ≡ filled_from 0 before ts)
   flattens_all none over = ends is.os is.are_open is.flat is.count_is is.filled
     where
       ends : (os : List Open) → AreOpen most b os ws is.inside is.start is.d → IsFlat is.inside (length os) is.start is.d left offset is.tokens

@@ -227,7 +227,7 @@ module _ {b : List ℕ} {ws : List Rewritten} {level : Rewritten} {out : List �
               here = begun_at next.0 inner.start;
               waits = begun_more ws new is.outer (left_with is.here next.1) is.waits (passed_on next.1 next.4);
               begun = record { start_is = refl; code = left.0; left = left.1 };
-              writing = writing_inside is.tree is.outer is.here out is.writing (member_key m, next.0) next.1 next.2 inner.start head more made.0 start_is
+              writing = writing_inside is.writing (member_key m, next.0) next.1 next.2 inner.start head more made.0 start_is
                   (head_is ∙ ap (λ (x : List ℕ). out ++ x) tagged_so) (more_is ∙ ap (λ (x : List ℕ). head ++ x) (sym made.1));
               fits = fits;
             }

@@ -16,7 +16,7 @@ use Rattle.raw_tree.specs.References.{texts}
 use Rattle.raw_tree.specs.Validating.{left_of}
 use Rattle.raw_tree.specs.declared.validator.breach.Cause.{Cause}
 use Rattle.raw_tree.specs.declared.validator.keys_so_far.KeysSoFar.{KeysSoFar}
-use Rattle.raw_form.specs.Judging.{sort_of, IsSingleWith, Judges, TellsJudged}
+use Rattle.raw_form.specs.Judging.{array_sort, IsSingleWith, Judges, TellsJudged}
 use Rattle.raw_form.specs.Looking.{HoldsNone, Looks, size_of, step_at}
 use Rattle.raw_form.specs.Places.{Step}
 use Rattle.raw_form.specs.Verdicts.{Verdict, too_deep, breach_of, FirstVerdictTo}
@@ -100,7 +100,7 @@ module _ {depth : ℕ} {b : List ℕ} {ws : List Wait} {ks : List KeysSoFar} {li
 
   pub looks_inside : (new : Option (List ℕ)) (i : KeysSoFar) (after : List (Bor (List ℕ))) (e : RawElement) (inner : RawDocument) (is_array : Bool)
       → Told new i after (judged.Inside e inner is_array) → Looks left new (next.Inside e inner)
-  looks_inside new i after e inner is_array (r, v, frame, m, new_is, has, more, holds) = rw (at.is.left_is) (r, v, frame, m, as_held v (sort_of is_array) (bytes_of inner) holds, new_is)
+  looks_inside new i after e inner is_array (r, v, frame, m, new_is, has, more, holds) = rw (at.is.left_is) (r, v, frame, m, as_held v (array_sort is_array) (bytes_of inner) holds, new_is)
 
   pub looks_end : (new : Option (List ℕ)) (i : KeysSoFar) (after : List (Bor (List ℕ))) → Told new i after judged.End → Looks left new next.End
   looks_end new i after h = rw (at.is.left_is) (h.0)
@@ -125,7 +125,7 @@ module _ {depth : ℕ} {b : List ℕ} {ws : List Wait} {ks : List KeysSoFar} {li
   -- the next level, for which this one waits
   pub judged_inside : {behind : ℕ} {inner : RawDocument} {level : Level} (new : Option (List ℕ)) (i : KeysSoFar) (after : List (Bor (List ℕ))) (e : RawElement)
       (is_array : Bool) (k2 : KeysSoFar) (h : Told new i after (judged.Inside e inner is_array)) → suc (length ws) < depth
-      → (far : behind ≡ offset + size_of (frame_of e)) → IsOpened behind inner level → HasKeysSoFar k2 after (sort_of is_array) (texts after) []
+      → (far : behind ≡ offset + size_of (frame_of e)) → IsOpened behind inner level → HasKeysSoFar k2 after (array_sort is_array) (texts after) []
       → IsJudgedAt depth b (ws ++ waiting_then at.at new behind e inner (looks_inside new i after e inner is_array h) far
       ∷ []) (ks ++ i ∷ []) after level.elements level.number level.offset level.start k2
   judged_inside {behind} {inner} {level} new i after e is_array k2 h few far opens has =
@@ -140,12 +140,12 @@ module _ {depth : ℕ} {b : List ℕ} {ws : List Wait} {ks : List KeysSoFar} {li
       record {
         at = at_inside at.at new behind e inner looks far level few opens;
         inside = less;
-        sort = sort_of is_array;
+        sort = array_sort is_array;
         d = bytes_of inner;
         end = behind;
         below = texts after;
         held = held_more as_document b (length b) [] ws ks at.end held waits ends;
-        is = begun less (sort_of is_array) (bytes_of inner) after level.elements level.number k2 opens.left_is opens.first_is has;
+        is = begun less (array_sort is_array) (bytes_of inner) after level.elements level.number k2 opens.left_is opens.first_is has;
         levels = omega (arith, at.levels, more, length-append ws (w ∷ []));
         begins = rw (opens.left_is) (opens.begins);
       }

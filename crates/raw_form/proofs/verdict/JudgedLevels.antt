@@ -21,7 +21,7 @@ use Rattle.raw_tree.specs.Validating.{HoldsAs, left_of}
 use Rattle.raw_tree.specs.declared.validator.breach.Cause.{Cause}
 use Rattle.raw_tree.specs.declared.validator.keys_so_far.KeysSoFar.{KeysSoFar}
 use Rattle.raw_tree.proofs.Face.{nested_beside, keys_front, keys_on}
-use Rattle.raw_form.specs.Judging.{sort_of, BreachesHere, BreachesItself, IsSingleWith, TellsJudged}
+use Rattle.raw_form.specs.Judging.{array_sort, BreachesHere, BreachesItself, IsSingleWith, TellsJudged}
 use Rattle.raw_form.specs.Looking.{step_at}
 use Rattle.raw_form.specs.Places.{Step, BeginsAt}
 use Rattle.raw_form.specs.Verdicts.{Verdict, too_deep, breach_of, JudgesNestedAt, JudgesMeaningAt, FirstVerdictTo}
@@ -134,7 +134,7 @@ module _ {inside : ℕ} {sort : Sort} {d : List ℕ} {below : List (List ℕ)} {
 
   pub passed_inside : (e : RawElement) (inner : RawDocument) (is_array : Bool) (new : Option (List ℕ)) (after : List (Bor (List ℕ))) (ks : KeysSoFar) (w : Wait)
       → TellsJudged sort below (keys_of_frames is.frames) is.rest new ks after (judged.Inside e inner is_array) → w.elements ≡ new → w.number ≡ number
-      → w.key ≡ (frame_of e).key → IsHeld inside sort d below w ks (sort_of is_array) (bytes_of inner) (texts after)
+      → w.key ≡ (frame_of e).key → IsHeld inside sort d below w ks (array_sort is_array) (bytes_of inner) (texts after)
   passed_inside e inner is_array new after ks w (r, v, at, m, new_is, has, more, holds) left_is number_is key_is = record {
     frames = is.frames;
     s = is.rest;
@@ -250,7 +250,7 @@ passed_deep {d = d} {number = number} is e inner is_array new after ks (r, v, at
     let step : Step = record { number = length is.frames; key = Some key } in
     let path : ◌≡◌ {A = List Step} (record { number = number; key = Some key } ∷ []) (step ∷ []) = ap (λ (n : ℕ). record { number = n; key = Some key } ∷ []) is.number_is in
     let there : BeginsAt d is.rest offset = omega (arith, begins, ap left_of is.left_is) in
-    let nested : IsNested 0 d is.rest step r (sort_of is_array) (bytes_of inner) too_deep (record { number = number; key = Some key } ∷ []) offset =
+    let nested : IsNested 0 d is.rest step r (array_sort is_array) (bytes_of inner) too_deep (record { number = number; key = Some key } ∷ []) offset =
     record { judges = ([], 0, (refl, refl, refl), path, there) } in
     (is.frames, is.rest, is.reaches, is.keys_canonical, is.canonical, inr (frame_of e, r, at, inr (more, value v, m, inside_at v holds nested)))
 

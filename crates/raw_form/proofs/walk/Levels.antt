@@ -22,7 +22,7 @@ use Rattle.raw_form.specs.Judging.{first_number}
 use Rattle.raw_form.specs.Looking.{Looks, size_of, step_at}
 use Rattle.raw_form.specs.Places.{Step, FirstFaultAt}
 use Rattle.raw_form.specs.Waits.{LiesAt, Stores, StoreEach, Wait}
-use Rattle.raw_form.specs.Walks.{AreHeld, IsAlong, IsAt, IsBarrierAt, IsBehind, IsFurther, IsOpened, IsOver, IsPassed, IsTooDeep, TellsError, outermost_of, wait_behind}
+use Rattle.raw_form.specs.Walks.{AreHeld, IsAlong, IsAt, IsBarrierAt, IsBehind, IsFurther, IsOpened, IsAtFinal, IsPassed, IsTooDeep, TellsError, outermost_of, wait_behind}
 use Rattle.raw_form.specs.declared.barrier.Barrier.{Barrier}
 use Rattle.raw_form.specs.declared.barrier.BarrierKind.{BarrierKind}
 use Rattle.raw_form.specs.declared.barrier.BarrierKind.TheVariants as kind
@@ -130,7 +130,7 @@ outermost_behind {left = Some s} b (w ∷ ws) sort end offset key is held begins
       begins = omega (arith, size, held.2.element_is, held.3, ap left_of held.2.left_is);
     }
 
-over_here : (old new : Option (List ℕ)) → Looks old new next.End → IsOver old
+over_here : (old new : Option (List ℕ)) → Looks old new next.End → IsAtFinal old
 over_here None new looks s e = absurd (cc)
 over_here (Some t) new looks s e =
     let same : t ≡ s = cc in
@@ -205,7 +205,7 @@ module _ {depth : ℕ} {b : List ℕ} {ws : List Wait} {old : Option (List ℕ)}
     at_stored = inside_stored new offset behind e inner at.lies at.is (at.begins ∙ sym at.whole) looks far
 
   -- the final 0 is in front, and within b
-  pub over_end : (new : Option (List ℕ)) → Looks old new next.End → IsOver old
+  pub over_end : (new : Option (List ℕ)) → Looks old new next.End → IsAtFinal old
   over_end new looks = over_here old new looks
 
   pub at_over_within : (new : Option (List ℕ)) → Looks old new next.End → offset + 1 ≤ length b

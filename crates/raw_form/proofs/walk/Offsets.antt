@@ -18,7 +18,7 @@ use Rattle.raw_tree.specs.Validating.{left_of}
 use Rattle.raw_form.specs.Barriers.{step_of}
 use Rattle.raw_form.specs.Looking.{size_of, step_at}
 use Rattle.raw_form.specs.Places.{Step}
-use Rattle.raw_form.specs.Waits.{GoesOn, LiesAt, Stores, StoreEach, Wait}
+use Rattle.raw_form.specs.Waits.{ResumesBehind, LiesAt, Stores, StoreEach, Wait}
 use Rattle.raw_form.specs.declared.level.Waiting.{Waiting}
 use Rattle.raw_form.specs.declared.place.PathStep.{PathStep}
 use Rattle.raw_form.proofs.last.Places.{drop_frame, frame_size}
@@ -62,7 +62,7 @@ frame_more s f r q at =
     record {
       spelled = ap (λ (x : List ℕ). x ++ q) at.spelled ∙ ap (λ (x : List ℕ). tag_of f.kind ∷ x) key ∙ ap (λ (x : List ℕ). element_of f.kind f.key x) payload;
       key_nul_free = at.key_nul_free;
-      key_text = at.key_text;
+      key_utf8 = at.key_utf8;
       payload_is = shape_more f.kind f.payload r q at.payload_is;
     }
 
@@ -159,7 +159,7 @@ module _ (b : List ℕ) (w : Waiting) (x : Wait) (d : List ℕ) (offset : ℕ) (
   reopened =
       (omega (arith, far, is.start_is, is.begins, is.ends), omega (arith, far, is.start_is, is.begins, is.ends, ap length same))
 
-  pub goes_on : (elements : Option (List ℕ)) → elements ≡ Some (drop (offset - w.start) d) → GoesOn x elements (w.number + 1) offset w.start
+  pub goes_on : (elements : Option (List ℕ)) → elements ≡ Some (drop (offset - w.start) d) → ResumesBehind x elements (w.number + 1) offset w.start
   goes_on elements e =
       let behind : offset - w.start ≡ x.offset - x.start = omega (arith, far, is.start_is) in
       record {

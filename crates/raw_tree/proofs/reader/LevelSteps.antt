@@ -3,7 +3,7 @@
 use Rattle.std.proofs.Common.{◌≡◌, inl, inr, ◌<◌, ◌≤◌, ◌+◌, ◌-◌, ◌*◌, take, length-take, ◌++◌, ◌∷◌, [], ℕ, suc, List, Option, None, Some, Result, Ok, Err, IfOk, IfErr, length, drop, arith, ap, refl, sym, ◌∙◌, subst, length-drop, length-append, sum_by}
 use Rattle.raw_tree.proofs.Common.{sum_by_push, none-some, Tree, tree_of, Bson, Says, TellsMeaning, bytes_of, StepsElement, frame_of, IsOutOfMemory, Frame, Done, RawValue, KeyedFault, Meaning, Means}
 use Rattle.raw_tree.proofs.Common.{value, faulty, max_length, value_of, RawBsonRef, RawElement, Error, CountsIn, HasFrameCount, TellsFrames, sort_of, holding, tree_of_contents, AreDrafted, IsOneMore}
-use Rattle.raw_tree.proofs.Common.{IsUnread, HoldsNone, Opens, Finishes, Ends, TellsReading, counted, fault_of, too_deep, FirstFaultWithin, SaysBarrier, tree_of_pairs, StandsFor, ReadsUpTo, ReadsAs}
+use Rattle.raw_tree.proofs.Common.{IsUnread, HoldsNone, OpensAs, Finishes, DraftsTree, TellsReading, counted, fault_of, too_deep, FirstFaultWithin, SaysBarrier, tree_of_pairs, StandsFor, ReadsUpTo, ReadsAs}
 use Rattle.raw_tree.proofs.Common.{FirstFault, Contents, Holder, Level, Nested, Opened, Waiting, left_of}
 use Rattle.raw_view.proofs.Face.{LeadsTo-walk, IsFrame-shorter}
 use Rattle.raw_tree.specs.declared.reader.levels.Opened.TheVariants as opened
@@ -37,7 +37,7 @@ module _ {inside n : ℕ} {u : Nested} {level : Level} (is : IsReading inside u 
       ((is.pairs, (is.passed.frames, walk, is.passed.each), refl), count_of_walk (bytes_of u.document) is.passed.frames _ n walk is.passed.counts)
 
   -- so the value that is made of them is the one that holds them, within as many levels
-  level_stands : (t : Bson) → StepsElement level.elements None new → Ends level.holder level.draft t → StandsFor (ReadsUpTo (suc inside)) (held_value u) (tree_of t)
+  level_stands : (t : Bson) → StepsElement level.elements None new → DraftsTree level.holder level.draft t → StandsFor (ReadsUpTo (suc inside)) (held_value u) (tree_of t)
   level_stands t st ends =
       let b = bytes_of u.document in
       let read = (level_ends st).0 in
@@ -135,7 +135,7 @@ module _ {depth n : ℕ} {u : Nested} {ws : List Waiting} {level : Level} (are :
         ((fin.0 ∙ is.held, read), tt, inr (inl (no_fault, count), count))
 
     -- or of one inside, and the level that waits for it goes on
-    pub popped : (less : List Waiting) (w : Waiting) (t : Bson) (on : Level) → ws ≡ less ++ w ∷ [] → Ends level.holder level.draft t → IsOneMore w.level w.key.now (tree_of t) on
+    pub popped : (less : List Waiting) (w : Waiting) (t : Bson) (on : Level) → ws ≡ less ++ w ∷ [] → DraftsTree level.holder level.draft t → IsOneMore w.level w.key.now (tree_of t) on
         → AreReading depth u less on n
     popped less w t on e ends more =
         let out = waiting_less are.waiting less w e in
@@ -216,7 +216,7 @@ module _ {depth n : ℕ} {u : Nested} {ws : List Waiting} {level : Level} {key :
 
 -- the value that is opened is that of nested bytes
 pub nested_inside : {depth n : ℕ} {u : Nested} {ws : List Waiting} {level : Level} {key : List ℕ} (v : RawValue) (o : Opened) (inner : Nested)
-    → AreBehind depth u ws level key (value v) n → Opens v o → o ≡ opened.Nested inner → AreBehind depth u ws level key (value (held_value inner)) n
+    → AreBehind depth u ws level key (value v) n → OpensAs v o → o ≡ opened.Nested inner → AreBehind depth u ws level key (value (held_value inner)) n
 nested_inside v o inner are opens is = grind arith
 
 -- the value holds nested bytes, which are the next level, and the level waits for them

@@ -70,7 +70,7 @@ fault_or_deep (suc n) (suc m) b fault h =
 apart_within : (n : ℕ) → AreApart (ReadsUpTo n) (FirstFaultWithin n)
 apart_within zero sort b t x h bars = absurd h
 apart_within (suc n) sort b t x h bars =
-    walk_apart (ReadsUpTo n) (FirstFaultWithin n) (apart_within n) (drop 4 b) h.1.0 bars.0 bars.2 h.0 x h.1.1 h.1.2 bars.3 bars.5
+    walk_apart (ReadsUpTo n) (FirstFaultWithin n) (apart_within n) (drop 4 b) h.1.0 bars.0 bars.2 x (h.0, h.1.1, h.1.2) bars.3 bars.5
 
 one_barrier_within : (n : ℕ) (b : List ℕ) (x y : Barrier) → FirstFaultWithin n b x → FirstFaultWithin n b y → x ≡ y
 one_barrier_within zero b x y h k = h ∙ sym k

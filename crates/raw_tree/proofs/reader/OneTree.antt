@@ -74,12 +74,12 @@ module _ (N : Sort → List ℕ → Tree → Type 0) (Nested : List ℕ → Barr
   value_apart v t d x h holds bars = grind arith
 
   -- no frame at the front whose value stands for a tree has the barrier
-  frame_apart : (s : List ℕ) (f : Frame) (r : List ℕ) (v : RawValue) (t : Tree) (x : Barrier) → IsFrame s f r → Means f (value v) → StandsFor N v t
+  frame_apart : {r : List ℕ} (s : List ℕ) (f : Frame) (v : RawValue) (t : Tree) (x : Barrier) → IsFrame s f r → Means f (value v) → StandsFor N v t
       → BarsFront Nested s x → ⊥
-  frame_apart s f r v t x at m h (inl stop) =
+  frame_apart {r = r} s f v t x at m h (inl stop) =
       let fault = some_fault (λ y. IsStop s y.fault y.key) x stop in
       no_frame_at_stop s fault.0.fault fault.0.key fault.1 f r at
-  frame_apart s f r v t x at m h (inr bars) =
+  frame_apart {r = r} s f v t x at m h (inr bars) =
       let frames : bars.0 ≡ f = (one_frame s bars.0 f bars.1 r bars.2 at).0 in
       grind (arith, frames, bars.3, one_value_of, some_fault, value_apart, value_nor_fault)
 
@@ -88,14 +88,14 @@ module _ (N : Sort → List ℕ → Tree → Type 0) (Nested : List ℕ → Barr
   final_apart s x e h = grind (arith, no_frame_at_final, no_stop_at_final, some_fault)
 
   -- along a walk whose frames all stand for trees the barrier is nowhere
-  pub walk_apart : (s : List ℕ) (frames passed : List Frame) (r : List ℕ) (pairs : List (List ℕ × Tree)) (x : Barrier) → IsWalk s frames Done
-      → StandForEach N frames pairs → LeadsTo s passed r → BarsFront Nested r x → ⊥
-  walk_apart s [] [] r pairs x w h l bars = final_apart s x w (rw l bars)
-  walk_apart s [] (g ∷ passed) r pairs x w h l bars = no_frame_at_final s w g l.0 l.1
-  walk_apart s (f ∷ frames) [] r pairs x w h l bars = frame_apart s f w.0 h.0 h.1 x w.1 h.3 h.4 (rw l bars)
-  walk_apart s (f ∷ frames) (g ∷ passed) r pairs x w h l bars =
+  pub walk_apart : (s : List ℕ) (frames passed : List Frame) (r : List ℕ) (x : Barrier) → (pairs : List (List ℕ × Tree)) × IsWalk s frames Done × StandForEach N frames pairs
+      → LeadsTo s passed r → BarsFront Nested r x → ⊥
+  walk_apart s [] [] r x (pairs, w, h) l bars = final_apart s x w (rw l bars)
+  walk_apart s [] (g ∷ passed) r x (pairs, w, h) l bars = no_frame_at_final s w g l.0 l.1
+  walk_apart s (f ∷ frames) [] r x (pairs, w, h) l bars = frame_apart s f h.0 h.1 x w.1 h.3 h.4 (rw l bars)
+  walk_apart s (f ∷ frames) (g ∷ passed) r x (pairs, w, h) l bars =
       let same : l.0 ≡ w.0 = (one_frame s g f l.0 w.0 l.1 w.1).1 in
-      walk_apart w.0 frames passed r h.2 x w.2 h.6 (subst (λ (y : List ℕ). LeadsTo y passed r) same l.2) bars
+      walk_apart w.0 frames passed r x (h.2, w.2, h.6) (subst (λ (y : List ℕ). LeadsTo y passed r) same l.2) bars
 
 -- what is left of a document or an array, s, has the barrier behind frames that stand for trees
 abbrev pub BarsRest : (Sort → List ℕ → Tree → Type 0) → (List ℕ → Barrier → Type 0) → List ℕ → Barrier → Type 0
@@ -111,17 +111,21 @@ one_fault_with P Q same (fault_of a) too_deep h k = absurd k
 one_fault_with P Q same too_many_bytes y h k = absurd h
 one_fault_with P Q same too_deep y h k = absurd h
 
+-- behind these frames, which stand for trees, r has a barrier
+abbrev pub BarsBehind : (Sort → List ℕ → Tree → Type 0) → (List ℕ → Barrier → Type 0) → List ℕ → List Frame → List ℕ → Type 0
+BarsBehind N Nested s passed r = (pairs : List (List ℕ × Tree)) × (x : Barrier) × LeadsTo s passed r × StandForEach N passed pairs × BarsFront Nested r x
+
 -- of two sorts of barriers of nested bytes
 module _ (N : Sort → List ℕ → Tree → Type 0) (Nested Other : List ℕ → Barrier → Type 0) (apart : AreApart N Nested) (away : AreApart N Other) where
   -- frames that stand for trees lead to one place with a barrier alone
-  pub passed_same : (s : List ℕ) (fs gs : List Frame) (r q : List ℕ) (ps qs : List (List ℕ × Tree)) (x y : Barrier)
-      → LeadsTo s fs r → StandForEach N fs ps → BarsFront Nested r x → LeadsTo s gs q → StandForEach N gs qs → BarsFront Other q y → (fs ≡ gs) × (r ≡ q)
-  passed_same s [] [] r q ps qs x y l h a m k c = (refl, sym l ∙ m)
-  passed_same s [] (g ∷ gs) r q ps qs x y l h a m k c = absurd (frame_apart N Nested apart s g m.0 k.0 k.1 x m.1 k.3 k.4 (rw l a))
-  passed_same s (f ∷ fs) [] r q ps qs x y l h a m k c = absurd (frame_apart N Other away s f l.0 h.0 h.1 y l.1 h.3 h.4 (rw m c))
-  passed_same s (f ∷ fs) (g ∷ gs) r q ps qs x y l h a m k c =
+  pub passed_same : (s : List ℕ) (fs gs : List Frame) (r q : List ℕ) → BarsBehind N Nested s fs r → BarsBehind N Other s gs q → (fs ≡ gs) × (r ≡ q)
+  passed_same s [] [] r q (ps, x, l, h, a) (qs, y, m, k, c) = (refl, sym l ∙ m)
+  passed_same s [] (g ∷ gs) r q (ps, x, l, h, a) (qs, y, m, k, c) = absurd (frame_apart N Nested apart s g k.0 k.1 x m.1 k.3 k.4 (rw l a))
+  passed_same s (f ∷ fs) [] r q (ps, x, l, h, a) (qs, y, m, k, c) = absurd (frame_apart N Other away s f h.0 h.1 y l.1 h.3 h.4 (rw m c))
+  passed_same s (f ∷ fs) (g ∷ gs) r q (ps, x, l, h, a) (qs, y, m, k, c) =
       let front = one_frame s g f m.0 l.0 m.1 l.1 in
-      let others = passed_same l.0 fs gs r q h.2 k.2 x y l.2 h.6 a (subst (λ (z : List ℕ). LeadsTo z gs q) front.1 m.2) k.6 c in
+      let behind = subst (λ (z : List ℕ). LeadsTo z gs q) front.1 m.2 in
+      let others = passed_same l.0 fs gs r q (h.2, x, l.2, h.6, a) (k.2, y, behind, k.6, c) in
       (rw (front.0, others.0) refl, others.1)
 
   -- where nested bytes have one of them, so has what is left of a document or an array
@@ -142,7 +146,7 @@ module _ (N : Sort → List ℕ → Tree → Type 0) (Nested Other : List ℕ �
 
     pub rest_same : (s : List ℕ) (x y : Barrier) → BarsRest N Nested s x → BarsRest N Other s y → x ≡ y
     rest_same s x y h k =
-        let to = passed_same s h.0 k.0 h.2 k.2 h.1 k.1 x y h.3 h.4 h.5 k.3 k.4 k.5 in
+        let to = passed_same s h.0 k.0 h.2 k.2 (h.1, x, h.3, h.4, h.5) (k.1, y, k.3, k.4, k.5) in
         front_same h.2 x y h.5 (subst (λ (r : List ℕ). BarsFront Other r y) (sym to.1) k.5)
 
 -- faults
@@ -166,7 +170,7 @@ apart_within zero m sort b t x h bars = absurd h
 apart_within (suc n) zero sort b t x h bars = (some_fault (FirstFaultUpTo 0 b) x bars).1
 apart_within (suc n) (suc m) sort b t x h bars =
     let bad = some_fault (FirstFaultUpTo (suc m) b) x bars in
-    walk_apart (ReadsUpTo n) (BarsAs (FirstFaultUpTo m)) (apart_within n m) (drop 4 b) h.1.0 bad.1.0 bad.1.2 h.0 (fault_of bad.0) h.1.1 h.1.2 bad.1.3
+    walk_apart (ReadsUpTo n) (BarsAs (FirstFaultUpTo m)) (apart_within n m) (drop 4 b) h.1.0 bad.1.0 bad.1.2 (fault_of bad.0) (h.0, h.1.1, h.1.2) bad.1.3
     (fails_at (FirstFaultUpTo m) bad.1.2 bad.0 bad.1.5)
 
 -- no bytes are read as a tree and have a first fault

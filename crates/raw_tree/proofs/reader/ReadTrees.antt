@@ -134,31 +134,31 @@ module _ (holds : OfParts)
   HoldRead N = (sort : Sort) (b : List ℕ) (t : Tree) → IsEnvelope b → N sort b t → IsMet t
 
   -- then in the tree that a frame's value stands for
-  of_value : (N : Sort → List ℕ → Tree → Type 0) → HoldRead N → (s : List ℕ) (f : Frame) (r : List ℕ) (v : RawValue) (t : Tree) → AreBytes s → IsFrame s f r
+  of_value : {N : Sort → List ℕ → Tree → Type 0} {s r : List ℕ} {f : Frame} → HoldRead N → (v : RawValue) (t : Tree) → AreBytes s → IsFrame s f r
       → Means f (value v) → StandsFor N v t → IsMet t
-  of_value N read s f r (raw.single l) t bytes at m h =
+  of_value {s = s} {r = r} {f = f} read (raw.single l) t bytes at m h =
       let proper = leaf_proper f.kind f.payload r l (payload_bytes s f r at bytes) at.payload_is m in
       subst IsMet (sym h) (leaves (leaf_in_order l) proper)
-  of_value N read s f r (raw.document d) t bytes at m h = read as_document d t (nested_envelope s f r (raw.document d) d at m refl) h
-  of_value N read s f r (raw.array d) t bytes at m h = read as_array d t (nested_envelope s f r (raw.array d) d at m refl) h
-  of_value N read s f r (raw.scoped code d) t bytes at m h =
+  of_value {s = s} {r = r} {f = f} read (raw.document d) t bytes at m h = read as_document d t (nested_envelope s f r (raw.document d) d at m refl) h
+  of_value {s = s} {r = r} {f = f} read (raw.array d) t bytes at m h = read as_array d t (nested_envelope s f r (raw.array d) d at m refl) h
+  of_value {s = s} {r = r} {f = f} read (raw.scoped code d) t bytes at m h =
       let scope = read as_document d (document h.0) (nested_envelope s f r (raw.scoped code d) d at m refl) h.1 in
       subst IsMet (sym h.2) (codes code (code_text (valued f.kind f.payload r (raw.scoped code d) at.payload_is m)), scope.0, scope.1)
 
   -- and in the pairs of a walk
-  of_walk : (N : Sort → List ℕ → Tree → Type 0) → HoldRead N → (s : List ℕ) (frames : List Frame) (pairs : List (List ℕ × Tree)) → AreBytes s
+  of_walk : {N : Sort → List ℕ → Tree → Type 0} → HoldRead N → (s : List ℕ) (frames : List Frame) (pairs : List (List ℕ × Tree)) → AreBytes s
       → IsWalk s frames Done → StandForEach N frames pairs → InPairs pairs
-  of_walk N read s [] pairs bytes w h = subst InPairs (sym h) tt
-  of_walk N read s (f ∷ frames) pairs bytes w h =
-      let here = of_value N read s f w.0 h.0 h.1 bytes w.1 h.3 h.4 in
-      let rest = of_walk N read w.0 frames h.2 (AreBytes-rest s f w.0 w.1 bytes) w.2 h.6 in
-      subst InPairs (sym h.5) (keys f.key w.1.key_text w.1.key_nul_free, here, rest)
+  of_walk read s [] pairs bytes w h = subst InPairs (sym h) tt
+  of_walk read s (f ∷ frames) pairs bytes w h =
+      let here = of_value read h.0 h.1 bytes w.1 h.3 h.4 in
+      let rest = of_walk read w.0 frames h.2 (AreBytes-rest s f w.0 w.1 bytes) w.2 h.6 in
+      subst InPairs (sym h.5) (keys f.key w.1.key_utf8 w.1.key_nul_free, here, rest)
 
   -- within any levels
   read_within : (n : ℕ) → HoldRead (ReadsUpTo n)
   read_within zero sort b t env h = absurd h
   read_within (suc n) sort b t env h =
-      subst IsMet (sym h.2) (of_pairs sort h.0 (of_walk (ReadsUpTo n) (read_within n) (drop 4 b) h.1.0 h.0 (AreBytes-drop 4 b env.bytes) h.1.1 h.1.2))
+      subst IsMet (sym h.2) (of_pairs sort h.0 (of_walk (read_within n) (drop 4 b) h.1.0 h.0 (AreBytes-drop 4 b env.bytes) h.1.1 h.1.2))
 
   -- in each tree that is read
   read_everywhere : HoldRead ReadsAs

@@ -2,8 +2,8 @@
 -- drafted, and each but the innermost waits for the value of the frame behind them.
 use Rattle.std.proofs.Common.{◌≡◌, Option, None, Some, inl, inr, ◌+◌, ◌++◌, ◌∷◌, [], ℕ, suc, List, length, arith, ap, refl, sym, ◌∙◌, subst, map, length-append, Vec, Global, Bor, zip}
 use Rattle.raw_tree.proofs.Common.{map-append, keep, Tree, document, code_with_scope, entries, tree_of, with_trees, pairs_of, Bson, Document, bytes_of, Frame, IsFrame, RawValue, KeyedFault, Meaning}
-use Rattle.raw_tree.proofs.Common.{Means, value, CountsIn, HasFrameCount, HasFramesToFault, KeepsKeys, sort_of, holding, texts_of, AreDrafted, IsPairMore, IsSameDraft, HoldsNone, Closes, Finishes}
-use Rattle.raw_tree.proofs.Common.{Ends, Barrier, BarsFront, FirstFaultWithin, Sort, as_document, tree_of_pairs, StandsFor, ReadsUpTo, ReadsAs, Holds, Contents, Draft, Holder, Level, Nested, Waiting}
+use Rattle.raw_tree.proofs.Common.{Means, value, CountsIn, HasFrameCount, HasFramesToFault, KeepsKeys, sort_of, holding, texts_of, AreDrafted, IsPairMore, IsSameDraft, HoldsNone, ClosesAs, Finishes}
+use Rattle.raw_tree.proofs.Common.{DraftsTree, Barrier, BarsFront, FirstFaultWithin, Sort, as_document, tree_of_pairs, StandsFor, ReadsUpTo, ReadsAs, Holds, Contents, Draft, Holder, Level, Nested, Waiting}
 use Rattle.raw_tree.specs.declared.reader.levels.Contents.TheVariants as contents
 use Rattle.raw_tree.specs.declared.reader.levels.Holder.TheVariants as of
 use Rattle.raw_tree.proofs.reader.Decides.{IsCountedFrom, counted_from}
@@ -66,12 +66,12 @@ pub array_finished : (d : Draft) (made : Vec Bson Global) (h : Holder) → h ≡
 array_finished d made h e all = grind arith
 
 -- the value that holds what a level is read as
-pub ended : (h : Holder) (d : Draft) (c : Contents) (t : Bson) → Finishes h d c → Closes c t → Ends h d t
+pub ended : (h : Holder) (d : Draft) (c : Contents) (t : Bson) → Finishes h d c → ClosesAs c t → DraftsTree h d t
 ended h d c t fin closes = grind arith
 
 -- the value of a code and the contents of its scope
 pub closes_scope : (c : Contents) (held : Option (Bor (List ℕ))) (code : Bor (List ℕ)) (d : Document) (t : Bson) → c ≡ contents.Document held d
-    → held ≡ Some code → tree_of t ≡ code_with_scope code.now (entries (with_trees (pairs_of d))) → Closes c t
+    → held ≡ Some code → tree_of t ≡ code_with_scope code.now (entries (with_trees (pairs_of d))) → ClosesAs c t
 closes_scope c held code d t is some same = rw (is, some) (λ b read. (entries (with_trees (pairs_of d)), read, same))
 
 -- the value of nested bytes

@@ -14,9 +14,9 @@ use Rattle.raw_tree.specs.validator.Breaches.{BreachesKeys}
 use Rattle.raw_tree.specs.Canonical.{AreDecimalsFrom, AreKeysCanonical}
 use Rattle.raw_tree.specs.reader.Reading.{Sort, as_document, as_array}
 use Rattle.raw_tree.specs.validator.KeySets.{InsertsKey}
-use Rattle.raw_tree.specs.validator.Notes.{note_of, AreNoted, HasNote}
+use Rattle.raw_tree.specs.validator.KeyFilter.{filter_bit, AreInFilter, IsInFilter}
 use Rattle.raw_tree.specs.validator.References.{texts}
-use Rattle.raw_tree.specs.validator.Validating.{AddsKey, AddsListed, AreAscending, AreKeysSoFar, HasKeys, IsBehind, IsBehindLast}
+use Rattle.raw_tree.specs.validator.Validating.{AddsKey, AddsListed, AreAscending, AreKeysSoFar, HasKeys, IsLaterKey, IsBehindLast}
 use Rattle.raw_tree.specs.declared.validator.breach.Cause.{Cause}
 use Rattle.raw_tree.specs.declared.validator.breach.Cause.TheVariants as cause
 use Rattle.raw_tree.specs.declared.validator.keys.Keys.{Keys}
@@ -94,7 +94,7 @@ array_key keys key h e = decimals_more 0 keys key h (e ∙ ap decimal (omega ari
 
 -- keys that ascend
 
-behind_more : (a b c : List ℕ) → IsBehind a b → IsBehind b c → IsBehind a c
+behind_more : (a b c : List ℕ) → IsLaterKey a b → IsLaterKey b c → IsLaterKey a c
 behind_more a b c x y =
     elim x [
       | inl l ↦ elim y [
@@ -112,22 +112,22 @@ less_apart Less e l = true≢false (ap is_le e)
 less_apart Equal e l = true≢false (ap is_eq l)
 less_apart Greater e l = true≢false (sym (ap is_le l))
 
-not_behind_itself : (a : List ℕ) → IsBehind a a → ⊥
+not_behind_itself : (a : List ℕ) → IsLaterKey a a → ⊥
 not_behind_itself a x =
     elim x [
       | inl l ↦ absurd (omega (arith, l))
       | inr l ↦ less_apart (slice_cmp nat_cmp a a) (nat_list_cmp_total.antisymm a a) l.1
     ]
 
-differs_as : (first key : List ℕ) (same : Bool) → bytes_eq key first ≡ same → IsBehind first key → same ≡ false
+differs_as : (first key : List ℕ) (same : Bool) → bytes_eq key first ≡ same → IsLaterKey first key → same ≡ false
 differs_as first key false e b = refl
-differs_as first key true e b = absurd (not_behind_itself first (subst (IsBehind first) (same_key key first e) b))
+differs_as first key true e b = absurd (not_behind_itself first (subst (IsLaterKey first) (same_key key first e) b))
 
-behind_differs : (first key : List ℕ) → IsBehind first key → bytes_eq key first ≡ false
+behind_differs : (first key : List ℕ) → IsLaterKey first key → bytes_eq key first ≡ false
 behind_differs first key b = differs_as first key (bytes_eq key first) refl b
 
 -- a key behind the last of keys that ascend is behind the first
-behind_first : (key first : List ℕ) (keys : List (List ℕ)) → AreAscending (first ∷ keys) → IsBehindLast (first ∷ keys) key → IsBehind first key
+behind_first : (key first : List ℕ) (keys : List (List ℕ)) → AreAscending (first ∷ keys) → IsBehindLast (first ∷ keys) key → IsLaterKey first key
 behind_first key first [] h b = b
 behind_first key first (next ∷ keys) h b = behind_more first next key h.0 (behind_first key next keys h.1 b)
 
@@ -144,17 +144,17 @@ ascending_more (first ∷ []) key h b = (b, tt)
 ascending_more (first ∷ next ∷ keys) key h b = (h.0, ascending_more (next ∷ keys) key h.1 b)
 
 -- the last of references
-last_behind_at : (refs : List (Bor (List ℕ))) (n : ℕ) (last : Bor (List ℕ)) (key : List ℕ) → length refs ≡ suc n → last ≡ get_or refs n last → IsBehind last.now key → IsBehindLast (texts refs) key
+last_behind_at : (refs : List (Bor (List ℕ))) (n : ℕ) (last : Bor (List ℕ)) (key : List ℕ) → length refs ≡ suc n → last ≡ get_or refs n last → IsLaterKey last.now key → IsBehindLast (texts refs) key
 last_behind_at [] n last key l e b = tt
 last_behind_at (x ∷ []) n last key l e b =
     let here : n ≡ 0 = omega (arith, l) in
     let same : last ≡ x = e ∙ ap (λ (m : ℕ). get_or (x ∷ []) m last) here in
-    subst (λ (k : Bor (List ℕ)). IsBehind k.now key) same b
+    subst (λ (k : Bor (List ℕ)). IsLaterKey k.now key) same b
 last_behind_at (x ∷ y ∷ refs) zero last key l e b = absurd (omega (arith, l))
 last_behind_at (x ∷ y ∷ refs) (suc n) last key l e b = last_behind_at (y ∷ refs) n last key (omega (arith, l)) e b
 
 pub last_behind : (refs : List (Bor (List ℕ))) (last : Bor (List ℕ)) (key : List ℕ) → 0 < length refs → last ≡ get_or refs (length refs - 1) last
-    → IsBehind last.now key → IsBehindLast (texts refs) key
+    → IsLaterKey last.now key → IsBehindLast (texts refs) key
 last_behind refs last key some e b = last_behind_at refs (length refs - 1) last key (omega (arith, some)) e b
 
 pub less_from_test : (o : Ordering) → is_lt o ≡ true → o ≡ Less
@@ -196,13 +196,13 @@ listed_texts : (refs : List (Bor (List ℕ))) (below own : List (List ℕ)) (key
 listed_texts refs below own key e = texts_push refs key refl ∙ ap (λ (xs : List (List ℕ)). xs ++ key.now ∷ []) e ∙ append_assoc below own (key.now ∷ [])
 
 module _ (first : ℕ) (refs : List (Bor (List ℕ))) where
-  pub noted_in : (notes : ℕ) (sort : Sort) (below own : List (List ℕ)) → HasKeys (keys.Listed first notes) refs sort below own → AreNoted notes (own_in first refs)
-  noted_in notes sort below own has = rw (own_texts refs below own first has.1 has.2) has.3
+  pub filtered_in : (filter : ℕ) (sort : Sort) (below own : List (List ℕ)) → HasKeys (keys.Listed first filter) refs sort below own → AreInFilter filter (own_in first refs)
+  filtered_in filter sort below own has = rw (own_texts refs below own first has.1 has.2) has.3
 
-  -- keys that ascend have these notes
-  pub listed_of : (notes : ℕ) → AreNoted notes (own_in first refs) → (sort : Sort) (below own : List (List ℕ)) → HasKeys (keys.Ascending first) refs sort below own
-      → HasKeys (keys.Listed first notes) refs sort below own
-  listed_of notes noted sort below own has = (has.0, has.1, has.2, rw (own_texts refs below own first has.1 has.2) at noted)
+  -- keys that ascend have this filter
+  pub listed_of : (filter : ℕ) → AreInFilter filter (own_in first refs) → (sort : Sort) (below own : List (List ℕ)) → HasKeys (keys.Ascending first) refs sort below own
+      → HasKeys (keys.Listed first filter) refs sort below own
+  listed_of filter filtered sort below own has = (has.0, has.1, has.2, rw (own_texts refs below own first has.1 has.2) at filtered)
 
   -- they ascend with the key
   pub ascending_kept : (number : ℕ) (key : Bor (List ℕ)) → IsBehindLast (own_in first refs) key.now
@@ -213,28 +213,28 @@ module _ (first : ℕ) (refs : List (Bor (List ℕ))) where
       ((has.0, has.1, listed_texts refs below own key has.2, ascending_more own key.now has.3 last), document_more own key.now has.0 canonical new)
 
   -- the key is one of them
-  pub listed_repeats : (notes : ℕ) (key : List ℕ) (new : Keys) (after : List (Bor (List ℕ))) → Contains (own_in first refs) key
-      → AddsListed first notes refs key new after (Some cause.RepeatedKey)
-  listed_repeats notes key new after there sort below own has canonical = rw has.0 (rw (own_texts refs below own first has.1 has.2) at there, refl)
+  pub listed_repeats : (filter : ℕ) (key : List ℕ) (new : Keys) (after : List (Bor (List ℕ))) → Contains (own_in first refs) key
+      → AddsListed first filter refs key new after (Some cause.RepeatedKey)
+  listed_repeats filter key new after there sort below own has canonical = rw has.0 (rw (own_texts refs below own first has.1 has.2) at there, refl)
 
   -- it is none of them: it is put behind them, or they move to a set
-  module _ (notes : ℕ) (key : Bor (List ℕ)) (new : ¬ Contains (own_in first refs) key.now) where
-    is_new : (sort : Sort) (below own : List (List ℕ)) → HasKeys (keys.Listed first notes) refs sort below own → ¬ Contains own key.now
+  module _ (filter : ℕ) (key : Bor (List ℕ)) (new : ¬ Contains (own_in first refs) key.now) where
+    is_new : (sort : Sort) (below own : List (List ℕ)) → HasKeys (keys.Listed first filter) refs sort below own → ¬ Contains own key.now
     is_new sort below own has = rw (own_texts refs below own first has.1 has.2) at new
 
-    pub listed_distinct : AreKeysSoFar (keys.Listed first notes) refs → IsDistinct bytes_eq (own_in first refs ++ key.now ∷ [])
+    pub listed_distinct : AreKeysSoFar (keys.Listed first filter) refs → IsDistinct bytes_eq (own_in first refs ++ key.now ∷ [])
     listed_distinct (sort, below, own, has, canonical) =
         rw (own_texts refs below own first has.1 has.2) (document_key own key.now (rw has.0 at canonical) (is_new sort below own has))
 
-    pub listed_more : (after : ℕ) → ((n : ℕ) → HasNote notes n → HasNote after n) → HasNote after (note_of key.now)
-        → AddsListed first notes refs key.now (keys.Listed first after) (refs ++ key ∷ []) None
+    pub listed_more : (after : ℕ) → ((n : ℕ) → IsInFilter filter n → IsInFilter after n) → IsInFilter after (filter_bit key.now)
+        → AddsListed first filter refs key.now (keys.Listed first after) (refs ++ key ∷ []) None
     listed_more after kept here sort below own has canonical = (
-      (has.0, has.1, listed_texts refs below own key has.2, each_more (λ k. HasNote notes (note_of k)) (λ k. HasNote after (note_of k)) own key.now has.3 (λ k. kept (note_of k)) here),
+      (has.0, has.1, listed_texts refs below own key has.2, each_more (λ k. IsInFilter filter (filter_bit k)) (λ k. IsInFilter after (filter_bit k)) own key.now has.3 (λ k. kept (filter_bit k)) here),
       document_more own key.now has.0 canonical (is_new sort below own has),
     )
 
     pub listed_moved : (set : Box (List (List ℕ)) Global) → set.value ≡ own_in first refs ++ key.now ∷ []
-        → AddsListed first notes refs key.now (keys.Indexed set) (take first refs) None
+        → AddsListed first filter refs key.now (keys.Indexed set) (take first refs) None
     listed_moved set e sort below own has canonical = (
       (has.0, texts_front refs below own first has.1 has.2, e ∙ ap (λ (xs : List (List ℕ)). xs ++ key.now ∷ []) (own_texts refs below own first has.1 has.2)),
       document_more own key.now has.0 canonical (is_new sort below own has),

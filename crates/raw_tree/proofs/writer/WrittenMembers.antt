@@ -137,19 +137,6 @@ module _ (t : Tree) (ws : List Begun) (old : Begun) (out : List ℕ) (is : IsWri
     pub writing_leaf : (more : List ℕ) → more ≡ out ++ element_of (kind_of_tree m.1) (key_bytes m.0) (tree_payload m.1) → IsWriting t ws (left_with old ms) more
     writing_leaf more e = grind (arith, length-append, passed)
 
-    -- or its level waits for its own members
-    pub writing_inside : (start : ℕ) (head more : List ℕ) → HoldsTrees m.1 → start ≡ length head
-        → head ≡ out ++ tagged (tag_of (kind_of_tree m.1)) (key_bytes m.0) [] → more ≡ head ++ opening m.1
-        → IsWriting t (ws ++ left_with old ms ∷ []) (begun_at m.1 start) more
-    writing_inside start head more holds s h o =
-        let begun : complete (begun_at m.1 start) more ≡ head ++ tree_payload m.1 = rw o (complete_begun m.1 start head holds s) in
-        let element : head ++ tree_payload m.1 ≡ out ++ element_of (kind_of_tree m.1) (key_bytes m.0) (tree_payload m.1) = rw h (behind out (key_bytes m.0) _ _) in
-        record {
-          written = finish-last ws (left_with old ms) (complete (begun_at m.1 start) more)
-              ∙ ap (λ (b : List ℕ). finish ws b) (passed (complete (begun_at m.1 start) more) (begun ∙ element)) ∙ is.written;
-          begun = grind (arith, last_opening-last, length-append, length-opening);
-        }
-
   -- none is left: the level is ended
   module _ (none : old.left ≡ []) (more : List ℕ) (e : more ≡ ended old.tree old.start (out ++ 0 ∷ [])) where
     all_put : complete old out ≡ more
@@ -162,6 +149,20 @@ module _ (t : Tree) (ws : List Begun) (old : Begun) (out : List ℕ) (is : IsWri
     -- or the one that waits goes on
     pub writing_ends : (less : List Begun) (w : Begun) → ws ≡ less ++ w ∷ [] → IsWriting t less w more
     writing_ends less w f = grind (arith, all_put, finish-last, last_opening-last, length-append, length-ended)
+
+-- a member waits for its own members
+module _ {t : Tree} {ws : List Begun} {old : Begun} {out : List ℕ} (is : IsWriting t ws old out) (m : MemberKey × Tree) (ms : List (MemberKey × Tree)) (step : old.left ≡ m ∷ ms) where
+  pub writing_inside : (start : ℕ) (head more : List ℕ) → HoldsTrees m.1 → start ≡ length head
+      → head ≡ out ++ tagged (tag_of (kind_of_tree m.1)) (key_bytes m.0) [] → more ≡ head ++ opening m.1
+      → IsWriting t (ws ++ left_with old ms ∷ []) (begun_at m.1 start) more
+  writing_inside start head more holds s h o =
+      let begun : complete (begun_at m.1 start) more ≡ head ++ tree_payload m.1 = rw o (complete_begun m.1 start head holds s) in
+      let element : head ++ tree_payload m.1 ≡ out ++ element_of (kind_of_tree m.1) (key_bytes m.0) (tree_payload m.1) = rw h (behind out (key_bytes m.0) _ _) in
+      record {
+        written = finish-last ws (left_with old ms) (complete (begun_at m.1 start) more)
+            ∙ ap (λ (b : List ℕ). finish ws b) (passed t ws old out is m ms step (complete (begun_at m.1 start) more) (begun ∙ element)) ∙ is.written;
+        begun = grind (arith, last_opening-last, length-append, length-opening);
+      }
 
 -- the levels of the writer: one that begins, and one more
 pub begins : (c : Container) (level : Payload) (start : ℕ) → level.members.container ≡ c → members_left level.members ≡ members (tree_of_container c)

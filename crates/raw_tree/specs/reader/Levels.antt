@@ -85,21 +85,21 @@ HoldsNone (raw.array _) = ⊥
 HoldsNone (raw.scoped _ _) = ⊥
 
 -- the value holds no nested bytes and stands for the tree; or it holds these
-abbrev pub Opens : RawValue → Opened → Type 0
-Opens v (opened.Whole t) = HoldsNone v × StandsFor ReadsAs v (tree_of t)
-Opens v (opened.Nested n) = v ≡ holding n.holder (bytes_of n.document)
+abbrev pub OpensAs : RawValue → Opened → Type 0
+OpensAs v (opened.Whole t) = HoldsNone v × StandsFor ReadsAs v (tree_of t)
+OpensAs v (opened.Nested n) = v ≡ holding n.holder (bytes_of n.document)
 
 -- the tree is that of the value which holds bytes that are read as the contents
-abbrev pub Closes : Contents → Bson → Type 0
-Closes c t = (d : List ℕ) → ReadsAs (sort_of (holder_of c)) d (tree_of_contents c) → StandsFor ReadsAs (holding (holder_of c) d) (tree_of t)
+abbrev pub ClosesAs : Contents → Bson → Type 0
+ClosesAs c t = (d : List ℕ) → ReadsAs (sort_of (holder_of c)) d (tree_of_contents c) → StandsFor ReadsAs (holding (holder_of c) d) (tree_of t)
 
 -- the contents are those of the pairs that are drafted
 abbrev pub Finishes : Holder → Draft → Contents → Type 0
 Finishes h d c = (holder_of c ≡ h) × ((pairs : List (List ℕ × Tree)) → AreDrafted h d pairs → tree_of_contents c ≡ tree_of_pairs (sort_of h) pairs)
 
 -- the tree is that of the value which holds bytes that are read as the pairs that are drafted
-abbrev pub Ends : Holder → Draft → Bson → Type 0
-Ends h d t = (pairs : List (List ℕ × Tree)) (b : List ℕ) → AreDrafted h d pairs → ReadsAs (sort_of h) b (tree_of_pairs (sort_of h) pairs) → StandsFor ReadsAs (holding h b) (tree_of t)
+abbrev pub DraftsTree : Holder → Draft → Bson → Type 0
+DraftsTree h d t = (pairs : List (List ℕ × Tree)) (b : List ℕ) → AreDrafted h d pairs → ReadsAs (sort_of h) b (tree_of_pairs (sort_of h) pairs) → StandsFor ReadsAs (holding h b) (tree_of t)
 
 -- the bytes that this holds are read as the contents
 abbrev pub AreRead : Holder → List ℕ → Contents → Type 0

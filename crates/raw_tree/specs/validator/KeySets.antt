@@ -6,7 +6,7 @@ use Rattle.std.specs.List.{Contains, list_any}
 use Rattle.std.specs.Ordering.{nat_cmp}
 use Rattle.std.specs.Str.{bytes_eq}
 use denote.Ref.{Bor}
-use Rattle.raw_tree.specs.validator.Marks.{AreMarked}
+use Rattle.raw_tree.specs.validator.Fingerprints.{HaveFingerprints}
 use Rattle.raw_tree.specs.declared.validator.key_set.Finder.{Finder}
 use Rattle.raw_tree.specs.declared.validator.key_set.Finder.TheVariants as finder
 
@@ -31,7 +31,7 @@ IsUnordered set key new = new ≡ not (has_text set key)
 abbrev pub PutsInOrder : BTreeSet (Bor (List ℕ)) → List ℕ → BTreeSet (Bor (List ℕ)) → Type 0
 PutsInOrder old key new = (keys : List (List ℕ)) → HasSorted old keys → HasSorted new (keys ++ key ∷ [])
 
--- by these marks, or in this order, each of the keys is found
+-- by these fingerprints, or in this order, each of the keys is found
 abbrev pub Finds : Finder → List (List ℕ) → Type 0
-Finds (finder.Marked marks) keys = AreMarked marks keys
+Finds (finder.Hashed fingerprints) keys = HaveFingerprints fingerprints keys
 Finds (finder.Sorted set) keys = HasSorted set keys

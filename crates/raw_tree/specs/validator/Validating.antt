@@ -5,7 +5,7 @@ use Rattle.std.specs.Ordering.{nat_cmp}
 use Rattle.std.specs.declared.cmp.Ordering.TheVariants.{Less}
 use Rattle.std.specs.Cmp.Lexicographic.{slice_cmp}
 use denote.Ref.{Bor}
-use Rattle.raw_tree.specs.validator.Notes.{AreNoted}
+use Rattle.raw_tree.specs.validator.KeyFilter.{AreInFilter}
 use Rattle.raw_tree.specs.validator.References.{texts}
 use Rattle.raw_view.specs.Frame.Envelope.{IsEnvelope}
 use Rattle.raw_view.specs.Frame.{Frame, IsFrame, LeadsTo}
@@ -24,26 +24,26 @@ use Rattle.raw_tree.specs.declared.validator.Step.TheVariants as step
 -- keys
 
 -- a key is longer than this one, or as long and greater byte by byte
-abbrev pub IsBehind : List ℕ → List ℕ → Type 0
-IsBehind last key = (length last < length key) ⊎ ((length last ≡ length key) × (slice_cmp nat_cmp last key ≡ Less))
+abbrev pub IsLaterKey : List ℕ → List ℕ → Type 0
+IsLaterKey last key = (length last < length key) ⊎ ((length last ≡ length key) × (slice_cmp nat_cmp last key ≡ Less))
 
 -- so is each of these keys to the one before it
 abbrev pub AreAscending : List (List ℕ) → Type 0
 AreAscending [] = Unit {0}
 AreAscending (key ∷ []) = Unit {0}
-AreAscending (key ∷ next ∷ keys) = IsBehind key next × AreAscending (next ∷ keys)
+AreAscending (key ∷ next ∷ keys) = IsLaterKey key next × AreAscending (next ∷ keys)
 
 -- and so a key would be to the last of these
 abbrev pub IsBehindLast : List (List ℕ) → List ℕ → Type 0
 IsBehindLast [] key = Unit {0}
-IsBehindLast (last ∷ []) key = IsBehind last key
+IsBehindLast (last ∷ []) key = IsLaterKey last key
 IsBehindLast (first ∷ next ∷ keys) key = IsBehindLast (next ∷ keys) key
 
 -- a level of this sort has its own keys so far; in the list those of the levels outside are below them
 abbrev pub HasKeys : Keys → List (Bor (List ℕ)) → Sort → List (List ℕ) → List (List ℕ) → Type 0
 HasKeys keys.Numbers listed sort below own = (sort ≡ as_array) × (texts listed ≡ below)
 HasKeys (keys.Ascending first) listed sort below own = (sort ≡ as_document) × (first ≡ length below) × (texts listed ≡ below ++ own) × AreAscending own
-HasKeys (keys.Listed first notes) listed sort below own = (sort ≡ as_document) × (first ≡ length below) × (texts listed ≡ below ++ own) × AreNoted notes own
+HasKeys (keys.Listed first filter) listed sort below own = (sort ≡ as_document) × (first ≡ length below) × (texts listed ≡ below ++ own) × AreInFilter filter own
 HasKeys (keys.Indexed set) listed sort below own = (sort ≡ as_document) × (texts listed ≡ below) × (set.value ≡ own)
 
 -- these are the keys of some level, which are canonical
@@ -61,10 +61,10 @@ AddsKey old before number key new after answer =
     (sort : Sort) (below own : List (List ℕ)) → HasKeys old before sort below own → AreKeysCanonical sort own → number ≡ length own
     → TellsOwnKey sort below own key new after answer
 
--- so it is for the keys of a document in the list, which have these notes
+-- so it is for the keys of a document in the list, which have this filter
 abbrev pub AddsListed : ℕ → ℕ → List (Bor (List ℕ)) → List ℕ → Keys → List (Bor (List ℕ)) → Option Cause → Type 0
-AddsListed first notes before key new after answer =
-    (sort : Sort) (below own : List (List ℕ)) → HasKeys (keys.Listed first notes) before sort below own → AreKeysCanonical sort own
+AddsListed first filter before key new after answer =
+    (sort : Sort) (below own : List (List ℕ)) → HasKeys (keys.Listed first filter) before sort below own → AreKeysCanonical sort own
     → TellsOwnKey sort below own key new after answer
 
 -- the level's own keys are gone

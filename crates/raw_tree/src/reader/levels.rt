@@ -5,7 +5,7 @@ ghost use Rattle.std.specs.Prelude.{◌≡◌, [], ◌∷◌, ◌++◌, map, IfO
 ghost use Rattle.std.specs.String.{string_bytes};
 ghost use Rattle.bson_model.specs.Scalars.{bytes_of_object_id};
 ghost use Rattle.bson_model.specs.Tree.{tree_of};
-ghost use Rattle.raw_tree.specs.reader.Levels.{Closes, Ends, Finishes, IsOneMore, IsPairMore, IsSameDraft, IsUnread, Opens};
+ghost use Rattle.raw_tree.specs.reader.Levels.{ClosesAs, DraftsTree, Finishes, IsOneMore, IsPairMore, IsSameDraft, IsUnread, OpensAs};
 ghost use Rattle.raw_view.specs.Errors.{IsOutOfMemory};
 ghost use Rattle.raw_view.specs.Meaning.Value.{id_of, namespace_of, value_of};
 
@@ -84,7 +84,7 @@ pub fn copied_pointer(alloc: Global, pointer: RawDbPointerRef<'_>) -> Result<DbP
 /// The value with parts of its own; or the nested bytes that it holds, which are not read.
 #[inline(always)]
 pub(crate) fn open<'a>(alloc: Global, value: RawBsonRef<'a>) -> Result<Opened<'a>>
-    ensures opened { IfOk result (Opens (value_of value.entry)) }
+    ensures opened { IfOk result (OpensAs (value_of value.entry)) }
     ensures err { IfErr result IsOutOfMemory }
 {
     match value {
@@ -255,7 +255,7 @@ pub(crate) fn finish<'a>(
 /// room goes to a later level.
 #[inline(always)]
 pub(crate) fn end<'a>(alloc: Global, level: Level<'a>, spare: &mut Draft<'a>) -> Result<Bson>
-    ensures ended { IfOk result (Ends level.entry.holder level.entry.draft) }
+    ensures ended { IfOk result (DraftsTree level.entry.holder level.entry.draft) }
     ensures err { IfErr result IsOutOfMemory }
 {
     let mut draft = level.draft;
@@ -269,7 +269,7 @@ pub(crate) fn end<'a>(alloc: Global, level: Level<'a>, spare: &mut Draft<'a>) ->
 /// The value that holds these contents; the only error is out of memory, for the copy of a code.
 #[inline(always)]
 pub(crate) fn close(alloc: Global, contents: Contents<'_>) -> Result<Bson>
-    ensures closed { IfOk result (Closes contents.entry) }
+    ensures closed { IfOk result (ClosesAs contents.entry) }
     ensures err { IfErr result IsOutOfMemory }
 {
     match contents {

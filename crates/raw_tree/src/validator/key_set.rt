@@ -5,23 +5,23 @@ ghost use Rattle.std.specs.Prelude.{◌≡◌, ◌↔◌, ◌++◌, ◌∷◌, [
 ghost use Rattle.std.specs.List.{Contains};
 ghost use Rattle.std.specs.Bool.{OnFalse};
 ghost use Rattle.raw_tree.specs.validator.KeySets.{Finds, HasSorted, InsertsKey, IsUnordered, PutsInOrder};
-ghost use Rattle.raw_tree.specs.validator.Marks.{AreMarked};
+ghost use Rattle.raw_tree.specs.validator.Fingerprints.{HaveFingerprints};
 ghost use Rattle.raw_tree.specs.validator.References.{texts};
 
-use crate::validator::marks::Marks;
+use crate::validator::fingerprints::Fingerprints;
 use std::alloc::{AllocError, Global};
 use std::collections::BTreeSet;
 use std::marker::Model;
 
-/// Where there are so many keys, the list has room for all that can be marked, since it is dear to move.
+/// Where there are so many keys, the list has room for all that can be hashed, since it is dear to move.
 const MANY: usize = 16384;
 
 /// How a key is looked for among the keys of a set.
 #[derive(Drop)]
 pub(crate) enum Finder<'a> {
-    /// by marks, and one by one where its own is found
-    Marked(Marks),
-    /// in order, where marks weren't enough, since the keys were chosen for their hashes
+    /// by fingerprints, and one by one where its own is found
+    Hashed(Fingerprints),
+    /// in order, where fingerprints weren't enough, since the keys were chosen for their hashes
     Sorted(BTreeSet<&'a str>),
 }
 
@@ -111,7 +111,7 @@ fn is_one_of(keys: &[&str], key: &str) -> bool
 
 /// Puts a key last, unless it is one of these, which are looked through; whether it wasn't.
 #[inline(never)]
-fn insert_met<'a>(keys: &mut Vec<&'a str>, key: &'a str) -> Result<bool, AllocError>
+fn insert_colliding<'a>(keys: &mut Vec<&'a str>, key: &'a str) -> Result<bool, AllocError>
     ensures inserts { IfOk result
         (λ new. InsertsKey (texts keys.old.items) key.now new (texts keys.new.items)) }
     ensures same { OnErr result (keys.new.items ≡ keys.old.items) }
@@ -123,58 +123,58 @@ fn insert_met<'a>(keys: &mut Vec<&'a str>, key: &'a str) -> Result<bool, AllocEr
     Ok(true)
 }
 
-/// Inserts a key by its mark, unless it is there; whether it wasn't. `None`, and nothing is inserted, where there is no
-/// room or too many keys met their marks.
-fn insert_marked<'a>(
+/// Inserts a key by its fingerprint, unless it is there; whether it wasn't. `None`, and nothing is inserted, where there is no
+/// room or too many keys collided.
+fn insert_hashed<'a>(
     keys: &mut Vec<&'a str>,
-    marks: &mut Marks,
+    fingerprints: &mut Fingerprints,
     key: &'a str,
 ) -> Result<Option<bool>, AllocError>
-    requires { AreMarked marks.old (texts keys.old.items) }
+    requires { HaveFingerprints fingerprints.old (texts keys.old.items) }
     ensures inserts { IfOk result
         (λ inserted. IfSome inserted
         (λ new. InsertsKey (texts keys.old.items) key.now new (texts keys.new.items))) }
     ensures none { IfOk result (λ inserted. IfNone inserted (keys.new.items ≡ keys.old.items)) }
     ensures same { OnErr result (keys.new.items ≡ keys.old.items) }
-    ensures marked { AreMarked marks.new (texts keys.new.items) }
+    ensures hashed { HaveFingerprints fingerprints.new (texts keys.new.items) }
 {
-    if marks.put(key) {
+    if fingerprints.put(key) {
         list(keys, key)?;
         return Ok(Some(true));
     }
-    if !marks.meet(key) {
+    if !fingerprints.collide(key) {
         return Ok(None);
     }
-    Ok(Some(insert_met(keys, key)?))
+    Ok(Some(insert_colliding(keys, key)?))
 }
 
-/// The marks of these keys, with this one inserted, unless it is there; whether it wasn't. `None`, and nothing is inserted,
-/// where there is no room for all.
+/// The fingerprints of these keys, with this one inserted, unless it is there; whether it wasn't. `None`, and nothing is
+/// inserted, /// where there is no room for all.
 fn insert_wider<'a>(
     alloc: Global,
     keys: &mut Vec<&'a str>,
     key: &'a str,
-) -> Result<Option<(Marks, bool)>, AllocError>
+) -> Result<Option<(Fingerprints, bool)>, AllocError>
     ensures inserts { IfOk result
         (λ wider. IfSome wider
-        (λ w. InsertsKey (texts keys.old.items) key.now w.1 (texts keys.new.items) × AreMarked w.0 (texts keys.new.items))) }
+        (λ w. InsertsKey (texts keys.old.items) key.now w.1 (texts keys.new.items) × HaveFingerprints w.0 (texts keys.new.items))) }
     ensures none { IfOk result (λ wider. IfNone wider (keys.new.items ≡ keys.old.items)) }
     ensures same { OnErr result (keys.new.items ≡ keys.old.items) }
 {
-    let Some(mut marks) = Marks::of(alloc, keys)? else {
+    let Some(mut fingerprints) = Fingerprints::of(alloc, keys)? else {
         return Ok(None);
     };
     if keys.len() >= MANY {
-        keys.reserve(marks.room())?;
+        keys.reserve(fingerprints.room())?;
     }
-    let Some(is_new) = insert_marked(keys, &mut marks, key)? else {
+    let Some(is_new) = insert_hashed(keys, &mut fingerprints, key)? else {
         return Ok(None);
     };
-    Ok(Some((marks, is_new)))
+    Ok(Some((fingerprints, is_new)))
 }
 
-/// Inserts a key that its mark didn't tell from the others: one by one where its mark is found; else with more room for
-/// marks if there was none, or in order.
+/// Inserts a key that its fingerprint didn't tell from the others: one by one where that is found; else with more room for
+/// fingerprints if there was none, or in order.
 #[inline(never)]
 fn insert_anew<'a>(
     alloc: Global,
@@ -188,17 +188,17 @@ fn insert_anew<'a>(
     ensures finds { Finds finder.new (texts keys.new.items) }
 {
     let is_full = match finder {
-        Finder::Marked(marks) => {
-            if let Some(is_new) = insert_marked(keys, marks, key)? {
+        Finder::Hashed(fingerprints) => {
+            if let Some(is_new) = insert_hashed(keys, fingerprints, key)? {
                 return Ok(is_new);
             }
-            marks.is_full()
+            fingerprints.is_full()
         }
         Finder::Sorted(sorted) => return insert_sorted(keys, sorted, key),
     };
     if is_full {
-        if let Some((marks, is_new)) = insert_wider(alloc, keys, key)? {
-            *finder = Finder::Marked(marks);
+        if let Some((fingerprints, is_new)) = insert_wider(alloc, keys, key)? {
+            *finder = Finder::Hashed(fingerprints);
             return Ok(is_new);
         }
     }
@@ -222,8 +222,8 @@ fn insert_key<'a>(
     ensures finds { Finds finder.new (texts keys.new.items) }
 {
     match finder {
-        Finder::Marked(marks) => {
-            if marks.put(key) {
+        Finder::Hashed(fingerprints) => {
+            if fingerprints.put(key) {
                 list(keys, key)?;
                 return Ok(true);
             }
@@ -240,7 +240,7 @@ impl<'a> KeySet<'a> {
     {
         Ok(KeySet {
             keys: Vec::new(alloc),
-            finder: Finder::Marked(Marks::for_keys(alloc, keys)?),
+            finder: Finder::Hashed(Fingerprints::for_keys(alloc, keys)?),
         })
     }
 

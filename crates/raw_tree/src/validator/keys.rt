@@ -8,8 +8,8 @@ ghost use Rattle.raw_tree.specs.validator.References.{texts};
 ghost use Rattle.raw_tree.specs.validator.Validating.{AddsKey, AddsListed, AreKeysSoFar, IsBehindLast, LeavesKeys};
 
 use crate::validator::breach::Cause;
+use crate::validator::filter::{filter_bit, filter_of, is_among, with_bit};
 use crate::validator::key_set::{KeySet, list};
-use crate::validator::notes::{is_among, note_of, notes_of, with_note};
 use itoa::Buffer;
 use std::alloc::{AllocError, Global};
 
@@ -23,7 +23,7 @@ pub(crate) enum Keys<'a> {
     Numbers,
     /// those of a document, each behind the one before it, from this place on of the list that all levels share
     Ascending(usize),
-    /// those of a document, from this place of the list on, and their notes
+    /// those of a document, from this place of the list on, and their filter
     Listed(usize, u64),
     /// those of a document, in a set of its own
     Indexed(Box<KeySet<'a>>),
@@ -93,13 +93,13 @@ impl<'a> Keys<'a> {
                     list(listed, key)?;
                     return Ok(None);
                 }
-                let notes = notes_of(&listed[first..]);
-                self.add_listed(alloc, listed, first, notes, key)
+                let filter = filter_of(&listed[first..]);
+                self.add_listed(alloc, listed, first, filter, key)
             }
-            Keys::Listed(first, notes) => {
+            Keys::Listed(first, filter) => {
                 let first = *first;
-                let notes = *notes;
-                self.add_listed(alloc, listed, first, notes, key)
+                let filter = *filter;
+                self.add_listed(alloc, listed, first, filter, key)
             }
             Keys::Indexed(set) => Ok(if set.insert(alloc, key)? {
                 None
@@ -109,27 +109,27 @@ impl<'a> Keys<'a> {
         }
     }
 
-    /// Adds a key to those from this place of the list on, which have these notes.
+    /// Adds a key to those from this place of the list on, which have this filter.
     fn add_listed(
         &mut self,
         alloc: Global,
         listed: &mut Vec<&'a str>,
         first: usize,
-        notes: u64,
+        filter: u64,
         key: &'a str,
     ) -> Result<Option<Cause>, AllocError>
-        requires { AreKeysSoFar (Keys.Listed first notes) listed.old.items }
+        requires { AreKeysSoFar (Keys.Listed first filter) listed.old.items }
         ensures adds { IfOk result
-            (AddsListed first notes listed.old.items key.now self.new listed.new.items) }
+            (AddsListed first filter listed.old.items key.now self.new listed.new.items) }
     {
-        let note = note_of(key);
+        let bit = filter_bit(key);
         let own = &listed[first..];
-        if is_among(own, notes, note, key) {
+        if is_among(own, filter, bit, key) {
             return Ok(Some(Cause::RepeatedKey));
         }
         if own.len() < MOST_LISTED {
             list(listed, key)?;
-            *self = Keys::Listed(first, with_note(notes, note));
+            *self = Keys::Listed(first, with_bit(filter, bit));
             return Ok(None);
         }
         let set = indexed(alloc, own, key)?;

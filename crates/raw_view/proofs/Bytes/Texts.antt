@@ -38,12 +38,12 @@ pattern_fault_no_regex bs what.OutOfMemory h p r e x = h
 pub options_of : (bs text behind p r : List ℕ) → bs ≡ text ++ 0 ∷ behind → NulFree text → bs ≡ p ++ r → (x : (pattern options : List ℕ) × IsRegex p pattern options) → behind ≡ x.1 ++ 0 ∷ r
 options_of bs text behind p r spelled nul_free e x = (cut text x.0 behind (x.1 ++ 0 ∷ r) nul_free x.2.pattern_nul_free (sym spelled ∙ regex_front bs p r x.0 x.1 e x.2)).1
 
-pub options_fault_no_regex : (bs text behind : List ℕ) (fault : ErrorKind) → bs ≡ text ++ 0 ∷ behind → NulFree text → IsTextFault behind fault → (p r : List ℕ)
+pub options_fault_no_regex : {bs : List ℕ} (text behind : List ℕ) (fault : ErrorKind) → bs ≡ text ++ 0 ∷ behind → NulFree text → IsTextFault behind fault → (p r : List ℕ)
     → bs ≡ p ++ r → (pattern options : List ℕ) × IsRegex p pattern options → ⊥
-options_fault_no_regex bs text behind (what.MalformedValue why) spelled nul_free h p r e x = no_nul_in behind x.1 r (options_of bs text behind p r spelled nul_free e x) h.0
-options_fault_no_regex bs text behind (what.Utf8EncodingError error) spelled nul_free h p r e x =
+options_fault_no_regex {bs = bs} text behind (what.MalformedValue why) spelled nul_free h p r e x = no_nul_in behind x.1 r (options_of bs text behind p r spelled nul_free e x) h.0
+options_fault_no_regex {bs = bs} text behind (what.Utf8EncodingError error) spelled nul_free h p r e x =
     good_text behind x.1 r (options_of bs text behind p r spelled nul_free e x) x.2.options_nul_free x.2.options_text h
-options_fault_no_regex bs text behind what.OutOfMemory spelled nul_free h p r e x = h
+options_fault_no_regex text behind what.OutOfMemory spelled nul_free h p r e x = h
 
 -- the kind of the fault
 pub no_bad_regex : (bs : List ℕ) → NulFree bs → HasBadRegexText bs → ⊥

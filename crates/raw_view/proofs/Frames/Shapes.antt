@@ -128,7 +128,7 @@ pub no_pattern_fault : (p : List ℕ) (fault : ErrorKind) → ∥ HasPayload kin
 no_pattern_fault p fault h f = ∥∥₁_elim h (hlevel props) (λ t. pattern_fault_no_regex p fault f p [] (whole p) t.1)
 
 pub no_options_fault : (p text behind : List ℕ) (fault : ErrorKind) → ∥ HasPayload kind.RegularExpression p ∥₁ → p ≡ text ++ 0 ∷ behind → NulFree text → IsTextFault behind fault → ⊥
-no_options_fault p text behind fault h e nul_free f = ∥∥₁_elim h (hlevel props) (λ t. options_fault_no_regex p text behind fault e nul_free f p [] (whole p) t.1)
+no_options_fault p text behind fault h e nul_free f = ∥∥₁_elim h (hlevel props) (λ t. options_fault_no_regex text behind fault e nul_free f p [] (whole p) t.1)
 
 -- and nothing behind them
 pub regex_ends : (p text behind options z : List ℕ) → ∥ HasPayload kind.RegularExpression p ∥₁ → p ≡ text ++ 0 ∷ behind → NulFree text → behind ≡ options ++ 0 ∷ z → NulFree options → z ≡ []

@@ -77,6 +77,6 @@ pub stands_anywhere : (f : Frame) → NulFree f.key → IsUtf8 f.key → ∥ Has
 stands_anywhere f nul_free text h long r = record {
   spelled = refl;
   key_nul_free = nul_free;
-  key_text = text;
+  key_utf8 = text;
   payload_is = shape_had f.kind f.payload r (λ scoped. at_least_four (length f.payload) (λ short. long (scoped, short))) h;
 }

@@ -73,7 +73,7 @@ behind_key s tag key behind bytes l e h u =
           record {
             spelled = rw (take-append-drop p.0 behind, ← k.1) e;
             key_nul_free = h;
-            key_text = u;
+            key_utf8 = u;
             payload_is = p.2;
           },
         ))

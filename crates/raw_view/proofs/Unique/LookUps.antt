@@ -21,17 +21,22 @@ no_such_frame s key (f ∷ fs) (h ∷ gs) end r q g w none l b k =
 
 -- by key, one element is found
 
-same_element : (s key : List ℕ) (fs gs : List Frame) (r q : List ℕ) (f g : Frame) (t u : List ℕ) → LeadsTo s fs r → LeadsTo s gs q → HasNoKey key fs
-    → HasNoKey key gs → IsFrame r f t → IsFrame q g u → f.key ≡ key → g.key ≡ key → f ≡ g
-same_element s key [] [] r q f g t u x y m n a b h k = (one_frame s f g t u (rw x a) (rw y b)).0
-same_element s key [] (e ∷ gs) r q f g t u x y m n a b h k = absurd (n.0 (ap (λ (z : Frame). z.key) (one_frame s e f y.0 t y.1 (rw x a)).0 ∙ h))
-same_element s key (e ∷ fs) [] r q f g t u x y m n a b h k = absurd (m.0 (ap (λ (z : Frame). z.key) (one_frame s e g x.0 u x.1 (rw y b)).0 ∙ k))
-same_element s key (e ∷ fs) (d ∷ gs) r q f g t u x y m n a b h k =
+-- behind these frames, of which none has the key, is this one, which has it
+abbrev IsFirstWith : List ℕ → List ℕ → List Frame → Frame → Type 0
+IsFirstWith s key fs f = (r t : List ℕ) × LeadsTo s fs r × HasNoKey key fs × IsFrame r f t × (f.key ≡ key)
+
+same_element : (s key : List ℕ) (fs gs : List Frame) (f g : Frame) → IsFirstWith s key fs f → IsFirstWith s key gs g → f ≡ g
+same_element s key [] [] f g (r, t, x, m, a, h) (q, u, y, n, b, k) = (one_frame s f g t u (rw x a) (rw y b)).0
+same_element s key [] (e ∷ gs) f g (r, t, x, m, a, h) (q, u, y, n, b, k) =
+    absurd (n.0 (ap (λ (z : Frame). z.key) (one_frame s e f y.0 t y.1 (rw x a)).0 ∙ h))
+same_element s key (e ∷ fs) [] f g (r, t, x, m, a, h) (q, u, y, n, b, k) =
+    absurd (m.0 (ap (λ (z : Frame). z.key) (one_frame s e g x.0 u x.1 (rw y b)).0 ∙ k))
+same_element s key (e ∷ fs) (d ∷ gs) f g (r, t, x, m, a, h) (q, u, y, n, b, k) =
     let same = one_frame s e d x.0 y.0 x.1 y.1 in
-    same_element x.0 key fs gs r q f g t u x.2 (rw same.1 y.2) m.1 n.1 a b h k
+    same_element x.0 key fs gs f g (r, t, x.2, m.1, a, h) (q, u, rw same.1 y.2, n.1, b, k)
 
 one_with_key : (b key : List ℕ) (f g : Frame) → FindsElement b key (found f) → FindsElement b key (found g) → f ≡ g
-one_with_key b key f g x y = same_element (drop 4 b) key x.0 y.0 x.1 y.1 f g x.2 y.2 x.3 y.3 x.4 y.4 x.5 y.5 x.6 y.6
+one_with_key b key f g (fs, r, t, x, m, a, h) (gs, q, u, y, n, b', k) = same_element (drop 4 b) key fs gs f g (r, t, x, m, a, h) (q, u, y, n, b', k)
 
 one_element : (b key : List ℕ) (x y : FoundElement) → FindsElement b key x → FindsElement b key y → x ≡ y
 one_element b key (found f) (found g) x y = ap found (one_with_key b key f g x y)
@@ -86,12 +91,12 @@ means_once : (x : FoundElement) (a c : Option Meaning) → MeansFound x a → Me
 means_once (found f) a c m n = meant_once f a c m n
 means_once (missing end) a c m n = m ∙ sym n
 
-one_look_up : (b key : List ℕ) (a c : Option Meaning) → LooksUp b key a → LooksUp b key c → a ≡ c
-one_look_up b key a c x y =
+pub one_look_up : {b key : List ℕ} {a c : Option Meaning} → LooksUp b key a → LooksUp b key c → a ≡ c
+one_look_up {b = b} {key = key} {a = a} {c = c} x y =
     means_once x.element a c x.means (subst (λ (e : FoundElement). MeansFound e c) (sym (one_element b key x.element y.element x.finds y.finds)) y.means)
 
 pub the_answer : (b key : List ℕ) (answer : Option Meaning) → LooksUp b key answer → IsTheAnswer b key answer
-the_answer b key answer a = (a, λ other o. one_look_up b key other answer o a)
+the_answer b key answer a = (a, λ other o. one_look_up o a)
 
 -- by position
 one_item : (b : List ℕ) (index : ℕ) (x y : FoundItem) → FindsItem b index x → FindsItem b index y → x ≡ y

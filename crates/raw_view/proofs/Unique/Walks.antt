@@ -89,7 +89,7 @@ one_stop s fault fault2 (Some key) (Some key2) a b = let same = one_stop_with_ke
 
 -- where a stop is, no frame stands
 pub no_frame_at_stop : (s : List ℕ) (fault : Fault) (key : Option (List ℕ)) → IsStop s fault key → HasNoFrame s
-no_frame_at_stop s fault None a f r b = no_text_key s fault f.key a (frame_key s f r b) b.key_text
+no_frame_at_stop s fault None a f r b = no_text_key s fault f.key a (frame_key s f r b) b.key_utf8
 no_frame_at_stop s fault (Some key) a f r b = (stop_key s fault key a).2 f r b
 
 -- at the final 0 there is neither a frame nor a stop

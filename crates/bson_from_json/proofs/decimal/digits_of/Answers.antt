@@ -1,5 +1,5 @@
 use Rattle.std.proofs.Common.{◌≡◌, ◌*◌, ◌^◌, ℕ, IfSome, sym, subst}
-use Rattle.bson_from_json.specs.Digits.{IsTooLong}
+use Rattle.bson_from_json.specs.Digits.{FitsNoDecimal128}
 use Rattle.bson_from_json.specs.declared.decimal.Kept.{Kept}
 use Rattle.bson_from_json.proofs.Decimals.{after_both, too_long_behind}
 use Rattle.bson_from_json.proofs.decimal.digits_of.Goals as goal
@@ -15,4 +15,4 @@ returns-clause-some c =
 
 pub returns-clause-none : goal.returns-clause-none
 returns-clause-none c =
-    λ none. subst IsTooLong (sym (after_both c.args.whole.now c.args.fraction.now _ c.in_ok-with_digits.ensures.some)) (c.with_digits-2.ensures.none none)
+    λ none. subst FitsNoDecimal128 (sym (after_both c.args.whole.now c.args.fraction.now _ c.in_ok-with_digits.ensures.some)) (c.with_digits-2.ensures.none none)

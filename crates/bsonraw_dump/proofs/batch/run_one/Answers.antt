@@ -1,6 +1,6 @@
 use Rattle.std.specs.Io.KnownBytes.{Appends}
 use Rattle.bson_json.specs.Written.{AppendsFront}
-use Rattle.bsonraw_dump.specs.Batch.{Comes, HaltsWithin, input_line, state_of}
+use Rattle.bsonraw_dump.specs.Batch.{CountsAnother, HaltsWithin, input_line, state_of}
 use Rattle.bsonraw_dump.proofs.Fronts.{on_err}
 use Rattle.bsonraw_dump.proofs.Listed.{on_ok}
 use Rattle.bsonraw_dump.proofs.Summing.{comes_whole, halts_line}
@@ -18,7 +18,7 @@ returns-clause-comes g c =
     let t = c.args.totals.now in
     let t' = c.count_one.new.totals in
     let n = c.in_ok-counts.counts in
-    on_ok c.put_counts.result (Appends w' w'' (input_line c.args.job c.args.job.command name n)) (Comes c.args.job input name (state_of d w t) (state_of d' w'' t'))
+    on_ok c.put_counts.result (Appends w' w'' (input_line c.args.job c.args.job.command name n)) (CountsAnother c.args.job input name (state_of d w t) (state_of d' w'' t'))
     (comes_whole c.args.job name input d d' w w' w'' t t' n c.in_ok-counts.ensures.counted) c.put_counts.ensures.written
 
 pub returns-clause-halts : goal.returns-clause-halts

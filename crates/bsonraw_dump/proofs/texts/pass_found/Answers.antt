@@ -1,7 +1,7 @@
 use Rattle.std.proofs.Common.{rules, ◌≡◌, ◌∙◌, ℕ, List, length, length-take-le, subst, sym, take}
 use Rattle.bsonraw_dump.specs.Reading.{ahead_of}
 use Rattle.bsonraw_dump.specs.TextRun.{Gives, IsMadeOf}
-use Rattle.bsonraw_dump.specs.Texts.{IsWhole}
+use Rattle.bsonraw_dump.specs.Texts.{IsOneText}
 use Rattle.bsonraw_dump.specs.declared.cursor.NextText.TheVariants as next
 use Rattle.bsonraw_dump.specs.declared.scan.Scan.TheVariants as scan
 use Rattle.bsonraw_dump.proofs.TextWhole.{written_is_whole}
@@ -29,7 +29,7 @@ returns-in-Fault-2 g c =
     let text = take found.len ahead in
     let size : found.len ≡ length text = sym (length-take-le found.len ahead scans.within) in
     let other : ¬ (found.scan ≡ scan.Whole) = search rules in
-    let torn : ¬ IsWhole text = λ whole. other (scans.scan ∙ whole) in
+    let torn : ¬ IsOneText text = λ whole. other (scans.scan ∙ whole) in
     let made : IsMadeOf text c.in_ok-document.field-0 = subst (λ (l : List ℕ). IsMadeOf (take found.len l) c.in_ok-document.field-0) c.ahead.ensures c.in_ok-document.ensures.made in
     let fault = subst (λ m. IsMadeOf text m) c.in-Fault.is made in
     c.pass_astray.ensures (next.Text found) (g.D.Write.contents c.args.out.now)

@@ -12,7 +12,7 @@ use Rattle.raw_tree.specs.Reading.{as_document}
 use Rattle.raw_tree.specs.References.{texts}
 use Rattle.raw_tree.specs.declared.validator.keys_so_far.KeysSoFar.{KeysSoFar}
 use Rattle.raw_form.specs.Barriers.{steps_of}
-use Rattle.raw_form.specs.Judging.{EndsTooDeep, Judges, TellsFound, TellsJudged, TellsOutermost, first_number, sort_of, verdict_of}
+use Rattle.raw_form.specs.Judging.{EndsTooDeep, Judges, TellsFound, TellsJudged, TellsOutermost, first_number, array_sort, verdict_of}
 use Rattle.raw_form.specs.Looking.{size_of, step_at}
 use Rattle.raw_form.specs.Places.{Step}
 use Rattle.raw_form.specs.Verdicts.{Verdict, too_deep, breach_of, FirstVerdictTo}
@@ -184,8 +184,8 @@ elements-preserved-else-is_err c =
     let came = c.in_default-enter.ensures.entered is.waits c.elements.level.elements (record { along = record { are_stored = is.are_stored; at = is.at.at }; looks = looks }) in
     let after = c.judge.new.listed.items in
     let keys_grown : c.push.new.self.items ≡ c.elements.outer_keys.items ++ c.judge.new.keys ∷ [] = search rules in
-    let has : HasKeysSoFar c.keys_of.result after (sort_of c.in-Inside.is_array) (texts after) [] =
-    subst (λ (xs : List (Bor (List ℕ))). HasKeysSoFar c.keys_of.result xs (sort_of c.in-Inside.is_array) (texts xs) []) c.deref-in-Inside.ensures.value
+    let has : HasKeysSoFar c.keys_of.result after (array_sort c.in-Inside.is_array) (texts after) [] =
+    subst (λ (xs : List (Bor (List ℕ))). HasKeysSoFar c.keys_of.result xs (array_sort c.in-Inside.is_array) (texts xs) []) c.deref-in-Inside.ensures.value
     c.keys_of.ensures in
     let behind : ℕ = c.elements.level.offset + size_of (frame_of c.in-Inside.element) in
     let w : Wait = waiting_then is.at.at c.judge.new.elements behind c.in-Inside.element c.in-Inside.inner looks refl in

@@ -1,5 +1,5 @@
 use Rattle.std.proofs.Common.{◌≡◌, ◌++◌, ◌∷◌, [], suc, Some, Result, Ok, ap, sym, subst, rules, arith, vec_len}
-use Rattle.raw_tree.proofs.Common.{err_from_is_err_and, tree_of, StepsElement, frame_of, Means, value, faulty, value_of, RawElement, Error, Opens, Opened, Waiting}
+use Rattle.raw_tree.proofs.Common.{err_from_is_err_and, tree_of, StepsElement, frame_of, Means, value, faulty, value_of, RawElement, Error, OpensAs, Opened, Waiting}
 use Rattle.raw_tree.proofs.reader.LevelSteps.{AreBehind, levels_begin, few_frames, stopped, ran_out, finished, popped, stepped, failed, ran_out_behind, nested_inside, too_deep_inside, put_whole, went_in, told_value, told_failed, no_more, step_smaller, inward_smaller, outward_smaller}
 use Rattle.raw_tree.proofs.reader.Stacks.{with_left}
 use Rattle.raw_tree.proofs.reader.read.Goals as goal
@@ -99,7 +99,7 @@ levels-smaller c =
     let at = (goal.at.levels-smaller c).In_ok-value in
     let outer : Waiting = record { level = with_left c.levels.level c.frame.new.elements; key = c.key-key.result } in
     let grown : c.push.new.self.items ≡ c.levels.waiting.items ++ outer ∷ [] = search rules in
-    let holds = subst (λ (o : Opened). Opens (value_of c.in_ok-value.value) o) c.in-Nested.is c.in_ok-opened.ensures.opened in
+    let holds = subst (λ (o : Opened). OpensAs (value_of c.in_ok-value.value) o) c.in-Nested.is c.in_ok-opened.ensures.opened in
     inward_smaller c.levels.level c.begin-level-in-levels.result c.levels.waiting.items c.push.new.self.items outer c.in_ok-element.element c.in-Nested.nested grown
     c.begin-level-in-levels.ensures (to_element at) (rw (sym holds) (means at))
 

@@ -52,7 +52,7 @@ payloads-preserved c =
     let step : members_left c.payloads.payload.members ≡ (key_of c.in-Some.key, t) ∷ members_left c.next.new.self = rw (← c.in-Container.ensures) c.in-Some.ensures.step in
     let head = rw (c.tag.ensures, c.text-key.ensures) at c.put_head.ensures.items in
     record {
-      writing = rw (grown, left, begun) (writing_inside _ _ _ _ c.payloads.invariant.writing (key_of c.in-Some.key, t) (members_left c.next.new.self) step
+      writing = rw (grown, left, begun) (writing_inside c.payloads.invariant.writing (key_of c.in-Some.key, t) (members_left c.next.new.self) step
           (length c.put_head.new.out.items) c.put_head.new.out.items c.start-payload-in-Container.new.out.items
           (container_holds c.in-Container.inner) refl head c.start-payload-in-Container.ensures.items);
       capacity = omega (arith, c.payloads.invariant.capacity, c.put_head.ensures.capacity, c.start-payload-in-Container.ensures.capacity);

@@ -20,7 +20,7 @@ loop-key-preserved g c =
     let same : length c.args.values.items ≡ length c.args.keys.now = omega (arith, c.if-keys-len.false, c.len.ensures, c.args.values.ok.0) in
     let new : is_among (string_bytes text) held ≡ false = was_new (is_among (string_bytes text) held) (sym c.if-not-is_new.false ∙ c.in_ok-is_new.ensures.is_new) in
     let keys = rw new at c.in_ok-is_new.ensures.keys in
-    set_more c.args.keys.now c.args.values.items held c.insert.new.self c.loop-key.key-index _ text c.loop-key-test.true same c.in_ok-from_str.ensures.ok new keys c.loop-key.invariant
+    set_more c.args.keys.now c.args.values.items held c.loop-key.key-index _ text c.loop-key-test.true same c.in_ok-from_str.ensures.ok new keys c.loop-key.invariant
 
 pub invariant_of-result : goal.invariant_of-result
 invariant_of-result g c =

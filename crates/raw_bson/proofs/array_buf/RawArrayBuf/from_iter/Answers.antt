@@ -29,13 +29,13 @@ pub returns-in_err-push-clause-fills : goal.returns-in_err-push-clause-fills
 returns-in_err-push-clause-fills g c =
     let e = err_from_is_err_and c.from_residual-in_err-push.result c.from_residual-in_err-push.ensures.1 in
     let h = c.in_err-push.ensures.pushes in
-    rw e.1 (refused TakesValue empty_array c.loop-value.array g.I.Iterator.next_gives c.args.values c.into_iter-value-iterator.result
-    c.loop-value.value-iterator c.next.new.self c.loop-value.yielded c.in-Some.value e.0 c.into_iter-value-iterator.ensures.into_iter_gives
+    rw e.1 (refused TakesValue empty_array g.I.Iterator.next_gives c.args.values c.into_iter-value-iterator.result
+    c.loop-value.yielded c.in-Some.value c.into_iter-value-iterator.ensures.into_iter_gives
     c.loop-value.yielded_by c.in-Some.ensures.steps c.loop-value.invariant.0 ((rw e.2 h.0.0, rw e.2 h.0.1, refl), refl))
 
 pub returns-clause-fills : goal.returns-clause-fills
 returns-clause-fills g c = filled TakesValue empty_array c.loop-value.array g.I.Iterator.next_gives c.args.values c.into_iter-value-iterator.result
-    c.loop-value.value-iterator c.next.new.self c.loop-value.yielded c.into_iter-value-iterator.ensures.into_iter_gives c.loop-value.yielded_by
+    c.loop-value.yielded c.into_iter-value-iterator.ensures.into_iter_gives c.loop-value.yielded_by
     c.in-None.ensures.steps c.loop-value.invariant.0
 
 pub returns-clause-walk : goal.returns-clause-walk

@@ -24,14 +24,13 @@ pub returns-in_err-append-clause-fills : goal.returns-in_err-append-clause-fills
 returns-in_err-append-clause-fills g c =
     let e = err_from_is_err_and c.from_residual-in_err-append.result c.from_residual-in_err-append.ensures.1 in
     let h = c.in_err-append.ensures.appends in
-    rw e.1 (refused TakesPair empty_document c.loop-key.document g.I.Iterator.next_gives c.args.pairs c.into_iter-key-iterator.result c.loop-key.key-iterator
-    c.next.new.self c.loop-key.yielded (c.in-Some.key, c.in-Some.value) e.0 c.into_iter-key-iterator.ensures.into_iter_gives c.loop-key.yielded_by
+    rw e.1 (refused TakesPair empty_document g.I.Iterator.next_gives c.args.pairs c.into_iter-key-iterator.result
+    c.loop-key.yielded (c.in-Some.key, c.in-Some.value) c.into_iter-key-iterator.ensures.into_iter_gives c.loop-key.yielded_by
     c.in-Some.ensures.steps c.loop-key.invariant.0 (rw e.2 h.0, rw e.2 h.1, refl))
 
 pub returns-clause-fills : goal.returns-clause-fills
 returns-clause-fills g c = filled TakesPair empty_document c.loop-key.document g.I.Iterator.next_gives c.args.pairs c.into_iter-key-iterator.result
-    c.loop-key.key-iterator c.next.new.self c.loop-key.yielded c.into_iter-key-iterator.ensures.into_iter_gives c.loop-key.yielded_by c.in-None.ensures.steps
-    c.loop-key.invariant.0
+    c.loop-key.yielded c.into_iter-key-iterator.ensures.into_iter_gives c.loop-key.yielded_by c.in-None.ensures.steps c.loop-key.invariant.0
 
 pub returns-clause-walk : goal.returns-clause-walk
 returns-clause-walk g c = (

@@ -1,9 +1,9 @@
 use Rattle.raw_tree.specs.validator.References.{texts}
-use Rattle.raw_tree.proofs.validator.Marking.{marked_more}
+use Rattle.raw_tree.proofs.validator.Fingerprinting.{fingerprints_more}
 use Rattle.raw_tree.proofs.validator.References.{texts_push}
 use Rattle.raw_tree.proofs.validator.key_set.insert_key.Goals as goal
 
 pub returns-then-put-clause-finds : goal.returns-then-put-clause-finds
 returns-then-put-clause-finds c =
-    marked_more c.in-Marked.marks c.put.new.self (texts c.args.keys.now.items) (texts c.list.new.listed.items) c.put.ensures.kept (rw c.in-Marked.is at c.requires) c.args.key.now
-    (texts_push c.args.keys.now.items c.args.key c.in_ok-list-in-Marked.ensures.listed) (c.put.ensures.new c.if-put.true).1
+    fingerprints_more c.in-Hashed.fingerprints c.put.new.self (texts c.args.keys.now.items) (texts c.list.new.listed.items) c.put.ensures.kept (rw c.in-Hashed.is at c.requires) c.args.key.now
+    (texts_push c.args.keys.now.items c.args.key c.in_ok-list-in-Hashed.ensures.listed) (c.put.ensures.new c.if-put.true).1

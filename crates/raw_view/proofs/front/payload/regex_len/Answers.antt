@@ -20,7 +20,7 @@ pub returns-in_err-_options-clause-none : goal.returns-in_err-_options-clause-no
 returns-in_err-_options-clause-none c =
     let e = err_from_is_err_and c.from_residual-in_err-_options.result c.from_residual-in_err-_options.ensures.1 in
     let text = c.in_ok-_pattern.ensures.found in
-    rw e.1 (options_fault_no_regex _ _ _ _ text.0 text.1 c.in_err-_options.ensures.fault)
+    rw e.1 (options_fault_no_regex _ _ _ text.0 text.1 c.in_err-_options.ensures.fault)
 
 pub returns-in_err-_options-clause-fault : goal.returns-in_err-_options-clause-fault
 returns-in_err-_options-clause-fault c =

@@ -11,14 +11,14 @@ returns-then-is_behind c = record {
 
 pub add_listed-requires : goal.add_listed-requires
 add_listed-requires c =
-    let noted = rw c.deref-in-Ascending.ensures.value at c.notes_of-notes.ensures in
+    let filtered = rw c.deref-in-Ascending.ensures.value at c.filter_of-filter.ensures in
     let r = rw c.in-Ascending.is at c.requires in
-    (r.0, r.1, r.2, listed_of c.in-Ascending.first c.args.listed.now.items c.notes_of-notes.result noted r.0 r.1 r.2 r.3, r.4)
+    (r.0, r.1, r.2, listed_of c.in-Ascending.first c.args.listed.now.items c.filter_of-filter.result filtered r.0 r.1 r.2 r.3, r.4)
 
 pub returns-else-is_behind : goal.returns-else-is_behind
 returns-else-is_behind c =
-    let noted = rw c.deref-in-Ascending.ensures.value at c.notes_of-notes.ensures in
-    let listed = listed_of c.in-Ascending.first c.args.listed.now.items c.notes_of-notes.result noted in
+    let filtered = rw c.deref-in-Ascending.ensures.value at c.filter_of-filter.ensures in
+    let listed = listed_of c.in-Ascending.first c.args.listed.now.items c.filter_of-filter.result filtered in
     record {
       adds = rw c.in-Ascending.is (IfOk-weaker c.add_listed.result _ _
           (λ answer adds sort below own has canonical n. adds sort below own (listed sort below own has) canonical) c.add_listed.ensures.adds);

@@ -4,10 +4,10 @@ use Rattle.std.proofs.lemmas.Map.Views.{list_any-from_Contains}
 use Rattle.raw_tree.specs.validator.References.{texts}
 use Rattle.raw_tree.proofs.validator.LevelKeys.{Contains-found}
 use Rattle.raw_tree.proofs.validator.References.{texts_found}
-use Rattle.raw_tree.proofs.validator.notes.is_among.Goals as goal
+use Rattle.raw_tree.proofs.validator.filter.is_among.Goals as goal
 
-pub returns-then-has_note : goal.returns-then-has_note
-returns-then-has_note c =
+pub returns-then-has_bit : goal.returns-then-has_bit
+returns-then-has_bit c =
     let keys = c.args.keys.now in
     let key = c.args.key.now in (
       λ is. Contains-found (texts keys) key (sym (texts_found keys key) ∙ (sym c.contains.ensures.value ∙ is)),

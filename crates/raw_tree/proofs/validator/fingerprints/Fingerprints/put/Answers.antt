@@ -1,0 +1,12 @@
+use Rattle.std.proofs.Common.{bit_and}
+use Rattle.raw_tree.specs.validator.Fingerprints.{hash_of, fingerprint_of}
+use Rattle.raw_tree.proofs.validator.Fingerprinting.{fingerprint_some, fingerprints_kept}
+use Rattle.raw_tree.proofs.validator.fingerprints.Fingerprints.put.Goals as goal
+
+pub returns-clause-kept : goal.returns-clause-kept
+returns-clause-kept c k h =
+    let slots = c.args.self.now.slots.items in
+    let fingerprint = c.fingerprint_of-fingerprint.result in
+    let free = rw c.deref.ensures.value at c.in-Some.ensures.free in
+    fingerprints_kept slots c.in-Some.at fingerprint (bit_and (hash_of k) c.args.self.now.mask) (fingerprint_of (hash_of k))
+    c.fingerprint_of-fingerprint.ensures.some (fingerprint_some (hash_of k)) free.within free.free h
