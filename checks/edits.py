@@ -25,10 +25,10 @@ kept at once in ~/.cache/foyeranise, by a checksum of all that it rests on, and 
 are tried over go on from what `rt check` left in the crates' out/, but with --from-nothing. With --beside, a run of `rt ci` in
 this folder proves the crates as they are: the edits of a crate begin once the file that is named says that those below it are
 proved, over the libraries that the run left, and only the edited functions are proved. A function of the crate that is not
-edited has a hole for its proof, where its source tells its name: of what an edited one calls, its proof needs the contract
-alone. So what has no complaint, and depends on such a hole alone, is still proved. --leave leaves what the check of
-a crate kept, for the crate's build. Two flags prove nothing: --applies sees that each edit applies, and --compiles that
-each edited text compiles, many edits in a copy, over the libraries that `rt check` built.
+edited has a hole for its proof, where its source tells its name, and a body that never returns: of what an edited one calls,
+its proof needs the contract alone. So what has no complaint, and depends on such a hole alone, is still proved. --leave leaves
+what the check of a crate kept, for the crate's build. Two flags prove nothing: --applies sees that each edit applies, and
+--compiles that each edited text compiles, many edits in a copy, over the libraries that `rt check` built.
 """
 
 import argparse
@@ -69,6 +69,8 @@ BLOCK = re.compile(r"impl(?:<.*?>)? (?:(?:\w+::)*(\w+)(?:<(\w+)>)? for )?(\w+)(?
 OTHER_BLOCK = re.compile(r'(?:unsafe )?impl\b|(?:pub(?:\([^)]*\))? )?trait\b|extern "C" \{|mod \w+ \{|macro_rules')
 FUNCTION = re.compile(r'(    )?(?:pub(?:\([^)]*\))? )?(?:const |unsafe |extern "C" )*fn (\w+)')
 TYPE = re.compile(r"(?m)^(?:pub(?:\([^)]*\))? )?(?:struct|enum) (\w+)")
+# the line that ends in a body's first brace
+BODY = re.compile(r" *(?!ensures\b|requires\b|decreases\b|ghost\b).*(?<![^ ]){$")
 TESTS = re.compile(r"#\[cfg\(test\)\]\s+mod (\w+);")
 
 # complaints that a proof names what isn't there any more
@@ -98,25 +100,25 @@ def static_libraries(top):
 
 
 def modules_of(crate):
-    """Returns the texts of a crate's modules, by their paths below it, without those of tests."""
+    """Returns the texts of a crate's modules, by their files and paths below the crate, without those of tests."""
     texts = {}
     for file in (crate / "src").rglob("*.rt"):
         parts = file.relative_to(crate / "src").with_suffix("").parts
-        texts["::".join(it for it in parts if it not in ("lib", "main"))] = file.read_text()
-    tests = [f"{at}::{name}".removeprefix("::") for at, text in texts.items() for name in TESTS.findall(text)]
-    return {at: text for at, text in texts.items() if not any(f"{at}::".startswith(f"{it}::") for it in tests)}
+        texts[file, "::".join(it for it in parts if it not in ("lib", "main"))] = file.read_text()
+    tests = [f"{at}::{name}".removeprefix("::") for (_, at), text in texts.items() for name in TESTS.findall(text)]
+    return {key: text for key, text in texts.items() if not any(f"{key[1]}::".startswith(f"{it}::") for it in tests)}
 
 
 def functions_of(crate):
-    """Returns the functions of a crate whose names its source tells, as the prover names them: those in modules, in blocks of the
-    crate's own types, and in blocks of traits for these."""
-    texts, homes, found = modules_of(crate), {}, []
-    for at, text in texts.items():
+    """Returns the functions of a crate whose names its source tells, as the prover names them, with the file of each and the line
+    that begins it: those in modules, in blocks of the crate's own types, and in blocks of traits for these."""
+    texts, homes, found = modules_of(crate), {}, {}
+    for (_, at), text in texts.items():
         for name in TYPE.findall(text):
             homes.setdefault(name, []).append(at)
-    for at, text in texts.items():
+    for (file, at), text in texts.items():
         block = at
-        for line in text.splitlines():
+        for number, line in enumerate(text.split("\n")):
             if head := BLOCK.match(line):
                 trait, of, name = head.groups("")
                 home = [it for it in homes.get(name, []) if trait or it == at] or homes.get(name, [])
@@ -127,8 +129,21 @@ def functions_of(crate):
             elif line.startswith("}"):
                 block = at
             elif block is not None and (function := FUNCTION.match(line)) and bool(function[1]) == (block != at):
-                found.append("::".join([crate.name, *block.split("::"), function[2]]).replace("::::", "::"))
+                found["::".join(filter(None, [crate.name, *block.split("::"), function[2]]))] = file, number
     return found
+
+
+def without_bodies(text, numbers):
+    """Returns a module's text in which the functions that begin in these lines never return, whatever else they did."""
+    lines = text.split("\n")
+    for number in sorted(numbers, reverse=True):
+        indent = re.match(" *", lines[number])[0]
+        begin = next((at for at, it in enumerate(lines) if at >= number and BODY.match(it)), len(lines))
+        end = next((at for at, it in enumerate(lines) if at >= number and it == indent + "}"), len(lines))
+        # (a constant may be made of what a function returns)
+        if begin < end < len(lines) and "const fn" not in lines[number]:
+            lines[begin + 1 : end] = [indent + "    loop {}"]
+    return "\n".join(lines)
 
 
 @dataclasses.dataclass(eq=False)
@@ -365,13 +380,13 @@ class Prover:
         (folder / "out").mkdir(exist_ok=True)
         share_work(self.room / "kept", copy, crate, "incremental")
         if crate in self.over and "--only" in flags:
-            self.put_holes(folder, crate, set(flags))
+            texts = self.put_holes(folder, crate, set(flags), texts)
         for file, text in texts.items():
             (folder / file).write_text(text)
         ran = self.check(copy, crate, *flags)
         if elsewhere := re.findall(r"proofs/(\S+)/Proof\.antt: error\[reserved-name\]", ran.stdout):
             # (functions that call themselves, whose proof is at another place)
-            self.over[crate] = [it for it in self.over[crate] if "/".join(it.split("::")[1:]) not in elsewhere]
+            self.over[crate] = {it: place for it, place in self.over[crate].items() if "/".join(it.split("::")[1:]) not in elsewhere}
             for it in elsewhere:
                 (folder / "proofs" / it / "Proof.antt").unlink(missing_ok=True)
             ran = self.check(copy, crate, *flags)
@@ -382,21 +397,26 @@ class Prover:
             share_work(copy, self.room / "kept", crate, "incremental")
         return ran
 
-    def put_holes(self, folder, crate, asked):
-        """Puts a hole for the proof of each function that the run beside proves, but for those that are asked for."""
+    def put_holes(self, folder, crate, asked, texts):
+        """Puts a hole for the proof of each function that the run beside proves, but for those that are asked for, and returns these
+        texts, and those of other modules, without the bodies of such functions."""
         shutil.rmtree(folder / "proofs", ignore_errors=True)
         if (self.top / "crates" / crate / "proofs").is_dir():
             shutil.copytree(self.top / "crates" / crate / "proofs", folder / "proofs")
-        for function in self.over[crate]:
+        texts, lines = dict(texts), {}
+        for function, (file, number) in self.over[crate].items():
             path = function.split("::")[1:]
-            # (a closure's proof is its function's)
-            if "::".join(path) in asked or "fn" in path or not all(re.fullmatch(r"\w+", it) for it in path):
+            if "::".join(path) in asked:
                 continue
+            lines.setdefault(str(file.relative_to(self.top / "crates" / crate)), []).append(number)
             place = folder / "proofs" / "/".join(path)
             place.mkdir(parents=True, exist_ok=True)
             for it in ("Answers.antt", "Invariants.antt"):
                 (place / it).unlink(missing_ok=True)
             (place / "Proof.antt").write_text(HOLE.format(module=".".join([crate, "proofs", *path]), name=path[-1]))
+        for file, numbers in lines.items():
+            texts[file] = without_bodies(texts.get(file) or (self.top / "crates" / crate / file).read_text(), numbers)
+        return texts
 
     def only(self, crate, now):
         """Returns the flags for a check of what these edits change alone, where nothing else of the crate has to be proved here."""
@@ -464,7 +484,7 @@ def try_round(prover, crate, now, texts):
     why = said.unreadable() or said.beyond(edited)
     if why and prover.over.get(crate):
         # (it may be a hole's fault)
-        prover.over[crate] = []
+        prover.over[crate] = {}
         try_rounds(prover, crate, now, prover.top / "crates" / crate)
     elif why and len(now) == 1:
         now[0].settle(BAD, why)

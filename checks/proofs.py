@@ -16,11 +16,9 @@ from pathlib import Path
 COLUMNS = 200
 PREMISES = 8
 ARGUMENTS = 12
-# the most in crates where a lemma has more; this number only falls
-MOST_ARGUMENTS = {"bsonraw_dump": 34}
 
 IMPORT = re.compile(r"(pub )?use ")
-STATEMENT = re.compile(r"( *)(?:pub )?([^\s:=(]+) : (.*)")
+STATEMENT = re.compile(r"( *)(abbrev )?(?:pub )?([^\s:=(]+) : (.*)")
 MODULE = re.compile(r"( *)module [^\s]+ (.*)where")
 BINDER = re.compile(r"[({]([^(){}:]+) : ")
 WORD = re.compile(r"[^\s(){}\[\],;.`]+")
@@ -84,27 +82,29 @@ def lemmas(lines):
         found = STATEMENT.fullmatch(line)
         if not found:
             continue
-        indent, name, _ = found.groups()
+        indent, unfolds, name, _ = found.groups()
         statement = text.split(" : ", 1)[1]
         clause = re.compile(f"{indent}{re.escape(name)}[ =]")
         behind = statement_end
         while behind < len(lines) and clause.match(lines[behind]):
             behind = whole(lines, behind, indent)
         if behind > statement_end:
-            yield at, behind, name, statement, sum(names for _, names in around)
+            yield at, behind, name, statement, sum(names for _, names in around), unfolds
 
 
-def too_long(crate, path, lines):
-    most = MOST_ARGUMENTS.get(crate, ARGUMENTS)
+def too_long(path, lines):
     for number, line in enumerate(lines, 1):
         if len(line) > COLUMNS and not IMPORT.match(line):
             yield f"{path}:{number}: {len(line)} columns; {COLUMNS} at most"
-    for at, _, name, statement, around in lemmas(lines):
+    for at, _, name, statement, around, unfolds in lemmas(lines):
+        # (a word that is no lemma)
+        if unfolds and re.search(r"Type \d$", statement):
+            continue
         premises, arguments = counted(statement)
         if premises > PREMISES:
             yield f"{path}:{at + 1}: {name} has {premises} premises; {PREMISES} at most"
-        if arguments + around > most:
-            yield f"{path}:{at + 1}: {name} has {arguments + around} explicit arguments; {most} at most in {crate}"
+        if arguments + around > ARGUMENTS:
+            yield f"{path}:{at + 1}: {name} has {arguments + around} explicit arguments; {ARGUMENTS} at most"
 
 
 def words(lines, comments=False):
@@ -118,12 +118,12 @@ def main():
     found = []
     everywhere = sum((words((line for line in lines if not re.match("use ", line)), "specs" in path.parts) for path, lines in files.items()), Counter())
     for path, lines in files.items():
-        crate, kind = path.relative_to(folder).parts[:2]
-        found += too_long(crate, path, lines)
+        kind = path.relative_to(folder).parts[1]
+        found += too_long(path, lines)
         if kind != "proofs":
             continue
-        for at, behind, name, statement, _ in lemmas(lines):
-            if re.match(r"goal\.", statement) or re.match("(invariant|decreases)-", name):
+        for at, behind, name, statement, _, unfolds in lemmas(lines):
+            if unfolds or re.match(r"goal\.", statement) or re.match("(invariant|decreases)-", name):
                 continue
             own = words(lines[at:behind])[name]
             if everywhere[name] + code[name] == own:

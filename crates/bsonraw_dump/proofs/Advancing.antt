@@ -86,16 +86,18 @@ HasBetween a b x y t u = (front : List ℕ) × Advances a b x y front × (turn_o
 pub between_none : (r : Option (List ℕ)) (x : Cursor) (t : Turn) → IsWindow x.window → HasBetween r r x x t t
 between_none r x t is = ([], advances_none r x is, refl)
 
-pub between_more : (a b c : Option (List ℕ)) (x y z w : Cursor) (t u v : Turn) (o : Option ℕ) (byte : ℕ) → HasBetween a b x y t u → LooksOn b c y z × IsAhead c z o → o ≡ Some byte
-    → turn_behind u byte ≡ Some v → PassesAhead z w 1 → HasBetween a c x w t v
-between_more a b c x y z w t u v o byte (front, p, turns) (looks, is) some now passed =
-    let (rest, ahead) = subst (IsAhead c z) some is in
-    (front ++ byte ∷ [], advances_byte a c x z w front byte rest (advances_ahead a b c x y z front p looks) ahead passed, turn_more t u v front byte turns now)
+module _ {b c : Option (List ℕ)} {y z : Cursor} {o : Option ℕ} {byte : ℕ} where
+  pub between_more : (a : Option (List ℕ)) (x w : Cursor) (t u v : Turn) → HasBetween a b x y t u → LooksOn b c y z × IsAhead c z o → o ≡ Some byte
+      → turn_behind u byte ≡ Some v → PassesAhead z w 1 → HasBetween a c x w t v
+  between_more a x w t u v (front, p, turns) (looks, is) some now passed =
+      let (rest, ahead) = subst (IsAhead c z) some is in
+      (front ++ byte ∷ [], advances_byte a c x z w front byte rest (advances_ahead a b c x y z front p looks) ahead passed, turn_more t u v front byte turns now)
 
-pub between_ends : (a b c : Option (List ℕ)) (x y z : Cursor) (t u : Turn) (o q : Option ℕ) → HasBetween a b x y t u → LooksOn b c y z × IsAhead c z o → o ≡ q
-    → IfSome q (λ byte. turn_behind u byte ≡ None) → PassesBetween a c x z t u q
-between_ends a b c x y z t u o q (front, p, turns) (looks, is) same stops =
-    record { front = front; advances = advances_ahead a b c x y z front p looks; turns = turns; is = subst (IsAhead c z) same is; stops = stops }
+module _ {b c : Option (List ℕ)} {y z : Cursor} {q : Option ℕ} where
+  pub between_ends : (a : Option (List ℕ)) (x : Cursor) (t u : Turn) (o : Option ℕ) → HasBetween a b x y t u → LooksOn b c y z × IsAhead c z o → o ≡ q
+      → IfSome q (λ byte. turn_behind u byte ≡ None) → PassesBetween a c x z t u q
+  between_ends a x t u o (front, p, turns) (looks, is) same stops =
+      record { front = front; advances = advances_ahead a b c x y z front p looks; turns = turns; is = subst (IsAhead c z) same is; stops = stops }
 
 -- and reading failed behind it
 pub between_fails : (a b c : Option (List ℕ)) (x y z : Cursor) (t u : Turn) → HasBetween a b x y t u → LooksOn b c y z → GoesOnTo a c x z
@@ -108,43 +110,47 @@ HasGap a b x y = (gap : List ℕ) × Advances a b x y gap × HasNoLine x.place g
 pub gap_none : (r : Option (List ℕ)) (x : Cursor) → IsWindow x.window → HasGap r r x x
 gap_none r x is = ([], advances_none r x is, tt)
 
-pub gap_more : (a b c : Option (List ℕ)) (x y z w : Cursor) (o : Option ℕ) (byte : ℕ) → HasGap a b x y → LooksOn b c y z × IsAhead c z o → o ≡ Some byte
-    → begins_line z.place byte ≡ false → PassesAhead z w 1 → HasGap a c x w
-gap_more a b c x y z w o byte (gap, p, none) (looks, is) some now passed =
-    let (rest, ahead) = subst (IsAhead c z) some is in
-    let first = advances_ahead a b c x y z gap p looks in
-    let here : begins_line (position_over x.place gap) byte ≡ false = subst (λ (q : Position). begins_line q byte ≡ false) first.place now in
-    (gap ++ byte ∷ [], advances_byte a c x z w gap byte rest first ahead passed, no_line_more x.place gap byte none here)
+module _ {b c : Option (List ℕ)} {y z : Cursor} {o : Option ℕ} {byte : ℕ} where
+  pub gap_more : (a : Option (List ℕ)) (x w : Cursor) → HasGap a b x y → LooksOn b c y z × IsAhead c z o → o ≡ Some byte
+      → begins_line z.place byte ≡ false → PassesAhead z w 1 → HasGap a c x w
+  gap_more a x w (gap, p, none) (looks, is) some now passed =
+      let (rest, ahead) = subst (IsAhead c z) some is in
+      let first = advances_ahead a b c x y z gap p looks in
+      let here : begins_line (position_over x.place gap) byte ≡ false = subst (λ (q : Position). begins_line q byte ≡ false) first.place now in
+      (gap ++ byte ∷ [], advances_byte a c x z w gap byte rest first ahead passed, no_line_more x.place gap byte none here)
 
 -- up to the end of the input
-pub gap_ends : (a b c : Option (List ℕ)) (x y z : Cursor) (t u : Turn) (o : Option ℕ) → HasGap a b x y → LooksOn b c y z × IsAhead c z o → o ≡ None → u ≡ turn.Last
-    → PassesGap a c x z t u
-gap_ends a b c x y z t u o (gap, p, none) (looks, is) end last =
-    record { gap = gap; advances = advances_ahead a b c x y z gap p looks; none = none; ends = inr (last, subst (IsAhead c z) end is) }
+module _ {b c : Option (List ℕ)} {y z : Cursor} {o : Option ℕ} where
+  pub gap_ends : (a : Option (List ℕ)) (x : Cursor) (t u : Turn) → HasGap a b x y → LooksOn b c y z × IsAhead c z o → o ≡ None → u ≡ turn.Last
+      → PassesGap a c x z t u
+  gap_ends a x t u (gap, p, none) (looks, is) end last =
+      record { gap = gap; advances = advances_ahead a b c x y z gap p looks; none = none; ends = inr (last, subst (IsAhead c z) end is) }
 
 -- or to a line that begins with a brace
-pub gap_goes_on : (a b c : Option (List ℕ)) (x y z : Cursor) (t u : Turn) (o : Option ℕ) (byte : ℕ) → HasGap a b x y → LooksOn b c y z × IsAhead c z o → o ≡ Some byte → u ≡ t
-    → begins_line z.place byte ≡ true → PassesGap a c x z t u
-gap_goes_on a b c x y z t u o byte (gap, p, none) (looks, is) some same begins =
-    record { gap = gap; advances = advances_ahead a b c x y z gap p looks; none = none; ends = inl (same, (byte, subst (IsAhead c z) some is, begins)) }
+module _ {b c : Option (List ℕ)} {y z : Cursor} {o : Option ℕ} {byte : ℕ} where
+  pub gap_goes_on : (a : Option (List ℕ)) (x : Cursor) (t u : Turn) → HasGap a b x y → LooksOn b c y z × IsAhead c z o → o ≡ Some byte → u ≡ t
+      → begins_line z.place byte ≡ true → PassesGap a c x z t u
+  gap_goes_on a x t u (gap, p, none) (looks, is) some same begins =
+      record { gap = gap; advances = advances_ahead a b c x y z gap p looks; none = none; ends = inl (same, (byte, subst (IsAhead c z) some is, begins)) }
 
 -- and reading failed behind it
 pub gap_fails : (a b c : Option (List ℕ)) (x y z : Cursor) → HasGap a b x y → LooksOn b c y z → GoesOnTo a c x z
 gap_fails a b c x y z (gap, p, none) looks = goes_on_to a b c x y z gap p looks
 
 -- a document's text is next, which begins with a brace
-pub finds_text : (a b c : Option (List ℕ)) (x y z : Cursor) (t u : Turn) (o : Option ℕ) (found : Scanned) → PassesBetween a b x y t u o → o ≡ Some 123
-    → LooksOn b c y z × IsScanned c (ahead_of z.window) found → may_begin u ≡ true → FindsText a c x z t u (next.Text found)
-finds_text a b c x y z t u o found p some (looks, scans) may =
-    let (rest, brace) = subst (IsAhead b y) some p.is in
-    let (more, kept) = front_kept (ahead_of y.window) (ahead_of z.window) looks.looks.kept in
-    let here : ahead_of z.window ≡ 123 ∷ (rest ++ more) = kept ∙ ap (λ l. l ++ more) brace in
-    record {
-      front = p.front;
-      advances = advances_ahead a b c x y z p.front p.advances looks;
-      turns = p.turns;
-      is = (may, (rest ++ more, here), scans);
-    }
+module _ {a b c : Option (List ℕ)} {x y z : Cursor} {t u : Turn} {o : Option ℕ} where
+  pub finds_text : (found : Scanned) → PassesBetween a b x y t u o → o ≡ Some 123
+      → LooksOn b c y z × IsScanned c (ahead_of z.window) found → may_begin u ≡ true → FindsText a c x z t u (next.Text found)
+  finds_text found p some (looks, scans) may =
+      let (rest, brace) = subst (IsAhead b y) some p.is in
+      let (more, kept) = front_kept (ahead_of y.window) (ahead_of z.window) looks.looks.kept in
+      let here : ahead_of z.window ≡ 123 ∷ (rest ++ more) = kept ∙ ap (λ l. l ++ more) brace in
+      record {
+        front = p.front;
+        advances = advances_ahead a b c x y z p.front p.advances looks;
+        turns = p.turns;
+        is = (may, (rest ++ more, here), scans);
+      }
 
 -- and reading it failed
 pub finds_fails : (a b c : Option (List ℕ)) (x y z : Cursor) (t u : Turn) (o : Option ℕ) → PassesBetween a b x y t u o → LooksOn b c y z → GoesOnTo a c x z

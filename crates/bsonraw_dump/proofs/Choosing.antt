@@ -48,7 +48,7 @@ pub halts_first : (p : Portion) {limits : Limits} {c : Command} {style : Counts 
     → HaltsPortion p limits c style resync name r d d w w n n k
 halts_first p {limits = limits} {c = c} {style = style} {resync = resync} {name = name} {r = r} {d = d} {w = w} {n = n} {k = k} = record {
   front = [];
-  halts = halts_here c style resync name r r d d w w n n k k [] (skipped [] ∷ []) (passed_none [] [] (Consumes-nil r));
+  halts = halts_here (passed_none [] [] (Consumes-nil r));
   chosen = chosen_front [] (in_front_none p limits.bytes r);
 }
 

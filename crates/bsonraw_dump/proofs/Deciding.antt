@@ -93,7 +93,7 @@ part_ahead {limits} P m b l a y last most bytes is at holds =
     subst (λ n. P limits (ahead_of y) last n) at (subst (λ i. P limits (ahead_of y) i a) is (subst (λ t. P limits t l a) bytes (subst (λ n. P n b l a) most holds)))
 
 -- a look at the bytes ahead
-module _ {limits : Limits} (r r' : Option (List ℕ)) (x y : Window) (v w : Work) (last : Bool) (p : Searches limits r r' x y v w) (ends : last ≡ true → IsAtEnd r') where
+module _ {limits : Limits} {r r' : Option (List ℕ)} {x y : Window} {v w : Work} (last : Bool) (p : Searches limits r r' x y v w) (ends : last ≡ true → IsAtEnd r') where
   -- all that is left, as the bytes ahead and what follows them
   whole : (s : List ℕ) → Consumes (Some s) r (ahead_of x) → (rest : List ℕ) × (s ≡ ahead_of y ++ rest) × MayFollow last rest
   whole s read = follows s (ahead_of y) r' last (p.stays.looks.is_read (Some s) read) ends
@@ -143,17 +143,18 @@ looked_none r x w len is work within = record {
 }
 
 -- it wants more, and more is read
-pub looked_on : {limits : Limits} (r r' r'' : Option (List ℕ)) (x y z : Window) (v w w' : Work) (len n : ℕ) (last last' there : Bool) → IsLooked limits r r' x y v w len last
-    → ChecksBehind limits (ahead_of y) last y.offset len w w' (check.Wants n) → IsWork w' → SeesAhead r' r'' y z n there → (last' ≡ true → there ≡ false)
-    → IsLooked limits r r'' x z v w' len last'
-looked_on r r' r'' x y z v w w' len n last last' there p checks work sees ends =
-    let here = searched r r' x y v w last p.searches p.ends w' checks.works work in
-    let more : length (ahead_of y) ≤ length (ahead_of z) = sees.looks.len in
-    record {
-      searches = searches_on r r' r'' x y z v w' w' here (searches_read r' r'' y z w' (stays_there r' r'' y z n there sees) work);
-      ends = λ yes. (sees.ends (ends yes)).1;
-      within = omega (arith, p.within, more);
-    }
+module _ {limits : Limits} {r r' r'' : Option (List ℕ)} {x y z : Window} {v w w' : Work} where
+  pub looked_on : (len n : ℕ) (last last' there : Bool) → IsLooked limits r r' x y v w len last
+      → ChecksBehind limits (ahead_of y) last y.offset len w w' (check.Wants n) → IsWork w' → SeesAhead r' r'' y z n there → (last' ≡ true → there ≡ false)
+      → IsLooked limits r r'' x z v w' len last'
+  looked_on len n last last' there p checks work sees ends =
+      let here = searched last p.searches p.ends w' checks.works work in
+      let more : length (ahead_of y) ≤ length (ahead_of z) = sees.looks.len in
+      record {
+        searches = searches_on r r' r'' x y z v w' w' here (searches_read r' r'' y z w' (stays_there r' r'' y z n there sees) work);
+        ends = λ yes. (sees.ends (ends yes)).1;
+        within = omega (arith, p.within, more);
+      }
 
 -- what the loop over places inside keeps
 pub record IsSought (limits : Limits) (r r' : Option (List ℕ)) (x y : Window) (v w : Work) (first from len end : ℕ) (last : Bool) : Type 0 where
@@ -179,30 +180,30 @@ abbrev pub places : (from until end : ℕ) → Places
 places from until end = record { from = from; until = until; end = end }
 
 -- a search of places inside
-module _ {limits : Limits} (r r' : Option (List ℕ)) (x y : Window) (v w w' : Work) (first from len end : ℕ) (last : Bool) (p : IsSought limits r r' x y v w first from len end last) (told : Sought)
+module _ {limits : Limits} {r r' : Option (List ℕ)} {x y : Window} {v w w' : Work} {first from len end : ℕ} {last : Bool} (p : IsSought limits r r' x y v w first from len end last) {told : Sought}
     (seeks : Seeks limits (ahead_of y) last y.offset (places from len end) w w' told) (work : IsWork w') where
   pub sought_here : Searches limits r r' x y v w'
-  sought_here = searched r r' x y v w last p.searches p.ends w' seeks.works work
+  sought_here = searched last p.searches p.ends w' seeks.works work
 
   tells : (s : List ℕ) → Consumes (Some s) r (ahead_of x) → TellsSought limits (ahead_of y) last (x.offset + length s) s (places from len end) w' told
   tells s read =
-      let (rest, split, may) = whole r r' x y v w last p.searches p.ends s read in
+      let (rest, split, may) = whole last p.searches p.ends s read in
       subst (λ n. TellsSought limits (ahead_of y) last (n + length s) s (places from len end) w' told) p.searches.stays.offset
       (subst (λ t. TellsSought limits (ahead_of y) last (y.offset + length t) t (places from len end) w' told) (sym split) (seeks.tells rest may))
 
   passed : (place : ℕ) (all : Bool) (s : List ℕ) → Consumes (Some s) r (ahead_of x) → from ≤ place → PassesOver limits (x.offset + length s) s from place end w' all
       → (all' : Bool) × PassesOver limits (x.offset + length s) s first place end w' all'
   passed place all s read high over =
-      let (rest, split, may) = whole r r' x y v w last p.searches p.ends s read in
+      let (rest, split, may) = whole last p.searches p.ends s read in
       let more : w.spent ≤ w'.spent = spent_more limits (ahead_of y ++ rest) w w' (seeks.works.charges rest may) in
       let (before, over') = p.over s read in
       let since = passes_since limits (x.offset + length s) s first from end w w' before more over' in
       (before && all, passes_after limits (x.offset + length s) first from place end s w' p.low high since over)
 
   -- it wants more, and more is read
-  pub sought_on : (r'' : Option (List ℕ)) (z : Window) (place n : ℕ) (all there last' : Bool) → told ≡ sought.Wants place n all → SeesAhead r' r'' y z n there
+  pub sought_on : {r'' : Option (List ℕ)} (z : Window) (place n : ℕ) (all there last' : Bool) → told ≡ sought.Wants place n all → SeesAhead r' r'' y z n there
       → (last' ≡ true → there ≡ false) → IsSought limits r r'' x z v w' first place len end last'
-  sought_on r'' z place n all there last' is sees ends =
+  sought_on {r'' = r''} z place n all there last' is sees ends =
       let here = subst (TellsSought limits (ahead_of y) last (y.offset + length (ahead_of y ++ [])) (ahead_of y ++ []) (places from len end) w') is
       (seeks.tells [] (λ yes. refl)) in
       let low : from ≤ place = here.0 in
@@ -247,7 +248,7 @@ pub record IsSoughtDown (limits : Limits) (r r' : Option (List ℕ)) (x y : Wind
   pub over : (s : List ℕ) → Consumes (Some s) r (ahead_of x) → (all : Bool) × PassesOver limits (x.offset + length s) s until len end w all
 
 -- the part before is searched
-module _ {limits : Limits} (r r' r'' : Option (List ℕ)) (x y z : Window) (v w w' : Work) (from until len end : ℕ) (p : IsSoughtDown limits r r' x y v w until len end) (start : 1 ≤ from) where
+module _ {limits : Limits} {r r' r'' : Option (List ℕ)} {x y z : Window} {v w w' : Work} (from : ℕ) {until len end : ℕ} (p : IsSoughtDown limits r r' x y v w until len end) (start : 1 ≤ from) where
   pub down_found : SeesInside limits r' r'' y z w w' from until end true → SeesInside limits r r'' x z v w' 1 len end true
   down_found q = record {
     searches = searches_on r r' r'' x y z v w w' p.searches q.searches;
@@ -317,34 +318,35 @@ reach_is len end true is = is
 reach_is len end false is = is
 
 -- so the one in front of s is doubted, by what is behind it, and inside
-is_doubted : {limits : Limits} (s : List ℕ) (at len end : ℕ) (w w' : Work) (goes doubted : Bool) → (IsPiece limits.bytes (take len s) × (len ≤ length s) × ¬ IsSound limits (take len s))
+is_doubted : {limits : Limits} (s : List ℕ) (at len : ℕ) {end : ℕ} (w w' : Work) (goes doubted : Bool) → (IsPiece limits.bytes (take len s) × (len ≤ length s) × ¬ IsSound limits (take len s))
     → w.spent ≤ w'.spent → end ≡ cond goes len 0 → GoesOnBehind limits s at len w goes → GoesOnInside limits s at 1 len end w' doubted → IsDoubted limits s at len w' doubted
-is_doubted {limits} s at len end w w' goes true (piece, within, damaged) more is behind' (j, low, high, on) = record {
+is_doubted {limits} s at len {end = end} w w' goes true (piece, within, damaged) more is behind' (j, low, high, on) = record {
   within = within;
   piece = piece;
   damaged = damaged;
   disbelieved = disbelieved limits s len end j goes (stops_behind s at len w goes behind') is low high on;
 }
-is_doubted {limits} s at len end w w' goes false (piece, within, damaged) more is behind' (all, over) =
+is_doubted {limits} s at len {end = end} w w' goes false (piece, within, damaged) more is behind' (all, over) =
     inr (believed limits (at + length s) s len end w' goes all (goes_behind s at len w w' goes more behind') is over)
 
 -- a damaged one is doubted
-pub doubts_damaged : {limits : Limits} (q r r' r'' : Option (List ℕ)) (w x y z : Window) (s t u v : Work) (len end : ℕ) (goes doubted : Bool)
-    → (len ≤ length (ahead_of w)) × IsPiece limits.bytes (take len (ahead_of w)) → SeesBehind limits q r w x s t 0 false → SeesBehind limits r r' x y t u len goes
-    → MatchBool goes (end ≡ len) (end ≡ 0) → SeesInside limits r' r'' y z u v 1 len end doubted → Doubts limits q r'' w z s v len doubted
-doubts_damaged {limits} q r r' r'' w x y z s t u v len end goes doubted (within, piece) front behind' is inside = record {
-  searches = searches_on q r r'' w x z s t v front.searches (searches_on r r' r'' x y z t u v behind'.searches inside.searches);
-  is = λ b read.
-      let read' = front.searches.stays.looks.is_read (Some b) read in
-      let read'' = behind'.searches.stays.looks.is_read (Some b) read' in
-      let (same, few) = front_take b (ahead_of w) q len read within in
-      let piece' = subst (IsPiece limits.bytes) (sym same) piece in
-      let at = front.searches.stays.offset in
-      let goes_behind' = subst (λ n. GoesOnBehind limits b n len u goes) at (behind'.is b read') in
-      let goes_inside = subst (λ n. GoesOnInside limits b n 1 len end v doubted) (behind'.searches.stays.offset ∙ at) (inside.is b read'') in
-      let more : u.spent ≤ v.spent = spent_more limits b u v ((inside.searches.spends b read'').charges) in
-      is_doubted b w.offset len end u v goes doubted (piece', few, front_damaged b w.offset len t piece' (front.is b read)) more (reach_is len end goes is) goes_behind' goes_inside;
-}
+module _ {limits : Limits} {q r r' r'' : Option (List ℕ)} {w x y z : Window} {s t u v : Work} where
+  pub doubts_damaged : (len end : ℕ) (goes doubted : Bool)
+      → (len ≤ length (ahead_of w)) × IsPiece limits.bytes (take len (ahead_of w)) → SeesBehind limits q r w x s t 0 false → SeesBehind limits r r' x y t u len goes
+      → MatchBool goes (end ≡ len) (end ≡ 0) → SeesInside limits r' r'' y z u v 1 len end doubted → Doubts limits q r'' w z s v len doubted
+  doubts_damaged len end goes doubted (within, piece) front behind' is inside = record {
+    searches = searches_on q r r'' w x z s t v front.searches (searches_on r r' r'' x y z t u v behind'.searches inside.searches);
+    is = λ b read.
+        let read' = front.searches.stays.looks.is_read (Some b) read in
+        let read'' = behind'.searches.stays.looks.is_read (Some b) read' in
+        let (same, few) = front_take b (ahead_of w) q len read within in
+        let piece' = subst (IsPiece limits.bytes) (sym same) piece in
+        let at = front.searches.stays.offset in
+        let goes_behind' = subst (λ n. GoesOnBehind limits b n len u goes) at (behind'.is b read') in
+        let goes_inside = subst (λ n. GoesOnInside limits b n 1 len end v doubted) (behind'.searches.stays.offset ∙ at) (inside.is b read'') in
+        let more : u.spent ≤ v.spent = spent_more limits b u v ((inside.searches.spends b read'').charges) in
+        is_doubted b w.offset len u v goes doubted (piece', few, front_damaged b w.offset len t piece' (front.is b read)) more (reach_is len end goes is) goes_behind' goes_inside;
+  }
 
 some_ahead : (most : ℕ) (e : Ending) (x : List ℕ) → EndsWith most e x → 0 < length x
 some_ahead most (ending.CutOff count) x (size, some, few) = omega (arith, size, some)

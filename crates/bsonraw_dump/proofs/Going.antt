@@ -51,7 +51,7 @@ cut_off {most} a len count size said sound four few =
     (size, omega arith, inr (subst (IsSoundLength most) (sym said) sound, subst (λ n. count < n) (sym said) less))
 
 -- a sound length is ahead behind so many bytes, and it is looked as far as it says
-module _ {most : ℕ} (r r' r'' : Option (List ℕ)) (x y z : Window) (from len : ℕ) (there more : Bool) (yes' : there ≡ true) (first : SeesAhead r r' x y (from + 4) there)
+module _ {most : ℕ} {r r' r'' : Option (List ℕ)} {x y z : Window} (from len : ℕ) (there more : Bool) (yes' : there ≡ true) (first : SeesAhead r r' x y (from + 4) there)
     (second : SeesAhead r' r'' y z (from + len) more) (said : said_len (drop from (ahead_of y)) ≡ len) (sound : IsSoundLength most len) where
   says : said_len (drop from (ahead_of z)) ≡ len
   says = let (rest, split) = front_kept (ahead_of y) (ahead_of z) second.looks.kept in said_ahead (ahead_of z) (ahead_of y) rest from split (first.there yes') ∙ said

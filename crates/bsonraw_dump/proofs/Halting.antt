@@ -21,6 +21,7 @@ use Rattle.bsonraw_dump.specs.declared.ending.Ending.{Ending}
 use Rattle.bsonraw_dump.specs.declared.ending.Rest.TheVariants as rest
 use Rattle.bsonraw_dump.specs.declared.find.Finding.{Finding}
 use Rattle.bsonraw_dump.specs.declared.kept.Kept.{Kept}
+use Rattle.bsonraw_dump.specs.declared.run.Asked.{Asked}
 use Rattle.bsonraw_dump.specs.declared.run.Stop.TheVariants as stop
 use Rattle.bsonraw_dump.specs.declared.run.Outcome.{Outcome}
 use Rattle.bsonraw_dump.specs.declared.style.Style.{Style}
@@ -50,25 +51,26 @@ IsOther command.List = ⊥
 IsOther _ = Unit {0}
 
 -- a front of all lines is reported
-pub reports_front : (c : Command) (style : Style) (name : List ℕ) (offset : ℕ) (b : List ℕ) (f : Finding) (told : Option Account) (old new : Option (List ℕ)) (text : List ℕ)
+pub reports_front : (c : Command) (style : Style) (name : List ℕ) (offset : ℕ) (b : List ℕ) (f : Finding) (told : Option Account) {old new : Option (List ℕ)} {text : List ℕ}
     → IsOther c → Reports c style name offset b f told text → AppendsFront old new text
     → (lines : List ℕ) × ReportsFront c style name offset b f told lines × Appends old new lines
-reports_front command.List style name offset b f told old new text other reports front = absurd other
-reports_front command.Check style name offset b f told old new text other reports front = (front.front, (text, reports, (front.behind, front.whole)), front.put)
-reports_front command.Count style name offset b f told old new text other reports front = (front.front, (text, reports, (front.behind, front.whole)), front.put)
-reports_front command.Sound style name offset b f told old new text other reports front = (front.front, (text, reports, (front.behind, front.whole)), front.put)
-reports_front command.Fields style name offset b f told old new text other reports front = (front.front, (text, reports, (front.behind, front.whole)), front.put)
-reports_front command.Canon style name offset b f told old new text other reports front = (front.front, (text, reports, (front.behind, front.whole)), front.put)
-reports_front (command.Unique spelling) style name offset b f told old new text other reports front = (front.front, (text, reports, (front.behind, front.whole)), front.put)
-reports_front (command.Json form) style name offset b f told old new text other reports front = (front.front, (text, reports, (front.behind, front.whole)), front.put)
-reports_front (command.Pick picking) style name offset b f told old new text other reports front = (front.front, (text, reports, (front.behind, front.whole)), front.put)
+reports_front command.List style name offset b f told other reports front = absurd other
+reports_front command.Check style name offset b f told {text = text} other reports front = (front.front, (text, reports, (front.behind, front.whole)), front.put)
+reports_front command.Count style name offset b f told {text = text} other reports front = (front.front, (text, reports, (front.behind, front.whole)), front.put)
+reports_front command.Sound style name offset b f told {text = text} other reports front = (front.front, (text, reports, (front.behind, front.whole)), front.put)
+reports_front command.Fields style name offset b f told {text = text} other reports front = (front.front, (text, reports, (front.behind, front.whole)), front.put)
+reports_front command.Canon style name offset b f told {text = text} other reports front = (front.front, (text, reports, (front.behind, front.whole)), front.put)
+reports_front (command.Unique spelling) style name offset b f told {text = text} other reports front = (front.front, (text, reports, (front.behind, front.whole)), front.put)
+reports_front (command.Json form) style name offset b f told {text = text} other reports front = (front.front, (text, reports, (front.behind, front.whole)), front.put)
+reports_front (command.Pick picking) style name offset b f told {text = text} other reports front = (front.front, (text, reports, (front.behind, front.whole)), front.put)
 
 -- a piece that is passed is one of which a front is
-pub halts_passed : (limits : Limits) (any : Bool) (c : Command) (style : Style) (name : List ℕ) (offset : ℕ) (b : List ℕ) (d d' w w' : Option (List ℕ)) (k k' : Kept) (o : Outcome)
-    → MayPassOne limits any c style name offset b d d' w w' k k' (Some o) → HaltsOne limits any c style name offset b k d d' w w'
-halts_passed limits any c style name offset b d d' w w' k k' o (clean, ((told, found, (made, makes, written, (first, places, repeats, (lines, reports, reported)))), counted)) =
-    let line = lines_of_repeats style (repeat_at (origin_at name offset) first) in
-    let whole = sym (ap (lines_of_repeats style) places.repeats) ∙ sym (append-nil line) in
+pub halts_passed : (asked : Asked) (any : Bool) (offset : ℕ) (b : List ℕ) (d d' w w' : Option (List ℕ)) (k k' : Kept) (o : Outcome)
+    → MayPassOne asked.limits any asked.command asked.style asked.name.now offset b d d' w w' k k' (Some o)
+    → HaltsOne asked.limits any asked.command asked.style asked.name.now offset b k d d' w w'
+halts_passed asked any offset b d d' w w' k k' o (clean, ((told, found, (made, makes, written, (first, places, repeats, (lines, reports, reported)))), counted)) =
+    let line = lines_of_repeats asked.style (repeat_at (origin_at asked.name.now offset) first) in
+    let whole = sym (ap (lines_of_repeats asked.style) places.repeats) ∙ sym (append-nil line) in
     inr (o.finding, told, found, clean, inr (inr (made, makes, written.is_written, (lines, line, reports, ([], whole), reported))))
 
 -- the document that is next is next in all that was to be read
@@ -83,7 +85,7 @@ piece_next {limits} resync r r' x y v v' len t s all =
       spends = t.searches.spends s all;
     }
 
-module _ {limits : Limits} (c : Command) (style : Style) (resync : Bool) (name : List ℕ) (r r' d d' w w' : Option (List ℕ)) (x y : Window) (v v' : Work) (k : Kept) (len : ℕ) where
+module _ {limits : Limits} (c : Command) (style : Style) (resync : Bool) (name : List ℕ) {r r' : Option (List ℕ)} (d d' w w' : Option (List ℕ)) {x y : Window} {v v' : Work} (k : Kept) {len : ℕ} where
   -- a front of what is taken at its length
   pub halts_taken : (any : Bool) → TellsPart limits resync r r' x y v v' (next.Document len) → HaltsOne limits any c style name y.offset (take len (ahead_of y)) k d d' w w'
       → HaltsNext limits c style resync name r x v k d d' w w'
@@ -96,10 +98,10 @@ module _ {limits : Limits} (c : Command) (style : Style) (resync : Bool) (name :
   )
 
   -- or of what has no damage
-  pub halts_clean : IsWork v → TellsNext limits.bytes r r' x y 0 (next.Document len) → HaltsOne limits (not resync) c style name y.offset (take len (ahead_of y)) k d d' w w'
-      → v' ≡ v → HaltsNext limits c style resync name r x v k d d' w w'
-  halts_clean work t (inl same) is = inl same
-  halts_clean work t (inr (f, told, found, clean, inside)) is =
+  pub halts_clean : IsWork v × (v' ≡ v) → TellsNext limits.bytes r r' x y 0 (next.Document len) → HaltsOne limits (not resync) c style name y.offset (take len (ahead_of y)) k d d' w w'
+      → HaltsNext limits c style resync name r x v k d d' w w'
+  halts_clean (work, is) t (inl same) = inl same
+  halts_clean (work, is) t (inr (f, told, found, clean, inside)) =
       let sound : resync ≡ true → IsSound limits (take len (ahead_of y)) = λ asked. judges_sound c (take len (ahead_of y)) f told t.is.1 found (clean (ap not asked)) in
       halts_taken (not resync) (subst (λ (u : Work). TellsPart limits resync r r' x y v u (next.Document len)) (sym is) (tells_document resync r r' x y v len work sound t))
       (inr (f, told, found, clean, inside))
@@ -131,7 +133,7 @@ module _ {limits : Limits} {c : Command} {style : Counts → Style} {resync : Bo
   ahead_gap {r'' = r''} {q = q} {w'' = w''} x y z v v' v'' e h t asked (inr (skip, skips, front)) =
       let bytes = bytes_of_parts h.ps in
       let at : y.offset ≡ length bytes = t.searches.stays.offset ∙ h.at in
-      let is = gap_of c style resync name x y z r r' r'' q d d' w w' n n' k k' v v' v'' e skip h t asked skips in
+      let is = gap_of h t asked skips in
       let put = subst (λ (m : ℕ). AppendsFront w' w'' (ending_line (style n') name m e (rest.PassedOver skip))) at front in
       inr (refl, inr (_, inl (_, is, refl), put))
 
@@ -148,42 +150,47 @@ module _ {limits : Limits} {c : Command} {style : Counts → Style} {resync : Bo
       let put = subst (λ (m : ℕ). AppendsFront w' w'' (ending_line (style n') name m e (rest.NotRead (length left)))) at front in
       inr (refl, inr (_, inr (e, left, ends, unasked, there, refl), put))
 
-module _ {limits : Limits} (c : Command) (style : Counts → Style) (resync : Bool) (name : List ℕ) (r r' d d' w w' : Option (List ℕ)) (n n' : Counts) (k k' : Kept) where
+module _ {limits : Limits} {c : Command} {style : Counts → Style} {resync : Bool} {name : List ℕ} {r r' d d' w w' : Option (List ℕ)} {n n' : Counts} {k k' : Kept} where
   -- what is next isn't passed
-  abbrev pub halts_with : (d'' w'' : Option (List ℕ)) (n'' : Counts) (ahead : List ℕ) (ps : List Part) → Passed limits c style resync name ahead r r' d d' w w' n n' k k' ps → n'' ≡ n'
-      → HaltsAhead limits c (style n') resync name r (length (bytes_of_parts ps)) (fold work_behind no_work ps) k' d' d'' w' w'' → Halts limits c style resync name r d d'' w w'' n n'' k
-  halts_with d'' w'' n'' ahead ps p counted halts = record {
-    ps = ps;
-    in_front = read_front (bytes_of_parts ps) ahead r r' p.is_read;
-    parts = p.parts;
-    out_between = d';
-    report_between = w';
-    kept_between = k';
-    is_written = p.is_written;
-    is_placed = p.is_placed;
-    is_repeated = p.is_repeated;
-    is_reported = p.is_reported;
-    is_counted = counted ∙ p.is_counted;
-    is_tabled = p.is_tabled;
-    halts = subst (λ (m : Counts). HaltsAhead limits c (style m) resync name r (length (bytes_of_parts ps)) (fold work_behind no_work ps) k' d' d'' w' w'') (sym counted) halts;
-  }
+  module _ {ahead : List ℕ} {ps : List Part} where
+    abbrev pub halts_with : (d'' w'' : Option (List ℕ)) (n'' : Counts) → Passed limits c style resync name ahead r r' d d' w w' n n' k k' ps → n'' ≡ n'
+        → HaltsAhead limits c (style n') resync name r (length (bytes_of_parts ps)) (fold work_behind no_work ps) k' d' d'' w' w'' → Halts limits c style resync name r d d'' w w'' n n'' k
+    halts_with d'' w'' n'' p counted halts = record {
+      ps = ps;
+      in_front = read_front (bytes_of_parts ps) ahead r r' p.is_read;
+      parts = p.parts;
+      out_between = d';
+      report_between = w';
+      kept_between = k';
+      is_written = p.is_written;
+      is_placed = p.is_placed;
+      is_repeated = p.is_repeated;
+      is_reported = p.is_reported;
+      is_counted = counted ∙ p.is_counted;
+      is_tabled = p.is_tabled;
+      halts = subst (λ (m : Counts). HaltsAhead limits c (style m) resync name r (length (bytes_of_parts ps)) (fold work_behind no_work ps) k' d' d'' w' w'') (sym counted) halts;
+    }
 
   -- nothing comes of it
-  abbrev pub halts_here : (ahead : List ℕ) (ps : List Part) → Passed limits c style resync name ahead r r' d d' w w' n n' k k' ps → Halts limits c style resync name r d d' w w' n n' k
-  halts_here ahead ps p = halts_with d' w' n' ahead ps p refl (inr (refl, inl refl))
+  module _ {ahead : List ℕ} {ps : List Part} where
+    abbrev pub halts_here : Passed limits c style resync name ahead r r' d d' w w' n n' k k' ps → Halts limits c style resync name r d d' w w' n n' k
+    halts_here p = halts_with d' w' n' p refl (inr (refl, inl refl))
 
   -- a front of the piece that is next, or nothing
-  abbrev pub halts_next : (d'' w'' : Option (List ℕ)) (n'' : Counts) (x : Window) (v : Work) → HasPassed limits c style resync name (ahead_of x) r r' d d' w w' n n' k k' x.offset v
-      → HaltsNext limits c (style n') resync name r' x v k' d' d'' w' w'' → n'' ≡ n' → Halts limits c style resync name r d d'' w w'' n n'' k
-  halts_next d'' w'' n'' x v h halts counted = halts_with d'' w'' n'' (ahead_of x) h.ps h.passed counted (ahead_next x v h halts)
+  module _ {v : Work} where
+    abbrev pub halts_next : (d'' w'' : Option (List ℕ)) (n'' : Counts) (x : Window) → HasPassed limits c style resync name (ahead_of x) r r' d d' w w' n n' k k' x.offset v
+        → HaltsNext limits c (style n') resync name r' x v k' d' d'' w' w'' → n'' ≡ n' → Halts limits c style resync name r d d'' w w'' n n'' k
+    halts_next d'' w'' n'' x h halts counted = halts_with d'' w'' n'' h.passed counted (ahead_next x v h halts)
 
   -- a front of the line of a gap
-  abbrev pub halts_gap : (r'' q w'' : Option (List ℕ)) (n'' : Counts) (x y z : Window) (v v' v'' : Work) (e : Ending)
-      → HasPassed limits c style resync name (ahead_of x) r r' d d' w w' n n' k k' x.offset v → TellsPart limits resync r' r'' x y v v' (next.End e) → resync ≡ true
-      → HaltsInGap limits (style n') name e r'' q y z v' v'' w' w'' → n'' ≡ n' → Halts limits c style resync name r d d' w w'' n n'' k
-  halts_gap r'' q w'' n'' x y z v v' v'' e h t asked halts counted = halts_with d' w'' n'' (ahead_of x) h.ps h.passed counted (ahead_gap x y z v v' v'' e h t asked halts)
+  module _ {r'' : Option (List ℕ)} {x y : Window} {v v' : Work} {e : Ending} where
+    abbrev pub halts_gap : (q w'' : Option (List ℕ)) (n'' : Counts) (z : Window) (v'' : Work)
+        → HasPassed limits c style resync name (ahead_of x) r r' d d' w w' n n' k k' x.offset v → TellsPart limits resync r' r'' x y v v' (next.End e) → resync ≡ true
+        → HaltsInGap limits (style n') name e r'' q y z v' v'' w' w'' → n'' ≡ n' → Halts limits c style resync name r d d' w w'' n n'' k
+    halts_gap q w'' n'' z v'' h t asked halts counted = halts_with d' w'' n'' h.passed counted (ahead_gap x y z v v' v'' e h t asked halts)
 
   -- a front of the line of what is left
-  abbrev pub halts_left : (r'' w'' : Option (List ℕ)) (n'' : Counts) (y : Window) (e : Ending) → PassesAll limits c style resync name r r' d d' w w' n n' k k' y (stop.Left e)
-      → HaltsLeaving limits (style n') name e r' r'' y w' w'' → n'' ≡ n' → Halts limits c style resync name r d d' w w'' n n'' k
-  halts_left r'' w'' n'' y e p halts counted = halts_with d' w'' n'' p.left p.ps p.passed counted (ahead_left y e p halts)
+  module _ {r'' : Option (List ℕ)} {y : Window} {e : Ending} where
+    abbrev pub halts_left : (w'' : Option (List ℕ)) (n'' : Counts) → PassesAll limits c style resync name r r' d d' w w' n n' k k' y (stop.Left e)
+        → HaltsLeaving limits (style n') name e r' r'' y w' w'' → n'' ≡ n' → Halts limits c style resync name r d d' w w'' n n'' k
+    halts_left w'' n'' p halts counted = halts_with d' w'' n'' p.passed counted (ahead_left y e p halts)

@@ -60,7 +60,7 @@ pub record IsAdvance (k here : ℕ) (old new : List (Option (List ℕ))) (line :
   pub front : (text : List ℕ) → HasLevelsFront k here new text → HasLevelsFront k here old (line ++ text)
 
 -- the same within those that wait
-module _ (k here : ℕ) (old new : List (Option (List ℕ))) (line : List ℕ) (step : IsAdvance k here old new line) where
+module _ {k here : ℕ} {old new : List (Option (List ℕ))} {line : List ℕ} (step : IsAdvance k here old new line) where
   whole_outward : (n depth : ℕ) (ws : List (Option (List ℕ))) (text : List ℕ) → n ≡ length ws + k → here ≡ depth + length ws → ListsLevels n depth (ws ++ new) text
       → ListsLevels n depth (ws ++ old) (line ++ text)
   whole_outward n depth [] text e at h =
@@ -135,9 +135,9 @@ module _ {n depth : ℕ} {d : List ℕ} {a b : Option (List ℕ)} where
       → here ≡ depth + length ws → IsAdvance k here old new line → IsListing n depth d (ws ++ old) a b → Appends b c line → IsListing n depth d (ws ++ new) a c
   listing_goes {k} {here} {old} {new} {line} ws c e at step is put = record {
     written = is.written ++ line;
-    whole = λ text h. subst (Lists n depth d) (sym (append_assoc is.written line text)) (is.whole (line ++ text) (whole_outward k here old new line step n depth ws text e at h));
+    whole = λ text h. subst (Lists n depth d) (sym (append_assoc is.written line text)) (is.whole (line ++ text) (whole_outward step n depth ws text e at h));
     front = λ text h. subst (HasLinesFront n depth d) (sym (append_assoc is.written line text))
-        (is.front (line ++ text) (front_outward k here old new line step n depth ws text e at h));
+        (is.front (line ++ text) (front_outward step n depth ws text e at h));
     put = Appends-trans a b c is.written line is.put put;
   }
 
@@ -196,9 +196,9 @@ module _ (m here : ℕ) (E : Type 0) (Goes : List ℕ → List Frame → E → T
       (frames : List Frame) × (end : E) × (elements last : List ℕ) × Goes s frames end × ListsFrames (Lists m (here + 1)) here frames elements × Ends end last
       × (text ≡ elements ++ last)
 
-  lines_more : (s r : List ℕ) (f : Frame) (lines text : List ℕ) → ((fs : List Frame) (end : E) → Goes r fs end → Goes s (f ∷ fs) end)
-      → ListsFrame (Lists m (here + 1)) here f lines → HasLines r text → HasLines s (lines ++ text)
-  lines_more s r f lines text goes one (frames, end, elements, last, are, listed, ends, whole) = (
+  lines_more : (s r : List ℕ) (f : Frame) (lines text : List ℕ)
+      → ((fs : List Frame) (end : E) → Goes r fs end → Goes s (f ∷ fs) end) × ListsFrame (Lists m (here + 1)) here f lines → HasLines r text → HasLines s (lines ++ text)
+  lines_more s r f lines text (goes, one) (frames, end, elements, last, are, listed, ends, whole) = (
     f ∷ frames,
     end,
     lines ++ elements,
@@ -213,13 +213,13 @@ left_more : (m here : ℕ) (left new : Option (List ℕ)) (e : RawElement) (line
     → ListsFrame (Lists m (here + 1)) here (frame_of e) lines → ListsLeft m here new text → ListsLeft m here left (lines ++ text)
 left_more m here None new e lines text (none, gone) one h = absurd (cc)
 left_more m here (Some s) new e lines text (r, at, is) one h =
-    lines_more m here End IsWalk (ListsEnd here) s r (frame_of e) lines text (λ fs end walk. (r, at, walk)) one (subst (λ (x : Option (List ℕ)). ListsLeft m here x text) is h)
+    lines_more m here End IsWalk (ListsEnd here) s r (frame_of e) lines text ((λ fs end walk. (r, at, walk)), one) (subst (λ (x : Option (List ℕ)). ListsLeft m here x text) is h)
 
 front_more : (m here : ℕ) (left new : Option (List ℕ)) (e : RawElement) (lines text : List ℕ) → StepsFront left (Some (Ok e)) new
     → ListsFrame (Lists m (here + 1)) here (frame_of e) lines → HasLeftFront m here new text → HasLeftFront m here left (lines ++ text)
 front_more m here None new e lines text (none, gone) one h = absurd (cc)
 front_more m here (Some s) new e lines text (r, at, is) one h =
-    lines_more m here (List ℕ) LeadsTo (HasNextFront (HasLinesFront m (here + 1)) here) s r (frame_of e) lines text (λ fs left leads. (r, at, leads)) one
+    lines_more m here (List ℕ) LeadsTo (HasNextFront (HasLinesFront m (here + 1)) here) s r (frame_of e) lines text ((λ fs left leads. (r, at, leads)), one)
     (subst (λ (x : Option (List ℕ)). HasLeftFront m here x text) is h)
 
 -- a front of the lines of the element
@@ -411,7 +411,7 @@ module _ {d : List ℕ} {ws : List (Option (List ℕ))} {l a b : Option (List �
   pub part_before : IsPart b
   part_before = part_of (1 + length ws) [] b refl (front_nothing (499 - length ws) (1 + length ws) l) (Appends-nil b)
 
-  module _ (here : ℕ) (at : here ≡ 1 + length ws) (new : Option (List ℕ)) (line : List ℕ) where
+  module _ {here : ℕ} (at : here ≡ 1 + length ws) (new : Option (List ℕ)) (line : List ℕ) where
     pub part_line : (c : Option (List ℕ)) → ListsNext here l new line next.Line → AppendsFront b c line → IsPart c
     part_line c tells front = part_of here front.front c at (line_front here l new line (499 - length ws) front.front tells (front.behind, front.whole)) front.put
 

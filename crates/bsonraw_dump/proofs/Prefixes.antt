@@ -91,9 +91,9 @@ innermost_left path levels few level n left is =
     ∙ ap (level_of path) (sym is)
 
 -- levels are left, and the last step of a path is put behind the prefix of the innermost that is left
-pub gone_on : (path path' cut step : List ℕ) (levels few : List Level) (level : Level) (n : ℕ) → AreLevels path levels → few ≡ take n levels → level ≡ last_of few
+pub gone_on : (path path' cut step : List ℕ) (levels few : List Level) {level : Level} (n : ℕ) → AreLevels path levels → few ≡ take n levels → level ≡ last_of few
     → cut ≡ take level.prefix path → path' ≡ cut ++ step → (levels_of path' few ≡ take n (levels_of path levels)) × AreLevels path' few
-gone_on path path' cut step levels few level n (ascending, within) left last front is =
+gone_on path path' cut step levels few {level = level} n (ascending, within) left last front is =
     let m = level.prefix in
     let outer : Level = record { prefix = 0; in_array = false } in
     let those : AreWithin (length path) few = subst (AreWithin (length path)) (sym left) (all_take (λ (l : Level). l.prefix ≤ length path) n levels within) in

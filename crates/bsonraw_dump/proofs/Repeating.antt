@@ -1,14 +1,13 @@
 -- How the places of documents grow by one more, and the repeats among them.
-use Rattle.std.proofs.Common.{◌≡◌, ℕ, List, [], ◌∷◌, ◌++◌, Bool, Option, None, Some, ap, append_assoc, fold, inr, is_some, refl, sym, ◌∙◌}
+use Rattle.std.proofs.Common.{◌≡◌, ℕ, List, [], ◌∷◌, ◌++◌, Option, None, Some, ap, append_assoc, fold, inr, is_some, refl, sym, ◌∙◌}
 use Rattle.std.proofs.KnownBytes.{Appends-trans}
 use Rattle.std.proofs.lemmas.Grind.{fold-append}
 use Rattle.std.specs.Io.KnownBytes.{Appends}
 use Rattle.std.specs.Option.{option_map}
 use Rattle.bson_json.specs.Written.{AppendsFront}
-use Rattle.raw_tree.specs.declared.reader.limits.Limits.{Limits}
-use Rattle.bsonraw_dump.specs.Find.{Account, FindsFor}
+use Rattle.bsonraw_dump.specs.Find.{Account}
 use Rattle.bsonraw_dump.specs.Halting.{HaltsInside}
-use Rattle.bsonraw_dump.specs.Run.{Emits, WritesOne, Reports, lines_of_repeats}
+use Rattle.bsonraw_dump.specs.Run.{Emits, Reports, lines_of_repeats}
 use Rattle.bsonraw_dump.specs.Unique.{Firsts, Placed, first_at, firsts_behind, origin_of, repeat_at, repeats, repeats_of, with_first}
 use Rattle.bsonraw_dump.specs.declared.command.Command.{Command}
 use Rattle.bsonraw_dump.specs.declared.command.Command.TheVariants as command
@@ -68,26 +67,25 @@ repeats_more (command.Unique spelling) f xs ys = repeats-append f xs ys
 repeats_more (command.Json style) f xs ys = refl
 repeats_more (command.Pick picking) f xs ys = refl
 
-some_mapped : (first : Option Origin) → is_some first ≡ is_some (option_map origin_of first)
+pub some_mapped : (first : Option Origin) → is_some first ≡ is_some (option_map origin_of first)
 some_mapped None = refl
 some_mapped (Some first) = refl
 
-module _ (c : Command) (style : Style) (at : Origin) (b : List ℕ) (f : Finding) (told : Option Account) (d d' w w' w'' : Option (List ℕ)) (k k' : Kept) (first : Option Origin) where
-  -- the line of a repeat, if the document at this place is one
-  abbrev pub line_of_repeat : List ℕ
-  line_of_repeat = lines_of_repeats style (repeat_at (origin_of at) (option_map origin_of first))
+-- what a command writes of a document, and where its form was kept first
+pub record Emitted (c : Command) (at : Origin) (b : List ℕ) (f : Finding) : Type 0 where
+  pub out_old : Option (List ℕ)
+  pub out_new : Option (List ℕ)
+  pub kept_old : Kept
+  pub kept_new : Kept
+  pub first : Option Origin
+  pub emits : Emits c at b f out_old out_new kept_old kept_new first
 
-  abbrev pub IsReported : Type 0
-  IsReported = (lines : List ℕ) × Reports c style at.name.now at.offset b f told lines × Appends w w' lines
-
-  -- what is found is reported, then a document is written, then its line
-  pub passes_one : (limits : Limits) (repeats : Bool) → repeats ≡ is_some first → FindsFor limits c b f told → IsReported → Emits c at b f d d' k k' first → Appends w' w'' line_of_repeat
-      → WritesOne limits c style at.name.now at.offset b d d' w w'' k k' (record { finding = f; repeats = repeats })
-  passes_one limits repeats same judged (lines, reports, put) (made, makes, (writes, places)) repeated =
-      (told, judged, (made, makes, writes, (option_map origin_of first, places, same ∙ some_mapped first, (lines, reports, Appends-trans w w' w'' lines line_of_repeat put repeated))))
-
-  -- or a front of that
-  pub halts_repeat : IsReported → Emits c at b f d d' k k' first → AppendsFront w' w'' line_of_repeat → HaltsInside c style at.name.now at.offset b f told k d d' w w''
-  halts_repeat (lines, reports, put) (made, makes, (writes, places)) front =
+-- what is found is reported, then a document is written, then a front of the line of its repeat
+module _ {w' w'' : Option (List ℕ)} where
+  pub halts_repeat : (c : Command) (style : Style) (at : Origin) (b : List ℕ) (f : Finding) (told : Option Account) (e : Emitted c at b f) (w : Option (List ℕ))
+      → (lines : List ℕ) × Reports c style at.name.now at.offset b f told lines × Appends w w' lines
+      → AppendsFront w' w'' (lines_of_repeats style (repeat_at (origin_of at) (option_map origin_of e.first))) → HaltsInside c style at.name.now at.offset b f told e.kept_old e.out_old e.out_new w w''
+  halts_repeat c style at b f told e w (lines, reports, put) front =
+      let (made, makes, (writes, places)) = e.emits in
       let whole = sym (ap (lines_of_repeats style) places.repeats) ∙ front.whole in
       inr (inr (made, makes, writes.is_written, (lines, front.front, reports, (front.behind, whole), Appends-trans w w' w'' lines front.front put front.put)))

@@ -111,9 +111,9 @@ nothing_from : (j : ℕ) → 0 - j ≡ 0
 nothing_from j = omega arith
 
 -- bytes are passed over up to here
-next_place : {limits : Limits} (s : List ℕ) (at : ℕ) (old new : Work) (n place : ℕ) (all : Bool) (skip : Skip) → 1 ≤ n + place → n + place ≤ length s
+next_place : {limits : Limits} (s : List ℕ) {at : ℕ} {old new : Work} (n place : ℕ) {all : Bool} (skip : Skip) → 1 ≤ n + place → n + place ≤ length s
     → GoesOnWith limits (0 - place) (drop place (drop n s)) → IsCovered limits s at old new (n + place) all → skip.count ≡ n + place → skip.all ≡ all → IsNextPlace limits s at old new skip
-next_place {limits} s at old new n place all skip some within goes done count both =
+next_place {limits} s n place {all = all} skip some within goes done count both =
     let none : 0 - place ≡ 0 = omega arith in
     let here = subst (λ m. GoesOn limits (drop m s)) (sym count) (subst (GoesOn limits) (drop-drop place n s) (subst (λ m. GoesOnWith limits m (drop place (drop n s))) none goes)) in
     let over = done.over in
@@ -131,7 +131,7 @@ next_place {limits} s at old new n place all skip some within goes done count bo
     }
 
 -- a search in the bytes ahead
-module _ {limits : Limits} (r r' : Option (List ℕ)) (x y : Window) (old mid new : Work) (from : ℕ) (last all : Bool) (is : IsSearched limits r r' x y old mid from last all) (q : Places)
+module _ {limits : Limits} {r r' : Option (List ℕ)} {x y : Window} {old mid : Work} {from : ℕ} {last all : Bool} (is : IsSearched limits r r' x y old mid from last all) (q : Places)
     (begin : q.from ≡ from) (end : q.end ≡ 0) where
   -- all that is left, as its front that was passed, the bytes ahead, and what follows them
   whole : (s : List ℕ) → Consumes (Some s) r (ahead_of x) → (rest : List ℕ) × (drop is.n s ≡ ahead_of y ++ rest) × MayFollow last rest × (y.offset + length (drop is.n s) ≡ x.offset + length s)
@@ -141,7 +141,7 @@ module _ {limits : Limits} (r r' : Option (List ℕ)) (x y : Window) (old mid ne
       let size : length (drop is.n s) ≡ length s - is.n = length-drop is.n s in
       (rest, split, may, omega (arith, size, within, is.offset))
 
-  module _ (told : Sought) (seeks : Seeks limits (ahead_of y) last y.offset q mid new told) where
+  module _ {new : Work} {told : Sought} (seeks : Seeks limits (ahead_of y) last y.offset q mid new told) where
     -- what it tells of all that is left
     tells : (s : List ℕ) → Consumes (Some s) r (ahead_of x) → TellsSought limits (ahead_of y) last (x.offset + length s) (drop is.n s) q new told
     tells s read =
@@ -179,56 +179,59 @@ module _ {limits : Limits} (r r' : Option (List ℕ)) (x y : Window) (old mid ne
         }
 
   -- it wants more, and more is read
-  pub searched_on : (r'' : Option (List ℕ)) (z w : Window) (place n want : ℕ) (more there : Bool) → Seeks limits (ahead_of y) last y.offset q mid new (sought.Wants place n more) → IsWork new
-      → ahead_of z ≡ drop place (ahead_of y) → z.offset ≡ y.offset + place → SeesAhead r' r'' z w want there → (last' : Bool) → (last' ≡ true → there ≡ false)
-      → IsSearched limits r r'' x w old new 0 last' (all && more)
-  searched_on r'' z w place n want more there seeks work passed at sees last' ends =
-      let told = seeks.tells [] (λ yes. refl) in
-      let low : from ≤ place = subst (λ m. m ≤ place) begin told.0 in
-      record {
-        n = is.n + place;
-        window = sees.window;
-        work = work;
-        offset = sees.offset ∙ at ∙ ap (λ m. m + place) is.offset ∙ add_assoc x.offset is.n place;
-        start = omega (arith, is.start, low);
-        within = omega arith;
-        ends = λ yes. (sees.ends (ends yes)).1;
-        passes = passes_ahead r r' r'' (ahead_of x) (ahead_of z) (ahead_of w) (is.n + place)
-            (passes_more r r' (ahead_of x) (ahead_of y) (ahead_of z) is.n place is.passes told.2 passed) sees.looks;
-        searches = λ s read.
-            let here = tells (sought.Wants place n more) seeks s read in
-            subst (λ m. IsCovered limits s x.offset old new m (all && more)) (sym (add-zero (is.n + place)))
-            (searched (sought.Wants place n more) seeks place more s read low here.4);
-      }
+  module _ {r'' : Option (List ℕ)} {z w : Window} {new : Work} {place n want : ℕ} {more there : Bool} where
+    pub searched_on : Seeks limits (ahead_of y) last y.offset q mid new (sought.Wants place n more) → IsWork new
+        → ahead_of z ≡ drop place (ahead_of y) → z.offset ≡ y.offset + place → SeesAhead r' r'' z w want there → (last' : Bool) → (last' ≡ true → there ≡ false)
+        → IsSearched limits r r'' x w old new 0 last' (all && more)
+    searched_on seeks work passed at sees last' ends =
+        let told = seeks.tells [] (λ yes. refl) in
+        let low : from ≤ place = subst (λ m. m ≤ place) begin told.0 in
+        record {
+          n = is.n + place;
+          window = sees.window;
+          work = work;
+          offset = sees.offset ∙ at ∙ ap (λ m. m + place) is.offset ∙ add_assoc x.offset is.n place;
+          start = omega (arith, is.start, low);
+          within = omega arith;
+          ends = λ yes. (sees.ends (ends yes)).1;
+          passes = passes_ahead r r' r'' (ahead_of x) (ahead_of z) (ahead_of w) (is.n + place)
+              (passes_more r r' (ahead_of x) (ahead_of y) (ahead_of z) is.n place is.passes told.2 passed) sees.looks;
+          searches = λ s read.
+              let here = tells seeks s read in
+              subst (λ m. IsCovered limits s x.offset old new m (all && more)) (sym (add-zero (is.n + place)))
+              (searched seeks place more s read low here.4);
+        }
 
   -- documents go on there
-  pub searched_to : (z : Window) (place : ℕ) (more : Bool) (skip : Skip) → Seeks limits (ahead_of y) last y.offset q mid new (sought.Found place more) → IsWork new
-      → IsWindow z → ahead_of z ≡ drop place (ahead_of y) → z.offset ≡ y.offset + place → skip.count ≡ is.n + place → skip.all ≡ (all && more) → SkipsTo limits r r' x z old new skip
-  searched_to z place more skip seeks work window passed at count both =
-      let told = seeks.tells [] (λ yes. refl) in
-      let low : from ≤ place = subst (λ m. m ≤ place) begin told.0 in
-      let over = passes_more r r' (ahead_of x) (ahead_of y) (ahead_of z) is.n place is.passes told.2 passed in
-      record {
-        window = window;
-        offset = at ∙ ap (λ m. m + place) is.offset ∙ add_assoc x.offset is.n place ∙ ap (λ m. x.offset + m) (sym count);
-        work = work;
-        passes = subst (Consumed r r' (ahead_of x) (ahead_of z)) (sym count) over;
-        is = λ s read.
-            let here = tells (sought.Found place more) seeks s read in
-            let done = searched (sought.Found place more) seeks place more s read low here.4 in
-            let goes = subst (λ m. GoesOnWith limits m (drop place (drop is.n s))) (ap (λ e. e - place) end) here.3 in
-            let within = (left_behind r r' (ahead_of x) (ahead_of z) s (is.n + place) over read).1 in
-            next_place s x.offset old new is.n place (all && more) skip (omega (arith, is.start, low)) within goes done count both;
-      }
+  module _ {z : Window} {new : Work} {place : ℕ} {more : Bool} {skip : Skip} where
+    pub searched_to : Seeks limits (ahead_of y) last y.offset q mid new (sought.Found place more) → IsWork new
+        → IsWindow z → ahead_of z ≡ drop place (ahead_of y) → z.offset ≡ y.offset + place → skip.count ≡ is.n + place → skip.all ≡ (all && more) → SkipsTo limits r r' x z old new skip
+    searched_to seeks work window passed at count both =
+        let told = seeks.tells [] (λ yes. refl) in
+        let low : from ≤ place = subst (λ m. m ≤ place) begin told.0 in
+        let over = passes_more r r' (ahead_of x) (ahead_of y) (ahead_of z) is.n place is.passes told.2 passed in
+        record {
+          window = window;
+          offset = at ∙ ap (λ m. m + place) is.offset ∙ add_assoc x.offset is.n place ∙ ap (λ m. x.offset + m) (sym count);
+          work = work;
+          passes = subst (Consumed r r' (ahead_of x) (ahead_of z)) (sym count) over;
+          is = λ s read.
+              let here = tells seeks s read in
+              let done = searched seeks place more s read low here.4 in
+              let goes = subst (λ m. GoesOnWith limits m (drop place (drop is.n s))) (ap (λ e. e - place) end) here.3 in
+              let within = (left_behind r r' (ahead_of x) (ahead_of z) s (is.n + place) over read).1 in
+              next_place s is.n place skip (omega (arith, is.start, low)) within goes done count both;
+        }
 
 -- a search in these bytes is one in those ahead
-pub seeks_ahead : {limits : Limits} (m : Limits) (b : List ℕ) (l : Bool) (a : ℕ) (y : Window) (last : Bool) (q : Places) (v w : Work) (told found : Sought)
-    → m ≡ limits → b ≡ ahead_of y → l ≡ last → a ≡ y.offset → told ≡ found → Seeks m b l a q v w told → Seeks limits (ahead_of y) last y.offset q v w found
-seeks_ahead {limits} m b l a y last q v w told found most bytes is at same seeks =
-    subst (λ t. Seeks limits (ahead_of y) last y.offset q v w t) same
-    (subst (λ n. Seeks limits (ahead_of y) last n q v w told) at
-    (subst (λ i. Seeks limits (ahead_of y) i a q v w told) is
-    (subst (λ t. Seeks limits t l a q v w told) bytes (subst (λ n. Seeks n b l a q v w told) most seeks))))
+module _ {limits m : Limits} {b : List ℕ} {l last : Bool} {a : ℕ} {q : Places} {v w : Work} {told found : Sought} where
+  pub seeks_ahead : (y : Window)
+      → m ≡ limits → b ≡ ahead_of y → l ≡ last → a ≡ y.offset → told ≡ found → Seeks m b l a q v w told → Seeks limits (ahead_of y) last y.offset q v w found
+  seeks_ahead y most bytes is at same seeks =
+      subst (λ t. Seeks limits (ahead_of y) last y.offset q v w t) same
+      (subst (λ n. Seeks limits (ahead_of y) last n q v w told) at
+      (subst (λ i. Seeks limits (ahead_of y) i a q v w told) is
+      (subst (λ t. Seeks limits t l a q v w told) bytes (subst (λ n. Seeks n b l a q v w told) most seeks))))
 
 pub not_true : (b : Bool) → not b ≡ true → b ≡ false
 not_true true is = let impossible : ⊥ = cc in absurd impossible

@@ -64,94 +64,96 @@ fails_here limits resync r y left from start stop.Enough fails at end = absurd f
 fails_here limits resync r y left from start (stop.Left e) fails at end = absurd fails
 fails_here limits resync r y left from start (stop.Failed there error) fails at end = (fails ∙ at, end)
 
-module _ {limits : Limits} (c : Command) (style : Counts → Style) (resync : Bool) (name : List ℕ) (r r' r'' d d' w w' w'' : Option (List ℕ)) (n n' n'' : Counts) (k k' : Kept) where
+module _ {limits : Limits} {c : Command} {style : Counts → Style} {resync : Bool} {name : List ℕ} {r r' r'' d d' w w' : Option (List ℕ)} {n n' : Counts} {k k' : Kept} where
   -- the input is at its end
-  abbrev pub stops_end : (x y : Window) (v v' : Work) → HasPassed limits c style resync name (ahead_of x) r r' d d' w w' n n' k k' x.offset v → TellsPart limits resync r' r'' x y v v' next.Nothing
+  abbrev pub stops_end : {x y : Window} {v v' : Work} → HasPassed limits c style resync name (ahead_of x) r r' d d' w w' n n' k k' x.offset v → TellsPart limits resync r' r'' x y v v' next.Nothing
       → PassesAll limits c style resync name r r'' d d' w w' n n' k k' y stop.End
-  stops_end x y v v' h t = record {
+  stops_end {y = y} h t = record {
     window = t.searches.stays.window;
     ps = h.ps;
     left = ahead_of y;
-    passed = passed_ahead c style resync name (ahead_of x) (ahead_of y) r r' r'' d d' w w' n n' k k' h.ps h.passed t.searches.stays.looks;
+    passed = passed_ahead h.passed t.searches.stays.looks;
     stops = t.ahead;
   }
 
   -- no document is in front, and nothing is passed over
-  abbrev pub stops_left : (x y : Window) (v v' : Work) (e : Ending) → HasPassed limits c style resync name (ahead_of x) r r' d d' w w' n n' k k' x.offset v
+  abbrev pub stops_left : {x y : Window} {v v' : Work} {e : Ending} → HasPassed limits c style resync name (ahead_of x) r r' d d' w w' n n' k k' x.offset v
       → TellsPart limits resync r' r'' x y v v' (next.End e) → resync ≡ false → PassesAll limits c style resync name r r'' d d' w w' n n' k k' y (stop.Left e)
-  stops_left x y v v' e h t unasked =
+  stops_left {y = y} h t unasked =
       let (ends, behind) = t.ahead.1 unasked in
       record {
         window = t.searches.stays.window;
         ps = h.ps;
         left = ahead_of y;
-        passed = passed_ahead c style resync name (ahead_of x) (ahead_of y) r r' r'' d d' w w' n n' k k' h.ps h.passed t.searches.stays.looks;
+        passed = passed_ahead h.passed t.searches.stays.looks;
         stops = (refl, t.searches.stays.offset ∙ h.at, ends, behind, unasked);
       }
 
   -- reading fails
-  abbrev pub stops_failed : (x y : Window) (v : Work) (from : ℕ) (s : Stop) → FailsAt from s → HasPassed limits c style resync name (ahead_of x) r r' d d' w w' n n' k k' x.offset v → from ≡ x.offset
-      → GoesAhead r' r'' x y → Keeps w' w'' → n'' ≡ n' → PassesAll limits c style resync name r r'' d d' w w'' n n'' k k' y s
-  stops_failed x y v from s fails h at goes kept same =
-      let p = goes.passes in
-      let bytes = bytes_of_parts h.ps in
-      let left = p.bytes ++ ahead_of y in
-      let start : x.offset ≡ length bytes = h.at in
-      let count : length p.bytes ≡ goes.count = p.len in
-      let size : length left ≡ length p.bytes + length (ahead_of y) = length-append p.bytes (ahead_of y) in
-      let end : y.offset ≡ x.offset + goes.count = goes.offset in
-      record {
-        window = goes.window;
-        ps = h.ps;
-        left = left;
-        passed = record {
-          parts = h.passed.parts;
-          is_read = read_behind bytes (ahead_of x) left r r' r'' h.passed.is_read p.is_read;
-          is_written = h.passed.is_written;
-          is_placed = h.passed.is_placed;
-          is_repeated = h.passed.is_repeated;
-          is_reported = Appends-kept w w' w'' (lines_of_parts h.ps) h.passed.is_reported kept;
-          is_counted = same ∙ h.passed.is_counted;
-          is_tabled = h.passed.is_tabled;
-        };
-        stops = fails_here limits resync r'' y left from (length bytes) s fails (at ∙ start) (omega arith);
-      }
+  module _ {x y : Window} {v : Work} {w'' : Option (List ℕ)} {n'' : Counts} where
+    abbrev pub stops_failed : (from : ℕ) (s : Stop) → FailsAt from s → HasPassed limits c style resync name (ahead_of x) r r' d d' w w' n n' k k' x.offset v → from ≡ x.offset
+        → GoesAhead r' r'' x y → Keeps w' w'' → n'' ≡ n' → PassesAll limits c style resync name r r'' d d' w w'' n n'' k k' y s
+    stops_failed from s fails h at goes kept same =
+        let p = goes.passes in
+        let bytes = bytes_of_parts h.ps in
+        let left = p.bytes ++ ahead_of y in
+        let start : x.offset ≡ length bytes = h.at in
+        let count : length p.bytes ≡ goes.count = p.len in
+        let size : length left ≡ length p.bytes + length (ahead_of y) = length-append p.bytes (ahead_of y) in
+        let end : y.offset ≡ x.offset + goes.count = goes.offset in
+        record {
+          window = goes.window;
+          ps = h.ps;
+          left = left;
+          passed = record {
+            parts = h.passed.parts;
+            is_read = read_behind bytes (ahead_of x) left r r' r'' h.passed.is_read p.is_read;
+            is_written = h.passed.is_written;
+            is_placed = h.passed.is_placed;
+            is_repeated = h.passed.is_repeated;
+            is_reported = Appends-kept w w' w'' (lines_of_parts h.ps) h.passed.is_reported kept;
+            is_counted = same ∙ h.passed.is_counted;
+            is_tabled = h.passed.is_tabled;
+          };
+          stops = fails_here limits resync r'' y left from (length bytes) s fails (at ∙ start) (omega arith);
+        }
 
   -- with what no document begins with
-  abbrev pub ends_left : (y : Window) (e : Ending) (failed : Option ReadFailure) → PassesAll limits c style resync name r r' d d' w w' n n' k k' y (stop.Left e)
-      → Leaves limits (style n') name e y r' r'' w' w'' n' n'' failed → EndsRun limits c style resync name r r'' d d' w w'' n n'' k k' failed
-  ends_left y e failed p l =
-      let (ahead, at, ends, behind, unasked) = p.stops in
-      let bytes = bytes_of_parts p.ps in
-      let left = ahead_of y ++ l.more in
-      let is : EndsAs limits resync false (Some e) failed left r'' = elim failed as (λ f. (IsNone f → IsAtEnd r'') → EndsAs limits resync false (Some e) f left r'') [
-        | None ↦ λ to_end. (l.ends, unasked, to_end refl)
-        | Some f ↦ λ to_end. (l.ends, unasked)
-      ] l.to_end in
-      let counted : count_end (Some e) failed n' (length left) ≡ count_rest n' (length left) = elim failed as (λ f. count_end (Some e) f n' (length left) ≡ count_rest n' (length left)) [
-        | None ↦ refl
-        | Some f ↦ refl
-      ] in
-      let here : y.offset + length left ≡ length bytes + length left = ap (λ m. m + length left) at in
-      record {
-        ps = p.ps;
-        report_between = w';
-        counts_between = n';
-        left = left;
-        passed = record {
-          parts = p.passed.parts;
-          is_read = read_behind bytes p.left left r r' r'' p.passed.is_read (λ before read. l.is_read before (subst (Consumes before r') ahead read));
-          is_written = p.passed.is_written;
-          is_placed = p.passed.is_placed;
-          is_repeated = p.passed.is_repeated;
-          is_reported = p.passed.is_reported;
-          is_counted = p.passed.is_counted;
-          is_tabled = p.passed.is_tabled;
-        };
-        early = false;
-        end = Some e;
-        ends = is;
-        fails = subst (λ m. IfSome failed (λ (f : ReadFailure). f.at ≡ m)) here l.fails;
-        told = subst (λ m. Appends w' w'' (ending_line (style n') name m e (rest.NotRead (length left)))) at l.told;
-        is_counted = l.is_counted ∙ sym counted;
-      }
+  module _ {y : Window} {e : Ending} {failed : Option ReadFailure} {w'' : Option (List ℕ)} {n'' : Counts} where
+    abbrev pub ends_left : PassesAll limits c style resync name r r' d d' w w' n n' k k' y (stop.Left e)
+        → Leaves limits (style n') name e y r' r'' w' w'' n' n'' failed → EndsRun limits c style resync name r r'' d d' w w'' n n'' k k' failed
+    ends_left p l =
+        let (ahead, at, ends, behind, unasked) = p.stops in
+        let bytes = bytes_of_parts p.ps in
+        let left = ahead_of y ++ l.more in
+        let is : EndsAs limits resync false (Some e) failed left r'' = elim failed as (λ f. (IsNone f → IsAtEnd r'') → EndsAs limits resync false (Some e) f left r'') [
+          | None ↦ λ to_end. (l.ends, unasked, to_end refl)
+          | Some f ↦ λ to_end. (l.ends, unasked)
+        ] l.to_end in
+        let counted : count_end (Some e) failed n' (length left) ≡ count_rest n' (length left) = elim failed as (λ f. count_end (Some e) f n' (length left) ≡ count_rest n' (length left)) [
+          | None ↦ refl
+          | Some f ↦ refl
+        ] in
+        let here : y.offset + length left ≡ length bytes + length left = ap (λ m. m + length left) at in
+        record {
+          ps = p.ps;
+          report_between = w';
+          counts_between = n';
+          left = left;
+          passed = record {
+            parts = p.passed.parts;
+            is_read = read_behind bytes p.left left r r' r'' p.passed.is_read (λ before read. l.is_read before (subst (Consumes before r') ahead read));
+            is_written = p.passed.is_written;
+            is_placed = p.passed.is_placed;
+            is_repeated = p.passed.is_repeated;
+            is_reported = p.passed.is_reported;
+            is_counted = p.passed.is_counted;
+            is_tabled = p.passed.is_tabled;
+          };
+          early = false;
+          end = Some e;
+          ends = is;
+          fails = subst (λ m. IfSome failed (λ (f : ReadFailure). f.at ≡ m)) here l.fails;
+          told = subst (λ m. Appends w' w'' (ending_line (style n') name m e (rest.NotRead (length left)))) at l.told;
+          is_counted = l.is_counted ∙ sym counted;
+        }

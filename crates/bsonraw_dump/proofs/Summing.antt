@@ -1,9 +1,9 @@
 -- How what came of inputs grows by one more.
 use Rattle.std.proofs.Common.{◌≡◌, ◌+◌, ◌<◌, ◌≤◌, ℕ, List, [], ◌∷◌, ◌++◌, IsSomeAnd, MatchOption, None, Option, Some, option_map, Result, Ok, Err, IfOk, OnErr, add-zero, drop, get_or, inl, inr, is_none, length, map, refl, sym, subst, ap, ◌∙◌, take}
 use Rattle.std.proofs.lemmas.List.{drop_all, drop_more, map-append, map_more, take-append-drop, take_all}
-use Rattle.std.specs.Io.KnownBytes.{Appends, Keeps}
+use Rattle.std.specs.Io.KnownBytes.{Keeps}
 use Rattle.bson_json.specs.Written.{AppendsFront}
-use Rattle.bsonraw_dump.specs.Batch.{CountsAnother, CountsInput, CountsMore, CountsRun, EndsAll, IsRun, RunsAll, RunsFront, RunsOver, State, HaltsBefore, HaltsWithin, all_line, cut_of, input_line, start_of, state_of, style_behind}
+use Rattle.bsonraw_dump.specs.Batch.{CountsAnother, CountsMore, EndsAll, RunsAll, RunsFront, RunsOver, State, HaltsBefore, HaltsWithin, all_line, cut_of, start_of, state_of, style_behind}
 use Rattle.bsonraw_dump.specs.Portion.{EndsPortion, HaltsPortion}
 use Rattle.bsonraw_dump.specs.Run.{no_counts, plus}
 use Rattle.bsonraw_dump.specs.Status.{IsFailureStatus, IsStatus}
@@ -77,21 +77,6 @@ plus_none n = λ i. record {
   findings = add-zero n.findings i;
 }
 
-module _ (job : Job) (name : List ℕ) (input : Option (List ℕ)) (d d' w w' w'' : Option (List ℕ)) (t t' : Totals) (n : Counts) where
-  -- the input was open
-  pub counts_open : (r : Option (List ℕ)) → r ≡ input → CountsRun job name r d d' w w' t t' n → CountsInput job name input d d' w w' t t' n
-  counts_open r same (goes_on, ran, counted, cut) =
-      (goes_on, inl (subst (λ (x : Option (List ℕ)). IsRun job t.counts name x d d' w w' t.kept t'.kept n goes_on) same ran), counted, cut)
-
-  -- its line is written
-  pub comes_whole : CountsInput job name input d d' w w' t t' n → Appends w' w'' (input_line job job.command name n) → CountsAnother job input name (state_of d w t) (state_of d' w'' t')
-  comes_whole (goes_on, is, counted, cut) told =
-      record { counts = n; goes_on = goes_on; report_between = w'; is = is; told = told; is_counted = counted; cut = cut }
-
-  -- a front of its line is written
-  pub halts_line : CountsInput job name input d d' w w' t t' n → AppendsFront w' w'' (input_line job job.command name n) → HaltsWithin job name input d d' w w'' t.kept t.counts t'.counts
-  halts_line (goes_on, is, counted, cut) front = inr (w', t'.kept, n, goes_on, is, front, inl counted)
-
 -- nothing comes of an input
 pub halts_unread : (job : Job) (name : List ℕ) (input d w : Option (List ℕ)) (k : Kept) (m m' : Counts) → m' ≡ m → HaltsWithin job name input d d w w k m m'
 halts_unread job name input d w k m m' same =
@@ -101,13 +86,28 @@ halts_unread job name input d w k m m' same =
       inl (same ∙ sym (plus_none m)),
     )
 
--- A run over an input was whole, or failed, and its line isn't written. So much more is counted.
-pub halts_run : (job : Job) (name : List ℕ) (input left d d' w w' : Option (List ℕ)) (n : Counts) (k k' : Kept) (m m' : Counts) (r : Result (Option ReadFailure) Failure)
-    → IfOk r (EndsPortion job.portion job.limits job.command (style_behind job m) job.resync name input left d d' w w' no_counts n k k')
-    → OnErr r (HaltsPortion job.portion job.limits job.command (style_behind job m) job.resync name input d d' w w' no_counts n k) → CountsMore m n m' → HaltsWithin job name input d d' w w' k m m'
-halts_run job name input left d d' w w' n k k' m m' (Ok failed) ends halts counted =
-    inr (w', k', n, is_none failed, inl (record { left = left; failed = failed; ends = ends; could = refl }), front_none w' _, counted)
-halts_run job name input left d d' w w' n k k' m m' (Err e) ends halts counted = inl (n, halts, counted)
+-- a run over an input: what is known of that, and what was written, counted and kept
+pub record Ran : Type 0 where
+  pub name : List ℕ
+  pub input : Option (List ℕ)
+  pub left : Option (List ℕ)
+  pub out_old : Option (List ℕ)
+  pub out_new : Option (List ℕ)
+  pub report_old : Option (List ℕ)
+  pub report_new : Option (List ℕ)
+  pub counts : Counts
+  pub kept_old : Kept
+  pub kept_new : Kept
+
+-- It was whole, or failed, and its line isn't written. So much more is counted.
+pub halts_run : (job : Job) (x : Ran) (m m' : Counts) (r : Result (Option ReadFailure) Failure)
+    → IfOk r (EndsPortion job.portion job.limits job.command (style_behind job m) job.resync x.name x.input x.left x.out_old x.out_new x.report_old x.report_new no_counts x.counts
+    x.kept_old x.kept_new)
+    → OnErr r (HaltsPortion job.portion job.limits job.command (style_behind job m) job.resync x.name x.input x.out_old x.out_new x.report_old x.report_new no_counts x.counts x.kept_old)
+    → CountsMore m x.counts m' → HaltsWithin job x.name x.input x.out_old x.out_new x.report_old x.report_new x.kept_old m m'
+halts_run job x m m' (Ok failed) ends halts counted =
+    inr (x.report_new, x.kept_new, x.counts, is_none failed, inl (record { left = x.left; failed = failed; ends = ends; could = refl }), front_none x.report_new _, counted)
+halts_run job x m m' (Err e) ends halts counted = inl (x.counts, halts, counted)
 
 -- what lacks where an input wasn't read to its end
 pub lack_of : (cut : Option Cut) (l : Option Lack) → MatchOption cut (l ≡ None) (λ x. IsSomeAnd l (λ y. y ≡ lack.Cut x)) → l ≡ option_map lack.Cut cut
@@ -115,22 +115,33 @@ lack_of None l none = none
 lack_of (Some x) None one = absurd one
 lack_of (Some x) (Some y) one = ap Some one
 
-module _ (job : Job) (bytes_of : List ℕ → Option (List ℕ)) (names : List (List ℕ)) (old report_old : Option (List ℕ)) (totals : Totals) where
+module _ (old report_old : Option (List ℕ)) (totals : Totals) where
   -- nothing was counted before
   start : totals.counts ≡ no_counts → totals.cut ≡ None → state_of old report_old totals ≡ start_of old report_old totals.kept
   start counts cut = λ i. record { out = old; report = report_old; counts = counts i; kept = totals.kept; cut = option_map cut_of (cut i) }
 
+module _ {job : Job} {bytes_of : List ℕ → Option (List ℕ)} {names : List (List ℕ)} (old report_old : Option (List ℕ)) (totals : Totals) where
   -- all inputs were run over
-  pub ends_whole : (last : State) (d w : Option (List ℕ)) (n : Counts) (cut : Option Cut) (ended : Status) → totals.counts ≡ no_counts → totals.cut ≡ None
-      → RunsAll job bytes_of names (state_of old report_old totals) last d w → last.counts ≡ n → last.cut ≡ option_map cut_of cut → IsStatus job.command n ended
-      → EndsAll job bytes_of names (start_of old report_old totals.kept) d w (option_map lack.Cut cut) ended
-  ends_whole last d w n None ended none uncut runs counted same status =
-      (last, subst (λ (s : State). RunsAll job bytes_of names s last d w) (start none uncut) runs, same, subst (λ (m : Counts). IsStatus job.command m ended) (sym counted) status)
-  ends_whole last d w n (Some x) ended none uncut runs counted same status =
-      (last, subst (λ (s : State). RunsAll job bytes_of names s last d w) (start none uncut) runs, same, subst (λ (m : Counts). IsStatus job.command m ended) (sym counted) status)
+  module _ {last : State} {d w : Option (List ℕ)} where
+    pub ends_whole : (n : Counts) (cut : Option Cut) (ended : Status) → totals.counts ≡ no_counts → totals.cut ≡ None
+        → RunsAll job bytes_of names (state_of old report_old totals) last d w → last.counts ≡ n → last.cut ≡ option_map cut_of cut → IsStatus job.command n ended
+        → EndsAll job bytes_of names (start_of old report_old totals.kept) d w (option_map lack.Cut cut) ended
+    ends_whole n None ended none uncut runs counted same status = (
+      last,
+      subst (λ (s : State). RunsAll job bytes_of names s last d w) (start old report_old totals none uncut) runs,
+      same,
+      subst (λ (m : Counts). IsStatus job.command m ended) (sym counted) status,
+    )
+    ends_whole n (Some x) ended none uncut runs counted same status = (
+      last,
+      subst (λ (s : State). RunsAll job bytes_of names s last d w) (start old report_old totals none uncut) runs,
+      same,
+      subst (λ (m : Counts). IsStatus job.command m ended) (sym counted) status,
+    )
 
   -- a failure came
-  pub ends_front : (d w : Option (List ℕ)) (n : Counts) (failure : Failure) (ended : Status) → totals.counts ≡ no_counts → totals.cut ≡ None
-      → RunsFront job bytes_of names (state_of old report_old totals) d w n → IsFailureStatus job.command n failure ended
-      → EndsAll job bytes_of names (start_of old report_old totals.kept) d w (Some (lack.Failed failure)) ended
-  ends_front d w n failure ended none uncut front status = (n, subst (λ (s : State). RunsFront job bytes_of names s d w n) (start none uncut) front, status)
+  module _ {d w : Option (List ℕ)} {n : Counts} where
+    pub ends_front : (failure : Failure) (ended : Status) → totals.counts ≡ no_counts → totals.cut ≡ None
+        → RunsFront job bytes_of names (state_of old report_old totals) d w n → IsFailureStatus job.command n failure ended
+        → EndsAll job bytes_of names (start_of old report_old totals.kept) d w (Some (lack.Failed failure)) ended
+    ends_front failure ended none uncut front status = (n, subst (λ (s : State). RunsFront job bytes_of names s d w n) (start old report_old totals none uncut) front, status)

@@ -91,10 +91,10 @@ with_short place t f found short is =
     ap (λ (b : Bool). cond b (leave_out t) (with_value place t f (position (bytes_eq f.path) t.paths))) (le-ltb 4096 (length f.path) short) ∙ ap (with_value place t f) is
 
 -- a path is put behind the others
-pub pushed : {X : Type 0} (f : X → List ℕ) (place : Origin) (t t' : Table) (xs ys : List X) (x : X) (path : List ℕ) (row : Row)
+pub pushed : {X : Type 0} (f : X → List ℕ) (place : Origin) (t t' : Table) (xs : List X) {ys : List X} (x : X) {path : List ℕ} (row : Row)
     → t.paths ≡ map f xs → t'.paths ≡ map f ys → ys ≡ xs ++ x ∷ [] → f x ≡ path → (t'.most ≡ t.most) × (t'.documents ≡ t.documents) × (t'.left_out ≡ t.left_out)
-    → t'.firsts ≡ t.firsts ++ place ∷ [] → t'.rows ≡ t.rows ++ row ∷ [] → t' ≡ with_path place t path row
-pushed f place t t' xs ys x path row old new more is (most, documents, left_out) firsts rows =
+    × (t'.firsts ≡ t.firsts ++ place ∷ []) × (t'.rows ≡ t.rows ++ row ∷ []) → t' ≡ with_path place t path row
+pushed f place t t' xs x {path = path} row old new more is (most, documents, left_out, firsts, rows) =
     let paths : t'.paths ≡ t.paths ++ path ∷ [] =
     new ∙ ap (map f) more ∙ map_push f xs x ∙ ap (λ (ps : List (List ℕ)). ps ++ f x ∷ []) (sym old) ∙ ap (λ (p : List ℕ). t.paths ++ p ∷ []) is in
     λ i. record { most = most i; documents = documents i; paths = paths i; firsts = firsts i; rows = rows i; left_out = left_out i }
@@ -158,11 +158,11 @@ pub rows_end : (text before : List ℕ) (ps : List (List ℕ)) (os : List Origin
 rows_end text before ps os rs i few is = sym (is ∙ ap (λ (x : List ℕ). text ++ x) (no_rows ps os rs i few) ∙ append-nil text)
 
 -- the next line comes behind the text
-pub rows_next : (text more before : List ℕ) (ps : List (List ℕ)) (os : List Origin) (rs : List Row) (i : ℕ) (p : List ℕ) (o : Origin) (r : Row)
+pub rows_next : (text : List ℕ) {more before : List ℕ} (ps : List (List ℕ)) (os : List Origin) (rs : List Row) (i : ℕ) (p : List ℕ) (o : Origin) (r : Row)
     → (i < length ps) × (i < length os) × (i < length rs) → before ≡ text ++ rows_text (drop i ps) (drop i os) (drop i rs)
     → more ≡ text ++ row_line (get_or ps i p) (get_or os i o) (get_or rs i r)
     → before ≡ more ++ rows_text (drop (i + 1) ps) (drop (i + 1) os) (drop (i + 1) rs)
-rows_next text more before ps os rs i p o r (path, first, row) is line =
+rows_next text ps os rs i p o r (path, first, row) is line =
     let rest = rows_text (drop (i + 1) ps) (drop (i + 1) os) (drop (i + 1) rs) in
     is ∙ at_drop_more (λ (xs : List (List ℕ)). text ++ rows_text xs (drop i os) (drop i rs)) ps i p path
     ∙ at_drop_more (λ (xs : List Origin). text ++ rows_text (get_or ps i p ∷ drop (i + 1) ps) xs (drop i rs)) os i o first

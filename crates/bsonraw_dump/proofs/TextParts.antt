@@ -54,7 +54,7 @@ offset_of y z len p = p.is.3 ∙ ap (λ n. y.window.offset + n) (sym (length-tak
 first_of : (len : ℕ) (ahead : List ℕ) → HasFront ahead (take len ahead)
 first_of len ahead = (drop len ahead, sym (take-append-drop len ahead))
 
-module _ (style : Style) (name ahead : List ℕ) (place : Position) (t v : Turn) (len : ℕ) (fits : len ≤ length ahead) where
+module _ (ahead : List ℕ) (t v : Turn) (len : ℕ) (fits : len ≤ length ahead) where
   is_document : (document : List ℕ) → may_begin t ≡ true → HasBrace ahead → IsOneText (take len ahead) → Gives (take len ahead) document → v ≡ turn_behind_document t
       → IsDocument t (take len ahead) (document ∷ []) [] v
   is_document document may brace whole is next = record {
@@ -68,6 +68,7 @@ module _ (style : Style) (name ahead : List ℕ) (place : Position) (t v : Turn)
     next = next;
   }
 
+module _ {style : Style} {name : List ℕ} (ahead : List ℕ) {place : Position} {t v : Turn} (len : ℕ) (fits : len ≤ length ahead) where
   module _ (at : ℕ) (reason : TextReason) (within : at ≤ len) where
     is_begun : (told : NextText) → IsOpen (scanned (take len ahead)) → TellsNoText ahead told len at reason → v ≡ turn_behind_gap t
         → IsBegun style name place t ahead told (take len ahead) [] (fault_line style name (position_over place (take at ahead)) reason) v
@@ -91,8 +92,8 @@ module _ (style : Style) (name ahead : List ℕ) (place : Position) (t v : Turn)
       next = next;
     }
 
-module _ (style : Style) (name : List ℕ) (told : NextText) (y z : Cursor) (t v : Turn) (len : ℕ) where
-  module _ (at : ℕ) (reason : TextReason) (out w w' : Option (List ℕ)) (n n' : TextCounts) (p : PassesFirst y z len) (within : at ≤ len)
+module _ {style : Style} {name : List ℕ} {told : NextText} {y z : Cursor} {t v : Turn} (len : ℕ) where
+  module _ (at : ℕ) (reason : TextReason) {out w w' : Option (List ℕ)} {n n' : TextCounts} (p : PassesFirst y z len) (within : at ≤ len)
       (line : Appends w w' (fault_line style name (position_over y.place (take at (ahead_of y.window))) reason)) (counted : n' ≡ count_made n []) where
     pub passes_astray : IsOpen (scanned (take len (ahead_of y.window))) → TellsNoText (ahead_of y.window) told len at reason → v ≡ turn_behind_gap t
         → PassesText style name told y z t v out out w w' n n' went.Astray
@@ -104,7 +105,7 @@ module _ (style : Style) (name : List ℕ) (told : NextText) (y z : Cursor) (t v
       ahead = split y z len p;
       place = p.is.2;
       offset = offset_of y z len p;
-      is = is_begun style name (ahead_of y.window) y.place t v len p.fits at reason within told open' why next;
+      is = is_begun (ahead_of y.window) len p.fits at reason within told open' why next;
       is_written = Appends-nil out;
       is_reported = line;
       is_counted = counted;
@@ -120,28 +121,35 @@ module _ (style : Style) (name : List ℕ) (told : NextText) (y z : Cursor) (t v
       ahead = split y z len p;
       place = p.is.2;
       offset = offset_of y z len p;
-      is = is_refused style name (ahead_of y.window) y.place t v len p.fits at reason within may brace whole why next;
+      is = is_refused (ahead_of y.window) len p.fits at reason within may brace whole why next;
       is_written = Appends-nil out;
       is_reported = line;
       is_counted = counted;
     }
 
-  pub passes_document : (document : List ℕ) (d d' w : Option (List ℕ)) (n n' : TextCounts) → PassesFirst y z len → may_begin t ≡ true
-      → HasBrace (ahead_of y.window) × IsOneText (take len (ahead_of y.window)) × Gives (take len (ahead_of y.window)) document → Appends d d' document
-      → n' ≡ count_made n (document ∷ []) → v ≡ turn_behind_document t → PassesText style name told y z t v d d' w w n n' went.Document
-  passes_document document d d' w n n' p may (brace, whole, is) written counted next = record {
-    window = p.is.0;
-    text = take len (ahead_of y.window);
-    made = document ∷ [];
-    lines = [];
-    ahead = split y z len p;
-    place = p.is.2;
-    offset = offset_of y z len p;
-    is = is_document style name (ahead_of y.window) y.place t v len p.fits document may brace whole is next;
-    is_written = subst (Appends d d') (sym (append-nil document)) written;
-    is_reported = Appends-nil w;
-    is_counted = counted;
-  }
+  module _ {d d' : Option (List ℕ)} {n n' : TextCounts} where
+    pub passes_document : (document : List ℕ) (w : Option (List ℕ)) → PassesFirst y z len → may_begin t ≡ true
+        → HasBrace (ahead_of y.window) × IsOneText (take len (ahead_of y.window)) × Gives (take len (ahead_of y.window)) document → Appends d d' document
+        → n' ≡ count_made n (document ∷ []) → v ≡ turn_behind_document t → PassesText style name told y z t v d d' w w n n' went.Document
+    passes_document document w p may (brace, whole, is) written counted next = record {
+      window = p.is.0;
+      text = take len (ahead_of y.window);
+      made = document ∷ [];
+      lines = [];
+      ahead = split y z len p;
+      place = p.is.2;
+      offset = offset_of y z len p;
+      is = is_document (ahead_of y.window) t v len p.fits document may brace whole is next;
+      is_written = subst (Appends d d') (sym (append-nil document)) written;
+      is_reported = Appends-nil w;
+      is_counted = counted;
+    }
+
+-- a fault in a text of so many bytes
+pub record FaultIn (len : ℕ) : Type 0 where
+  pub at : ℕ
+  pub reason : TextReason
+  pub within : at ≤ len
 
 module _ (ahead : List ℕ) (place : Position) (t : Turn) where
   -- nothing is written
@@ -150,47 +158,47 @@ module _ (ahead : List ℕ) (place : Position) (t : Turn) where
 
   module _ (len : ℕ) (fits : len ≤ length ahead) where
     -- a front of a document
-    pub halts_document : (document : List ℕ) (d d' : Option (List ℕ)) → may_begin t ≡ true → HasBrace ahead → IsOneText (take len ahead) → Gives (take len ahead) document
-        → AppendsFront d d' document → (style : Style) (name : List ℕ) (told : NextText) (w : Option (List ℕ)) → HaltsText style name told place t ahead d d' w w
-    halts_document document d d' may brace whole is front style name told w = inr (
-      went.Document,
-      take len ahead,
-      document ∷ [],
-      [],
-      turn_behind_document t,
-      first_of len ahead,
-      is_document style name ahead place t (turn_behind_document t) len fits document may brace whole is refl,
-      subst (AppendsFront d d') (sym (append-nil document)) front,
-      front_none w [],
-    )
+    module _ {d d' : Option (List ℕ)} where
+      pub halts_document : (document : List ℕ) → (may_begin t ≡ true) × HasBrace ahead × IsOneText (take len ahead) × Gives (take len ahead) document
+          → AppendsFront d d' document → (style : Style) (name : List ℕ) (told : NextText) (w : Option (List ℕ)) → HaltsText style name told place t ahead d d' w w
+      halts_document document (may, brace, whole, is) front style name told w = inr (
+        went.Document,
+        take len ahead,
+        document ∷ [],
+        [],
+        turn_behind_document t,
+        first_of len ahead,
+        is_document ahead t (turn_behind_document t) len fits document may brace whole is refl,
+        subst (AppendsFront d d') (sym (append-nil document)) front,
+        front_none w [],
+      )
 
-    module _ (style : Style) (name : List ℕ) (at : ℕ) (reason : TextReason) (within : at ≤ len) (w w' : Option (List ℕ))
-        (front : AppendsFront w w' (fault_line style name (position_over place (take at ahead)) reason)) where
+    module _ (style : Style) (name : List ℕ) (f : FaultIn len) {w w' : Option (List ℕ)} (front : AppendsFront w w' (fault_line style name (position_over place (take f.at ahead)) f.reason)) where
       -- or of the line of a fault
-      pub halts_astray : IsOpen (scanned (take len ahead)) → (told : NextText) (out : Option (List ℕ)) → TellsNoText ahead told len at reason
+      pub halts_astray : (told : NextText) (out : Option (List ℕ)) → IsOpen (scanned (take len ahead)) × TellsNoText ahead told len f.at f.reason
           → HaltsText style name told place t ahead out out w w'
-      halts_astray open' told out why = inr (
+      halts_astray told out (open', why) = inr (
         went.Astray,
         take len ahead,
         [],
-        fault_line style name (position_over place (take at ahead)) reason,
+        fault_line style name (position_over place (take f.at ahead)) f.reason,
         turn_behind_gap t,
         first_of len ahead,
-        is_begun style name ahead place t (turn_behind_gap t) len fits at reason within told open' why refl,
+        is_begun ahead len fits f.at f.reason f.within told open' why refl,
         front_none out [],
         front,
       )
 
-      pub halts_refused : may_begin t ≡ true → HasBrace ahead → IsOneText (take len ahead) → IsFaultOf (take len ahead) at reason → (told : NextText) (out : Option (List ℕ))
+      pub halts_refused : (may_begin t ≡ true) × HasBrace ahead × IsOneText (take len ahead) × IsFaultOf (take len ahead) f.at f.reason → (told : NextText) (out : Option (List ℕ))
           → HaltsText style name told place t ahead out out w w'
-      halts_refused may brace whole why told out = inr (
+      halts_refused (may, brace, whole, why) told out = inr (
         went.Refused,
         take len ahead,
         [],
-        fault_line style name (position_over place (take at ahead)) reason,
+        fault_line style name (position_over place (take f.at ahead)) f.reason,
         turn_behind_document t,
         first_of len ahead,
-        is_refused style name ahead place t (turn_behind_document t) len fits at reason within may brace whole why refl,
+        is_refused ahead len fits f.at f.reason f.within may brace whole why refl,
         front_none out [],
         front,
       )

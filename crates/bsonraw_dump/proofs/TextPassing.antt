@@ -48,7 +48,7 @@ last_goes k (x ∷ before) p (first, rest) = last_goes k before p rest
 last_of : (k : Bool) (ps : List TextPart) → AllGoOn k ps → LastGoesOn k ps
 last_of k ps all before p same = last_goes k before p (subst (AllGoOn k) same all)
 
-module _ (k : Bool) (style : TextCounts → Style) (name : List ℕ) (input : Option (List ℕ)) where
+module _ (k : Bool) (style : TextCounts → Style) {name : List ℕ} {input : Option (List ℕ)} where
   texts_more : (offset : ℕ) (place : Position) (t : Turn) (n : TextCounts) (ps : List TextPart) (p : TextPart) → AreTexts k style name input offset place t n ps → AllGoOn k ps
       → IsTextPart (style (fold count_text n ps)) name input (offset + length (bytes_of_texts ps)) (position_over place (bytes_of_texts ps)) (turn_behind_texts t ps) p
       → AreTexts k style name input offset place t n (ps ++ p ∷ [])
@@ -137,7 +137,7 @@ nothing_passed a r d w n x none start zero =
       turns = refl;
     }
 
-module _ (a : AskedTexts) (input r d d' w w' : Option (List ℕ)) (n n' : TextCounts) (x : Cursor) (t : Turn) (g : GoesOnBehind a input r d d' w w' n n' x t) where
+module _ {a : AskedTexts} {input r d d' w w' : Option (List ℕ)} {n n' : TextCounts} {x : Cursor} {t : Turn} (g : GoesOnBehind a input r d d' w w' n n' x t) where
   -- one more part comes behind them
   parts_more : (p : TextPart) → IsTextPart (style_of_fault a.style a.limit n') a.name.now input x.window.offset x.place t p
       → AreTexts a.keep_going (style_of_fault a.style a.limit) a.name.now input 0 first_position turn.First n (g.ps ++ p ∷ [])
@@ -151,7 +151,7 @@ module _ (a : AskedTexts) (input r d d' w w' : Option (List ℕ)) (n n' : TextCo
       let third = subst (λ u. IsTextPart (shown n') a.name.now input (0 + length bytes) (position_over first_position bytes) u p) g.turns second in
       let here = subst (λ (m : TextCounts). IsTextPart (shown m) a.name.now input (0 + length bytes) (position_over first_position bytes) (turn_behind_texts turn.First g.ps) p)
       g.has.is_counted third in
-      texts_more a.keep_going shown a.name.now input 0 first_position turn.First n g.ps p g.has.parts g.all here
+      texts_more a.keep_going shown 0 first_position turn.First n g.ps p g.has.parts g.all here
 
   -- it is the last one, in front of the input
   has_more : (d'' w'' : Option (List ℕ)) (n'' : TextCounts) (p : TextPart) → IsTextPart (style_of_fault a.style a.limit n') a.name.now input x.window.offset x.place t p
@@ -166,27 +166,28 @@ module _ (a : AskedTexts) (input r d d' w w' : Option (List ℕ)) (n n' : TextCo
   }
 
   -- it is passed
-  goes_more : (r' d'' w'' : Option (List ℕ)) (n'' : TextCounts) (y : Cursor) (p : TextPart) → IsTextPart (style_of_fault a.style a.limit n') a.name.now input x.window.offset x.place t p
-      → Advances r r' x y (bytes_of p) → Appends d' d'' (joined p.made) → Appends w' w'' p.lines → n'' ≡ count_text n' p → IsPassedOver a.keep_going p
-      → GoesOnBehind a input r' d d'' w w'' n n'' y p.behind
-  goes_more r' d'' w'' n'' y p is advances written told counted goes =
-      let bytes = bytes_of_texts g.ps in
-      let read = read_behind bytes (ahead_of x.window) (bytes_of p ++ ahead_of y.window) input r r' g.is_read advances.is_read in
-      let both = subst (Consumes input r') (sym (append_assoc bytes (bytes_of p) (ahead_of y.window))) read in
-      let size : length (bytes ++ bytes_of p) ≡ length bytes + length (bytes_of p) = length-append bytes (bytes_of p) in
-      let first : x.window.offset ≡ length bytes = g.offset in
-      let second : y.window.offset ≡ x.window.offset + length (bytes_of p) = advances.offset in
-      let far : y.window.offset ≡ length (bytes ++ bytes_of p) = omega (arith, size, first, second) in
-      record {
-        ps = g.ps ++ p ∷ [];
-        has = has_more d'' w'' n'' p is (front_of input r' (bytes ++ bytes_of p) (ahead_of y.window) both) written told counted;
-        all = go_more a.keep_going g.ps p g.all goes;
-        is_read = subst (Consumes input r') (ap (λ l. l ++ ahead_of y.window) (one_more bytes_of g.ps p)) both;
-        place = advances.place ∙ ap (λ q. position_over q (bytes_of p)) g.place ∙ sym (fold-append position_behind first_position bytes (bytes_of p))
-            ∙ ap (position_over first_position) (one_more bytes_of g.ps p);
-        offset = far ∙ ap length (one_more bytes_of g.ps p);
-        turns = sym (fold-append (λ _ (q : TextPart). q.behind) turn.First g.ps (p ∷ []));
-      }
+  module _ {r' : Option (List ℕ)} {y : Cursor} where
+    goes_more : (d'' w'' : Option (List ℕ)) (n'' : TextCounts) (p : TextPart) → IsTextPart (style_of_fault a.style a.limit n') a.name.now input x.window.offset x.place t p
+        → Advances r r' x y (bytes_of p) → Appends d' d'' (joined p.made) → Appends w' w'' p.lines → n'' ≡ count_text n' p → IsPassedOver a.keep_going p
+        → GoesOnBehind a input r' d d'' w w'' n n'' y p.behind
+    goes_more d'' w'' n'' p is advances written told counted goes =
+        let bytes = bytes_of_texts g.ps in
+        let read = read_behind bytes (ahead_of x.window) (bytes_of p ++ ahead_of y.window) input r r' g.is_read advances.is_read in
+        let both = subst (Consumes input r') (sym (append_assoc bytes (bytes_of p) (ahead_of y.window))) read in
+        let size : length (bytes ++ bytes_of p) ≡ length bytes + length (bytes_of p) = length-append bytes (bytes_of p) in
+        let first : x.window.offset ≡ length bytes = g.offset in
+        let second : y.window.offset ≡ x.window.offset + length (bytes_of p) = advances.offset in
+        let far : y.window.offset ≡ length (bytes ++ bytes_of p) = omega (arith, size, first, second) in
+        record {
+          ps = g.ps ++ p ∷ [];
+          has = has_more d'' w'' n'' p is (front_of input r' (bytes ++ bytes_of p) (ahead_of y.window) both) written told counted;
+          all = go_more a.keep_going g.ps p g.all goes;
+          is_read = subst (Consumes input r') (ap (λ l. l ++ ahead_of y.window) (one_more bytes_of g.ps p)) both;
+          place = advances.place ∙ ap (λ q. position_over q (bytes_of p)) g.place ∙ sym (fold-append position_behind first_position bytes (bytes_of p))
+              ∙ ap (position_over first_position) (one_more bytes_of g.ps p);
+          offset = far ∙ ap length (one_more bytes_of g.ps p);
+          turns = sym (fold-append (λ _ (q : TextPart). q.behind) turn.First g.ps (p ∷ []));
+        }
 
 -- what is passed over in these bytes
 record HasGapIn (p : Position) (l : List ℕ) (u : Turn) : Type 0 where
@@ -255,13 +256,13 @@ module _ (r : Option (List ℕ)) (ahead rest : List ℕ) (u : Turn) (ends : IsAt
   no_text_of next.End begun at why is told = absurd told
 
 -- what comes of bytes that were passed over, up to their end
-module _ (style : Style) (name : List ℕ) (input r' : Option (List ℕ)) (bytes : List ℕ) (place : Position) (u : Turn) (ahead : List ℕ) (told : NextText)
+module _ {style : Style} {name : List ℕ} (input r' : Option (List ℕ)) (bytes : List ℕ) {place : Position} {u : Turn} {ahead : List ℕ} {told : NextText}
     (read : Consumes input r' (bytes ++ ahead)) (is_next : IsNextText r' ahead u told) where
-  astray_of : (text gap : List ℕ) (made : List (List ℕ)) (lines : List ℕ) (v behind : Turn) → IsBegun style name place u ahead told text made lines v
+  astray_of : (text gap : List ℕ) {made : List (List ℕ)} {lines : List ℕ} {v : Turn} (behind : Turn) → IsBegun style name place u ahead told text made lines v
       → HasNoLine (position_over place text) gap → ((behind ≡ turn_behind_gap u) ⊎ (behind ≡ turn.Last))
       → IfSome input (λ s. EndsGap (position_over place (text ++ gap)) (turn_behind_gap u) (drop (length bytes + length (text ++ gap)) s) behind)
       → MeetsNoText style name input (length bytes) place u (text ++ gap) made lines behind
-  astray_of text gap made lines v behind is none next ends = record {
+  astray_of text gap behind is none next ends = record {
     begun = text;
     gap = gap;
     parts = refl;
@@ -324,20 +325,20 @@ abbrev pub IsWritten : List (List ℕ) → Type 0
 IsWritten made = (document : List ℕ) × (made ≡ document ∷ [])
 
 -- a document is written, unless the run goes on behind a fault
-written_of : (style : Style) (name : List ℕ) (place : Position) (before : Turn) (ahead : List ℕ) (told : NextText) (what : Went) (text : List ℕ) (made : List (List ℕ)) (lines : List ℕ)
-    (behind : Turn) (k : Bool) → Becomes style name place before ahead told what text made lines behind → (what ≡ went.Document) ⊎ (k ≡ true)
+written_of : (style : Style) (name : List ℕ) (place : Position) (before : Turn) (ahead : List ℕ) (told : NextText) {what : Went} (text : List ℕ) (made : List (List ℕ)) (lines : List ℕ)
+    (behind : Turn) {k : Bool} → Becomes style name place before ahead told what text made lines behind → (what ≡ went.Document) ⊎ (k ≡ true)
     → IsWritten made ⊎ (k ≡ true)
-written_of style name place before ahead told what text made lines behind k is (inr asked) = inr asked
-written_of style name place before ahead told went.Document text made lines behind k is (inl same) = inl (is.document, is.makes)
-written_of style name place before ahead told went.Refused text made lines behind k is (inl other) = let none : ⊥ = cc in absurd none
-written_of style name place before ahead told went.Astray text made lines behind k is (inl other) = let none : ⊥ = cc in absurd none
+written_of style name place before ahead told text made lines behind is (inr asked) = inr asked
+written_of style name place before ahead told {what = went.Document} text made lines behind is (inl same) = inl (is.document, is.makes)
+written_of style name place before ahead told {what = went.Refused} text made lines behind is (inl other) = let none : ⊥ = cc in absurd none
+written_of style name place before ahead told {what = went.Astray} text made lines behind is (inl other) = let none : ⊥ = cc in absurd none
 
 -- of a text with a fault nothing is written
-none_made : (style : Style) (name : List ℕ) (place : Position) (before : Turn) (ahead : List ℕ) (told : NextText) (what : Went) (text : List ℕ) (made : List (List ℕ)) (lines : List ℕ)
+none_made : (style : Style) (name : List ℕ) (place : Position) (before : Turn) (ahead : List ℕ) (told : NextText) {what : Went} (text : List ℕ) (made : List (List ℕ)) (lines : List ℕ)
     (behind : Turn) → Becomes style name place before ahead told what text made lines behind → what ≢ went.Document → made ≡ []
-none_made style name place before ahead told went.Document text made lines behind is other = absurd (other refl)
-none_made style name place before ahead told went.Refused text made lines behind is other = is.none
-none_made style name place before ahead told went.Astray text made lines behind is other = is.none
+none_made style name place before ahead told {what = went.Document} text made lines behind is other = absurd (other refl)
+none_made style name place before ahead told {what = went.Refused} text made lines behind is other = is.none
+none_made style name place before ahead told {what = went.Astray} text made lines behind is other = is.none
 
 -- a part with this front and text, or one that goes on with more, is in front of the input behind these bytes
 abbrev pub Completes : (style : Style) (name : List ℕ) (input : Option (List ℕ)) (bytes : List ℕ) (x : Cursor) (t : Turn) (front text : List ℕ) (made : List (List ℕ)) → List ℕ → Type 0
@@ -354,7 +355,7 @@ read_of : (input r : Option (List ℕ)) (bytes : List ℕ) (at : ℕ) → Consum
 read_of None r bytes at read far = tt
 read_of (Some s) r bytes at read far = (bytes, read, far)
 
-module _ (a : AskedTexts) (input r d d' w w' : Option (List ℕ)) (n n' : TextCounts) (y : Cursor) (ps : List TextPart) where
+module _ {a : AskedTexts} {input r d d' w w' : Option (List ℕ)} {n n' : TextCounts} {y : Cursor} {ps : List TextPart} where
   -- reading fails behind what is ahead
   fails_at : (e : TextEnd) → HasTexts a input d d' w w' n n' ps → LastGoesOn a.keep_going ps → IsAt input r y → FailsAt (y.window.offset + length (ahead_of y.window)) e
       → ReadsTexts a input r d d' w w' n n' e
@@ -388,7 +389,7 @@ halts_has a input d d' w w' n n' ps h = record {
   halts = inl (refl, refl);
 }
 
-module _ (a : AskedTexts) (input r r' d d' w w' : Option (List ℕ)) (n n' : TextCounts) (x y : Cursor) (t u : Turn) (told : NextText)
+module _ {a : AskedTexts} {input r r' d d' w w' : Option (List ℕ)} {n n' : TextCounts} {x y : Cursor} {t u : Turn} {told : NextText}
     (g : GoesOnBehind a input r d d' w w' n n' x t) (f : FindsText r r' x y t u told) where
   -- how its fault is told
   abbrev shown : Style
@@ -441,7 +442,7 @@ module _ (a : AskedTexts) (input r r' d d' w w' : Option (List ℕ)) (n n' : Tex
       )
   completed went.Astray text made lines v front is =
       let h = gap_behind input r' before (ahead_of y.window) text y.place u read_found front in
-      let astray = astray_of shown a.name.now input r' before y.place u (ahead_of y.window) told read_found f.is text h.gap made lines v h.behind is h.none h.next h.ends in (
+      let astray = astray_of input r' before read_found f.is text h.gap h.behind is h.none h.next h.ends in (
         h.gap,
         h.behind,
         part_of (text ++ h.gap) made lines h.behind (inr (inr astray)),
@@ -476,14 +477,14 @@ module _ (a : AskedTexts) (input r r' d d' w w' : Option (List ℕ)) (n n' : Tex
         is_counted = counted ∙ g.has.is_counted;
         halts = inr (
           part,
-          parts_more a input r d d' w w' n n' x t g part next,
+          parts_more g part next,
           subst (λ l. IfSome input (λ s. HasFront s l)) (one_more bytes_of g.ps part) there,
           put,
           wrote,
         );
       }
 
-  module _ (z : Cursor) (v : Turn) (d'' w'' : Option (List ℕ)) (n'' : TextCounts) (what : Went) (p : PassesText shown a.name.now told y z u v d' d'' w' w'' n' n'' what) where
+  module _ {z : Cursor} {v : Turn} {d'' w'' : Option (List ℕ)} {n'' : TextCounts} {what : Went} (p : PassesText shown a.name.now told y z u v d' d'' w' w'' n' n'' what) where
     over_text : Advances r r' x z (f.front ++ p.text)
     over_text = advances_more r r' x y z f.front p.text f.advances p.window p.ahead p.place p.offset
 
@@ -492,7 +493,7 @@ module _ (a : AskedTexts) (input r r' d d' w w' : Option (List ℕ)) (n n' : Tex
     last_part =
         let (gap, behind, next, there) = completed what p.text p.made p.lines v (ahead_of z.window, p.ahead) p.is in
         let part : TextPart = record { front = f.front; text = p.text ++ gap; made = p.made; lines = p.lines; behind = behind } in
-        (part, refl, refl, has_more a input r d d' w w' n n' x t g d'' w'' n'' part next there p.is_written p.is_reported p.is_counted)
+        (part, refl, refl, has_more g d'' w'' n'' part next there p.is_written p.is_reported p.is_counted)
 
     -- it has a fault, and the run stops behind it
     pub stops_fault : (left : Option (List ℕ)) → (what ≢ went.Document) × (a.keep_going ≡ false) → ReadsTexts a input left d d'' w w'' n n'' end.Stopped
@@ -502,7 +503,7 @@ module _ (a : AskedTexts) (input r r' d d' w w' : Option (List ℕ)) (n n' : Tex
           ps = g.ps ++ q ∷ [];
           parts = h.parts;
           ends = h.in_front;
-          stops = (asked, (g.ps, q, refl, made ∙ none_made shown a.name.now y.place u (ahead_of y.window) told what p.text p.made p.lines v p.is other));
+          stops = (asked, (g.ps, q, refl, made ∙ none_made shown a.name.now y.place u (ahead_of y.window) told p.text p.made p.lines v p.is other));
           is_written = h.is_written;
           is_reported = h.is_reported;
           is_counted = h.is_counted;
@@ -513,9 +514,9 @@ module _ (a : AskedTexts) (input r r' d d' w w' : Option (List ℕ)) (n n' : Tex
         → FailsAt (q.window.offset + length (ahead_of q.window)) e → ReadsTexts a input r'' d d'' w w'' n n'' e
     fails_behind r'' q e asked goes is =
         let (part, made, lines, h) = last_part in
-        let one = written_of shown a.name.now y.place u (ahead_of y.window) told what p.text p.made p.lines v a.keep_going p.is asked in
+        let one = written_of shown a.name.now y.place u (ahead_of y.window) told p.text p.made p.lines v p.is asked in
         let on : IsPassedOver a.keep_going part = subst (λ l. IsWritten l ⊎ (a.keep_going ≡ true)) (sym made) one in
-        fails_at a input r'' d d'' w w'' n n'' q (g.ps ++ part ∷ []) e h (last_of a.keep_going (g.ps ++ part ∷ []) (go_more a.keep_going g.ps part g.all on))
+        fails_at e h (last_of a.keep_going (g.ps ++ part ∷ []) (go_more a.keep_going g.ps part g.all on))
         (at_more input r' r'' z q (at_more input r r' x z (at_of a input r d d' w w' n n' x t g) (f.front ++ p.text, over_text)) goes) is
 
     -- or writing does
@@ -529,7 +530,7 @@ module _ (a : AskedTexts) (input r r' d d' w w' : Option (List ℕ)) (n n' : Tex
         let part : TextPart = record { front = f.front; text = p.text; made = p.made; lines = p.lines; behind = v } in
         let three : IsDocument u p.text p.made p.lines v ⊎ IsRefused shown a.name.now y.place u p.text p.made p.lines v
         ⊎ MeetsNoText shown a.name.now input (length before) y.place u p.text p.made p.lines v = elim is [ inl a ↦ inl a | inr b ↦ inr (inl b) ] in
-        goes_more a input r d d' w w' n n' x t g r' d'' w'' n'' z part (part_of p.text p.made p.lines v three) over_text p.is_written p.is_reported p.is_counted on
+        goes_more g d'' w'' n'' part (part_of p.text p.made p.lines v three) over_text p.is_written p.is_reported p.is_counted on
 
     -- bytes are
     goes_gap : (r'' : Option (List ℕ)) (q : Cursor) (s : Turn) → IsBegun shown a.name.now y.place u (ahead_of y.window) told p.text p.made p.lines v → PassesGap r' r'' z q v s
@@ -549,29 +550,29 @@ module _ (a : AskedTexts) (input r r' d d' w w' : Option (List ℕ)) (n n' : Tex
         let ends = subst (λ m. IfSome input (λ l. EndsGap (position_over y.place text) (turn_behind_gap u) (drop m l) s)) size
         (behind_of input r'' (before ++ text) (ahead_of q.window) (λ l. EndsGap (position_over y.place text) (turn_behind_gap u) l s) read
         (λ rest done. gap_ends r'' q (position_over y.place text) u v s rest done is.next there over.ends)) in
-        let astray = astray_of shown a.name.now input r' before y.place u (ahead_of y.window) told read_found f.is p.text over.gap p.made p.lines v s is none next ends in
-        goes_more a input r d d' w w' n n' x t g r'' d'' w'' n'' q part (part_of text p.made p.lines s (inr (inr astray))) both p.is_written p.is_reported p.is_counted (inr asked)
+        let astray = astray_of input r' before read_found f.is p.text over.gap s is none next ends in
+        goes_more g d'' w'' n'' part (part_of text p.made p.lines s (inr (inr astray))) both p.is_written p.is_reported p.is_counted (inr asked)
 
-module _ (a : AskedTexts) (input r r' d d' w w' : Option (List ℕ)) (n n' : TextCounts) (x y : Cursor) (t u : Turn) where
+module _ {a : AskedTexts} {input r : Option (List ℕ)} (r' : Option (List ℕ)) {d d' w w' : Option (List ℕ)} {n n' : TextCounts} {x : Cursor} (y : Cursor) {t : Turn} (u : Turn) where
   same_behind : (r' ≡ r) × (y ≡ x) × (u ≡ t) → GoesOnBehind a input r d d' w w' n n' x t → GoesOnBehind a input r' d d' w w' n n' y u
   same_behind (read, same, turns) g =
       subst (λ l. GoesOnBehind a input l d d' w w' n n' y u) (sym read) (subst (λ l. GoesOnBehind a input r d d' w w' n n' l u) (sym same)
       (subst (λ l. GoesOnBehind a input r d d' w w' n n' x l) (sym turns) g))
 
-module _ (a : AskedTexts) (input r r' d d' w w' : Option (List ℕ)) (n n' : TextCounts) (x y : Cursor) (t u : Turn) (told : NextText)
-    (g : GoesOnBehind a input r d d' w w' n n' x t) (f : FindsText r r' x y t u told) (z : Cursor) (v : Turn) (d'' w'' : Option (List ℕ)) (n'' : TextCounts) where
+module _ {a : AskedTexts} {input r r' d d' w w' : Option (List ℕ)} {n n' : TextCounts} {x y : Cursor} {t u : Turn} {told : NextText}
+    (g : GoesOnBehind a input r d d' w w' n n' x t) (f : FindsText r r' x y t u told) {z : Cursor} {v : Turn} {d'' w'' : Option (List ℕ)} {n'' : TextCounts} where
   -- what is next is passed, and the bytes behind it
   pub goes_next : (what : Went) (r'' : Option (List ℕ)) (q : Cursor) (s : Turn) → PassesText (style_of_fault a.style a.limit n') a.name.now told y z u v d' d'' w' w'' n' n'' what
       → PassesBehind what r' r'' z q v s → (what ≡ went.Document) ⊎ (a.keep_going ≡ true) → GoesOnBehind a input r'' d d'' w w'' n n'' q s
   goes_next went.Document r'' q s p same asked =
-      same_behind a input r' r'' d d'' w w'' n n'' z q v s same
-      (goes_whole a input r r' d d' w w' n n' x y t u told g f z v d'' w'' n'' went.Document p (inl (p.is.document, p.is.makes)) (inl p.is))
+      same_behind r'' q s same
+      (goes_whole g f p (inl (p.is.document, p.is.makes)) (inl p.is))
   goes_next went.Refused r'' q s p same (inl other) = let none : ⊥ = cc in absurd none
   goes_next went.Refused r'' q s p same (inr asked) =
-      same_behind a input r' r'' d d'' w w'' n n'' z q v s same
-      (goes_whole a input r r' d d' w w' n n' x y t u told g f z v d'' w'' n'' went.Refused p (inr asked) (inr p.is))
+      same_behind r'' q s same
+      (goes_whole g f p (inr asked) (inr p.is))
   goes_next went.Astray r'' q s p over (inl other) = let none : ⊥ = cc in absurd none
-  goes_next went.Astray r'' q s p over (inr asked) = goes_gap a input r r' d d' w w' n n' x y t u told g f z v d'' w'' n'' went.Astray p r'' q s p.is over asked
+  goes_next went.Astray r'' q s p over (inr asked) = goes_gap g f p r'' q s p.is over asked
 
 pub window_behind : (what : Went) (r r' : Option (List ℕ)) (z q : Cursor) (v s : Turn) → PassesBehind what r r' z q v s → IsWindow z.window → IsWindow q.window
 window_behind went.Document r r' z q v s (read, same, turns) is = subst (λ (l : Cursor). IsWindow l.window) (sym same) is
@@ -589,11 +590,11 @@ some_of : (input : Option (List ℕ)) (P Q : List ℕ → Type 0) → ((s : List
 some_of None P Q is h = tt
 some_of (Some s) P Q is h = is s h
 
-module _ (a : AskedTexts) (input r d d' w w' : Option (List ℕ)) (n n' : TextCounts) (x : Cursor) (t : Turn) (g : GoesOnBehind a input r d d' w w' n n' x t) where
+module _ {a : AskedTexts} {input r d d' w w' : Option (List ℕ)} {n n' : TextCounts} {x : Cursor} {t : Turn} (g : GoesOnBehind a input r d d' w w' n n' x t) where
   -- a run in which reading fails
   pub fails_here : (r' : Option (List ℕ)) (y : Cursor) (e : TextEnd) → GoesOnTo r r' x y → FailsAt (y.window.offset + length (ahead_of y.window)) e → ReadsTexts a input r' d d' w w' n n' e
   fails_here r' y e goes is =
-      fails_at a input r' d d' w w' n n' y g.ps e g.has (last_of a.keep_going g.ps g.all) (at_more input r r' x y (at_of a input r d d' w w' n n' x t g) goes) is
+      fails_at e g.has (last_of a.keep_going g.ps g.all) (at_more input r r' x y (at_of a input r d d' w w' n n' x t g) goes) is
 
   -- one that comes to the end of the input
   pub stops_end : (r' : Option (List ℕ)) (y : Cursor) (u : Turn) → FindsText r r' x y t u next.End → ReadsTexts a input r' d d' w w' n n' end.End

@@ -89,16 +89,17 @@ front_in end.Stopped (Some s) left ps ends = ends
 front_in (end.Failed failed) (Some s) left ps ends = ends.0
 
 -- it was read, and nothing more comes
-pub halts_read : (a : AskedTexts) (input left d d' w w' : Option (List ℕ)) (n n' n'' : TextCounts) (ended : TextEnd) → ReadsTexts a input left d d' w w' n n' ended → n'' ≡ n'
-    → HaltsTexts a.keep_going (style_of_fault a.style a.limit) a.name.now input d d' w w' n n''
-halts_read a input left d d' w w' n n' n'' ended p counted = record {
-  ps = p.ps;
-  parts = p.parts;
-  in_front = front_in ended input left p.ps p.ends;
-  out_between = d';
-  report_between = w';
-  is_written = p.is_written;
-  is_reported = p.is_reported;
-  is_counted = counted ∙ p.is_counted;
-  halts = inl (refl, refl);
-}
+module _ {a : AskedTexts} {input left d d' w w' : Option (List ℕ)} {n n' n'' : TextCounts} {ended : TextEnd} where
+  pub halts_read : ReadsTexts a input left d d' w w' n n' ended → n'' ≡ n'
+      → HaltsTexts a.keep_going (style_of_fault a.style a.limit) a.name.now input d d' w w' n n''
+  halts_read p counted = record {
+    ps = p.ps;
+    parts = p.parts;
+    in_front = front_in ended input left p.ps p.ends;
+    out_between = d';
+    report_between = w';
+    is_written = p.is_written;
+    is_reported = p.is_reported;
+    is_counted = counted ∙ p.is_counted;
+    halts = inl (refl, refl);
+  }

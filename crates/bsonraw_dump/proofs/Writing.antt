@@ -16,7 +16,7 @@ use Rattle.bsonraw_dump.specs.Fronts.{WritesFront}
 use Rattle.bsonraw_dump.specs.Halting.{IsMade}
 use Rattle.bsonraw_dump.proofs.Fronts.{front_behind, front_first}
 use Rattle.bsonraw_dump.specs.Pick.{IsPicked, IsPickedAs, IsPrinted}
-use Rattle.bsonraw_dump.specs.Run.{Emits, Makes, MakesJson, MakesPicked, Writes, WritesOne, spelled}
+use Rattle.bsonraw_dump.specs.Run.{Emits, Makes, MakesJson, MakesPicked, Writes, spelled}
 use Rattle.bsonraw_dump.specs.Unique.{CountsOne, Made, first_made, firsts_of, has_digest, if_new, kept_of, known_behind, knows, made_as, origins_of, placed, plain, with_made, written_of}
 use Rattle.bsonraw_dump.specs.Unique as says
 use Rattle.bsonraw_dump.specs.declared.command.Command.{Command}
@@ -28,8 +28,6 @@ use Rattle.bsonraw_dump.specs.declared.pick.Picking.{Picking}
 use Rattle.bsonraw_dump.specs.declared.paths.Paths.{Paths}
 use Rattle.bsonraw_dump.proofs.Repeating.{firsts_none, repeats_none}
 use Rattle.bsonraw_dump.specs.declared.find.Finding.{Finding}
-use Rattle.bsonraw_dump.specs.declared.run.Outcome.{Outcome}
-use Rattle.bsonraw_dump.specs.declared.style.Style.{Style}
 use Rattle.bsonraw_dump.specs.declared.find.Finding.TheVariants as finding
 
 -- the bytes of what is made
@@ -245,9 +243,3 @@ pub form_made_unique : (spelling : Spelling) (b : List ℕ) (k : Kept) (d d' : O
     → WritesFront (IsMade (command.Unique spelling) b finding.Breached k) d d'
 form_made_unique spelling b k d d' (inl same) = inl same
 form_made_unique spelling b k d d' (inr (text, (form, is, it), front)) = inr (text, (form_made (command.Unique spelling) b form, (form, is, refl), it), front)
-
--- the same where no more is written
-pub writes_same : (limits : Limits) (c : Command) (style : Style) (name : List ℕ) (offset : ℕ) (b : List ℕ) (d d' w w' : Option (List ℕ)) (k k' k'' : Kept) (o : Outcome)
-    → WritesOne limits c style name offset b d d' w w' k k' o → KeepsWritten k' k'' → WritesOne limits c style name offset b d d' w w' k k'' o
-writes_same limits c style name offset b d d' w w' k k' k'' o (told, found, (made, makes, writes, (first, places, repeats, reported))) (count, forms) =
-    (told, found, (made, makes, writes_kept c made d d' k k' k'' writes (count, forms), (first, record { placed = ap origins_of forms ∙ places.placed; repeats = places.repeats }, repeats, reported)))

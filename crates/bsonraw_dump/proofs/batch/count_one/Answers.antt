@@ -1,8 +1,8 @@
-use Rattle.std.proofs.Common.{refl, subst}
-use Rattle.bsonraw_dump.specs.Batch.{CountsInput, HaltsWithin}
+use Rattle.std.proofs.Common.{inl, refl, subst}
+use Rattle.bsonraw_dump.specs.Batch.{CountsInput, HaltsWithin, IsRun}
 use Rattle.bsonraw_dump.proofs.Stopping.{if_ok}
 use Rattle.bsonraw_dump.proofs.Fronts.{on_any, on_err}
-use Rattle.bsonraw_dump.proofs.Summing.{counts_open, halts_unread}
+use Rattle.bsonraw_dump.proofs.Summing.{halts_unread}
 use Rattle.bsonraw_dump.proofs.batch.count_one.Goals as goal
 
 pub returns-in-Ok-clause-counted : goal.returns-in-Ok-clause-counted
@@ -12,8 +12,10 @@ returns-in-Ok-clause-counted g c =
     let w = g.W.Write.contents c.args.report.now in
     let w' = g.W.Write.contents c.run_open.new.report in
     let name = c.args.name.now in
+    let t = c.args.totals.now in
+    let t' = c.run_open.new.totals in
     if_ok c.run_open.result _ (CountsInput c.args.job name (g.I.Inputs.bytes_of c.args.inputs.now name) d d' w w' c.args.totals.now c.run_open.new.totals)
-    (λ n ran. counts_open c.args.job name (g.I.Inputs.bytes_of c.args.inputs.now name) d d' w w' w' c.args.totals.now c.run_open.new.totals n _ c.in-Ok.ensures.bytes ran)
+    (λ n (goes_on, ran, counted, cut). (goes_on, inl (subst (λ x. IsRun c.args.job t.counts name x d d' w w' t.kept t'.kept n goes_on) c.in-Ok.ensures.bytes ran), counted, cut))
     c.run_open.ensures.counted
 
 pub returns-in-Ok-clause-halts : goal.returns-in-Ok-clause-halts

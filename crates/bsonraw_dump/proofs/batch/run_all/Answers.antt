@@ -18,7 +18,7 @@ returns-in-Ok g c =
     let t' = c.run_each.new.totals in
     let (last, runs, counted, same) = c.in-Ok.ensures.runs in
     let lacks : c.map.result ≡ option_map lack.Cut t'.cut = lack_of t'.cut c.map.result c.map.ensures.cases in
-    let ends = ends_whole job bytes_of names d w t last d' w' t'.counts t'.cut c.status_of.result c.new-totals.ensures.counts c.new-totals.ensures.cut runs counted same
+    let ends = ends_whole d w t t'.counts t'.cut c.status_of.result c.new-totals.ensures.counts c.new-totals.ensures.cut runs counted same
     c.status_of.ensures in
     record {
       kept = t.kept;
@@ -32,7 +32,7 @@ returns g c =
     record {
       kept = t.kept;
       nothing = c.new-totals.ensures.kept;
-      ends = ends_front c.args.job (g.I.Inputs.bytes_of c.args.inputs.now) (map (λ (name : Bor (List ℕ)). name.now) c.args.names.now) (g.D.Write.contents c.args.out.now)
-          (g.W.Write.contents c.args.report.now) t (g.D.Write.contents c.run_each.new.out) (g.W.Write.contents c.run_each.new.report) c.run_each.new.totals.counts c.in-Err.failure
+      ends = ends_front (g.D.Write.contents c.args.out.now)
+          (g.W.Write.contents c.args.report.now) t c.in-Err.failure
           c.status_of_failure.result c.new-totals.ensures.counts c.new-totals.ensures.cut c.in-Err.ensures.fails c.status_of_failure.ensures;
     }

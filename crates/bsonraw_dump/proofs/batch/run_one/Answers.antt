@@ -1,9 +1,9 @@
+use Rattle.std.proofs.Common.{inl, inr}
 use Rattle.std.specs.Io.KnownBytes.{Appends}
 use Rattle.bson_json.specs.Written.{AppendsFront}
 use Rattle.bsonraw_dump.specs.Batch.{CountsAnother, HaltsWithin, input_line, state_of}
 use Rattle.bsonraw_dump.proofs.Fronts.{on_err}
 use Rattle.bsonraw_dump.proofs.Listed.{on_ok}
-use Rattle.bsonraw_dump.proofs.Summing.{comes_whole, halts_line}
 use Rattle.bsonraw_dump.proofs.batch.run_one.Goals as goal
 
 pub returns-clause-comes : goal.returns-clause-comes
@@ -18,8 +18,9 @@ returns-clause-comes g c =
     let t = c.args.totals.now in
     let t' = c.count_one.new.totals in
     let n = c.in_ok-counts.counts in
+    let (goes_on, is, counted, cut) = c.in_ok-counts.ensures.counted in
     on_ok c.put_counts.result (Appends w' w'' (input_line c.args.job c.args.job.command name n)) (CountsAnother c.args.job input name (state_of d w t) (state_of d' w'' t'))
-    (comes_whole c.args.job name input d d' w w' w'' t t' n c.in_ok-counts.ensures.counted) c.put_counts.ensures.written
+    (λ told. record { counts = n; goes_on = goes_on; report_between = w'; is = is; told = told; is_counted = counted; cut = cut }) c.put_counts.ensures.written
 
 pub returns-clause-halts : goal.returns-clause-halts
 returns-clause-halts g c =
@@ -33,5 +34,6 @@ returns-clause-halts g c =
     let t = c.args.totals.now in
     let t' = c.count_one.new.totals in
     let n = c.in_ok-counts.counts in
+    let (goes_on, is, counted, cut) = c.in_ok-counts.ensures.counted in
     on_err c.put_counts.result (AppendsFront w' w'' (input_line c.args.job c.args.job.command name n)) (HaltsWithin c.args.job name input d d' w w'' t.kept t.counts t'.counts)
-    (halts_line c.args.job name input d d' w w' w'' t t' n c.in_ok-counts.ensures.counted) c.put_counts.ensures.front
+    (λ front. inr (w', t'.kept, n, goes_on, is, front, inl counted)) c.put_counts.ensures.front

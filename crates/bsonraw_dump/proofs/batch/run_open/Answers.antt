@@ -5,7 +5,7 @@ use Rattle.bsonraw_dump.specs.Run.{style_at}
 use Rattle.bsonraw_dump.specs.declared.counts.Counts.{Counts}
 use Rattle.bsonraw_dump.specs.declared.kept.Kept.{Kept}
 use Rattle.bsonraw_dump.proofs.Fronts.{on_any}
-use Rattle.bsonraw_dump.proofs.Summing.{halts_run}
+use Rattle.bsonraw_dump.proofs.Summing.{Ran, halts_run}
 use Rattle.bsonraw_dump.proofs.batch.run_open.Goals as goal
 
 pub returns-in_err-add-clause-halts : goal.returns-in_err-add-clause-halts
@@ -25,7 +25,9 @@ returns-in_err-add-clause-halts g c =
     let ended = subst (ends (left_limit job c.args.totals.now.counts)) c.new-counts.ensures (subst (λ (l : Option ℕ). ends l c.new-counts.result) c.left_of.ensures c.run-result.ensures.ends) in
     let halts = λ (l : Option ℕ) (m : Counts). OnErr c.run-result.result (HaltsPortion job.portion job.limits job.command (style_at job.style l) job.resync name input d d' w w' m n k) in
     let halted = subst (halts (left_limit job c.args.totals.now.counts)) c.new-counts.ensures (subst (λ (l : Option ℕ). halts l c.new-counts.result) c.left_of.ensures c.run-result.ensures.halts) in
-    on_any _ _ (halts_run job name input left d d' w w' n k k' c.args.totals.now.counts c.add.new.self.counts c.run-result.result ended halted (inr c.in_err-add.ensures.uncounted))
+    let ran : Ran =
+    record { name = name; input = input; left = left; out_old = d; out_new = d'; report_old = w; report_new = w'; counts = n; kept_old = k; kept_new = k' } in
+    on_any _ _ (halts_run job ran c.args.totals.now.counts c.add.new.self.counts c.run-result.result ended halted (inr c.in_err-add.ensures.uncounted))
 
 pub returns-in_err-failure-clause-halts : goal.returns-in_err-failure-clause-halts
 returns-in_err-failure-clause-halts g c =
@@ -44,7 +46,9 @@ returns-in_err-failure-clause-halts g c =
     let ended = subst (ends (left_limit job c.args.totals.now.counts)) c.new-counts.ensures (subst (λ (l : Option ℕ). ends l c.new-counts.result) c.left_of.ensures c.run-result.ensures.ends) in
     let halts = λ (l : Option ℕ) (m : Counts). OnErr c.run-result.result (HaltsPortion job.portion job.limits job.command (style_at job.style l) job.resync name input d d' w w' m n k) in
     let halted = subst (halts (left_limit job c.args.totals.now.counts)) c.new-counts.ensures (subst (λ (l : Option ℕ). halts l c.new-counts.result) c.left_of.ensures c.run-result.ensures.halts) in
-    on_any _ _ (halts_run job name input left d d' w w' n k k' c.args.totals.now.counts c.add.new.self.counts c.run-result.result ended halted (inl c.in_ok-add.ensures.counted))
+    let ran : Ran =
+    record { name = name; input = input; left = left; out_old = d; out_new = d'; report_old = w; report_new = w'; counts = n; kept_old = k; kept_new = k' } in
+    on_any _ _ (halts_run job ran c.args.totals.now.counts c.add.new.self.counts c.run-result.result ended halted (inl c.in_ok-add.ensures.counted))
 
 pub returns-in-Some-clause-counted : goal.returns-in-Some-clause-counted
 returns-in-Some-clause-counted g c =

@@ -9,7 +9,7 @@ returns-clause-levels c =
     let few = c.truncate.new.self.items in
     let last : c.innermost-level.result ≡ last_of few = c.innermost-level.ensures ∙ ap last_of c.deref.ensures.value in
     on_ok c.push_bytes.result _ _
-    (λ put. (gone_on c.args.path.now.items c.push_bytes.new.text.items c.truncate-2.new.self.items c.step.result.now c.args.levels.now.items few c.innermost-level.result
+    (λ put. (gone_on c.args.path.now.items c.push_bytes.new.text.items c.truncate-2.new.self.items c.step.result.now c.args.levels.now.items few
     (c.args.token.depth + 1) c.requires c.truncate.ensures.items last c.truncate-2.ensures.items put).0) c.push_bytes.ensures
 
 pub returns-clause-kept : goal.returns-clause-kept
@@ -17,7 +17,7 @@ returns-clause-kept c =
     let few = c.truncate.new.self.items in
     let last : c.innermost-level.result ≡ last_of few = c.innermost-level.ensures ∙ ap last_of c.deref.ensures.value in
     on_ok c.push_bytes.result _ _
-    (λ put. (gone_on c.args.path.now.items c.push_bytes.new.text.items c.truncate-2.new.self.items c.step.result.now c.args.levels.now.items few c.innermost-level.result
+    (λ put. (gone_on c.args.path.now.items c.push_bytes.new.text.items c.truncate-2.new.self.items c.step.result.now c.args.levels.now.items few
     (c.args.token.depth + 1) c.requires c.truncate.ensures.items last c.truncate-2.ensures.items put).1) c.push_bytes.ensures
 
 pub returns-clause-path : goal.returns-clause-path

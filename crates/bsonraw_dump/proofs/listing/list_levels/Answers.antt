@@ -28,7 +28,7 @@ returns-in_default-clause-listed g c =
     let at : here ≡ 1 + length c.levels.waiting.items = omega (arith, len) in
     let tells = subst (λ (n : Next). ListsNext here l new line n) c.in-End.is c.in_ok-next_line.ensures in
     let none : c.levels.waiting.items ≡ [] = search rules in
-    all_listed c.levels.invariant here at new line tells none
+    all_listed c.levels.invariant at new line tells none
 
 pub levels-preserved-in-End : goal.levels-preserved-in-End
 levels-preserved-in-End g c =
@@ -39,7 +39,7 @@ levels-preserved-in-End g c =
     let here : ℕ = c.len-depth.result + 1 in
     let at : here ≡ 1 + length c.levels.waiting.items = omega (arith, len) in
     let tells = subst (λ (n : Next). ListsNext here l new line n) c.in-End.is c.in_ok-next_line.ensures in
-    goes_outward c.levels.invariant here at new line c.pop.new.self.items c.in-Some.outer tells c.in-Some.ensures.items
+    goes_outward c.levels.invariant at new line c.pop.new.self.items c.in-Some.outer tells c.in-Some.ensures.items
 
 pub levels-smaller-in-Continue-branch-3 : goal.levels-smaller-in-Continue-branch-3
 levels-smaller-in-Continue-branch-3 g c =
@@ -65,7 +65,7 @@ levels-preserved-in-Continue-branch-3 g c =
     let tells = subst (λ (n : Next). ListsNext here l new line n) c.in-Line.is c.in_ok-next_line.ensures in
     let old = g.W.Write.contents c.levels.out in
     let last = g.W.Write.contents c.put.new.writer in
-    goes_line c.levels.invariant here at new line last tells (subst (λ (x : List ℕ). Appends old last x) c.deref.ensures.value c.in_ok-put-in-Line.ensures.written)
+    goes_line c.levels.invariant at new line last tells (subst (λ (x : List ℕ). Appends old last x) c.deref.ensures.value c.in_ok-put-in-Line.ensures.written)
 
 pub returns-in_err-put-in-Line-clause-front : goal.returns-in_err-put-in-Line-clause-front
 returns-in_err-put-in-Line-clause-front g c =
@@ -78,7 +78,7 @@ returns-in_err-put-in-Line-clause-front g c =
     let tells = subst (λ (n : Next). ListsNext here l new line n) c.in-Line.is c.in_ok-next_line.ensures in
     let old = g.W.Write.contents c.levels.out in
     let last = g.W.Write.contents c.put.new.writer in
-    on_any _ _ (part_line c.levels.invariant here at new line last tells (subst (λ (x : List ℕ). AppendsFront old last x) c.deref.ensures.value c.in_err-put-in-Line.ensures.front))
+    on_any _ _ (part_line c.levels.invariant at new line last tells (subst (λ (x : List ℕ). AppendsFront old last x) c.deref.ensures.value c.in_err-put-in-Line.ensures.front))
 
 pub returns-in_err-put-in-Inside-clause-front : goal.returns-in_err-put-in-Inside-clause-front
 returns-in_err-put-in-Inside-clause-front g c =
@@ -92,7 +92,7 @@ returns-in_err-put-in-Inside-clause-front g c =
     let old = g.W.Write.contents c.levels.out in
     let last = g.W.Write.contents c.put-in-Inside.new.writer in
     let front = subst (λ (x : List ℕ). AppendsFront old last x) c.deref-in-Inside.ensures.value c.in_err-put-in-Inside.ensures.front in
-    on_any _ _ (part_inside c.levels.invariant here at new line c.in-Inside.inner tells last front)
+    on_any _ _ (part_inside c.levels.invariant at new line c.in-Inside.inner tells last front)
 
 pub returns-in_err-deep_line-in-Inside-clause-front : goal.returns-in_err-deep_line-in-Inside-clause-front
 returns-in_err-deep_line-in-Inside-clause-front g c =
@@ -106,7 +106,7 @@ returns-in_err-deep_line-in-Inside-clause-front g c =
     let old = g.W.Write.contents c.levels.out in
     let mid = g.W.Write.contents c.put-in-Inside.new.writer in
     let put = subst (λ (x : List ℕ). Appends old mid x) c.deref-in-Inside.ensures.value c.in_ok-put-in-Inside.ensures.written in
-    on_any _ _ (part_behind c.levels.invariant here at new line c.in-Inside.inner tells mid put)
+    on_any _ _ (part_behind c.levels.invariant at new line c.in-Inside.inner tells mid put)
 
 pub levels-smaller-in-Continue-branch-6 : goal.levels-smaller-in-Continue-branch-6
 levels-smaller-in-Continue-branch-6 g c =
@@ -136,7 +136,7 @@ levels-preserved-in-Continue-branch-6 g c =
     let most : here ≡ 500 = search rules in
     let last = g.W.Write.contents c.put-then-depth-eq-LEVELS.new.writer in
     let is = c.deref-then-depth-eq-LEVELS.ensures.value ∙ c.in_ok-deep_line-in-Inside.ensures in
-    goes_deep c.levels.invariant here at new line c.in-Inside.inner tells mid put last most (subst (λ (x : List ℕ). Appends mid last x) is c.in_ok-put-in-Inside-2.ensures.written)
+    goes_deep c.levels.invariant at new line c.in-Inside.inner tells mid put last most (subst (λ (x : List ℕ). Appends mid last x) is c.in_ok-put-in-Inside-2.ensures.written)
 
 pub returns-in_err-put-in-Inside-2-clause-front : goal.returns-in_err-put-in-Inside-2-clause-front
 returns-in_err-put-in-Inside-2-clause-front g c =
@@ -153,7 +153,7 @@ returns-in_err-put-in-Inside-2-clause-front g c =
     let most : here ≡ 500 = search rules in
     let last = g.W.Write.contents c.put-then-depth-eq-LEVELS.new.writer in
     let is = c.deref-then-depth-eq-LEVELS.ensures.value ∙ c.in_ok-deep_line-in-Inside.ensures in
-    on_any _ _ (part_deep c.levels.invariant here at new line c.in-Inside.inner tells mid put last most (subst (λ (x : List ℕ). AppendsFront mid last x) is c.in_err-put-in-Inside-2.ensures.front))
+    on_any _ _ (part_deep c.levels.invariant at new line c.in-Inside.inner tells mid put last most (subst (λ (x : List ℕ). AppendsFront mid last x) is c.in_err-put-in-Inside-2.ensures.front))
 
 pub levels-smaller : goal.levels-smaller
 levels-smaller g c =
@@ -179,7 +179,7 @@ levels-preserved g c =
     let mid = g.W.Write.contents c.put-in-Inside.new.writer in
     let put = subst (λ (x : List ℕ). Appends old mid x) c.deref-in-Inside.ensures.value c.in_ok-put-in-Inside.ensures.written in
     let less : here ≢ 500 = search rules in
-    rw (c.in_ok-enter-in-Inside.ensures.waits, c.in_ok-enter-in-Inside.ensures.inside) (goes_inside c.levels.invariant here at new line c.in-Inside.inner tells mid put less)
+    rw (c.in_ok-enter-in-Inside.ensures.waits, c.in_ok-enter-in-Inside.ensures.inside) (goes_inside c.levels.invariant at new line c.in-Inside.inner tells mid put less)
 
 pub returns-in_err-enter-in-Inside-clause-front : goal.returns-in_err-enter-in-Inside-clause-front
 returns-in_err-enter-in-Inside-clause-front g c =
@@ -193,4 +193,4 @@ returns-in_err-enter-in-Inside-clause-front g c =
     let old = g.W.Write.contents c.levels.out in
     let mid = g.W.Write.contents c.put-in-Inside.new.writer in
     let put = subst (λ (x : List ℕ). Appends old mid x) c.deref-in-Inside.ensures.value c.in_ok-put-in-Inside.ensures.written in
-    on_any _ _ (part_behind c.levels.invariant here at new line c.in-Inside.inner tells mid put)
+    on_any _ _ (part_behind c.levels.invariant at new line c.in-Inside.inner tells mid put)

@@ -14,7 +14,6 @@ part_of-requires g c = c.loop.invariant.searches.stays.window
 
 pub returns-in-GoesOn-clause-sees : goal.returns-in-GoesOn-clause-sees
 returns-in-GoesOn-clause-sees g c =
-    let r = g.R.Read.remaining in
     let y = c.loop.window in
     let p = c.part_of.result in
     let told = c.in_ok-check_behind.field-0 in
@@ -25,16 +24,15 @@ returns-in-GoesOn-clause-sees g c =
     let which : (told ≡ check.GoesOn) ⊎ (told ≡ check.LeftOut) = search rules in
     elim which [
       | inl is ↦
-          sees_on (r c.args.reader.now) (r c.loop.reader) c.args.window.now y c.args.work.now c.loop.work c.loop.is_last inv.searches inv.ends c.args.len w'
+          sees_on c.loop.is_last inv.searches inv.ends c.args.len w'
           (subst (ChecksBehind c.args.limits (ahead_of y) c.loop.is_last y.offset c.args.len c.loop.work w') is checks) c.check_behind.ensures.work
       | inr is ↦
-          sees_left (r c.args.reader.now) (r c.loop.reader) c.args.window.now y c.args.work.now c.loop.work c.loop.is_last inv.searches inv.ends c.args.len w'
+          sees_left c.loop.is_last inv.searches inv.ends c.args.len w'
           (subst (ChecksBehind c.args.limits (ahead_of y) c.loop.is_last y.offset c.args.len c.loop.work w') is checks) c.check_behind.ensures.work
     ]
 
 pub returns-in-Stops-clause-sees : goal.returns-in-Stops-clause-sees
 returns-in-Stops-clause-sees g c =
-    let r = g.R.Read.remaining in
     let y = c.loop.window in
     let p = c.part_of.result in
     let told = c.in_ok-check_behind.field-0 in
@@ -42,7 +40,7 @@ returns-in-Stops-clause-sees g c =
     let inv = c.loop.invariant in
     let checks = part_ahead (λ m b l a. ChecksBehind m b l a c.args.len c.loop.work w' told) p.limits p.bytes.now p.is_last p.at y c.loop.is_last
     c.part_of.ensures.limits c.part_of.ensures.bytes c.part_of.ensures.last c.part_of.ensures.at c.in_ok-check_behind.ensures.checked in
-    sees_stop (r c.args.reader.now) (r c.loop.reader) c.args.window.now y c.args.work.now c.loop.work c.loop.is_last inv.searches inv.ends c.args.len w'
+    sees_stop c.loop.is_last inv.searches inv.ends c.args.len w'
     (subst (ChecksBehind c.args.limits (ahead_of y) c.loop.is_last y.offset c.args.len c.loop.work w') c.in-Stops.is checks) c.check_behind.ensures.work
 
 pub look-requires : goal.look-requires
@@ -50,7 +48,6 @@ look-requires g c = c.loop.invariant.searches.stays.window
 
 pub loop-preserved : goal.loop-preserved
 loop-preserved g c =
-    let r = g.R.Read.remaining in
     let y = c.loop.window in
     let p = c.part_of.result in
     let w' = c.check_behind.new.work in
@@ -58,5 +55,5 @@ loop-preserved g c =
     let checks = part_ahead (λ m b l a. ChecksBehind m b l a c.args.len c.loop.work w' c.in_ok-check_behind.field-0) p.limits p.bytes.now p.is_last p.at y c.loop.is_last
     c.part_of.ensures.limits c.part_of.ensures.bytes c.part_of.ensures.last c.part_of.ensures.at c.in_ok-check_behind.ensures.checked in
     let wants = subst (ChecksBehind c.args.limits (ahead_of y) c.loop.is_last y.offset c.args.len c.loop.work w') c.in-Wants.is checks in
-    looked_on (r c.args.reader.now) (r c.loop.reader) (r c.look.new.reader) c.args.window.now y c.look.new.self c.args.work.now c.loop.work w' c.args.len c.in-Wants.count
+    looked_on c.args.len c.in-Wants.count
     c.loop.is_last (not there) there c.loop.invariant wants c.check_behind.ensures.work c.in_ok-is_last-in-Wants.ensures.looks (not_true there)

@@ -1,5 +1,5 @@
 use Rattle.std.proofs.Common.{refl, not}
-use Rattle.bsonraw_dump.proofs.Deciding.{inside_found, inside_none, places, sought_none, sought_on}
+use Rattle.bsonraw_dump.proofs.Deciding.{inside_found, inside_none, sought_none, sought_on}
 use Rattle.bsonraw_dump.proofs.Skipping.{not_true, seeks_ahead}
 use Rattle.bsonraw_dump.proofs.resync.goes_on_between.Goals as goal
 
@@ -11,38 +11,32 @@ part_of-requires g c = c.loop.invariant.searches.stays.window
 
 pub returns-in-Found-clause-sees : goal.returns-in-Found-clause-sees
 returns-in-Found-clause-sees g c =
-    let r = g.R.Read.remaining in
     let y = c.loop.window in
     let p = c.part_of.result in
     let told = c.in_ok-seek.field-0 in
-    let seeks = seeks_ahead p.limits p.bytes.now p.is_last p.at y c.loop.is_last (places c.loop.from c.args.until c.args.end) c.loop.work c.seek.new.work told told
+    let seeks = seeks_ahead y
     c.part_of.ensures.limits c.part_of.ensures.bytes c.part_of.ensures.last c.part_of.ensures.at refl c.in_ok-seek.ensures.sought in
-    inside_found (r c.args.reader.now) (r c.loop.reader) c.args.window.now y c.args.work.now c.loop.work c.seek.new.work c.args.first c.loop.from c.args.until c.args.end c.loop.is_last
-    c.loop.invariant told seeks c.seek.ensures.work c.in-Found.place c.in-Found.all c.in-Found.is
+    inside_found c.loop.invariant seeks c.seek.ensures.work c.in-Found.place c.in-Found.all c.in-Found.is
 
 pub returns-in-Nowhere-clause-sees : goal.returns-in-Nowhere-clause-sees
 returns-in-Nowhere-clause-sees g c =
-    let r = g.R.Read.remaining in
     let y = c.loop.window in
     let p = c.part_of.result in
     let told = c.in_ok-seek.field-0 in
-    let seeks = seeks_ahead p.limits p.bytes.now p.is_last p.at y c.loop.is_last (places c.loop.from c.args.until c.args.end) c.loop.work c.seek.new.work told told
+    let seeks = seeks_ahead y
     c.part_of.ensures.limits c.part_of.ensures.bytes c.part_of.ensures.last c.part_of.ensures.at refl c.in_ok-seek.ensures.sought in
-    inside_none (r c.args.reader.now) (r c.loop.reader) c.args.window.now y c.args.work.now c.loop.work c.seek.new.work c.args.first c.loop.from c.args.until c.args.end c.loop.is_last
-    c.loop.invariant told seeks c.seek.ensures.work c.in-Nowhere.all c.in-Nowhere.is
+    inside_none c.loop.invariant seeks c.seek.ensures.work c.in-Nowhere.all c.in-Nowhere.is
 
 pub look-requires : goal.look-requires
 look-requires g c = c.loop.invariant.searches.stays.window
 
 pub loop-preserved : goal.loop-preserved
 loop-preserved g c =
-    let r = g.R.Read.remaining in
     let y = c.loop.window in
     let p = c.part_of.result in
     let told = c.in_ok-seek.field-0 in
     let there = c.in_ok-is_last-in-Wants.field-0 in
-    let seeks = seeks_ahead p.limits p.bytes.now p.is_last p.at y c.loop.is_last (places c.loop.from c.args.until c.args.end) c.loop.work c.seek.new.work told told
+    let seeks = seeks_ahead y
     c.part_of.ensures.limits c.part_of.ensures.bytes c.part_of.ensures.last c.part_of.ensures.at refl c.in_ok-seek.ensures.sought in
-    sought_on (r c.args.reader.now) (r c.loop.reader) c.args.window.now y c.args.work.now c.loop.work c.seek.new.work c.args.first c.loop.from c.args.until c.args.end c.loop.is_last
-    c.loop.invariant told seeks c.seek.ensures.work (r c.look.new.reader) c.look.new.self c.in-Wants.place c.in-Wants.count c.in-Wants.all there (not there)
+    sought_on c.loop.invariant seeks c.seek.ensures.work c.look.new.self c.in-Wants.place c.in-Wants.count c.in-Wants.all there (not there)
     c.in-Wants.is c.in_ok-is_last-in-Wants.ensures.looks (not_true there)

@@ -10,7 +10,7 @@ returns-then-branch-clause-sees g c =
     let new = c.goes_on_between.new in
     let from = c.max-from.result in
     let sees = subst (SeesInside c.args.limits (r l.reader) (r new.reader) l.window new.window l.work new.work from l.until c.args.end) c.if-branch.true c.in_ok-goes_on_between.ensures.sees in
-    down_found (r c.args.reader.now) (r l.reader) (r new.reader) c.args.window.now l.window new.window c.args.work.now l.work new.work from l.until c.args.len c.args.end
+    down_found from
     l.invariant.1 (omega (arith, c.max-from.ensures)) sees
 
 pub parts-smaller : goal.parts-smaller
@@ -24,6 +24,6 @@ parts-preserved g c =
     let from = c.max-from.result in
     let sees = subst (SeesInside c.args.limits (r l.reader) (r new.reader) l.window new.window l.work new.work from l.until c.args.end) c.if-branch.false c.in_ok-goes_on_between.ensures.sees in (
       omega (arith, c.saturating_mul-count.ensures, l.invariant.0),
-      down_on (r c.args.reader.now) (r l.reader) (r new.reader) c.args.window.now l.window new.window c.args.work.now l.work new.work from l.until c.args.len c.args.end
+      down_on from
           l.invariant.1 (omega (arith, c.max-from.ensures)) (omega (arith, c.max-from.ensures, c.saturating_sub.ensures, c.parts-test.true)) sees,
     )

@@ -16,13 +16,10 @@ pub returns-clause-doubts : goal.returns-clause-doubts
 returns-clause-doubts g c =
     let r = g.R.Read.remaining in
     let first = c.goes_on_behind.new in
-    let second = c.goes_on_behind-2.new in
-    let last = c.goes_on_inside.new in
     let damaged = subst (SeesBehind c.args.limits (r c.args.reader.now) (r first.reader) c.args.window.now first.window c.args.work.now first.work 0) c.if-branch.false
     c.in_ok-goes_on_behind.ensures.sees in
     if_ok c.goes_on_inside.result _ _ (λ doubted sees.
-    doubts_damaged (r c.args.reader.now) (r first.reader) (r second.reader) (r last.reader) c.args.window.now first.window second.window last.window c.args.work.now first.work
-    second.work last.work c.args.len c.reach-end.result c.in_ok-goes_on.goes_on doubted (c.requires.2, c.requires.3) damaged c.in_ok-goes_on.ensures.sees c.reach-end.ensures sees)
+    doubts_damaged c.args.len c.reach-end.result c.in_ok-goes_on.goes_on doubted (c.requires.2, c.requires.3) damaged c.in_ok-goes_on.ensures.sees c.reach-end.ensures sees)
     c.goes_on_inside.ensures.sees
 
 pub returns-clause-fails : goal.returns-clause-fails

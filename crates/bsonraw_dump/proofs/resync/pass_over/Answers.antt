@@ -14,56 +14,54 @@ pub pass-requires : goal.pass-requires
 pass-requires g c =
     let y = c.loop.window in
     let q : Places = record { from = c.loop.from; until = 18446744073709551615; end = 0 } in
-    let seeks = seeks_ahead c.part_of.result.limits c.part_of.result.bytes.now c.part_of.result.is_last c.part_of.result.at y c.loop.is_last q c.loop.work c.seek.new.work
-    c.in_ok-place.field-0 (sought.Found c.in-Found.place c.in-Found.all) c.part_of.ensures.limits c.part_of.ensures.bytes c.part_of.ensures.last c.part_of.ensures.at c.in-Found.is
+    let seeks = seeks_ahead y
+    c.part_of.ensures.limits c.part_of.ensures.bytes c.part_of.ensures.last c.part_of.ensures.at c.in-Found.is
     c.in_ok-place.ensures.sought in
     (c.loop.invariant.window, (seeks.tells [] (λ is. refl)).2)
 
 pub returns-then-are_all-clause-skips : goal.returns-then-are_all-clause-skips
 returns-then-are_all-clause-skips g c =
-    let r = g.R.Read.remaining in
     let y = c.loop.window in
     let inv = c.loop.invariant in
     let q : Places = record { from = c.loop.from; until = 18446744073709551615; end = 0 } in
-    let seeks = seeks_ahead c.part_of.result.limits c.part_of.result.bytes.now c.part_of.result.is_last c.part_of.result.at y c.loop.is_last q c.loop.work c.seek.new.work
-    c.in_ok-place.field-0 (sought.Found c.in-Found.place c.in-Found.all) c.part_of.ensures.limits c.part_of.ensures.bytes c.part_of.ensures.last c.part_of.ensures.at c.in-Found.is
+    let seeks = seeks_ahead y
+    c.part_of.ensures.limits c.part_of.ensures.bytes c.part_of.ensures.last c.part_of.ensures.at c.in-Found.is
     c.in_ok-place.ensures.sought in
     let passed = c.in_ok-pass-in-Found.ensures.passed in
     let at : c.pass.new.self.offset ≡ y.offset + c.in-Found.place = passed.2 in
     let count : c.offset.result - c.offset-start.result ≡ inv.n + c.in-Found.place = omega (arith, c.offset.ensures, c.offset-start.ensures, at, inv.offset) in
-    searched_to (r c.args.reader.now) (r c.loop.reader) c.args.window.now y c.args.work.now c.loop.work c.seek.new.work c.loop.from c.loop.is_last c.loop.are_all inv q refl refl
-    c.pass.new.self c.in-Found.place c.in-Found.all (record { count = c.offset.result - c.offset-start.result; all = c.in-Found.all }) seeks c.seek.ensures.work
+    searched_to inv q refl refl
+    seeks c.seek.ensures.work
     passed.0 passed.1 at count (sym (ap (λ b. b && c.in-Found.all) c.if-are_all.true))
 
 pub returns-else-are_all-clause-skips : goal.returns-else-are_all-clause-skips
 returns-else-are_all-clause-skips g c =
-    let r = g.R.Read.remaining in
     let y = c.loop.window in
     let inv = c.loop.invariant in
     let q : Places = record { from = c.loop.from; until = 18446744073709551615; end = 0 } in
-    let seeks = seeks_ahead c.part_of.result.limits c.part_of.result.bytes.now c.part_of.result.is_last c.part_of.result.at y c.loop.is_last q c.loop.work c.seek.new.work
-    c.in_ok-place.field-0 (sought.Found c.in-Found.place c.in-Found.all) c.part_of.ensures.limits c.part_of.ensures.bytes c.part_of.ensures.last c.part_of.ensures.at c.in-Found.is
+    let seeks = seeks_ahead y
+    c.part_of.ensures.limits c.part_of.ensures.bytes c.part_of.ensures.last c.part_of.ensures.at c.in-Found.is
     c.in_ok-place.ensures.sought in
     let passed = c.in_ok-pass-in-Found.ensures.passed in
     let at : c.pass.new.self.offset ≡ y.offset + c.in-Found.place = passed.2 in
     let count : c.offset.result - c.offset-start.result ≡ inv.n + c.in-Found.place = omega (arith, c.offset.ensures, c.offset-start.ensures, at, inv.offset) in
-    searched_to (r c.args.reader.now) (r c.loop.reader) c.args.window.now y c.args.work.now c.loop.work c.seek.new.work c.loop.from c.loop.is_last c.loop.are_all inv q refl refl
-    c.pass.new.self c.in-Found.place c.in-Found.all (record { count = c.offset.result - c.offset-start.result; all = c.loop.are_all }) seeks c.seek.ensures.work
+    searched_to inv q refl refl
+    seeks c.seek.ensures.work
     passed.0 passed.1 at count (c.if-are_all.false ∙ sym (ap (λ b. b && c.in-Found.all) c.if-are_all.false))
 
 pub pass-requires-in-Wants : goal.pass-requires-in-Wants
 pass-requires-in-Wants g c =
     let q : Places = record { from = c.loop.from; until = 18446744073709551615; end = 0 } in
-    let seeks = seeks_ahead c.part_of.result.limits c.part_of.result.bytes.now c.part_of.result.is_last c.part_of.result.at c.loop.window c.loop.is_last q c.loop.work c.seek.new.work
-    c.in_ok-place.field-0 (sought.Wants c.in-Wants.place c.in-Wants.count c.in-Wants.all) c.part_of.ensures.limits c.part_of.ensures.bytes c.part_of.ensures.last c.part_of.ensures.at
+    let seeks = seeks_ahead c.loop.window
+    c.part_of.ensures.limits c.part_of.ensures.bytes c.part_of.ensures.last c.part_of.ensures.at
     c.in-Wants.is c.in_ok-place.ensures.sought in
     (c.loop.invariant.window, (seeks.tells [] (λ is. refl)).2)
 
 pub overflow_sub-count : goal.overflow_sub-count
 overflow_sub-count g c =
     let q : Places = record { from = c.loop.from; until = 18446744073709551615; end = 0 } in
-    let seeks = seeks_ahead c.part_of.result.limits c.part_of.result.bytes.now c.part_of.result.is_last c.part_of.result.at c.loop.window c.loop.is_last q c.loop.work c.seek.new.work
-    c.in_ok-place.field-0 (sought.Wants c.in-Wants.place c.in-Wants.count c.in-Wants.all) c.part_of.ensures.limits c.part_of.ensures.bytes c.part_of.ensures.last c.part_of.ensures.at
+    let seeks = seeks_ahead c.loop.window
+    c.part_of.ensures.limits c.part_of.ensures.bytes c.part_of.ensures.last c.part_of.ensures.at
     c.in-Wants.is c.in_ok-place.ensures.sought in
     let told = seeks.tells [] (λ is. refl) in
     let within : c.in-Wants.place ≤ length (ahead_of c.loop.window) = told.2 in
@@ -79,8 +77,8 @@ returns-in_err-is_last-in-Wants-clause-fails g c =
     let y = c.loop.window in
     let inv = c.loop.invariant in
     let q : Places = record { from = c.loop.from; until = 18446744073709551615; end = 0 } in
-    let seeks = seeks_ahead c.part_of.result.limits c.part_of.result.bytes.now c.part_of.result.is_last c.part_of.result.at y c.loop.is_last q c.loop.work c.seek.new.work
-    c.in_ok-place.field-0 (sought.Wants c.in-Wants.place c.in-Wants.count c.in-Wants.all) c.part_of.ensures.limits c.part_of.ensures.bytes c.part_of.ensures.last c.part_of.ensures.at
+    let seeks = seeks_ahead y
+    c.part_of.ensures.limits c.part_of.ensures.bytes c.part_of.ensures.last c.part_of.ensures.at
     c.in-Wants.is c.in_ok-place.ensures.sought in
     let told = seeks.tells [] (λ is. refl) in
     let one = passes_more (r c.args.reader.now) (r c.loop.reader) (ahead_of c.args.window.now) (ahead_of y) (ahead_of c.pass-in-Wants.new.self) inv.n c.in-Wants.place inv.passes told.2
@@ -94,8 +92,8 @@ returns-in_err-is_last-in-Wants-clause-fails g c =
 pub unreachable-requires : goal.unreachable-requires
 unreachable-requires g c =
     let q : Places = record { from = c.loop.from; until = 18446744073709551615; end = 0 } in
-    let seeks = seeks_ahead c.part_of.result.limits c.part_of.result.bytes.now c.part_of.result.is_last c.part_of.result.at c.loop.window c.loop.is_last q c.loop.work c.seek.new.work
-    c.in_ok-place.field-0 (sought.Nowhere c.in-Nowhere.all) c.part_of.ensures.limits c.part_of.ensures.bytes c.part_of.ensures.last c.part_of.ensures.at
+    let seeks = seeks_ahead c.loop.window
+    c.part_of.ensures.limits c.part_of.ensures.bytes c.part_of.ensures.last c.part_of.ensures.at
     c.in-Nowhere.is c.in_ok-place.ensures.sought in
     let told = seeks.tells [] (λ is. refl) in
     let long : 18446744073709551615 ≤ length (ahead_of c.loop.window) = told.0 in
@@ -108,13 +106,13 @@ loop-preserved g c =
     let y = c.loop.window in
     let inv = c.loop.invariant in
     let q : Places = record { from = c.loop.from; until = 18446744073709551615; end = 0 } in
-    let seeks = seeks_ahead c.part_of.result.limits c.part_of.result.bytes.now c.part_of.result.is_last c.part_of.result.at y c.loop.is_last q c.loop.work c.seek.new.work
-    c.in_ok-place.field-0 (sought.Wants c.in-Wants.place c.in-Wants.count c.in-Wants.all) c.part_of.ensures.limits c.part_of.ensures.bytes c.part_of.ensures.last c.part_of.ensures.at
+    let seeks = seeks_ahead y
+    c.part_of.ensures.limits c.part_of.ensures.bytes c.part_of.ensures.last c.part_of.ensures.at
     c.in-Wants.is c.in_ok-place.ensures.sought in
     let passed = c.in_ok-pass-in-Wants.ensures.passed in
     let there = c.in_ok-is_last-in-Wants.field-0 in
-    let on = searched_on (r c.args.reader.now) (r c.loop.reader) c.args.window.now y c.args.work.now c.loop.work c.seek.new.work c.loop.from c.loop.is_last c.loop.are_all inv q refl refl
-    (r c.look.new.reader) c.pass-in-Wants.new.self c.look.new.self c.in-Wants.place c.in-Wants.count (c.in-Wants.count - c.in-Wants.place) c.in-Wants.all there seeks c.seek.ensures.work
+    let on = searched_on inv q refl refl
+    seeks c.seek.ensures.work
     passed.1 passed.2 c.in_ok-is_last-in-Wants.ensures.looks (not there) (not_true there) in
     elim c.if-are_all-2.branch [
       | then-are_all-2 w ↦

@@ -58,15 +58,11 @@ returns-in-Nothing-clause-passed g c =
     let now = record c.args.asked { style = style_at c.args.asked.style c.args.asked.limit c.loop.counts } in
     let passed = subst (λ (a : Asked). part a c.in-Ok.next) c.at-here.ensures c.in-Ok.ensures.passed in
     let (told, nothing) = subst (part now) c.in-Nothing.is passed in
-    let before = has_passed_same c.args.asked.command style c.args.asked.resync c.args.asked.name.now (ahead_of c.loop.window) (read c.args.reader.now)
-    (read c.loop.reader) (out c.args.out.now) (out c.loop.out) (out new.out) (report c.args.report.now) (report c.loop.report) (report new.report) c.args.counts.now c.loop.counts
-    new.counts c.args.kept.now c.loop.kept new.kept c.loop.window.offset c.loop.work c.loop.invariant.2.has nothing in
+    let before = has_passed_same c.loop.invariant.2.has nothing in
     let inv = c.loop.invariant.2 in
     record {
       front = inv.front;
-      all = stops_end c.args.asked.command style c.args.asked.resync c.args.asked.name.now (read c.args.reader.now) (read c.loop.reader) (read new.reader)
-          (out c.args.out.now) (out new.out) (report c.args.report.now) (report new.report) (report new.report) c.args.counts.now new.counts new.counts
-          c.args.kept.now new.kept c.loop.window new.window c.loop.work new.work before told;
+      all = stops_end before told;
       chosen = inv.chosen;
       to_front = inl inv.all;
       to_last = λ same. let impossible : ⊥ = cc in absurd impossible;
@@ -85,15 +81,11 @@ returns-then-not-asked-clause-passed g c =
     let now = record c.args.asked { style = style_at c.args.asked.style c.args.asked.limit c.loop.counts } in
     let passed = subst (λ (a : Asked). part a c.in-Ok.next) c.at-here.ensures c.in-Ok.ensures.passed in
     let (told, nothing) = subst (part now) c.in-End.is passed in
-    let before = has_passed_same c.args.asked.command style c.args.asked.resync c.args.asked.name.now (ahead_of c.loop.window) (read c.args.reader.now)
-    (read c.loop.reader) (out c.args.out.now) (out c.loop.out) (out new.out) (report c.args.report.now) (report c.loop.report) (report new.report) c.args.counts.now c.loop.counts
-    new.counts c.args.kept.now c.loop.kept new.kept c.loop.window.offset c.loop.work c.loop.invariant.2.has nothing in
+    let before = has_passed_same c.loop.invariant.2.has nothing in
     let inv = c.loop.invariant.2 in
     record {
       front = inv.front;
-      all = stops_left c.args.asked.command style c.args.asked.resync c.args.asked.name.now (read c.args.reader.now) (read c.loop.reader) (read new.reader)
-          (out c.args.out.now) (out new.out) (report c.args.report.now) (report new.report) (report new.report) c.args.counts.now new.counts new.counts
-          c.args.kept.now new.kept c.loop.window new.window c.loop.work new.work c.in-End.ending before told c.if-not-asked.true;
+      all = stops_left before told c.if-not-asked.true;
       chosen = inv.chosen;
       to_front = inl inv.all;
       to_last = λ same. let impossible : ⊥ = cc in absurd impossible;
@@ -114,19 +106,13 @@ returns-in-Err-pass_gap-clause-passed g c =
     let now = record c.args.asked { style = style_at c.args.asked.style c.args.asked.limit c.loop.counts } in
     let passed = subst (λ (a : Asked). part a c.in-Ok.next) c.at-here.ensures c.in-Ok.ensures.passed in
     let (told, nothing) = subst (part now) c.in-End.is passed in
-    let before = has_passed_same c.args.asked.command style c.args.asked.resync c.args.asked.name.now (ahead_of c.loop.window) (read c.args.reader.now)
-    (read c.loop.reader) (out c.args.out.now) (out c.loop.out) (out new.out) (report c.args.report.now) (report c.loop.report) (report new.report) c.args.counts.now c.loop.counts
-    new.counts c.args.kept.now c.loop.kept new.kept c.loop.window.offset c.loop.work c.loop.invariant.2.has nothing in
-    let here = has_passed_ahead c.args.asked.command style c.args.asked.resync c.args.asked.name.now c.loop.window y (read c.args.reader.now) (read c.loop.reader)
-    (read new.reader) (out c.args.out.now) (out new.out) (report c.args.report.now) (report new.report) c.args.counts.now new.counts
-    c.args.kept.now new.kept c.loop.work new.work (next.End c.in-End.ending) before told in
+    let before = has_passed_same c.loop.invariant.2.has nothing in
+    let here = has_passed_ahead before told in
     let at : from ≡ y.offset = c.offset-from.ensures ∙ sym told.searches.stays.offset in
     if_ok c.stopped-in-Err-pass_gap.result _ _ (λ s is.
     let (goes, kept, same) = c.in-Err-pass_gap.ensures.fails is.0 in
     let inv = c.loop.invariant.2 in
-    stops_portion s from inv.front (stops_failed c.args.asked.command style c.args.asked.resync c.args.asked.name.now (read c.args.reader.now) (read new.reader)
-    (read c.pass_gap.new.reader) (out c.args.out.now) (out new.out) (report c.args.report.now) (report new.report) (report c.pass_gap.new.report)
-    c.args.counts.now new.counts c.pass_gap.new.counts c.args.kept.now new.kept y c.pass_gap.new.window c.loop.work from s is.1 here at goes kept same)
+    stops_portion s from inv.front (stops_failed from s is.1 here at goes kept same)
     inv.chosen (inl inv.all) is.1)
     c.stopped-in-Err-pass_gap.ensures.stops
 
@@ -134,7 +120,6 @@ pub returns-in-Err-pass_next-clause-passed : goal.returns-in-Err-pass_next-claus
 returns-in-Err-pass_next-clause-passed g c =
     let style = style_at c.args.asked.style c.args.asked.limit in
     let read = g.R.Read.remaining in
-    let out = g.D.Write.contents in
     let report = g.W.Write.contents in
     let new = c.pass_next.new in
     let x = c.loop.window in
@@ -144,14 +129,10 @@ returns-in-Err-pass_next-clause-passed g c =
     let none : x.offset ≡ x.offset + 0 = omega arith in
     if_ok c.stopped-in-Err-pass_next.result _ _ (λ s is.
     let (stays, nothing) = c.in-Err-pass_next.ensures.fails is.0 in
-    let before = has_passed_same c.args.asked.command style c.args.asked.resync c.args.asked.name.now (ahead_of x) (read c.args.reader.now) r' (out c.args.out.now)
-    (out c.loop.out) (out new.out) (report c.args.report.now) (report c.loop.report) (report new.report) c.args.counts.now c.loop.counts new.counts c.args.kept.now c.loop.kept
-    new.kept x.offset c.loop.work c.loop.invariant.2.has nothing in
+    let before = has_passed_same c.loop.invariant.2.has nothing in
     let goes = goes_ahead r' r' r'' x x y 0 (passes_none r' (ahead_of x)) none stays in
     let inv = c.loop.invariant.2 in
-    stops_portion s c.offset-from.result inv.front (stops_failed c.args.asked.command style c.args.asked.resync c.args.asked.name.now (read c.args.reader.now) r' r''
-    (out c.args.out.now) (out new.out) (report c.args.report.now) (report new.report) (report new.report)
-    c.args.counts.now new.counts new.counts c.args.kept.now new.kept x y c.loop.work c.offset-from.result s is.1 before c.offset-from.ensures goes
+    stops_portion s c.offset-from.result inv.front (stops_failed c.offset-from.result s is.1 before c.offset-from.ensures goes
     (keeps_same (report new.report)) refl) inv.chosen (inl inv.all) is.1)
     c.stopped-in-Err-pass_next.ensures.stops
 
@@ -179,9 +160,7 @@ loop-preserved g c =
             told.searches.work,
             record {
               front = inv.front;
-              has = has_passed_front any c.args.asked.command style c.args.asked.resync c.args.asked.name.now c.loop.window y new.window (read c.args.reader.now)
-                  (read c.loop.reader) (read new.reader) (out c.args.out.now) (out c.loop.out) (out new.out) (report c.args.report.now) (report c.loop.report) (report new.report)
-                  c.args.counts.now c.loop.counts new.counts c.args.kept.now c.loop.kept new.kept w.in-Document.field-0 c.loop.work new.work inv.has told front;
+              has = has_passed_front inv.has told front;
               chosen = chosen_piece inv.has.ps _ inv.chosen inv.all other;
               all = inv.all;
             },
@@ -191,19 +170,13 @@ loop-preserved g c =
           let gap = λ (a : Asked). PassesGap a.limits a.style a.name.now w.in-End.ending (read new.reader) (read w.pass_gap.new.reader) new.window w.pass_gap.new.window new.work w.pass_gap.new.work
           (report new.report) (report w.pass_gap.new.report) new.counts w.pass_gap.new.counts in
           let over = subst (λ (m : Counts). gap (record now { style = style m })) (sym nothing.2) (subst gap c.at-here.ensures w.in_default-pass_gap.ensures.passed) in
-          let before = has_passed_same c.args.asked.command style c.args.asked.resync c.args.asked.name.now (ahead_of c.loop.window) (read c.args.reader.now)
-          (read c.loop.reader) (out c.args.out.now) (out c.loop.out) (out new.out) (report c.args.report.now) (report c.loop.report) (report new.report) c.args.counts.now c.loop.counts
-          new.counts c.args.kept.now c.loop.kept new.kept c.loop.window.offset c.loop.work c.loop.invariant.2.has nothing in
+          let before = has_passed_same c.loop.invariant.2.has nothing in
           rw (w.window-is, w.work-is, w.reader-is, w.report-is, w.counts-is) (
             over.skips.window,
             over.skips.work,
             record {
               front = inv.front;
-              has = has_passed_gap c.args.asked.command style c.args.asked.resync c.args.asked.name.now c.loop.window new.window
-                  w.pass_gap.new.window (read c.args.reader.now) (read c.loop.reader) (read new.reader) (read w.pass_gap.new.reader)
-                  (out c.args.out.now) (out new.out) (report c.args.report.now) (report new.report) (report w.pass_gap.new.report) c.args.counts.now
-                  new.counts w.pass_gap.new.counts c.args.kept.now new.kept c.loop.work new.work w.pass_gap.new.work w.in-End.ending before told
-                  w.if-not-asked.false over;
+              has = has_passed_gap before told w.if-not-asked.false over;
               chosen = chosen_gap inv.has.ps _ inv.chosen inv.all other;
               all = inv.all;
             },
@@ -223,17 +196,13 @@ returns-in-Err-pass_gap-clause-halts g c =
     let now = record c.args.asked { style = style_at c.args.asked.style c.args.asked.limit c.loop.counts } in
     let passed = subst (λ (a : Asked). part a c.in-Ok.next) c.at-here.ensures c.in-Ok.ensures.passed in
     let (told, nothing) = subst (part now) c.in-End.is passed in
-    let before = has_passed_same c.args.asked.command style c.args.asked.resync c.args.asked.name.now (ahead_of c.loop.window) (read c.args.reader.now)
-    (read c.loop.reader) (out c.args.out.now) (out c.loop.out) (out new.out) (report c.args.report.now) (report c.loop.report) (report new.report) c.args.counts.now c.loop.counts
-    new.counts c.args.kept.now c.loop.kept new.kept c.loop.window.offset c.loop.work c.loop.invariant.2.has nothing in
+    let before = has_passed_same c.loop.invariant.2.has nothing in
     let inv = c.loop.invariant.2 in
     let gap = λ (a : Asked). HaltsInGap a.limits a.style a.name.now c.in-End.ending (read new.reader) (read c.pass_gap.new.reader) new.window c.pass_gap.new.window
     new.work c.pass_gap.new.work (report new.report) (report c.pass_gap.new.report) in
     let halts = subst (λ (m : Counts). gap (record now { style = style m })) (sym nothing.2) (subst gap c.at-here.ensures c.in-Err-pass_gap.ensures.halts) in
-    on_any _ _ (halts_portion inv.front (halts_gap c.args.asked.command style c.args.asked.resync c.args.asked.name.now (read c.args.reader.now) (read c.loop.reader)
-    (out c.args.out.now) (out new.out) (report c.args.report.now) (report new.report) c.args.counts.now new.counts c.args.kept.now new.kept
-    (read new.reader) (read c.pass_gap.new.reader) (report c.pass_gap.new.report) c.pass_gap.new.counts c.loop.window new.window c.pass_gap.new.window
-    c.loop.work new.work c.pass_gap.new.work c.in-End.ending before told c.if-not-asked.false halts c.in-Err-pass_gap.ensures.uncounted) inv.chosen)
+    on_any _ _ (halts_portion inv.front (halts_gap (read c.pass_gap.new.reader) (report c.pass_gap.new.report) c.pass_gap.new.counts c.pass_gap.new.window
+    c.pass_gap.new.work before told c.if-not-asked.false halts c.in-Err-pass_gap.ensures.uncounted) inv.chosen)
 
 pub returns-in-Err-pass_next-clause-halts : goal.returns-in-Err-pass_next-clause-halts
 returns-in-Err-pass_next-clause-halts g c =
@@ -245,36 +214,26 @@ returns-in-Err-pass_next-clause-halts g c =
     let inv = c.loop.invariant.2 in
     let halts = subst (λ (a : Asked). HaltsNext a.limits a.command a.style a.resync a.name.now (read c.loop.reader) c.loop.window c.loop.work c.loop.kept (out c.loop.out) (out new.out)
     (report c.loop.report) (report new.report)) c.at-here.ensures c.in-Err-pass_next.ensures.halts in
-    on_any _ _ (halts_portion inv.front (halts_next c.args.asked.command style c.args.asked.resync c.args.asked.name.now (read c.args.reader.now) (read c.loop.reader)
-    (out c.args.out.now) (out c.loop.out) (report c.args.report.now) (report c.loop.report) c.args.counts.now c.loop.counts c.args.kept.now c.loop.kept
-    (out new.out) (report new.report) new.counts c.loop.window c.loop.work c.loop.invariant.2.has halts c.in-Err-pass_next.ensures.uncounted) inv.chosen)
+    on_any _ _ (halts_portion inv.front (halts_next (out new.out) (report new.report) new.counts c.loop.window c.loop.invariant.2.has halts c.in-Err-pass_next.ensures.uncounted) inv.chosen)
 
 pub returns-clause-halts : goal.returns-clause-halts
 returns-clause-halts g c =
     let style = style_at c.args.asked.style c.args.asked.limit in
-    let read = g.R.Read.remaining in
-    let out = g.D.Write.contents in
-    let report = g.W.Write.contents in
     let inv = c.loop.invariant.2 in
     let h = inv.has in
-    halts_portion inv.front (halts_here c.args.asked.command style c.args.asked.resync c.args.asked.name.now (read c.args.reader.now) (read c.loop.reader)
-    (out c.args.out.now) (out c.loop.out) (report c.args.report.now) (report c.loop.report) c.args.counts.now c.loop.counts c.args.kept.now c.loop.kept
-    (ahead_of c.loop.window) h.ps h.passed) inv.chosen
+    halts_portion inv.front (halts_here h.passed) inv.chosen
 
 pub returns-in-Err-clause-passed : goal.returns-in-Err-clause-passed
 returns-in-Err-clause-passed g c =
     let style = style_at c.args.asked.style c.args.asked.limit in
     let read = g.R.Read.remaining in
-    let out = g.D.Write.contents in
     let report = g.W.Write.contents in
     let x = c.pass_front.new.window in
     if_ok c.stopped.result _ _ (λ s is.
     let (front, passed, before) = c.in-Err.ensures.fails is.0 in
     let h = has_passed_none front x no_work passed refl in
     let (goes, none) = goes_none (read c.pass_front.new.reader) x passed.window in
-    stops_portion s c.offset.result front (stops_failed c.args.asked.command style c.args.asked.resync c.args.asked.name.now (read c.args.reader.now)
-    (read c.pass_front.new.reader) (read c.pass_front.new.reader) (out c.args.out.now) (out c.args.out.now) (report c.args.report.now) (report c.args.report.now)
-    (report c.args.report.now) c.args.counts.now c.args.counts.now c.args.counts.now c.args.kept.now c.args.kept.now x x no_work c.offset.result s is.1 h
+    stops_portion s c.offset.result front (stops_failed c.offset.result s is.1 h
     c.offset.ensures goes (keeps_same (report c.args.report.now)) refl) (chosen_front front before) (inr (has_failed c.offset.result s is.1)) is.1)
     c.stopped.ensures.stops
 

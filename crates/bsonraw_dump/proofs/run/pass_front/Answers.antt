@@ -36,7 +36,7 @@ returns-in_err-counted-clause-halts g c =
     c.offset.ensures may in
     let passes = subst (λ (x : List ℕ). MayPassOne asked.limits any asked.command asked.style asked.name.now c.args.window.now.offset (take c.args.len x) old new report reported k k' (Some f))
     c.ahead.ensures here in
-    on_any _ _ (halts_passed asked.limits any asked.command asked.style asked.name.now c.args.window.now.offset (take c.args.len (ahead_of c.args.window.now)) old new report reported k k' f passes)
+    on_any _ _ (halts_passed asked any c.args.window.now.offset (take c.args.len (ahead_of c.args.window.now)) old new report reported k k' f passes)
 
 pub returns-in_err-pass-clause-halts : goal.returns-in_err-pass-clause-halts
 returns-in_err-pass-clause-halts g c =
@@ -55,4 +55,4 @@ returns-in_err-pass-clause-halts g c =
     c.offset.ensures may in
     let passes = subst (λ (x : List ℕ). MayPassOne asked.limits any asked.command asked.style asked.name.now c.args.window.now.offset (take c.args.len x) old new report reported k k' (Some f))
     c.ahead.ensures here in
-    on_any _ _ (halts_passed asked.limits any asked.command asked.style asked.name.now c.args.window.now.offset (take c.args.len (ahead_of c.args.window.now)) old new report reported k k' f passes)
+    on_any _ _ (halts_passed asked any c.args.window.now.offset (take c.args.len (ahead_of c.args.window.now)) old new report reported k k' f passes)

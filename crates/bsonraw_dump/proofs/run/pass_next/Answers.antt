@@ -16,11 +16,10 @@ use Rattle.bsonraw_dump.proofs.run.pass_next.Goals as goal
 
 pub returns-in_default : goal.returns-in_default
 returns-in_default g c =
-    let r = g.R.Read.remaining in
     record {
-      passed = next_other c.args.asked.limits c.args.asked.command c.args.asked.style c.args.asked.resync c.args.asked.name.now (r c.args.reader.now) (r c.look_ahead.new.reader)
-          (g.D.Write.contents c.args.out.now) (g.W.Write.contents c.args.report.now) c.args.window.now c.look_ahead.new.window c.args.work.now c.args.counts.now c.args.kept.now
-          c.in_ok-next.next c.requires.1 c.in_default.not-Document c.in_ok-next.ensures.told;
+      passed = next_other c.args.asked.limits c.args.asked.command c.args.asked.style c.args.asked.resync c.args.asked.name.now
+          (g.D.Write.contents c.args.out.now) (g.W.Write.contents c.args.report.now) c.args.counts.now c.args.kept.now
+          c.requires.1 c.in_default.not-Document c.in_ok-next.ensures.told;
       halts = tt;
       uncounted = tt;
       fails = tt;
@@ -37,8 +36,8 @@ returns-then-branch-clause-passed g c =
     let told = subst (TellsNext c.args.asked.limits.bytes (r c.args.reader.now) (r c.look_ahead.new.reader) c.args.window.now y 0) c.in-Document.is c.in_ok-next.ensures.told in
     let front = subst (MayPassFront c.args.asked.limits (not c.args.asked.resync) c.args.asked.command c.args.asked.style c.args.asked.name.now len y first.window (d c.args.out.now) (d first.out)
     (w c.args.report.now) (w first.report) c.args.counts.now first.counts c.args.kept.now first.kept) c.if-branch.true c.in_ok-pass_front.ensures.passed in
-    next_passed c.args.asked.command c.args.asked.style c.args.asked.resync c.args.asked.name.now (r c.args.reader.now) (r c.look_ahead.new.reader) (d c.args.out.now) (d first.out)
-    (w c.args.report.now) (w first.report) c.args.window.now y first.window c.args.work.now c.args.counts.now first.counts c.args.kept.now first.kept len c.requires.1 told front
+    next_passed c.args.asked.resync
+    c.args.work.now c.requires.1 told front
 
 pub returns-then-branch-2-clause-passed : goal.returns-then-branch-2-clause-passed
 returns-then-branch-2-clause-passed g c =
@@ -71,7 +70,6 @@ returns-clause-passed g c =
     let y = c.look_ahead.new.window in
     let z = c.is_doubted.new.window in
     let first = c.pass_front.new in
-    let last = c.pass_front-2.new in
     let len = c.in-Document.len in
     let told = subst (TellsNext c.args.asked.limits.bytes (r c.args.reader.now) (r c.look_ahead.new.reader) x y 0) c.in-Document.is c.in_ok-next.ensures.told in
     let (left, same, nothing) = subst (MayPassFront c.args.asked.limits (not c.args.asked.resync) c.args.asked.command c.args.asked.style c.args.asked.name.now len y first.window (d c.args.out.now)
@@ -84,8 +82,7 @@ returns-clause-passed g c =
       subst (λ (b : Bool). TellsPart c.args.asked.limits b (r c.args.reader.now) (r c.is_doubted.new.reader) x z c.args.work.now c.is_doubted.new.work (next.Document len))
           (sym (not_false c.args.asked.resync left))
           (tells_taken (r c.args.reader.now) (r c.look_ahead.new.reader) (r c.is_doubted.new.reader) x y z c.args.work.now c.is_doubted.new.work len c.requires.1 told doubts'),
-      front_passed c.args.asked.command c.args.asked.style c.args.asked.name.now len z last.window (d c.args.out.now) (d first.out) (d last.out) (w c.args.report.now) (w first.report)
-          (w last.report) c.args.counts.now first.counts last.counts c.args.kept.now first.kept last.kept c.in_ok-pass_front-2.field-0 nothing c.in_ok-pass_front-2.ensures.passed,
+      front_passed c.in_ok-pass_front-2.field-0 nothing c.in_ok-pass_front-2.ensures.passed,
     )
 
 pub returns-in_err-next-clause-halts : goal.returns-in_err-next-clause-halts
@@ -101,15 +98,13 @@ returns-in_err-pass_front-clause-halts g c =
     let first = c.pass_front.new in
     let len = c.in-Document.len in
     let told = subst (TellsNext c.args.asked.limits.bytes (r c.args.reader.now) (r c.look_ahead.new.reader) x y 0) c.in-Document.is c.in_ok-next.ensures.told in
-    on_any _ _ (halts_clean c.args.asked.command c.args.asked.style c.args.asked.resync c.args.asked.name.now (r c.args.reader.now) (r c.look_ahead.new.reader)
-    (d c.args.out.now) (d first.out) (w c.args.report.now) (w first.report) x y c.args.work.now c.args.work.now c.args.kept.now len c.requires.1 told c.in_err-pass_front.ensures.halts refl)
+    on_any _ _ (halts_clean c.args.asked.command c.args.asked.style c.args.asked.resync c.args.asked.name.now
+    (d c.args.out.now) (d first.out) (w c.args.report.now) (w first.report) c.args.kept.now (c.requires.1, refl) told c.in_err-pass_front.ensures.halts)
 
 pub returns-in_err-is_doubted-clause-halts : goal.returns-in_err-is_doubted-clause-halts
 returns-in_err-is_doubted-clause-halts g c =
-    let r = g.R.Read.remaining in
     let d = g.D.Write.contents in
     let w = g.W.Write.contents in
-    let x = c.args.window.now in
     let y = c.look_ahead.new.window in
     let first = c.pass_front.new in
     let len = c.in-Document.len in
@@ -143,8 +138,8 @@ returns-in_err-pass_front-2-clause-halts g c =
     (subst (λ (a : Option (List ℕ)). HaltsOne asked.limits true asked.command asked.style asked.name.now z.offset b first.kept (d c.args.out.now) (d last.out) a (w last.report)) nothing.1
     (subst (λ (a : Option (List ℕ)). HaltsOne asked.limits true asked.command asked.style asked.name.now z.offset b first.kept a (d last.out) (w first.report) (w last.report)) nothing.0
     c.in_err-pass_front-2.ensures.halts)) in
-    on_any _ _ (halts_taken asked.command asked.style asked.resync asked.name.now (r c.args.reader.now) (r c.is_doubted.new.reader) (d c.args.out.now) (d last.out)
-    (w c.args.report.now) (w last.report) x z c.args.work.now c.is_doubted.new.work c.args.kept.now len true part halts)
+    on_any _ _ (halts_taken asked.command asked.style asked.resync asked.name.now (d c.args.out.now) (d last.out)
+    (w c.args.report.now) (w last.report) c.args.kept.now true part halts)
 
 pub returns-in_err-is_doubted-clause-uncounted : goal.returns-in_err-is_doubted-clause-uncounted
 returns-in_err-is_doubted-clause-uncounted g c =

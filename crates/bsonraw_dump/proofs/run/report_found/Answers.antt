@@ -40,7 +40,7 @@ returns-in-Check-Canonical-clause-front g c =
       | in-Canon+in-Canonical-1 w ↦ (search rules, search rules)
     ] in
     on_err c.put.result (AppendsFront old new []) ((lines : List ℕ) × ReportsFront c.args.command style name offset b f told lines × Appends old new lines)
-    (reports_front c.args.command style name offset b f told old new [] is.0 is.1) c.put.ensures.front
+    (reports_front c.args.command style name offset b f told is.0 is.1) c.put.ensures.front
 
 pub returns-in_default-Damaged-clause-front : goal.returns-in_default-Damaged-clause-front
 returns-in_default-Damaged-clause-front g c =
@@ -59,4 +59,4 @@ returns-in_default-Damaged-clause-front g c =
       | in_default-Damaged-via-in-Canon+in-Damaged-1 w ↦ (search rules, search rules)
     ] in
     on_err c.put_told.result (AppendsFront old new line) ((lines : List ℕ) × ReportsFront c.args.command style name offset b f told lines × Appends old new lines)
-    (reports_front c.args.command style name offset b f told old new line is.0 is.1) c.put_told.ensures.front
+    (reports_front c.args.command style name offset b f told is.0 is.1) c.put_told.ensures.front

@@ -28,8 +28,7 @@ returns-in-Left-clause-ends g c =
     c.at-here.ensures c.leave.ensures.left in
     if_ok c.leave.result _ _ (λ failed l. record {
       front = p.front;
-      ends = ends_left asked.command (style_at asked.style asked.limit) asked.resync asked.name.now r r' r'' d d' w w' w'' c.args.counts.now c.pass_all.new.counts
-          c.leave.new.counts c.args.kept.now c.pass_all.new.kept c.pass_all.new.window c.in-Left.ending failed p.all l;
+      ends = ends_left p.all l;
       chosen = p.chosen;
       to_front = λ whole. left_front c.in-Left.ending p.to_front;
       to_last = λ early. absurd (not_early early);
@@ -51,27 +50,17 @@ returns-in-Left-clause-halts g c =
     let halts = subst (λ (a : Asked). OnErr c.leave.result (HaltsLeaving a.limits a.style a.name.now c.in-Left.ending r' r'' c.pass_all.new.window w' w''))
     c.at-here.ensures c.leave.ensures.halts in
     on_errs c.leave.result _ _ _ (λ stops same.
-    halts_portion p.front (halts_left asked.command (style_at asked.style asked.limit) asked.resync asked.name.now r r' d d' w w' c.args.counts.now
-    c.pass_all.new.counts
-    c.args.kept.now c.pass_all.new.kept r'' w'' c.leave.new.counts c.pass_all.new.window c.in-Left.ending p.all stops same) p.chosen) halts c.leave.ensures.uncounted
+    halts_portion p.front (halts_left w'' c.leave.new.counts p.all stops same) p.chosen) halts c.leave.ensures.uncounted
 
 pub returns-in_err-at-in-Failed-clause-halts : goal.returns-in_err-at-in-Failed-clause-halts
 returns-in_err-at-in-Failed-clause-halts g c =
-    let asked = c.args.asked in
     let p = c.in_ok-pass_all.ensures.passed in
-    on_any _ _ (halts_portion p.front (halts_here asked.command (style_at asked.style asked.limit) asked.resync asked.name.now (g.R.Read.remaining c.args.reader.now)
-    (g.R.Read.remaining c.pass_all.new.reader) (g.D.Write.contents c.args.out.now) (g.D.Write.contents c.pass_all.new.out)
-    (g.W.Write.contents c.args.report.now) (g.W.Write.contents c.pass_all.new.report)
-    c.args.counts.now c.pass_all.new.counts c.args.kept.now c.pass_all.new.kept p.all.left p.all.ps p.all.passed) p.chosen)
+    on_any _ _ (halts_portion p.front (halts_here p.all.passed) p.chosen)
 
 pub returns-in_err-counts-in-Failed-clause-halts : goal.returns-in_err-counts-in-Failed-clause-halts
 returns-in_err-counts-in-Failed-clause-halts g c =
-    let asked = c.args.asked in
     let p = c.in_ok-pass_all.ensures.passed in
-    on_any _ _ (halts_portion p.front (halts_here asked.command (style_at asked.style asked.limit) asked.resync asked.name.now (g.R.Read.remaining c.args.reader.now)
-    (g.R.Read.remaining c.pass_all.new.reader) (g.D.Write.contents c.args.out.now) (g.D.Write.contents c.pass_all.new.out)
-    (g.W.Write.contents c.args.report.now) (g.W.Write.contents c.pass_all.new.report)
-    c.args.counts.now c.pass_all.new.counts c.args.kept.now c.pass_all.new.kept p.all.left p.all.ps p.all.passed) p.chosen)
+    on_any _ _ (halts_portion p.front (halts_here p.all.passed) p.chosen)
 
 pub returns-in-End-clause-ends : goal.returns-in-End-clause-ends
 returns-in-End-clause-ends g c =

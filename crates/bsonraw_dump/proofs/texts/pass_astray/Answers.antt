@@ -6,8 +6,8 @@ use Rattle.bsonraw_dump.proofs.texts.pass_astray.Goals as goal
 pub returns : goal.returns
 returns g c next out why =
     let told = c.in_ok-tell_fault.ensures in
-    passes_astray c.args.asked.style c.args.asked.name.now next c.args.cursor.now c.tell_fault.new.cursor c.args.turn.now c.behind_gap.result c.args.begun c.args.at
-    c.args.reason out _ _ c.args.counts.now c.tell_fault.new.counts (record { fits = c.requires.1; is = told.passed }) c.requires.3 told.told told.counted c.requires.2
+    passes_astray c.args.begun c.args.at
+    c.args.reason (record { fits = c.requires.1; is = told.passed }) c.requires.3 told.told told.counted c.requires.2
     why c.behind_gap.ensures
 
 pub returns-in_err-tell_fault : goal.returns-in_err-tell_fault
@@ -16,8 +16,8 @@ returns-in_err-tell_fault g c next out why =
     let told = c.in_err-tell_fault.ensures in
     let e = err_from_is_err_and c.from_residual.result c.from_residual.ensures.1 in
     rw (e.1, e.2) (
-      halts_astray (ahead_of old.window) old.place c.args.turn.now c.args.begun c.requires.1 c.args.asked.style c.args.asked.name.now c.args.at c.args.reason c.requires.3
-          (g.W.Write.contents c.args.report.now) (g.W.Write.contents c.tell_fault.new.report) told.front c.requires.2 next out why,
+      halts_astray (ahead_of old.window) old.place c.args.turn.now c.args.begun c.requires.1 c.args.asked.style c.args.asked.name.now
+          (record { at = c.args.at; reason = c.args.reason; within = c.requires.3 }) told.front next out (c.requires.2, why),
       told.uncounted,
       told.failed,
     )

@@ -11,7 +11,7 @@ returns g c style name told report =
     let text = take c.args.len (ahead_of c.args.cursor.now.window) in
     let counted : c.in_ok-counted.counted ≡ count_made c.args.counts.now (bytes ∷ []) = search rules in
     let is = subst (λ (b : List ℕ). Gives text b) (sym c.as_bytes-bytes.ensures.bytes) c.requires.5 in
-    passes_document style name told c.args.cursor.now c.pass.new.self c.args.turn.now c.behind_document.result c.args.len bytes _ _ report c.args.counts.now c.in_ok-counted.counted
+    passes_document c.args.len bytes report
     (record { fits = c.requires.3; is = c.in_ok-pass.ensures.passed }) c.requires.1 (c.requires.2, c.requires.4, is) c.in_ok-put.ensures.written counted c.behind_document.ensures
 
 pub returns-in_err-counted : goal.returns-in_err-counted
@@ -33,8 +33,8 @@ returns-in_err-put g c style name told report =
     let is = subst (λ (b : List ℕ). Gives (take c.args.len (ahead_of old.window)) b) (sym c.as_bytes-bytes.ensures.bytes) c.requires.5 in
     let e = err_from_is_err_and c.from_residual-in_err-put.result c.from_residual-in_err-put.ensures.1 in
     rw (e.1, e.2) (
-      halts_document (ahead_of old.window) old.place c.args.turn.now c.args.len c.requires.3 bytes (g.D.Write.contents c.args.out.now) (g.D.Write.contents c.put.new.writer)
-          c.requires.1 c.requires.2 c.requires.4 is c.in_err-put.ensures.front style name told report,
+      halts_document (ahead_of old.window) old.place c.args.turn.now c.args.len c.requires.3 bytes
+          (c.requires.1, c.requires.2, c.requires.4, is) c.in_err-put.ensures.front style name told report,
       refl,
       c.in_err-put.ensures.failed,
     )

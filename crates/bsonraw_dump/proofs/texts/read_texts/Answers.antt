@@ -18,12 +18,9 @@ loop-init g c = (
 pub returns-in-Ok-End-clause-reads : goal.returns-in-Ok-End-clause-reads
 returns-in-Ok-End-clause-reads g c =
     let read = g.R.Read.remaining in
-    let out = g.D.Write.contents in
-    let report = g.W.Write.contents in
     let found = subst (FindsText (read c.loop.reader) (read c.find_text.new.reader) c.loop.cursor c.find_text.new.self c.loop.turn c.find_text.new.turn) c.in-Ok-End.field-0-is
     c.in-Ok-End.ensures.found in
-    stops_end c.args.asked (read c.args.reader.now) (read c.loop.reader) (out c.args.out.now) (out c.loop.out) (report c.args.report.now) (report c.loop.report)
-    c.args.counts.now c.loop.counts c.loop.cursor c.loop.turn c.loop.invariant.1 (read c.find_text.new.reader) c.find_text.new.self c.find_text.new.turn found
+    stops_end c.loop.invariant.1 (read c.find_text.new.reader) c.find_text.new.self c.find_text.new.turn found
 
 pub returns-in-Err-clause-reads : goal.returns-in-Err-clause-reads
 returns-in-Err-clause-reads g c =
@@ -35,8 +32,7 @@ returns-in-Err-clause-reads g c =
     (ReadsTexts c.args.asked (read c.args.reader.now) (read c.find_text.new.reader) (out c.args.out.now) (out c.loop.out) (report c.args.report.now) (report c.loop.report)
     c.args.counts.now c.loop.counts)
     (λ e is.
-    fails_here c.args.asked (read c.args.reader.now) (read c.loop.reader) (out c.args.out.now) (out c.loop.out) (report c.args.report.now) (report c.loop.report)
-    c.args.counts.now c.loop.counts c.loop.cursor c.loop.turn c.loop.invariant.1 (read c.find_text.new.reader) y e (c.in-Err.ensures.fails is.0) is.1) c.stopped.ensures.stops
+    fails_here c.loop.invariant.1 (read c.find_text.new.reader) y e (c.in-Err.ensures.fails is.0) is.1) c.stopped.ensures.stops
 
 pub returns-then-stops : goal.returns-then-stops
 returns-then-stops g c =
@@ -47,10 +43,7 @@ returns-then-stops g c =
     let passed = subst (λ (b : AskedTexts). PassesText b.style b.name.now c.in-Ok.next c.find_text.new.self new.cursor c.find_text.new.turn new.turn (out c.loop.out) (out new.out)
     (report c.loop.report) (report new.report) c.loop.counts new.counts c.in_ok-went.went) c.at-here.ensures c.in_ok-went.ensures in
     record {
-      reads = stops_fault c.args.asked (read c.args.reader.now) (read c.loop.reader) (read c.find_text.new.reader) (out c.args.out.now) (out c.loop.out)
-          (report c.args.report.now) (report c.loop.report) c.args.counts.now c.loop.counts c.loop.cursor c.find_text.new.self c.loop.turn c.find_text.new.turn
-          c.in-Ok.next c.loop.invariant.1 c.in-Ok.ensures.found new.cursor new.turn (out new.out) (report new.report) new.counts c.in_ok-went.went
-          passed (read c.find_text.new.reader) c.if-stops.ensures;
+      reads = stops_fault c.loop.invariant.1 c.in-Ok.ensures.found passed (read c.find_text.new.reader) c.if-stops.ensures;
       halts = tt;
       failed = tt;
     }
@@ -69,45 +62,28 @@ returns-in-Err-pass_behind g c =
           (ReadsTexts c.args.asked (read c.args.reader.now) (read c.pass_behind.new.reader) (out c.args.out.now) (out new.out) (report c.args.report.now) (report new.report)
           c.args.counts.now new.counts)
           (λ e is.
-          fails_behind c.args.asked (read c.args.reader.now) (read c.loop.reader) (read c.find_text.new.reader) (out c.args.out.now) (out c.loop.out)
-          (report c.args.report.now) (report c.loop.report) c.args.counts.now c.loop.counts c.loop.cursor c.find_text.new.self c.loop.turn c.find_text.new.turn
-          c.in-Ok.next c.loop.invariant.1 c.in-Ok.ensures.found new.cursor new.turn (out new.out) (report new.report) new.counts c.in_ok-went.went
-          passed (read c.pass_behind.new.reader) q e c.if-stops.ensures (c.in-Err-pass_behind.ensures.fails is.0) is.1)
+          fails_behind c.loop.invariant.1 c.in-Ok.ensures.found passed (read c.pass_behind.new.reader) q e c.if-stops.ensures (c.in-Err-pass_behind.ensures.fails is.0) is.1)
           c.stopped-in-Err-pass_behind.ensures.stops;
-      halts = on_any _ _ (halts_passed c.args.asked (read c.args.reader.now) (read c.loop.reader) (read c.find_text.new.reader) (out c.args.out.now) (out c.loop.out)
-          (report c.args.report.now) (report c.loop.report) c.args.counts.now c.loop.counts c.loop.cursor c.find_text.new.self c.loop.turn c.find_text.new.turn
-          c.in-Ok.next c.loop.invariant.1 c.in-Ok.ensures.found new.cursor new.turn (out new.out) (report new.report) new.counts c.in_ok-went.went
-          passed);
+      halts = on_any _ _ (halts_passed c.loop.invariant.1 c.in-Ok.ensures.found passed);
       failed = c.stopped-in-Err-pass_behind.ensures.failed;
     }
 
 pub returns-in-Err-clause-halts : goal.returns-in-Err-clause-halts
 returns-in-Err-clause-halts g c =
-    let read = g.R.Read.remaining in
-    let out = g.D.Write.contents in
-    let report = g.W.Write.contents in
-    on_any _ _ (halts_here c.args.asked (read c.args.reader.now) (read c.loop.reader) (out c.args.out.now) (out c.loop.out) (report c.args.report.now) (report c.loop.report)
-    c.args.counts.now c.loop.counts c.loop.cursor c.loop.turn c.loop.invariant.1)
+    on_any _ _ (halts_here c.loop.invariant.1)
 
 pub returns-in_err-went-clause-halts : goal.returns-in_err-went-clause-halts
 returns-in_err-went-clause-halts g c =
-    let read = g.R.Read.remaining in
     let out = g.D.Write.contents in
     let report = g.W.Write.contents in
     let new = c.pass_next.new in
     let stops = subst (λ (b : AskedTexts). HaltsText b.style b.name.now c.in-Ok.next c.find_text.new.self.place c.find_text.new.turn (ahead_of c.find_text.new.self.window)
     (out c.loop.out) (out new.out) (report c.loop.report) (report new.report)) c.at-here.ensures c.in_err-went.ensures.0 in
-    on_any _ _ (halts_next c.args.asked (read c.args.reader.now) (read c.loop.reader) (read c.find_text.new.reader) (out c.args.out.now) (out c.loop.out)
-    (report c.args.report.now) (report c.loop.report) c.args.counts.now c.loop.counts c.loop.cursor c.find_text.new.self c.loop.turn c.find_text.new.turn
-    c.in-Ok.next c.loop.invariant.1 c.in-Ok.ensures.found (out new.out) (report new.report) new.counts stops c.in_err-went.ensures.1)
+    on_any _ _ (halts_next c.loop.invariant.1 c.in-Ok.ensures.found (out new.out) (report new.report) new.counts stops c.in_err-went.ensures.1)
 
 pub returns-clause-halts : goal.returns-clause-halts
 returns-clause-halts g c =
-    let read = g.R.Read.remaining in
-    let out = g.D.Write.contents in
-    let report = g.W.Write.contents in
-    halts_here c.args.asked (read c.args.reader.now) (read c.loop.reader) (out c.args.out.now) (out c.loop.out) (report c.args.report.now) (report c.loop.report)
-    c.args.counts.now c.loop.counts c.loop.cursor c.loop.turn c.loop.invariant.1
+    halts_here c.loop.invariant.1
 
 pub loop-preserved : goal.loop-preserved
 loop-preserved g c =
@@ -119,8 +95,6 @@ loop-preserved g c =
     (report c.loop.report) (report new.report) c.loop.counts new.counts c.in_ok-went.went) c.at-here.ensures c.in_ok-went.ensures in (
       window_behind c.in_ok-went.went (read c.find_text.new.reader) (read c.pass_behind.new.reader) new.cursor c.pass_behind.new.cursor new.turn
           c.pass_behind.new.turn c.in_default.ensures.passed passed.window,
-      goes_next c.args.asked (read c.args.reader.now) (read c.loop.reader) (read c.find_text.new.reader) (out c.args.out.now) (out c.loop.out)
-          (report c.args.report.now) (report c.loop.report) c.args.counts.now c.loop.counts c.loop.cursor c.find_text.new.self c.loop.turn c.find_text.new.turn
-          c.in-Ok.next c.loop.invariant.1 c.in-Ok.ensures.found new.cursor new.turn (out new.out) (report new.report) new.counts c.in_ok-went.went
+      goes_next c.loop.invariant.1 c.in-Ok.ensures.found c.in_ok-went.went
           (read c.pass_behind.new.reader) c.pass_behind.new.cursor c.pass_behind.new.turn passed c.in_default.ensures.passed c.if-stops.ensures,
     )

@@ -15,4 +15,4 @@ returns-clause-halts g c =
     let n' = c.read_texts.new.counts in
     let n'' = c.end_input.new.totals.counts in
     on_err c.end_input.result (n'' ≡ n') (HaltsTexts c.args.job.keep_going (style_of_fault c.args.job.style c.args.job.limit) c.args.name.now input d d' w w' n n'')
-    (halts_read _ input _ d d' w w' n n' n'' c.in_ok-end.end c.in_ok-end.ensures.reads) c.end_input.ensures.uncounted
+    (halts_read c.in_ok-end.ensures.reads) c.end_input.ensures.uncounted

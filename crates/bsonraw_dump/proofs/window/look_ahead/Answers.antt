@@ -19,23 +19,21 @@ returns-then-not-branch-clause-told g c =
 
 pub returns-then-branch-clause-told : goal.returns-then-branch-clause-told
 returns-then-branch-clause-told g c =
-    let r = g.R.Read.remaining in
     let yes' : c.in_ok-look.field-0 ≡ true = search rules in
     let all : c.in_ok-look-2.field-0 ≡ true = search rules in
     let sound : IsSoundLength c.args.most c.length_at-said.result = search rules in
     let said : said_len (drop c.args.from (ahead_of c.look.new.self)) ≡ c.length_at-said.result =
     sym (c.length_at-said.ensures ∙ ap (λ l. said_len (drop c.args.from l)) c.ahead-2.ensures) in
-    tells_document (r c.args.reader.now) (r c.look.new.reader) (r c.look-2.new.reader) c.args.window.now c.look.new.self c.look-2.new.self c.args.from
+    tells_document c.args.from
     c.length_at-said.result c.in_ok-look.field-0 c.in_ok-look-2.field-0 yes' c.in_ok-look.ensures.looks c.in_ok-look-2.ensures.looks said sound all
 
 pub returns-else-branch-clause-told : goal.returns-else-branch-clause-told
 returns-else-branch-clause-told g c =
-    let r = g.R.Read.remaining in
     let yes' : c.in_ok-look.field-0 ≡ true = search rules in
     let no : c.in_ok-look-2.field-0 ≡ false = search rules in
     let sound : IsSoundLength c.args.most c.length_at-said.result = search rules in
     let said : said_len (drop c.args.from (ahead_of c.look.new.self)) ≡ c.length_at-said.result =
     sym (c.length_at-said.ensures ∙ ap (λ l. said_len (drop c.args.from l)) c.ahead-2.ensures) in
-    tells_cut (r c.args.reader.now) (r c.look.new.reader) (r c.look-2.new.reader) c.args.window.now c.look.new.self c.look-2.new.self c.args.from
+    tells_cut c.args.from
     c.length_at-said.result c.in_ok-look.field-0 c.in_ok-look-2.field-0 yes' c.in_ok-look.ensures.looks c.in_ok-look-2.ensures.looks said sound
     _ no (ap (λ l. length l - c.args.from) (sym c.ahead-else-branch.ensures))

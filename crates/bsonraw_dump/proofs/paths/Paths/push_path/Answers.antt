@@ -14,5 +14,5 @@ returns c =
     ap (λ (p : List ℕ). list_any (λ (y : Vec ℕ Global). bytes_eq p y.items) xs) c.in_ok-text.ensures.items ∙ c.requires in
     let more : c.insert.new.self.keys ≡ xs ++ x ∷ [] = c.in_ok-insert.ensures.keys ∙ ap (λ (b : Bool). if b then xs else xs ++ x ∷ []) none in
     let firsts = ap (map origin_of) c.in_ok-push.ensures.items ∙ map_push origin_of c.args.self.now.firsts.items c.args.origin in
-    pushed (λ (text : Vec ℕ Global). text.items) (origin_of c.args.origin) (table_of c.args.self.now) _ xs c.insert.new.self.keys x c.args.path.now c.args.row
-    refl refl more c.in_ok-text.ensures.items (refl, refl, refl) firsts c.in_ok-push-2.ensures.items
+    pushed (λ (text : Vec ℕ Global). text.items) (origin_of c.args.origin) (table_of c.args.self.now) _ xs x c.args.row
+    refl refl more c.in_ok-text.ensures.items (refl, refl, refl, firsts, c.in_ok-push-2.ensures.items)

@@ -29,7 +29,7 @@ loop-number-preserved c =
     c.in_ok-push_row.ensures.line ∙ ap (λ (p : List ℕ). text ++ row_line p o r) path
     ∙ ap (λ (p : Origin). text ++ row_line (get_or t.paths n x.items) p r) first
     ∙ ap (λ (p : Row). text ++ row_line (get_or t.paths n x.items) (get_or t.firsts n o) p) c.index.ensures in
-    rows_next text c.push_row.new.text.items (c.args.text.now.items ++ rows_text t.paths t.firsts t.rows) t.paths t.firsts t.rows n x.items o r
+    rows_next text t.paths t.firsts t.rows n x.items o r
     (omega (arith, few, below), omega (arith, few, below), omega (arith, few, below)) c.loop-number.invariant line
 
 pub returns-clause-lines : goal.returns-clause-lines
